@@ -1,0 +1,5 @@
+pub mod Reaching
+pub mod Steps
+pub mod Least
+pub mod Topmost
+pub mod Rises

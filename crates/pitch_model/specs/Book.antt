@@ -1,0 +1,101 @@
+-- The order book of one unit, and what each message does to it.
+use Rattle.std.specs.Prelude.{ℕ, ◌-◌, Bool, ◌==◌, List, [], ◌∷◌, ◌++◌, fold, Option, None, Some, if◌then◌else◌, bit_and, option_map}
+use Rattle.std.specs.Ordering.{nat_cmp}
+use Rattle.std.specs.FinMap as map
+use Rattle.pitch_fields.specs.declared.side.Side.{Side}
+use Rattle.pitch_messages.specs.declared.order.Order.{Order}
+use Rattle.pitch_messages.specs.declared.message.Message.{Message}
+use Rattle.pitch_messages.specs.declared.message.Message.TheVariants.{Time, AddLong, Delete}
+use Rattle.pitch_messages.specs.Reading.{message_of}
+
+-- the second of the unit's clock, where one is known, and the open orders by their ids
+pub record Book : Type 0 where
+  pub second : Option ℕ
+  pub orders : map.FinMap nat_cmp Order
+
+-- before any message
+abbrev pub empty_book : Book
+empty_book = record { second = None; orders = map.empty }
+
+-- ---- Effects on the book
+-- the clock shows another second
+abbrev pub at_second : Book → ℕ → Book
+at_second book second = record { second = Some second; orders = book.orders }
+
+-- all orders go, and the second stays
+abbrev pub cleared : Book → Book
+cleared book = record { second = book.second; orders = map.empty }
+
+-- the order of an id goes
+abbrev pub without_order : Book → ℕ → Book
+without_order book id = record { second = book.second; orders = map.remove book.orders id }
+
+-- an order stands under an id, in place of one that stood there
+abbrev pub with_order : Book → ℕ → Order → Book
+with_order book id order = record { second = book.second; orders = map.insert book.orders id order }
+
+-- an order is added, unless it has no shares
+abbrev pub added : Book → Order → Book
+added book order = if order.quantity == 0 then book else with_order book order.id order
+
+-- an open order takes another form, and goes where it has no shares left
+abbrev pub reformed : Book → ℕ → Option Order → Book
+reformed book id None = book
+reformed book id (Some order) = if order.quantity == 0 then without_order book id else with_order book id order
+
+-- the order of an id is changed; where none is open, nothing is
+abbrev pub changed : Book → ℕ → (Order → Order) → Book
+changed book id change = reformed book id (option_map change (map.get book.orders id))
+
+-- ---- Changes of an order
+-- so many shares fewer, or none where it has no more than these
+abbrev pub reduced_by : ℕ → Order → Order
+reduced_by quantity order = record order { quantity = order.quantity - quantity }
+
+-- so many shares are left
+abbrev pub left_with : ℕ → Order → Order
+left_with quantity order = record order { quantity = quantity }
+
+-- quantity, price and display are replaced; side, symbol and participant stay
+abbrev pub modified : ℕ → ℕ → Bool → Order → Order
+modified quantity price display order = record order { quantity = quantity; price = price; display = display }
+
+-- ---- What messages do
+-- bit 0 of the flags says that an order is displayed
+abbrev pub is_displayed : ℕ → Bool
+is_displayed flags = bit_and flags 1 == 1
+
+-- a symbol of six bytes gets two spaces at its end
+abbrev pub long_symbol : List ℕ → List ℕ
+long_symbol symbol = symbol ++ 32 ∷ 32 ∷ []
+
+-- the participant of an order that names none is four spaces
+abbrev pub no_participant : List ℕ
+no_participant = 32 ∷ 32 ∷ 32 ∷ 32 ∷ []
+
+-- the order of an add of the long form
+abbrev pub order_of_long : ℕ → Side → ℕ → List ℕ → ℕ → ℕ → Order
+order_of_long id side quantity symbol price flags =
+    record { id = id; side = side; quantity = quantity; symbol = long_symbol symbol; price = price; display = is_displayed flags; participant = no_participant }
+
+-- what a message does to a book
+abbrev pub after_message : Book → Message → Book
+-- "Time Message"
+after_message book (Time second) = at_second book second
+-- "Add Order Message - Long Form"
+after_message book (AddLong offset id side quantity symbol price flags) = added book (order_of_long id side quantity symbol price flags)
+-- "Delete Order Message"
+after_message book (Delete offset id) = without_order book id
+
+-- what is not read as a message does nothing
+abbrev pub after_read : Book → Option Message → Book
+after_read book None = book
+after_read book (Some message) = after_message book message
+
+-- what a raw message does to a book
+abbrev pub after : Book → List ℕ → Book
+after book raw = after_read book (message_of raw)
+
+-- the book that raw messages leave, one after another
+abbrev pub book_after : List (List ℕ) → Book
+book_after raws = fold after empty_book raws

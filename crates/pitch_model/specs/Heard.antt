@@ -1,0 +1,106 @@
+-- What an item adds to a history, and what it changes.
+use Rattle.std.specs.Prelude.{ℕ, ◌+◌, ◌≤◌, Bool, ◌&&◌, not, cond, List, [], ◌∷◌, length, ◌==◌, nat_lt, min, ◌^◌, ◌-◌}
+use Rattle.unit_packets.specs.Blocks.{Block}
+use Rattle.pitch_model.specs.History.{Entry, Raw, image_finished, bad_image, spin_of, adds}
+use Rattle.pitch_model.specs.History as entry
+use Rattle.pitch_model.specs.Reach.{reach, is_seen, part_of, is_overflow}
+use Rattle.pitch_model.specs.Status.{status_of}
+use Rattle.pitch_model.specs.declared.change.Change.{Change}
+use Rattle.pitch_model.specs.declared.change.ImageEnd.{ImageEnd}
+use Rattle.pitch_model.specs.declared.change.ImageEnd.TheVariants as end
+use Rattle.pitch_model.specs.declared.item.Item.{Item}
+use Rattle.pitch_model.specs.declared.item.Item.TheVariants as item
+
+-- ---- Items
+-- the item of a block with a sequence: its messages, or what a heartbeat tells ("Heartbeat Messages")
+abbrev pub sequenced_item : ℕ → List Raw → Item
+sequenced_item sequence [] = item.Next sequence
+sequenced_item sequence (raw ∷ raws) = item.Messages sequence (raw ∷ raws)
+
+-- the item of a block; sequence 0 means unsequenced ("Sequenced Unit Header")
+abbrev pub item_of : Block → Item
+item_of block = cond (block.sequence == 0) item.Nothing (sequenced_item block.sequence block.raws)
+
+-- the sequences of an item are those of a feed: from 1 to 4,294,967,294
+abbrev pub IsItem : Item → Type 0
+IsItem (item.Messages first raws) = (1 ≤ first) × (first + length raws ≤ 4294967295)
+IsItem (item.Next next) = 1 ≤ next
+IsItem (item.GapReply sequence count status) = Unit {0}
+IsItem (item.Advertised sequence) = Unit {0}
+IsItem (item.SpinReply sequence orders status) = Unit {0}
+IsItem (item.ImageMessages raws) = Unit {0}
+IsItem (item.SpinFinished sequence) = Unit {0}
+IsItem item.Nothing = Unit {0}
+IsItem item.GrpUp = Unit {0}
+IsItem item.GrpDown = Unit {0}
+IsItem item.SpinUp = Unit {0}
+IsItem item.SpinDown = Unit {0}
+
+-- ---- Entries
+-- one entry for each raw, with rising sequence
+abbrev pub heard_messages : ℕ → List Raw → List Entry → List Entry
+heard_messages first [] E = E
+heard_messages first (raw ∷ raws) E = heard_messages (first + 1) raws (entry.Message first raw ∷ E)
+
+-- the status `A` of a Gap Response or Spin Response
+abbrev pub is_accepted : ℕ → Bool
+is_accepted status = status == 65
+
+-- a history with an item that is heard after it
+abbrev pub heard : Item → List Entry → List Entry
+heard (item.Messages first raws) E = heard_messages first raws E
+heard (item.Next next) E = entry.Next next ∷ E
+heard item.Nothing E = E
+heard item.GrpUp E = entry.GrpUp ∷ E
+heard item.GrpDown E = entry.GrpDown ∷ E
+heard (item.GapReply sequence count status) E = entry.GapReply (is_accepted status) ∷ E
+heard item.SpinUp E = entry.SpinUp ∷ E
+heard item.SpinDown E = entry.SpinDown ∷ E
+heard (item.Advertised sequence) E = entry.Advertised sequence ∷ E
+heard (item.SpinReply sequence orders status) E = entry.SpinReply sequence orders (is_accepted status) ∷ E
+heard (item.ImageMessages raws) E = entry.ImageMessages raws ∷ E
+heard (item.SpinFinished sequence) E = entry.SpinFinished sequence ∷ E
+
+-- ---- What an item changes, where the hold has H places
+-- a message is fresh after a history: it is above the reach, and has not come
+abbrev pub is_fresh : ℕ → List Entry → ℕ → Bool
+is_fresh H E sequence = nat_lt (reach H E) sequence && not (is_seen (part_of H E) sequence)
+
+-- how many of messages with rising sequence are fresh, each after those before it
+abbrev pub fresh_messages : ℕ → ℕ → List Raw → List Entry → ℕ
+fresh_messages H first [] E = 0
+fresh_messages H first (raw ∷ raws) E = cond (is_fresh H E first) 1 0 + fresh_messages H (first + 1) raws (entry.Message first raw ∷ E)
+
+-- with how many of them the hold overflows
+abbrev pub overflowed_messages : ℕ → ℕ → List Raw → List Entry → ℕ
+overflowed_messages H first [] E = 0
+overflowed_messages H first (raw ∷ raws) E = cond (is_overflow H E (entry.Message first raw)) 1 0 + overflowed_messages H (first + 1) raws (entry.Message first raw ∷ E)
+
+abbrev pub fresh_of : ℕ → List Entry → Item → ℕ
+fresh_of H E (item.Messages first raws) = fresh_messages H first raws E
+fresh_of H E item = 0
+
+abbrev pub overflows_of : ℕ → List Entry → Item → ℕ
+overflows_of H E (item.Messages first raws) = overflowed_messages H first raws E
+overflows_of H E item = 0
+
+-- what becomes of an image where the reach is n: a finished one above n is taken, another is stale; the count of a bad one
+-- stops at the greatest number of 64 bits
+abbrev pub image_end_at : ℕ → List (ℕ × List Raw) → List (ℕ × List Raw) → ImageEnd
+image_end_at n (image ∷ images) bad = cond (nat_lt n image.0) end.Taken end.Stale
+image_end_at n [] (image ∷ bad) = end.Bad image.0 (min (adds image.1) (2 ^ 64 - 1))
+image_end_at n [] [] = end.NoImage
+
+abbrev pub image_end : ℕ → List Entry → Item → ImageEnd
+image_end H E (item.SpinFinished sequence) = image_end_at (reach H E) (image_finished (spin_of E) sequence) (bad_image (spin_of E) sequence)
+image_end H E item = end.NoImage
+
+-- what an item changes that is heard after a history
+abbrev pub change_of : ℕ → List Entry → Item → Change
+change_of H E item = record {
+  before = status_of H E;
+  after = status_of H (heard item E);
+  fresh = fresh_of H E item;
+  overflows = overflows_of H E item;
+  image = image_end H E item;
+}

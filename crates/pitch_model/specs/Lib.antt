@@ -1,0 +1,12 @@
+pub mod Book
+pub mod Levels
+pub mod History
+pub mod Reach
+pub mod Settling
+pub mod Status
+pub mod Heard
+pub mod Honest
+pub mod Asking
+pub mod StatusText
+pub mod BookText
+pub mod Follow

@@ -1,0 +1,12 @@
+//! What a client of the feed hears, knows, asks and prints, as definitions, with the types that they speak of.
+#![tactic(auto)]
+
+mod ask;
+mod change;
+mod item;
+mod status;
+
+pub use crate::ask::Ask;
+pub use crate::change::{Change, ImageEnd};
+pub use crate::item::Item;
+pub use crate::status::Status;
