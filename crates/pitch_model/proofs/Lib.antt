@@ -3,3 +3,4 @@ pub mod Steps
 pub mod Least
 pub mod Topmost
 pub mod Rises
+pub mod Examples

@@ -5,7 +5,7 @@ use Rattle.unit_packets.specs.Blocks.{Block}
 use Rattle.pitch_model.specs.declared.status.Status.{Status}
 use Rattle.pitch_model.specs.Book.{book_after}
 use Rattle.pitch_model.specs.History.{Entry, Raw}
-use Rattle.pitch_model.specs.Heard.{item_of, heard, overflows_of}
+use Rattle.pitch_model.specs.Heard.{heard_block, block_overflows}
 use Rattle.pitch_model.specs.Reach.{reach}
 use Rattle.pitch_model.specs.Status.{status_of}
 use Rattle.pitch_model.specs.Honest.{Honest}
@@ -16,7 +16,7 @@ use Rattle.pitch_model.specs.BookText.{book_text}
 abbrev pub unit_history : ℕ → List Block → List Entry
 unit_history unit [] = []
 unit_history unit (block ∷ before) =
-    if block.unit == unit then heard (item_of block) (unit_history unit before) else unit_history unit before
+    if block.unit == unit then heard_block block (unit_history unit before) else unit_history unit before
 
 -- the line of block number k
 unfoldable pub block_line : ℕ → ℕ → ℕ → ℕ → Bool → Status → List ℕ
@@ -28,7 +28,7 @@ block_line k unit first count overflow status =
 -- the line of a block that is heard after a history of its unit: whether the hold overflowed with one of its messages, and the status then
 abbrev pub line_at : ℕ → ℕ → Block → List Entry → List ℕ
 line_at H k block E =
-    block_line k block.unit block.sequence (length block.raws) (nat_lt 0 (overflows_of H E (item_of block))) (status_of H (heard (item_of block) E))
+    block_line k block.unit block.sequence (length block.raws) (nat_lt 0 (block_overflows H E block)) (status_of H (heard_block block E))
 
 -- the line of a block that comes after others
 abbrev pub line_after : ℕ → List Block → Block → List ℕ

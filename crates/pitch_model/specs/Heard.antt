@@ -1,5 +1,5 @@
 -- What an item adds to a history, and what it changes.
-use Rattle.std.specs.Prelude.{ℕ, ◌+◌, ◌≤◌, Bool, ◌&&◌, not, cond, List, [], ◌∷◌, length, ◌==◌, nat_lt, min, ◌^◌, ◌-◌}
+use Rattle.std.specs.Prelude.{◌≡◌, ℕ, ◌+◌, ◌≤◌, ◌<◌, Bool, ◌&&◌, not, cond, List, [], ◌∷◌, length, ◌==◌, nat_lt, min, ◌^◌, ◌-◌}
 use Rattle.unit_packets.specs.Blocks.{Block}
 use Rattle.pitch_model.specs.History.{Entry, Raw, image_finished, bad_image, spin_of, adds}
 use Rattle.pitch_model.specs.History as entry
@@ -12,14 +12,21 @@ use Rattle.pitch_model.specs.declared.item.Item.{Item}
 use Rattle.pitch_model.specs.declared.item.Item.TheVariants as item
 
 -- ---- Items
--- the item of a block with a sequence: its messages, or what a heartbeat tells ("Heartbeat Messages")
-abbrev pub sequenced_item : ℕ → List Raw → Item
-sequenced_item sequence [] = item.Next sequence
-sequenced_item sequence (raw ∷ raws) = item.Messages sequence (raw ∷ raws)
-
--- the item of a block; sequence 0 means unsequenced ("Sequenced Unit Header")
-abbrev pub item_of : Block → Item
-item_of block = cond (block.sequence == 0) item.Nothing (sequenced_item block.sequence block.raws)
+-- the item of a block: its messages, or what a heartbeat tells ("Heartbeat Messages"); sequence 0 means unsequenced
+-- ("Sequenced Unit Header")
+abbrev pub IsItemOf : Block → Item → Type 0
+IsItemOf block (item.Messages first raws) = (0 < block.sequence) × (0 < length block.raws) × (first ≡ block.sequence) × (raws ≡ block.raws)
+IsItemOf block (item.Next next) = (0 < block.sequence) × (block.raws ≡ []) × (next ≡ block.sequence)
+IsItemOf block item.Nothing = block.sequence ≡ 0
+IsItemOf block item.GrpUp = ⊥
+IsItemOf block item.GrpDown = ⊥
+IsItemOf block (item.GapReply sequence count status) = ⊥
+IsItemOf block item.SpinUp = ⊥
+IsItemOf block item.SpinDown = ⊥
+IsItemOf block (item.Advertised sequence) = ⊥
+IsItemOf block (item.SpinReply sequence orders status) = ⊥
+IsItemOf block (item.ImageMessages raws) = ⊥
+IsItemOf block (item.SpinFinished sequence) = ⊥
 
 -- the sequences of an item are those of a feed: from 1 to 4,294,967,294
 abbrev pub IsItem : Item → Type 0
@@ -41,6 +48,15 @@ IsItem item.SpinDown = Unit {0}
 abbrev pub heard_messages : ℕ → List Raw → List Entry → List Entry
 heard_messages first [] E = E
 heard_messages first (raw ∷ raws) E = heard_messages (first + 1) raws (entry.Message first raw ∷ E)
+
+-- a heartbeat is heard where there are no messages
+abbrev pub heard_sequenced : ℕ → List Raw → List Entry → List Entry
+heard_sequenced sequence [] E = entry.Next sequence ∷ E
+heard_sequenced sequence (raw ∷ raws) E = heard_messages sequence (raw ∷ raws) E
+
+-- a history with a block that is heard after it; of an unsequenced one nothing is heard
+abbrev pub heard_block : Block → List Entry → List Entry
+heard_block block E = cond (block.sequence == 0) E (heard_sequenced block.sequence block.raws E)
 
 -- the status `A` of a Gap Response or Spin Response
 abbrev pub is_accepted : ℕ → Bool
@@ -75,6 +91,10 @@ fresh_messages H first (raw ∷ raws) E = cond (is_fresh H E first) 1 0 + fresh_
 abbrev pub overflowed_messages : ℕ → ℕ → List Raw → List Entry → ℕ
 overflowed_messages H first [] E = 0
 overflowed_messages H first (raw ∷ raws) E = cond (is_overflow H E (entry.Message first raw)) 1 0 + overflowed_messages H (first + 1) raws (entry.Message first raw ∷ E)
+
+-- the same of a block
+abbrev pub block_overflows : ℕ → List Entry → Block → ℕ
+block_overflows H E block = cond (block.sequence == 0) 0 (overflowed_messages H block.sequence block.raws E)
 
 abbrev pub fresh_of : ℕ → List Entry → Item → ℕ
 fresh_of H E (item.Messages first raws) = fresh_messages H first raws E

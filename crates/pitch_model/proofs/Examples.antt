@@ -1,0 +1,122 @@
+-- Worked examples, computed by the definitions.
+use Rattle.std.proofs.Common.{◌≡◌, ℕ, ◌++◌, Bool, true, false, List, [], ◌∷◌, refl, codes, Some, None}
+use Rattle.std.specs.Fmt.{digits}
+use Rattle.unit_packets.specs.Blocks.{Block}
+use Rattle.pitch_fields.specs.Name.{name_shown}
+use Rattle.pitch_model.specs.Book.{book_after}
+use Rattle.pitch_model.specs.BookText.{book_text, order_line}
+use Rattle.pitch_model.specs.History.{Entry, Message, Next}
+use Rattle.pitch_model.specs.Reach.{is_overflow, is_held, reach_of, held_count}
+use Rattle.pitch_model.specs.Status.{status_of}
+use Rattle.pitch_model.specs.Follow.{block_line, lines_after, follow_text}
+use Rattle.pitch_fields.specs.declared.side.Side.TheVariants.{Buy, Sell}
+use Rattle.pitch_model.specs.declared.status.Status.TheVariants.{Silent, Current, Behind}
+
+-- a message, whose bytes do not matter
+abbrev message : ℕ → Entry
+message k = Message k []
+
+-- ---- Messages out of order
+-- 3 comes before 2
+behind_while_a_message_is_missing : status_of 4096 (message 3 ∷ message 1 ∷ []) ≡ Behind 1 3
+unfolding reach_of held_count
+behind_while_a_message_is_missing = refl
+
+current_once_the_gap_is_filled : status_of 4096 (message 2 ∷ message 3 ∷ message 1 ∷ []) ≡ Current 3
+unfolding reach_of held_count
+current_once_the_gap_is_filled = refl
+
+-- ---- A hold of two places
+-- 1, 3 and 5 came
+abbrev three : List Entry
+three = message 5 ∷ message 3 ∷ message 1 ∷ []
+
+overflow_at_the_third_held : is_overflow 2 three (message 7) ≡ true
+unfolding reach_of held_count
+overflow_at_the_third_held = refl
+
+behind_after_the_overflow : status_of 2 (message 7 ∷ three) ≡ Behind 1 7
+unfolding reach_of held_count
+behind_after_the_overflow = refl
+
+three_is_dropped : is_held 2 (message 7 ∷ three) 3 ≡ false
+unfolding reach_of held_count
+three_is_dropped = refl
+
+seven_is_held : is_held 2 (message 7 ∷ three) 7 ≡ true
+unfolding reach_of held_count
+seven_is_held = refl
+
+current_once_all_came_again : status_of 2 (message 5 ∷ message 4 ∷ message 3 ∷ message 2 ∷ message 6 ∷ message 7 ∷ three) ≡ Current 7
+unfolding reach_of held_count
+current_once_all_came_again = refl
+
+-- ---- A heartbeat alone
+silent_at_first : status_of 4096 [] ≡ Silent
+silent_at_first = refl
+
+current_at_nothing : status_of 4096 (Next 1 ∷ []) ≡ Current 0
+unfolding reach_of held_count
+current_at_nothing = refl
+
+behind_what_a_heartbeat_tells : status_of 4096 (Next 4 ∷ message 2 ∷ message 1 ∷ []) ≡ Behind 2 3
+unfolding reach_of held_count
+behind_what_a_heartbeat_tells = refl
+
+-- ---- The text of a stream
+-- a clock, an order, a heartbeat that tells of 3, and 3, which deletes the order
+abbrev clock : List ℕ
+clock = 0x06 ∷ 0x20 ∷ 0x98 ∷ 0x85 ∷ 0 ∷ 0 ∷ []
+
+abbrev order : List ℕ
+order =
+    0x22 ∷ 0x21 ∷ 0 ∷ 0 ∷ 0 ∷ 0 ∷ 5 ∷ 0 ∷ 0 ∷ 0 ∷ 0 ∷ 0 ∷ 0 ∷ 0 ∷ 0x42 ∷ 0x64 ∷ 0 ∷ 0 ∷ 0
+    ∷ 0x49 ∷ 0x42 ∷ 0x4d ∷ 0x20 ∷ 0x20 ∷ 0x20 ∷ 0xa0 ∷ 0x86 ∷ 1 ∷ 0 ∷ 0 ∷ 0 ∷ 0 ∷ 0 ∷ 1 ∷ []
+
+abbrev deletion : List ℕ
+deletion = 0x0e ∷ 0x29 ∷ 0 ∷ 0 ∷ 0 ∷ 0 ∷ 5 ∷ 0 ∷ 0 ∷ 0 ∷ 0 ∷ 0 ∷ 0 ∷ 0 ∷ []
+
+abbrev block : ℕ → List (List ℕ) → Block
+block sequence raws = record { unit = 1; sequence = sequence; raws = raws }
+
+abbrev stream : List Block
+stream = block 1 (clock ∷ []) ∷ block 2 (order ∷ []) ∷ block 4 [] ∷ block 3 (deletion ∷ []) ∷ []
+
+abbrev venue : ℕ → List (List ℕ)
+venue unit = clock ∷ order ∷ deletion ∷ []
+
+lines_of_a_stream : lines_after 4096 [] stream
+    ≡ codes "block 1 unit 1 first 1 count 1; current 1\n"
+    ++ codes "block 2 unit 1 first 2 count 1; current 2\n"
+    ++ codes "block 3 unit 1 first 4 count 0; behind 2 of 3\n"
+    ++ codes "block 4 unit 1 first 3 count 1; current 3\n"
+unfolding reach_of held_count lines_after block_line digits
+lines_of_a_stream = refl
+
+mark_of_an_overflow : lines_after 2 [] (block 3 (clock ∷ clock ∷ clock ∷ []) ∷ []) ≡ codes "block 1 unit 1 first 3 count 3 overflow; behind 0 of 5\n"
+unfolding reach_of held_count lines_after block_line digits
+mark_of_an_overflow = refl
+
+-- a heartbeat alone, and an unsequenced block
+line_of_a_heartbeat : lines_after 4096 [] (block 1 [] ∷ []) ≡ codes "block 1 unit 1 first 1 count 0; current 0\n"
+unfolding reach_of held_count lines_after block_line digits
+line_of_a_heartbeat = refl
+
+line_of_an_unsequenced_block : lines_after 4096 [] (block 0 [] ∷ []) ≡ codes "block 1 unit 1 first 0 count 0; silent\n"
+unfolding reach_of held_count lines_after block_line digits
+line_of_an_unsequenced_block = refl
+
+text_of_nothing : follow_text 4096 (λ unit. []) [] ≡ []
+unfolding lines_after
+text_of_nothing = refl
+
+-- ---- The text of a book
+line_of_an_order : order_line 5 (record { id = 5; side = Buy; quantity = 100; symbol = codes "IBM     "; price = 100000; display = true; participant = codes "    " })
+    ≡ codes "order 5 B 100 IBM 10.0000\n"
+unfolding order_line name_shown digits
+line_of_an_order = refl
+
+line_of_a_hidden_order : order_line 7 (record { id = 7; side = Sell; quantity = 1; symbol = codes "A.B     "; price = 5; display = false; participant = codes "MM  " })
+    ≡ codes "order 7 S 1 A.B 0.0005 hidden mpid=MM\n"
+unfolding order_line name_shown digits
+line_of_a_hidden_order = refl
