@@ -11,3 +11,4 @@ pub mod Hearing
 pub mod Honesty
 pub mod Asking
 pub mod Folding
+pub mod Books
