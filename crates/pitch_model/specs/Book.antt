@@ -1,5 +1,5 @@
 -- The order book of one unit, and what each message does to it.
-use Rattle.std.specs.Prelude.{ℕ, ◌-◌, Bool, ◌==◌, List, [], ◌∷◌, ◌++◌, fold, Option, None, Some, if◌then◌else◌, bit_and, option_map}
+use Rattle.std.specs.Prelude.{◌≡◌, ℕ, ◌-◌, ◌<◌, Bool, ◌==◌, List, [], ◌∷◌, ◌++◌, fold, Option, None, Some, if◌then◌else◌, bit_and, option_map}
 use Rattle.std.specs.Ordering.{nat_cmp}
 use Rattle.std.specs.FinMap as map
 use Rattle.pitch_fields.specs.declared.side.Side.{Side}
@@ -12,6 +12,11 @@ use Rattle.pitch_messages.specs.Reading.{message_of}
 pub record Book : Type 0 where
   pub second : Option ℕ
   pub orders : map.FinMap nat_cmp Order
+
+-- each order stands under its id, and has shares
+pub record IsBook (book : Book) : Type 0 where
+  pub ids : (id : ℕ) (order : Order) → map.get book.orders id ≡ Some order → order.id ≡ id
+  pub filled : (id : ℕ) (order : Order) → map.get book.orders id ≡ Some order → 0 < order.quantity
 
 -- before any message
 abbrev pub empty_book : Book

@@ -4,6 +4,7 @@
 mod ask;
 mod change;
 mod item;
+pub mod laws;
 mod status;
 
 pub use crate::ask::Ask;

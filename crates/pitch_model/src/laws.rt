@@ -1,0 +1,71 @@
+//! Laws of the definitions. These functions do nothing: what they ensure is proved of the definitions alone.
+
+ghost use Rattle.std.specs.Prelude.{◌≡◌, ℕ, ◌+◌, ◌<◌, ◌≤◌, Bool, true, false, ◌||◌, ◌==◌, List, [], ◌∷◌, length, unwrap_or};
+ghost use Rattle.std.specs.FinMap as map;
+ghost use Rattle.pitch_model.specs.Book.{IsBook, book_after};
+ghost use Rattle.pitch_model.specs.History.{Entry, Raw, Message, SpinFinished, spin_of, images_at, image_finished, messages_at};
+ghost use Rattle.pitch_model.specs.Reach.{Part, IsReach, is_anchor, is_seen, reach_of, held_count, part_of, reach, is_held};
+ghost use Rattle.pitch_model.specs.Status.{top_of};
+ghost use Rattle.pitch_model.specs.Steps.{SameReach, Leaves, Drains};
+
+/// The reach of a part is the greatest number that is joined to an anchor, and no other number is that.
+pub fn reach_is_the_greatest_joined()
+    ensures greatest { (P : Part) → IsReach P (reach_of P) }
+    ensures only { (P : Part) (m n : ℕ) → IsReach P m → IsReach P n → m ≡ n }
+{}
+
+/// No anchor is above the reach, and the message after the reach did not come.
+pub fn reach_is_closed()
+    ensures anchors { (P : Part) (s : ℕ) → is_anchor P s ≡ true → s ≤ reach_of P }
+    ensures next { (P : Part) → is_seen P (reach_of P + 1) ≡ false }
+{}
+
+/// The reach is at most the greatest sequence that was told of.
+pub fn reach_is_within_the_top()
+    ensures { (H : ℕ) (E : List Entry) → reach H E ≤ unwrap_or (top_of E) 0 }
+{}
+
+/// The reach never falls.
+pub fn reach_never_falls()
+    ensures { (H : ℕ) (E : List Entry) (entry : Entry) → reach H E ≤ reach H (entry ∷ E) }
+{}
+
+/// Never more messages are held than the hold has places.
+pub fn held_is_within_the_limit()
+    ensures { (H : ℕ) (E : List Entry) → 1 ≤ H → held_count (part_of H E) ≤ H }
+{}
+
+/// An old message and one that is held change nothing.
+pub fn known_messages_change_nothing()
+    ensures old { (H : ℕ) (E : List Entry) (k : ℕ) (raw : Raw) → 1 ≤ H → k ≤ reach H E → Leaves H E (Message k raw) false (reach H E) (is_held H E) }
+    ensures repeat { (H : ℕ) (E : List Entry) (k : ℕ) (raw : Raw) → 1 ≤ H → is_held H E k ≡ true → Leaves H E (Message k raw) false (reach H E) (is_held H E) }
+{}
+
+/// The next message is applied, with those that were held behind it.
+pub fn next_message_is_applied()
+    ensures { (H : ℕ) (E : List Entry) (k : ℕ) (raw : Raw) → 1 ≤ H → k ≡ reach H E + 1 → Drains H E (Message k raw) k }
+{}
+
+/// Any other fresh message is held where there is a place. Else the hold overflows: all that was held goes, it alone is
+/// held, and the reach stays.
+pub fn later_messages_are_held()
+    ensures kept { (H : ℕ) (E : List Entry) (k : ℕ) (raw : Raw) → reach H E + 1 < k → is_held H E k ≡ false → held_count (part_of H E) < H → Leaves H E (Message k raw) false (reach H E) (λ j. j == k || is_held H E j) }
+    ensures overflow { (H : ℕ) (E : List Entry) (k : ℕ) (raw : Raw) → reach H E + 1 < k → is_held H E k ≡ false → held_count (part_of H E) ≡ H → Leaves H E (Message k raw) true (reach H E) (λ j. j == k) }
+{}
+
+/// A finished image above the reach takes its place, with what was held behind it; another changes nothing.
+pub fn images_are_taken_above_the_reach()
+    ensures taken { (H : ℕ) (E : List Entry) (sequence s : ℕ) (raws : List Raw) → image_finished (spin_of E) sequence ≡ (s, raws) ∷ [] → reach H E < s → Drains H E (SpinFinished sequence) s }
+    ensures stale { (H : ℕ) (E : List Entry) (sequence s : ℕ) (raws : List Raw) → image_finished (spin_of E) sequence ≡ (s, raws) ∷ [] → s ≤ reach H E → SameReach H E (SpinFinished sequence ∷ E) }
+{}
+
+/// What is neither a message nor a finished image changes nothing, as a heartbeat.
+pub fn other_entries_change_nothing()
+    ensures { (H : ℕ) (E : List Entry) (entry : Entry) → messages_at entry ≡ [] → images_at entry (spin_of E) ≡ [] → part_of H (entry ∷ E) ≡ part_of H E }
+{}
+
+/// In the book that messages leave, each order stands under its id and has shares, and there are no more orders than messages.
+pub fn books_have_open_orders()
+    ensures book { (raws : List Raw) → IsBook (book_after raws) }
+    ensures few { (raws : List Raw) → map.len (book_after raws).orders ≤ length raws }
+{}
