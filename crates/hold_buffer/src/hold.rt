@@ -1,10 +1,10 @@
-ghost use Rattle.std.specs.Prelude.{◌≡◌, ℕ, ◌+◌, ◌<◌, ◌≤◌, ◌↔◌, IfOk, IsTrue};
+ghost use Rattle.std.specs.Prelude.{◌≡◌, ℕ, ◌+◌, ◌<◌, ◌≤◌, ◌↔◌, IfOk, IsTrue, IsSome, MatchOption, None, nat_lt};
 ghost use Rattle.std.specs.FinMap as map;
 ghost use Rattle.pitch_messages.specs.Raw.{IsRaw};
 ghost use Rattle.hold_buffer.specs.HoldView.{IsHold};
 ghost use Rattle.hold_buffer.specs.Offered.{Answers};
 
-use crate::ring::{Ring, first_sequence, insert_at, place};
+use crate::ring::{Ring, drop_through, first_sequence, insert_at, place};
 use circular_buffer::HeapCircularBuffer;
 use pitch_fields::OutOfMemory;
 use pitch_messages::Raw;
@@ -103,6 +103,39 @@ impl Hold {
                 Offer::Overflowed
             }
         }
+    }
+
+    /// Takes out the message that follows the floor, and raises the floor to it.
+    pub fn pop_next(&mut self) -> Option<Raw>
+        ensures answer { result ≡ map.get self.old.held (self.old.floor + 1) }
+        ensures none { MatchOption result (self.new ≡ self.old) (λ raw. self.new ≡ record self.old { floor = self.old.floor + 1; held = map.remove self.old.held (self.old.floor + 1) }) }
+        ensures kept { IsHold self.new }
+        ensures fits { IsSome result → self.new.floor ≤ 4294967294 }
+    {
+        let first = first_sequence(&self.ring)?;
+        if first - 1 != self.floor {
+            return None;
+        }
+        let (_, raw) = self.ring.pop_front()?;
+        self.floor = first;
+        Some(raw)
+    }
+
+    /// Raises the floor, and drops the messages at or below it.
+    pub fn jump(&mut self, floor: u32)
+        requires { self.old.floor ≤ floor }
+        ensures jumped { self.new ≡ record self.old { floor = floor; held = map.retain_keys self.old.held (λ k. nat_lt floor k) } }
+        ensures kept { IsHold self.new }
+    {
+        drop_through(&mut self.ring, floor);
+        self.floor = floor;
+    }
+
+    /// The least sequence held.
+    pub fn first(&self) -> Option<u32>
+        ensures { MatchOption result ((k : ℕ) → map.get self.now.held k ≡ None) (λ first. IsSome (map.get self.now.held first) × ((k : ℕ) → IsSome (map.get self.now.held k) → first ≤ k)) }
+    {
+        first_sequence(&self.ring)
     }
 
     /// The sequence that was reached.

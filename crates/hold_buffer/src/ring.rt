@@ -1,6 +1,6 @@
-ghost use Rattle.std.specs.Prelude.{◌≡◌, ℕ, ◌<◌, ◌≤◌, ◌+◌, List, length, insert, IfOk, IfErr, slice_get};
+ghost use Rattle.std.specs.Prelude.{◌≡◌, ℕ, ◌<◌, ◌≤◌, ◌+◌, List, length, insert, filter, nat_lt, IfOk, IfErr, slice_get};
 ghost use Rattle.std.specs.Option.{option_map};
-ghost use Rattle.circular_buffer.specs.Buffer.{buffer};
+ghost use Rattle.circular_buffer.specs.Buffer.{buffer, keep_last};
 ghost use Rattle.hold_buffer.specs.Places.{IsRising, IsKeyAt, IsGap};
 
 use circular_buffer::HeapCircularBuffer;
@@ -28,6 +28,26 @@ pub(crate) fn insert_at(ring: &mut Ring, at: usize, message: (u32, Raw))
     if at < last {
         let messages = ring.make_contiguous();
         messages[at..].rotate_right(1);
+    }
+}
+
+/// Drops the messages at or below a sequence.
+pub(crate) fn drop_through(ring: &mut Ring, sequence: u32)
+    requires { IsRising ring.old.items }
+    ensures { ring.new ≡ buffer (filter (λ e. nat_lt sequence e.0) ring.old.items) ring.old.capacity }
+{
+    let above = count_above(ring, sequence);
+    ring.truncate_front(above);
+}
+
+/// How many messages are above a sequence; they are the last ones.
+fn count_above(ring: &Ring, sequence: u32) -> usize
+    requires { IsRising ring.now.items }
+    ensures { keep_last result ring.now.items ≡ filter (λ e. nat_lt sequence e.0) ring.now.items }
+{
+    match place(ring, sequence) {
+        Ok(at) => ring.len() - at - 1,
+        Err(at) => ring.len() - at,
     }
 }
 
