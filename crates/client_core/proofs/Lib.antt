@@ -1,0 +1,6 @@
+pub mod Orders
+pub mod KeepingLemmas
+pub mod Answered
+pub mod Tracking
+pub mod Honesty
+pub mod Outcomes

@@ -1,0 +1,51 @@
+use Rattle.std.proofs.Common.{sym, ap, ◌∙◌, subst, arith, refl, ◌≤◌, ◌+◌}
+use Rattle.client_core.proofs.Answered.{hold_drains, hold_drained, removed_smaller}
+use Rattle.client_core.proofs.KeepingLemmas.{keeps_popped}
+use Rattle.pitch_model.specs.Settling.{Settled}
+use Rattle.hold_buffer.specs.HoldView.{HoldView}
+use Rattle.client_core.specs.Keeping.{has, orders_of}
+
+use Rattle.pitch_model.specs.Book.{Book, after}
+use Rattle.client_core.proofs.Orders.{orders_most}
+use Rattle.client_core.proofs.taking.drain.Goals as goal
+
+pub loop-raw-smaller : goal.loop-raw-smaller
+loop-raw-smaller c = removed_smaller c.loop-raw.hold c.pop_next.new.self c.in-Some.raw c.in-Some.ensures.answer c.in-Some.ensures.none
+
+pub apply_sure-requires-clause-room : goal.apply_sure-requires-clause-room
+apply_sure-requires-clause-room c =
+    let smaller = removed_smaller c.loop-raw.hold c.pop_next.new.self c.in-Some.raw c.in-Some.ensures.answer c.in-Some.ensures.none in
+    let R = c.loop-raw.invariant.room 0 c.requires.room in
+    let floor = ap (λ (h : HoldView). h.floor) c.in-Some.ensures.none in
+    let fits = c.in-Some.ensures.fits refl in
+    omega arith
+
+pub apply_sure-requires-clause-orders : goal.apply_sure-requires-clause-orders
+apply_sure-requires-clause-orders c =
+    let O = c.loop-raw.invariant.orders in
+    let floor = ap (λ (h : HoldView). h.floor) c.in-Some.ensures.none in
+    let fits = c.in-Some.ensures.fits refl in
+    omega arith
+
+pub loop-raw-preserved : goal.loop-raw-preserved
+loop-raw-preserved c = record {
+  drains = λ P D. hold_drains c.loop-raw.hold c.pop_next.new.self c.in-Some.raw c.in-Some.ensures.answer c.in-Some.ensures.none P (c.loop-raw.invariant.drains P D);
+  keeps = λ V K. keeps_popped c.loop-raw.hold c.pop_next.new.self c.loop-raw.book.book c.apply_sure.new.book.book V c.in-Some.raw c.in-Some.ensures.answer c.in-Some.ensures.none (c.apply_sure.ensures.book ∙ ap (after c.loop-raw.book.book) c.bytes.ensures.bytes) (c.loop-raw.invariant.keeps V K);
+  limit = ap (λ h. h.limit) c.in-Some.ensures.none ∙ c.loop-raw.invariant.limit;
+  room = λ left r.
+      let smaller = removed_smaller c.loop-raw.hold c.pop_next.new.self c.in-Some.raw c.in-Some.ensures.answer c.in-Some.ensures.none in
+      let before = c.loop-raw.invariant.room left r in
+      let floor = ap (λ (h : HoldView). h.floor) c.in-Some.ensures.none in
+      let fits = c.in-Some.ensures.fits refl in
+      let S = c.apply_sure.ensures.spare in
+      omega arith;
+  orders =
+      let most = subst (λ (b : Book). orders_of b ≤ orders_of c.loop-raw.book.book + 1) (sym c.apply_sure.ensures.book) (orders_most c.loop-raw.book.book c.bytes.result.now) in
+      let O = c.loop-raw.invariant.orders in
+      let floor = ap (λ (h : HoldView). h.floor) c.in-Some.ensures.none in
+      omega arith;
+}
+
+pub returns-clause-settles : goal.returns-clause-settles
+returns-clause-settles c = λ P D.
+    subst (λ (h : HoldView). Settled P h.floor (has h)) (sym c.in_default.ensures.none) (hold_drained c.loop-raw.hold c.in_default.ensures.answer P (c.loop-raw.invariant.drains P D))

@@ -1,0 +1,19 @@
+use Rattle.std.proofs.Common.{◌≡◌, ℕ, List, ◌+◌, ◌≤◌}
+
+use Rattle.std.specs.FinMap.{len}
+use Rattle.pitch_model.specs.Reach.{Part}
+use Rattle.pitch_model.specs.Settling.{Draining}
+use Rattle.client_core.specs.Keeping.{has, orders_of, KeepsAt, HasRoom}
+use Rattle.client_core.proofs.taking.drain.Given as goal
+
+abbrev pub invariant-loop-raw : goal.invariant-loop-raw
+invariant-loop-raw l = record {
+  drains : (P : Part) → Draining P l.fn.hold.floor (has l.fn.hold) → Draining P l.hold.floor (has l.hold);
+  keeps : (V : List (List ℕ)) → KeepsAt l.fn.hold l.fn.book.book V → KeepsAt l.hold l.book.book V;
+  limit : l.hold.limit ≡ l.fn.hold.limit;
+  room : (left : ℕ) → HasRoom left l.fn.hold l.fn.book.spare → HasRoom left l.hold l.book.spare;
+  orders : orders_of l.book.book ≤ l.hold.floor;
+}
+
+abbrev pub decreases-loop-raw : goal.decreases-loop-raw
+decreases-loop-raw l = len l.hold.held

@@ -1,0 +1,5 @@
+pub mod Keeping
+pub mod Taking
+pub mod Spinning
+pub mod Tracks
+pub mod Blocks

@@ -1,0 +1,9 @@
+//! The client of one unit of a feed: what it holds and keeps, how far it is, and what it asks for.
+#![tactic(auto)]
+
+mod client;
+mod spinning;
+mod taking;
+
+pub use crate::client::UnitClient;
+pub use pitch_model::{Ask, Change, ImageEnd, Item, Status};

@@ -1,0 +1,86 @@
+ghost use Rattle.std.specs.Prelude.{◌≡◌, ℕ, ◌+◌, ◌<◌, ◌≤◌, List, Some};
+ghost use Rattle.pitch_messages.specs.Raw.{IsRaw};
+ghost use Rattle.pitch_model.specs.Book.{after};
+ghost use Rattle.pitch_model.specs.Reach.{Part};
+ghost use Rattle.pitch_model.specs.Settling.{Settled, Draining};
+ghost use Rattle.pitch_model.specs.Honest.{message_at};
+ghost use Rattle.hold_buffer.specs.HoldView.{IsHold};
+ghost use Rattle.client_core.specs.Keeping.{has, orders_of, KeepsAt, HasRoom};
+ghost use Rattle.client_core.specs.Taking.{TakesIn};
+
+use hold_buffer::{Hold, Offer};
+use order_book::UnitBook;
+
+/// What a message was.
+#[derive(Clone, Copy, Debug, PartialEq, Eq)]
+pub(crate) struct Taken {
+    pub(crate) fresh: bool,
+    pub(crate) overflow: bool,
+}
+
+/// Applies a message for which the book has room.
+fn apply_sure(book: &mut UnitBook, raw: &[u8])
+    requires raw { IsRaw raw.now }
+    requires room { 1 ≤ book.old.spare }
+    requires orders { orders_of book.old.book < 4294967295 }
+    ensures book { book.new.book ≡ after book.old.book raw.now }
+    ensures spare { book.old.spare ≤ book.new.spare + 1 }
+{
+    book.apply_bytes(raw).unwrap();
+}
+
+/// Applies the held messages that follow the floor without a break.
+fn drain(hold: &mut Hold, book: &mut UnitBook)
+    requires room { HasRoom 0 hold.old book.old.spare }
+    requires orders { orders_of book.old.book ≤ hold.old.floor }
+    ensures settles { (P : Part) → Draining P hold.old.floor (has hold.old) → Settled P hold.new.floor (has hold.new) }
+    ensures keeps { (V : List (List ℕ)) → KeepsAt hold.old book.old.book V → KeepsAt hold.new book.new.book V }
+    ensures limit { hold.new.limit ≡ hold.old.limit }
+    ensures is_hold { IsHold hold.new }
+    ensures orders { orders_of book.new.book ≤ hold.new.floor }
+    ensures room { (left : ℕ) → HasRoom left hold.old book.old.spare → HasRoom left hold.new book.new.spare }
+{
+    while let Some(raw) = hold.pop_next() {
+        apply_sure(book, raw.bytes());
+    }
+}
+
+/// Takes in a message for which there is room.
+pub(crate) fn take_in(hold: &mut Hold, book: &mut UnitBook, sequence: u32, raw: &[u8]) -> Taken
+    requires sequence { sequence ≤ 4294967294 }
+    requires raw { IsRaw raw.now }
+    requires room { HasRoom 1 hold.old book.old.spare }
+    requires orders { orders_of book.old.book ≤ hold.old.floor }
+    ensures settles { (P : Part) → Settled P hold.old.floor (has hold.old) → TakesIn P hold.old sequence hold.new result }
+    ensures keeps { (V : List (List ℕ)) → message_at V sequence ≡ Some raw.now → KeepsAt hold.old book.old.book V → KeepsAt hold.new book.new.book V }
+    ensures limit { hold.new.limit ≡ hold.old.limit }
+    ensures orders { orders_of book.new.book ≤ hold.new.floor }
+    ensures room { (left : ℕ) → HasRoom (left + 1) hold.old book.old.spare → HasRoom left hold.new book.new.spare }
+{
+    match hold.offer_bytes(sequence, raw) {
+        Offer::Next => {
+            apply_sure(book, raw);
+            drain(hold, book);
+            Taken {
+                fresh: true,
+                overflow: false,
+            }
+        }
+        Offer::Kept => Taken {
+            fresh: true,
+            overflow: false,
+        },
+        Offer::Overflowed => Taken {
+            fresh: true,
+            overflow: true,
+        },
+        Offer::Repeat => Taken {
+            fresh: false,
+            overflow: false,
+        },
+        Offer::Old => Taken {
+            fresh: false,
+            overflow: false,
+        },
+    }
+}
