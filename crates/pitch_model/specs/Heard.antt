@@ -15,7 +15,7 @@ use Rattle.pitch_model.specs.declared.item.Item.TheVariants as item
 -- the item of a block: its messages, or what a heartbeat tells ("Heartbeat Messages"); sequence 0 means unsequenced
 -- ("Sequenced Unit Header")
 abbrev pub IsItemOf : Block → Item → Type 0
-IsItemOf block (item.Messages first raws) = (0 < block.sequence) × (0 < length block.raws) × (first ≡ block.sequence) × (raws ≡ block.raws)
+IsItemOf block (item.Messages first raws) = (0 < block.sequence) × (0 < length block.raws) × (first ≡ block.sequence) × (raws.items ≡ block.raws)
 IsItemOf block (item.Next next) = (0 < block.sequence) × (block.raws ≡ []) × (next ≡ block.sequence)
 IsItemOf block item.Nothing = block.sequence ≡ 0
 IsItemOf block item.GrpUp = ⊥
@@ -30,7 +30,7 @@ IsItemOf block (item.SpinFinished sequence) = ⊥
 
 -- the sequences of an item are those of a feed: from 1 to 4,294,967,294
 abbrev pub IsItem : Item → Type 0
-IsItem (item.Messages first raws) = (1 ≤ first) × (first + length raws ≤ 4294967295)
+IsItem (item.Messages first raws) = (1 ≤ first) × (first + length raws.items ≤ 4294967295)
 IsItem (item.Next next) = 1 ≤ next
 IsItem (item.GapReply sequence count status) = Unit {0}
 IsItem (item.Advertised sequence) = Unit {0}
@@ -64,7 +64,7 @@ is_accepted status = status == 65
 
 -- a history with an item that is heard after it
 abbrev pub heard : Item → List Entry → List Entry
-heard (item.Messages first raws) E = heard_messages first raws E
+heard (item.Messages first raws) E = heard_messages first raws.items E
 heard (item.Next next) E = entry.Next next ∷ E
 heard item.Nothing E = E
 heard item.GrpUp E = entry.GrpUp ∷ E
@@ -74,7 +74,7 @@ heard item.SpinUp E = entry.SpinUp ∷ E
 heard item.SpinDown E = entry.SpinDown ∷ E
 heard (item.Advertised sequence) E = entry.Advertised sequence ∷ E
 heard (item.SpinReply sequence orders status) E = entry.SpinReply sequence orders (is_accepted status) ∷ E
-heard (item.ImageMessages raws) E = entry.ImageMessages raws ∷ E
+heard (item.ImageMessages raws) E = entry.ImageMessages raws.items ∷ E
 heard (item.SpinFinished sequence) E = entry.SpinFinished sequence ∷ E
 
 -- ---- What an item changes, where the hold has H places
@@ -97,11 +97,11 @@ abbrev pub block_overflows : ℕ → List Entry → Block → ℕ
 block_overflows H E block = cond (block.sequence == 0) 0 (overflowed_messages H block.sequence block.raws E)
 
 abbrev pub fresh_of : ℕ → List Entry → Item → ℕ
-fresh_of H E (item.Messages first raws) = fresh_messages H first raws E
+fresh_of H E (item.Messages first raws) = fresh_messages H first raws.items E
 fresh_of H E item = 0
 
 abbrev pub overflows_of : ℕ → List Entry → Item → ℕ
-overflows_of H E (item.Messages first raws) = overflowed_messages H first raws E
+overflows_of H E (item.Messages first raws) = overflowed_messages H first raws.items E
 overflows_of H E item = 0
 
 -- what becomes of an image where the reach is n: a finished one above n is taken, another is stale; the count of a bad one

@@ -1,0 +1,5 @@
+pub mod Finite
+pub mod Viewed
+pub mod Holds
+pub mod Rings
+pub mod Kept

@@ -1,0 +1,3 @@
+pub mod HoldView
+pub mod Offered
+pub mod Places

@@ -1,0 +1,54 @@
+-- What the book of a unit stands for.
+use Rattle.std.specs.Prelude.{◌≡◌, ℕ, Bool, true, false, cond, List, Option, refl}
+use Rattle.std.specs.Ordering.{nat_cmp}
+use Rattle.std.specs.FinMap as map
+use Rattle.std.specs.Coded.{Coded, code_by, coded×, coded_ℕ, coded_bool, coded_list, coded_option}
+use Rattle.pitch_fields.specs.declared.side.Side.{Side}
+use Rattle.pitch_fields.specs.declared.side.Side.TheVariants.{Buy, Sell}
+use Rattle.pitch_messages.specs.declared.order.Order.{Order}
+use Rattle.pitch_model.specs.Book.{Book}
+
+-- the book, and how many new orders need no memory
+pub record Standing : Type 0 where
+  pub book : Book
+  pub spare : ℕ
+
+-- ---- Codes: each value as pairs, lists and numbers
+abbrev pub is_buy : Side → Bool
+is_buy Buy = true
+is_buy Sell = false
+
+abbrev pub side_from : Bool → Side
+side_from true = Buy
+side_from false = Sell
+
+abbrev pub side_back : (side : Side) → side_from (is_buy side) ≡ side
+side_back Buy = refl
+side_back Sell = refl
+
+abbrev pub side_code : Coded Side
+side_code = code_by Bool coded_bool is_buy side_from side_back
+
+abbrev pub Fields : Type 0
+Fields = ℕ × (Side × (ℕ × (List ℕ × (ℕ × (Bool × List ℕ)))))
+
+abbrev pub fields_code : Coded Fields
+fields_code = coded× coded_ℕ (coded× side_code (coded× coded_ℕ (coded× (coded_list coded_ℕ) (coded× coded_ℕ (coded× coded_bool (coded_list coded_ℕ))))))
+
+abbrev pub fields_of : Order → Fields
+fields_of o = (o.id, (o.side, (o.quantity, (o.symbol, (o.price, (o.display, o.participant))))))
+
+abbrev pub order_from : Fields → Order
+order_from p = record { id = p.0; side = p.1.0; quantity = p.1.1.0; symbol = p.1.1.1.0; price = p.1.1.1.1.0; display = p.1.1.1.1.1.0; participant = p.1.1.1.1.1.1 }
+
+abbrev pub order_code : Coded Order
+order_code = code_by Fields fields_code fields_of order_from (λ _. refl)
+
+abbrev pub Parts : Type 0
+Parts = Option ℕ × (map.FinMap nat_cmp Order × ℕ)
+
+abbrev pub standing_from : Parts → Standing
+standing_from p = record { book = record { second = p.0; orders = p.1.0 }; spare = p.1.1 }
+
+abbrev pub standing_code : Coded Standing
+standing_code = code_by Parts (coded× (coded_option coded_ℕ) (coded× (map.code coded_ℕ order_code) coded_ℕ)) (λ s. (s.book.second, (s.book.orders, s.spare))) standing_from (λ _. refl)

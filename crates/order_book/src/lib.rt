@@ -1,0 +1,6 @@
+//! The order book of one unit.
+#![tactic(auto)]
+
+mod unit_book;
+
+pub use crate::unit_book::UnitBook;

@@ -1,0 +1,213 @@
+ghost use Rattle.std.specs.Prelude.{◌≡◌, ◌≤◌, ◌<◌, ◌+◌, OnOk, OnErr, IsOk, Option, take, drop, length};
+ghost use Rattle.pitch_messages.specs.Raw.{IsRaw};
+ghost use Rattle.pitch_messages.specs.Reading.{message_of, add_long};
+ghost use Rattle.pitch_model.specs.Book.{order_of_long};
+ghost use Rattle.std.specs.FinMap as map;
+ghost use Rattle.pitch_model.specs.Book.{empty_book, at_second, cleared, without_order, with_order, added, changed, reduced_by, left_with, modified};
+
+use indexmap::IndexMap;
+use pitch_fields::{OutOfMemory, Price, Side, Symbol, get_u32, get_u64};
+use pitch_messages::{Message, Order};
+use std::alloc::Global;
+use std::marker::Model;
+
+/// The open orders of a unit by their ids, and the second of its clock where one is known.
+#[derive(Drop)]
+pub struct UnitBook {
+    second: Option<u32>,
+    orders: IndexMap<u64, Order>,
+}
+
+impl Model for UnitBook {
+    ghost use Rattle.std.specs.FinMap.{from_entries};
+    ghost use Rattle.indexmap.specs.IndexMap.{spare};
+    ghost use Rattle.order_book.specs.Standing.{Standing, standing_code};
+
+    ghost Value = { Standing };
+
+    ghost coded = { standing_code };
+
+    ghost view = { λ b. record { book = record { second = b.second; orders = from_entries b.orders.entries }; spare = spare b.orders } };
+}
+
+impl UnitBook {
+    /// An empty book. It takes no memory.
+    pub fn make(alloc: Global) -> UnitBook
+        ensures { result.book ≡ empty_book }
+    {
+        UnitBook {
+            second: None,
+            orders: IndexMap::new(alloc),
+        }
+    }
+
+    fn set_second(&mut self, second: u32)
+        ensures book { self.new.book ≡ at_second self.old.book second }
+        ensures spare { self.new.spare ≡ self.old.spare }
+    {
+        self.second = Some(second);
+    }
+
+    // Puts an order under its id.
+    #[tactic(auto, using(crate::proofs::Maps::inserts))]
+    fn insert(&mut self, order: Order) -> Result<(), OutOfMemory>
+        ensures ok { OnOk result (self.new.book ≡ with_order self.old.book order.id order) }
+        ensures err { OnErr result (self.new.book ≡ self.old.book) }
+        ensures succeeds { 1 ≤ self.old.spare → IsOk result }
+        ensures spare { self.old.spare ≤ self.new.spare + 1 }
+    {
+        match self.orders.insert(order.id, order) {
+            Ok(_) => Ok(()),
+            Err(_) => Err(OutOfMemory),
+        }
+    }
+
+    #[tactic(auto, using(crate::proofs::Maps::removes))]
+    fn remove(&mut self, id: u64)
+        ensures book { self.new.book ≡ without_order self.old.book id }
+        ensures spare { self.old.spare ≤ self.new.spare }
+    {
+        self.orders.swap_remove(&id);
+    }
+
+    fn clear(&mut self)
+        ensures book { self.new.book ≡ cleared self.old.book }
+        ensures spare { self.old.spare ≤ self.new.spare }
+    {
+        self.orders.clear();
+    }
+
+    /// How many orders are open.
+    #[tactic(auto, using(crate::proofs::Maps::lens))]
+    pub fn len(&self) -> usize
+        ensures { result ≡ map.len self.now.book.orders }
+    {
+        self.orders.len()
+    }
+
+    /// The open order of an id, or None exactly where none is open.
+    #[tactic(auto, using(crate::proofs::Maps::looks))]
+    pub fn order(&self, id: u64) -> Option<Order>
+        ensures { result ≡ map.get self.now.book.orders id }
+    {
+        self.orders.get(&id).copied()
+    }
+}
+
+impl UnitBook {
+    ghost use Rattle.std.specs.Prelude.{◌≡◌, ◌≤◌, ◌<◌, ◌+◌, OnOk, OnErr, IsOk};
+    ghost use Rattle.std.specs.FinMap as map;
+    ghost use Rattle.pitch_messages.specs.Raw.{IsRaw};
+    ghost use Rattle.pitch_model.specs.Book.{after};
+
+    // Adds an order, unless it has no shares.
+    fn add(&mut self, order: Order) -> Result<(), OutOfMemory>
+        ensures ok { OnOk result (self.new.book ≡ added self.old.book order) }
+        ensures err { OnErr result (self.new.book ≡ self.old.book) }
+        ensures succeeds { 1 ≤ self.old.spare → IsOk result }
+        ensures spare { self.old.spare ≤ self.new.spare + 1 }
+    {
+        if order.quantity == 0 {
+            return Ok(());
+        }
+        self.insert(order)
+    }
+
+    /// Does what the message does to a book. The book is as before where memory runs out, which does not happen where
+    /// the spare is at least 1.
+    pub fn apply_bytes(&mut self, raw: &[u8]) -> Result<(), OutOfMemory>
+        requires raw { IsRaw raw.now }
+        requires few { map.len self.old.book.orders < 4294967295 }
+        ensures ok { OnOk result (self.new.book ≡ after self.old.book raw.now) }
+        ensures err { OnErr result (self.new.book ≡ self.old.book) }
+        ensures succeeds { 1 ≤ self.old.spare → IsOk result }
+        ensures spare { self.old.spare ≤ self.new.spare + 1 }
+    {
+        match read_any(raw) {
+            Some(Message::Time { second }) => self.set_second(second),
+            Some(Message::AddLong { offset: _, id, side, quantity, symbol, price, flags }) => {
+                let order = order_of(id, side, quantity, symbol, price, flags);
+                self.add(order)?;
+            }
+            Some(Message::Delete { offset: _, id }) => self.remove(id),
+            None => {}
+        }
+        Ok(())
+    }
+
+    /// Makes room for more orders: the spare is then at least so many. The book is the same in either case.
+    pub fn reserve(&mut self, more: u32) -> Result<(), OutOfMemory>
+        requires { map.len self.old.book.orders + more ≤ 4294967295 }
+        ensures same { self.new.book ≡ self.old.book }
+        ensures room { OnOk result (more ≤ self.new.spare) }
+        ensures kept { self.old.spare ≤ self.new.spare }
+        ensures succeeds { more ≤ self.old.spare → IsOk result }
+    {
+        self.orders.reserve(more as usize)?;
+        Ok(())
+    }
+
+    /// The second of the unit's clock, or None exactly where none is known.
+    pub fn second(&self) -> Option<u32>
+        ensures { result ≡ self.now.book.second }
+    {
+        self.second
+    }
+}
+
+// temporary: until the whole family is read
+fn six_at(bytes: &[u8], at: usize) -> [u8; 6]
+    requires { at + 6 ≤ length bytes.now }
+    ensures { result ≡ take 6 (drop at bytes.now) }
+{
+    let mut six = [0; 6];
+    six.copy_from_slice(&bytes[at..at + 6]);
+    six
+}
+
+fn add_long_of(bytes: &[u8]) -> Option<Message>
+    requires { 34 ≤ length bytes.now }
+    ensures { result ≡ add_long bytes.now }
+{
+    let side = Side::from_byte(bytes[14])?;
+    Some(Message::AddLong {
+        offset: get_u32(bytes, 2),
+        id: get_u64(bytes, 6),
+        side,
+        quantity: get_u32(bytes, 15),
+        symbol: six_at(bytes, 19),
+        price: get_u64(bytes, 25),
+        flags: bytes[33],
+    })
+}
+
+fn read_any(bytes: &[u8]) -> Option<Message>
+    requires { IsRaw bytes.now }
+    ensures { result ≡ message_of bytes.now }
+{
+    match bytes[1] {
+        0x20 if bytes.len() >= 6 => Some(Message::Time {
+            second: get_u32(bytes, 2),
+        }),
+        0x21 if bytes.len() >= 34 => add_long_of(bytes),
+        0x29 if bytes.len() >= 14 => Some(Message::Delete {
+            offset: get_u32(bytes, 2),
+            id: get_u64(bytes, 6),
+        }),
+        _ => None,
+    }
+}
+
+fn order_of(id: u64, side: Side, quantity: u32, symbol: [u8; 6], price: u64, flags: u8) -> Order
+    ensures { result ≡ order_of_long id side quantity symbol price flags }
+{
+    Order {
+        id,
+        side,
+        quantity,
+        symbol: Symbol::from_six(symbol),
+        price: Price::from_long(price),
+        display: flags & 1 == 1,
+        participant: [b' '; 4],
+    }
+}
