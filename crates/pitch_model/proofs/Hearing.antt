@@ -73,7 +73,7 @@ sequenced_messages sequence (raw ∷ raws) E some = refl
 pub heard_item : (block : Block) (it : Item) (E : List Entry) → IsItemOf block it → heard it E ≡ heard_block block E
 heard_item block (item.Messages first raws) E is =
     let sequenced = ne_eqb block.sequence 0 (λ e. let p = is.0 in omega arith) in
-    ap (λ n. heard_messages n raws E) is.2 ∙ ap (λ rs. heard_messages block.sequence rs E) is.3 ∙ sym (sequenced_messages block.sequence block.raws E is.1) ∙ sym (cond-false (block.sequence == 0) E (heard_sequenced block.sequence block.raws E) sequenced)
+    ap (λ n. heard_messages n raws.items E) is.2 ∙ ap (λ rs. heard_messages block.sequence rs E) is.3 ∙ sym (sequenced_messages block.sequence block.raws E is.1) ∙ sym (cond-false (block.sequence == 0) E (heard_sequenced block.sequence block.raws E) sequenced)
 heard_item block (item.Next next) E is =
     let sequenced = ne_eqb block.sequence 0 (λ e. let p = is.0 in omega arith) in
     ap (λ n. heard_sequenced n [] E) is.2 ∙ ap (λ rs. heard_sequenced block.sequence rs E) (sym is.1) ∙ sym (cond-false (block.sequence == 0) E (heard_sequenced block.sequence block.raws E) sequenced)
@@ -91,7 +91,7 @@ heard_item block (item.SpinFinished sequence) E is = absurd is
 pub overflows_item : (H : ℕ) (block : Block) (it : Item) (E : List Entry) → IsItemOf block it → overflows_of H E it ≡ block_overflows H E block
 overflows_item H block (item.Messages first raws) E is =
     let sequenced = ne_eqb block.sequence 0 (λ e. let p = is.0 in omega arith) in
-    ap (λ n. overflowed_messages H n raws E) is.2 ∙ ap (λ rs. overflowed_messages H block.sequence rs E) is.3 ∙ sym (cond-false (block.sequence == 0) 0 (overflowed_messages H block.sequence block.raws E) sequenced)
+    ap (λ n. overflowed_messages H n raws.items E) is.2 ∙ ap (λ rs. overflowed_messages H block.sequence rs E) is.3 ∙ sym (cond-false (block.sequence == 0) 0 (overflowed_messages H block.sequence block.raws E) sequenced)
 overflows_item H block (item.Next next) E is =
     let sequenced = ne_eqb block.sequence 0 (λ e. let p = is.0 in omega arith) in
     ap (λ rs. overflowed_messages H block.sequence rs E) (sym is.1) ∙ sym (cond-false (block.sequence == 0) 0 (overflowed_messages H block.sequence block.raws E) sequenced)

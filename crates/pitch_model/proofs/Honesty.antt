@@ -25,7 +25,7 @@ module _ (Image : List Raw → ℕ → List Raw) (V : List Raw) where
 
   -- what was heard before an item is honest
   pub honest_heard : (it : Item) (E : List Entry) → Honest Image V (heard it E) → Honest Image V E
-  honest_heard (item.Messages first raws) E h = honest_before first raws E h
+  honest_heard (item.Messages first raws) E h = honest_before first raws.items E h
   honest_heard (item.Next next) E h = h.1
   honest_heard item.Nothing E h = h
   honest_heard item.GrpUp E h = h.1
