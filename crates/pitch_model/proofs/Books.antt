@@ -1,5 +1,5 @@
 -- Every book has orders with shares, each under its id, and no more of them than there were messages.
-use Rattle.std.proofs.Common.{◌≡◌, ◌≢◌, ℕ, zero, suc, ◌+◌, ◌-◌, ◌≤◌, ◌<◌, Bool, true, false, cond, List, [], ◌∷◌, length, eqb, fold, refl, sym, ap, ◌∙◌, subst, inl, inr, arith, Option, Some, None, ◌==◌}
+use Rattle.std.proofs.Common.{◌≡◌, ◌≢◌, ℕ, zero, suc, ◌+◌, ◌-◌, ◌≤◌, ◌<◌, Bool, true, false, cond, List, [], ◌∷◌, length, eqb, fold, refl, sym, ap, ◌∙◌, subst, inl, inr, arith, Option, Some, None, Result, Ok, Err, ◌==◌}
 use Rattle.std.specs.Option.{option_map, is_some}
 use Rattle.std.specs.Ordering.{nat_cmp, eq_by_cmp, is_eq}
 use Rattle.std.specs.FinMap as map
@@ -8,10 +8,11 @@ use Rattle.std.proofs.lemmas.Bool.{cond_both, eqb-true, cond-true, both_ways, eq
 use Rattle.std.proofs.lemmas.Bool.Decides.{nat_tests}
 use Rattle.pitch_messages.specs.declared.order.Order.{Order}
 use Rattle.pitch_messages.specs.declared.message.Message.{Message}
-use Rattle.pitch_messages.specs.declared.message.Message.TheVariants.{Time, AddLong, Delete}
-use Rattle.pitch_messages.specs.Reading.{message_of}
+use Rattle.pitch_messages.specs.declared.message.Message.TheVariants.{Time, AddLong, AddShort, Executed, ExecutedAt, ReduceLong, ReduceShort, ModifyLong, ModifyShort, Delete, TradeLong, TradeShort, TradeBreak, EndOfSession, AddExpanded, TradeExpanded, UnitClear, Other}
+use Rattle.pitch_messages.specs.declared.message.ReadError.{ReadError}
+use Rattle.pitch_messages.specs.Reading.{reads}
 use Rattle.pitch_model.specs.History.{Raw}
-use Rattle.pitch_model.specs.Book.{Book, IsBook, empty_book, at_second, cleared, without_order, with_order, added, reformed, changed, order_of_long, after_message, after_read, after, book_after}
+use Rattle.pitch_model.specs.Book.{Book, IsBook, empty_book, at_second, cleared, without_order, with_order, added, reformed, changed, reduced_by, left_with, modified, is_displayed, long_symbol, long_price, no_participant, after_message, after_read, after, book_after}
 
 same_test : (q x : ℕ) → is_eq (nat_cmp q x) ≡ eqb q x
 same_test q x = grind (arith, nat_tests)
@@ -87,15 +88,31 @@ changed_book book id change keeps B = by (map.get book.orders id) refl
 -- ---- So does each message
 after_message_book : (book : Book) (message : Message) → IsBook book → IsBook (after_message book message)
 after_message_book book (Time second) B = at_second_book book second B
-after_message_book book (AddLong offset id side quantity symbol price flags) B = added_book book (order_of_long id side quantity symbol price flags) B
+after_message_book book (UnitClear offset) B = cleared_book book
+after_message_book book (AddLong offset id side quantity symbol price flags) B = added_book book _ B
+after_message_book book (AddShort offset id side quantity symbol price flags) B = added_book book _ B
+after_message_book book (AddExpanded offset id side quantity symbol price flags participant) B = added_book book _ B
+after_message_book book (Executed offset id executed execution) B = changed_book book id (reduced_by executed) (λ order. refl) B
+after_message_book book (ExecutedAt offset id executed remaining execution price) B = changed_book book id (left_with remaining) (λ order. refl) B
+after_message_book book (ReduceLong offset id quantity) B = changed_book book id (reduced_by quantity) (λ order. refl) B
+after_message_book book (ReduceShort offset id quantity) B = changed_book book id (reduced_by quantity) (λ order. refl) B
+after_message_book book (ModifyLong offset id quantity price flags) B = changed_book book id (modified quantity price (is_displayed flags)) (λ order. refl) B
+after_message_book book (ModifyShort offset id quantity price flags) B = changed_book book id (modified quantity (long_price price) (is_displayed flags)) (λ order. refl) B
 after_message_book book (Delete offset id) B = without_order_book book id B
+after_message_book book (TradeLong offset id side quantity symbol price execution) B = B
+after_message_book book (TradeShort offset id side quantity symbol price execution) B = B
+after_message_book book (TradeExpanded offset id side quantity symbol price execution) B = B
+after_message_book book (TradeBreak offset execution) B = B
+after_message_book book (EndOfSession offset) B = B
+after_message_book book (Other raw) B = B
 
 pub after_book : (book : Book) (raw : Raw) → IsBook book → IsBook (after book raw)
-after_book book raw B = by (message_of raw)
+unfolding after
+after_book book raw B = by (reads raw)
   where
-    by : (read : Option Message) → IsBook (after_read book read)
-    by None = B
-    by (Some message) = after_message_book book message B
+    by : (read : Result Message ReadError) → IsBook (after_read book read)
+    by (Err error) = B
+    by (Ok message) = after_message_book book message B
 
 folded_book : (raws : List Raw) (book : Book) → IsBook book → IsBook (fold after book raws)
 folded_book [] book B = B
@@ -138,16 +155,32 @@ changed_len book id change = by (map.get book.orders id) refl
 
 after_message_len : (book : Book) (message : Message) → map.len (after_message book message).orders ≤ map.len book.orders + 1
 after_message_len book (Time second) = omega arith
-after_message_len book (AddLong offset id side quantity symbol price flags) = added_len book (order_of_long id side quantity symbol price flags)
+after_message_len book (UnitClear offset) = let l = cleared_len book in omega arith
+after_message_len book (AddLong offset id side quantity symbol price flags) = added_len book _
+after_message_len book (AddShort offset id side quantity symbol price flags) = added_len book _
+after_message_len book (AddExpanded offset id side quantity symbol price flags participant) = added_len book _
+after_message_len book (Executed offset id executed execution) = let l = changed_len book id (reduced_by executed) in omega arith
+after_message_len book (ExecutedAt offset id executed remaining execution price) = let l = changed_len book id (left_with remaining) in omega arith
+after_message_len book (ReduceLong offset id quantity) = let l = changed_len book id (reduced_by quantity) in omega arith
+after_message_len book (ReduceShort offset id quantity) = let l = changed_len book id (reduced_by quantity) in omega arith
+after_message_len book (ModifyLong offset id quantity price flags) = let l = changed_len book id (modified quantity price (is_displayed flags)) in omega arith
+after_message_len book (ModifyShort offset id quantity price flags) = let l = changed_len book id (modified quantity (long_price price) (is_displayed flags)) in omega arith
 after_message_len book (Delete offset id) = let l = without_order_len book id in omega arith
+after_message_len book (TradeLong offset id side quantity symbol price execution) = omega arith
+after_message_len book (TradeShort offset id side quantity symbol price execution) = omega arith
+after_message_len book (TradeExpanded offset id side quantity symbol price execution) = omega arith
+after_message_len book (TradeBreak offset execution) = omega arith
+after_message_len book (EndOfSession offset) = omega arith
+after_message_len book (Other raw) = omega arith
 
 -- a message adds at most one order
 pub after_len : (book : Book) (raw : Raw) → map.len (after book raw).orders ≤ map.len book.orders + 1
-after_len book raw = by (message_of raw)
+unfolding after
+after_len book raw = by (reads raw)
   where
-    by : (read : Option Message) → map.len (after_read book read).orders ≤ map.len book.orders + 1
-    by None = omega arith
-    by (Some message) = after_message_len book message
+    by : (read : Result Message ReadError) → map.len (after_read book read).orders ≤ map.len book.orders + 1
+    by (Err error) = omega arith
+    by (Ok message) = after_message_len book message
 
 folded_len : (raws : List Raw) (book : Book) → map.len (fold after book raws).orders ≤ map.len book.orders + length raws
 folded_len [] book = omega arith

@@ -12,3 +12,4 @@ pub mod Honesty
 pub mod Asking
 pub mod Folding
 pub mod Books
+pub mod Following
