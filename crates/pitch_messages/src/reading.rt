@@ -1,8 +1,9 @@
-ghost use Rattle.std.specs.Prelude.{◌≡◌, ℕ, ◌+◌, ◌≤◌, Some, length, slice_index, IfOk, IfErr};
+ghost use Rattle.std.specs.Prelude.{◌≡◌, ℕ, ◌+◌, ◌≤◌, Some, length, slice_index, IfOk, IfErr, OnOk};
+ghost use Rattle.std.specs.Option.{option_map};
 ghost use Rattle.pitch_fields.specs.Side.{side_of};
-ghost use Rattle.pitch_messages.specs.Raw.{IsRaw};
+ghost use Rattle.pitch_messages.specs.Raw.{IsRaw, kind_of};
 ghost use Rattle.pitch_messages.specs.declared.message.ReadError.TheVariants.{BadSide};
-ghost use Rattle.pitch_messages.specs.Reading.{bytes_at, reads, time_row, add_long_row, add_short_row, executed_row, executed_at_row, reduce_long_row, reduce_short_row, modify_long_row, modify_short_row, delete_row, trade_long_row, trade_short_row, trade_break_row, end_of_session_row, add_expanded_row, trade_expanded_row, unit_clear_row};
+ghost use Rattle.pitch_messages.specs.Reading.{bytes_at, needs_of, reads, row_of, time_row, add_long_row, add_short_row, executed_row, executed_at_row, reduce_long_row, reduce_short_row, modify_long_row, modify_short_row, delete_row, trade_long_row, trade_short_row, trade_break_row, end_of_session_row, add_expanded_row, trade_expanded_row, unit_clear_row};
 
 use crate::message::{Message, ReadError};
 use crate::raw::Raw;
@@ -304,3 +305,84 @@ fn unit_clear(bytes: &[u8]) -> Result<Message, ReadError>
     })
 }
 
+// How many bytes a message of a type needs, where the type is known.
+#[inline(always)]
+fn needs_of(kind: u8) -> Option<u8>
+    ensures { result ≡ option_map (λ row. row.needs) (row_of kind) }
+{
+    match kind {
+        0x20 => Some(6),
+        0x21 => Some(34),
+        0x22 => Some(26),
+        0x23 => Some(26),
+        0x24 => Some(38),
+        0x25 => Some(18),
+        0x26 => Some(16),
+        0x27 => Some(27),
+        0x28 => Some(19),
+        0x29 => Some(14),
+        0x2a => Some(41),
+        0x2b => Some(33),
+        0x2c => Some(14),
+        0x2d => Some(6),
+        0x2f => Some(40),
+        0x30 => Some(43),
+        0x97 => Some(6),
+        _ => None,
+    }
+}
+
+// Whether a message has the bytes that its type needs.
+#[inline(always)]
+fn long_enough(bytes: &[u8]) -> Result<(), ReadError>
+    requires { IsRaw bytes.now }
+    ensures ok { OnOk result (needs_of (kind_of bytes.now) ≤ length bytes.now) }
+    ensures err { IfErr result (λ e. reads bytes.now ≡ Err e) }
+{
+    match needs_of(bytes[1]) {
+        Some(needs) if bytes.len() < usize::from(needs) => Err(ReadError::Short {
+            needs,
+            has: bytes[0],
+        }),
+        _ => Ok(()),
+    }
+}
+
+/// The message of a raw's bytes.
+///
+/// Short where its type is known and needs more bytes, BadSide where it has them and its side is neither `B` nor `S`.
+/// Bytes past those that its type needs are ignored, and a message of an unknown type is Other.
+#[inline]
+pub fn read_bytes(bytes: &[u8]) -> Result<Message, ReadError>
+    requires { IsRaw bytes.now }
+    ensures { result ≡ reads bytes.now }
+{
+    long_enough(bytes)?;
+    match bytes[1] {
+        0x20 => time(bytes),
+        0x21 => add_long(bytes),
+        0x22 => add_short(bytes),
+        0x23 => executed(bytes),
+        0x24 => executed_at(bytes),
+        0x25 => reduce_long(bytes),
+        0x26 => reduce_short(bytes),
+        0x27 => modify_long(bytes),
+        0x28 => modify_short(bytes),
+        0x29 => delete(bytes),
+        0x2a => trade_long(bytes),
+        0x2b => trade_short(bytes),
+        0x2c => trade_break(bytes),
+        0x2d => end_of_session(bytes),
+        0x2f => add_expanded(bytes),
+        0x30 => trade_expanded(bytes),
+        0x97 => unit_clear(bytes),
+        _ => Ok(Message::Other(Raw::of(bytes))),
+    }
+}
+
+/// The message of a raw, as `read_bytes` says it.
+pub fn read(raw: &Raw) -> Result<Message, ReadError>
+    ensures { result ≡ reads raw.now }
+{
+    read_bytes(raw.bytes())
+}
