@@ -1,11 +1,11 @@
 ghost use Rattle.std.specs.Prelude.{◌≡◌, ◌≤◌, ◌<◌, ◌+◌, OnOk, OnErr, IsOk, IsSome, Some, Option};
 ghost use Rattle.pitch_messages.specs.Raw.{IsRaw};
-ghost use Rattle.pitch_model.specs.Book.{reformed};
+ghost use Rattle.pitch_model.specs.Book.{reformed, is_displayed};
 ghost use Rattle.std.specs.FinMap as map;
 ghost use Rattle.pitch_model.specs.Book.{empty_book, at_second, cleared, without_order, with_order, added, changed, reduced_by, left_with, modified};
 
 use indexmap::IndexMap;
-use pitch_fields::OutOfMemory;
+use pitch_fields::{OutOfMemory, Price};
 use pitch_messages::Order;
 use std::alloc::Global;
 use std::marker::Model;
@@ -40,7 +40,7 @@ impl UnitBook {
         }
     }
 
-    fn set_second(&mut self, second: u32)
+    pub(crate) fn set_second(&mut self, second: u32)
         ensures book { self.new.book ≡ at_second self.old.book second }
         ensures spare { self.new.spare ≡ self.old.spare }
     {
@@ -62,14 +62,14 @@ impl UnitBook {
     }
 
     #[tactic(auto, using(crate::proofs::Maps::removes))]
-    fn remove(&mut self, id: u64)
+    pub(crate) fn remove(&mut self, id: u64)
         ensures book { self.new.book ≡ without_order self.old.book id }
         ensures spare { self.old.spare ≤ self.new.spare }
     {
         self.orders.swap_remove(&id);
     }
 
-    fn clear(&mut self)
+    pub(crate) fn clear(&mut self)
         ensures book { self.new.book ≡ cleared self.old.book }
         ensures spare { self.old.spare ≤ self.new.spare }
     {
@@ -97,11 +97,11 @@ impl UnitBook {
     ghost use Rattle.std.specs.Prelude.{◌≡◌, ◌≤◌, ◌<◌, ◌+◌, OnOk, OnErr, IsOk};
     ghost use Rattle.std.specs.FinMap as map;
     ghost use Rattle.std.specs.Prelude.{IsSome, Some};
-    ghost use Rattle.pitch_model.specs.Book.{reformed, with_order};
+    ghost use Rattle.pitch_model.specs.Book.{reformed, with_order, is_displayed};
     ghost use Rattle.pitch_model.specs.Book.{after};
 
     // Adds an order, unless it has no shares.
-    fn add(&mut self, order: Order) -> Result<(), OutOfMemory>
+    pub(crate) fn add(&mut self, order: Order) -> Result<(), OutOfMemory>
         ensures ok { OnOk result (self.new.book ≡ added self.old.book order) }
         ensures err { OnErr result (self.new.book ≡ self.old.book) }
         ensures succeeds { 1 ≤ self.old.spare → IsOk result }
@@ -111,6 +111,79 @@ impl UnitBook {
             return Ok(());
         }
         self.insert(order)
+    }
+
+    // Puts an order in the place of the one that is open under its id.
+    #[tactic(auto, using(crate::proofs::Maps::inserts))]
+    fn replace(&mut self, id: u64, order: Order)
+        requires { IsSome (map.get self.old.book.orders id) }
+        ensures book { self.new.book ≡ with_order self.old.book id order }
+        ensures spare { self.old.spare ≤ self.new.spare + 1 }
+    {
+        match self.orders.insert(id, order) {
+            Ok(_) => {}
+            Err(_) => unreachable!(),
+        }
+    }
+
+    // Puts an order in the place of the one that is open under its id, or takes that out where it has no shares.
+    fn reform(&mut self, id: u64, order: Order)
+        requires { IsSome (map.get self.old.book.orders id) }
+        ensures book { self.new.book ≡ reformed self.old.book id (Some order) }
+        ensures spare { self.old.spare ≤ self.new.spare + 1 }
+    {
+        if order.quantity == 0 {
+            self.remove(id);
+        } else {
+            self.replace(id, order);
+        }
+    }
+
+    // Takes shares from an open order.
+    pub(crate) fn reduce(&mut self, id: u64, quantity: u32)
+        ensures book { self.new.book ≡ changed self.old.book id (reduced_by quantity) }
+        ensures spare { self.old.spare ≤ self.new.spare + 1 }
+    {
+        if let Some(open) = self.order(id) {
+            let left = open.quantity.saturating_sub(quantity);
+            self.reform(
+                id,
+                Order {
+                    quantity: left,
+                    ..open
+                },
+            );
+        }
+    }
+
+    // Leaves so many shares of an open order.
+    pub(crate) fn leave(&mut self, id: u64, quantity: u32)
+        ensures book { self.new.book ≡ changed self.old.book id (left_with quantity) }
+        ensures spare { self.old.spare ≤ self.new.spare + 1 }
+    {
+        if let Some(open) = self.order(id) {
+            self.reform(id, Order { quantity, ..open });
+        }
+    }
+
+    // Gives an open order another quantity, price and display.
+    pub(crate) fn modify(&mut self, id: u64, quantity: u32, price: u64, flags: u8)
+        ensures book { self.new.book ≡ changed self.old.book id (modified quantity price (is_displayed flags)) }
+        ensures spare { self.old.spare ≤ self.new.spare + 1 }
+    {
+        if let Some(open) = self.order(id) {
+            let price = Price::from_long(price);
+            let display = flags & 1 == 1;
+            self.reform(
+                id,
+                Order {
+                    quantity,
+                    price,
+                    display,
+                    ..open
+                },
+            );
+        }
     }
 
     /// Makes room for more orders: the spare is then at least so many. The book is the same in either case.
