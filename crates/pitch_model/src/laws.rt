@@ -5,9 +5,11 @@ ghost use Rattle.std.specs.List.{list_any};
 ghost use Rattle.std.specs.List.Sorted.{IsStrictlyIncreasing};
 ghost use Rattle.std.specs.Set.{is_member};
 ghost use Rattle.std.specs.FinMap as map;
+ghost use Rattle.pitch_fields.specs.declared.side.Side.{Side};
 ghost use Rattle.unit_packets.specs.Blocks.{Block, StaysWithin};
 ghost use Rattle.pitch_model.specs.declared.item.Item.{Item};
-ghost use Rattle.pitch_model.specs.Book.{IsBook, book_after};
+ghost use Rattle.pitch_model.specs.Book.{Book, IsBook, book_after};
+ghost use Rattle.pitch_model.specs.Levels.{IsBestOf, best, level, orders_on, prices_on};
 ghost use Rattle.pitch_model.specs.History.{Entry, Raw, Message, SpinFinished, spin_of, images_at, image_finished, messages_at};
 ghost use Rattle.pitch_model.specs.Heard.{IsItem, IsItemOf, heard, heard_block, overflows_of, block_overflows};
 ghost use Rattle.pitch_model.specs.Honest.{Honest};
@@ -100,4 +102,11 @@ pub fn lines_grow_by_the_block()
 pub fn units_are_those_named()
     ensures rise { (before : List Block) → IsStrictlyIncreasing (units_of before) }
     ensures named { (before : List Block) (unit : ℕ) → is_member nat_eq (units_of before) unit ≡ list_any (λ block. unit == block.unit) before }
+{}
+
+/// The best price of a side is one of its orders' prices, and none of theirs is better; there is none exactly where the
+/// side has no order.
+pub fn best_price_is_the_best()
+    ensures some { (book : Book) (symbol : List ℕ) (side : Side) (price shares : ℕ) → best book symbol side ≡ Some (price, shares) → IsBestOf side (prices_on book symbol side) price × (shares ≡ level book symbol side price) }
+    ensures none { (book : Book) (symbol : List ℕ) (side : Side) → best book symbol side ≡ None → orders_on book symbol side ≡ [] }
 {}
