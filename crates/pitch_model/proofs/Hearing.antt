@@ -1,13 +1,13 @@
 -- What is heard, one message after another.
-use Rattle.std.proofs.Common.{◌≡◌, ℕ, suc, ◌+◌, ◌≤◌, ◌<◌, Bool, true, false, cond, List, [], ◌∷◌, ◌++◌, take, length, refl, sym, ap, ◌∙◌, subst, arith, Some, add-one, length-take, ◌==◌}
+use Rattle.std.proofs.Common.{◌≡◌, ℕ, suc, ◌+◌, ◌≤◌, ◌<◌, Bool, true, false, cond, List, [], ◌∷◌, ◌++◌, take, length, refl, sym, ap, ◌∙◌, subst, arith, Some, add-one, length-take, ◌==◌, inl, inr}
 use Rattle.std.specs.List.{slice_get}
 use Rattle.std.proofs.Math.Seq.{take-suc}
 use Rattle.std.proofs.lemmas.Option.{slice_get_within, get_or_from_slice_get}
 use Rattle.std.proofs.lemmas.Bool.{cond-true, cond-false, eq-eqb, ne_eqb}
-use Rattle.unit_packets.specs.Blocks.{Block}
+use Rattle.unit_packets.specs.Blocks.{Block, StaysWithin}
 use Rattle.pitch_model.specs.History.{Entry, Raw, Message}
 use Rattle.pitch_model.specs.Reach.{is_overflow}
-use Rattle.pitch_model.specs.Heard.{IsItemOf, heard, heard_block, heard_sequenced, heard_messages, is_fresh, fresh_messages, overflowed_messages, block_overflows, overflows_of}
+use Rattle.pitch_model.specs.Heard.{IsItem, IsItemOf, heard, heard_block, heard_sequenced, heard_messages, is_fresh, fresh_messages, overflowed_messages, block_overflows, overflows_of}
 use Rattle.pitch_model.specs.declared.item.Item.{Item}
 use Rattle.pitch_model.specs.declared.item.Item.TheVariants as item
 
@@ -105,3 +105,29 @@ overflows_item H block (item.Advertised sequence) E is = absurd is
 overflows_item H block (item.SpinReply sequence orders status) E is = absurd is
 overflows_item H block (item.ImageMessages raws) E is = absurd is
 overflows_item H block (item.SpinFinished sequence) E is = absurd is
+
+-- the item of a block of a feed is an item of a feed
+pub item_fits : (block : Block) (it : Item) → StaysWithin block.sequence (length block.raws) → IsItemOf block it → IsItem it
+item_fits block (item.Messages first raws) within is =
+    let named = is.2 in
+    let some = is.0 in
+    let filled = is.1 in
+    let count : length raws.items ≡ length block.raws = ap (λ (rs : List Raw). length rs) is.3 in
+    elim within [
+      | inl none ↦ absurd (omega arith)
+      | inr rest ↦ elim rest [
+        | inl empty ↦ absurd (omega arith)
+        | inr fits ↦ (omega arith, omega arith)
+      ]
+    ]
+item_fits block (item.Next next) within is = let named = is.2 in let some = is.0 in omega arith
+item_fits block item.Nothing within is = tt
+item_fits block item.GrpUp within is = tt
+item_fits block item.GrpDown within is = tt
+item_fits block (item.GapReply sequence count status) within is = tt
+item_fits block item.SpinUp within is = tt
+item_fits block item.SpinDown within is = tt
+item_fits block (item.Advertised sequence) within is = tt
+item_fits block (item.SpinReply sequence orders status) within is = tt
+item_fits block (item.ImageMessages raws) within is = tt
+item_fits block (item.SpinFinished sequence) within is = tt

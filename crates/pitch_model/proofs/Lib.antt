@@ -13,3 +13,4 @@ pub mod Asking
 pub mod Folding
 pub mod Books
 pub mod Following
+pub mod Prices
