@@ -1,12 +1,14 @@
 ghost use Rattle.std.specs.Prelude.{◌≡◌, ◌≤◌, ◌<◌, ◌+◌, OnOk, OnErr, IsOk, IsSome, Some, Option};
 ghost use Rattle.pitch_messages.specs.Raw.{IsRaw};
-ghost use Rattle.pitch_model.specs.Book.{reformed};
 ghost use Rattle.std.specs.FinMap as map;
-ghost use Rattle.pitch_model.specs.Book.{empty_book, at_second, cleared, without_order, with_order, added, changed, reduced_by, left_with, modified};
+ghost use Rattle.pitch_model.specs.Book.{empty_book, at_second, cleared, without_order, with_order, added, changed, after_message, after};
+ghost use Rattle.order_book.specs.Changes.{changed_by};
 
+use crate::adding::{is_displayed, order_of_expanded, order_of_long, order_of_short};
+use crate::change::Change;
 use indexmap::IndexMap;
-use pitch_fields::OutOfMemory;
-use pitch_messages::Order;
+use pitch_fields::{OutOfMemory, Price};
+use pitch_messages::{Message, Order, Raw, read_bytes};
 use std::alloc::Global;
 use std::marker::Model;
 
@@ -94,12 +96,6 @@ impl UnitBook {
 }
 
 impl UnitBook {
-    ghost use Rattle.std.specs.Prelude.{◌≡◌, ◌≤◌, ◌<◌, ◌+◌, OnOk, OnErr, IsOk};
-    ghost use Rattle.std.specs.FinMap as map;
-    ghost use Rattle.std.specs.Prelude.{IsSome, Some};
-    ghost use Rattle.pitch_model.specs.Book.{reformed, with_order};
-    ghost use Rattle.pitch_model.specs.Book.{after};
-
     // Adds an order, unless it has no shares.
     fn add(&mut self, order: Order) -> Result<(), OutOfMemory>
         ensures ok { OnOk result (self.new.book ≡ added self.old.book order) }
@@ -130,5 +126,150 @@ impl UnitBook {
         ensures { result ≡ self.now.book.second }
     {
         self.second
+    }
+
+    // Changes the order of an id, and removes it where it has no shares left.
+    fn change(&mut self, id: u64, change: Change)
+        ensures book { self.new.book ≡ changed self.old.book id (changed_by change) }
+        ensures spare { self.old.spare ≤ self.new.spare }
+    {
+        let Some((index, _, order)) = self.orders.get_full(&id) else {
+            return;
+        };
+        let order = change.of(*order);
+        if order.quantity == 0 {
+            self.orders.swap_remove_index(index);
+            return;
+        }
+        let (_, place) = self.orders.pair_mut(index);
+        *place = order;
+    }
+
+    // Does what a message says.
+    fn apply_message(&mut self, message: &Message) -> Result<(), OutOfMemory>
+        requires few { map.len self.old.book.orders < 4294967295 }
+        ensures ok { OnOk result (self.new.book ≡ after_message self.old.book message.now) }
+        ensures err { OnErr result (self.new.book ≡ self.old.book) }
+        ensures succeeds { 1 ≤ self.old.spare → IsOk result }
+        ensures spare { self.old.spare ≤ self.new.spare + 1 }
+    {
+        match *message {
+            Message::AddLong {
+                id,
+                side,
+                quantity,
+                symbol,
+                price,
+                flags,
+                ..
+            } => {
+                return self.add(order_of_long(id, side, quantity, symbol, price, flags));
+            }
+            Message::AddShort {
+                id,
+                side,
+                quantity,
+                symbol,
+                price,
+                flags,
+                ..
+            } => {
+                return self.add(order_of_short(id, side, quantity, symbol, price, flags));
+            }
+            Message::AddExpanded {
+                id,
+                side,
+                quantity,
+                symbol,
+                price,
+                flags,
+                participant,
+                ..
+            } => {
+                return self.add(order_of_expanded(
+                    id,
+                    side,
+                    quantity,
+                    symbol,
+                    price,
+                    flags,
+                    participant,
+                ));
+            }
+            Message::Time { second } => self.set_second(second),
+            Message::UnitClear { .. } => self.clear(),
+            Message::Executed { id, executed, .. } => self.change(id, Change::Reduced(executed)),
+            Message::ExecutedAt { id, remaining, .. } => self.change(id, Change::Left(remaining)),
+            Message::ReduceLong { id, quantity, .. } => self.change(id, Change::Reduced(quantity)),
+            Message::ReduceShort { id, quantity, .. } => {
+                self.change(id, Change::Reduced(u32::from(quantity)))
+            }
+            Message::ModifyLong {
+                id,
+                quantity,
+                price,
+                flags,
+                ..
+            } => self.change(
+                id,
+                Change::Modified {
+                    quantity,
+                    price: Price::from_long(price),
+                    display: is_displayed(flags),
+                },
+            ),
+            Message::ModifyShort {
+                id,
+                quantity,
+                price,
+                flags,
+                ..
+            } => self.change(
+                id,
+                Change::Modified {
+                    quantity: u32::from(quantity),
+                    price: Price::from_short(price),
+                    display: is_displayed(flags),
+                },
+            ),
+            Message::Delete { id, .. } => self.remove(id),
+            Message::TradeLong { .. }
+            | Message::TradeShort { .. }
+            | Message::TradeExpanded { .. }
+            | Message::TradeBreak { .. }
+            | Message::EndOfSession { .. }
+            | Message::Other(_) => {}
+        }
+        Ok(())
+    }
+
+    /// Does what a raw message says, given its bytes. A known type that is too short or names no side, and a type
+    /// that is no book message, change nothing.
+    ///
+    /// The book is as before after OutOfMemory, which never comes where the spare is at least 1.
+    #[tactic(auto, unfolding(pitch_model::specs::Book::after))]
+    pub fn apply_bytes(&mut self, raw: &[u8]) -> Result<(), OutOfMemory>
+        requires raw { IsRaw raw.now }
+        requires few { map.len self.old.book.orders < 4294967295 }
+        ensures ok { OnOk result (self.new.book ≡ after self.old.book raw.now) }
+        ensures err { OnErr result (self.new.book ≡ self.old.book) }
+        ensures succeeds { 1 ≤ self.old.spare → IsOk result }
+        ensures spare { self.old.spare ≤ self.new.spare + 1 }
+    {
+        match read_bytes(raw) {
+            Ok(message) => self.apply_message(&message),
+            Err(_) => Ok(()),
+        }
+    }
+
+    /// Does what a raw message says, as `apply_bytes` does.
+    pub fn apply(&mut self, raw: &Raw) -> Result<(), OutOfMemory>
+        requires few { map.len self.old.book.orders < 4294967295 }
+        ensures ok { OnOk result (self.new.book ≡ after self.old.book raw.now) }
+        ensures err { OnErr result (self.new.book ≡ self.old.book) }
+        ensures succeeds { 1 ≤ self.old.spare → IsOk result }
+        ensures spare { self.old.spare ≤ self.new.spare + 1 }
+    {
+        self.apply_bytes(raw.bytes())
     }
 }
