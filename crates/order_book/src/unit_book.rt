@@ -1,13 +1,12 @@
-ghost use Rattle.std.specs.Prelude.{◌≡◌, ◌≤◌, ◌<◌, ◌+◌, OnOk, OnErr, IsOk, Option, take, drop, length};
+ghost use Rattle.std.specs.Prelude.{◌≡◌, ◌≤◌, ◌<◌, ◌+◌, OnOk, OnErr, IsOk, IsSome, Some, Option};
 ghost use Rattle.pitch_messages.specs.Raw.{IsRaw};
-ghost use Rattle.pitch_messages.specs.Reading.{message_of, add_long};
-ghost use Rattle.pitch_model.specs.Book.{order_of_long};
+ghost use Rattle.pitch_model.specs.Book.{reformed, is_displayed};
 ghost use Rattle.std.specs.FinMap as map;
 ghost use Rattle.pitch_model.specs.Book.{empty_book, at_second, cleared, without_order, with_order, added, changed, reduced_by, left_with, modified};
 
 use indexmap::IndexMap;
-use pitch_fields::{OutOfMemory, Price, Side, Symbol, get_u32, get_u64};
-use pitch_messages::{Message, Order};
+use pitch_fields::{OutOfMemory, Price};
+use pitch_messages::Order;
 use std::alloc::Global;
 use std::marker::Model;
 
@@ -41,7 +40,7 @@ impl UnitBook {
         }
     }
 
-    fn set_second(&mut self, second: u32)
+    pub(crate) fn set_second(&mut self, second: u32)
         ensures book { self.new.book ≡ at_second self.old.book second }
         ensures spare { self.new.spare ≡ self.old.spare }
     {
@@ -63,14 +62,14 @@ impl UnitBook {
     }
 
     #[tactic(auto, using(crate::proofs::Maps::removes))]
-    fn remove(&mut self, id: u64)
+    pub(crate) fn remove(&mut self, id: u64)
         ensures book { self.new.book ≡ without_order self.old.book id }
         ensures spare { self.old.spare ≤ self.new.spare }
     {
         self.orders.swap_remove(&id);
     }
 
-    fn clear(&mut self)
+    pub(crate) fn clear(&mut self)
         ensures book { self.new.book ≡ cleared self.old.book }
         ensures spare { self.old.spare ≤ self.new.spare }
     {
@@ -97,11 +96,12 @@ impl UnitBook {
 impl UnitBook {
     ghost use Rattle.std.specs.Prelude.{◌≡◌, ◌≤◌, ◌<◌, ◌+◌, OnOk, OnErr, IsOk};
     ghost use Rattle.std.specs.FinMap as map;
-    ghost use Rattle.pitch_messages.specs.Raw.{IsRaw};
+    ghost use Rattle.std.specs.Prelude.{IsSome, Some};
+    ghost use Rattle.pitch_model.specs.Book.{reformed, with_order, is_displayed};
     ghost use Rattle.pitch_model.specs.Book.{after};
 
     // Adds an order, unless it has no shares.
-    fn add(&mut self, order: Order) -> Result<(), OutOfMemory>
+    pub(crate) fn add(&mut self, order: Order) -> Result<(), OutOfMemory>
         ensures ok { OnOk result (self.new.book ≡ added self.old.book order) }
         ensures err { OnErr result (self.new.book ≡ self.old.book) }
         ensures succeeds { 1 ≤ self.old.spare → IsOk result }
@@ -113,26 +113,77 @@ impl UnitBook {
         self.insert(order)
     }
 
-    /// Does what the message does to a book. The book is as before where memory runs out, which does not happen where
-    /// the spare is at least 1.
-    pub fn apply_bytes(&mut self, raw: &[u8]) -> Result<(), OutOfMemory>
-        requires raw { IsRaw raw.now }
-        requires few { map.len self.old.book.orders < 4294967295 }
-        ensures ok { OnOk result (self.new.book ≡ after self.old.book raw.now) }
-        ensures err { OnErr result (self.new.book ≡ self.old.book) }
-        ensures succeeds { 1 ≤ self.old.spare → IsOk result }
+    // Puts an order in the place of the one that is open under its id.
+    #[tactic(auto, using(crate::proofs::Maps::inserts))]
+    fn replace(&mut self, id: u64, order: Order)
+        requires { IsSome (map.get self.old.book.orders id) }
+        ensures book { self.new.book ≡ with_order self.old.book id order }
         ensures spare { self.old.spare ≤ self.new.spare + 1 }
     {
-        match read_any(raw) {
-            Some(Message::Time { second }) => self.set_second(second),
-            Some(Message::AddLong { offset: _, id, side, quantity, symbol, price, flags }) => {
-                let order = order_of(id, side, quantity, symbol, price, flags);
-                self.add(order)?;
-            }
-            Some(Message::Delete { offset: _, id }) => self.remove(id),
-            None => {}
+        match self.orders.insert(id, order) {
+            Ok(_) => {}
+            Err(_) => unreachable!(),
         }
-        Ok(())
+    }
+
+    // Puts an order in the place of the one that is open under its id, or takes that out where it has no shares.
+    fn reform(&mut self, id: u64, order: Order)
+        requires { IsSome (map.get self.old.book.orders id) }
+        ensures book { self.new.book ≡ reformed self.old.book id (Some order) }
+        ensures spare { self.old.spare ≤ self.new.spare + 1 }
+    {
+        if order.quantity == 0 {
+            self.remove(id);
+        } else {
+            self.replace(id, order);
+        }
+    }
+
+    // Takes shares from an open order.
+    pub(crate) fn reduce(&mut self, id: u64, quantity: u32)
+        ensures book { self.new.book ≡ changed self.old.book id (reduced_by quantity) }
+        ensures spare { self.old.spare ≤ self.new.spare + 1 }
+    {
+        if let Some(open) = self.order(id) {
+            let left = open.quantity.saturating_sub(quantity);
+            self.reform(
+                id,
+                Order {
+                    quantity: left,
+                    ..open
+                },
+            );
+        }
+    }
+
+    // Leaves so many shares of an open order.
+    pub(crate) fn leave(&mut self, id: u64, quantity: u32)
+        ensures book { self.new.book ≡ changed self.old.book id (left_with quantity) }
+        ensures spare { self.old.spare ≤ self.new.spare + 1 }
+    {
+        if let Some(open) = self.order(id) {
+            self.reform(id, Order { quantity, ..open });
+        }
+    }
+
+    // Gives an open order another quantity, price and display.
+    pub(crate) fn modify(&mut self, id: u64, quantity: u32, price: u64, flags: u8)
+        ensures book { self.new.book ≡ changed self.old.book id (modified quantity price (is_displayed flags)) }
+        ensures spare { self.old.spare ≤ self.new.spare + 1 }
+    {
+        if let Some(open) = self.order(id) {
+            let price = Price::from_long(price);
+            let display = flags & 1 == 1;
+            self.reform(
+                id,
+                Order {
+                    quantity,
+                    price,
+                    display,
+                    ..open
+                },
+            );
+        }
     }
 
     /// Makes room for more orders: the spare is then at least so many. The book is the same in either case.
@@ -152,62 +203,5 @@ impl UnitBook {
         ensures { result ≡ self.now.book.second }
     {
         self.second
-    }
-}
-
-// temporary: until the whole family is read
-fn six_at(bytes: &[u8], at: usize) -> [u8; 6]
-    requires { at + 6 ≤ length bytes.now }
-    ensures { result ≡ take 6 (drop at bytes.now) }
-{
-    let mut six = [0; 6];
-    six.copy_from_slice(&bytes[at..at + 6]);
-    six
-}
-
-fn add_long_of(bytes: &[u8]) -> Option<Message>
-    requires { 34 ≤ length bytes.now }
-    ensures { result ≡ add_long bytes.now }
-{
-    let side = Side::from_byte(bytes[14])?;
-    Some(Message::AddLong {
-        offset: get_u32(bytes, 2),
-        id: get_u64(bytes, 6),
-        side,
-        quantity: get_u32(bytes, 15),
-        symbol: six_at(bytes, 19),
-        price: get_u64(bytes, 25),
-        flags: bytes[33],
-    })
-}
-
-fn read_any(bytes: &[u8]) -> Option<Message>
-    requires { IsRaw bytes.now }
-    ensures { result ≡ message_of bytes.now }
-{
-    match bytes[1] {
-        0x20 if bytes.len() >= 6 => Some(Message::Time {
-            second: get_u32(bytes, 2),
-        }),
-        0x21 if bytes.len() >= 34 => add_long_of(bytes),
-        0x29 if bytes.len() >= 14 => Some(Message::Delete {
-            offset: get_u32(bytes, 2),
-            id: get_u64(bytes, 6),
-        }),
-        _ => None,
-    }
-}
-
-fn order_of(id: u64, side: Side, quantity: u32, symbol: [u8; 6], price: u64, flags: u8) -> Order
-    ensures { result ≡ order_of_long id side quantity symbol price flags }
-{
-    Order {
-        id,
-        side,
-        quantity,
-        symbol: Symbol::from_six(symbol),
-        price: Price::from_long(price),
-        display: flags & 1 == 1,
-        participant: [b' '; 4],
     }
 }

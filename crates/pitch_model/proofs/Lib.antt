@@ -4,3 +4,13 @@ pub mod Least
 pub mod Topmost
 pub mod Rises
 pub mod Examples
+pub mod Counting
+pub mod Entries
+pub mod Draining
+pub mod Hearing
+pub mod Honesty
+pub mod Asking
+pub mod Folding
+pub mod Books
+pub mod Following
+pub mod Prices

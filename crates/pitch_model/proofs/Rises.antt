@@ -11,7 +11,7 @@ use Rattle.pitch_model.proofs.Reaching.{reach_is, joined_reach, base_joined}
 member_more : (js ks : List ℕ) (k : ℕ) → is_member eqb ks k ≡ true → is_member eqb (js ++ ks) k ≡ true
 member_more js ks k h = list_any-append (eqb k) js ks ∙ or_right (list_any (eqb k) js) (is_member eqb ks k) h
 
-joined_more : (P : Part) (images messages : List ℕ) (k : ℕ) → Joined P k → Joined (grown P images messages) k
+pub joined_more : (P : Part) (images messages : List ℕ) (k : ℕ) → Joined P k → Joined (grown P images messages) k
 joined_more P images messages k J = record {
   anchor = J.anchor;
   is_anchored = elim (or_cases (eqb J.anchor P.base) (is_member eqb P.images J.anchor) J.is_anchored) [
@@ -22,7 +22,7 @@ joined_more P images messages k J = record {
   run = λ j a b. member_more messages P.seen j (J.run j a b);
 }
 
-grown_rises : (P : Part) (images messages : List ℕ) → reach_of P ≤ reach_of (grown P images messages)
+pub grown_rises : (P : Part) (images messages : List ℕ) → reach_of P ≤ reach_of (grown P images messages)
 grown_rises P images messages = (reach_is (grown P images messages)).greatest (reach_of P) (joined_more P images messages (reach_of P) (joined_reach P))
 
 pub reach_rises : (H : ℕ) (E : List Entry) (entry : Entry) → reach H E ≤ reach H (entry ∷ E)

@@ -1,17 +1,23 @@
 -- The order book of one unit, and what each message does to it.
-use Rattle.std.specs.Prelude.{ℕ, ◌-◌, Bool, ◌==◌, List, [], ◌∷◌, ◌++◌, fold, Option, None, Some, if◌then◌else◌, bit_and, option_map}
+use Rattle.std.specs.Prelude.{◌≡◌, ℕ, ◌-◌, ◌<◌, Bool, ◌==◌, List, [], ◌∷◌, ◌++◌, fold, ◌*◌, Option, None, Some, Result, Ok, Err, if◌then◌else◌, bit_and, option_map}
 use Rattle.std.specs.Ordering.{nat_cmp}
 use Rattle.std.specs.FinMap as map
 use Rattle.pitch_fields.specs.declared.side.Side.{Side}
 use Rattle.pitch_messages.specs.declared.order.Order.{Order}
 use Rattle.pitch_messages.specs.declared.message.Message.{Message}
-use Rattle.pitch_messages.specs.declared.message.Message.TheVariants.{Time, AddLong, Delete}
-use Rattle.pitch_messages.specs.Reading.{message_of}
+use Rattle.pitch_messages.specs.declared.message.Message.TheVariants.{Time, AddLong, AddShort, Executed, ExecutedAt, ReduceLong, ReduceShort, ModifyLong, ModifyShort, Delete, TradeLong, TradeShort, TradeBreak, EndOfSession, AddExpanded, TradeExpanded, UnitClear, Other}
+use Rattle.pitch_messages.specs.declared.message.ReadError.{ReadError}
+use Rattle.pitch_messages.specs.Reading.{reads}
 
 -- the second of the unit's clock, where one is known, and the open orders by their ids
 pub record Book : Type 0 where
   pub second : Option ℕ
   pub orders : map.FinMap nat_cmp Order
+
+-- each order stands under its id, and has shares
+pub record IsBook (book : Book) : Type 0 where
+  pub ids : (id : ℕ) (order : Order) → map.get book.orders id ≡ Some order → order.id ≡ id
+  pub filled : (id : ℕ) (order : Order) → map.get book.orders id ≡ Some order → 0 < order.quantity
 
 -- before any message
 abbrev pub empty_book : Book
@@ -69,32 +75,64 @@ is_displayed flags = bit_and flags 1 == 1
 abbrev pub long_symbol : List ℕ → List ℕ
 long_symbol symbol = symbol ++ 32 ∷ 32 ∷ []
 
+-- a short price counts hundredths, and a long one ten-thousandths
+abbrev pub long_price : ℕ → ℕ
+long_price price = price * 100
+
 -- the participant of an order that names none is four spaces
 abbrev pub no_participant : List ℕ
 no_participant = 32 ∷ 32 ∷ 32 ∷ 32 ∷ []
 
--- the order of an add of the long form
+-- the orders of the three forms of an add
 abbrev pub order_of_long : ℕ → Side → ℕ → List ℕ → ℕ → ℕ → Order
 order_of_long id side quantity symbol price flags =
     record { id = id; side = side; quantity = quantity; symbol = long_symbol symbol; price = price; display = is_displayed flags; participant = no_participant }
+
+abbrev pub order_of_short : ℕ → Side → ℕ → List ℕ → ℕ → ℕ → Order
+order_of_short id side quantity symbol price flags = order_of_long id side quantity symbol (long_price price) flags
+
+abbrev pub order_of_expanded : ℕ → Side → ℕ → List ℕ → ℕ → ℕ → List ℕ → Order
+order_of_expanded id side quantity symbol price flags participant =
+    record { id = id; side = side; quantity = quantity; symbol = symbol; price = price; display = is_displayed flags; participant = participant }
 
 -- what a message does to a book
 abbrev pub after_message : Book → Message → Book
 -- "Time Message"
 after_message book (Time second) = at_second book second
--- "Add Order Message - Long Form"
+-- "Unit Clear Message"
+after_message book (UnitClear offset) = cleared book
+-- "Add Order Message", long, short and expanded form
 after_message book (AddLong offset id side quantity symbol price flags) = added book (order_of_long id side quantity symbol price flags)
+after_message book (AddShort offset id side quantity symbol price flags) = added book (order_of_short id side quantity symbol price flags)
+after_message book (AddExpanded offset id side quantity symbol price flags participant) = added book (order_of_expanded id side quantity symbol price flags participant)
+-- "Order Executed Message"
+after_message book (Executed offset id executed execution) = changed book id (reduced_by executed)
+-- "Order Executed at Price/Size Message"
+after_message book (ExecutedAt offset id executed remaining execution price) = changed book id (left_with remaining)
+-- "Reduce Size Message", long and short form
+after_message book (ReduceLong offset id quantity) = changed book id (reduced_by quantity)
+after_message book (ReduceShort offset id quantity) = changed book id (reduced_by quantity)
+-- "Modify Order Message", long and short form
+after_message book (ModifyLong offset id quantity price flags) = changed book id (modified quantity price (is_displayed flags))
+after_message book (ModifyShort offset id quantity price flags) = changed book id (modified quantity (long_price price) (is_displayed flags))
 -- "Delete Order Message"
 after_message book (Delete offset id) = without_order book id
+-- trades, trade breaks, the end of the session and other types do nothing
+after_message book (TradeLong offset id side quantity symbol price execution) = book
+after_message book (TradeShort offset id side quantity symbol price execution) = book
+after_message book (TradeExpanded offset id side quantity symbol price execution) = book
+after_message book (TradeBreak offset execution) = book
+after_message book (EndOfSession offset) = book
+after_message book (Other raw) = book
 
--- what is not read as a message does nothing
-abbrev pub after_read : Book → Option Message → Book
-after_read book None = book
-after_read book (Some message) = after_message book message
+-- a message of a known type that is too short, or that names no side, does nothing
+abbrev pub after_read : Book → Result Message ReadError → Book
+after_read book (Ok message) = after_message book message
+after_read book (Err error) = book
 
 -- what a raw message does to a book
-abbrev pub after : Book → List ℕ → Book
-after book raw = after_read book (message_of raw)
+unfoldable pub after : Book → List ℕ → Book
+after book raw = after_read book (reads raw)
 
 -- the book that raw messages leave, one after another
 abbrev pub book_after : List (List ℕ) → Book

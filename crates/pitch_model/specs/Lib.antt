@@ -3,6 +3,7 @@ pub mod Levels
 pub mod History
 pub mod Reach
 pub mod Settling
+pub mod Steps
 pub mod Status
 pub mod Heard
 pub mod Honest

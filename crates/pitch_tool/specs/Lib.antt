@@ -1,0 +1,4 @@
+pub mod Lines
+pub mod Page
+pub mod Putting
+pub mod Statuses

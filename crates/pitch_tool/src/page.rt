@@ -1,0 +1,99 @@
+ghost use Rattle.std.specs.Prelude.{◌≡◌, ◌≤◌, ◌<◌, ◌+◌, ◌++◌, [], ◌∷◌, length, OnOk, OnErr, IfOk, IsErr};
+ghost use Rattle.pitch_io.specs.Causes.{HasCause};
+ghost use Rattle.pitch_io.specs.Putting.{Grows};
+ghost use Rattle.pitch_model.specs.BookText.{order_line};
+ghost use Rattle.pitch_model.specs.Follow.{block_line};
+ghost use Rattle.pitch_tool.specs.Lines.{book_head};
+ghost use Rattle.pitch_tool.specs.Page.{Prints};
+ghost use Rattle.pitch_tool.specs.Putting.{PutsSome};
+
+use crate::ends::{PutFailed, put_all};
+use crate::lines::{LINE, put_block_line, put_book_head, put_order_line};
+use pitch_fields::OutOfMemory;
+use pitch_io::Sink;
+use pitch_messages::Order;
+use pitch_model::Status;
+use std::alloc::Global;
+use std::marker::Model;
+use unit_packets::Header;
+
+/// Lines that are to be written, in one piece of memory that is taken at its making.
+#[derive(Drop)]
+pub struct Page {
+    bytes: Vec<u8>,
+    at: usize,
+}
+
+impl Model for Page {
+    ghost use Rattle.std.specs.Prelude.{◌≤◌, take, vec_len};
+    ghost use Rattle.pitch_tool.specs.Page.{Page};
+
+    ghost Value = { Page };
+
+    ghost view = { λ p. record { text = take p.at p.bytes.items; size = vec_len p.bytes } };
+
+    ghost invariant = { λ p. p.at ≤ vec_len p.bytes };
+}
+
+impl Page {
+    /// An empty page with place for so many bytes.
+    pub fn make(alloc: Global, size: usize) -> Result<Page, OutOfMemory>
+        ensures { IfOk result (λ page. page ≡ record { text = []; size = size }) }
+    {
+        Ok(Page {
+            bytes: Vec::from_elem(alloc, 0u8, size)?,
+            at: 0,
+        })
+    }
+
+    /// Writes what stands on the page, and empties it. After a failure the sink has a front of it.
+    pub fn flush<O: Sink>(&mut self, out: &mut O) -> Result<(), PutFailed>
+        ensures ok { OnOk result (Grows (O.written out.old) (O.written out.new) self.old.text) }
+        ensures err { OnErr result (PutsSome (O.written out.old) (O.written out.new) self.old.text) }
+        ensures cause { HasCause (O.faults out.old) (O.faults out.new) (IsErr result) }
+        ensures empty { OnOk result (self.new ≡ record self.old { text = [] }) }
+    {
+        put_all(out, &self.bytes[..self.at])?;
+        self.at = 0;
+        Ok(())
+    }
+
+    /// Makes place for a line, and writes out what stands on the page where there is none.
+    pub fn make_place<O: Sink>(&mut self, out: &mut O) -> Result<(), PutFailed>
+        requires { LINE ≤ self.old.size }
+        ensures ok { OnOk result (Prints (O.written out.old) self.old.text (O.written out.new) self.new.text []) }
+        ensures err { OnErr result (PutsSome (O.written out.old) (O.written out.new) self.old.text) }
+        ensures cause { HasCause (O.faults out.old) (O.faults out.new) (IsErr result) }
+        ensures place { OnOk result (length self.new.text + LINE ≤ self.new.size) }
+        ensures size { OnOk result (self.new.size ≡ self.old.size) }
+    {
+        if self.bytes.len() - self.at < LINE {
+            self.flush(out)?;
+        }
+        Ok(())
+    }
+
+    /// Adds the line of a block.
+    pub fn add_block(&mut self, number: u64, header: Header, overflow: bool, status: Status)
+        requires { length self.old.text + LINE ≤ self.old.size }
+        ensures { self.new ≡ record self.old { text = self.old.text ++ block_line number header.unit header.sequence header.count overflow status } }
+    {
+        self.at = put_block_line(&mut self.bytes, self.at, number, header, overflow, status);
+    }
+
+    /// Adds the first line of a unit's book.
+    pub fn add_book(&mut self, unit: u8, reach: u32, second: Option<u32>, count: u64)
+        requires { length self.old.text + LINE ≤ self.old.size }
+        ensures { self.new ≡ record self.old { text = self.old.text ++ book_head unit reach second count } }
+    {
+        self.at = put_book_head(&mut self.bytes, self.at, unit, reach, second, count);
+    }
+
+    /// Adds the line of an open order.
+    pub fn add_order(&mut self, order: &Order)
+        requires { length self.old.text + LINE ≤ self.old.size }
+        ensures { self.new ≡ record self.old { text = self.old.text ++ order_line order.now.id order.now } }
+    {
+        self.at = put_order_line(&mut self.bytes, self.at, order);
+    }
+}

@@ -1,0 +1,35 @@
+ghost use Rattle.std.specs.Prelude.{◌≡◌};
+ghost use Rattle.pitch_tool.specs.Statuses.{number_of};
+
+/// How the program ends.
+#[derive(Clone, Copy, Debug, PartialEq, Eq)]
+pub enum ExitStatus {
+    /// The whole text of the command was written.
+    Done,
+    /// The words are no form that the program has.
+    Usage,
+    /// The input has a fault; what was whole before it was printed.
+    BadInput,
+    /// The source failed.
+    ReadFault,
+    /// The sink failed.
+    WriteFault,
+    /// Memory ran out.
+    OutOfMemory,
+}
+
+impl ExitStatus {
+    /// The number with which the process ends.
+    pub fn number(self) -> u8
+        ensures { result ≡ number_of self }
+    {
+        match self {
+            ExitStatus::Done => 0,
+            ExitStatus::Usage => 2,
+            ExitStatus::BadInput => 3,
+            ExitStatus::ReadFault => 4,
+            ExitStatus::WriteFault => 5,
+            ExitStatus::OutOfMemory => 6,
+        }
+    }
+}

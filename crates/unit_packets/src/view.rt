@@ -1,0 +1,58 @@
+ghost use Rattle.std.specs.Prelude.{◌≡◌, ◌≤◌, length, IfOk, IfErr, Err};
+ghost use Rattle.unit_packets.specs.Blocks.{StaysWithin};
+ghost use Rattle.unit_packets.specs.Judging.{judge};
+ghost use Rattle.unit_packets.specs.Lending.{header_for, StandsAtFront};
+
+use crate::header::{BlockError, Header};
+use crate::judge::read_block;
+use pitch_messages::Raws;
+use std::marker::Model;
+
+/// A whole block, lent from the bytes in which it stands.
+#[derive(Drop)]
+pub struct BlockView<'a> {
+    header: Header,
+    raws: Raws<'a>,
+}
+
+impl<'a> Model for BlockView<'a> {
+    ghost use Rattle.std.specs.Prelude.{◌≡◌, length};
+    ghost use Rattle.unit_packets.specs.Blocks.{Block, StaysWithin};
+    ghost use Rattle.unit_packets.specs.Held.{block_of, IsHeld};
+
+    ghost Value = { Block };
+
+    ghost view = { λ b. block_of b.header b.raws };
+
+    ghost invariant = { λ b. IsHeld b.header b.raws };
+}
+
+impl<'a> BlockView<'a> {
+    /// The block's header.
+    #[inline(always)]
+    pub fn header(&self) -> Header
+        ensures { result ≡ header_for self.now }
+    {
+        self.header
+    }
+
+    /// The block's messages in their order.
+    #[inline(always)]
+    pub fn raws(&self) -> Raws<'a>
+        ensures raws { result ≡ self.now.raws }
+        ensures within { StaysWithin self.now.sequence (length self.now.raws) }
+    {
+        self.raws.copy()
+    }
+}
+
+/// The block at the front of the bytes, or the first fault that stands there, as `read_block` judges it.
+/// It takes no memory.
+pub fn view_block(bytes: &[u8]) -> Result<BlockView<'_>, BlockError>
+    ensures found { IfOk result (λ block. StandsAtFront bytes.now block) }
+    ensures fault { IfErr result (λ error. judge bytes.now ≡ Err error) }
+{
+    let header = read_block(bytes)?;
+    let raws = Raws::of_block(&bytes[8..header.length as usize], header.count as usize);
+    Ok(BlockView { header, raws })
+}
