@@ -4,3 +4,4 @@ pub mod Answered
 pub mod Tracking
 pub mod Honesty
 pub mod Outcomes
+pub mod Asks

@@ -1,15 +1,17 @@
 -- What a client stands for, through its steps.
-use Rattle.std.proofs.Common.{◌≡◌, ℕ, suc, ◌+◌, ◌≤◌, Bool, true, false, ◌&&◌, ◌||◌, cond, List, [], ◌∷◌, eqb, ltb, refl, sym, ap, ◌∙◌, subst, arith}
+use Rattle.std.proofs.Common.{◌≡◌, ℕ, suc, ◌+◌, ◌≤◌, Bool, true, false, ◌&&◌, ◌||◌, cond, List, [], ◌∷◌, eqb, ltb, refl, sym, ap, ◌∙◌, subst, inl, inr, arith}
 use Rattle.std.specs.FinMap.{empty, len}
-use Rattle.std.proofs.lemmas.Bool.{and_right}
+use Rattle.std.specs.Set.{is_member}
+use Rattle.std.proofs.lemmas.Bool.{and_right, or_left, or_right, eq-eqb, lt-ltb, le-ltb, cases_lt}
 use Rattle.std.proofs.lemmas.Bool.Decides.{nat_tests}
-use Rattle.pitch_model.specs.History.{Entry, Raw, Message, spin_of}
-use Rattle.pitch_model.specs.Reach.{Part, is_seen, part_of, reach, is_held, is_overflow, held_count}
+use Rattle.pitch_model.specs.History.{Entry, Raw, Message, SpinFinished, spin_of, image_finished, spin_finished}
+use Rattle.pitch_model.specs.Reach.{Part, grown, is_anchor, sequences, is_seen, part_of, reach, is_held, is_overflow, held_count}
 use Rattle.pitch_model.specs.Settling.{Settled}
 use Rattle.pitch_model.specs.Status.{raised}
 use Rattle.pitch_model.specs.Heard.{heard_messages, is_fresh, fresh_messages, overflowed_messages}
 use Rattle.pitch_model.specs.Asking.{is_troubled}
-use Rattle.pitch_model.proofs.Reaching.{reach_stops, base_joined}
+use Rattle.pitch_model.proofs.Reaching.{reach_stops, base_joined, anchors_up_to_reach}
+use Rattle.pitch_model.proofs.Steps.{step_stale}
 use Rattle.hold_buffer.specs.HoldView.{HoldView}
 use Rattle.hold_buffer.proofs.Holds.{contains_empty}
 use Rattle.client_core.specs.Keeping.{has}
@@ -111,3 +113,60 @@ along_more c m c' first sequence all rest rest' raw fresh overflows fresh' overf
       fresh_is = summed (cond taken.fresh 1 0) (cond (is_fresh H A.so_far sequence) 1 0) fresh fresh' _ _ f (ap (λ b. cond b 1 0) (is_fresh_then A.so_far A.tracks)) A.fresh_is;
       overflows_is = summed (cond taken.overflow 1 0) (cond (is_overflow H A.so_far (Message sequence raw)) 1 0) overflows overflows' _ _ o (ap (λ b. cond b 1 0) (is_overflow_then A.so_far A.tracks)) A.overflows_is;
     }
+
+-- ---- A finished image
+-- the reach rises exactly where the image is above it
+image_raises : (P : Part) (n m s : ℕ) (had has' : ℕ → Bool) → Settled P n had → Settled (grown P (s ∷ []) []) m has' → ltb n s ≡ ltb n m
+image_raises P n m s had has' S S' =
+    elim (cases_lt n s) [
+      | inl above ↦
+          let anchored : is_anchor (grown P (s ∷ []) []) s ≡ true = or_right (eqb s P.base) (eqb s s || is_member eqb P.images s) (or_left (eqb s s) (is_member eqb P.images s) (eq-eqb s s refl)) in
+          let up = anchors_up_to_reach (grown P (s ∷ []) []) s anchored in
+          let r = S'.reach in
+          lt-ltb n s above ∙ sym (lt-ltb n m (omega arith))
+      | inr old ↦
+          let still = step_stale P n s had S old in
+          let same : m ≡ n = sym S'.reach ∙ still.reach in
+          le-ltb n s old ∙ sym (le-ltb n m (omega arith))
+    ]
+
+pub tracks_image : (c c' : UnitClient) (H : ℕ) (E : List Entry) (sequence s : ℕ) (raws : List Raw) → Tracks c H E → image_finished (spin_of E) sequence ≡ (s, raws) ∷ []
+    → ((P : Part) → Settled P c.hold.floor (has c.hold) → Settled (grown P (s ∷ []) []) c'.hold.floor (has c'.hold)) → c'.hold.limit ≡ c.hold.limit
+    → c'.top ≡ raised (s ∷ []) c.top → c'.troubled ≡ cond (ltb c.hold.floor s) false c.troubled → IsSpin c'.spin (spin_finished (spin_of E) sequence)
+    → c' ≡ record c { hold = c'.hold; book = c'.book; top = c'.top; troubled = c'.troubled; spin = c'.spin; few_orders = c'.few_orders } → Tracks c' H (SpinFinished sequence ∷ E)
+tracks_image c c' H E sequence s raws T fin settles e top troubled spin rest =
+    let E' = SpinFinished sequence ∷ E in
+    let S : Settled (part_of H E) c.hold.floor (has c.hold) = to_settled c H E T in
+    let taken = settles (part_of H E) S in
+    let S' : Settled (part_of H E') c'.hold.floor (has c'.hold) = subst (λ (is : List (ℕ × List Raw)). Settled (grown (part_of H E) (sequences is) []) c'.hold.floor (has c'.hold)) (sym fin) taken in
+    let rises = image_raises (part_of H E) c.hold.floor c'.hold.floor s (has c.hold) (has c'.hold) S taken in
+    record {
+      limit_is = e ∙ T.limit_is;
+      floor_is = sym S'.reach;
+      held_are = held_from c'.hold H E' S';
+      top_is = top ∙ ap (λ (is : List (ℕ × List Raw)). raised (sequences is) c.top) (sym fin) ∙ ap (raised (sequences (image_finished (spin_of E) sequence))) T.top_is;
+      grp_up_is = ap (λ (v : UnitClient). v.grp_up) rest ∙ T.grp_up_is;
+      grp_owes_is = ap (λ (v : UnitClient). v.grp_owes) rest ∙ T.grp_owes_is;
+      spin_up_is = ap (λ (v : UnitClient). v.spin_up) rest ∙ T.spin_up_is;
+      advertised_is = ap (λ (v : UnitClient). v.advertised) rest ∙ T.advertised_is;
+      troubled_is = troubled ∙ ap (λ b. cond b false c.troubled) rises
+          ∙ ap (λ n. cond (ltb n c'.hold.floor) false c.troubled) T.floor_is
+          ∙ ap (λ n. cond (ltb (reach H E) n) false c.troubled) (sym S'.reach)
+          ∙ ap (cond (ltb (reach H E) (reach H E')) false) T.troubled_is;
+      spin_is = spin;
+    }
+
+-- another client that differs in its spin alone, which stands for the same
+pub respun : (c c' : UnitClient) (H : ℕ) (E : List Entry) → Tracks c H E → IsSpin c'.spin (spin_of E) → c'.hold ≡ c.hold → c' ≡ record c { hold = c'.hold; book = c'.book; spin = c'.spin; few_orders = c'.few_orders } → Tracks c' H E
+respun c c' H E T is hold rest = record {
+  limit_is = ap (λ (h : HoldView). h.limit) hold ∙ T.limit_is;
+  floor_is = ap (λ (h : HoldView). h.floor) hold ∙ T.floor_is;
+  held_are = λ k. ap (λ (h : HoldView). has h k) hold ∙ T.held_are k;
+  top_is = ap (λ (v : UnitClient). v.top) rest ∙ T.top_is;
+  grp_up_is = ap (λ (v : UnitClient). v.grp_up) rest ∙ T.grp_up_is;
+  grp_owes_is = ap (λ (v : UnitClient). v.grp_owes) rest ∙ T.grp_owes_is;
+  spin_up_is = ap (λ (v : UnitClient). v.spin_up) rest ∙ T.spin_up_is;
+  advertised_is = ap (λ (v : UnitClient). v.advertised) rest ∙ T.advertised_is;
+  troubled_is = ap (λ (v : UnitClient). v.troubled) rest ∙ T.troubled_is;
+  spin_is = is;
+}

@@ -3,3 +3,4 @@ pub mod Taking
 pub mod Spinning
 pub mod Tracks
 pub mod Blocks
+pub mod Items

@@ -30,6 +30,10 @@ Keeps c V = KeepsAt c.hold c.book.book V
 abbrev pub held_number : UnitClient → ℕ
 held_number c = len c.hold.held
 
+-- how many orders are open in its book
+abbrev pub open_orders : UnitClient → ℕ
+open_orders c = len c.book.book.orders
+
 -- how many new orders its book takes without memory
 abbrev pub spare_of : UnitClient → ℕ
 spare_of c = c.book.spare

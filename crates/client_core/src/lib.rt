@@ -1,7 +1,9 @@
 //! The client of one unit of a feed: what it holds and keeps, how far it is, and what it asks for.
 #![tactic(auto)]
 
+mod asking;
 mod client;
+mod hearing;
 mod spinning;
 mod taking;
 

@@ -1,15 +1,20 @@
-ghost use Rattle.std.specs.Prelude.{◌≡◌, ℕ, ◌+◌, ◌<◌, ◌≤◌, List, Some};
+ghost use Rattle.std.specs.Prelude.{◌≡◌, ℕ, ◌+◌, ◌<◌, ◌≤◌, List, [], ◌∷◌, Some, nat_lt, take};
+ghost use Rattle.std.specs.FinMap as map;
 ghost use Rattle.pitch_messages.specs.Raw.{IsRaw};
-ghost use Rattle.pitch_model.specs.Book.{after};
-ghost use Rattle.pitch_model.specs.Reach.{Part};
+ghost use Rattle.pitch_model.specs.Book.{after, book_after};
+ghost use Rattle.pitch_model.specs.Reach.{Part, grown};
 ghost use Rattle.pitch_model.specs.Settling.{Settled, Draining};
 ghost use Rattle.pitch_model.specs.Honest.{message_at};
 ghost use Rattle.hold_buffer.specs.HoldView.{IsHold};
 ghost use Rattle.client_core.specs.Keeping.{has, orders_of, KeepsAt, HasRoom};
+ghost use Rattle.client_core.specs.Spinning.{HasRoomAfter};
 ghost use Rattle.client_core.specs.Taking.{TakesIn};
 
 use hold_buffer::{Hold, Offer};
 use order_book::UnitBook;
+
+/// The last sequence that a message can have.
+pub(crate) const LAST: u32 = 4_294_967_294;
 
 /// What a message was.
 #[derive(Clone, Copy, Debug, PartialEq, Eq)]
@@ -19,7 +24,7 @@ pub(crate) struct Taken {
 }
 
 /// Applies a message for which the book has room.
-fn apply_sure(book: &mut UnitBook, raw: &[u8])
+pub(crate) fn apply_sure(book: &mut UnitBook, raw: &[u8])
     requires raw { IsRaw raw.now }
     requires room { 1 ≤ book.old.spare }
     requires orders { orders_of book.old.book < 4294967295 }
@@ -83,4 +88,24 @@ pub(crate) fn take_in(hold: &mut Hold, book: &mut UnitBook, sequence: u32, raw: 
             overflow: false,
         },
     }
+}
+
+/// Takes in a finished image, unless it reaches no further than the floor.
+pub(crate) fn take_image(hold: &mut Hold, book: &mut UnitBook, sequence: u32, image: UnitBook) -> bool
+    requires image { orders_of image.book ≤ sequence }
+    requires room { HasRoomAfter (map.len hold.old.held) sequence image.spare }
+    requires orders { orders_of book.old.book ≤ hold.old.floor }
+    ensures settles { (P : Part) → Settled P hold.old.floor (has hold.old) → Settled (grown P (sequence ∷ []) []) hold.new.floor (has hold.new) }
+    ensures taken { result ≡ nat_lt hold.old.floor sequence }
+    ensures keeps { (V : List (List ℕ)) → image.book ≡ book_after (take sequence V) → KeepsAt hold.old book.old.book V → KeepsAt hold.new book.new.book V }
+    ensures limit { hold.new.limit ≡ hold.old.limit }
+    ensures orders { orders_of book.new.book ≤ hold.new.floor }
+{
+    if sequence <= hold.floor() {
+        return false;
+    }
+    *book = image;
+    hold.jump(sequence);
+    drain(hold, book);
+    true
 }
