@@ -29,7 +29,7 @@ pub enum Offer {
 
 /// The messages that came too early: above a floor, each sequence once, at most as many as the limit.
 ///
-/// The floor is the last sequence before which nothing is awaited. Sequences are those that the
+/// The message that follows the floor is the one that is awaited. Sequences are those that the
 /// Sequenced Unit Header counts, from 1 to 4,294,967,294. All memory is taken when the hold is made.
 #[derive(Drop)]
 pub struct Hold {
@@ -63,7 +63,7 @@ impl Hold {
     }
 
     /// Offers the message of a sequence. One that is next goes through at the cost of a look at the first held one.
-    #[inline(always)]
+    #[inline]
     pub fn offer(&mut self, sequence: u32, raw: &Raw) -> Offer
         requires { sequence ≤ 4294967294 }
         ensures answer { Answers result self.old sequence raw.now self.new }
