@@ -1,3 +1,4 @@
 pub mod Chains
 pub mod Rows
 pub mod Fields
+pub mod RoundTrip

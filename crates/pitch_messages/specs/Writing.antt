@@ -1,7 +1,9 @@
 -- The bytes of a message: its length, its type and its fields, end to end.
-use Rattle.std.specs.Prelude.{ℕ, List, [], ◌∷◌, ◌++◌}
+use Rattle.std.specs.Prelude.{◌≡◌, ℕ, List, [], ◌∷◌, ◌++◌, None}
 use Rattle.byteorder.specs.Endian.{little_bytes}
 use Rattle.pitch_fields.specs.Side.{byte_of}
+use Rattle.pitch_messages.specs.Raw.{kind_of}
+use Rattle.pitch_messages.specs.Reading.{row_of}
 use Rattle.pitch_messages.specs.declared.message.Message.{Message}
 use Rattle.pitch_messages.specs.declared.message.Message.TheVariants.{Time, AddLong, AddShort, Executed, ExecutedAt, ReduceLong, ReduceShort, ModifyLong, ModifyShort, Delete, TradeLong, TradeShort, TradeBreak, EndOfSession, AddExpanded, TradeExpanded, UnitClear, Other}
 
@@ -24,3 +26,8 @@ written (AddExpanded offset id side quantity symbol price flags participant) = 4
 written (TradeExpanded offset id side quantity symbol price execution) = 43 ∷ 0x30 ∷ little_bytes 4 offset ++ little_bytes 8 id ++ byte_of side ∷ little_bytes 4 quantity ++ symbol ++ little_bytes 8 price ++ little_bytes 8 execution
 written (UnitClear offset) = 6 ∷ 0x97 ∷ little_bytes 4 offset
 written (Other raw) = raw
+
+-- a message of a known type has its own variant, and does not stand under Other
+abbrev pub HasItsVariant : Message → Type 0
+HasItsVariant (Other raw) = row_of (kind_of raw) ≡ None
+HasItsVariant _ = Unit {0}

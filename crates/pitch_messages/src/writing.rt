@@ -1,5 +1,6 @@
-ghost use Rattle.std.specs.Prelude.{◌≡◌};
-ghost use Rattle.pitch_messages.specs.Writing.{written};
+ghost use Rattle.std.specs.Prelude.{◌≡◌, length};
+ghost use Rattle.pitch_messages.specs.Reading.{reads};
+ghost use Rattle.pitch_messages.specs.Writing.{written, HasItsVariant};
 ghost use Rattle.pitch_messages.specs.declared.message.Message.TheVariants.{Time, AddLong, AddShort, Executed, ExecutedAt, ReduceLong, ReduceShort, ModifyLong, ModifyShort, Delete, TradeLong, TradeShort, TradeBreak, EndOfSession, AddExpanded, TradeExpanded, UnitClear};
 
 use crate::message::Message;
@@ -23,7 +24,8 @@ fn add_long_raw(
     price: u64,
     flags: u8,
 ) -> Raw
-    ensures { result ≡ written (AddLong offset id side quantity symbol price flags) }
+    ensures written { result ≡ written (AddLong offset id side quantity symbol price flags) }
+    ensures symbol { length symbol ≡ 6 }
 {
     Raw::of_fields(
         0x21,
@@ -49,7 +51,8 @@ fn add_short_raw(
     price: u16,
     flags: u8,
 ) -> Raw
-    ensures { result ≡ written (AddShort offset id side quantity symbol price flags) }
+    ensures written { result ≡ written (AddShort offset id side quantity symbol price flags) }
+    ensures symbol { length symbol ≡ 6 }
 {
     Raw::of_fields(
         0x22,
@@ -181,7 +184,8 @@ fn trade_long_raw(
     price: u64,
     execution: u64,
 ) -> Raw
-    ensures { result ≡ written (TradeLong offset id side quantity symbol price execution) }
+    ensures written { result ≡ written (TradeLong offset id side quantity symbol price execution) }
+    ensures symbol { length symbol ≡ 6 }
 {
     Raw::of_fields(
         0x2a,
@@ -207,7 +211,8 @@ fn trade_short_raw(
     price: u16,
     execution: u64,
 ) -> Raw
-    ensures { result ≡ written (TradeShort offset id side quantity symbol price execution) }
+    ensures written { result ≡ written (TradeShort offset id side quantity symbol price execution) }
+    ensures symbol { length symbol ≡ 6 }
 {
     Raw::of_fields(
         0x2b,
@@ -248,7 +253,9 @@ fn add_expanded_raw(
     flags: u8,
     participant: [u8; 4],
 ) -> Raw
-    ensures { result ≡ written (AddExpanded offset id side quantity symbol price flags participant) }
+    ensures written { result ≡ written (AddExpanded offset id side quantity symbol price flags participant) }
+    ensures symbol { length symbol ≡ 8 }
+    ensures participant { length participant ≡ 4 }
 {
     Raw::of_fields(
         0x2f,
@@ -275,7 +282,8 @@ fn trade_expanded_raw(
     price: u64,
     execution: u64,
 ) -> Raw
-    ensures { result ≡ written (TradeExpanded offset id side quantity symbol price execution) }
+    ensures written { result ≡ written (TradeExpanded offset id side quantity symbol price execution) }
+    ensures symbol { length symbol ≡ 8 }
 {
     Raw::of_fields(
         0x30,
@@ -301,7 +309,8 @@ fn unit_clear_raw(offset: u32) -> Raw
 /// The raw of a message: its length, its type and its fields, end to end. A raw under Other is itself.
 #[tactic(auto, unfolding(crate::specs::Writing::written))]
 pub fn write(message: &Message) -> Raw
-    ensures { result ≡ written message.now }
+    ensures written { result ≡ written message.now }
+    ensures reads_back { HasItsVariant message.now → reads result ≡ Ok message.now }
 {
     match message {
         Message::Time { second } => time_raw(*second),
