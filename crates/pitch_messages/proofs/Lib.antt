@@ -2,3 +2,4 @@ pub mod Chains
 pub mod Rows
 pub mod Fields
 pub mod RoundTrip
+pub mod Rewriting
