@@ -1,12 +1,12 @@
 -- A raw of just the length that its type needs is the writing of what it says.
-use Rattle.std.proofs.Common.{◌≡◌, ℕ, suc, zero, ◌+◌, ◌<◌, ◌≤◌, Bool, true, false, cond, List, [], ◌∷◌, ◌++◌, length, take, drop, get_or, refl, sym, ap, ◌∙◌, arith, subst, slice_index, ◌⊎◌, Option, None, Some, Result, Ok, Err, IfOk, inl, inr, lit≤, nat_lt, ◌==◌}
+use Rattle.std.proofs.Common.{◌≡◌, ℕ, suc, ◌+◌, ◌<◌, ◌≤◌, Bool, true, false, cond, List, [], ◌∷◌, ◌++◌, length, take, drop, get_or, refl, sym, ap, ◌∙◌, arith, subst, slice_index, ◌⊎◌, Option, None, Some, Result, Ok, Err, IfOk, inl, inr, lit≤, nat_lt, ◌==◌}
 use Rattle.std.specs.Option.{option_map_or}
 use Rattle.std.proofs.Math.ListN.{drop_of_length-le}
 use Rattle.std.proofs.lemmas.List.{append-nil, drop-drop, length-drop, get_or-drop, take-append-drop}
 use Rattle.std.proofs.Math.Seq.{drop-cons}
 use Rattle.std.proofs.lemmas.Bool.{cases_Bool, cases_eq}
 use Rattle.std.proofs.lemmas.Bool.Decides.{nat_tests}
-use Rattle.byteorder.specs.Endian.{little_bytes, little_number}
+use Rattle.byteorder.specs.Endian.{little_bytes}
 use Rattle.pitch_fields.specs.Fields.{number_at}
 use Rattle.pitch_fields.specs.Side.{byte_of, side_of}
 use Rattle.pitch_fields.specs.declared.side.Side.{Side}
@@ -16,8 +16,6 @@ use Rattle.pitch_messages.specs.Raw.{IsRaw, kind_of}
 use Rattle.pitch_messages.specs.Reading.{Row, reads, reads_by, row_of, needs_of, bytes_at, with_side, time_row, add_long_row, add_short_row, executed_row, executed_at_row, reduce_long_row, reduce_short_row, modify_long_row, modify_short_row, delete_row, trade_long_row, trade_short_row, trade_break_row, end_of_session_row, add_expanded_row, trade_expanded_row, unit_clear_row}
 use Rattle.pitch_messages.specs.Writing.{written}
 use Rattle.pitch_messages.specs.declared.message.Message.{Message}
-use Rattle.pitch_messages.specs.declared.message.Message.TheVariants.{Other}
-use Rattle.pitch_messages.specs.declared.message.ReadError.{ReadError}
 use Rattle.pitch_messages.specs.declared.message.ReadError.TheVariants.{Short}
 
 -- a raw of just this length and type
@@ -61,9 +59,9 @@ side_test false false side is = cc
 
 side_byte : (b : ℕ) (side : Side) → side_of b ≡ Some side → byte_of side ≡ b
 side_byte b side is = elim (side_test (b == 66) (b == 83) side is) [
-    | inl (t, buy) ↦ ap byte_of buy ∙ sym (grind (arith, nat_tests, t))
-    | inr (t, sell) ↦ ap byte_of sell ∙ sym (grind (arith, nat_tests, t))
-  ]
+  | inl (t, buy) ↦ ap byte_of buy ∙ sym (grind (arith, nat_tests, t))
+  | inr (t, sell) ↦ ap byte_of sell ∙ sym (grind (arith, nat_tests, t))
+]
 
 side_at : {needs type : ℕ} {raw rest : List ℕ} (side : Side) → Whole needs type raw → side_of (slice_index raw 14) ≡ Some side → 15 ≤ needs → rest ≡ drop 15 raw → byte_of side ∷ rest ≡ drop 14 raw
 side_at {raw = raw} {rest = rest} side whole is within more = ap (λ (b : ℕ). b ∷ rest) (side_byte (slice_index raw 14) side is) ∙ byte 14 whole within more
@@ -154,13 +152,13 @@ unit_clear_sound raw w = front w (lit≤ tt) (number_end 4 2 w refl)
 pick : (kind n : ℕ) (r : Row) (others : Option Row) → IsSound n r → ((row : Row) → others ≡ Some row → IsSound kind row)
     → (row : Row) → cond (kind == n) (Some r) others ≡ Some row → IsSound kind row
 pick kind n r others sound below row is = elim (cases_Bool (kind == n)) [
-    | inl b ↦
-        let same : kind ≡ n = grind (arith, nat_tests, b) in
-        let chosen : Some r ≡ Some row = sym (ap (λ (t : Bool). cond t (Some r) others) b) ∙ is in
-        let e : r ≡ row = cc in
-        subst (λ (x : Row). IsSound kind x) e (subst (λ (k : ℕ). IsSound k r) (sym same) sound)
-    | inr b ↦ below row (sym (ap (λ (t : Bool). cond t (Some r) others) b) ∙ is)
-  ]
+  | inl b ↦
+      let same : kind ≡ n = grind (arith, nat_tests, b) in
+      let chosen : Some r ≡ Some row = sym (ap (λ (t : Bool). cond t (Some r) others) b) ∙ is in
+      let e : r ≡ row = cc in
+      subst (λ (x : Row). IsSound kind x) e (subst (λ (k : ℕ). IsSound k r) (sym same) sound)
+  | inr b ↦ below row (sym (ap (λ (t : Bool). cond t (Some r) others) b) ∙ is)
+]
 
 all_sound : (kind : ℕ) (row : Row) → row_of kind ≡ Some row → IsSound kind row
 all_sound kind =
@@ -200,11 +198,11 @@ by_row raw (Some row) is small at =
     let Q : Message → Type 0 = λ m. length raw ≡ row.needs → raw ≡ written m in
     let P : Bool → Type 0 = λ t. IfOk (cond t (Err (Short row.needs (length raw))) (row.says raw)) Q in
     let says : IfOk (row.says raw) Q = elim (cases_eq (length raw) row.needs) [
-        | inl e ↦
-            let whole : Whole row.needs (kind_of raw) raw = record { size = e; first = is.first ∙ e; kind = refl; small = small } in
-            if_ok (row.says raw) (λ m. raw ≡ written m) Q (λ m written_so size. written_so) (all_sound (kind_of raw) row at raw whole)
-        | inr other ↦ all_ok (row.says raw) Q (λ m size. absurd (other size))
-      ] in
+      | inl e ↦
+          let whole : Whole row.needs (kind_of raw) raw = record { size = e; first = is.first ∙ e; kind = refl; small = small } in
+          if_ok (row.says raw) (λ m. raw ≡ written m) Q (λ m written_so size. written_so) (all_sound (kind_of raw) row at raw whole)
+      | inr other ↦ all_ok (row.says raw) Q (λ m size. absurd (other size))
+    ] in
     elim (cases_Bool (nat_lt (length raw) row.needs)) [
       | inl b ↦ subst P (sym b) tt
       | inr b ↦ subst P (sym b) says

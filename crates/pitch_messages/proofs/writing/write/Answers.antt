@@ -1,6 +1,5 @@
-use Rattle.std.proofs.Common.{ap, sym, subst, ◌∙◌, arith, ◌≡◌, List, ℕ, length, Ok, None}
+use Rattle.std.proofs.Common.{ap, sym, subst, ◌∙◌, arith, ◌≡◌, Ok, None}
 use Rattle.pitch_messages.specs.declared.message.Message.{Message}
-use Rattle.pitch_messages.specs.declared.message.Message.TheVariants.{Other}
 use Rattle.pitch_messages.specs.Reading.{reads, row_of}
 use Rattle.pitch_messages.specs.Raw.{kind_of}
 use Rattle.pitch_messages.specs.Writing.{HasItsVariant}

@@ -1,4 +1,4 @@
-use Rattle.std.proofs.Common.{◌≡◌, ℕ, ◌+◌, ◌∷◌, List, length, take, slice_index}
+use Rattle.std.proofs.Common.{take}
 use Rattle.pitch_messages.specs.Raw.{joined}
 use Rattle.pitch_messages.proofs.Fields.{Filled}
 use Rattle.pitch_messages.proofs.raw.Raw.of_fields.Given as goal
