@@ -6,22 +6,8 @@ use Rattle.std.specs.List.{slice_get}
 use Rattle.unit_packets.specs.Blocks.{Block}
 use Rattle.pitch_model.specs.Heard.{heard_messages, heard_sequenced, heard_block}
 use Rattle.pitch_model.specs.Honest.{message_at, AreVenues, Honest}
+use Rattle.pitch_model.proofs.Honesty.{honest_messages}
 use Rattle.client_core.specs.Blocks.{Carries}
-
-module _ (Image : List (List ℕ) → ℕ → List (List ℕ)) (V : List (List ℕ)) where
-  pub honest_before : (first : ℕ) (raws : List (List ℕ)) (E : List Entry) → Honest Image V (heard_messages first raws E) → Honest Image V E
-  honest_before first [] E h = h
-  honest_before first (raw ∷ raws) E h = (honest_before (first + 1) raws (Message first raw ∷ E) h).1
-
-  pub honest_messages : (first : ℕ) (raws : List (List ℕ)) (E : List Entry) → Honest Image V (heard_messages first raws E) → AreVenues V first raws
-  honest_messages first [] E h i raw at = absurd (none at)
-    where
-      none : {raw : List ℕ} → ◌≡◌ {A = Option (List ℕ)} None (Some raw) → ⊥
-      none e = cc
-  honest_messages first (r ∷ raws) E h zero raw at = subst (λ n. message_at V n ≡ Some raw) (omega arith) ((honest_before (first + 1) raws (Message first r ∷ E) h).0 ∙ at)
-  honest_messages first (r ∷ raws) E h (suc i) raw at =
-      let e : (first + 1) + i ≡ first + suc i = omega arith in
-      subst (λ n. message_at V n ≡ Some raw) e (honest_messages (first + 1) raws (Message first r ∷ E) h i raw at)
 
 -- a sequenced block that has messages
 pub heard_numbered : (block : Block) (sequence : ℕ) (raws : List (List ℕ)) (E : List Entry) → Carries block sequence raws → sequence ≢ 0 → 0 < length raws → heard_block block E ≡ heard_messages sequence raws E

@@ -3,9 +3,8 @@ use Rattle.std.proofs.Common.{◌≡◌, ℕ, ◌+◌, ◌-◌, ◌≤◌, Bool,
 use Rattle.std.specs.FinMap.{len, len-remove, len-empty, contains_key}
 use Rattle.std.specs.Cmp.{nat_cmp_total}
 use Rattle.std.specs.Ordering.{nat_cmp}
-use Rattle.std.specs.List.{slice_index}
+use Rattle.std.specs.Prelude.{slice_index, nat_lt}
 use Rattle.std.proofs.lemmas.Bool.{cond_both, both_ways}
-use Rattle.std.proofs.lemmas.Ordering.{nat_lt}
 use Rattle.pitch_fields.specs.declared.side.Side.{Side}
 use Rattle.pitch_fields.specs.Side.{side_of}
 use Rattle.pitch_messages.specs.declared.order.Order.{Order}
@@ -59,37 +58,35 @@ module _ (book : Book) (raw : List ℕ) where
   or_left_false false b e = refl
 
   or_right_false : (a b : Bool) → (a || b) ≡ false → b ≡ false
-  or_right_false true b e = absurd (both_ways _ refl e)
+  or_right_false true b e = absurd (both_ways true e refl)
   or_right_false false b e = e
 
   -- the row of a type that adds none
   row_adds_none : is_add raw ≡ false → AddsNone (row_of (kind_of raw))
   row_adds_none none =
-      let kind = kind_of raw in
-      let changes = λ (id : ℕ) (change : Order → Order). changed_len book id change in
-      row 0x20 time_row (λ t. plain_adds_none _ _ (omega arith))
-      (add 0x21 (or_left_false _ _ (or_left_false _ _ none))
-      (add 0x22 (or_right_false _ _ (or_left_false _ _ none))
-      (row 0x23 executed_row (λ t. plain_adds_none _ _ (changed_len book _ _))
-      (row 0x24 executed_at_row (λ t. plain_adds_none _ _ (changed_len book _ _))
-      (row 0x25 reduce_long_row (λ t. plain_adds_none _ _ (changed_len book _ _))
-      (row 0x26 reduce_short_row (λ t. plain_adds_none _ _ (changed_len book _ _))
-      (row 0x27 modify_long_row (λ t. plain_adds_none _ _ (changed_len book _ _))
-      (row 0x28 modify_short_row (λ t. plain_adds_none _ _ (changed_len book _ _))
-      (row 0x29 delete_row (λ t. plain_adds_none _ _ (removed_most book _))
-      (row 0x2a trade_long_row (λ t. sided_adds_none _ _ (λ side. omega arith))
-      (row 0x2b trade_short_row (λ t. sided_adds_none _ _ (λ side. omega arith))
-      (row 0x2c trade_break_row (λ t. plain_adds_none _ _ (omega arith))
-      (row 0x2d end_of_session_row (λ t. plain_adds_none _ _ (omega arith))
-      (add 0x2f (or_right_false _ _ none)
-      (row 0x30 trade_expanded_row (λ t. sided_adds_none _ _ (λ side. omega arith))
-      (row 0x97 unit_clear_row (λ t. plain_adds_none _ _ (let e = none_open in omega arith))
+      row 0x20 time_row _ (λ t. plain_adds_none _ _ (omega arith))
+      (add 0x21 _ _ (or_left_false _ _ (or_left_false _ _ none))
+      (add 0x22 _ _ (or_right_false _ _ (or_left_false _ _ none))
+      (row 0x23 executed_row _ (λ t. plain_adds_none _ _ (changed_len book _ _))
+      (row 0x24 executed_at_row _ (λ t. plain_adds_none _ _ (changed_len book _ _))
+      (row 0x25 reduce_long_row _ (λ t. plain_adds_none _ _ (changed_len book _ _))
+      (row 0x26 reduce_short_row _ (λ t. plain_adds_none _ _ (changed_len book _ _))
+      (row 0x27 modify_long_row _ (λ t. plain_adds_none _ _ (changed_len book _ _))
+      (row 0x28 modify_short_row _ (λ t. plain_adds_none _ _ (changed_len book _ _))
+      (row 0x29 delete_row _ (λ t. plain_adds_none _ _ (removed_most book _))
+      (row 0x2a trade_long_row _ (λ t. sided_adds_none _ _ (λ side. omega arith))
+      (row 0x2b trade_short_row _ (λ t. sided_adds_none _ _ (λ side. omega arith))
+      (row 0x2c trade_break_row _ (λ t. plain_adds_none _ _ (omega arith))
+      (row 0x2d end_of_session_row _ (λ t. plain_adds_none _ _ (omega arith))
+      (add 0x2f _ _ (or_right_false _ _ none)
+      (row 0x30 trade_expanded_row _ (λ t. sided_adds_none _ _ (λ side. omega arith))
+      (row 0x97 unit_clear_row _ (λ t. plain_adds_none _ _ (let e = none_open in omega arith))
       unread))))))))))))))))
     where
-      row : (k : ℕ) (row : Row) {rest : Option Row} → (eqb (kind_of raw) k ≡ true → AddsNone (Some row)) → AddsNone rest → AddsNone (cond (eqb (kind_of raw) k) (Some row) rest)
-      row k r {rest} here there = cond_both (eqb (kind_of raw) k) (Some r) rest AddsNone here (λ f. there)
-      add : (k : ℕ) {r : Row} {rest : Option Row} → eqb (kind_of raw) k ≡ false → AddsNone rest → AddsNone (cond (eqb (kind_of raw) k) (Some r) rest)
-      add k {r} {rest} other there = cond_both (eqb (kind_of raw) k) (Some r) rest AddsNone (λ t. absurd (both_ways _ t other)) (λ f. there)
+      row : (k : ℕ) (row : Row) (rest : Option Row) → (eqb (kind_of raw) k ≡ true → AddsNone (Some row)) → AddsNone rest → AddsNone (cond (eqb (kind_of raw) k) (Some row) rest)
+      row k r rest here there = cond_both (eqb (kind_of raw) k) (Some r) rest AddsNone here (λ f. there)
+      add : (k : ℕ) (r : Row) (rest : Option Row) → eqb (kind_of raw) k ≡ false → AddsNone rest → AddsNone (cond (eqb (kind_of raw) k) (Some r) rest)
+      add k r rest other there = cond_both (eqb (kind_of raw) k) (Some r) rest AddsNone (λ t. absurd (both_ways _ other t)) (λ f. there)
 
   no_more : is_add raw ≡ false → orders_of (after book raw) ≤ orders_of book
   unfolding AddsNone after reads

@@ -10,8 +10,7 @@ use Rattle.pitch_model.specs.Settling.{Settled}
 use Rattle.pitch_model.specs.Status.{raised}
 use Rattle.pitch_model.specs.Heard.{heard_messages, is_fresh, fresh_messages, overflowed_messages}
 use Rattle.pitch_model.specs.Asking.{is_troubled}
-use Rattle.pitch_model.proofs.Reaching.{reach_stops, base_joined, anchors_up_to_reach}
-use Rattle.pitch_model.proofs.Steps.{step_stale}
+use Rattle.pitch_model.proofs.Entries.{start_settled as start, image_raises}
 use Rattle.hold_buffer.specs.HoldView.{HoldView}
 use Rattle.hold_buffer.proofs.Holds.{contains_empty}
 use Rattle.client_core.specs.Keeping.{has}
@@ -23,14 +22,9 @@ use Rattle.client_core.specs.declared.taking.Taken.{Taken}
 use Rattle.client_core.proofs.Answered.{count_is}
 
 -- ---- The start
+-- a hold that is empty stands where no history brings it
 pub start_settled : (H : ℕ) → Settled (part_of H []) 0 (has (record { floor = 0; limit = H; held = empty }))
-start_settled H = record {
-  reach = reach_stops (part_of H []) 0 (base_joined (part_of H [])) (λ s h. at_base s h) refl;
-  held = λ k. contains_empty k ∙ sym (and_right (ltb 0 k) false refl);
-}
-  where
-    at_base : (s : ℕ) → (eqb s 0 || false) ≡ true → s ≤ 0
-    at_base s h = grind (arith, nat_tests)
+start_settled H = start H (has (record { floor = 0; limit = H; held = empty })) contains_empty
 
 -- ---- Between the two ways to say where a client is
 pub to_settled : (c : UnitClient) (H : ℕ) (E : List Entry) → Tracks c H E → Settled (part_of H E) c.hold.floor (has c.hold)
@@ -90,10 +84,6 @@ pub record Along (c c' : UnitClient) (first sequence : ℕ) (all rest : List Raw
   pub fresh_is : fresh + fresh_messages H sequence rest so_far ≡ fresh_messages H first all E
   pub overflows_is : overflows + overflowed_messages H sequence rest so_far ≡ overflowed_messages H first all E
 
-pub bit_le : (b : Bool) → cond b 1 0 ≤ 1
-bit_le true = omega arith
-bit_le false = omega arith
-
 summed : (b b' n n' x t : ℕ) → n' ≡ b + n → b ≡ b' → n + (b' + x) ≡ t → n' + x ≡ t
 summed b b' n n' x t e f g = omega arith
 
@@ -115,21 +105,6 @@ along_more c m c' first sequence all rest rest' raw fresh overflows fresh' overf
     }
 
 -- ---- A finished image
--- the reach rises exactly where the image is above it
-image_raises : (P : Part) (n m s : ℕ) (had has' : ℕ → Bool) → Settled P n had → Settled (grown P (s ∷ []) []) m has' → ltb n s ≡ ltb n m
-image_raises P n m s had has' S S' =
-    elim (cases_lt n s) [
-      | inl above ↦
-          let anchored : is_anchor (grown P (s ∷ []) []) s ≡ true = or_right (eqb s P.base) (eqb s s || is_member eqb P.images s) (or_left (eqb s s) (is_member eqb P.images s) (eq-eqb s s refl)) in
-          let up = anchors_up_to_reach (grown P (s ∷ []) []) s anchored in
-          let r = S'.reach in
-          lt-ltb n s above ∙ sym (lt-ltb n m (omega arith))
-      | inr old ↦
-          let still = step_stale P n s had S old in
-          let same : m ≡ n = sym S'.reach ∙ still.reach in
-          le-ltb n s old ∙ sym (le-ltb n m (omega arith))
-    ]
-
 pub tracks_image : (c c' : UnitClient) (H : ℕ) (E : List Entry) (sequence s : ℕ) (raws : List Raw) → Tracks c H E → image_finished (spin_of E) sequence ≡ (s, raws) ∷ []
     → ((P : Part) → Settled P c.hold.floor (has c.hold) → Settled (grown P (s ∷ []) []) c'.hold.floor (has c'.hold)) → c'.hold.limit ≡ c.hold.limit
     → c'.top ≡ raised (s ∷ []) c.top → c'.troubled ≡ cond (ltb c.hold.floor s) false c.troubled → IsSpin c'.spin (spin_finished (spin_of E) sequence)

@@ -4,8 +4,10 @@
 mod asking;
 mod client;
 mod hearing;
+mod item;
 mod spinning;
 mod taking;
 
 pub use crate::client::UnitClient;
+pub use crate::item::item_of_block;
 pub use pitch_model::{Ask, Change, ImageEnd, Item, Status};

@@ -1,7 +1,7 @@
 use Rattle.std.proofs.Common.{sym, subst}
 use Rattle.pitch_model.specs.Honest.{AreVenues, Honest}
 use Rattle.pitch_model.specs.Heard.{heard}
-use Rattle.client_core.proofs.Honesty.{honest_messages}
+use Rattle.pitch_model.proofs.Honesty.{honest_messages}
 use Rattle.client_core.proofs.client.UnitClient.hear_item.Goals as goal
 
 pub returns-in-Messages-clause-keeps : goal.returns-in-Messages-clause-keeps

@@ -1,6 +1,7 @@
 use Rattle.std.proofs.Common.{◌≡◌, ◌≤◌, ◌+◌, List, ◌∷◌, length, sym, ap, arith, ℕ, suc}
 use Rattle.pitch_model.specs.History.{Raw}
-use Rattle.client_core.proofs.Tracking.{along_more, bit_le}
+use Rattle.client_core.proofs.Tracking.{along_more}
+use Rattle.pitch_model.proofs.Hearing.{bit_le}
 use Rattle.client_core.proofs.Honesty.{venues_first, venues_rest}
 use Rattle.client_core.proofs.client.UnitClient.hear_raws.Goals as goal
 
