@@ -2,3 +2,4 @@ pub mod Flow
 pub mod Hearing
 pub mod Pieces
 pub mod Printing
+pub mod Streaming

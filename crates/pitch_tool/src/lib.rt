@@ -2,9 +2,12 @@
 #![tactic(auto)]
 
 mod ends;
+mod follow;
+mod following;
 mod lines;
 mod page;
 mod status;
+mod stop;
 mod units;
 
 pub use crate::status::ExitStatus;

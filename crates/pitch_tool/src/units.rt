@@ -1,6 +1,6 @@
 //! The clients of all units.
 
-ghost use Rattle.std.specs.Prelude.{◌≡◌, ◌≤◌, ◌<◌, ℕ, List, [], ◌∷◌, OnOk, IfOk, Option, Some, slice_get, vec_len};
+ghost use Rattle.std.specs.Prelude.{◌≡◌, ◌≤◌, ◌<◌, ℕ, List, [], ◌∷◌, OnOk, IfOk, Option, Some, slice_get, length};
 ghost use Rattle.unit_packets.specs.Blocks.{Block};
 ghost use Rattle.pitch_model.specs.History.{Raw};
 ghost use Rattle.pitch_model.specs.Follow.{unit_history, AllHonest};
@@ -49,12 +49,12 @@ pub fn hear_block(
     block: &BlockView<'_>,
 ) -> Result<Change, OutOfMemory>
     requires limit { (1 ≤ limit) × (limit ≤ 65536) }
-    requires many { vec_len clients.old ≡ 256 }
+    requires many { length clients.old.items ≡ 256 }
     ensures clients { OnOk result ((before : List Block) → Clients limit clients.old.items before → Clients limit clients.new.items (block.now ∷ before)) }
     ensures keep { OnOk result ((Image : List Raw → ℕ → List Raw) (Vs : ℕ → List Raw) (before : List Block) → Clients limit clients.old.items before
         → AllHonest Image Vs (block.now ∷ before) → AllKeep Vs clients.old.items → AllKeep Vs clients.new.items) }
     ensures change { IfOk result (λ change. (before : List Block) → Clients limit clients.old.items before → change ≡ block_change limit (unit_history block.now.unit before) block.now) }
-    ensures many { OnOk result (vec_len clients.new ≡ 256) }
+    ensures many { OnOk result (length clients.new.items ≡ 256) }
 {
     let header = block.header();
     let unit = header.unit as usize;
