@@ -3,6 +3,7 @@ ghost use Rattle.pitch_messages.specs.Raw.{IsRaw};
 ghost use Rattle.std.specs.FinMap as map;
 ghost use Rattle.pitch_model.specs.Book.{empty_book, at_second, cleared, without_order, with_order, added, changed, after_message, after};
 ghost use Rattle.order_book.specs.Changes.{changed_by};
+ghost use Rattle.order_book.specs.Standing.{most_orders};
 
 use crate::adding::{is_displayed, order_of_expanded, order_of_long, order_of_short};
 use crate::change::Change;
@@ -20,15 +21,17 @@ pub struct UnitBook {
 }
 
 impl Model for UnitBook {
-    ghost use Rattle.std.specs.FinMap.{from_entries};
+    ghost use Rattle.std.specs.Prelude.{◌-◌, min, length};
     ghost use Rattle.indexmap.specs.IndexMap.{spare};
-    ghost use Rattle.order_book.specs.Standing.{Standing, standing_code};
+    ghost use Rattle.order_book.specs.Standing.{Standing, standing_code, book_of, most_orders, IsKept};
 
     ghost Value = { Standing };
 
     ghost coded = { standing_code };
 
-    ghost view = { λ b. record { book = record { second = b.second; orders = from_entries b.orders.entries }; spare = spare b.orders } };
+    ghost view = { λ b. record { book = book_of b.second b.orders.entries; spare = min (spare b.orders) (most_orders - length b.orders.entries) } };
+
+    ghost invariant = { λ b. IsKept b.second b.orders.entries };
 }
 
 impl UnitBook {
@@ -52,15 +55,15 @@ impl UnitBook {
     // Puts an order under its id.
     #[tactic(auto, using(crate::proofs::Maps::inserts))]
     fn insert(&mut self, order: Order) -> Result<(), OutOfMemory>
+        requires filled { 0 < order.quantity }
+        requires few { map.len self.old.book.orders < most_orders }
         ensures ok { OnOk result (self.new.book ≡ with_order self.old.book order.id order) }
         ensures err { OnErr result (self.new.book ≡ self.old.book) }
         ensures succeeds { 1 ≤ self.old.spare → IsOk result }
         ensures spare { self.old.spare ≤ self.new.spare + 1 }
     {
-        match self.orders.insert(order.id, order) {
-            Ok(_) => Ok(()),
-            Err(_) => Err(OutOfMemory),
-        }
+        self.orders.insert(order.id, order)?;
+        Ok(())
     }
 
     #[tactic(auto, using(crate::proofs::Maps::removes))]
@@ -80,10 +83,19 @@ impl UnitBook {
 
     /// How many orders are open.
     #[tactic(auto, using(crate::proofs::Maps::lens))]
-    pub fn len(&self) -> usize
+    pub fn len(&self) -> u32
         ensures { result ≡ map.len self.now.book.orders }
     {
-        self.orders.len()
+        self.orders.len() as u32
+    }
+
+    /// How many new orders need no memory: with the open orders at most 4,294,967,295.
+    pub fn spare(&self) -> u32
+        ensures { result ≡ self.now.spare }
+    {
+        let room = u32::MAX - self.orders.len() as u32;
+        let ready = self.orders.capacity() - self.orders.len();
+        ready.min(room as usize) as u32
     }
 
     /// The open order of an id, or None exactly where none is open.
@@ -98,6 +110,7 @@ impl UnitBook {
 impl UnitBook {
     // Adds an order, unless it has no shares.
     fn add(&mut self, order: Order) -> Result<(), OutOfMemory>
+        requires few { map.len self.old.book.orders < most_orders }
         ensures ok { OnOk result (self.new.book ≡ added self.old.book order) }
         ensures err { OnErr result (self.new.book ≡ self.old.book) }
         ensures succeeds { 1 ≤ self.old.spare → IsOk result }
@@ -111,7 +124,7 @@ impl UnitBook {
 
     /// Makes room for more orders: the spare is then at least so many. The book is the same in either case.
     pub fn reserve(&mut self, more: u32) -> Result<(), OutOfMemory>
-        requires { map.len self.old.book.orders + more ≤ 4294967295 }
+        requires { map.len self.old.book.orders + more ≤ most_orders }
         ensures same { self.new.book ≡ self.old.book }
         ensures room { OnOk result (more ≤ self.new.spare) }
         ensures kept { self.old.spare ≤ self.new.spare }
@@ -147,7 +160,7 @@ impl UnitBook {
 
     // Does what a message says.
     fn apply_message(&mut self, message: &Message) -> Result<(), OutOfMemory>
-        requires few { map.len self.old.book.orders < 4294967295 }
+        requires few { map.len self.old.book.orders < most_orders }
         ensures ok { OnOk result (self.new.book ≡ after_message self.old.book message.now) }
         ensures err { OnErr result (self.new.book ≡ self.old.book) }
         ensures succeeds { 1 ≤ self.old.spare → IsOk result }
@@ -250,7 +263,7 @@ impl UnitBook {
     #[tactic(auto, unfolding(pitch_model::specs::Book::after))]
     pub fn apply_bytes(&mut self, raw: &[u8]) -> Result<(), OutOfMemory>
         requires raw { IsRaw raw.now }
-        requires few { map.len self.old.book.orders < 4294967295 }
+        requires few { map.len self.old.book.orders < most_orders }
         ensures ok { OnOk result (self.new.book ≡ after self.old.book raw.now) }
         ensures err { OnErr result (self.new.book ≡ self.old.book) }
         ensures succeeds { 1 ≤ self.old.spare → IsOk result }
@@ -264,7 +277,7 @@ impl UnitBook {
 
     /// Does what a raw message says, as `apply_bytes` does.
     pub fn apply(&mut self, raw: &Raw) -> Result<(), OutOfMemory>
-        requires few { map.len self.old.book.orders < 4294967295 }
+        requires few { map.len self.old.book.orders < most_orders }
         ensures ok { OnOk result (self.new.book ≡ after self.old.book raw.now) }
         ensures err { OnErr result (self.new.book ≡ self.old.book) }
         ensures succeeds { 1 ≤ self.old.spare → IsOk result }
