@@ -3,8 +3,10 @@
 
 mod adding;
 mod change;
+mod order_list;
 #[cfg(test)]
 mod tests;
 mod unit_book;
 
+pub use crate::order_list::OrderList;
 pub use crate::unit_book::UnitBook;
