@@ -1,12 +1,14 @@
-ghost use Rattle.std.specs.Prelude.{◌≡◌, ◌≤◌, ◌<◌, ◌+◌, OnOk, OnErr, IsOk, IsSome, Some, Option};
+ghost use Rattle.std.specs.Prelude.{◌≡◌, ◌≤◌, ◌<◌, ◌+◌, ◌++◌, IfOk, OnOk, OnErr, IsOk, IsSome, Some, Option};
 ghost use Rattle.pitch_messages.specs.Raw.{IsRaw};
 ghost use Rattle.std.specs.FinMap as map;
 ghost use Rattle.pitch_model.specs.Book.{empty_book, at_second, cleared, without_order, with_order, added, changed, after_message, after};
+ghost use Rattle.pitch_model.specs.Levels.{orders_of};
 ghost use Rattle.order_book.specs.Changes.{changed_by};
 ghost use Rattle.order_book.specs.Standing.{most_orders};
 
 use crate::adding::{is_displayed, order_of_expanded, order_of_long, order_of_short};
 use crate::change::Change;
+use crate::order_list::OrderList;
 use indexmap::IndexMap;
 use pitch_fields::{OutOfMemory, Price};
 use pitch_messages::{Message, Order, Raw, read_bytes};
@@ -132,6 +134,25 @@ impl UnitBook {
     {
         self.orders.reserve(more as usize)?;
         Ok(())
+    }
+
+    /// Appends all open orders by rising id. The list is as before after OutOfMemory.
+    pub fn orders_by_id(&self, out: &mut OrderList) -> Result<(), OutOfMemory>
+        ensures ok { OnOk result (out.new.items ≡ out.old.items ++ orders_of self.now.book) }
+        ensures err { OnErr result (out.new.items ≡ out.old.items) }
+    {
+        out.append_by_id(&self.orders)?;
+        Ok(())
+    }
+
+    /// An equal book.
+    pub fn copy(&self) -> Result<UnitBook, OutOfMemory>
+        ensures { IfOk result (λ copy. copy.book ≡ self.now.book) }
+    {
+        Ok(UnitBook {
+            second: self.second,
+            orders: self.orders.clone()?,
+        })
     }
 
     /// The second of the unit's clock, or None exactly where none is known.
