@@ -21,10 +21,10 @@ same_id (Modified quantity price display) order = refl
 
 module _ (second : Option ℕ) (es : List (ℕ × Order)) (kept : IsKept second es) where
   pub kept_second : (value : ℕ) → IsKept (Some value) es
-  kept_second value = record { book = at_second_book (book_of second es) value kept.book; few = kept.few }
+  kept_second value = record { book = at_second_book (book_of second es) value kept.book; unique = kept.unique; few = kept.few }
 
-  pub kept_clear : IsKept second []
-  kept_clear = record { book = cleared_book (book_of second es); few = omega arith }
+  pub kept_clear : IsDistinct nat_eq (keys_of {X = Order} []) → IsKept second []
+  kept_clear unique = record { book = cleared_book (book_of second es); unique = unique; few = omega arith }
 
   module _ (fs : List (ℕ × Order)) where
     pub kept_same : fs ≡ es → IsKept second fs
@@ -38,20 +38,22 @@ module _ (second : Option ℕ) (es : List (ℕ × Order)) (kept : IsKept second 
         let count = lens fs unique in
         let more = with_order_len (book_of second es) order.id order in
         let equal = ap (map.len {R = nat_cmp}) same in
-        record { book = book; few = omega arith }
+        record { book = book; unique = unique; few = omega arith }
 
-    pub kept_remove : (id : ℕ) → length fs ≤ length es → ((q : ℕ) → lookup (nat_eq q) fs ≡ cond (nat_eq id q) None (lookup (nat_eq q) es)) → IsKept second fs
-    kept_remove id fewer h =
+    pub kept_remove : (id : ℕ) → IsDistinct nat_eq (keys_of fs) → length fs ≤ length es → ((q : ℕ) → lookup (nat_eq q) fs ≡ cond (nat_eq id q) None (lookup (nat_eq q) es)) → IsKept second fs
+    kept_remove id unique fewer h =
         let few = kept.few in
         record {
           book = subst (λ orders. IsBook (record { second = second; orders = orders })) (sym (removes es fs id h)) (without_order_book (book_of second es) id kept.book);
+          unique = unique;
           few = omega arith;
         }
 
-    pub kept_change : (id : ℕ) (change : Change) → length fs ≤ length es → book_of second fs ≡ changed (book_of second es) id (changed_by change) → IsKept second fs
-    kept_change id change fewer same =
+    pub kept_change : (id : ℕ) (change : Change) → IsDistinct nat_eq (keys_of fs) → length fs ≤ length es → book_of second fs ≡ changed (book_of second es) id (changed_by change) → IsKept second fs
+    kept_change id change unique fewer same =
         let few = kept.few in
         record {
           book = subst IsBook (sym same) (changed_book (book_of second es) id (changed_by change) (same_id change) kept.book);
+          unique = unique;
           few = omega arith;
         }

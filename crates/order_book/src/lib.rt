@@ -6,6 +6,7 @@ mod change;
 mod order_list;
 #[cfg(test)]
 mod tests;
+mod totals;
 mod unit_book;
 
 pub use crate::order_list::OrderList;

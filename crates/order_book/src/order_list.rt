@@ -1,7 +1,7 @@
-ghost use Rattle.std.specs.Prelude.{◌≡◌, ℕ, ◌+◌, ◌<◌, ◌≤◌, List, ◌++◌, [], ◌∷◌, length, OnOk, OnErr, IsOk, slice_get, take, drop, nat_eq};
+ghost use Rattle.std.specs.Prelude.{◌≡◌, ℕ, ◌+◌, ◌<◌, ◌≤◌, List, ◌++◌, [], ◌∷◌, length, OnOk, OnErr, IsOk, slice_get, take, drop};
 ghost use Rattle.std.specs.Option.{option_copied};
 ghost use Rattle.std.specs.List.Sorted.{IsPermutation, IsNonDecreasingBy};
-ghost use Rattle.indexmap.specs.IndexMap.{values, IsUnique};
+ghost use Rattle.indexmap.specs.IndexMap.{values};
 
 use indexmap::IndexMap;
 use pitch_fields::OutOfMemory;
@@ -92,7 +92,6 @@ impl OrderList {
         ensures same { OnOk result (IsPermutation (values orders.now) (drop (length self.old.items) self.new.items)) }
         ensures sorted { OnOk result (IsNonDecreasingBy (λ order. order.id) (drop (length self.old.items) self.new.items)) }
         ensures err { OnErr result (self.new.items ≡ self.old.items) }
-        ensures unique { IsUnique nat_eq orders.now }
     {
         let start = self.orders.len();
         append(&mut self.orders, orders)?;
@@ -106,7 +105,6 @@ impl OrderList {
 fn append(list: &mut Vec<Order>, orders: &IndexMap<u64, Order>) -> Result<(), OutOfMemory>
     ensures ok { OnOk result (list.new.items ≡ list.old.items ++ values orders.now) }
     ensures err { OnErr result (list.new.items ≡ list.old.items) }
-    ensures unique { IsUnique nat_eq orders.now }
 {
     list.reserve(orders.len())?;
     for order in orders.values() {

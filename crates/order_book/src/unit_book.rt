@@ -1,16 +1,18 @@
-ghost use Rattle.std.specs.Prelude.{◌≡◌, ◌≤◌, ◌<◌, ◌+◌, ◌++◌, IfOk, OnOk, OnErr, IsOk, IsSome, Some, Option};
+ghost use Rattle.std.specs.Prelude.{◌≡◌, ◌≤◌, ◌<◌, ◌+◌, ◌++◌, [], IfOk, IfSome, IfNone, OnOk, OnErr, IsOk, IsSome, Some, Option};
 ghost use Rattle.pitch_messages.specs.Raw.{IsRaw};
 ghost use Rattle.std.specs.FinMap as map;
 ghost use Rattle.pitch_model.specs.Book.{empty_book, at_second, cleared, without_order, with_order, added, changed, after_message, after};
-ghost use Rattle.pitch_model.specs.Levels.{orders_of};
+ghost use Rattle.pitch_model.specs.Levels.{orders_of, orders_on, shares, level, best};
 ghost use Rattle.order_book.specs.Changes.{changed_by};
 ghost use Rattle.order_book.specs.Standing.{most_orders};
+ghost use Rattle.order_book.specs.Totals.{IsBestPrice};
 
 use crate::adding::{is_displayed, order_of_expanded, order_of_long, order_of_short};
 use crate::change::Change;
 use crate::order_list::OrderList;
+use crate::totals::{all_shares, best_price, shares_at};
 use indexmap::IndexMap;
-use pitch_fields::{OutOfMemory, Price};
+use pitch_fields::{OutOfMemory, Price, Side, Symbol};
 use pitch_messages::{Message, Order, Raw, read_bytes};
 use std::alloc::Global;
 use std::marker::Model;
@@ -153,6 +155,36 @@ impl UnitBook {
             second: self.second,
             orders: self.orders.clone()?,
         })
+    }
+
+    /// The shares of all open orders.
+    #[tactic(auto, using(crate::proofs::AnyOrder::shares_of))]
+    pub fn shares(&self) -> u64
+        ensures { result ≡ shares self.now.book }
+    {
+        all_shares(&self.orders)
+    }
+
+    /// The shares of the open orders for a symbol on a side at a price.
+    #[tactic(auto, using(crate::proofs::AnyOrder::level_of))]
+    pub fn level(&self, symbol: Symbol, side: Side, price: Price) -> u64
+        ensures { result ≡ level self.now.book symbol side price }
+    {
+        shares_at(&self.orders, symbol, side, price)
+    }
+
+    /// The highest price to buy, or the lowest to sell, of the open orders for a symbol, with its level. None exactly
+    /// where that side of the symbol has no order.
+    pub fn best(&self, symbol: Symbol, side: Side) -> Option<(Price, u64)>
+        ensures best { result ≡ best self.now.book symbol side }
+        ensures price { IfSome result (λ best. IsBestPrice self.now.book symbol side best.0) }
+        ensures level { IfSome result (λ best. best.1 ≡ level self.now.book symbol side best.0) }
+        ensures none { IfNone result (orders_on self.now.book symbol side ≡ []) }
+    {
+        let Some(price) = best_price(&self.orders, symbol, side) else {
+            return None;
+        };
+        Some((price, self.level(symbol, side, price)))
     }
 
     /// The second of the unit's clock, or None exactly where none is known.
