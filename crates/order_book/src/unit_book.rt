@@ -1,9 +1,10 @@
-ghost use Rattle.std.specs.Prelude.{◌≡◌, ◌≤◌, ◌<◌, ◌+◌, ◌++◌, [], IfOk, IfSome, IfNone, OnOk, OnErr, IsOk, IsSome, Some, Option};
+ghost use Rattle.std.specs.Prelude.{◌≡◌, ◌≤◌, ◌<◌, ◌+◌, ◌++◌, [], count_by, IfOk, IfSome, IfNone, OnOk, OnErr, IsOk, IsSome, Some, Option};
 ghost use Rattle.pitch_messages.specs.Raw.{IsRaw};
 ghost use Rattle.std.specs.FinMap as map;
-ghost use Rattle.pitch_model.specs.Book.{empty_book, at_second, cleared, without_order, with_order, added, changed, after_message, after};
+ghost use Rattle.pitch_model.specs.Book.{IsBook, empty_book, at_second, cleared, without_order, with_order, added, changed, after_message, after};
 ghost use Rattle.pitch_model.specs.Levels.{orders_of, orders_on, shares, level, best};
 ghost use Rattle.order_book.specs.Changes.{changed_by};
+ghost use Rattle.order_book.specs.Naming.{names_open, names_order};
 ghost use Rattle.order_book.specs.Standing.{most_orders};
 ghost use Rattle.order_book.specs.Totals.{IsBestPrice};
 
@@ -12,8 +13,8 @@ use crate::change::Change;
 use crate::order_list::OrderList;
 use crate::totals::{all_shares, best_price, shares_at};
 use indexmap::IndexMap;
-use pitch_fields::{OutOfMemory, Price, Side, Symbol};
-use pitch_messages::{Message, Order, Raw, read_bytes};
+use pitch_fields::{OutOfMemory, Price, Side, Symbol, get_u64};
+use pitch_messages::{Message, Order, Raw, Raws, read_bytes};
 use std::alloc::Global;
 use std::marker::Model;
 
@@ -60,7 +61,7 @@ impl UnitBook {
     #[tactic(auto, using(crate::proofs::Maps::inserts))]
     fn insert(&mut self, order: Order) -> Result<(), OutOfMemory>
         requires filled { 0 < order.quantity }
-        requires few { map.len self.old.book.orders < most_orders }
+        requires few { map.len self.old.book.orders < 4294967295 }
         ensures ok { OnOk result (self.new.book ≡ with_order self.old.book order.id order) }
         ensures err { OnErr result (self.new.book ≡ self.old.book) }
         ensures succeeds { 1 ≤ self.old.spare → IsOk result }
@@ -88,14 +89,16 @@ impl UnitBook {
     /// How many orders are open.
     #[tactic(auto, using(crate::proofs::Maps::lens))]
     pub fn len(&self) -> u32
-        ensures { result ≡ map.len self.now.book.orders }
+        ensures count { result ≡ map.len self.now.book.orders }
+        ensures book { IsBook self.now.book }
     {
         self.orders.len() as u32
     }
 
     /// How many new orders need no memory: with the open orders at most 4,294,967,295.
     pub fn spare(&self) -> u32
-        ensures { result ≡ self.now.spare }
+        ensures spare { result ≡ self.now.spare }
+        ensures within { map.len self.now.book.orders + self.now.spare ≤ most_orders }
     {
         let room = u32::MAX - self.orders.len() as u32;
         let ready = self.orders.capacity() - self.orders.len();
@@ -114,7 +117,7 @@ impl UnitBook {
 impl UnitBook {
     // Adds an order, unless it has no shares.
     fn add(&mut self, order: Order) -> Result<(), OutOfMemory>
-        requires few { map.len self.old.book.orders < most_orders }
+        requires few { map.len self.old.book.orders < 4294967295 }
         ensures ok { OnOk result (self.new.book ≡ added self.old.book order) }
         ensures err { OnErr result (self.new.book ≡ self.old.book) }
         ensures succeeds { 1 ≤ self.old.spare → IsOk result }
@@ -126,9 +129,44 @@ impl UnitBook {
         self.insert(order)
     }
 
+    // Whether an order is open. Its quantity is read, which is never 0, so that the order is near afterwards.
+    fn is_open(&self, id: u64) -> bool
+        ensures { result ≡ map.contains_key self.now.book.orders id }
+    {
+        match self.orders.get(&id) {
+            Some(order) => order.quantity > 0,
+            None => false,
+        }
+    }
+
+    // Whether a message names an open order.
+    fn names_open(&self, raw: &[u8]) -> bool
+        ensures { result ≡ names_open self.now.book raw.now }
+    {
+        raw.len() >= 14 && names_order(raw[1]) && self.is_open(get_u64(raw, 6))
+    }
+
+    /// How many of the messages name an order that is open.
+    ///
+    /// To ask this of a block before its messages are applied makes that faster, since all the orders are then near:
+    /// these look-ups overlap, where those of `apply` wait for one another.
+    pub fn known_orders(&self, raws: Raws<'_>) -> usize
+        ensures { result ≡ count_by (names_open self.now.book) raws.entry }
+    {
+        // There are no more of them than messages, whose number fits.
+        let _count = raws.len();
+        let mut known = 0;
+        for raw in raws {
+            if self.names_open(raw) {
+                known += 1;
+            }
+        }
+        known
+    }
+
     /// Makes room for more orders: the spare is then at least so many. The book is the same in either case.
     pub fn reserve(&mut self, more: u32) -> Result<(), OutOfMemory>
-        requires { map.len self.old.book.orders + more ≤ most_orders }
+        requires { map.len self.old.book.orders + more ≤ 4294967295 }
         ensures same { self.new.book ≡ self.old.book }
         ensures room { OnOk result (more ≤ self.new.spare) }
         ensures kept { self.old.spare ≤ self.new.spare }
@@ -213,7 +251,7 @@ impl UnitBook {
 
     // Does what a message says.
     fn apply_message(&mut self, message: &Message) -> Result<(), OutOfMemory>
-        requires few { map.len self.old.book.orders < most_orders }
+        requires few { map.len self.old.book.orders < 4294967295 }
         ensures ok { OnOk result (self.new.book ≡ after_message self.old.book message.now) }
         ensures err { OnErr result (self.new.book ≡ self.old.book) }
         ensures succeeds { 1 ≤ self.old.spare → IsOk result }
@@ -316,7 +354,7 @@ impl UnitBook {
     #[tactic(auto, unfolding(pitch_model::specs::Book::after))]
     pub fn apply_bytes(&mut self, raw: &[u8]) -> Result<(), OutOfMemory>
         requires raw { IsRaw raw.now }
-        requires few { map.len self.old.book.orders < most_orders }
+        requires few { map.len self.old.book.orders < 4294967295 }
         ensures ok { OnOk result (self.new.book ≡ after self.old.book raw.now) }
         ensures err { OnErr result (self.new.book ≡ self.old.book) }
         ensures succeeds { 1 ≤ self.old.spare → IsOk result }
@@ -330,7 +368,7 @@ impl UnitBook {
 
     /// Does what a raw message says, as `apply_bytes` does.
     pub fn apply(&mut self, raw: &Raw) -> Result<(), OutOfMemory>
-        requires few { map.len self.old.book.orders < most_orders }
+        requires few { map.len self.old.book.orders < 4294967295 }
         ensures ok { OnOk result (self.new.book ≡ after self.old.book raw.now) }
         ensures err { OnErr result (self.new.book ≡ self.old.book) }
         ensures succeeds { 1 ≤ self.old.spare → IsOk result }
@@ -338,4 +376,11 @@ impl UnitBook {
     {
         self.apply_bytes(raw.bytes())
     }
+}
+
+// Whether messages of a type name an order.
+fn names_order(kind: u8) -> bool
+    ensures { result ≡ names_order kind }
+{
+    matches!(kind, 0x21..=0x29 | 0x2f)
 }
