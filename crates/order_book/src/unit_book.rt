@@ -1,14 +1,20 @@
-ghost use Rattle.std.specs.Prelude.{◌≡◌, ◌≤◌, ◌<◌, ◌+◌, OnOk, OnErr, IsOk, IsSome, Some, Option};
+ghost use Rattle.std.specs.Prelude.{◌≡◌, ◌≤◌, ◌<◌, ◌+◌, ◌++◌, [], count_by, IfOk, IfSome, IfNone, OnOk, OnErr, IsOk, IsSome, Some, Option};
 ghost use Rattle.pitch_messages.specs.Raw.{IsRaw};
 ghost use Rattle.std.specs.FinMap as map;
-ghost use Rattle.pitch_model.specs.Book.{empty_book, at_second, cleared, without_order, with_order, added, changed, after_message, after};
+ghost use Rattle.pitch_model.specs.Book.{IsBook, empty_book, at_second, cleared, without_order, with_order, added, changed, after_message, after};
+ghost use Rattle.pitch_model.specs.Levels.{orders_of, orders_on, shares, level, best};
 ghost use Rattle.order_book.specs.Changes.{changed_by};
+ghost use Rattle.order_book.specs.Naming.{names_open, names_order};
+ghost use Rattle.order_book.specs.Standing.{most_orders};
+ghost use Rattle.order_book.specs.Totals.{IsBestPrice};
 
 use crate::adding::{is_displayed, order_of_expanded, order_of_long, order_of_short};
 use crate::change::Change;
+use crate::order_list::OrderList;
+use crate::totals::{all_shares, best_price, shares_at};
 use indexmap::IndexMap;
-use pitch_fields::{OutOfMemory, Price};
-use pitch_messages::{Message, Order, Raw, read_bytes};
+use pitch_fields::{OutOfMemory, Price, Side, Symbol, get_u64};
+use pitch_messages::{Message, Order, Raw, Raws, read_bytes};
 use std::alloc::Global;
 use std::marker::Model;
 
@@ -20,15 +26,17 @@ pub struct UnitBook {
 }
 
 impl Model for UnitBook {
-    ghost use Rattle.std.specs.FinMap.{from_entries};
+    ghost use Rattle.std.specs.Prelude.{◌-◌, min, length};
     ghost use Rattle.indexmap.specs.IndexMap.{spare};
-    ghost use Rattle.order_book.specs.Standing.{Standing, standing_code};
+    ghost use Rattle.order_book.specs.Standing.{Standing, standing_code, book_of, most_orders, IsKept};
 
     ghost Value = { Standing };
 
     ghost coded = { standing_code };
 
-    ghost view = { λ b. record { book = record { second = b.second; orders = from_entries b.orders.entries }; spare = spare b.orders } };
+    ghost view = { λ b. record { book = book_of b.second b.orders.entries; spare = min (spare b.orders) (most_orders - length b.orders.entries) } };
+
+    ghost invariant = { λ b. IsKept b.second b.orders.entries };
 }
 
 impl UnitBook {
@@ -52,15 +60,15 @@ impl UnitBook {
     // Puts an order under its id.
     #[tactic(auto, using(crate::proofs::Maps::inserts))]
     fn insert(&mut self, order: Order) -> Result<(), OutOfMemory>
+        requires filled { 0 < order.quantity }
+        requires few { map.len self.old.book.orders < 4294967295 }
         ensures ok { OnOk result (self.new.book ≡ with_order self.old.book order.id order) }
         ensures err { OnErr result (self.new.book ≡ self.old.book) }
         ensures succeeds { 1 ≤ self.old.spare → IsOk result }
         ensures spare { self.old.spare ≤ self.new.spare + 1 }
     {
-        match self.orders.insert(order.id, order) {
-            Ok(_) => Ok(()),
-            Err(_) => Err(OutOfMemory),
-        }
+        self.orders.insert(order.id, order)?;
+        Ok(())
     }
 
     #[tactic(auto, using(crate::proofs::Maps::removes))]
@@ -80,10 +88,21 @@ impl UnitBook {
 
     /// How many orders are open.
     #[tactic(auto, using(crate::proofs::Maps::lens))]
-    pub fn len(&self) -> usize
-        ensures { result ≡ map.len self.now.book.orders }
+    pub fn len(&self) -> u32
+        ensures count { result ≡ map.len self.now.book.orders }
+        ensures book { IsBook self.now.book }
     {
-        self.orders.len()
+        self.orders.len() as u32
+    }
+
+    /// How many new orders need no memory: with the open orders at most 4,294,967,295.
+    pub fn spare(&self) -> u32
+        ensures spare { result ≡ self.now.spare }
+        ensures within { map.len self.now.book.orders + self.now.spare ≤ most_orders }
+    {
+        let room = u32::MAX - self.orders.len() as u32;
+        let ready = self.orders.capacity() - self.orders.len();
+        ready.min(room as usize) as u32
     }
 
     /// The open order of an id, or None exactly where none is open.
@@ -98,6 +117,7 @@ impl UnitBook {
 impl UnitBook {
     // Adds an order, unless it has no shares.
     fn add(&mut self, order: Order) -> Result<(), OutOfMemory>
+        requires few { map.len self.old.book.orders < 4294967295 }
         ensures ok { OnOk result (self.new.book ≡ added self.old.book order) }
         ensures err { OnErr result (self.new.book ≡ self.old.book) }
         ensures succeeds { 1 ≤ self.old.spare → IsOk result }
@@ -107,6 +127,41 @@ impl UnitBook {
             return Ok(());
         }
         self.insert(order)
+    }
+
+    // Whether an order is open. Its quantity is read, which is never 0, so that the order is near afterwards.
+    fn is_open(&self, id: u64) -> bool
+        ensures { result ≡ map.contains_key self.now.book.orders id }
+    {
+        match self.orders.get(&id) {
+            Some(order) => order.quantity > 0,
+            None => false,
+        }
+    }
+
+    // Whether a message names an open order.
+    fn names_open(&self, raw: &[u8]) -> bool
+        ensures { result ≡ names_open self.now.book raw.now }
+    {
+        raw.len() >= 14 && names_order(raw[1]) && self.is_open(get_u64(raw, 6))
+    }
+
+    /// How many of the messages name an order that is open.
+    ///
+    /// To ask this of a block before its messages are applied makes that faster, since all the orders are then near:
+    /// these look-ups overlap, where those of `apply` wait for one another.
+    pub fn known_orders(&self, raws: Raws<'_>) -> usize
+        ensures { result ≡ count_by (names_open self.now.book) raws.entry }
+    {
+        // There are no more of them than messages, whose number fits.
+        let _count = raws.len();
+        let mut known = 0;
+        for raw in raws {
+            if self.names_open(raw) {
+                known += 1;
+            }
+        }
+        known
     }
 
     /// Makes room for more orders: the spare is then at least so many. The book is the same in either case.
@@ -119,6 +174,55 @@ impl UnitBook {
     {
         self.orders.reserve(more as usize)?;
         Ok(())
+    }
+
+    /// Appends all open orders by rising id. The list is as before after OutOfMemory.
+    pub fn orders_by_id(&self, out: &mut OrderList) -> Result<(), OutOfMemory>
+        ensures ok { OnOk result (out.new.items ≡ out.old.items ++ orders_of self.now.book) }
+        ensures err { OnErr result (out.new.items ≡ out.old.items) }
+    {
+        out.append_by_id(&self.orders)?;
+        Ok(())
+    }
+
+    /// An equal book.
+    pub fn copy(&self) -> Result<UnitBook, OutOfMemory>
+        ensures { IfOk result (λ copy. copy.book ≡ self.now.book) }
+    {
+        Ok(UnitBook {
+            second: self.second,
+            orders: self.orders.clone()?,
+        })
+    }
+
+    /// The shares of all open orders.
+    #[tactic(auto, using(crate::proofs::AnyOrder::shares_of))]
+    pub fn shares(&self) -> u64
+        ensures { result ≡ shares self.now.book }
+    {
+        all_shares(&self.orders)
+    }
+
+    /// The shares of the open orders for a symbol on a side at a price.
+    #[tactic(auto, using(crate::proofs::AnyOrder::level_of))]
+    pub fn level(&self, symbol: Symbol, side: Side, price: Price) -> u64
+        ensures { result ≡ level self.now.book symbol side price }
+    {
+        shares_at(&self.orders, symbol, side, price)
+    }
+
+    /// The highest price to buy, or the lowest to sell, of the open orders for a symbol, with its level. None exactly
+    /// where that side of the symbol has no order.
+    pub fn best(&self, symbol: Symbol, side: Side) -> Option<(Price, u64)>
+        ensures best { result ≡ best self.now.book symbol side }
+        ensures price { IfSome result (λ best. IsBestPrice self.now.book symbol side best.0) }
+        ensures level { IfSome result (λ best. best.1 ≡ level self.now.book symbol side best.0) }
+        ensures none { IfNone result (orders_on self.now.book symbol side ≡ []) }
+    {
+        let Some(price) = best_price(&self.orders, symbol, side) else {
+            return None;
+        };
+        Some((price, self.level(symbol, side, price)))
     }
 
     /// The second of the unit's clock, or None exactly where none is known.
@@ -272,4 +376,11 @@ impl UnitBook {
     {
         self.apply_bytes(raw.bytes())
     }
+}
+
+// Whether messages of a type name an order.
+fn names_order(kind: u8) -> bool
+    ensures { result ≡ names_order kind }
+{
+    matches!(kind, 0x21..=0x29 | 0x2f)
 }
