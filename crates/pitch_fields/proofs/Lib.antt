@@ -1,0 +1,5 @@
+pub mod Decimals
+mod Examples
+pub mod LittleEndian
+pub mod Names
+pub mod Placing

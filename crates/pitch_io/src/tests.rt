@@ -1,0 +1,135 @@
+use crate::{
+    MemorySink, MemorySource, Put, Sink, Source, StdSink, StdSource, SteadySink, SteadySource,
+    Taken,
+};
+use std::io::{Error, ErrorKind, Read};
+use std::process::Abort;
+
+// Takes five times into a slice of 4 bytes, and answers what was taken and each answer's letter.
+fn five_takes<R: Abort + AllocGlobal, S: Source>(rt: &R, source: &mut S) -> (Vec<u8>, String) {
+    let mut bytes = Vec::new(rt.alloc());
+    let mut answers = String::new(rt.alloc());
+    for _ in 0..5u8 {
+        let mut into = [0u8; 4];
+        match source.take(&mut into) {
+            Taken::Got(count) => {
+                bytes.extend_from_slice(&into[..count]).expect(rt, "memory");
+                answers.push('g').expect(rt, "memory");
+            }
+            Taken::End => answers.push('e').expect(rt, "memory"),
+            Taken::Failed => answers.push('f').expect(rt, "memory"),
+        }
+    }
+    (bytes, answers)
+}
+
+fn answers_of_puts<R: Abort + AllocGlobal, K: Sink>(
+    rt: &R,
+    sink: &mut K,
+    pieces: &[&[u8]],
+) -> Vec<Put> {
+    let mut answers = Vec::new(rt.alloc());
+    for piece in pieces {
+        if !piece.is_empty() {
+            answers.push(sink.put(piece)).expect(rt, "memory");
+        }
+    }
+    answers
+}
+
+#[test]
+fn sources_in_memory_give_pieces_and_fail_where_listed(rt: HostRuntime) {
+    let cases: [(usize, u64, &[u8], &str); 4] = [
+        (9, 0, b"abcdef", "ggeee"),
+        (2, 0, b"abcdef", "gggee"),
+        (4, 2, b"abcdef", "gfgee"),
+        (1, 1, b"abcd", "fgggg"),
+    ];
+    for (piece, failing, want, answers) in cases {
+        let bytes = Vec::from_slice(rt.alloc(), b"abcdef").expect(&rt, "memory");
+        let listed = Vec::from_slice(rt.alloc(), &[failing]).expect(&rt, "memory");
+        let mut source = MemorySource::make(bytes, piece, listed);
+        let (taken, letters) = five_takes(&rt, &mut source);
+        assert_eq!(rt; taken.as_slice(), want, "piece {piece}");
+        assert_eq!(rt; letters.as_str(), answers, "piece {piece}");
+    }
+    let bytes = Vec::from_slice(rt.alloc(), b"abcdef").expect(&rt, "memory");
+    let mut source = SteadySource::make(bytes, 3);
+    let (taken, letters) = five_takes(&rt, &mut source);
+    assert_eq!(rt; taken.as_slice(), b"abcdef".as_slice());
+    assert_eq!(rt; letters.as_str(), "ggeee");
+}
+
+#[test]
+fn sinks_in_memory_keep_what_fits(rt: HostRuntime) {
+    let pieces: [&[u8]; 3] = [b"abc", b"de", b"f"];
+    let listed = Vec::from_slice(rt.alloc(), &[2]).expect(&rt, "memory");
+    let mut sink = MemorySink::make(rt.alloc(), 2, listed);
+    let answers = answers_of_puts(&rt, &mut sink, &pieces);
+    assert_eq!(rt;
+        answers.as_slice(),
+        [Put::Wrote(2), Put::Failed, Put::Wrote(1)].as_slice(),
+    );
+    assert_eq!(rt; sink.written(), b"abf".as_slice());
+    for room in [6, 5, 0] {
+        let mut sink = SteadySink::make(rt.alloc(), room).expect(&rt, "memory");
+        let answers = answers_of_puts(&rt, &mut sink, &pieces);
+        assert_eq!(rt;
+            answers.as_slice(),
+            [Put::Wrote(3), Put::Wrote(2), Put::Wrote(1)].as_slice(),
+        );
+        if room == 6 {
+            assert_eq!(rt; sink.written(), b"abcdef".as_slice());
+        }
+    }
+}
+
+// A reader and a writer that fails at its second call.
+#[derive(Drop)]
+struct FailsOnce {
+    calls: u8,
+}
+
+impl Read for FailsOnce {
+    fn read(&mut self, buf: &mut [u8]) -> std::io::Result<usize> {
+        self.calls = self.calls.saturating_add(1);
+        if self.calls == 2 {
+            return Err(Error::from(ErrorKind::Other));
+        }
+        if buf.is_empty() || self.calls > 3 {
+            return Ok(0);
+        }
+        buf[0] = b'x';
+        Ok(1)
+    }
+}
+
+#[test]
+fn a_source_over_a_reader_takes_what_it_reads(rt: HostRuntime) {
+    let mut source = StdSource::make(b"abcdef".as_slice());
+    let (taken, letters) = five_takes(&rt, &mut source);
+    assert_eq!(rt; taken.as_slice(), b"abcdef".as_slice());
+    assert_eq!(rt; letters.as_str(), "ggeee");
+    let mut source = StdSource::make(FailsOnce { calls: 0 });
+    let (taken, letters) = five_takes(&rt, &mut source);
+    assert_eq!(rt; taken.as_slice(), b"xx".as_slice());
+    assert_eq!(rt; letters.as_str(), "gfgee");
+}
+
+#[test]
+fn a_sink_over_a_writer_writes_what_it_takes(rt: HostRuntime) {
+    let mut bytes = [0u8; 5];
+    let pieces: [&[u8]; 3] = [b"abc", b"def", b"g"];
+    let mut sink = StdSink::make(&mut bytes[..]);
+    let answers = answers_of_puts(&rt, &mut sink, &pieces);
+    assert_eq!(rt;
+        answers.as_slice(),
+        [Put::Wrote(3), Put::Wrote(2), Put::Failed].as_slice(),
+    );
+    let mut sink = StdSink::make(Vec::new(rt.alloc()));
+    let answers = answers_of_puts(&rt, &mut sink, &pieces);
+    assert_eq!(rt;
+        answers.as_slice(),
+        [Put::Wrote(3), Put::Wrote(3), Put::Wrote(1)].as_slice(),
+    );
+}
