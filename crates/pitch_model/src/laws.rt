@@ -12,7 +12,7 @@ ghost use Rattle.pitch_model.specs.Book.{Book, IsBook, book_after};
 ghost use Rattle.pitch_model.specs.Widths.{AreBytes, IsWireBook};
 ghost use Rattle.pitch_model.specs.Levels.{IsBestOf, best, level, orders_on, prices_on};
 ghost use Rattle.pitch_model.specs.History.{Entry, Raw, Message, SpinFinished, spin_of, images_at, image_finished, messages_at};
-ghost use Rattle.pitch_model.specs.Heard.{IsItem, IsItemOf, heard, heard_block, overflows_of, block_overflows};
+ghost use Rattle.pitch_model.specs.Heard.{IsItem, IsItemOf, heard, heard_block, change_of, block_change};
 ghost use Rattle.pitch_model.specs.Honest.{Honest};
 ghost use Rattle.pitch_model.specs.Follow.{lines_after, line_after, units_of};
 ghost use Rattle.pitch_model.specs.Reach.{Part, IsReach, is_anchor, is_seen, reach_of, held_count, part_of, reach, is_held};
@@ -91,7 +91,7 @@ pub fn honest_histories_stay_within_the_venue()
 /// The item of a block says what the block says.
 pub fn items_say_what_their_blocks_say()
     ensures heard { (block : Block) (item : Item) (E : List Entry) → IsItemOf block item → heard item E ≡ heard_block block E }
-    ensures overflows { (H : ℕ) (block : Block) (item : Item) (E : List Entry) → IsItemOf block item → overflows_of H E item ≡ block_overflows H E block }
+    ensures change { (H : ℕ) (block : Block) (item : Item) (E : List Entry) → IsItemOf block item → change_of H E item ≡ block_change H E block }
     ensures fits { (block : Block) (item : Item) → StaysWithin block.sequence (length block.raws) → IsItemOf block item → IsItem item }
 {}
 
