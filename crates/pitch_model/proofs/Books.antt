@@ -12,7 +12,7 @@ use Rattle.pitch_messages.specs.declared.message.Message.TheVariants.{Time, AddL
 use Rattle.pitch_messages.specs.declared.message.ReadError.{ReadError}
 use Rattle.pitch_messages.specs.Reading.{reads}
 use Rattle.pitch_model.specs.History.{Raw}
-use Rattle.pitch_model.specs.Book.{Book, IsBook, empty_book, at_second, cleared, without_order, with_order, added, reformed, changed, reduced_by, left_with, modified, is_displayed, long_price, after_message, after_read, after, book_after}
+use Rattle.pitch_model.specs.Book.{Book, IsBook, empty_book, cleared, without_order, with_order, added, reformed, changed, reduced_by, left_with, modified, is_displayed, long_price, after_message, after_read, after, book_after}
 
 same_test : (q x : ℕ) → is_eq (nat_cmp q x) ≡ eqb q x
 same_test q x = grind (arith, nat_tests)

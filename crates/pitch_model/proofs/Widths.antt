@@ -1,11 +1,6 @@
 -- The orders of a book that messages of bytes leave have the widths of the wire.
-use Rattle.std.proofs.Common.{◌≡◌, ℕ, zero, suc, ◌+◌, ◌-◌, ◌*◌, ◌^◌, ◌≤◌, ◌<◌, Bool, true, false, cond, List, [], ◌∷◌, ◌++◌, length, drop, take, fold, refl, sym, ap, ◌∙◌, subst, arith, Option, Some, None, Result, Ok, Err, slice_index, nat_lt, ◌==◌, length-take, length-drop, length-append}
-use Rattle.std.specs.Option.{option_map}
+use Rattle.std.proofs.Common.{◌≡◌, ℕ, zero, suc, ◌+◌, ◌^◌, ◌≤◌, ◌<◌, Bool, true, false, cond, List, [], ◌∷◌, length, drop, fold, refl, ap, ◌∙◌, subst, arith, Option, Some, None, Result, Ok, Err, slice_index, nat_lt, ◌==◌, length-take, length-drop, length-append}
 use Rattle.std.specs.List.{AllByRecursion}
-use Rattle.std.specs.Ordering.{nat_cmp, eq_by_cmp, is_eq}
-use Rattle.std.specs.FinMap as map
-use Rattle.std.proofs.lemmas.Cmp.{nat_cmp_total}
-use Rattle.std.proofs.lemmas.Bool.{cond_both, eqb-true}
 use Rattle.std.proofs.lemmas.Bool.Decides.{nat_tests}
 use Rattle.pitch_fields.specs.Fields.{number_at}
 use Rattle.pitch_fields.specs.Side.{side_of}
@@ -18,7 +13,7 @@ use Rattle.pitch_messages.specs.declared.message.ReadError.{ReadError}
 use Rattle.pitch_messages.specs.declared.message.ReadError.TheVariants.{Short, BadSide}
 use Rattle.pitch_messages.specs.Reading.{bytes_at, Row, plain, sided, with_side, row_of, reads_by, reads}
 use Rattle.pitch_messages.specs.Reading as rows
-use Rattle.pitch_model.specs.Book.{Book, IsBook, empty_book, at_second, cleared, without_order, with_order, added, reformed, changed, reduced_by, left_with, modified, is_displayed, long_symbol, long_price, order_of_long, order_of_short, order_of_expanded, after_message, after_read, after, book_after}
+use Rattle.pitch_model.specs.Book.{Book, empty_book, reduced_by, left_with, modified, is_displayed, long_price, order_of_long, after_message, after_read, after, book_after}
 use Rattle.pitch_model.proofs.Books.{none_all, added_all, changed_all, without_order_all}
 use Rattle.pitch_model.specs.Widths.{AreBytes, FitsWire, IsWireBook}
 
