@@ -1,21 +1,20 @@
 -- The messages of an image make its book anew.
-use Rattle.std.proofs.Common.{◌≡◌, ℕ, ◌<◌, Bool, true, false, ◌&&◌, cond, List, [], ◌∷◌, ◌++◌, fold, map, eqb, refl, sym, ap, ◌∙◌, subst, arith, Option, Some, None, Result, Ok, Err, ◌==◌, take}
+use Rattle.std.proofs.Common.{◌≡◌, ℕ, ◌<◌, Bool, true, false, cond, List, [], ◌∷◌, fold, map, eqb, refl, sym, ap, ◌∙◌, arith, Option, Some, None, Result, Ok, ◌==◌, take}
 use Rattle.std.proofs.Math.Dec.{T}
 use Rattle.std.specs.List.{AllByRecursion}
 use Rattle.std.specs.Ordering.{nat_cmp, is_lt, is_eq, eq_by_cmp}
 use Rattle.std.specs.FinMap as finite
 use Rattle.std.specs.FinMap.Entries.{below_all, is_sorted, find}
 use Rattle.std.proofs.lemmas.Cmp.{nat_cmp_total}
-use Rattle.std.proofs.lemmas.Bool.{and_parts, eqb-true, cond-false, ne_eqb, both_ways}
+use Rattle.std.proofs.lemmas.Bool.{and_parts, eqb-true, cond-false}
 use Rattle.std.proofs.lemmas.Bool.Decides.{nat_tests}
 use Rattle.std.proofs.lemmas.List.Sums.{fold-append}
 use Rattle.pitch_messages.specs.declared.order.Order.{Order}
 use Rattle.pitch_messages.specs.declared.message.Message.{Message}
 use Rattle.pitch_messages.specs.declared.message.ReadError.{ReadError}
-use Rattle.pitch_messages.specs.declared.message.Message.TheVariants.{Time}
 use Rattle.pitch_messages.specs.Reading.{reads}
 use Rattle.pitch_messages.specs.Writing.{written}
-use Rattle.pitch_model.specs.Book.{Book, IsBook, empty_book, with_order, added, at_second, after_message, after_read, after, book_after}
+use Rattle.pitch_model.specs.Book.{Book, IsBook, empty_book, with_order, added, after_message, after_read, after, book_after}
 use Rattle.pitch_model.specs.Levels.{orders_of}
 use Rattle.pitch_model.specs.Image.{clock_of, messages_of, image}
 use Rattle.pitch_model.proofs.Books.{book_after_book}
