@@ -5,6 +5,7 @@ ghost use Rattle.std.specs.Option.{option_map};
 ghost use Rattle.pitch_messages.specs.Raw.{IsRaw, kind_of};
 ghost use Rattle.pitch_messages.specs.Table.{bytes_at, needs_by};
 ghost use Rattle.pitch_messages.specs.Session.{session_row_of, session_reads, session_written, login_row, login_reply_row, gap_request_row, gap_reply_row, spin_available_row, spin_request_row, spin_reply_row, spin_finished_row};
+ghost use Rattle.pitch_messages.specs.declared.session.SessionMessage.TheVariants.{Login};
 
 use crate::raw::Raw;
 use crate::reading::four_at;
@@ -104,9 +105,7 @@ fn login_reply(bytes: &[u8]) -> SessionMessage
     requires { 3 ≤ length bytes.now }
     ensures { Ok result ≡ login_reply_row.says bytes.now }
 {
-    SessionMessage::LoginReply {
-        status: bytes[2],
-    }
+    SessionMessage::LoginReply { status: bytes[2] }
 }
 
 fn gap_request(bytes: &[u8]) -> SessionMessage
@@ -220,5 +219,74 @@ pub fn read(raw: &Raw) -> Result<SessionMessage, SessionError>
         0x82 => Ok(spin_reply(bytes)),
         0x83 => Ok(spin_finished(bytes)),
         kind => Err(SessionError::WrongType { kind }),
+    }
+}
+
+// The Login of these texts.
+#[tactic(auto, unfolding(crate::specs::Session::session_written))]
+fn login_raw(sub: [u8; 4], user: [u8; 4], password: [u8; 10]) -> Raw
+    ensures written { result ≡ session_written (Login sub user password) }
+    ensures sub { length sub ≡ 4 }
+    ensures user { length user ≡ 4 }
+    ensures password { length password ≡ 10 }
+{
+    Raw::of_fields(0x01, &[&sub, &user, b"  ", &password])
+}
+
+/// The raw of a session message: its length, its type and its fields, end to end. A Login's filler is two spaces.
+#[tactic(auto, unfolding(crate::specs::Session::session_written))]
+pub fn write(message: &SessionMessage) -> Raw
+    ensures written { result ≡ session_written message.now }
+    ensures reads_back { session_reads result ≡ Ok message.now }
+{
+    match *message {
+        SessionMessage::Login {
+            sub,
+            user,
+            password,
+        } => login_raw(sub, user, password),
+        SessionMessage::LoginReply { status } => Raw::of_fields(0x02, &[&[status]]),
+        SessionMessage::GapRequest {
+            unit,
+            sequence,
+            count,
+        } => Raw::of_fields(
+            0x03,
+            &[&[unit], &sequence.to_le_bytes(), &count.to_le_bytes()],
+        ),
+        SessionMessage::GapReply {
+            unit,
+            sequence,
+            count,
+            status,
+        } => Raw::of_fields(
+            0x04,
+            &[
+                &[unit],
+                &sequence.to_le_bytes(),
+                &count.to_le_bytes(),
+                &[status],
+            ],
+        ),
+        SessionMessage::SpinAvailable { sequence } => Raw::of_fields(
+            0x80,
+            &[&sequence.to_le_bytes()],
+        ),
+        SessionMessage::SpinRequest { sequence } => Raw::of_fields(
+            0x81,
+            &[&sequence.to_le_bytes()],
+        ),
+        SessionMessage::SpinReply {
+            sequence,
+            orders,
+            status,
+        } => Raw::of_fields(
+            0x82,
+            &[&sequence.to_le_bytes(), &orders.to_le_bytes(), &[status]],
+        ),
+        SessionMessage::SpinFinished { sequence } => Raw::of_fields(
+            0x83,
+            &[&sequence.to_le_bytes()],
+        ),
     }
 }
