@@ -1,5 +1,5 @@
 -- What a raw says by its row.
-use Rattle.std.proofs.Common.{◌≡◌, ℕ, ◌<◌, ◌≤◌, Bool, cond, List, length, refl, sym, ap, ◌∙◌, arith, subst, Option, None, Some, Ok, Err, slice_index}
+use Rattle.std.proofs.Common.{◌≡◌, ℕ, ◌<◌, ◌≤◌, Bool, cond, List, length, sym, ap, ◌∙◌, arith, subst, Option, None, Some, Ok, Err, slice_index}
 use Rattle.std.specs.Option.{option_map}
 use Rattle.std.proofs.lemmas.Bool.{lt-ltb, le-ltb}
 use Rattle.pitch_messages.specs.Raw.{IsRaw, kind_of}

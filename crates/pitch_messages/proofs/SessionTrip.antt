@@ -1,7 +1,6 @@
 -- What is read of a session message that was written is that message.
 use Rattle.std.proofs.Common.{◌≡◌, ℕ, ◌^◌, ◌<◌, List, length, sym, subst, Ok}
 use Rattle.pitch_messages.specs.Session.{session_reads, session_written}
-use Rattle.pitch_messages.specs.declared.session.SessionMessage.{SessionMessage}
 use Rattle.pitch_messages.specs.declared.session.SessionMessage.TheVariants.{Login, LoginReply, GapRequest, GapReply, SpinAvailable, SpinRequest, SpinReply, SpinFinished}
 use Rattle.pitch_messages.proofs.RoundTrip.{number_back, spelled, all_spelled}
 

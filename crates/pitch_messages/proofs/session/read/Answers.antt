@@ -1,7 +1,6 @@
-use Rattle.std.proofs.Common.{◌≡◌, ◌∙◌, ℕ, length, refl, ap, sym, None, Err, rules}
+use Rattle.std.proofs.Common.{◌≡◌, ◌∙◌, length, refl, ap, None, rules}
 use Rattle.pitch_messages.specs.Raw.{kind_of}
 use Rattle.pitch_messages.specs.Session.{session_reads, session_row_of, login_row, login_reply_row, gap_request_row, gap_reply_row, spin_available_row, spin_request_row, spin_reply_row, spin_finished_row}
-use Rattle.pitch_messages.specs.declared.session.SessionError.TheVariants.{WrongType}
 use Rattle.pitch_messages.proofs.Rows.{enough, session_said, session_unsaid}
 use Rattle.pitch_messages.proofs.session.read.Goals as goal
 
