@@ -1,7 +1,6 @@
 -- Which form of a message the venue writes, where the feed has more than one. The choice is this project's own:
 -- the expanded form where the fields ask for it, else the short form where they fit, else the long form.
 use Rattle.std.specs.Prelude.{ℕ, Bool, nat_le, List, Option, None, Some, if◌then◌else◌}
-use Rattle.std.specs.Option.{option_map}
 use Rattle.pitch_fields.specs.Name.{is_blank, six_of}
 use Rattle.pitch_fields.specs.Price.{short_of}
 use Rattle.pitch_messages.specs.declared.order.Order.{Order}
