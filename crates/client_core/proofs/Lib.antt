@@ -1,4 +1,5 @@
 pub mod Orders
+pub mod Slices
 pub mod KeepingLemmas
 pub mod Answered
 pub mod Tracking
