@@ -6,3 +6,4 @@ pub mod Tracking
 pub mod Honesty
 pub mod Outcomes
 pub mod Asks
+pub mod Still
