@@ -1,5 +1,5 @@
 -- A floor and a ring stand for a hold after each change.
-use Rattle.std.proofs.Common.{◌≡◌, ℕ, zero, suc, ◌+◌, ◌<◌, ◌≤◌, ◌-◌, true, false, List, [], ◌∷◌, length, drop, refl, sym, ap, ◌∙◌, subst, arith, slice_get, Option, Some, None, eqb, ltb, ◌≢◌, filter, inl, inr, IsSome, MatchOption}
+use Rattle.std.proofs.Common.{◌≡◌, ℕ, ◌+◌, ◌<◌, ◌≤◌, ◌-◌, true, false, List, [], ◌∷◌, length, drop, refl, sym, ap, ◌∙◌, subst, arith, slice_get, Option, Some, None, eqb, ltb, ◌≢◌, filter, IsSome, MatchOption}
 use Rattle.std.specs.Ordering.{nat_cmp}
 use Rattle.std.specs.List.{insert}
 use Rattle.std.specs.FinMap as map
@@ -7,13 +7,13 @@ use Rattle.std.specs.Option.{option_eq, option_map}
 use Rattle.std.proofs.lemmas.Bool.{both_ways, false≢true, eqb-true}
 use Rattle.std.proofs.lemmas.Bool.Decides.{nat_tests}
 use Rattle.circular_buffer.specs.Buffer.{Buffer, buffer}
-use Rattle.hold_buffer.specs.HoldView.{HoldView, IsHold}
+use Rattle.hold_buffer.specs.HoldView.{IsHold}
 use Rattle.hold_buffer.specs.Offered.{Answers}
-use Rattle.hold_buffer.specs.Places.{IsKeyAt, IsGap, IsRising, hold_of, IsKept}
-use Rattle.hold_buffer.specs.declared.hold.Offer.TheVariants.{Old, Repeat, Next, Overflowed, Kept}
-use Rattle.hold_buffer.proofs.Viewed.{get_view, len_view}
+use Rattle.hold_buffer.specs.Places.{IsGap, IsRising, hold_of, IsKept}
+use Rattle.hold_buffer.specs.declared.hold.Offer.TheVariants.{Overflowed, Kept}
+use Rattle.hold_buffer.proofs.Viewed.{len_view}
 use Rattle.hold_buffer.proofs.Holds.{hold_next, hold_kept, hold_alone, hold_popped, hold_jumped, contains_empty, get_none}
-use Rattle.hold_buffer.proofs.Rings.{rises_or_stays, found_contains, gap_unheld, insert_gap, sorted_insert, one_sorted, none_sorted, found_at, sorted_filter, sorted_tail, filter_retained, tail_removed}
+use Rattle.hold_buffer.proofs.Rings.{found_contains, gap_unheld, insert_gap, sorted_insert, one_sorted, none_sorted, found_at, sorted_filter, sorted_tail, filter_retained, tail_removed}
 
 -- what a test of the first sequence says
 first_is : (first : Option (ℕ × List ℕ)) (k : ℕ) → option_eq eqb (option_map (λ e. e.0) first) (Some k) ≡ true → (raw : List ℕ) × (first ≡ Some (k, raw))
@@ -66,30 +66,33 @@ module _ (floor : ℕ) (ring : Buffer (ℕ × List ℕ)) (K : IsKept floor ring)
   pub kept_next : (k : ℕ) → k ≡ floor + 1 → map.contains_key (hold_of floor ring).held k ≡ false → IsKept k ring
   kept_next k follows none = record { hold = hold_next (hold_of floor ring) K.hold k follows none; rising = K.rising }
 
-  module _ (after : Buffer (ℕ × List ℕ)) (at k : ℕ) (raw : List ℕ) (gap : IsGap ring.items at k) where
-    inserted_is : after ≡ buffer (insert ring.items at (k, raw)) ring.capacity → hold_of floor after ≡ record (hold_of floor ring) { held = map.insert (hold_of floor ring).held k raw }
-    inserted_is is = ap (hold_of floor) is ∙ ap (λ m. record (hold_of floor ring) { held = m }) (insert_gap ring.items at k raw K.rising gap)
+  -- with one more in its place
+  module _ (after : Buffer (ℕ × List ℕ)) (at k : ℕ) (raw : List ℕ) (gap : IsGap ring.items at k) (is : after ≡ buffer (insert ring.items at (k, raw)) ring.capacity) where
+    inserted_is : hold_of floor after ≡ record (hold_of floor ring) { held = map.insert (hold_of floor ring).held k raw }
+    inserted_is = ap (hold_of floor) is ∙ ap (λ m. record (hold_of floor ring) { held = m }) (insert_gap ring.items at k raw K.rising gap)
 
-    pub kept_inserted : after ≡ buffer (insert ring.items at (k, raw)) ring.capacity → k ≤ 4294967294 → floor < k → length ring.items < ring.capacity → IsKept floor after
-    kept_inserted is fit high room = record {
-      hold = subst IsHold (sym (inserted_is is)) (hold_kept (hold_of floor ring) K.hold k raw fit high (gap_unheld ring.items at k K.rising gap) (let l = len_held in omega arith));
+    pub kept_inserted : k ≤ 4294967294 → floor < k → length ring.items < ring.capacity → IsKept floor after
+    kept_inserted fit high room = record {
+      hold = subst IsHold (sym inserted_is) (hold_kept (hold_of floor ring) K.hold k raw fit high (gap_unheld ring.items at k K.rising gap) (let l = len_held in omega arith));
       rising = subst (λ (b : Buffer (ℕ × List ℕ)). IsRising b.items) (sym is) (sorted_insert ring.items at k raw K.rising gap);
     }
 
-    pub answers_kept : after ≡ buffer (insert ring.items at (k, raw)) ring.capacity → floor + 1 < k → length ring.items < ring.capacity → Answers Kept (hold_of floor ring) k raw (hold_of floor after)
-    answers_kept is high room = (high, gap_unheld ring.items at k K.rising gap, (let l = len_held in omega arith), inserted_is is)
+    pub answers_kept : floor + 1 < k → length ring.items < ring.capacity → Answers Kept (hold_of floor ring) k raw (hold_of floor after)
+    answers_kept high room = (high, gap_unheld ring.items at k K.rising gap, (let l = len_held in omega arith), inserted_is)
 
-    alone_is : after ≡ buffer ((k, raw) ∷ []) ring.capacity → hold_of floor after ≡ record (hold_of floor ring) { held = map.insert map.empty k raw }
-    alone_is is = ap (hold_of floor) is
+  -- with that one alone
+  module _ (after : Buffer (ℕ × List ℕ)) (k : ℕ) (raw : List ℕ) (is : after ≡ buffer ((k, raw) ∷ []) ring.capacity) where
+    alone_is : hold_of floor after ≡ record (hold_of floor ring) { held = map.insert map.empty k raw }
+    alone_is = ap (hold_of floor) is
 
-    pub kept_alone : after ≡ buffer ((k, raw) ∷ []) ring.capacity → k ≤ 4294967294 → floor < k → IsKept floor after
-    kept_alone is fit high = record {
-      hold = subst IsHold (sym (alone_is is)) (hold_alone (hold_of floor ring) K.hold k raw fit high);
+    pub kept_alone : k ≤ 4294967294 → floor < k → IsKept floor after
+    kept_alone fit high = record {
+      hold = subst IsHold (sym alone_is) (hold_alone (hold_of floor ring) K.hold k raw fit high);
       rising = subst (λ (b : Buffer (ℕ × List ℕ)). IsRising b.items) (sym is) (one_sorted k raw);
     }
 
-    pub answers_overflowed : after ≡ buffer ((k, raw) ∷ []) ring.capacity → floor + 1 < k → length ring.items ≡ ring.capacity → Answers Overflowed (hold_of floor ring) k raw (hold_of floor after)
-    answers_overflowed is high full = (high, gap_unheld ring.items at k K.rising gap, len_held ∙ full, alone_is is)
+    pub answers_overflowed : (at : ℕ) → IsGap ring.items at k → floor + 1 < k → length ring.items ≡ ring.capacity → Answers Overflowed (hold_of floor ring) k raw (hold_of floor after)
+    answers_overflowed at gap high full = (high, gap_unheld ring.items at k K.rising gap, len_held ∙ full, alone_is)
 
   -- without the messages through a greater floor
   module _ (after : Buffer (ℕ × List ℕ)) (next : ℕ) (is : after ≡ buffer (filter (λ e. ltb next e.0) ring.items) ring.capacity) where
@@ -114,8 +117,8 @@ module _ (floor : ℕ) (ring : Buffer (ℕ × List ℕ)) (K : IsKept floor ring)
       rising = subst (λ (b : Buffer (ℕ × List ℕ)). IsRising b.items) (sym is) (sorted_tail ring.items K.rising);
     }
 
-    pub popped_held : map.get (hold_of floor ring).held (floor + 1) ≡ Some raw
-    popped_held = subst (λ n. map.get (hold_of floor ring).held n ≡ Some raw) follows (found_at ring.items 0 k raw K.rising at)
+  pub popped_held : (k : ℕ) (raw : List ℕ) → slice_get ring.items 0 ≡ Some (k, raw) → k ≡ floor + 1 → map.get (hold_of floor ring).held (floor + 1) ≡ Some raw
+  popped_held k raw at follows = subst (λ n. map.get (hold_of floor ring).held n ≡ Some raw) follows (found_at ring.items 0 k raw K.rising at)
 
   -- nothing follows the floor where the first message does not
   pub popped_none : ((e : ℕ × List ℕ) → slice_get ring.items 0 ≡ Some e → e.0 - 1 ≢ floor) → map.get (hold_of floor ring).held (floor + 1) ≡ None
@@ -137,5 +140,5 @@ module _ (floor : ℕ) (ring : Buffer (ℕ × List ℕ)) (K : IsKept floor ring)
             found_contains ring.items 0 e.0 K.rising (e.1, at),
             λ k some.
                 let not_less : k < e.0 → ⊥ = λ less. both_ways _ (below_front k (λ f at'. let one : f ≡ e = cc in let same : f.0 ≡ e.0 = ap (λ (p : ℕ × List ℕ). p.0) one in omega arith)) some in
-                omega arith
+                omega arith,
           )

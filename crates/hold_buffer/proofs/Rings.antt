@@ -1,5 +1,5 @@
 -- Entries by rising sequence as a finite map.
-use Rattle.std.proofs.Common.{◌≡◌, ℕ, zero, suc, ◌+◌, ◌<◌, ◌≤◌, Bool, true, false, cond, List, [], ◌∷◌, ◌++◌, length, take, drop, refl, sym, ap, ◌∙◌, subst, arith, Some, None, slice_get, inl, inr, ◌-◌, ltb, filter}
+use Rattle.std.proofs.Common.{◌≡◌, ℕ, zero, suc, ◌+◌, ◌<◌, ◌≤◌, Bool, true, false, cond, List, [], ◌∷◌, length, drop, refl, sym, ap, ◌∙◌, subst, arith, Some, None, slice_get, inl, inr, ◌-◌, ltb, filter}
 use Rattle.std.specs.Ordering.{nat_cmp, eq_by_cmp}
 use Rattle.std.specs.declared.cmp.Ordering.TheVariants.{Less, Equal, Greater}
 use Rattle.std.specs.Cmp.{nat_cmp_total, eq_by_cmp_equiv, nat_cmp_is}
@@ -102,10 +102,10 @@ module _ {X : Type 0} where
   drop_gap es i k sorted gap = drop_through es i k
       (λ j e lt at. let l = gap.1 j e lt at in omega arith)
       (λ j e le at.
-          let within = slice_get_within es j e at in
-          let found = slice_get-some es i (omega arith) in
-          let high = gap.2 found.0 found.1 in
-          let up = rises_or_stays es i j found.0 e sorted le found.1 at in omega arith)
+      let within = slice_get_within es j e at in
+      let found = slice_get-some es i (omega arith) in
+      let high = gap.2 found.0 found.1 in
+      let up = rises_or_stays es i j found.0 e sorted le found.1 at in omega arith)
 
   filter_keys : (p : ℕ → Bool) (es : List (ℕ × X)) → keys_of (filter (λ e. p e.0) es) ≡ filter p (keys_of es)
   filter_keys p [] = refl

@@ -8,7 +8,7 @@ use Rattle.std.specs.Coded.{Coded, code_by, coded×, coded_ℕ, coded_list}
 abbrev pub Held : Type 0
 Held = map.FinMap nat_cmp (List ℕ)
 
--- The floor is the last sequence of the messages that need no holding any more.
+-- Messages above the floor are held; the one that follows it is awaited next.
 pub record HoldView : Type 0 where
   pub floor : ℕ
   pub limit : ℕ

@@ -3,6 +3,7 @@ ghost use Rattle.std.specs.FinMap as map;
 ghost use Rattle.pitch_messages.specs.Raw.{IsRaw};
 ghost use Rattle.hold_buffer.specs.HoldView.{IsHold};
 ghost use Rattle.hold_buffer.specs.Offered.{Answers};
+ghost use Rattle.hold_buffer.specs.Places.{IsRising, hold_of, IsKept};
 
 use crate::ring::{Ring, drop_through, first_sequence, insert_at, place};
 use circular_buffer::HeapCircularBuffer;
@@ -11,24 +12,25 @@ use pitch_messages::Raw;
 use std::alloc::Global;
 use std::marker::Model;
 
-/// What became of a message that was offered.
+/// What became of a message that was offered to a hold: the first of these that applies.
 #[derive(Clone, Copy, Debug, PartialEq, Eq)]
 pub enum Offer {
-    /// It follows the floor, which rose to it; it is not stored.
+    /// Its sequence follows the floor, which rose to it. It is not stored: the caller uses it now.
     Next,
-    /// It is held besides those that were held.
+    /// It is held beside those that were held.
     Kept,
-    /// Its sequence is held already.
+    /// Its sequence is held already, and the hold is as before.
     Repeat,
-    /// Its sequence is at or below the floor.
+    /// Its sequence is at or below the floor, and the hold is as before.
     Old,
-    /// The hold was full: what was held is gone, and this one is held alone.
+    /// The hold was full: all that was held is gone, and this one is held alone.
     Overflowed,
 }
 
-/// The messages above a floor that came too early, at most as many as the limit.
+/// The messages that came too early: above a floor, each sequence once, at most as many as the limit.
 ///
-/// All memory is taken when the hold is made.
+/// The message that follows the floor is the one that is awaited. Sequences are those that the
+/// Sequenced Unit Header counts, from 1 to 4,294,967,294. All memory is taken when the hold is made.
 #[derive(Drop)]
 pub struct Hold {
     floor: u32,
@@ -60,8 +62,8 @@ impl Hold {
         })
     }
 
-    /// Takes a message, unless it is old or a repeat. The caller uses one that is next.
-    #[inline(always)]
+    /// Offers the message of a sequence. One that is next goes through at the cost of a look at the first held one.
+    #[inline]
     pub fn offer(&mut self, sequence: u32, raw: &Raw) -> Offer
         requires { sequence ≤ 4294967294 }
         ensures answer { Answers result self.old sequence raw.now self.new }
@@ -70,7 +72,7 @@ impl Hold {
         self.offer_bytes(sequence, raw.bytes())
     }
 
-    /// Takes the message of these bytes, as `offer` does. Only where it is to be held are they copied.
+    /// Offers the message of these bytes as `offer` does. They are copied only where it is to be held.
     #[inline(always)]
     pub fn offer_bytes(&mut self, sequence: u32, bytes: &[u8]) -> Offer
         requires fits { sequence ≤ 4294967294 }
@@ -88,27 +90,15 @@ impl Hold {
             self.floor = sequence;
             return Offer::Next;
         }
-        match place(&self.ring, sequence) {
-            Ok(_) => Offer::Repeat,
-            Err(at) => {
-                let Some(raw) = Raw::from_bytes(bytes) else {
-                    unreachable!();
-                };
-                if !self.ring.is_full() {
-                    insert_at(&mut self.ring, at, (sequence, raw));
-                    return Offer::Kept;
-                }
-                self.ring.clear();
-                insert_at(&mut self.ring, 0, (sequence, raw));
-                Offer::Overflowed
-            }
-        }
+        store(&mut self.ring, sequence, bytes)
     }
 
-    /// Takes out the message that follows the floor, and raises the floor to it.
+    /// Takes out the message that follows the floor, and raises the floor to it. Where that one is not
+    /// held, the hold is as before.
     pub fn pop_next(&mut self) -> Option<Raw>
         ensures answer { result ≡ map.get self.old.held (self.old.floor + 1) }
-        ensures none { MatchOption result (self.new ≡ self.old) (λ raw. self.new ≡ record self.old { floor = self.old.floor + 1; held = map.remove self.old.held (self.old.floor + 1) }) }
+        ensures none { MatchOption result (self.new ≡ self.old)
+            (λ raw. self.new ≡ record self.old { floor = self.old.floor + 1; held = map.remove self.old.held (self.old.floor + 1) }) }
         ensures kept { IsHold self.new }
         ensures fits { IsSome result → self.new.floor ≤ 4294967294 }
     {
@@ -121,24 +111,27 @@ impl Hold {
         Some(raw)
     }
 
-    /// Raises the floor, and drops the messages at or below it.
+    /// Raises the floor, as after an image through it, and drops the messages at or below it.
     pub fn jump(&mut self, floor: u32)
         requires { self.old.floor ≤ floor }
-        ensures jumped { self.new ≡ record self.old { floor = floor; held = map.retain_keys self.old.held (λ k. nat_lt floor k) } }
+        ensures jumped { self.new ≡
+            record self.old { floor = floor; held = map.retain_keys self.old.held (λ k. nat_lt floor k) } }
         ensures kept { IsHold self.new }
     {
         drop_through(&mut self.ring, floor);
         self.floor = floor;
     }
 
-    /// The least sequence held.
+    /// The least sequence held, if there is one.
     pub fn first(&self) -> Option<u32>
-        ensures { MatchOption result ((k : ℕ) → map.get self.now.held k ≡ None) (λ first. IsSome (map.get self.now.held first) × ((k : ℕ) → IsSome (map.get self.now.held k) → first ≤ k)) }
+        ensures { MatchOption result
+            ((k : ℕ) → map.get self.now.held k ≡ None)
+            (λ first. IsSome (map.get self.now.held first) × ((k : ℕ) → IsSome (map.get self.now.held k) → first ≤ k)) }
     {
         first_sequence(&self.ring)
     }
 
-    /// The sequence that was reached.
+    /// The sequence above which messages are held.
     pub fn floor(&self) -> u32
         ensures floor { result ≡ self.now.floor }
         ensures kept { IsHold self.now }
@@ -164,5 +157,104 @@ impl Hold {
         ensures { result ≡ self.now.limit }
     {
         self.ring.capacity() as u32
+    }
+}
+
+/// Holds a message in its place unless its sequence is held, alone where the ring is full.
+fn store(ring: &mut Ring, sequence: u32, bytes: &[u8]) -> Offer
+    requires fits { sequence ≤ 4294967294 }
+    requires raw { IsRaw bytes.now }
+    requires rising { IsRising ring.old.items }
+    ensures answer { (floor : ℕ) → floor + 1 < sequence → IsKept floor ring.old
+        → Answers result (hold_of floor ring.old) sequence bytes.now (hold_of floor ring.new) }
+    ensures kept { (floor : ℕ) → floor + 1 < sequence → IsKept floor ring.old → IsKept floor ring.new }
+{
+    let Err(at) = place(ring, sequence) else {
+        return Offer::Repeat;
+    };
+    let Some(raw) = Raw::from_bytes(bytes) else {
+        unreachable!();
+    };
+    if ring.len() < ring.capacity() {
+        insert_at(ring, at, (sequence, raw));
+        Offer::Kept
+    } else {
+        ring.clear();
+        ring.push_back((sequence, raw));
+        Offer::Overflowed
+    }
+}
+
+#[cfg(test)]
+mod tests {
+    use super::*;
+    use std::test::Fail;
+
+    /// A call, and what it is to answer; a message's second byte is its sequence.
+    #[derive(Clone, Copy)]
+    enum Step {
+        Offers(u8, Offer),
+        Jumps(u32),
+        Pops(Option<u8>),
+        Holds(u32, Option<u32>),
+    }
+
+    #[test]
+    fn keeps_what_comes_too_early_up_to_the_limit(rt: HostRuntime) -> Result<(), Fail> {
+        use Step::{Holds, Jumps, Offers, Pops};
+        let overflowing = [
+            Holds(0, None),
+            Offers(3, Offer::Kept),
+            Offers(3, Offer::Repeat),
+            Offers(5, Offer::Kept),
+            Offers(7, Offer::Overflowed),
+            Holds(1, Some(7)),
+            Offers(1, Offer::Next),
+            Offers(1, Offer::Old),
+            Jumps(6),
+            Pops(Some(7)),
+            Pops(None),
+            Holds(0, None),
+        ];
+        let out_of_order = [
+            Offers(9, Offer::Kept),
+            Offers(5, Offer::Kept),
+            Offers(7, Offer::Kept),
+            Holds(3, Some(5)),
+            Offers(1, Offer::Next),
+            Jumps(5),
+            Holds(2, Some(7)),
+            Pops(None),
+            Offers(6, Offer::Next),
+            Pops(Some(7)),
+            Pops(None),
+            Holds(1, Some(9)),
+        ];
+        for (limit, steps) in [(2, &overflowing), (3, &out_of_order)] {
+            let mut hold = Hold::make(rt.alloc(), limit)?;
+            assert_eq!(rt; (hold.limit(), hold.floor()), (limit, 0));
+            for step in steps {
+                match *step {
+                    Offers(sequence, answer) => {
+                        let raw = Raw::from_bytes(&[2, sequence]).ok_or("two bytes")?;
+                        assert_eq!(rt; hold.offer(sequence as u32, &raw), answer, "at {sequence}");
+                    }
+                    Jumps(floor) => {
+                        assert!(rt; hold.floor() <= floor);
+                        hold.jump(floor);
+                        assert_eq!(rt; hold.floor(), floor);
+                    }
+                    Pops(sequence) => assert_eq!(rt;
+                        hold.pop_next().map(|raw| raw.kind()),
+                        sequence
+                    ),
+                    Holds(count, first) => {
+                        assert_eq!(rt; (hold.len(), hold.first()), (count, first));
+                        assert_eq!(rt; hold.is_empty(), count == 0);
+                    }
+                }
+            }
+        }
+        Ok(())
     }
 }

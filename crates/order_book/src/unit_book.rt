@@ -1,12 +1,14 @@
 ghost use Rattle.std.specs.Prelude.{◌≡◌, ◌≤◌, ◌<◌, ◌+◌, OnOk, OnErr, IsOk, IsSome, Some, Option};
 ghost use Rattle.pitch_messages.specs.Raw.{IsRaw};
-ghost use Rattle.pitch_model.specs.Book.{reformed, is_displayed};
 ghost use Rattle.std.specs.FinMap as map;
-ghost use Rattle.pitch_model.specs.Book.{empty_book, at_second, cleared, without_order, with_order, added, changed, reduced_by, left_with, modified};
+ghost use Rattle.pitch_model.specs.Book.{empty_book, at_second, cleared, without_order, with_order, added, changed, after_message, after};
+ghost use Rattle.order_book.specs.Changes.{changed_by};
 
+use crate::adding::{is_displayed, order_of_expanded, order_of_long, order_of_short};
+use crate::change::Change;
 use indexmap::IndexMap;
 use pitch_fields::{OutOfMemory, Price};
-use pitch_messages::Order;
+use pitch_messages::{Message, Order, Raw, read_bytes};
 use std::alloc::Global;
 use std::marker::Model;
 
@@ -40,7 +42,7 @@ impl UnitBook {
         }
     }
 
-    pub(crate) fn set_second(&mut self, second: u32)
+    fn set_second(&mut self, second: u32)
         ensures book { self.new.book ≡ at_second self.old.book second }
         ensures spare { self.new.spare ≡ self.old.spare }
     {
@@ -62,14 +64,14 @@ impl UnitBook {
     }
 
     #[tactic(auto, using(crate::proofs::Maps::removes))]
-    pub(crate) fn remove(&mut self, id: u64)
+    fn remove(&mut self, id: u64)
         ensures book { self.new.book ≡ without_order self.old.book id }
         ensures spare { self.old.spare ≤ self.new.spare }
     {
         self.orders.swap_remove(&id);
     }
 
-    pub(crate) fn clear(&mut self)
+    fn clear(&mut self)
         ensures book { self.new.book ≡ cleared self.old.book }
         ensures spare { self.old.spare ≤ self.new.spare }
     {
@@ -94,14 +96,8 @@ impl UnitBook {
 }
 
 impl UnitBook {
-    ghost use Rattle.std.specs.Prelude.{◌≡◌, ◌≤◌, ◌<◌, ◌+◌, OnOk, OnErr, IsOk};
-    ghost use Rattle.std.specs.FinMap as map;
-    ghost use Rattle.std.specs.Prelude.{IsSome, Some};
-    ghost use Rattle.pitch_model.specs.Book.{reformed, with_order, is_displayed};
-    ghost use Rattle.pitch_model.specs.Book.{after};
-
     // Adds an order, unless it has no shares.
-    pub(crate) fn add(&mut self, order: Order) -> Result<(), OutOfMemory>
+    fn add(&mut self, order: Order) -> Result<(), OutOfMemory>
         ensures ok { OnOk result (self.new.book ≡ added self.old.book order) }
         ensures err { OnErr result (self.new.book ≡ self.old.book) }
         ensures succeeds { 1 ≤ self.old.spare → IsOk result }
@@ -111,79 +107,6 @@ impl UnitBook {
             return Ok(());
         }
         self.insert(order)
-    }
-
-    // Puts an order in the place of the one that is open under its id.
-    #[tactic(auto, using(crate::proofs::Maps::inserts))]
-    fn replace(&mut self, id: u64, order: Order)
-        requires { IsSome (map.get self.old.book.orders id) }
-        ensures book { self.new.book ≡ with_order self.old.book id order }
-        ensures spare { self.old.spare ≤ self.new.spare + 1 }
-    {
-        match self.orders.insert(id, order) {
-            Ok(_) => {}
-            Err(_) => unreachable!(),
-        }
-    }
-
-    // Puts an order in the place of the one that is open under its id, or takes that out where it has no shares.
-    fn reform(&mut self, id: u64, order: Order)
-        requires { IsSome (map.get self.old.book.orders id) }
-        ensures book { self.new.book ≡ reformed self.old.book id (Some order) }
-        ensures spare { self.old.spare ≤ self.new.spare + 1 }
-    {
-        if order.quantity == 0 {
-            self.remove(id);
-        } else {
-            self.replace(id, order);
-        }
-    }
-
-    // Takes shares from an open order.
-    pub(crate) fn reduce(&mut self, id: u64, quantity: u32)
-        ensures book { self.new.book ≡ changed self.old.book id (reduced_by quantity) }
-        ensures spare { self.old.spare ≤ self.new.spare + 1 }
-    {
-        if let Some(open) = self.order(id) {
-            let left = open.quantity.saturating_sub(quantity);
-            self.reform(
-                id,
-                Order {
-                    quantity: left,
-                    ..open
-                },
-            );
-        }
-    }
-
-    // Leaves so many shares of an open order.
-    pub(crate) fn leave(&mut self, id: u64, quantity: u32)
-        ensures book { self.new.book ≡ changed self.old.book id (left_with quantity) }
-        ensures spare { self.old.spare ≤ self.new.spare + 1 }
-    {
-        if let Some(open) = self.order(id) {
-            self.reform(id, Order { quantity, ..open });
-        }
-    }
-
-    // Gives an open order another quantity, price and display.
-    pub(crate) fn modify(&mut self, id: u64, quantity: u32, price: u64, flags: u8)
-        ensures book { self.new.book ≡ changed self.old.book id (modified quantity price (is_displayed flags)) }
-        ensures spare { self.old.spare ≤ self.new.spare + 1 }
-    {
-        if let Some(open) = self.order(id) {
-            let price = Price::from_long(price);
-            let display = flags & 1 == 1;
-            self.reform(
-                id,
-                Order {
-                    quantity,
-                    price,
-                    display,
-                    ..open
-                },
-            );
-        }
     }
 
     /// Makes room for more orders: the spare is then at least so many. The book is the same in either case.
@@ -203,5 +126,150 @@ impl UnitBook {
         ensures { result ≡ self.now.book.second }
     {
         self.second
+    }
+
+    // Changes the order of an id, and removes it where it has no shares left.
+    fn change(&mut self, id: u64, change: Change)
+        ensures book { self.new.book ≡ changed self.old.book id (changed_by change) }
+        ensures spare { self.old.spare ≤ self.new.spare }
+    {
+        let Some((index, _, order)) = self.orders.get_full(&id) else {
+            return;
+        };
+        let order = change.of(*order);
+        if order.quantity == 0 {
+            self.orders.swap_remove_index(index);
+            return;
+        }
+        let (_, place) = self.orders.pair_mut(index);
+        *place = order;
+    }
+
+    // Does what a message says.
+    fn apply_message(&mut self, message: &Message) -> Result<(), OutOfMemory>
+        requires few { map.len self.old.book.orders < 4294967295 }
+        ensures ok { OnOk result (self.new.book ≡ after_message self.old.book message.now) }
+        ensures err { OnErr result (self.new.book ≡ self.old.book) }
+        ensures succeeds { 1 ≤ self.old.spare → IsOk result }
+        ensures spare { self.old.spare ≤ self.new.spare + 1 }
+    {
+        match *message {
+            Message::AddLong {
+                id,
+                side,
+                quantity,
+                symbol,
+                price,
+                flags,
+                ..
+            } => {
+                return self.add(order_of_long(id, side, quantity, symbol, price, flags));
+            }
+            Message::AddShort {
+                id,
+                side,
+                quantity,
+                symbol,
+                price,
+                flags,
+                ..
+            } => {
+                return self.add(order_of_short(id, side, quantity, symbol, price, flags));
+            }
+            Message::AddExpanded {
+                id,
+                side,
+                quantity,
+                symbol,
+                price,
+                flags,
+                participant,
+                ..
+            } => {
+                return self.add(order_of_expanded(
+                    id,
+                    side,
+                    quantity,
+                    symbol,
+                    price,
+                    flags,
+                    participant,
+                ));
+            }
+            Message::Time { second } => self.set_second(second),
+            Message::UnitClear { .. } => self.clear(),
+            Message::Executed { id, executed, .. } => self.change(id, Change::Reduced(executed)),
+            Message::ExecutedAt { id, remaining, .. } => self.change(id, Change::Left(remaining)),
+            Message::ReduceLong { id, quantity, .. } => self.change(id, Change::Reduced(quantity)),
+            Message::ReduceShort { id, quantity, .. } => {
+                self.change(id, Change::Reduced(u32::from(quantity)))
+            }
+            Message::ModifyLong {
+                id,
+                quantity,
+                price,
+                flags,
+                ..
+            } => self.change(
+                id,
+                Change::Modified {
+                    quantity,
+                    price: Price::from_long(price),
+                    display: is_displayed(flags),
+                },
+            ),
+            Message::ModifyShort {
+                id,
+                quantity,
+                price,
+                flags,
+                ..
+            } => self.change(
+                id,
+                Change::Modified {
+                    quantity: u32::from(quantity),
+                    price: Price::from_short(price),
+                    display: is_displayed(flags),
+                },
+            ),
+            Message::Delete { id, .. } => self.remove(id),
+            Message::TradeLong { .. }
+            | Message::TradeShort { .. }
+            | Message::TradeExpanded { .. }
+            | Message::TradeBreak { .. }
+            | Message::EndOfSession { .. }
+            | Message::Other(_) => {}
+        }
+        Ok(())
+    }
+
+    /// Does what a raw message says, given its bytes. A known type that is too short or names no side, and a type
+    /// that is no book message, change nothing.
+    ///
+    /// The book is as before after OutOfMemory, which never comes where the spare is at least 1.
+    #[tactic(auto, unfolding(pitch_model::specs::Book::after))]
+    pub fn apply_bytes(&mut self, raw: &[u8]) -> Result<(), OutOfMemory>
+        requires raw { IsRaw raw.now }
+        requires few { map.len self.old.book.orders < 4294967295 }
+        ensures ok { OnOk result (self.new.book ≡ after self.old.book raw.now) }
+        ensures err { OnErr result (self.new.book ≡ self.old.book) }
+        ensures succeeds { 1 ≤ self.old.spare → IsOk result }
+        ensures spare { self.old.spare ≤ self.new.spare + 1 }
+    {
+        match read_bytes(raw) {
+            Ok(message) => self.apply_message(&message),
+            Err(_) => Ok(()),
+        }
+    }
+
+    /// Does what a raw message says, as `apply_bytes` does.
+    pub fn apply(&mut self, raw: &Raw) -> Result<(), OutOfMemory>
+        requires few { map.len self.old.book.orders < 4294967295 }
+        ensures ok { OnOk result (self.new.book ≡ after self.old.book raw.now) }
+        ensures err { OnErr result (self.new.book ≡ self.old.book) }
+        ensures succeeds { 1 ≤ self.old.spare → IsOk result }
+        ensures spare { self.old.spare ≤ self.new.spare + 1 }
+    {
+        self.apply_bytes(raw.bytes())
     }
 }

@@ -3,7 +3,7 @@ use Rattle.std.proofs.Common.{◌≡◌, ℕ, zero, suc, ◌+◌, ◌*◌, ◌/�
 use Rattle.std.proofs.Math.Nat.{div-div-eq-div-mul, pow-succ'}
 use Rattle.std.proofs.lemmas.List.{append_assoc, drop_at, length-take-le}
 use Rattle.std.specs.Int.{byte_at, bytes_low_first}
-use Rattle.byteorder.specs.Endian.{little_bytes, little_from, little_number}
+use Rattle.byteorder.specs.Endian.{little_bytes, little_number}
 use Rattle.byteorder.specs.Numbers.{little_from-cons, little_number-reads_back}
 use Rattle.pitch_fields.specs.Fields.{number_at, put_at}
 

@@ -1,5 +1,5 @@
 -- Symbols and participants: bytes of a fixed number, with spaces at their end.
--- Standard: "Cboe US Equities Multicast PITCH specification", "Data Types": Printable ASCII.
+-- Standard: "Cboe US Equities Multicast PITCH specification", "Data Types".
 use Rattle.std.specs.Prelude.{ℕ, ◌+◌, ◌/◌, ◌%◌, Bool, not, ◌==◌, ◌&&◌, nat_lt, nat_le, List, [], ◌∷◌, take, drop, Option, None, Some, codes, if◌then◌else◌}
 use Rattle.std.specs.List.{flat_map, list_all}
 

@@ -2,6 +2,7 @@ use crate::{
     OutOfMemory, Price, Side, Symbol, get_u16, get_u32, get_u64, name_text, number_text,
     price_text, put_u16, put_u32, put_u64,
 };
+use std::alloc::AllocError;
 
 #[test]
 fn fields_of_bytes_are_little_endian(rt: HostRuntime) {
@@ -87,12 +88,11 @@ fn prices_symbols_and_sides(rt: HostRuntime) {
 
 #[test]
 fn shown_by_display(rt: HostRuntime) {
-    let text = format!(in rt.alloc();
-        "{} {} {}",
-        OutOfMemory,
-        Price::from_long(6_553_500),
-        Side::Buy
-    )
-    .expect(&rt, "memory");
-    assert_eq!(rt; text.as_str(), "out of memory 655.3500 B");
+    let symbol = Symbol::from_six(*b"IB\\M  ");
+    let price = Price::from_long(6_553_500);
+    let memory = OutOfMemory::from(AllocError);
+    let text = format!(in rt.alloc(); "{memory}; {} {symbol} {price}", Side::Buy).expect(
+        &rt, "memory",
+    );
+    assert_eq!(rt; text.as_str(), "out of memory; B IB\\x5cM 655.3500");
 }

@@ -1,10 +1,10 @@
 -- Every book has orders with shares, each under its id, and no more of them than there were messages.
-use Rattle.std.proofs.Common.{◌≡◌, ◌≢◌, ℕ, zero, suc, ◌+◌, ◌-◌, ◌≤◌, ◌<◌, Bool, true, false, cond, List, [], ◌∷◌, length, eqb, fold, refl, sym, ap, ◌∙◌, subst, inl, inr, arith, Option, Some, None, Result, Ok, Err, ◌==◌}
+use Rattle.std.proofs.Common.{◌≡◌, ℕ, ◌+◌, ◌-◌, ◌≤◌, ◌<◌, Bool, true, false, cond, List, [], ◌∷◌, length, eqb, fold, refl, sym, ap, ◌∙◌, subst, arith, Option, Some, None, Result, Ok, Err, ◌==◌}
 use Rattle.std.specs.Option.{option_map, is_some}
 use Rattle.std.specs.Ordering.{nat_cmp, eq_by_cmp, is_eq}
 use Rattle.std.specs.FinMap as map
 use Rattle.std.proofs.lemmas.Cmp.{nat_cmp_total}
-use Rattle.std.proofs.lemmas.Bool.{cond_both, eqb-true, cond-true, both_ways, eq-eqb, cases_lt}
+use Rattle.std.proofs.lemmas.Bool.{cond_both, eqb-true, cond-true}
 use Rattle.std.proofs.lemmas.Bool.Decides.{nat_tests}
 use Rattle.pitch_messages.specs.declared.order.Order.{Order}
 use Rattle.pitch_messages.specs.declared.message.Message.{Message}
@@ -12,7 +12,7 @@ use Rattle.pitch_messages.specs.declared.message.Message.TheVariants.{Time, AddL
 use Rattle.pitch_messages.specs.declared.message.ReadError.{ReadError}
 use Rattle.pitch_messages.specs.Reading.{reads}
 use Rattle.pitch_model.specs.History.{Raw}
-use Rattle.pitch_model.specs.Book.{Book, IsBook, empty_book, at_second, cleared, without_order, with_order, added, reformed, changed, reduced_by, left_with, modified, is_displayed, long_symbol, long_price, no_participant, after_message, after_read, after, book_after}
+use Rattle.pitch_model.specs.Book.{Book, IsBook, empty_book, at_second, cleared, without_order, with_order, added, reformed, changed, reduced_by, left_with, modified, is_displayed, long_price, after_message, after_read, after, book_after}
 
 same_test : (q x : ℕ) → is_eq (nat_cmp q x) ≡ eqb q x
 same_test q x = grind (arith, nat_tests)

@@ -1,5 +1,5 @@
 -- The text of a stream, one block after another.
-use Rattle.std.proofs.Common.{◌≡◌, ◌≢◌, ℕ, zero, suc, ◌+◌, ◌≤◌, ◌<◌, Bool, true, false, ◌||◌, ◌==◌, cond, List, [], ◌∷◌, ◌++◌, length, reverse, eqb, ltb, refl, sym, ap, ◌∙◌, subst, inl, inr, arith, append_assoc, nat_lt, nat_eq}
+use Rattle.std.proofs.Common.{◌≡◌, ◌≢◌, ℕ, Bool, true, false, ◌||◌, ◌==◌, cond, List, [], ◌∷◌, ◌++◌, reverse, eqb, ltb, refl, sym, ap, ◌∙◌, subst, inl, inr, arith, append_assoc}
 use Rattle.std.specs.List.{list_any, AllByRecursion}
 use Rattle.std.specs.List.Sorted.{IsStrictlyIncreasing, IsStrictlySortedBy}
 use Rattle.std.proofs.lemmas.Map.Keys.{IsStrictlyIncreasing-from_sorted}
@@ -12,9 +12,9 @@ use Rattle.std.proofs.lemmas.Bool.{cond_both, cond-true, cond-false, eqb-true, e
 use Rattle.std.proofs.lemmas.Bool.Decides.{nat_tests}
 use Rattle.unit_packets.specs.Blocks.{Block}
 use Rattle.pitch_model.specs.History.{Entry, Raw}
-use Rattle.pitch_model.specs.Heard.{heard_block, heard_sequenced, heard_messages}
+use Rattle.pitch_model.specs.Heard.{heard_block, heard_sequenced}
 use Rattle.pitch_model.specs.Honest.{Honest}
-use Rattle.pitch_model.specs.Follow.{unit_history, line_after, line_at, lines_after, with_number, units_of, AllHonest, follow_text, books_of}
+use Rattle.pitch_model.specs.Follow.{unit_history, line_after, lines_after, with_number, units_of, AllHonest}
 use Rattle.pitch_model.proofs.Honesty.{honest_before}
 
 -- ---- Lines

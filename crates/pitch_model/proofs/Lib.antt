@@ -14,3 +14,4 @@ pub mod Folding
 pub mod Books
 pub mod Following
 pub mod Prices
+pub mod Images

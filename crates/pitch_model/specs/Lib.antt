@@ -1,5 +1,6 @@
 pub mod Book
 pub mod Levels
+pub mod Image
 pub mod History
 pub mod Reach
 pub mod Settling

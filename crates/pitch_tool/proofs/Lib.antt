@@ -1,2 +1,4 @@
 pub mod Flow
+pub mod Hearing
 pub mod Pieces
+pub mod Printing

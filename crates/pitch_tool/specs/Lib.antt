@@ -1,4 +1,5 @@
 pub mod Lines
 pub mod Page
 pub mod Putting
+pub mod Stands
 pub mod Statuses

@@ -1,13 +1,15 @@
 -- Text that is to be written.
-use Rattle.std.specs.Prelude.{◌≡◌, ℕ, List, ◌++◌, Option, Some, None, refl}
+use Rattle.std.specs.Prelude.{◌≡◌, ℕ, ◌≤◌, List, ◌++◌, length, take, drop, Option}
+use Rattle.pitch_io.specs.Putting.{Grows}
 
 -- the text so far, and how many bytes the page has place for
 pub record Page : Type 0 where
   pub text : List ℕ
   pub size : ℕ
 
--- what was written to a sink, and what is still to be written after it, grow by a text, where the sink tells what was written
-abbrev pub Prints : Option (List ℕ) → List ℕ → Option (List ℕ) → List ℕ → List ℕ → Type 0
-Prints old before None after text = Unit {0}
-Prints None before (Some ys) after text = ⊥
-Prints (Some xs) before (Some ys) after text = ys ++ after ≡ (xs ++ before) ++ text
+-- the page and a text, one after the other: some front of both was written, and the rest stands on the page
+pub record Prints (old : Option (List ℕ)) (before : List ℕ) (new : Option (List ℕ)) (after text : List ℕ) : Type 0 where
+  pub count : ℕ
+  pub within : count ≤ length (before ++ text)
+  pub written : Grows old new (take count (before ++ text))
+  pub rest : after ≡ drop count (before ++ text)

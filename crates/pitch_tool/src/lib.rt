@@ -5,5 +5,6 @@ mod ends;
 mod lines;
 mod page;
 mod status;
+mod units;
 
 pub use crate::status::ExitStatus;

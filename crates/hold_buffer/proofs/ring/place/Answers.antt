@@ -1,4 +1,4 @@
-use Rattle.std.proofs.Common.{◌≡◌, ℕ, ◌<◌, ◌-◌, List, length, slice_get, Some, arith, ap, ◌∙◌, sym, subst}
+use Rattle.std.proofs.Common.{◌≡◌, ℕ, List, arith, ap, sym, subst}
 use Rattle.hold_buffer.specs.Places.{IsGap}
 use Rattle.hold_buffer.proofs.Rings.{back_gap}
 use Rattle.hold_buffer.proofs.ring.place.Goals as goal

@@ -1,4 +1,4 @@
-use Rattle.std.proofs.Common.{◌≡◌, ℕ, ◌<◌, ◌≤◌, ◌+◌, ◌-◌, ◌/◌, List, length, slice_get, Some, arith, ap, ◌∙◌, sym, subst}
+use Rattle.std.proofs.Common.{◌≡◌, ℕ, ◌+◌, ◌-◌, ◌/◌, slice_get, Some, arith, ap, ◌∙◌, sym}
 use Rattle.std.proofs.lemmas.Option.{slice_get_within}
 use Rattle.hold_buffer.proofs.Rings.{rises_or_stays, below, above, same}
 use Rattle.hold_buffer.proofs.ring.search.Goals as goal

@@ -1,4 +1,4 @@
-use Rattle.std.proofs.Common.{◌≡◌, ℕ, ltb, subst}
+use Rattle.std.proofs.Common.{◌≡◌, ltb, subst}
 use Rattle.std.specs.FinMap as map
 use Rattle.hold_buffer.specs.HoldView.{HoldView}
 use Rattle.hold_buffer.specs.Places.{hold_of}

@@ -1,4 +1,4 @@
-use Rattle.std.proofs.Common.{◌≡◌, ◌≢◌, ℕ, ◌+◌, ◌-◌, ◌<◌, List, arith, sym, ap, ◌∙◌, subst, Some, None, slice_get}
+use Rattle.std.proofs.Common.{◌≡◌, ◌≢◌, ℕ, ◌+◌, ◌-◌, List, arith, sym, ap, ◌∙◌, subst, Some, None, slice_get}
 use Rattle.std.specs.FinMap as map
 use Rattle.hold_buffer.specs.HoldView.{HoldView}
 use Rattle.hold_buffer.specs.Places.{hold_of}
@@ -26,8 +26,8 @@ returns-then-first-self-clause-answer c =
     let found = front_from_sequence (slice_get c.self.inside.ring.items 0) c.in_ok-first.first c.in_ok-first.ensures in
     subst (λ (h : HoldView). None ≡ map.get h.held (h.floor + 1)) c.self.view_is
     (sym (popped_none c.self.inside.floor c.self.inside.ring c.self.invariant (λ e at.
-        let one : e ≡ (c.in_ok-first.first, found.0) = cc (found.1, at) in
-        subst (λ (p : ℕ × List ℕ). p.0 - 1 ≢ c.self.inside.floor) (sym one) c.if-first-self.true)))
+    let one : e ≡ (c.in_ok-first.first, found.0) = cc (found.1, at) in
+    subst (λ (p : ℕ × List ℕ). p.0 - 1 ≢ c.self.inside.floor) (sym one) c.if-first-self.true)))
 
 -- it does, and is taken out
 taken_at : (c : goal.After-self-1) → slice_get c.self.inside.ring.items 0 ≡ Some (c.in_ok-first.first, c.in_ok-raw.raw)
@@ -45,7 +45,7 @@ invariant_of-self-2 c = kept_popped c.self.inside.floor c.self.inside.ring c.sel
 pub returns-clause-answer : goal.returns-clause-answer
 returns-clause-answer c =
     subst (λ (h : HoldView). Some c.in_ok-raw.raw ≡ map.get h.held (h.floor + 1)) c.self.view_is
-    (sym (popped_held c.self.inside.floor c.self.inside.ring c.self.invariant c.pop_front.new.self c.in_ok-first.first c.in_ok-raw.raw c.in_ok-raw.ensures.items (taken_at c) (follows c)))
+    (sym (popped_held c.self.inside.floor c.self.inside.ring c.self.invariant c.in_ok-first.first c.in_ok-raw.raw (taken_at c) (follows c)))
 
 pub returns-clause-none : goal.returns-clause-none
 returns-clause-none c =

@@ -1,0 +1,38 @@
+use Rattle.std.proofs.Common.{◌≡◌, ℕ, Option, Some, None, nat_eq, sym, ap, subst, ◌∙◌}
+use Rattle.std.specs.Option.{IfSome}
+use Rattle.std.specs.Cmp.{nat_eq_equiv}
+use Rattle.pitch_messages.specs.declared.order.Order.{Order}
+use Rattle.pitch_model.specs.Book.{Book, changed}
+use Rattle.indexmap.specs.IndexMap.{Updates, set_value_at}
+use Rattle.indexmap.proofs.CallerLemmas.{updates-with_value_at}
+use Rattle.order_book.specs.Standing.{Standing}
+use Rattle.order_book.specs.Changes.{changed_by}
+use Rattle.order_book.proofs.Changing.{book_of, nothing_changed, rewritten, taken_out}
+use Rattle.order_book.proofs.unit_book.UnitBook.change.Goals as goal
+
+pub returns-in_default-clause-book : goal.returns-in_default-clause-book
+returns-in_default-clause-book c =
+    let old = ap (λ (s : Standing). s.book) c.self.view_is in
+    subst (λ (b : Book). b ≡ changed b c.args.id (changed_by c.args.change)) old
+    (nothing_changed c.self.inside.second c.self.inside.orders.entries c.args.id (changed_by c.args.change) (sym c.in_default.ensures.value))
+
+pub returns-then-order-eq0-clause-book : goal.returns-then-order-eq0-clause-book
+returns-then-order-eq0-clause-book c =
+    let old = ap (λ (s : Standing). s.book) c.self.view_is in
+    let removed = c.swap_remove_index.ensures in
+    let updates = subst (λ (r : Option (ℕ × Order)). IfSome r (λ p. Updates nat_eq c.self.inside.orders c.swap_remove_index.new.self p.0 None)) (removed.entry ∙ c.in-Some.ensures.entry) removed.updates in
+    subst (λ (b : Book). book_of c.self.inside.second c.swap_remove_index.new.self.entries ≡ changed b c.args.id (changed_by c.args.change)) old
+    (taken_out c.self.inside.second c.self.inside.orders.entries c.args.id (changed_by c.args.change) c.swap_remove_index.new.self.entries
+    c.in-Some.field-0-1.now c.in-Some.order.now c.of-order.result (sym c.in-Some.ensures.value) (sym c.in-Some.ensures.key) c.of-order.ensures
+    c.if-order-eq0.true updates.0)
+
+pub returns-clause-book : goal.returns-clause-book
+returns-clause-book c =
+    let old = ap (λ (s : Standing). s.book) c.self.view_is in
+    let place = c.pair_mut-place.ensures in
+    let written = set_value_at c.self.inside.orders.entries c.in-Some.index c.of-order.result in
+    let updates = updates-with_value_at c.self.inside.orders c.in-Some.index c.of-order.result nat_eq_equiv place.unique c.in-Some.field-0-1.now c.in-Some.order.now c.in-Some.ensures.entry in
+    subst (λ (b : Book). book_of c.self.inside.second written ≡ changed b c.args.id (changed_by c.args.change)) old
+    (rewritten c.self.inside.second c.self.inside.orders.entries c.args.id (changed_by c.args.change) written
+    c.in-Some.field-0-1.now c.in-Some.order.now c.of-order.result (sym c.in-Some.ensures.value) (sym c.in-Some.ensures.key) c.of-order.ensures
+    c.if-order-eq0.false updates.0)

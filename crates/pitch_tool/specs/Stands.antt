@@ -1,0 +1,30 @@
+-- What the clients of all units stand for, once some blocks were heard. Blocks stand newest first.
+use Rattle.std.specs.Prelude.{◌≡◌, ◌≢◌, ℕ, ◌<◌, Bool, true, false, ◌==◌, List, length, Option, Some, None, slice_get}
+use Rattle.std.specs.List.{list_any}
+use Rattle.unit_packets.specs.Blocks.{Block}
+use Rattle.pitch_model.specs.History.{Raw}
+use Rattle.pitch_model.specs.Follow.{unit_history}
+use Rattle.client_core.specs.Tracks.{Tracks, Keeps}
+use Rattle.client_core.specs.declared.client.UnitClient.{UnitClient}
+
+-- a block names the unit
+abbrev pub is_named : List Block → ℕ → Bool
+is_named before unit = list_any (λ block. unit == block.unit) before
+
+-- a unit has a client exactly where a block names it, and the client is where the unit's blocks bring it
+abbrev pub IsClient : ℕ → List Block → ℕ → Option UnitClient → Type 0
+IsClient H before unit None = is_named before unit ≡ false
+IsClient H before unit (Some client) = (is_named before unit ≡ true) × Tracks client H (unit_history unit before)
+
+-- each of the 256 units has its place
+pub record Clients (H : ℕ) (clients : List (Option UnitClient)) (before : List Block) : Type 0 where
+  pub many : length clients ≡ 256
+  pub each : (unit : ℕ) (client : Option UnitClient) → slice_get clients unit ≡ Some client → IsClient H before unit client
+
+-- a unit's client, where it has one, keeps to its venue's messages
+abbrev pub KeepsTo : List Raw → Option UnitClient → Type 0
+KeepsTo V None = Unit {0}
+KeepsTo V (Some client) = Keeps client V
+
+abbrev pub AllKeep : (ℕ → List Raw) → List (Option UnitClient) → Type 0
+AllKeep Vs clients = (unit : ℕ) (client : Option UnitClient) → slice_get clients unit ≡ Some client → KeepsTo (Vs unit) client
