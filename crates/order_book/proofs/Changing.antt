@@ -7,10 +7,8 @@ use Rattle.std.proofs.lemmas.Bool.Decides.{Decides-eqb, nat_tests}
 use Rattle.std.proofs.lemmas.Map.Made.{lookup_key_same}
 use Rattle.pitch_messages.specs.declared.order.Order.{Order}
 use Rattle.pitch_model.specs.Book.{Book, changed, reformed, with_order, without_order}
+use Rattle.order_book.specs.Standing.{book_of}
 use Rattle.order_book.proofs.Maps.{inserts, removes, looks}
-
-abbrev pub book_of : Option ℕ → List (ℕ × Order) → Book
-book_of second es = record { second = second; orders = from_entries es }
 
 none_left : (n m : ℕ) → n ≡ m → n ≡ 0 → (m == 0) ≡ true
 none_left n m e z = grind (arith, nat_tests, e, z)

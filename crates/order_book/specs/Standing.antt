@@ -1,17 +1,33 @@
 -- What the book of a unit stands for.
-use Rattle.std.specs.Prelude.{◌≡◌, ℕ, Bool, true, false, cond, List, Option, refl}
+use Rattle.std.specs.Prelude.{◌≡◌, ◌≤◌, ℕ, Bool, true, false, cond, List, Option, length, nat_eq, refl}
+use Rattle.std.specs.List.{IsDistinct}
+use Rattle.std.specs.Map.{keys_of}
 use Rattle.std.specs.Ordering.{nat_cmp}
 use Rattle.std.specs.FinMap as map
 use Rattle.std.specs.Coded.{Coded, code_by, coded×, coded_ℕ, coded_bool, coded_list, coded_option}
 use Rattle.pitch_fields.specs.declared.side.Side.{Side}
 use Rattle.pitch_fields.specs.declared.side.Side.TheVariants.{Buy, Sell}
 use Rattle.pitch_messages.specs.declared.order.Order.{Order}
-use Rattle.pitch_model.specs.Book.{Book}
+use Rattle.pitch_model.specs.Book.{Book, IsBook}
+
+-- the most orders that a book may have
+abbrev pub most_orders : ℕ
+most_orders = 4294967295
 
 -- the book, and how many new orders need no memory
 pub record Standing : Type 0 where
   pub book : Book
   pub spare : ℕ
+
+-- the book of a second and of a list of entries
+abbrev pub book_of : Option ℕ → List (ℕ × Order) → Book
+book_of second entries = record { second = second; orders = map.from_entries entries }
+
+-- what holds of every book that is kept: its orders stand under their ids and have shares, no id stands twice, and there are not too many
+pub record IsKept (second : Option ℕ) (entries : List (ℕ × Order)) : Type 0 where
+  pub book : IsBook (book_of second entries)
+  pub unique : IsDistinct nat_eq (keys_of entries)
+  pub few : length entries ≤ most_orders
 
 -- ---- Codes: each value as pairs, lists and numbers
 abbrev pub is_buy : Side → Bool

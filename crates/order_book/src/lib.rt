@@ -3,8 +3,11 @@
 
 mod adding;
 mod change;
+mod order_list;
 #[cfg(test)]
 mod tests;
+mod totals;
 mod unit_book;
 
+pub use crate::order_list::OrderList;
 pub use crate::unit_book::UnitBook;

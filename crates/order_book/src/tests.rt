@@ -38,6 +38,6 @@ fn messages_change_a_book(rt: HostRuntime) {
             order.display,
         ));
         assert!(rt; got == want, "row");
-        assert!(rt; book.len() as u32 == len);
+        assert!(rt; book.len() == len);
     }
 }

@@ -1,13 +1,18 @@
-ghost use Rattle.std.specs.Prelude.{◌≡◌, ◌≤◌, ◌<◌, ◌+◌, OnOk, OnErr, IsOk, IsSome, Some, Option};
+ghost use Rattle.std.specs.Prelude.{◌≡◌, ◌≤◌, ◌<◌, ◌+◌, ◌++◌, [], IfOk, IfSome, IfNone, OnOk, OnErr, IsOk, IsSome, Some, Option};
 ghost use Rattle.pitch_messages.specs.Raw.{IsRaw};
 ghost use Rattle.std.specs.FinMap as map;
 ghost use Rattle.pitch_model.specs.Book.{empty_book, at_second, cleared, without_order, with_order, added, changed, after_message, after};
+ghost use Rattle.pitch_model.specs.Levels.{orders_of, orders_on, shares, level, best};
 ghost use Rattle.order_book.specs.Changes.{changed_by};
+ghost use Rattle.order_book.specs.Standing.{most_orders};
+ghost use Rattle.order_book.specs.Totals.{IsBestPrice};
 
 use crate::adding::{is_displayed, order_of_expanded, order_of_long, order_of_short};
 use crate::change::Change;
+use crate::order_list::OrderList;
+use crate::totals::{all_shares, best_price, shares_at};
 use indexmap::IndexMap;
-use pitch_fields::{OutOfMemory, Price};
+use pitch_fields::{OutOfMemory, Price, Side, Symbol};
 use pitch_messages::{Message, Order, Raw, read_bytes};
 use std::alloc::Global;
 use std::marker::Model;
@@ -20,15 +25,17 @@ pub struct UnitBook {
 }
 
 impl Model for UnitBook {
-    ghost use Rattle.std.specs.FinMap.{from_entries};
+    ghost use Rattle.std.specs.Prelude.{◌-◌, min, length};
     ghost use Rattle.indexmap.specs.IndexMap.{spare};
-    ghost use Rattle.order_book.specs.Standing.{Standing, standing_code};
+    ghost use Rattle.order_book.specs.Standing.{Standing, standing_code, book_of, most_orders, IsKept};
 
     ghost Value = { Standing };
 
     ghost coded = { standing_code };
 
-    ghost view = { λ b. record { book = record { second = b.second; orders = from_entries b.orders.entries }; spare = spare b.orders } };
+    ghost view = { λ b. record { book = book_of b.second b.orders.entries; spare = min (spare b.orders) (most_orders - length b.orders.entries) } };
+
+    ghost invariant = { λ b. IsKept b.second b.orders.entries };
 }
 
 impl UnitBook {
@@ -52,15 +59,15 @@ impl UnitBook {
     // Puts an order under its id.
     #[tactic(auto, using(crate::proofs::Maps::inserts))]
     fn insert(&mut self, order: Order) -> Result<(), OutOfMemory>
+        requires filled { 0 < order.quantity }
+        requires few { map.len self.old.book.orders < most_orders }
         ensures ok { OnOk result (self.new.book ≡ with_order self.old.book order.id order) }
         ensures err { OnErr result (self.new.book ≡ self.old.book) }
         ensures succeeds { 1 ≤ self.old.spare → IsOk result }
         ensures spare { self.old.spare ≤ self.new.spare + 1 }
     {
-        match self.orders.insert(order.id, order) {
-            Ok(_) => Ok(()),
-            Err(_) => Err(OutOfMemory),
-        }
+        self.orders.insert(order.id, order)?;
+        Ok(())
     }
 
     #[tactic(auto, using(crate::proofs::Maps::removes))]
@@ -80,10 +87,19 @@ impl UnitBook {
 
     /// How many orders are open.
     #[tactic(auto, using(crate::proofs::Maps::lens))]
-    pub fn len(&self) -> usize
+    pub fn len(&self) -> u32
         ensures { result ≡ map.len self.now.book.orders }
     {
-        self.orders.len()
+        self.orders.len() as u32
+    }
+
+    /// How many new orders need no memory: with the open orders at most 4,294,967,295.
+    pub fn spare(&self) -> u32
+        ensures { result ≡ self.now.spare }
+    {
+        let room = u32::MAX - self.orders.len() as u32;
+        let ready = self.orders.capacity() - self.orders.len();
+        ready.min(room as usize) as u32
     }
 
     /// The open order of an id, or None exactly where none is open.
@@ -98,6 +114,7 @@ impl UnitBook {
 impl UnitBook {
     // Adds an order, unless it has no shares.
     fn add(&mut self, order: Order) -> Result<(), OutOfMemory>
+        requires few { map.len self.old.book.orders < most_orders }
         ensures ok { OnOk result (self.new.book ≡ added self.old.book order) }
         ensures err { OnErr result (self.new.book ≡ self.old.book) }
         ensures succeeds { 1 ≤ self.old.spare → IsOk result }
@@ -111,7 +128,7 @@ impl UnitBook {
 
     /// Makes room for more orders: the spare is then at least so many. The book is the same in either case.
     pub fn reserve(&mut self, more: u32) -> Result<(), OutOfMemory>
-        requires { map.len self.old.book.orders + more ≤ 4294967295 }
+        requires { map.len self.old.book.orders + more ≤ most_orders }
         ensures same { self.new.book ≡ self.old.book }
         ensures room { OnOk result (more ≤ self.new.spare) }
         ensures kept { self.old.spare ≤ self.new.spare }
@@ -119,6 +136,55 @@ impl UnitBook {
     {
         self.orders.reserve(more as usize)?;
         Ok(())
+    }
+
+    /// Appends all open orders by rising id. The list is as before after OutOfMemory.
+    pub fn orders_by_id(&self, out: &mut OrderList) -> Result<(), OutOfMemory>
+        ensures ok { OnOk result (out.new.items ≡ out.old.items ++ orders_of self.now.book) }
+        ensures err { OnErr result (out.new.items ≡ out.old.items) }
+    {
+        out.append_by_id(&self.orders)?;
+        Ok(())
+    }
+
+    /// An equal book.
+    pub fn copy(&self) -> Result<UnitBook, OutOfMemory>
+        ensures { IfOk result (λ copy. copy.book ≡ self.now.book) }
+    {
+        Ok(UnitBook {
+            second: self.second,
+            orders: self.orders.clone()?,
+        })
+    }
+
+    /// The shares of all open orders.
+    #[tactic(auto, using(crate::proofs::AnyOrder::shares_of))]
+    pub fn shares(&self) -> u64
+        ensures { result ≡ shares self.now.book }
+    {
+        all_shares(&self.orders)
+    }
+
+    /// The shares of the open orders for a symbol on a side at a price.
+    #[tactic(auto, using(crate::proofs::AnyOrder::level_of))]
+    pub fn level(&self, symbol: Symbol, side: Side, price: Price) -> u64
+        ensures { result ≡ level self.now.book symbol side price }
+    {
+        shares_at(&self.orders, symbol, side, price)
+    }
+
+    /// The highest price to buy, or the lowest to sell, of the open orders for a symbol, with its level. None exactly
+    /// where that side of the symbol has no order.
+    pub fn best(&self, symbol: Symbol, side: Side) -> Option<(Price, u64)>
+        ensures best { result ≡ best self.now.book symbol side }
+        ensures price { IfSome result (λ best. IsBestPrice self.now.book symbol side best.0) }
+        ensures level { IfSome result (λ best. best.1 ≡ level self.now.book symbol side best.0) }
+        ensures none { IfNone result (orders_on self.now.book symbol side ≡ []) }
+    {
+        let Some(price) = best_price(&self.orders, symbol, side) else {
+            return None;
+        };
+        Some((price, self.level(symbol, side, price)))
     }
 
     /// The second of the unit's clock, or None exactly where none is known.
@@ -147,7 +213,7 @@ impl UnitBook {
 
     // Does what a message says.
     fn apply_message(&mut self, message: &Message) -> Result<(), OutOfMemory>
-        requires few { map.len self.old.book.orders < 4294967295 }
+        requires few { map.len self.old.book.orders < most_orders }
         ensures ok { OnOk result (self.new.book ≡ after_message self.old.book message.now) }
         ensures err { OnErr result (self.new.book ≡ self.old.book) }
         ensures succeeds { 1 ≤ self.old.spare → IsOk result }
@@ -250,7 +316,7 @@ impl UnitBook {
     #[tactic(auto, unfolding(pitch_model::specs::Book::after))]
     pub fn apply_bytes(&mut self, raw: &[u8]) -> Result<(), OutOfMemory>
         requires raw { IsRaw raw.now }
-        requires few { map.len self.old.book.orders < 4294967295 }
+        requires few { map.len self.old.book.orders < most_orders }
         ensures ok { OnOk result (self.new.book ≡ after self.old.book raw.now) }
         ensures err { OnErr result (self.new.book ≡ self.old.book) }
         ensures succeeds { 1 ≤ self.old.spare → IsOk result }
@@ -264,7 +330,7 @@ impl UnitBook {
 
     /// Does what a raw message says, as `apply_bytes` does.
     pub fn apply(&mut self, raw: &Raw) -> Result<(), OutOfMemory>
-        requires few { map.len self.old.book.orders < 4294967295 }
+        requires few { map.len self.old.book.orders < most_orders }
         ensures ok { OnOk result (self.new.book ≡ after self.old.book raw.now) }
         ensures err { OnErr result (self.new.book ≡ self.old.book) }
         ensures succeeds { 1 ≤ self.old.spare → IsOk result }

@@ -28,7 +28,7 @@ open_from_test : (n : ℕ) → (n == 0) ≡ false → 0 < n
 open_from_test n f = grind (arith, nat_tests, f)
 
 -- ---- Each effect leaves a book
-with_order_book : (book : Book) (id : ℕ) (order : Order) → IsBook book → order.id ≡ id → 0 < order.quantity → IsBook (with_order book id order)
+pub with_order_book : (book : Book) (id : ℕ) (order : Order) → IsBook book → order.id ≡ id → 0 < order.quantity → IsBook (with_order book id order)
 with_order_book book id order B named some = record {
   ids = λ q other g. elim_get q other g (λ j o. o.id ≡ j) named B.ids;
   filled = λ q other g. elim_get q other g (λ j o. 0 < o.quantity) some B.filled;
@@ -43,7 +43,7 @@ with_order_book book id order B named some = record {
             subst (λ (j : ℕ). C j other) same (subst (C id) (some_some order other e) here)
         by false t e = there q other e
 
-without_order_book : (book : Book) (id : ℕ) → IsBook book → IsBook (without_order book id)
+pub without_order_book : (book : Book) (id : ℕ) → IsBook book → IsBook (without_order book id)
 without_order_book book id B = record {
   ids = λ q other g. B.ids q other (still q other g);
   filled = λ q other g. B.filled q other (still q other g);
@@ -68,10 +68,10 @@ empty_book_book = record {
   filled = λ q other g. absurd (none_some other (sym (map.get-empty nat_cmp q) ∙ g));
 }
 
-at_second_book : (book : Book) (second : ℕ) → IsBook book → IsBook (at_second book second)
+pub at_second_book : (book : Book) (second : ℕ) → IsBook book → IsBook (at_second book second)
 at_second_book book second B = record { ids = B.ids; filled = B.filled }
 
-added_book : (book : Book) (order : Order) → IsBook book → IsBook (added book order)
+pub added_book : (book : Book) (order : Order) → IsBook book → IsBook (added book order)
 added_book book order B = cond_both (order.quantity == 0) book (with_order book order.id order) IsBook (λ t. B) (λ f. with_order_book book order.id order B refl (open_from_test order.quantity f))
 
 -- a change that keeps the id
@@ -122,7 +122,7 @@ pub book_after_book : (raws : List Raw) → IsBook (book_after raws)
 book_after_book raws = folded_book raws empty_book empty_book_book
 
 -- ---- How many orders there are
-with_order_len : (book : Book) (id : ℕ) (order : Order) → map.len (with_order book id order).orders ≤ map.len book.orders + 1
+pub with_order_len : (book : Book) (id : ℕ) (order : Order) → map.len (with_order book id order).orders ≤ map.len book.orders + 1
 with_order_len book id order =
     let l = map.len-insert nat_cmp_total book.orders id order in
     let c = cond_both (map.contains_key book.orders id) (map.len book.orders) (map.len book.orders + 1) (λ n. n ≤ map.len book.orders + 1) (λ t. omega arith) (λ f. omega arith) in

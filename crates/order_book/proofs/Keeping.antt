@@ -1,0 +1,59 @@
+-- Each effect on the entries leaves what holds of every book that is kept.
+use Rattle.std.proofs.Common.{◌≡◌, ℕ, ◌≤◌, ◌<◌, List, [], length, Option, Some, None, nat_eq, refl, sym, ap, subst, ◌∙◌, arith, cond}
+use Rattle.std.specs.List.{IsDistinct}
+use Rattle.std.specs.Map.{keys_of, lookup}
+use Rattle.std.specs.FinMap as map
+use Rattle.std.specs.Ordering.{nat_cmp}
+use Rattle.pitch_messages.specs.declared.order.Order.{Order}
+use Rattle.pitch_model.specs.Book.{Book, IsBook, changed}
+use Rattle.pitch_model.proofs.Books.{at_second_book, with_order_book, without_order_book, with_order_len, cleared_book, changed_book}
+use Rattle.order_book.specs.declared.change.Change.{Change}
+use Rattle.order_book.specs.declared.change.Change.TheVariants.{Reduced, Left, Modified}
+use Rattle.order_book.specs.Changes.{changed_by}
+use Rattle.order_book.specs.Standing.{IsKept, book_of, most_orders}
+use Rattle.order_book.proofs.Maps.{inserts, removes, lens}
+
+-- a change keeps the id
+same_id : (change : Change) (order : Order) → (changed_by change order).id ≡ order.id
+same_id (Reduced quantity) order = refl
+same_id (Left quantity) order = refl
+same_id (Modified quantity price display) order = refl
+
+module _ (second : Option ℕ) (es : List (ℕ × Order)) (kept : IsKept second es) where
+  pub kept_second : (value : ℕ) → IsKept (Some value) es
+  kept_second value = record { book = at_second_book (book_of second es) value kept.book; unique = kept.unique; few = kept.few }
+
+  pub kept_clear : IsDistinct nat_eq (keys_of {X = Order} []) → IsKept second []
+  kept_clear unique = record { book = cleared_book (book_of second es); unique = unique; few = omega arith }
+
+  module _ (fs : List (ℕ × Order)) where
+    pub kept_same : fs ≡ es → IsKept second fs
+    kept_same same = subst (IsKept second) (sym same) kept
+
+    pub kept_insert : (order : Order) → 0 < order.quantity → map.len (map.from_entries {R = nat_cmp} es) < most_orders → IsDistinct nat_eq (keys_of fs)
+        → ((q : ℕ) → lookup (nat_eq q) fs ≡ cond (nat_eq order.id q) (Some order) (lookup (nat_eq q) es)) → IsKept second fs
+    kept_insert order filled few unique h =
+        let same = inserts es fs order.id order h in
+        let book : IsBook (book_of second fs) = subst (λ orders. IsBook (record { second = second; orders = orders })) (sym same) (with_order_book (book_of second es) order.id order kept.book refl filled) in
+        let count = lens fs unique in
+        let more = with_order_len (book_of second es) order.id order in
+        let equal = ap (map.len {R = nat_cmp}) same in
+        record { book = book; unique = unique; few = omega arith }
+
+    pub kept_remove : (id : ℕ) → IsDistinct nat_eq (keys_of fs) → length fs ≤ length es → ((q : ℕ) → lookup (nat_eq q) fs ≡ cond (nat_eq id q) None (lookup (nat_eq q) es)) → IsKept second fs
+    kept_remove id unique fewer h =
+        let few = kept.few in
+        record {
+          book = subst (λ orders. IsBook (record { second = second; orders = orders })) (sym (removes es fs id h)) (without_order_book (book_of second es) id kept.book);
+          unique = unique;
+          few = omega arith;
+        }
+
+    pub kept_change : (id : ℕ) (change : Change) → IsDistinct nat_eq (keys_of fs) → length fs ≤ length es → book_of second fs ≡ changed (book_of second es) id (changed_by change) → IsKept second fs
+    kept_change id change unique fewer same =
+        let few = kept.few in
+        record {
+          book = subst IsBook (sym same) (changed_book (book_of second es) id (changed_by change) (same_id change) kept.book);
+          unique = unique;
+          few = omega arith;
+        }

@@ -1,0 +1,14 @@
+use Rattle.std.proofs.Common.{◌≡◌, ℕ, List, length, sym, ap, ◌∙◌, arith}
+use Rattle.std.specs.FinMap as map
+use Rattle.std.specs.Ordering.{nat_cmp}
+use Rattle.pitch_messages.specs.declared.order.Order.{Order}
+use Rattle.order_book.specs.Standing.{Standing}
+use Rattle.order_book.proofs.Maps.{lens}
+use Rattle.order_book.proofs.unit_book.UnitBook.reserve.Goals as goal
+
+pub returns-clause-room : goal.returns-clause-room
+returns-clause-room c =
+    let orders = ap (λ (s : Standing). map.len s.book.orders) c.self.view_is in
+    let same = ap (λ (es : List (ℕ × Order)). map.len (map.from_entries {R = nat_cmp} es)) c.reserve.ensures.entries in
+    let count = lens c.reserve.new.self.entries c.reserve.ensures.unique in
+    omega (arith, c.in_ok-reserve.ensures.ok)

@@ -1,0 +1,82 @@
+ghost use Rattle.std.specs.Prelude.{◌≡◌, ◌≤◌, ℕ, ◌&&◌, ◌==◌, bytes_eq, filter, map, sum_by};
+ghost use Rattle.indexmap.specs.IndexMap.{values, index_map_len};
+ghost use Rattle.pitch_model.specs.Levels.{same_side, better, best_of};
+ghost use Rattle.order_book.specs.Standing.{most_orders};
+ghost use Rattle.order_book.specs.Totals.{is_on, quantities};
+
+use indexmap::IndexMap;
+use pitch_fields::{Price, Side, Symbol};
+use pitch_messages::Order;
+
+// Whether an order is for a symbol on a side.
+fn is_on(order: &Order, symbol: Symbol, side: Side) -> bool
+    ensures { result ≡ is_on symbol side order.now }
+{
+    order.symbol == symbol && order.side == side
+}
+
+// The shares of an order, a number of 32 bits.
+fn quantity_of(order: &Order) -> u64
+    ensures value { result ≡ order.now.quantity }
+    ensures fits { result ≤ 4294967295 }
+{
+    u64::from(order.quantity)
+}
+
+/// The shares of all orders.
+pub(crate) fn all_shares(orders: &IndexMap<u64, Order>) -> u64
+    requires { index_map_len orders.now ≤ most_orders }
+    ensures { result ≡ quantities (values orders.now) }
+{
+    let mut total = 0;
+    for order in orders.values() {
+        total += quantity_of(order);
+    }
+    total
+}
+
+/// The shares of the orders for a symbol on a side at a price.
+pub(crate) fn shares_at(
+    orders: &IndexMap<u64, Order>,
+    symbol: Symbol,
+    side: Side,
+    price: Price,
+) -> u64
+    requires { index_map_len orders.now ≤ most_orders }
+    ensures { result ≡ quantities (filter (λ order. price == order.price) (filter (is_on symbol side) (values orders.now))) }
+{
+    let mut total = 0;
+    for order in orders.values() {
+        if is_on(order, symbol, side) && order.price == price {
+            total += quantity_of(order);
+        }
+    }
+    total
+}
+
+// The better of two prices of a side.
+fn better(side: Side, price: Price, other: Price) -> Price
+    ensures { result ≡ better side price other }
+{
+    let (price, other) = (price.ten_thousandths(), other.ten_thousandths());
+    Price::from_long(match side {
+        Side::Buy => price.max(other),
+        Side::Sell => price.min(other),
+    })
+}
+
+/// The best price for a symbol on a side.
+pub(crate) fn best_price(orders: &IndexMap<u64, Order>, symbol: Symbol, side: Side) -> Option<Price>
+    ensures { result ≡ best_of side (map (λ order. order.price) (filter (is_on symbol side) (values orders.now))) }
+{
+    let mut best = None;
+    for order in orders.values() {
+        if is_on(order, symbol, side) {
+            best = Some(match best {
+                None => order.price,
+                Some(price) => better(side, price, order.price),
+            });
+        }
+    }
+    best
+}
