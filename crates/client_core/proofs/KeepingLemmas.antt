@@ -14,6 +14,8 @@ use Rattle.pitch_model.specs.Honest.{message_at}
 use Rattle.hold_buffer.specs.HoldView.{HoldView, Held}
 use Rattle.hold_buffer.proofs.Finite.{same_test, get_retained}
 use Rattle.client_core.specs.Keeping.{KeepsAt}
+use Rattle.client_core.specs.Noting.{with_more}
+use Rattle.client_core.proofs.Slices.{more_then, noted_still}
 
 pub none_some : (r : List ℕ) → ◌≡◌ {A = Option (List ℕ)} None (Some r) → ⊥
 none_some r e = cc
@@ -80,10 +82,20 @@ slice_to V f n (suc k) raw le e m =
     let long : f ≤ length (take k V) = omega (arith, length-take {A = List ℕ}) in
     ap (drop f) (take-suc V k raw within ∙ ap (λ r. take k V ++ r ∷ []) (get_or_from_slice_get V k raw raw m)) ∙ drop-append-le f (take k V) (raw ∷ []) long ∙ ap (λ j. drop f (take j V) ++ raw ∷ []) same
 
--- what is applied as a held message is taken out
-pub applied_more : (h h' : HoldView) (book : Book) (V : List (List ℕ)) (f : ℕ) (raw : List ℕ) (xs ys : List (List ℕ)) → f ≤ h.floor → Some raw ≡ get h.held (h.floor + 1) → h' ≡ record h { floor = h.floor + 1; held = remove h.held (h.floor + 1) } → KeepsAt h book V
-    → ys ≡ xs ++ drop f (take h.floor V) → ys ++ raw ∷ [] ≡ xs ++ drop f (take h'.floor V)
-applied_more h h' book V f raw xs ys le at e K is =
-    ap (λ zs. zs ++ raw ∷ []) is ∙ append_assoc xs (drop f (take h.floor V)) (raw ∷ [])
-    ∙ ap (λ zs. xs ++ zs) (sym (slice_to V f h.floor (h.floor + 1) raw le refl (K.held (h.floor + 1) raw (sym at))))
-    ∙ ap (λ n. xs ++ drop f (take n V)) (sym (ap (λ (v : HoldView). v.floor) e))
+-- what is noted as the message after the floor is applied
+pub noted_next : (V : List (List ℕ)) (f n k : ℕ) (raw : List ℕ) (first before after : Option (List (List ℕ))) → f ≤ n → k ≡ n + 1 → message_at V k ≡ Some raw
+    → before ≡ with_more (drop f (take n V)) first → after ≡ with_more (raw ∷ []) before → after ≡ with_more (drop f (take k V)) first
+noted_next V f n k raw first before after le e m b a =
+    a ∙ ap (with_more (raw ∷ [])) b ∙ more_then (drop f (take n V)) (raw ∷ []) first ∙ ap (λ rs. with_more rs first) (sym (slice_to V f n k raw le e m))
+
+-- the same as one is taken out of the hold
+pub noted_popped : (h h' : HoldView) (book : Book) (V : List (List ℕ)) (f : ℕ) (raw : List ℕ) (first before after : Option (List (List ℕ))) → f ≤ h.floor → Some raw ≡ get h.held (h.floor + 1)
+    → h' ≡ record h { floor = h.floor + 1; held = remove h.held (h.floor + 1) } → KeepsAt h book V → before ≡ with_more (drop f (take h.floor V)) first → after ≡ with_more (raw ∷ []) before
+    → after ≡ with_more (drop f (take h'.floor V)) first
+noted_popped h h' book V f raw first before after le at e K b a =
+    noted_next V f h.floor (h.floor + 1) raw first before after le refl (K.held (h.floor + 1) raw (sym at)) b a
+    ∙ ap (λ n. with_more (drop f (take n V)) first) (sym (ap (λ (v : HoldView). v.floor) e))
+
+-- what is noted as the message after the floor is applied, from the floor on
+pub noted_first : (V : List (List ℕ)) (n k : ℕ) (raw : List ℕ) (first after : Option (List (List ℕ))) → k ≡ n + 1 → message_at V k ≡ Some raw → after ≡ with_more (raw ∷ []) first → after ≡ with_more (drop n (take k V)) first
+noted_first V n k raw first after e m a = noted_next V n n k raw first first after (omega arith) e m (noted_still V n first) a

@@ -58,6 +58,13 @@ impl UnitClient {
         })
     }
 
+    /// How many new orders the book takes without memory.
+    pub fn spare(&self) -> u32
+        ensures { result ≡ spare_of self.now }
+    {
+        self.book.spare()
+    }
+
     /// Takes memory ahead, so that the spare is at least so many messages. The client is as before in either case.
     pub fn reserve(&mut self, messages: u32) -> Result<(), OutOfMemory>
         requires { open_orders self.old + messages ≤ 4294967295 }

@@ -2,11 +2,13 @@ ghost use Rattle.std.specs.Prelude.{◌≡◌, ◌+◌, ◌<◌, ◌||◌, [], �
 ghost use Rattle.pitch_model.specs.Status.{raised};
 
 use crate::client::UnitClient;
+use crate::noting::Tape;
 use crate::spinning::{Finish, SpinState};
 use crate::taking::{Taken, take_image, take_in};
 use pitch_fields::OutOfMemory;
-use pitch_messages::Raws;
+use pitch_messages::{RawList, Raws};
 use pitch_model::{Change, ImageEnd, Item};
+use std::mem::replace;
 
 /// What messages were.
 #[derive(Clone, Copy, Debug, PartialEq, Eq)]
@@ -58,7 +60,7 @@ fn image_end_of(taken: bool) -> ImageEnd
 }
 
 impl UnitClient {
-    ghost use Rattle.std.specs.Prelude.{◌≡◌, ℕ, ◌+◌, ◌≤◌, List, OnOk, OnErr, IfOk, IsOk, Some, ◌∷◌, [], length};
+    ghost use Rattle.std.specs.Prelude.{◌≡◌, ◌≢◌, ℕ, ◌+◌, ◌≤◌, List, OnOk, OnErr, IfOk, IsOk, None, Some, ◌∷◌, [], ◌++◌, length, take, drop};
     ghost use Rattle.pitch_messages.specs.Raw.{IsRaw};
     ghost use Rattle.unit_packets.specs.Blocks.{Block, StaysWithin};
     ghost use Rattle.pitch_model.specs.History.{Entry, Raw, Message, Next, GrpUp, GrpDown, GapReply, SpinUp, SpinDown, Advertised, SpinReply, ImageMessages, SpinFinished, image_finished, bad_image, spin_of};
@@ -66,44 +68,51 @@ impl UnitClient {
     ghost use Rattle.pitch_model.specs.Honest.{Honest, IsHonestAt, AreVenues, message_at};
     ghost use Rattle.pitch_model.specs.Reach.{is_overflow, reach};
     ghost use Rattle.client_core.specs.Keeping.{HasRoom};
+    ghost use Rattle.client_core.specs.Noting.{noted, with_more, CanNote};
     ghost use Rattle.client_core.specs.Spinning.{IsReady};
     ghost use Rattle.client_core.specs.Tracks.{Tracks, Keeps, IsAsBefore, held_number, spare_of};
     ghost use Rattle.client_core.specs.Blocks.{Carries, block_change, block_fresh};
     ghost use Rattle.client_core.specs.Items.{IsImage, NeedsNoMemory, Tells};
 
-    // Hears a message for which there is room.
-    fn hear_message(&mut self, sequence: u32, raw: &[u8]) -> Taken
+    // Hears a message for which there is room, and notes what is applied.
+    fn hear_message(&mut self, tape: &mut Tape, sequence: u32, raw: &[u8]) -> Taken
         requires sequence { sequence ≤ 4294967294 }
         requires raw { IsRaw raw.now }
         requires room { HasRoom 1 self.old.hold self.old.book.spare }
+        requires tape { CanNote (1 + held_number self.old) tape.old }
         ensures tracks { (H : ℕ) (E : List Entry) → Tracks self.old H E → Tracks self.new H (Message sequence raw.now ∷ E) }
         ensures keeps { (V : List Raw) → message_at V sequence ≡ Some raw.now → Keeps self.old V → Keeps self.new V }
         ensures fresh { (H : ℕ) (E : List Entry) → Tracks self.old H E → result.fresh ≡ is_fresh H E sequence }
         ensures overflow { (H : ℕ) (E : List Entry) → Tracks self.old H E → result.overflow ≡ is_overflow H E (Message sequence raw.now) }
         ensures room { (left : ℕ) → HasRoom (left + 1) self.old.hold self.old.book.spare → HasRoom left self.new.hold self.new.book.spare }
+        ensures rises { self.old.hold.floor ≤ self.new.hold.floor }
+        ensures noted { (V : List Raw) → message_at V sequence ≡ Some raw.now → Keeps self.old V → noted tape.new ≡ with_more (drop self.old.hold.floor (take self.new.hold.floor V)) (noted tape.old) }
+        ensures tape { (left : ℕ) → CanNote ((left + 1) + held_number self.old) tape.old → CanNote (left + held_number self.new) tape.new }
     {
         let before = self.hold.floor();
-        let taken = take_in(&mut self.hold, &mut self.book, sequence, raw);
+        let taken = take_in(&mut self.hold, &mut self.book, tape, sequence, raw);
         self.top = raised_by(self.top, sequence);
         self.troubled = troubled_by(before < self.hold.floor(), taken.overflow, self.troubled);
         taken
     }
 
-    // Hears messages with rising sequence, for which there is room.
-    fn hear_raws(&mut self, first: u32, raws: Raws<'_>) -> Counts
+    // Hears messages with rising sequence, for which there is room, and notes what is applied.
+    fn hear_raws(&mut self, tape: &mut Tape, first: u32, raws: Raws<'_>) -> Counts
         requires first { (1 ≤ first) × (first + length raws ≤ 4294967295) }
         requires room { HasRoom (length raws) self.old.hold self.old.book.spare }
+        requires tape { CanNote (length raws + held_number self.old) tape.old }
         ensures tracks { (H : ℕ) (E : List Entry) → Tracks self.old H E → Tracks self.new H (heard_messages first raws.entry E) }
         ensures keeps { (V : List Raw) → AreVenues V first raws.entry → Keeps self.old V → Keeps self.new V }
         ensures fresh { (H : ℕ) (E : List Entry) → Tracks self.old H E → result.fresh ≡ fresh_messages H first raws.entry E }
         ensures overflows { (H : ℕ) (E : List Entry) → Tracks self.old H E → result.overflows ≡ overflowed_messages H first raws.entry E }
+        ensures noted { (V : List Raw) → AreVenues V first raws.entry → Keeps self.old V → noted tape.new ≡ with_more (drop self.old.hold.floor (take self.new.hold.floor V)) (noted tape.old) }
     {
         let mut raws = raws;
         let mut sequence = first;
         let mut fresh = 0;
         let mut overflows = 0;
         'messages: while let Some(raw) = raws.next_raw() {
-            let taken = self.hear_message(sequence, raw);
+            let taken = self.hear_message(tape, sequence, raw);
             fresh = counted(fresh, taken.fresh);
             overflows = counted(overflows, taken.overflow);
             sequence += 1;
@@ -111,17 +120,21 @@ impl UnitClient {
         Counts { fresh, overflows }
     }
 
-    fn hear_messages(&mut self, first: u32, raws: Raws<'_>) -> Result<Counts, OutOfMemory>
+    // Hears messages with rising sequence, and notes what is applied. After OutOfMemory no more is noted.
+    fn hear_messages(&mut self, tape: &mut Tape, first: u32, raws: Raws<'_>) -> Result<Counts, OutOfMemory>
         requires first { (1 ≤ first) × (first + length raws ≤ 4294967295) }
         ensures tracks { OnOk result ((H : ℕ) (E : List Entry) → Tracks self.old H E → Tracks self.new H (heard_messages first raws.entry E)) }
         ensures keeps { OnOk result ((V : List Raw) → AreVenues V first raws.entry → Keeps self.old V → Keeps self.new V) }
         ensures fresh { IfOk result (λ counts. (H : ℕ) (E : List Entry) → Tracks self.old H E → counts.fresh ≡ fresh_messages H first raws.entry E) }
         ensures overflows { IfOk result (λ counts. (H : ℕ) (E : List Entry) → Tracks self.old H E → counts.overflows ≡ overflowed_messages H first raws.entry E) }
+        ensures noted { OnOk result ((V : List Raw) → AreVenues V first raws.entry → Keeps self.old V → noted tape.new ≡ with_more (drop self.old.hold.floor (take self.new.hold.floor V)) (noted tape.old)) }
         ensures err { OnErr result (IsAsBefore self.old self.new) }
-        ensures memory { length raws.entry + held_number self.old ≤ spare_of self.old → IsOk result }
+        ensures err_noted { OnErr result (noted tape.new ≡ noted tape.old) }
+        ensures memory { noted tape.old ≡ None → length raws.entry + held_number self.old ≤ spare_of self.old → IsOk result }
     {
+        tape.reserve(raws.len() + self.hold.len() as usize)?;
         self.make_room(raws.len() as u32)?;
-        Ok(self.hear_raws(first, raws))
+        Ok(self.hear_raws(tape, first, raws))
     }
 
     fn hear_next(&mut self, next: u32)
@@ -157,7 +170,7 @@ impl UnitClient {
                 overflows: 0,
             });
         }
-        self.hear_messages(sequence, raws)
+        self.hear_messages(&mut Tape::Off, sequence, raws)
     }
 
     /// Hears a block with this sequence and these messages: nothing of an unsequenced one, a heartbeat where it has no
@@ -288,7 +301,7 @@ impl UnitClient {
     {
         match item {
             Item::Messages { first, raws } => {
-                let counts = self.hear_messages(*first, raws.raws())?;
+                let counts = self.hear_messages(&mut Tape::Off, *first, raws.raws())?;
                 return Ok(Heard {
                     fresh: counts.fresh,
                     overflows: counts.overflows,
@@ -345,6 +358,50 @@ impl UnitClient {
             fresh: heard.fresh,
             overflows: heard.overflows,
             image: heard.image,
+        })
+    }
+
+    // Hears messages with rising sequence, and appends what is applied.
+    fn hear_messages_into(&mut self, first: u32, raws: Raws<'_>, applied: &mut RawList) -> Result<Counts, OutOfMemory>
+        requires first { (1 ≤ first) × (first + length raws ≤ 4294967295) }
+        ensures tracks { OnOk result ((H : ℕ) (E : List Entry) → Tracks self.old H E → Tracks self.new H (heard_messages first raws.entry E)) }
+        ensures keeps { OnOk result ((V : List Raw) → AreVenues V first raws.entry → Keeps self.old V → Keeps self.new V) }
+        ensures fresh { IfOk result (λ counts. (H : ℕ) (E : List Entry) → Tracks self.old H E → counts.fresh ≡ fresh_messages H first raws.entry E) }
+        ensures overflows { IfOk result (λ counts. (H : ℕ) (E : List Entry) → Tracks self.old H E → counts.overflows ≡ overflowed_messages H first raws.entry E) }
+        ensures applied { OnOk result ((V : List Raw) → AreVenues V first raws.entry → Keeps self.old V → applied.new.items ≡ applied.old.items ++ drop self.old.hold.floor (take self.new.hold.floor V)) }
+        ensures err { OnErr result (IsAsBefore self.old self.new) }
+        ensures err_applied { OnErr result (applied.new.items ≡ applied.old.items) }
+    {
+        let mut tape = Tape::On(replace(applied, RawList::make(self.alloc)));
+        let counts = self.hear_messages(&mut tape, first, raws);
+        *applied = tape.into_list(self.alloc);
+        counts
+    }
+
+    /// Hears an item as `hear` does, and appends to `applied` the messages that it applied to the book, in their order. Where
+    /// an image replaced the book, nothing is appended. After OutOfMemory both are as before the item.
+    pub fn hear_into(&mut self, item: &Item, applied: &mut RawList) -> Result<Change, OutOfMemory>
+        requires { IsItem item.now }
+        ensures tracks { OnOk result ((H : ℕ) (E : List Entry) → Tracks self.old H E → Tracks self.new H (heard item.now E)) }
+        ensures keeps { OnOk result ((Image : List Raw → ℕ → List Raw) → IsImage Image → (V : List Raw) (H : ℕ) (E : List Entry) → Tracks self.old H E → Honest Image V (heard item.now E) → Keeps self.old V → Keeps self.new V) }
+        ensures change { IfOk result (λ change. (H : ℕ) (E : List Entry) → Tracks self.old H E → change ≡ change_of H E item.now) }
+        ensures applied { IfOk result (λ change. change.image ≢ ImageEnd.Taken → (Image : List Raw → ℕ → List Raw) (V : List Raw) (H : ℕ) (E : List Entry) → Tracks self.old H E → Honest Image V (heard item.now E) → Keeps self.old V
+            → applied.new.items ≡ applied.old.items ++ drop (reach H E) (take (reach H (heard item.now E)) V)) }
+        ensures taken { IfOk result (λ change. change.image ≡ ImageEnd.Taken → applied.new.items ≡ applied.old.items) }
+        ensures err { OnErr result (IsAsBefore self.old self.new) }
+        ensures err_applied { OnErr result (applied.new.items ≡ applied.old.items) }
+    {
+        let Item::Messages { first, raws } = item else {
+            return self.hear(item);
+        };
+        let before = self.status();
+        let counts = self.hear_messages_into(*first, raws.raws(), applied)?;
+        Ok(Change {
+            before,
+            after: self.status(),
+            fresh: counts.fresh,
+            overflows: counts.overflows,
+            image: ImageEnd::NoImage,
         })
     }
 }

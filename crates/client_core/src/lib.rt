@@ -5,6 +5,7 @@ mod asking;
 mod client;
 mod hearing;
 mod item;
+mod noting;
 mod spinning;
 mod taking;
 

@@ -98,7 +98,7 @@ fn make_room(book: &mut UnitBook, more: usize) -> Result<(), OutOfMemory>
     ensures same { book.new.book ≡ book.old.book }
     ensures room { OnOk result (more ≤ book.new.spare) }
 {
-    if more > u32::MAX as usize - book.len() {
+    if more > (u32::MAX - book.len()) as usize {
         return Err(OutOfMemory);
     }
     book.reserve(more as u32)

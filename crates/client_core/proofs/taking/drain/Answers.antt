@@ -1,6 +1,9 @@
-use Rattle.std.proofs.Common.{sym, ap, ◌∙◌, subst, arith, refl, ◌≤◌, ◌+◌}
+use Rattle.std.proofs.Common.{sym, ap, ◌∙◌, subst, arith, refl, ◌≤◌, ◌+◌, [], ◌∷◌}
 use Rattle.client_core.proofs.Answered.{hold_drains, hold_drained, removed_smaller}
-use Rattle.client_core.proofs.KeepingLemmas.{keeps_popped}
+use Rattle.client_core.proofs.KeepingLemmas.{keeps_popped, noted_popped}
+use Rattle.std.specs.FinMap.{len}
+use Rattle.client_core.specs.Noting.{noted, with_more, CanNote}
+use Rattle.client_core.proofs.Slices.{can_less}
 use Rattle.pitch_model.specs.Settling.{Settled}
 use Rattle.hold_buffer.specs.HoldView.{HoldView}
 use Rattle.client_core.specs.Keeping.{has, orders_of}
@@ -27,6 +30,12 @@ apply_sure-requires-clause-orders c =
     let fits = c.in-Some.ensures.fits refl in
     omega arith
 
+-- a message can be noted
+pub note-requires-clause-room : goal.note-requires-clause-room
+note-requires-clause-room c =
+    let smaller = removed_smaller c.loop-raw.hold c.pop_next.new.self c.in-Some.raw c.in-Some.ensures.answer c.in-Some.ensures.none in
+    can_less _ _ c.loop-raw.tape (omega arith) (c.loop-raw.invariant.tape 0 (can_less (0 + len c.args.hold.now.held) (len c.args.hold.now.held) c.args.tape.now (omega arith) c.requires.tape))
+
 pub loop-raw-preserved : goal.loop-raw-preserved
 loop-raw-preserved c = record {
   drains = λ P D. hold_drains c.loop-raw.hold c.pop_next.new.self c.in-Some.raw c.in-Some.ensures.answer c.in-Some.ensures.none P (c.loop-raw.invariant.drains P D);
@@ -44,8 +53,17 @@ loop-raw-preserved c = record {
       let O = c.loop-raw.invariant.orders in
       let floor = ap (λ (h : HoldView). h.floor) c.in-Some.ensures.none in
       omega arith;
+  rises = (let up = c.loop-raw.invariant.rises in let floor = ap (λ (h : HoldView). h.floor) c.in-Some.ensures.none in omega arith);
+  noted = λ V K. noted_popped c.loop-raw.hold c.pop_next.new.self c.loop-raw.book.book V c.args.hold.now.floor c.in-Some.raw (noted c.args.tape.now) (noted c.loop-raw.tape) _ c.loop-raw.invariant.rises c.in-Some.ensures.answer c.in-Some.ensures.none
+      (c.loop-raw.invariant.keeps V K) (c.loop-raw.invariant.noted V K) (c.note.ensures.noted ∙ ap (λ raw. with_more (raw ∷ []) (noted c.loop-raw.tape)) c.bytes-in-Some.ensures.bytes);
+  tape = λ left r.
+      let smaller = removed_smaller c.loop-raw.hold c.pop_next.new.self c.in-Some.raw c.in-Some.ensures.answer c.in-Some.ensures.none in
+      c.note.ensures.room (left + len c.pop_next.new.self.held) (can_less _ _ c.loop-raw.tape (omega arith) (c.loop-raw.invariant.tape left r));
 }
 
 pub returns-clause-settles : goal.returns-clause-settles
 returns-clause-settles c = λ P D.
     subst (λ (h : HoldView). Settled P h.floor (has h)) (sym c.in_default.ensures.none) (hold_drained c.loop-raw.hold c.in_default.ensures.answer P (c.loop-raw.invariant.drains P D))
+
+pub returns-clause-tape : goal.returns-clause-tape
+returns-clause-tape c = λ left r. subst (λ (h : HoldView). CanNote (left + len h.held) c.loop-raw.tape) (sym c.in_default.ensures.none) (c.loop-raw.invariant.tape left r)

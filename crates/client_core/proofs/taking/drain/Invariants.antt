@@ -1,4 +1,5 @@
-use Rattle.std.proofs.Common.{◌≡◌, ℕ, List, ◌+◌, ◌≤◌}
+use Rattle.std.proofs.Common.{◌≡◌, ℕ, List, ◌+◌, ◌≤◌, take, drop}
+use Rattle.client_core.specs.Noting.{noted, with_more, CanNote}
 
 use Rattle.std.specs.FinMap.{len}
 use Rattle.pitch_model.specs.Reach.{Part}
@@ -13,6 +14,9 @@ invariant-loop-raw l = record {
   limit : l.hold.limit ≡ l.fn.hold.limit;
   room : (left : ℕ) → HasRoom left l.fn.hold l.fn.book.spare → HasRoom left l.hold l.book.spare;
   orders : orders_of l.book.book ≤ l.hold.floor;
+  rises : l.fn.hold.floor ≤ l.hold.floor;
+  noted : (V : List (List ℕ)) → KeepsAt l.fn.hold l.fn.book.book V → noted l.tape ≡ with_more (drop l.fn.hold.floor (take l.hold.floor V)) (noted l.fn.tape);
+  tape : (left : ℕ) → CanNote (left + len l.fn.hold.held) l.fn.tape → CanNote (left + len l.hold.held) l.tape;
 }
 
 abbrev pub decreases-loop-raw : goal.decreases-loop-raw

@@ -1,5 +1,8 @@
 use Rattle.std.proofs.Common.{◌≡◌, ◌≤◌, ◌+◌, List, ◌∷◌, length, sym, ap, arith, ℕ, suc}
 use Rattle.pitch_model.specs.History.{Raw}
+use Rattle.client_core.specs.Noting.{noted}
+use Rattle.client_core.specs.Tracks.{held_number}
+use Rattle.client_core.proofs.Slices.{can_less, noted_then}
 use Rattle.client_core.proofs.Tracking.{along_more}
 use Rattle.pitch_model.proofs.Hearing.{bit_le}
 use Rattle.client_core.proofs.Honesty.{venues_first, venues_rest}
@@ -20,5 +23,9 @@ messages-preserved c =
       along = λ H E T. along_more c.args.self.now c.messages.self _ c.args.first c.messages.sequence c.args.raws c.messages.raws c.next_raw.new.self c.in-Some.raw.now c.messages.fresh c.messages.overflows _ _ c.hear_message-taken.result H E
           split (I.along H E T) (taken.tracks H) (taken.fresh H) (taken.overflow H) c.counted-fresh.ensures c.counted-overflows.ensures;
       keeps = λ V are K. taken.keeps V (venues_first V c.messages.sequence c.messages.raws c.next_raw.new.self c.in-Some.raw.now split (I.venues V are)) (I.keeps V are K);
+      rises = (let before = I.rises in let now = taken.rises in omega arith);
+      tape = taken.tape (length c.next_raw.new.self) (can_less ((length c.next_raw.new.self + 1) + held_number c.messages.self) (length c.messages.raws + held_number c.messages.self) c.messages.tape (omega arith) I.tape);
+      noted = λ V are K. noted_then V c.args.self.now.hold.floor c.messages.self.hold.floor _ (noted c.args.tape.now) (noted c.messages.tape) _ I.rises taken.rises (I.noted V are K)
+          (taken.noted V (venues_first V c.messages.sequence c.messages.raws c.next_raw.new.self c.in-Some.raw.now split (I.venues V are)) (I.keeps V are K));
       venues = λ V are. venues_rest V c.messages.sequence c.messages.raws c.next_raw.new.self c.in-Some.raw.now split (I.venues V are);
     }
