@@ -1,6 +1,9 @@
 -- The orders of a book that messages of bytes leave have the widths of the wire.
-use Rattle.std.proofs.Common.{◌≡◌, ℕ, zero, suc, ◌+◌, ◌^◌, ◌≤◌, ◌<◌, Bool, true, false, cond, List, [], ◌∷◌, length, drop, fold, refl, ap, ◌∙◌, subst, arith, Option, Some, None, Result, Ok, Err, slice_index, nat_lt, ◌==◌, length-take, length-drop, length-append}
+use Rattle.std.proofs.Common.{◌≡◌, ℕ, zero, suc, ◌+◌, ◌^◌, ◌≤◌, ◌<◌, Bool, true, false, cond, ◌==◌, List, [], ◌∷◌, length, drop, fold, refl, ap, ◌∙◌, subst, arith, Option, Some, None, Result, Ok, Err, slice_index, nat_lt, ◌==◌, length-take, length-drop, length-append}
+use Rattle.std.specs.Option.{option_map}
 use Rattle.std.specs.List.{AllByRecursion}
+use Rattle.std.specs.FinMap as map
+use Rattle.std.proofs.lemmas.Bool.{cond_both}
 use Rattle.std.proofs.lemmas.Bool.Decides.{nat_tests}
 use Rattle.pitch_fields.specs.Fields.{number_at}
 use Rattle.pitch_fields.specs.Side.{side_of}
@@ -13,8 +16,8 @@ use Rattle.pitch_messages.specs.declared.message.ReadError.{ReadError}
 use Rattle.pitch_messages.specs.declared.message.ReadError.TheVariants.{Short, BadSide}
 use Rattle.pitch_messages.specs.Reading.{bytes_at, Row, plain, sided, with_side, row_of, reads_by, reads}
 use Rattle.pitch_messages.specs.Reading as rows
-use Rattle.pitch_model.specs.Book.{Book, empty_book, reduced_by, left_with, modified, is_displayed, long_price, order_of_long, after_message, after_read, after, book_after}
-use Rattle.pitch_model.proofs.Books.{none_all, added_all, changed_all, without_order_all}
+use Rattle.pitch_model.specs.Book.{Book, added, reformed, changed, with_order, without_order, empty_book, reduced_by, left_with, modified, is_displayed, long_price, order_of_long, after_message, after_read, after, book_after}
+use Rattle.pitch_model.proofs.Books.{AllOrders, none_all, added_all, changed_all, without_order_all}
 use Rattle.pitch_model.specs.Widths.{AreBytes, FitsWire, IsWireBook}
 
 -- ---- Bytes
@@ -51,6 +54,7 @@ abbrev FitsMessage : Message → Type 0
 FitsMessage (AddLong offset id side quantity symbol price flags) = (id < 256 ^ 8) × (quantity < 256 ^ 4) × (length symbol ≡ 6) × (price < 256 ^ 8)
 FitsMessage (AddShort offset id side quantity symbol price flags) = (id < 256 ^ 8) × (quantity < 256 ^ 2) × (length symbol ≡ 6) × (price < 256 ^ 2)
 FitsMessage (AddExpanded offset id side quantity symbol price flags participant) = (id < 256 ^ 8) × (quantity < 256 ^ 4) × (length symbol ≡ 8) × (price < 256 ^ 8) × (length participant ≡ 4)
+FitsMessage (Time second) = second < 256 ^ 4
 FitsMessage (ExecutedAt offset id executed remaining execution price) = remaining < 256 ^ 4
 FitsMessage (ModifyLong offset id quantity price flags) = (quantity < 256 ^ 4) × (price < 256 ^ 8)
 FitsMessage (ModifyShort offset id quantity price flags) = (quantity < 256 ^ 2) × (price < 256 ^ 2)
@@ -105,7 +109,7 @@ choose false row rest here there = there
 
 table_fits : (kind : ℕ) → TableFits (row_of kind)
 table_fits kind =
-    choose (kind == 0x20) rows.time_row _ (plain_fits 6 _ (λ raw all long. tt))
+    choose (kind == 0x20) rows.time_row _ (plain_fits 6 _ (λ raw all long. four_lt 2 raw all))
     (choose (kind == 0x21) rows.add_long_row _ add_long_fits
     (choose (kind == 0x22) rows.add_short_row _ add_short_fits
     (choose (kind == 0x23) rows.executed_row _ (plain_fits 26 _ (λ raw all long. tt))
@@ -151,7 +155,7 @@ modified_fits n p display order few low fits = record { id = fits.id; quantity =
 long_fits : (id : ℕ) (side : Side) (quantity : ℕ) (symbol : List ℕ) (price flags : ℕ) → id < 256 ^ 8 → quantity < 256 ^ 4 → length symbol ≡ 6 → price < 256 ^ 8 → FitsWire (order_of_long id side quantity symbol price flags)
 long_fits id side quantity symbol price flags i q s p = record { id = i; quantity = q; symbol = length-append symbol (32 ∷ 32 ∷ []) ∙ ap (λ (n : ℕ). n + 2) s; price = p; participant = refl }
 
-after_message_fits : (book : Book) (message : Message) → FitsMessage message → IsWireBook book → IsWireBook (after_message book message)
+after_message_fits : (book : Book) (message : Message) → FitsMessage message → AllOrders Fits book → AllOrders Fits (after_message book message)
 after_message_fits book (Time second) fits B = B
 after_message_fits book (UnitClear offset) fits B = none_all Fits book.second
 after_message_fits book (AddLong offset id side quantity symbol price flags) fits B = added_all Fits book _ B (λ some. long_fits id side quantity symbol price flags fits.0 fits.1 fits.2 fits.3)
@@ -176,17 +180,59 @@ after_message_fits book (TradeBreak offset execution) fits B = B
 after_message_fits book (EndOfSession offset) fits B = B
 after_message_fits book (Other raw) fits B = B
 
+-- the second
+abbrev ClockFits : Option ℕ → Type 0
+ClockFits clock = (second : ℕ) → clock ≡ Some second → second < 256 ^ 4
+
+number_some : (m n : ℕ) → Some m ≡ Some n → m ≡ n
+number_some m n e = cc
+
+number_none : (n : ℕ) → ◌≡◌ {A = Option ℕ} None (Some n) → ⊥
+number_none n e = cc
+
+added_clock : (book : Book) (order : Order) → ClockFits book.second → ClockFits (added book order).second
+added_clock book order fits = cond_both (order.quantity == 0) book (with_order book order.id order) (λ (b : Book). ClockFits b.second) (λ t. fits) (λ f. fits)
+
+reformed_clock : (book : Book) (id : ℕ) (o : Option Order) → ClockFits book.second → ClockFits (reformed book id o).second
+reformed_clock book id None fits = fits
+reformed_clock book id (Some order) fits = cond_both (order.quantity == 0) (without_order book id) (with_order book id order) (λ (b : Book). ClockFits b.second) (λ t. fits) (λ f. fits)
+
+changed_clock : (book : Book) (id : ℕ) (change : Order → Order) → ClockFits book.second → ClockFits (changed book id change).second
+changed_clock book id change fits = reformed_clock book id (option_map change (map.get book.orders id)) fits
+
+after_message_clock : (book : Book) (message : Message) → FitsMessage message → ClockFits book.second → ClockFits (after_message book message).second
+after_message_clock book (Time second) fits C = λ n e. subst (λ (k : ℕ). k < 256 ^ 4) (number_some second n e) fits
+after_message_clock book (UnitClear offset) fits C = C
+after_message_clock book (AddLong offset id side quantity symbol price flags) fits C = added_clock book _ C
+after_message_clock book (AddShort offset id side quantity symbol price flags) fits C = added_clock book _ C
+after_message_clock book (AddExpanded offset id side quantity symbol price flags participant) fits C = added_clock book _ C
+after_message_clock book (Executed offset id executed execution) fits C = changed_clock book id (reduced_by executed) C
+after_message_clock book (ExecutedAt offset id executed remaining execution price) fits C = changed_clock book id (left_with remaining) C
+after_message_clock book (ReduceLong offset id quantity) fits C = changed_clock book id (reduced_by quantity) C
+after_message_clock book (ReduceShort offset id quantity) fits C = changed_clock book id (reduced_by quantity) C
+after_message_clock book (ModifyLong offset id quantity price flags) fits C = changed_clock book id (modified quantity price (is_displayed flags)) C
+after_message_clock book (ModifyShort offset id quantity price flags) fits C = changed_clock book id (modified quantity (long_price price) (is_displayed flags)) C
+after_message_clock book (Delete offset id) fits C = C
+after_message_clock book (TradeLong offset id side quantity symbol price execution) fits C = C
+after_message_clock book (TradeShort offset id side quantity symbol price execution) fits C = C
+after_message_clock book (TradeExpanded offset id side quantity symbol price execution) fits C = C
+after_message_clock book (TradeBreak offset execution) fits C = C
+after_message_clock book (EndOfSession offset) fits C = C
+after_message_clock book (Other raw) fits C = C
+
 after_fits : (book : Book) (raw : List ℕ) → AreBytes raw → IsWireBook book → IsWireBook (after book raw)
 unfolding after
 after_fits book raw all B = by (reads raw) refl
   where
     by : (read : Result Message ReadError) → reads raw ≡ read → IsWireBook (after_read book read)
     by (Err error) e = B
-    by (Ok message) e = after_message_fits book message (reads_fit raw message all e) B
+    by (Ok message) e =
+        let fits = reads_fit raw message all e in
+        record { clock = after_message_clock book message fits B.clock; orders = after_message_fits book message fits B.orders }
 
 folded_fits : (raws : List (List ℕ)) (book : Book) → AllByRecursion AreBytes raws → IsWireBook book → IsWireBook (fold after book raws)
 folded_fits [] book all B = B
 folded_fits (raw ∷ raws) book all B = folded_fits raws (after book raw) all.1 (after_fits book raw all.0 B)
 
 pub book_after_fits : (raws : List (List ℕ)) → AllByRecursion AreBytes raws → IsWireBook (book_after raws)
-book_after_fits raws all = folded_fits raws empty_book all (none_all Fits None)
+book_after_fits raws all = folded_fits raws empty_book all (record { clock = λ n e. absurd (number_none n e); orders = none_all Fits None })

@@ -17,6 +17,7 @@ pub record FitsWire (order : Order) : Type 0 where
   pub price : order.price < 256 ^ 8
   pub participant : length order.participant ≡ 4
 
--- each open order has these widths
-abbrev pub IsWireBook : Book → Type 0
-IsWireBook book = (id : ℕ) (order : Order) → map.get book.orders id ≡ Some order → FitsWire order
+-- a second of four bytes, where one is known, and open orders of these widths
+pub record IsWireBook (book : Book) : Type 0 where
+  pub clock : (second : ℕ) → book.second ≡ Some second → second < 256 ^ 4
+  pub orders : (id : ℕ) (order : Order) → map.get book.orders id ≡ Some order → FitsWire order

@@ -1,6 +1,6 @@
 //! Laws of the definitions. These functions do nothing: what they ensure is proved of the definitions alone.
 
-ghost use Rattle.std.specs.Prelude.{◌≡◌, ℕ, ◌+◌, ◌<◌, ◌≤◌, Bool, true, false, ◌||◌, ◌==◌, List, [], ◌∷◌, ◌++◌, length, reverse, nat_eq, unwrap_or};
+ghost use Rattle.std.specs.Prelude.{◌≡◌, ℕ, ◌+◌, ◌<◌, ◌≤◌, Bool, true, false, ◌||◌, ◌==◌, List, [], ◌∷◌, ◌++◌, length, reverse, take, nat_eq, unwrap_or};
 ghost use Rattle.std.specs.List.{list_any, AllByRecursion};
 ghost use Rattle.std.specs.List.Sorted.{IsStrictlyIncreasing};
 ghost use Rattle.std.specs.Set.{is_member};
@@ -9,6 +9,7 @@ ghost use Rattle.pitch_fields.specs.declared.side.Side.{Side};
 ghost use Rattle.unit_packets.specs.Blocks.{Block, StaysWithin};
 ghost use Rattle.pitch_model.specs.declared.item.Item.{Item};
 ghost use Rattle.pitch_model.specs.Book.{Book, IsBook, book_after};
+ghost use Rattle.pitch_model.specs.Image.{image};
 ghost use Rattle.pitch_model.specs.Widths.{AreBytes, IsWireBook};
 ghost use Rattle.pitch_model.specs.Levels.{IsBestOf, best, level, orders_on, prices_on};
 ghost use Rattle.pitch_model.specs.History.{Entry, Raw, Message, SpinFinished, spin_of, images_at, image_finished, messages_at};
@@ -112,4 +113,9 @@ pub fn units_are_those_named()
 pub fn best_price_is_the_best()
     ensures some { (book : Book) (symbol : List ℕ) (side : Side) (price shares : ℕ) → best book symbol side ≡ Some (price, shares) → IsBestOf side (prices_on book symbol side) price × (shares ≡ level book symbol side price) }
     ensures none { (book : Book) (symbol : List ℕ) (side : Side) → best book symbol side ≡ None → orders_on book symbol side ≡ [] }
+{}
+
+/// The image through a sequence leaves the book that the messages up to it leave.
+pub fn images_leave_their_books()
+    ensures { (V : List Raw) (s : ℕ) → AllByRecursion AreBytes V → book_after (image V s) ≡ book_after (take s V) }
 {}
