@@ -12,7 +12,7 @@ use Rattle.pitch_messages.specs.declared.message.Message.TheVariants.{Time, AddL
 use Rattle.pitch_messages.specs.declared.message.ReadError.{ReadError}
 use Rattle.pitch_messages.specs.Reading.{reads}
 use Rattle.pitch_model.specs.History.{Raw}
-use Rattle.pitch_model.specs.Book.{Book, IsBook, empty_book, cleared, without_order, with_order, added, reformed, changed, reduced_by, left_with, modified, is_displayed, long_price, after_message, after_read, after, book_after}
+use Rattle.pitch_model.specs.Book.{Book, IsBook, empty_book, at_second, cleared, without_order, with_order, added, reformed, changed, reduced_by, left_with, modified, is_displayed, long_price, after_message, after_read, after, book_after}
 
 same_test : (q x : ℕ) → is_eq (nat_cmp q x) ≡ eqb q x
 same_test q x = grind (arith, nat_tests)
@@ -81,6 +81,26 @@ added_stands book order all = added_all Stands book order all (λ some. (refl, s
 changed_stands : (book : Book) (id : ℕ) (change : Order → Order) → ((order : Order) → (change order).id ≡ order.id) → AllOrders Stands book → AllOrders Stands (changed book id change)
 changed_stands book id change keeps all = changed_all Stands book id change all (λ order here some. (keeps order ∙ here.0, some))
 
+-- ---- Each effect leaves a book
+pub empty_book_book : IsBook empty_book
+empty_book_book = book_from empty_book (none_all Stands None)
+
+pub cleared_book : (book : Book) → IsBook (cleared book)
+cleared_book book = book_from (cleared book) (none_all Stands book.second)
+
+pub at_second_book : (book : Book) (second : ℕ) → IsBook book → IsBook (at_second book second)
+at_second_book book second is = record { ids = is.ids; filled = is.filled }
+
+pub with_order_book : (book : Book) (id : ℕ) (order : Order) → IsBook book → order.id ≡ id → 0 < order.quantity → IsBook (with_order book id order)
+with_order_book book id order is named some = book_from (with_order book id order) (with_order_all Stands book id order (all_from book is) (named, some))
+
+pub without_order_book : (book : Book) (id : ℕ) → IsBook book → IsBook (without_order book id)
+without_order_book book id is = book_from (without_order book id) (without_order_all Stands book id (all_from book is))
+
+-- a change that keeps the id
+pub changed_book : (book : Book) (id : ℕ) (change : Order → Order) → ((order : Order) → (change order).id ≡ order.id) → IsBook book → IsBook (changed book id change)
+changed_book book id change keeps is = book_from (changed book id change) (changed_stands book id change keeps (all_from book is))
+
 -- ---- Each message leaves a book
 after_message_stands : (book : Book) (message : Message) → AllOrders Stands book → AllOrders Stands (after_message book message)
 after_message_stands book (Time second) B = B
@@ -118,7 +138,7 @@ pub book_after_book : (raws : List Raw) → IsBook (book_after raws)
 book_after_book raws = folded_book raws empty_book (book_from empty_book (none_all Stands None))
 
 -- ---- How many orders there are
-with_order_len : (book : Book) (id : ℕ) (order : Order) → map.len (with_order book id order).orders ≤ map.len book.orders + 1
+pub with_order_len : (book : Book) (id : ℕ) (order : Order) → map.len (with_order book id order).orders ≤ map.len book.orders + 1
 with_order_len book id order =
     let l = map.len-insert nat_cmp_total book.orders id order in
     let c = cond_both (map.contains_key book.orders id) (map.len book.orders) (map.len book.orders + 1) (λ n. n ≤ map.len book.orders + 1) (λ t. omega arith) (λ f. omega arith) in

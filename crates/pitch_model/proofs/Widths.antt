@@ -14,7 +14,8 @@ use Rattle.pitch_messages.specs.declared.message.Message.{Message}
 use Rattle.pitch_messages.specs.declared.message.Message.TheVariants.{Time, AddLong, AddShort, Executed, ExecutedAt, ReduceLong, ReduceShort, ModifyLong, ModifyShort, Delete, TradeLong, TradeShort, TradeBreak, EndOfSession, AddExpanded, TradeExpanded, UnitClear, Other}
 use Rattle.pitch_messages.specs.declared.message.ReadError.{ReadError}
 use Rattle.pitch_messages.specs.declared.message.ReadError.TheVariants.{Short, BadSide}
-use Rattle.pitch_messages.specs.Reading.{bytes_at, Row, plain, sided, with_side, row_of, reads_by, reads}
+use Rattle.pitch_messages.specs.Table.{bytes_at, reads_by}
+use Rattle.pitch_messages.specs.Reading.{MessageRow, plain, sided, with_side, row_of, reads}
 use Rattle.pitch_messages.specs.Reading as rows
 use Rattle.pitch_model.specs.Book.{Book, added, reformed, changed, with_order, without_order, empty_book, reduced_by, left_with, modified, is_displayed, long_price, order_of_long, after_message, after_read, after, book_after}
 use Rattle.pitch_model.proofs.Books.{AllOrders, none_all, added_all, changed_all, without_order_all}
@@ -67,10 +68,10 @@ none_ok error m e = cc
 ok_ok : (m n : Message) → ◌≡◌ {A = Result Message ReadError} (Ok m) (Ok n) → m ≡ n
 ok_ok m n e = cc
 
-abbrev RowFits : Row → Type 0
+abbrev RowFits : MessageRow → Type 0
 RowFits row = (raw : List ℕ) → AreBytes raw → row.needs ≤ length raw → (m : Message) → row.says raw ≡ Ok m → FitsMessage m
 
-abbrev TableFits : Option Row → Type 0
+abbrev TableFits : Option MessageRow → Type 0
 TableFits None = Unit {0}
 TableFits (Some row) = RowFits row
 
@@ -103,7 +104,7 @@ modify_short_fits : RowFits rows.modify_short_row
 modify_short_fits = plain_fits 19 _ (λ raw all long. (two_lt 14 raw all, two_lt 16 raw all))
 
 -- ---- The table
-choose : (b : Bool) (row : Row) (rest : Option Row) → RowFits row → TableFits rest → TableFits (cond b (Some row) rest)
+choose : (b : Bool) (row : MessageRow) (rest : Option MessageRow) → RowFits row → TableFits rest → TableFits (cond b (Some row) rest)
 choose true row rest here there = here
 choose false row rest here there = there
 
@@ -131,7 +132,7 @@ reads_fit : (raw : List ℕ) (m : Message) → AreBytes raw → reads raw ≡ Ok
 unfolding reads
 reads_fit raw m all e = by (row_of (kind_of raw)) (table_fits (kind_of raw)) e
   where
-    by : (row : Option Row) → TableFits row → reads_by row raw ≡ Ok m → FitsMessage m
+    by : (row : Option MessageRow) → TableFits row → reads_by (λ other. Ok (Other other)) (λ needs has. Err (Short needs has)) row raw ≡ Ok m → FitsMessage m
     by None fits f = subst FitsMessage (ok_ok (Other raw) m f) tt
     by (Some row) fits f = long (nat_lt (length raw) row.needs) refl f
       where
