@@ -79,29 +79,30 @@ fn messages_change_a_book(rt: HostRuntime) {
 }
 
 #[test]
-fn a_book_is_asked_and_copied(rt: HostRuntime) {
+fn levels_and_best_prices(rt: HostRuntime) {
     let ibm = Symbol::from_six(*b"IBM   ");
-    let low = Price::from_long(100_000);
     let high = Price::from_long(110_000);
-
     let book = book_after(&rt, rt.alloc(), &[ADD, MODIFY, REDUCE]);
     assert!(rt; book.level(ibm, Side::Buy, high) == 4);
-    assert!(rt; book.level(ibm, Side::Buy, low) == 0);
+    assert!(rt; book.level(ibm, Side::Buy, Price::from_long(100_000)) == 0);
     assert!(rt; book.level(ibm, Side::Sell, high) == 0);
+    assert!(rt; book.best(ibm, Side::Buy) == Some((high, 4)));
     let empty = book_after(&rt, rt.alloc(), &[ADD, MODIFY, REDUCE, REDUCE_REST]);
     assert!(rt; empty.best(ibm, Side::Buy).is_none());
+}
 
+#[test]
+fn a_copy_and_its_orders_by_id(rt: HostRuntime) {
     let mut book = book_after(&rt, rt.alloc(), &[ADD, ADD_OTHER]);
+    assert!(rt; book.len() == 2);
     assert!(rt; book.reserve(10).is_ok());
     assert!(rt; book.spare() >= 10);
     let copy = book.copy().expect(&rt, "memory");
+    assert!(rt; copy.shares() == 110);
     let mut orders = OrderList::make(rt.alloc());
     assert!(rt; copy.orders_by_id(&mut orders).is_ok());
-    let ids = [3, 5];
     assert!(rt; orders.len() == 2);
-    for (order, id) in orders.as_slice().iter().zip(ids) {
+    for (order, id) in orders.as_slice().iter().zip([3, 5]) {
         assert!(rt; order.id == id);
     }
-    assert!(rt; copy.shares() == 110);
-    assert!(rt; copy.best(ibm, Side::Buy) == Some((high, 10)));
 }
