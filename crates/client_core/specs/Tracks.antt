@@ -1,5 +1,5 @@
 -- What a client stands for.
-use Rattle.std.specs.Prelude.{◌≡◌, ℕ, ◌≤◌, Bool, List}
+use Rattle.std.specs.Prelude.{◌≡◌, ℕ, ◌≤◌, List}
 use Rattle.std.specs.FinMap.{len}
 use Rattle.pitch_model.specs.History.{Entry, Raw, spin_of}
 use Rattle.pitch_model.specs.Reach.{reach, is_held}

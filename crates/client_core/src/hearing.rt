@@ -121,7 +121,12 @@ impl UnitClient {
     }
 
     // Hears messages with rising sequence, and notes what is applied. After OutOfMemory no more is noted.
-    fn hear_messages(&mut self, tape: &mut Tape, first: u32, raws: Raws<'_>) -> Result<Counts, OutOfMemory>
+    fn hear_messages(
+        &mut self,
+        tape: &mut Tape,
+        first: u32,
+        raws: Raws<'_>,
+    ) -> Result<Counts, OutOfMemory>
         requires first { (1 ≤ first) × (first + length raws ≤ 4294967295) }
         ensures tracks { OnOk result ((H : ℕ) (E : List Entry) → Tracks self.old H E → Tracks self.new H (heard_messages first raws.entry E)) }
         ensures keeps { OnOk result ((V : List Raw) → AreVenues V first raws.entry → Keeps self.old V → Keeps self.new V) }
@@ -362,7 +367,12 @@ impl UnitClient {
     }
 
     // Hears messages with rising sequence, and appends what is applied.
-    fn hear_messages_into(&mut self, first: u32, raws: Raws<'_>, applied: &mut RawList) -> Result<Counts, OutOfMemory>
+    fn hear_messages_into(
+        &mut self,
+        first: u32,
+        raws: Raws<'_>,
+        applied: &mut RawList,
+    ) -> Result<Counts, OutOfMemory>
         requires first { (1 ≤ first) × (first + length raws ≤ 4294967295) }
         ensures tracks { OnOk result ((H : ℕ) (E : List Entry) → Tracks self.old H E → Tracks self.new H (heard_messages first raws.entry E)) }
         ensures keeps { OnOk result ((V : List Raw) → AreVenues V first raws.entry → Keeps self.old V → Keeps self.new V) }

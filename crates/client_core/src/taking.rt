@@ -58,7 +58,13 @@ fn drain(hold: &mut Hold, book: &mut UnitBook, tape: &mut Tape)
 }
 
 /// Takes in a message for which there is room, and notes what is applied.
-pub(crate) fn take_in(hold: &mut Hold, book: &mut UnitBook, tape: &mut Tape, sequence: u32, raw: &[u8]) -> Taken
+pub(crate) fn take_in(
+    hold: &mut Hold,
+    book: &mut UnitBook,
+    tape: &mut Tape,
+    sequence: u32,
+    raw: &[u8],
+) -> Taken
     requires sequence { sequence ≤ 4294967294 }
     requires raw { IsRaw raw.now }
     requires room { HasRoom 1 hold.old book.old.spare }
@@ -103,7 +109,12 @@ pub(crate) fn take_in(hold: &mut Hold, book: &mut UnitBook, tape: &mut Tape, seq
 }
 
 /// Takes in a finished image, unless it reaches no further than the floor.
-pub(crate) fn take_image(hold: &mut Hold, book: &mut UnitBook, sequence: u32, image: UnitBook) -> bool
+pub(crate) fn take_image(
+    hold: &mut Hold,
+    book: &mut UnitBook,
+    sequence: u32,
+    image: UnitBook,
+) -> bool
     requires image { orders_of image.book ≤ sequence }
     requires room { HasRoomAfter (map.len hold.old.held) sequence image.spare }
     requires orders { orders_of book.old.book ≤ hold.old.floor }

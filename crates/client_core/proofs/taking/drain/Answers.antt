@@ -7,7 +7,6 @@ use Rattle.client_core.proofs.Slices.{can_less}
 use Rattle.pitch_model.specs.Settling.{Settled}
 use Rattle.hold_buffer.specs.HoldView.{HoldView}
 use Rattle.client_core.specs.Keeping.{has, orders_of}
-
 use Rattle.pitch_model.specs.Book.{Book, after}
 use Rattle.client_core.proofs.Orders.{orders_most}
 use Rattle.client_core.proofs.taking.drain.Goals as goal

@@ -1,6 +1,6 @@
-use Rattle.std.proofs.Common.{List, [], ◌∷◌, refl, sym, ap, ◌∙◌, subst, cond, false, ℕ}
+use Rattle.std.proofs.Common.{List, [], ◌∷◌, refl, ap, ◌∙◌, subst, cond, false, ℕ}
 use Rattle.pitch_model.specs.Book.{book_after}
-use Rattle.pitch_model.specs.History.{Entry, Raw, spin_of}
+use Rattle.pitch_model.specs.History.{Entry, spin_of}
 use Rattle.pitch_model.specs.Honest.{AreImages}
 use Rattle.client_core.specs.Spinning.{Ends, FitsHeld}
 use Rattle.client_core.specs.Tracks.{Tracks, held_number}

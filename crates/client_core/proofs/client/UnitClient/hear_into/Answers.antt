@@ -1,13 +1,10 @@
-use Rattle.std.proofs.Common.{◌≡◌, ◌≢◌, sym, ap, ◌∙◌, subst, take, drop, ◌++◌, ℕ, List, [], ◌∷◌}
+use Rattle.std.proofs.Common.{◌≡◌, sym, ap, ◌∙◌, subst, take, drop, ◌++◌}
 use Rattle.std.proofs.lemmas.List.{append-nil}
-use Rattle.pitch_model.specs.History.{Entry, Raw}
-use Rattle.pitch_model.specs.Heard.{heard, image_end, heard_messages}
+use Rattle.pitch_model.specs.Heard.{heard, heard_messages}
 use Rattle.pitch_model.specs.Honest.{AreVenues, Honest}
 use Rattle.pitch_model.specs.Reach.{reach}
 use Rattle.pitch_model.specs.declared.change.Change.{Change}
-use Rattle.pitch_model.specs.declared.change.ImageEnd.TheVariants.{Taken}
 use Rattle.pitch_model.proofs.Honesty.{honest_messages}
-use Rattle.client_core.specs.Tracks.{Tracks, Keeps}
 use Rattle.client_core.proofs.Outcomes.{if_ok}
 use Rattle.client_core.proofs.Slices.{no_slice}
 use Rattle.client_core.proofs.Still.{still_reach}
@@ -31,7 +28,7 @@ returns-clause-applied c = λ other Image V H E T honest K.
     let is = c.in_ok-counts.ensures.applied V (subst (AreVenues V c.in-Messages.first) (sym c.raws.ensures) are) K in
     let T' = c.in_ok-counts.ensures.tracks H E T in
     let heard_is : heard c.args.item.now E ≡ heard_messages c.in-Messages.first c.raws.result E =
-        ap (λ item. heard item E) c.in-Messages.is ∙ ap (λ rs. heard_messages c.in-Messages.first rs E) (sym c.raws.ensures) in
+    ap (λ item. heard item E) c.in-Messages.is ∙ ap (λ rs. heard_messages c.in-Messages.first rs E) (sym c.raws.ensures) in
     let items = c.args.applied.now.items in
     is ∙ ap (λ n. items ++ drop n (take c.hear_messages_into.new.self.hold.floor V)) T.floor_is
     ∙ ap (λ n. items ++ drop (reach H E) (take n V)) (T'.floor_is ∙ ap (reach H) (sym heard_is))
