@@ -1,5 +1,5 @@
 -- How many orders a book has after a message.
-use Rattle.std.proofs.Common.{◌≡◌, ℕ, ◌+◌, ◌-◌, ◌≤◌, Bool, true, false, cond, ◌||◌, List, length, eqb, refl, arith, Option, Some, None, Ok}
+use Rattle.std.proofs.Common.{Err, ◌≡◌, ℕ, ◌+◌, ◌-◌, ◌≤◌, Bool, true, false, cond, ◌||◌, List, length, eqb, refl, arith, Option, Some, None, Ok}
 use Rattle.std.specs.FinMap.{len, len-remove, len-empty, contains_key}
 use Rattle.std.specs.Cmp.{nat_cmp_total}
 use Rattle.std.specs.Ordering.{nat_cmp}
@@ -87,12 +87,7 @@ module _ (book : Book) (raw : List ℕ) where
     where
       row : (k : ℕ) (row : MessageRow) (rest : Option MessageRow) → (eqb (kind_of raw) k ≡ true → AddsNone (Some row)) → AddsNone rest → AddsNone (cond (eqb (kind_of raw) k) (Some row) rest)
       row k r rest here there = cond_both (eqb (kind_of raw) k) (Some r) rest AddsNone here (λ f. there)
-<<<<<<< HEAD
       add : (k : ℕ) (r : MessageRow) (rest : Option MessageRow) → eqb (kind_of raw) k ≡ false → AddsNone rest → AddsNone (cond (eqb (kind_of raw) k) (Some r) rest)
-=======
-
-      add : (k : ℕ) (r : Row) (rest : Option Row) → eqb (kind_of raw) k ≡ false → AddsNone rest → AddsNone (cond (eqb (kind_of raw) k) (Some r) rest)
->>>>>>> 86e95c0290ebbe95cbb5c037f114a161f99a5c63
       add k r rest other there = cond_both (eqb (kind_of raw) k) (Some r) rest AddsNone (λ t. absurd (both_ways _ other t)) (λ f. there)
 
   no_more : is_add raw ≡ false → orders_of (after book raw) ≤ orders_of book
