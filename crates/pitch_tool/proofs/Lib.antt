@@ -1,3 +1,4 @@
+pub mod Booking
 pub mod Flow
 pub mod Hearing
 pub mod Pieces

@@ -1,6 +1,7 @@
 //! The program `pitch` as one call over words, a source and sinks.
 #![tactic(auto)]
 
+mod books;
 mod ends;
 mod follow;
 mod following;
