@@ -2,7 +2,7 @@ use crate::ends::PIECE;
 use crate::lines::LINE;
 use crate::page::Page;
 use crate::stop::PrintError;
-use crate::units::{hear_block, make_units};
+use crate::units::{hear_block, make_units, print_books};
 use client_core::UnitClient;
 use pitch_fields::OutOfMemory;
 use pitch_io::Sink;
@@ -28,6 +28,7 @@ impl Following {
     ghost use Rattle.pitch_tool.specs.Putting.{PutsSome};
     ghost use Rattle.pitch_tool.specs.Stands.{AllKeep};
     ghost use Rattle.pitch_tool.specs.Standing.{HasHeard, IsReady};
+    ghost use Rattle.pitch_tool.specs.Books.{PrintsBooks, PutsBooks};
 
     /// Nothing was heard, and the hold of each client will have `limit` places.
     pub fn make(alloc: Global, limit: u32) -> Result<Following, OutOfMemory>
@@ -68,5 +69,17 @@ impl Following {
         let overflow = change.overflows > 0;
         self.page.add_block(self.number, header, overflow, change.after);
         Ok(())
+    }
+
+    /// Prints the books of all units that a block named.
+    pub fn print_books<O: Sink>(&mut self, alloc: Global, out: &mut O) -> Result<(), PrintError>
+        requires ready { IsReady self.old }
+        ensures printed { OnOk result ((before : List Block) → HasHeard self.old before
+            → PrintsBooks self.old.limit self.old.clients.items before 256 (O.written out.old) self.old.page.text (O.written out.new) self.new.page.text) }
+        ensures err { OnErr result ((before : List Block) → HasHeard self.old before
+            → PutsBooks self.old.limit self.old.clients.items before (O.written out.old) self.old.page.text (O.written out.new)) }
+        ensures cause { HasCause (O.faults out.old) (O.faults out.new) (result ≡ Err PrintError.PutFailed) }
+    {
+        print_books(alloc, &self.clients, &mut self.page, out)
     }
 }

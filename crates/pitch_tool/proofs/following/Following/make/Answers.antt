@@ -1,4 +1,4 @@
-use Rattle.std.proofs.Common.{◌≡◌, ◌≤◌, ℕ, ap, refl, arith}
+use Rattle.std.proofs.Common.{◌≡◌, ◌≤◌, ℕ, ap, sym, refl, arith, true≢false}
 use Rattle.pitch_tool.specs.Page.{Page}
 use Rattle.pitch_tool.proofs.following.Following.make.Goals as goal
 
@@ -11,4 +11,4 @@ returns-clause-ready c = record {
   }
 
 pub returns-clause-heard : goal.returns-clause-heard
-returns-clause-heard c = record { clients = c.in_ok-make_units.ensures.clients c.args.limit; number_is = refl }
+returns-clause-heard c = record { clients = c.in_ok-make_units.ensures.clients c.args.limit; number_is = refl; units = λ unit named. absurd (true≢false (sym named)) }
