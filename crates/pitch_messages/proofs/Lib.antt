@@ -1,2 +1,5 @@
 pub mod Chains
 pub mod Rows
+pub mod Fields
+pub mod RoundTrip
+pub mod Rewriting

@@ -1,12 +1,9 @@
 -- What a raw says by its row.
-use Rattle.std.proofs.Common.{◌≡◌, ◌≢◌, ℕ, ◌<◌, ◌≤◌, Bool, true, false, cond, List, length, refl, sym, ap, ◌∙◌, arith, subst, Option, None, Some, Result, Ok, Err, slice_index, nat_lt}
+use Rattle.std.proofs.Common.{◌≡◌, ℕ, ◌<◌, ◌≤◌, Bool, cond, List, length, sym, ap, ◌∙◌, arith, subst, Option, None, Some, Ok, Err, slice_index}
 use Rattle.std.specs.Option.{option_map, option_map_or}
-use Rattle.std.proofs.lemmas.Bool.{cond-true, cond-false, lt-ltb, le-ltb}
-use Rattle.std.proofs.lemmas.Bool.Decides.{nat_tests}
+use Rattle.std.proofs.lemmas.Bool.{lt-ltb, le-ltb}
 use Rattle.pitch_messages.specs.Raw.{IsRaw, kind_of}
-use Rattle.pitch_messages.specs.declared.message.Message.{Message}
 use Rattle.pitch_messages.specs.declared.message.Message.TheVariants.{Other}
-use Rattle.pitch_messages.specs.declared.message.ReadError.{ReadError}
 use Rattle.pitch_messages.specs.declared.message.ReadError.TheVariants.{Short}
 use Rattle.pitch_messages.specs.Reading.{Row, row_of, reads, reads_by, needs_of}
 

@@ -3,6 +3,7 @@ ghost use Rattle.std.specs.Option.{option_map};
 ghost use Rattle.pitch_fields.specs.Side.{side_of};
 ghost use Rattle.pitch_messages.specs.Raw.{IsRaw, kind_of};
 ghost use Rattle.pitch_messages.specs.declared.message.ReadError.TheVariants.{BadSide};
+ghost use Rattle.pitch_messages.specs.Writing.{written};
 ghost use Rattle.pitch_messages.specs.Reading.{bytes_at, needs_of, reads, row_of, time_row, add_long_row, add_short_row, executed_row, executed_at_row, reduce_long_row, reduce_short_row, modify_long_row, modify_short_row, delete_row, trade_long_row, trade_short_row, trade_break_row, end_of_session_row, add_expanded_row, trade_expanded_row, unit_clear_row};
 
 use crate::message::{Message, ReadError};
@@ -15,12 +16,7 @@ fn four_at(bytes: &[u8], at: usize) -> [u8; 4]
     requires { at + 4 ≤ length bytes.now }
     ensures { result ≡ bytes_at 4 at bytes.now }
 {
-    [
-        bytes[at],
-        bytes[at + 1],
-        bytes[at + 2],
-        bytes[at + 3],
-    ]
+    [bytes[at], bytes[at + 1], bytes[at + 2], bytes[at + 3]]
 }
 
 // The six bytes from a place.
@@ -381,8 +377,12 @@ pub fn read_bytes(bytes: &[u8]) -> Result<Message, ReadError>
 }
 
 /// The message of a raw, as `read_bytes` says it.
+///
+/// A raw of just the length that its type needs is what `write` makes of its message.
 pub fn read(raw: &Raw) -> Result<Message, ReadError>
-    ensures { result ≡ reads raw.now }
+    ensures said { result ≡ reads raw.now }
+    ensures rewritten { IfOk result (λ message. length raw.now ≡ needs_of (kind_of raw.now) → raw.now ≡ written message) }
 {
-    read_bytes(raw.bytes())
+    let bytes = raw.bytes();
+    read_bytes(bytes)
 }

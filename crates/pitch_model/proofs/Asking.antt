@@ -1,5 +1,5 @@
 -- What a client asks for.
-use Rattle.std.proofs.Common.{◌≡◌, ℕ, ◌≤◌, cond, List, eqb, sym, ap, subst, arith, Option, Some, None, unwrap_or}
+use Rattle.std.proofs.Common.{◌≡◌, ℕ, ◌≤◌, cond, List, sym, ap, subst, arith, Some, None, unwrap_or}
 use Rattle.std.proofs.lemmas.Bool.{eq-eqb}
 use Rattle.pitch_model.specs.History.{Entry}
 use Rattle.pitch_model.specs.Reach.{reach}

@@ -1,13 +1,13 @@
 -- How many sequences are held.
-use Rattle.std.proofs.Common.{◌≡◌, ℕ, suc, ◌+◌, ◌≤◌, ◌<◌, Bool, true, false, ◌&&◌, ◌||◌, cond, List, [], ◌∷◌, length, eqb, ltb, filter, refl, sym, ap, ◌∙◌, arith}
+use Rattle.std.proofs.Common.{◌≡◌, ℕ, suc, ◌≤◌, Bool, true, false, ◌&&◌, ◌||◌, cond, List, [], ◌∷◌, length, eqb, ltb, refl, sym, ap, ◌∙◌, arith}
 use Rattle.std.specs.Set.{is_member, unique_keys, distinct_count}
 use Rattle.std.specs.Cmp.{nat_eq_equiv}
 use Rattle.std.specs.List.{AllByRecursion, IsDistinct}
 use Rattle.std.proofs.lemmas.Map.Made.{length-le_from_is_member, distinct_count-le}
-use Rattle.std.proofs.lemmas.Bool.{false≢true, both_ways, eqb-true, cond_both, or_right, cases_lt, cases_eq}
+use Rattle.std.proofs.lemmas.Bool.{both_ways, eqb-true, cond_both}
 use Rattle.std.proofs.lemmas.Bool.Decides.{nat_tests}
 use Rattle.pitch_model.specs.History.{Entry, Message, Next, GrpUp, GrpDown, GapReply, SpinUp, SpinDown, Advertised, SpinReply, ImageMessages, SpinFinished, Ticked, messages_at, images_at, spin_of}
-use Rattle.pitch_model.specs.Reach.{Part, is_seen, grown, grown_at, settled, reach_of, held_of, held_count, part_of, sequences}
+use Rattle.pitch_model.specs.Reach.{Part, is_seen, grown, settled, reach_of, held_of, held_count, part_of, sequences}
 use Rattle.pitch_model.proofs.Least.{member_held}
 use Rattle.pitch_model.proofs.Rises.{grown_rises}
 

@@ -1,10 +1,10 @@
 -- An entry that raises the reach, and what follows behind it.
-use Rattle.std.proofs.Common.{◌≡◌, ℕ, suc, ◌+◌, ◌≤◌, ◌<◌, Bool, true, false, ◌&&◌, ◌||◌, cond, List, [], ◌∷◌, eqb, ltb, refl, sym, ap, ◌∙◌, subst, inl, inr, arith, add-one}
-use Rattle.std.proofs.lemmas.Bool.{and_parts, and_from, and_right, lt-ltb, le-ltb, cases_lt, cases_eq}
+use Rattle.std.proofs.Common.{◌≡◌, ℕ, suc, ◌+◌, ◌≤◌, ◌<◌, Bool, true, false, ◌&&◌, cond, List, [], ◌∷◌, ltb, refl, sym, ap, ◌∙◌, subst, inl, inr, arith, add-one}
+use Rattle.std.proofs.lemmas.Bool.{and_parts, and_from, and_right, lt-ltb, le-ltb, cases_lt}
 use Rattle.std.proofs.lemmas.Bool.Decides.{nat_tests}
 use Rattle.pitch_model.specs.History.{Entry, Raw, Message, SpinFinished, spin_of, image_finished}
 use Rattle.pitch_model.specs.Reach.{Part, grown, is_seen, reach_of, held_count, part_of, reach, is_held, is_overflow, sequences}
-use Rattle.pitch_model.specs.Settling.{Settled, Draining}
+use Rattle.pitch_model.specs.Settling.{Draining}
 use Rattle.pitch_model.specs.Steps.{RunsOn, Drains}
 use Rattle.pitch_model.proofs.Reaching.{reach_is, joined_reach, next_unseen}
 use Rattle.pitch_model.proofs.Steps.{step_next, step_taken}

@@ -1,11 +1,10 @@
 -- The book, one message after another.
-use Rattle.std.proofs.Common.{◌≡◌, ℕ, zero, suc, ◌+◌, ◌≤◌, List, [], ◌∷◌, ◌++◌, take, get_or, fold, sym, ap, ◌∙◌, arith, Some}
-use Rattle.std.specs.List.{slice_get}
+use Rattle.std.proofs.Common.{◌≡◌, ℕ, zero, suc, ◌+◌, List, [], ◌∷◌, ◌++◌, take, get_or, fold, ap, ◌∙◌, arith, Some}
 use Rattle.std.proofs.Math.Seq.{take-suc}
 use Rattle.std.proofs.lemmas.Option.{slice_get_within, get_or_from_slice_get}
 use Rattle.std.proofs.lemmas.List.Sums.{fold-append}
 use Rattle.pitch_model.specs.History.{Raw}
-use Rattle.pitch_model.specs.Book.{Book, empty_book, after, book_after}
+use Rattle.pitch_model.specs.Book.{empty_book, after, book_after}
 use Rattle.pitch_model.specs.Honest.{message_at}
 
 pub book_after-append : (xs ys : List Raw) → book_after (xs ++ ys) ≡ fold after (book_after xs) ys

@@ -1,17 +1,20 @@
 -- The text of a stream, one block after another.
-use Rattle.std.proofs.Common.{◌≡◌, ◌≢◌, ℕ, zero, suc, ◌+◌, ◌≤◌, ◌<◌, Bool, true, false, ◌||◌, ◌==◌, cond, List, [], ◌∷◌, ◌++◌, length, reverse, eqb, ltb, refl, sym, ap, ◌∙◌, subst, inl, inr, arith, append_assoc, nat_lt, nat_eq}
-use Rattle.std.specs.List.{list_any, IsDistinct}
-use Rattle.std.specs.List.Sorted.{IsStrictlyIncreasing}
+use Rattle.std.proofs.Common.{◌≡◌, ◌≢◌, ℕ, Bool, true, false, ◌||◌, ◌==◌, cond, List, [], ◌∷◌, ◌++◌, reverse, eqb, ltb, refl, sym, ap, ◌∙◌, subst, inl, inr, arith, append_assoc}
+use Rattle.std.specs.List.{list_any, AllByRecursion}
+use Rattle.std.specs.List.Sorted.{IsStrictlyIncreasing, IsStrictlySortedBy}
+use Rattle.std.proofs.lemmas.Map.Keys.{IsStrictlyIncreasing-from_sorted}
+use Rattle.std.specs.Ordering.{nat_cmp}
+use Rattle.std.specs.declared.cmp.Ordering.TheVariants.{Less}
 use Rattle.std.specs.Set.{is_member}
 use Rattle.std.proofs.lemmas.List.{append-nil, reverse-append}
 use Rattle.std.proofs.lemmas.Grind.{reverse_onto}
-use Rattle.std.proofs.lemmas.Bool.{cond_both, cond-true, cond-false, eqb-true, eq-eqb, ne_eqb, or_left, or_right, or_cases, cases_lt, cases_eq}
+use Rattle.std.proofs.lemmas.Bool.{cond_both, cond-true, cond-false, eqb-true, eq-eqb, ne_eqb, lt-ltb, le-ltb, cases_lt, cases_eq}
 use Rattle.std.proofs.lemmas.Bool.Decides.{nat_tests}
 use Rattle.unit_packets.specs.Blocks.{Block}
 use Rattle.pitch_model.specs.History.{Entry, Raw}
-use Rattle.pitch_model.specs.Heard.{heard_block, heard_sequenced, heard_messages}
+use Rattle.pitch_model.specs.Heard.{heard_block, heard_sequenced}
 use Rattle.pitch_model.specs.Honest.{Honest}
-use Rattle.pitch_model.specs.Follow.{unit_history, line_after, line_at, lines_after, with_number, units_of, AllHonest, follow_text, books_of}
+use Rattle.pitch_model.specs.Follow.{unit_history, line_after, lines_after, with_number, units_of, AllHonest}
 use Rattle.pitch_model.proofs.Honesty.{honest_before}
 
 -- ---- Lines
@@ -66,9 +69,42 @@ pub member-units_of : (before : List Block) (unit : ℕ) → is_member eqb (unit
 member-units_of [] unit = refl
 member-units_of (block ∷ before) unit = member-with_number block.unit (units_of before) unit ∙ ap (λ (b : Bool). eqb unit block.unit || b) (member-units_of before unit)
 
--- each number is below those after it
-AllAbove : ℕ → List ℕ → Type 0
-AllAbove n ms = (q : ℕ) → is_member eqb ms q ≡ true → n < q
+all_with : (m n : ℕ) (ms : List ℕ) → nat_cmp m n ≡ Less → AllByRecursion (λ y. nat_cmp m y ≡ Less) ms → AllByRecursion (λ y. nat_cmp m y ≡ Less) (with_number n ms)
+all_with m n [] below all = (below, tt)
+all_with m n (x ∷ xs) below all =
+    cond_both (eqb n x) (x ∷ xs) (cond (ltb n x) (n ∷ x ∷ xs) (x ∷ with_number n xs)) (AllByRecursion (λ y. nat_cmp m y ≡ Less))
+    (λ t. all)
+    (λ f. cond_both (ltb n x) (n ∷ x ∷ xs) (x ∷ with_number n xs) (AllByRecursion (λ y. nat_cmp m y ≡ Less)) (λ t. (below, all)) (λ g. (all.0, all_with m n xs below all.1)))
+
+all_below : (n m : ℕ) (ms : List ℕ) → nat_cmp n m ≡ Less → AllByRecursion (λ y. nat_cmp m y ≡ Less) ms → AllByRecursion (λ y. nat_cmp n y ≡ Less) ms
+all_below n m [] below all = tt
+all_below n m (x ∷ xs) below all = (less_less n m x below all.0, all_below n m xs below all.1)
+  where
+    less_less : (n m x : ℕ) → nat_cmp n m ≡ Less → nat_cmp m x ≡ Less → nat_cmp n x ≡ Less
+    less_less n m x a b = grind (arith, nat_tests, a, b)
+
+with_number_rises : (n : ℕ) (ms : List ℕ) → IsStrictlySortedBy nat_cmp ms → IsStrictlySortedBy nat_cmp (with_number n ms)
+unfolding IsStrictlySortedBy
+with_number_rises n [] s = (tt, tt)
+with_number_rises n (m ∷ ms) s = elim (cases_eq n m) [
+  | inl same ↦ subst (λ (b : Bool). IsStrictlySortedBy nat_cmp (cond b (m ∷ ms) (cond (ltb n m) (n ∷ m ∷ ms) (m ∷ with_number n ms)))) (sym (eq-eqb n m same)) s
+  | inr apart ↦ subst (λ (b : Bool). IsStrictlySortedBy nat_cmp (cond b (m ∷ ms) (cond (ltb n m) (n ∷ m ∷ ms) (m ∷ with_number n ms)))) (sym (ne_eqb n m apart))
+      (elim (cases_lt n m) [
+        | inl below ↦ subst (λ (b : Bool). IsStrictlySortedBy nat_cmp (cond b (n ∷ m ∷ ms) (m ∷ with_number n ms))) (sym (lt-ltb n m below))
+            (let l : nat_cmp n m ≡ Less = grind (arith, nat_tests, below) in ((l, all_below n m ms l s.0), s))
+        | inr above ↦ subst (λ (b : Bool). IsStrictlySortedBy nat_cmp (cond b (n ∷ m ∷ ms) (m ∷ with_number n ms))) (sym (le-ltb n m above))
+            (let l : nat_cmp m n ≡ Less = grind (arith, nat_tests, above, apart) in (all_with m n ms l s.0, with_number_rises n ms s.1))
+      ])
+]
+
+units_sorted : (before : List Block) → IsStrictlySortedBy nat_cmp (units_of before)
+unfolding IsStrictlySortedBy
+units_sorted [] = tt
+units_sorted (block ∷ before) = with_number_rises block.unit (units_of before) (units_sorted before)
+
+-- the units rise, and so none is listed twice
+pub units_rise : (before : List Block) → IsStrictlyIncreasing (units_of before)
+units_rise before = IsStrictlyIncreasing-from_sorted (units_of before) (units_sorted before)
 
 -- ---- Histories
 pub history_same : (block : Block) (before : List Block) → unit_history block.unit (block ∷ before) ≡ heard_block block (unit_history block.unit before)

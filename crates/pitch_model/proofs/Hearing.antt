@@ -1,13 +1,15 @@
 -- What is heard, one message after another.
-use Rattle.std.proofs.Common.{◌≡◌, ℕ, suc, ◌+◌, ◌≤◌, ◌<◌, Bool, true, false, cond, List, [], ◌∷◌, ◌++◌, take, length, refl, sym, ap, ◌∙◌, subst, arith, Some, add-one, length-take, ◌==◌}
+use Rattle.std.proofs.Common.{◌≡◌, ℕ, suc, ◌+◌, ◌≤◌, ◌<◌, Bool, true, false, cond, List, [], ◌∷◌, ◌++◌, take, length, refl, sym, ap, ◌∙◌, arith, Some, add-one, length-take, ◌==◌, inl, inr}
 use Rattle.std.specs.List.{slice_get}
 use Rattle.std.proofs.Math.Seq.{take-suc}
 use Rattle.std.proofs.lemmas.Option.{slice_get_within, get_or_from_slice_get}
 use Rattle.std.proofs.lemmas.Bool.{cond-true, cond-false, eq-eqb, ne_eqb}
-use Rattle.unit_packets.specs.Blocks.{Block}
+use Rattle.unit_packets.specs.Blocks.{Block, StaysWithin}
 use Rattle.pitch_model.specs.History.{Entry, Raw, Message}
 use Rattle.pitch_model.specs.Reach.{is_overflow}
-use Rattle.pitch_model.specs.Heard.{IsItemOf, heard, heard_block, heard_sequenced, heard_messages, is_fresh, fresh_messages, overflowed_messages, block_overflows, overflows_of}
+use Rattle.pitch_model.specs.Heard.{IsItem, IsItemOf, heard, heard_block, heard_sequenced, heard_messages, is_fresh, fresh_messages, overflowed_messages, fresh_of, overflows_of, image_end, block_fresh, block_overflows, change_of, block_change}
+use Rattle.pitch_model.specs.Status.{status_of}
+use Rattle.pitch_model.specs.declared.change.ImageEnd.TheVariants.{NoImage}
 use Rattle.pitch_model.specs.declared.item.Item.{Item}
 use Rattle.pitch_model.specs.declared.item.Item.TheVariants as item
 
@@ -105,3 +107,70 @@ overflows_item H block (item.Advertised sequence) E is = absurd is
 overflows_item H block (item.SpinReply sequence orders status) E is = absurd is
 overflows_item H block (item.ImageMessages raws) E is = absurd is
 overflows_item H block (item.SpinFinished sequence) E is = absurd is
+
+pub fresh_item : (H : ℕ) (block : Block) (it : Item) (E : List Entry) → IsItemOf block it → fresh_of H E it ≡ block_fresh H E block
+fresh_item H block (item.Messages first raws) E is =
+    let sequenced = ne_eqb block.sequence 0 (λ e. let p = is.0 in omega arith) in
+    ap (λ n. fresh_messages H n raws.items E) is.2 ∙ ap (λ rs. fresh_messages H block.sequence rs E) is.3 ∙ sym (cond-false (block.sequence == 0) 0 (fresh_messages H block.sequence block.raws E) sequenced)
+fresh_item H block (item.Next next) E is =
+    let sequenced = ne_eqb block.sequence 0 (λ e. let p = is.0 in omega arith) in
+    ap (λ rs. fresh_messages H block.sequence rs E) (sym is.1) ∙ sym (cond-false (block.sequence == 0) 0 (fresh_messages H block.sequence block.raws E) sequenced)
+fresh_item H block item.Nothing E is = sym (cond-true (block.sequence == 0) 0 (fresh_messages H block.sequence block.raws E) (eq-eqb block.sequence 0 is))
+fresh_item H block item.GrpUp E is = absurd is
+fresh_item H block item.GrpDown E is = absurd is
+fresh_item H block (item.GapReply sequence count status) E is = absurd is
+fresh_item H block item.SpinUp E is = absurd is
+fresh_item H block item.SpinDown E is = absurd is
+fresh_item H block (item.Advertised sequence) E is = absurd is
+fresh_item H block (item.SpinReply sequence orders status) E is = absurd is
+fresh_item H block (item.ImageMessages raws) E is = absurd is
+fresh_item H block (item.SpinFinished sequence) E is = absurd is
+
+no_image_item : (H : ℕ) (block : Block) (it : Item) (E : List Entry) → IsItemOf block it → image_end H E it ≡ NoImage
+no_image_item H block (item.Messages first raws) E is = refl
+no_image_item H block (item.Next next) E is = refl
+no_image_item H block item.Nothing E is = refl
+no_image_item H block item.GrpUp E is = refl
+no_image_item H block item.GrpDown E is = refl
+no_image_item H block (item.GapReply sequence count status) E is = refl
+no_image_item H block item.SpinUp E is = refl
+no_image_item H block item.SpinDown E is = refl
+no_image_item H block (item.Advertised sequence) E is = refl
+no_image_item H block (item.SpinReply sequence orders status) E is = refl
+no_image_item H block (item.ImageMessages raws) E is = refl
+no_image_item H block (item.SpinFinished sequence) E is = absurd is
+
+pub change_item : (H : ℕ) (block : Block) (it : Item) (E : List Entry) → IsItemOf block it → change_of H E it ≡ block_change H E block
+change_item H block it E is = λ i. record {
+  before = status_of H E;
+  after = status_of H (heard_item block it E is i);
+  fresh = fresh_item H block it E is i;
+  overflows = overflows_item H block it E is i;
+  image = no_image_item H block it E is i;
+}
+
+-- the item of a block of a feed is an item of a feed
+pub item_fits : (block : Block) (it : Item) → StaysWithin block.sequence (length block.raws) → IsItemOf block it → IsItem it
+item_fits block (item.Messages first raws) within is =
+    let named = is.2 in
+    let some = is.0 in
+    let filled = is.1 in
+    let count : length raws.items ≡ length block.raws = ap (λ (rs : List Raw). length rs) is.3 in
+    elim within [
+      | inl none ↦ absurd (omega arith)
+      | inr rest ↦ elim rest [
+        | inl empty ↦ absurd (omega arith)
+        | inr fits ↦ (omega arith, omega arith)
+      ]
+    ]
+item_fits block (item.Next next) within is = let named = is.2 in let some = is.0 in omega arith
+item_fits block item.Nothing within is = tt
+item_fits block item.GrpUp within is = tt
+item_fits block item.GrpDown within is = tt
+item_fits block (item.GapReply sequence count status) within is = tt
+item_fits block item.SpinUp within is = tt
+item_fits block item.SpinDown within is = tt
+item_fits block (item.Advertised sequence) within is = tt
+item_fits block (item.SpinReply sequence orders status) within is = tt
+item_fits block (item.ImageMessages raws) within is = tt
+item_fits block (item.SpinFinished sequence) within is = tt

@@ -1,8 +1,11 @@
 -- What an honest history says of what was heard last.
-use Rattle.std.proofs.Common.{◌≡◌, ℕ, zero, suc, ◌+◌, List, [], ◌∷◌, Option, Some, None, ◌∙◌, subst, arith}
-use Rattle.pitch_model.specs.History.{Entry, Raw, Message}
+use Rattle.std.proofs.Common.{◌≡◌, ℕ, zero, suc, ◌+◌, List, [], ◌∷◌, Option, Some, None, ◌∙◌, subst, arith, ◌-◌, ◌≤◌, length, unwrap_or}
+use Rattle.std.proofs.lemmas.Option.{slice_get_within}
+use Rattle.pitch_model.specs.History.{Entry, Raw, Message, Next, GrpUp, GrpDown, GapReply, SpinUp, SpinDown, Advertised, SpinReply, ImageMessages, SpinFinished, Ticked, spin_of, image_finished}
+use Rattle.pitch_model.specs.Reach.{sequences}
+use Rattle.pitch_model.specs.Status.{raised, top_of}
 use Rattle.pitch_model.specs.Heard.{heard, heard_messages}
-use Rattle.pitch_model.specs.Honest.{message_at, AreVenues, Honest}
+use Rattle.pitch_model.specs.Honest.{message_at, AreVenues, AreImages, Honest}
 use Rattle.pitch_model.specs.declared.item.Item.{Item}
 use Rattle.pitch_model.specs.declared.item.Item.TheVariants as item
 
@@ -37,3 +40,32 @@ module _ (Image : List Raw → ℕ → List Raw) (V : List Raw) where
   honest_heard (item.SpinReply sequence orders status) E h = h.1
   honest_heard (item.ImageMessages raws) E h = h.1
   honest_heard (item.SpinFinished sequence) E h = h.1
+
+  -- ---- An honest history tells of no message that the venue has not
+  told_one : (k : ℕ) (top : Option ℕ) → k ≤ length V → unwrap_or top 0 ≤ length V → unwrap_or (raised (k ∷ []) top) 0 ≤ length V
+  told_one k None fits before = fits
+  told_one k (Some t) fits before = omega arith
+
+  told_image : (images : List (ℕ × List Raw)) (top : Option ℕ) → AreImages Image V images → unwrap_or top 0 ≤ length V → unwrap_or (raised (sequences images) top) 0 ≤ length V
+  told_image [] top are before = before
+  told_image (image ∷ images) None are before = are.0
+  told_image (image ∷ images) (Some t) are before = let fits = are.0 in omega arith
+
+  stands : (k : ℕ) (raw : Raw) → message_at V k ≡ Some raw → k ≤ length V
+  stands zero raw at = omega arith
+  stands (suc k) raw at = let l = slice_get_within V k raw at in omega arith
+
+  pub honest_top : (E : List Entry) → Honest Image V E → unwrap_or (top_of E) 0 ≤ length V
+  honest_top [] h = omega arith
+  honest_top (Message k raw ∷ E) h = told_one k (top_of E) (stands k raw h.0) (honest_top E h.1)
+  honest_top (Next next ∷ E) h = told_one (next - 1) (top_of E) (let fits = h.0 in omega arith) (honest_top E h.1)
+  honest_top (Advertised s ∷ E) h = told_one s (top_of E) h.0 (honest_top E h.1)
+  honest_top (SpinFinished s ∷ E) h = told_image (image_finished (spin_of E) s) (top_of E) h.0 (honest_top E h.1)
+  honest_top (GrpUp ∷ E) h = honest_top E h.1
+  honest_top (GrpDown ∷ E) h = honest_top E h.1
+  honest_top (GapReply accepted ∷ E) h = honest_top E h.1
+  honest_top (SpinUp ∷ E) h = honest_top E h.1
+  honest_top (SpinDown ∷ E) h = honest_top E h.1
+  honest_top (SpinReply s orders accepted ∷ E) h = honest_top E h.1
+  honest_top (ImageMessages raws ∷ E) h = honest_top E h.1
+  honest_top (Ticked ask ∷ E) h = honest_top E h.1

@@ -1,12 +1,10 @@
 -- The least of the held sequences.
-use Rattle.std.proofs.Common.{◌≡◌, ℕ, ◌≤◌, ◌<◌, Bool, true, false, ◌&&◌, ◌||◌, cond, List, [], ◌∷◌, eqb, ltb, min, refl, sym, ap, ◌∙◌, subst, inl, inr, arith, Option, Some, None}
+use Rattle.std.proofs.Common.{◌≡◌, ℕ, ◌≤◌, Bool, true, false, ◌&&◌, ◌||◌, List, [], ◌∷◌, eqb, ltb, min, refl, sym, ap, ◌∙◌, subst, inl, inr, arith, Option, Some, None}
 use Rattle.std.specs.Option.{option_map_or}
 use Rattle.std.specs.Set.{is_member}
 use Rattle.std.specs.Cmp.{nat_eq_equiv}
 use Rattle.std.proofs.lemmas.Map.Made.{is_member-filter}
-use Rattle.std.proofs.lemmas.Bool.{or_cases, or_left, or_right, or_parts, false≢true, both_ways, eqb-true, eq-eqb, cases_Bool, cases_lt, cases_eq, false_from_ne_true}
-use Rattle.std.proofs.lemmas.Bool.Decides.{nat_tests}
-use Rattle.pitch_model.specs.History.{Entry}
+use Rattle.std.proofs.lemmas.Bool.{or_cases, or_left, or_right, false≢true, both_ways, eqb-true, eq-eqb, cases_lt}
 use Rattle.pitch_model.specs.Reach.{Part, is_seen, reach_of, held_of}
 use Rattle.pitch_model.specs.Asking.{least_of}
 

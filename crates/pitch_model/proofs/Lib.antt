@@ -13,3 +13,6 @@ pub mod Asking
 pub mod Folding
 pub mod Books
 pub mod Following
+pub mod Prices
+pub mod Images
+pub mod Widths

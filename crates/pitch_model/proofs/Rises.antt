@@ -1,11 +1,11 @@
 -- The reach never falls.
-use Rattle.std.proofs.Common.{◌≡◌, ℕ, suc, ◌≤◌, ◌<◌, inl, inr, Bool, true, ◌||◌, List, [], ◌∷◌, ◌++◌, eqb, subst, sym, ◌∙◌, arith, refl}
+use Rattle.std.proofs.Common.{◌≡◌, ℕ, ◌≤◌, inl, inr, true, List, [], ◌∷◌, ◌++◌, eqb, ◌∙◌, arith}
 use Rattle.std.specs.Set.{is_member}
 use Rattle.std.specs.List.{list_any}
 use Rattle.std.proofs.lemmas.Bool.{or_cases, or_left, or_right, cond_both}
 use Rattle.std.proofs.lemmas.List.Folds.{list_any-append}
 use Rattle.pitch_model.specs.History.{Entry, images_at, messages_at, spin_of}
-use Rattle.pitch_model.specs.Reach.{Part, Joined, IsReach, is_anchor, is_seen, grown, settled, overflows, reach_of, reach, part_of, grown_at, sequences}
+use Rattle.pitch_model.specs.Reach.{Part, Joined, grown, overflows, reach_of, reach, part_of, grown_at, sequences}
 use Rattle.pitch_model.proofs.Reaching.{reach_is, joined_reach, base_joined}
 
 member_more : (js ks : List ℕ) (k : ℕ) → is_member eqb ks k ≡ true → is_member eqb (js ++ ks) k ≡ true

@@ -1,9 +1,8 @@
 -- The reach is at most the top.
-use Rattle.std.proofs.Common.{◌≡◌, ℕ, zero, suc, ◌+◌, ◌-◌, ◌≤◌, ◌<◌, Bool, true, false, cond, List, [], ◌∷◌, ◌++◌, max, refl, sym, ap, ◌∙◌, subst, inl, inr, arith, Option, Some, None, unwrap_or, eqb, ltb, ◌&&◌}
-use Rattle.std.specs.Set.{is_member}
+use Rattle.std.proofs.Common.{ℕ, ◌≤◌, List, [], ◌∷◌, ◌++◌, arith, Option, Some, None, unwrap_or, eqb, ◌&&◌}
 use Rattle.std.proofs.lemmas.Bool.{cond_both}
-use Rattle.pitch_model.specs.History.{Entry, Raw, Message, Next, GrpUp, GrpDown, GapReply, SpinUp, SpinDown, Advertised, SpinReply, ImageMessages, SpinFinished, Ticked, images_at, messages_at, spin_of, Spinning, NoSpin, Asked, Running, image_finished, adds}
-use Rattle.pitch_model.specs.Reach.{Part, grown, settled, overflows, reach_of, part_of, reach, sequences, largest, top_of_part, grown_at}
+use Rattle.pitch_model.specs.History.{Entry, Message, Next, GrpUp, GrpDown, GapReply, SpinUp, SpinDown, Advertised, SpinReply, ImageMessages, SpinFinished, Ticked, images_at, messages_at, spin_of, Spinning, NoSpin, Asked, Running, image_finished, adds}
+use Rattle.pitch_model.specs.Reach.{Part, overflows, reach_of, part_of, reach, sequences, largest, top_of_part, grown_at}
 use Rattle.pitch_model.specs.Status.{raised, top_of, told_at}
 use Rattle.pitch_model.proofs.Reaching.{joined_reach, joined_le_top}
 

@@ -1,5 +1,5 @@
 -- What a client makes of its history: which ends are up, what is owed, and what it asks for.
-use Rattle.std.specs.Prelude.{◌≡◌, ℕ, ◌+◌, ◌-◌, Bool, true, false, ◌&&◌, ◌||◌, not, cond, List, [], ◌∷◌, Option, Some, None, nat_lt, ◌==◌, min, option_map, unwrap_or}
+use Rattle.std.specs.Prelude.{ℕ, ◌+◌, ◌-◌, Bool, true, false, ◌&&◌, ◌||◌, not, cond, List, [], ◌∷◌, Option, Some, None, nat_lt, ◌==◌, min, option_map, unwrap_or}
 use Rattle.std.specs.Option.{option_map_or}
 use Rattle.pitch_model.specs.History.{Entry, GrpUp, GrpDown, GapReply, SpinUp, SpinDown, Advertised, Ticked, Spinning, NoSpin, spin_of}
 use Rattle.pitch_model.specs.Reach.{reach, is_overflow, part_of, held_of}

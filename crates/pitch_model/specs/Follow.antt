@@ -1,5 +1,5 @@
 -- What `follow` writes for the blocks of a stream. Blocks that came before stand newest first, as the entries of a history do.
-use Rattle.std.specs.Prelude.{◌≡◌, ℕ, ◌+◌, Bool, List, [], ◌∷◌, ◌++◌, ◌==◌, nat_lt, length, take, reverse, codes, decimal, if◌then◌else◌}
+use Rattle.std.specs.Prelude.{ℕ, ◌+◌, Bool, List, [], ◌∷◌, ◌++◌, ◌==◌, nat_lt, length, take, reverse, codes, decimal, if◌then◌else◌}
 use Rattle.std.specs.List.{flat_map}
 use Rattle.unit_packets.specs.Blocks.{Block}
 use Rattle.pitch_model.specs.declared.status.Status.{Status}

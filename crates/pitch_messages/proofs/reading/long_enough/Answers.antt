@@ -1,4 +1,4 @@
-use Rattle.std.proofs.Common.{◌≤◌, ℕ, length, slice_index, sym, ap, ◌∙◌, arith, refl}
+use Rattle.std.proofs.Common.{length, sym, ◌∙◌, arith, refl}
 use Rattle.pitch_messages.specs.Raw.{kind_of}
 use Rattle.pitch_messages.specs.Reading.{row_of}
 use Rattle.pitch_messages.proofs.Rows.{short, long, unknown}

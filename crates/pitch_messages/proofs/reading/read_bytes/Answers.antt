@@ -1,5 +1,4 @@
-use Rattle.std.proofs.Common.{◌≡◌, ◌∙◌, ℕ, List, length, refl, ap, None, Ok, Option, rules}
-use Rattle.pitch_messages.specs.declared.message.Message.{Message}
+use Rattle.std.proofs.Common.{◌≡◌, ◌∙◌, ℕ, List, length, refl, ap, None, Ok, rules}
 use Rattle.pitch_messages.specs.declared.message.Message.TheVariants.{Other}
 use Rattle.pitch_messages.specs.Raw.{kind_of}
 use Rattle.pitch_messages.specs.Reading.{row_of, time_row, add_long_row, add_short_row, executed_row, executed_at_row, reduce_long_row, reduce_short_row, modify_long_row, modify_short_row, delete_row, trade_long_row, trade_short_row, trade_break_row, end_of_session_row, add_expanded_row, trade_expanded_row, unit_clear_row}

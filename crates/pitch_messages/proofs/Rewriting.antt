@@ -1,0 +1,213 @@
+-- A raw of just the length that its type needs is the writing of what it says.
+use Rattle.std.proofs.Common.{◌≡◌, ℕ, suc, ◌+◌, ◌<◌, ◌≤◌, Bool, true, false, cond, List, [], ◌∷◌, ◌++◌, length, take, drop, get_or, refl, sym, ap, ◌∙◌, arith, subst, slice_index, ◌⊎◌, Option, None, Some, Result, Ok, Err, IfOk, inl, inr, lit≤, nat_lt, ◌==◌}
+use Rattle.std.specs.Option.{option_map_or}
+use Rattle.std.proofs.Math.ListN.{drop_of_length-le}
+use Rattle.std.proofs.lemmas.List.{append-nil, drop-drop, length-drop, get_or-drop, take-append-drop}
+use Rattle.std.proofs.Math.Seq.{drop-cons}
+use Rattle.std.proofs.lemmas.Bool.{cases_Bool, cases_eq}
+use Rattle.std.proofs.lemmas.Bool.Decides.{nat_tests}
+use Rattle.byteorder.specs.Endian.{little_bytes}
+use Rattle.pitch_fields.specs.Fields.{number_at}
+use Rattle.pitch_fields.specs.Side.{byte_of, side_of}
+use Rattle.pitch_fields.specs.declared.side.Side.{Side}
+use Rattle.pitch_fields.specs.declared.side.Side.TheVariants.{Buy, Sell}
+use Rattle.pitch_fields.proofs.LittleEndian.{bytes_of_number}
+use Rattle.pitch_messages.specs.Raw.{IsRaw, kind_of}
+use Rattle.pitch_messages.specs.Reading.{Row, reads, reads_by, row_of, needs_of, bytes_at, with_side, time_row, add_long_row, add_short_row, executed_row, executed_at_row, reduce_long_row, reduce_short_row, modify_long_row, modify_short_row, delete_row, trade_long_row, trade_short_row, trade_break_row, end_of_session_row, add_expanded_row, trade_expanded_row, unit_clear_row}
+use Rattle.pitch_messages.specs.Writing.{written}
+use Rattle.pitch_messages.specs.declared.message.Message.{Message}
+use Rattle.pitch_messages.specs.declared.message.ReadError.TheVariants.{Short}
+
+-- a raw of just this length and type
+pub record Whole (needs type : ℕ) (raw : List ℕ) : Type 0 where
+  pub size : length raw ≡ needs
+  pub first : slice_index raw 0 ≡ needs
+  pub kind : slice_index raw 1 ≡ type
+  pub small : (k : ℕ) → get_or raw k 0 < 256
+
+-- the bytes from a place on, as a field and what follows it
+text : (n at : ℕ) {needs type : ℕ} {raw rest : List ℕ} → Whole needs type raw → rest ≡ drop (at + n) raw → bytes_at n at raw ++ rest ≡ drop at raw
+text n at {raw = raw} whole more = ap (λ (xs : List ℕ). take n (drop at raw) ++ xs) (more ∙ sym (drop-drop n at raw)) ∙ take-append-drop n (drop at raw)
+
+text_end : (n at : ℕ) {needs type : ℕ} {raw : List ℕ} → Whole needs type raw → needs ≡ at + n → bytes_at n at raw ≡ drop at raw
+text_end n at {raw = raw} whole last =
+    sym (append-nil (take n (drop at raw))) ∙ text n at whole (sym (drop_of_length-le raw (omega (arith, whole.size, last))))
+
+spelled_number : (n at : ℕ) {needs type : ℕ} {raw : List ℕ} → Whole needs type raw → at + n ≤ needs → little_bytes n (number_at n at raw) ≡ bytes_at n at raw
+spelled_number n at {raw = raw} whole within =
+    bytes_of_number n (drop at raw) (omega (arith, length-drop at raw, whole.size)) (λ k. rw (get_or-drop at raw k 0) (whole.small (at + k)))
+
+number : (n at : ℕ) {needs type : ℕ} {raw rest : List ℕ} → Whole needs type raw → at + n ≤ needs → rest ≡ drop (at + n) raw → little_bytes n (number_at n at raw) ++ rest ≡ drop at raw
+number n at {rest = rest} whole within more = ap (λ (xs : List ℕ). xs ++ rest) (spelled_number n at whole within) ∙ text n at whole more
+
+number_end : (n at : ℕ) {needs type : ℕ} {raw : List ℕ} → Whole needs type raw → needs ≡ at + n → little_bytes n (number_at n at raw) ≡ drop at raw
+number_end n at whole last = spelled_number n at whole (omega (arith, last)) ∙ text_end n at whole last
+
+byte : (at : ℕ) {needs type : ℕ} {raw rest : List ℕ} → Whole needs type raw → at + 1 ≤ needs → rest ≡ drop (at + 1) raw → slice_index raw at ∷ rest ≡ drop at raw
+byte at {raw = raw} whole within more =
+    let here : at < length raw = omega (arith, whole.size) in
+    let next : at + 1 ≡ suc at = omega arith in
+    ap (λ (xs : List ℕ). slice_index raw at ∷ xs) (more ∙ ap (λ (n : ℕ). drop n raw) next) ∙ sym (drop-cons raw at 0 here)
+
+byte_end : (at : ℕ) {needs type : ℕ} {raw : List ℕ} → Whole needs type raw → needs ≡ at + 1 → slice_index raw at ∷ [] ≡ drop at raw
+byte_end at {raw = raw} whole last = byte at whole (omega (arith, last)) (sym (drop_of_length-le raw (omega (arith, whole.size, last))))
+
+side_test : (t u : Bool) (side : Side) → cond t (Some Buy) (cond u (Some Sell) None) ≡ Some side → ((t ≡ true) × (side ≡ Buy)) ⊎ ((u ≡ true) × (side ≡ Sell))
+side_test true u side is = inl (refl, cc)
+side_test false true side is = inr (refl, cc)
+side_test false false side is = cc
+
+side_byte : (b : ℕ) (side : Side) → side_of b ≡ Some side → byte_of side ≡ b
+side_byte b side is = elim (side_test (b == 66) (b == 83) side is) [
+  | inl (t, buy) ↦ ap byte_of buy ∙ sym (grind (arith, nat_tests, t))
+  | inr (t, sell) ↦ ap byte_of sell ∙ sym (grind (arith, nat_tests, t))
+]
+
+side_at : {needs type : ℕ} {raw rest : List ℕ} (side : Side) → Whole needs type raw → side_of (slice_index raw 14) ≡ Some side → 15 ≤ needs → rest ≡ drop 15 raw → byte_of side ∷ rest ≡ drop 14 raw
+side_at {raw = raw} {rest = rest} side whole is within more = ap (λ (b : ℕ). b ∷ rest) (side_byte (slice_index raw 14) side is) ∙ byte 14 whole within more
+
+front : {needs type : ℕ} {raw rest : List ℕ} → Whole needs type raw → 2 ≤ needs → rest ≡ drop 2 raw → raw ≡ needs ∷ type ∷ rest
+front {needs} {type} {raw} {rest} whole within more =
+    sym (ap (λ (n : ℕ). n ∷ type ∷ rest) (sym whole.first) ∙ ap (λ (k : ℕ). slice_index raw 0 ∷ k ∷ rest) (sym whole.kind)
+    ∙ byte 0 whole (omega (arith, within)) (byte 1 whole (omega (arith, within)) more))
+
+-- what holds of the message where the side is one
+with_a_side : (o : Option Side) (b : ℕ) (message : Side → Message) (P : Message → Type 0) → ((side : Side) → o ≡ Some side → P (message side)) → IfOk (with_side o b message) P
+with_a_side None b message P holds = tt
+with_a_side (Some side) b message P holds = holds side refl
+
+-- what a row says of a raw of just its length is written as that raw
+abbrev pub IsSound : ℕ → Row → Type 0
+IsSound kind row = (raw : List ℕ) → Whole row.needs kind raw → IfOk (row.says raw) (λ m. raw ≡ written m)
+
+time_sound : IsSound 32 time_row
+unfolding written
+time_sound raw w = front w (lit≤ tt) (number_end 4 2 w refl)
+
+add_long_sound : IsSound 33 add_long_row
+unfolding written
+add_long_sound raw w = with_a_side (side_of (slice_index raw 14)) (slice_index raw 14) _ (λ m. raw ≡ written m) (λ side is. front w (lit≤ tt) (number 4 2 w (lit≤ tt) (number 8 6 w (lit≤ tt) (side_at side w is (lit≤ tt) (number 4 15 w (lit≤ tt) (text 6 19 w (number 8 25 w (lit≤ tt) (byte_end 33 w refl))))))))
+
+add_short_sound : IsSound 34 add_short_row
+unfolding written
+add_short_sound raw w = with_a_side (side_of (slice_index raw 14)) (slice_index raw 14) _ (λ m. raw ≡ written m) (λ side is. front w (lit≤ tt) (number 4 2 w (lit≤ tt) (number 8 6 w (lit≤ tt) (side_at side w is (lit≤ tt) (number 2 15 w (lit≤ tt) (text 6 17 w (number 2 23 w (lit≤ tt) (byte_end 25 w refl))))))))
+
+executed_sound : IsSound 35 executed_row
+unfolding written
+executed_sound raw w = front w (lit≤ tt) (number 4 2 w (lit≤ tt) (number 8 6 w (lit≤ tt) (number 4 14 w (lit≤ tt) (number_end 8 18 w refl))))
+
+executed_at_sound : IsSound 36 executed_at_row
+unfolding written
+executed_at_sound raw w = front w (lit≤ tt) (number 4 2 w (lit≤ tt) (number 8 6 w (lit≤ tt) (number 4 14 w (lit≤ tt) (number 4 18 w (lit≤ tt) (number 8 22 w (lit≤ tt) (number_end 8 30 w refl))))))
+
+reduce_long_sound : IsSound 37 reduce_long_row
+unfolding written
+reduce_long_sound raw w = front w (lit≤ tt) (number 4 2 w (lit≤ tt) (number 8 6 w (lit≤ tt) (number_end 4 14 w refl)))
+
+reduce_short_sound : IsSound 38 reduce_short_row
+unfolding written
+reduce_short_sound raw w = front w (lit≤ tt) (number 4 2 w (lit≤ tt) (number 8 6 w (lit≤ tt) (number_end 2 14 w refl)))
+
+modify_long_sound : IsSound 39 modify_long_row
+unfolding written
+modify_long_sound raw w = front w (lit≤ tt) (number 4 2 w (lit≤ tt) (number 8 6 w (lit≤ tt) (number 4 14 w (lit≤ tt) (number 8 18 w (lit≤ tt) (byte_end 26 w refl)))))
+
+modify_short_sound : IsSound 40 modify_short_row
+unfolding written
+modify_short_sound raw w = front w (lit≤ tt) (number 4 2 w (lit≤ tt) (number 8 6 w (lit≤ tt) (number 2 14 w (lit≤ tt) (number 2 16 w (lit≤ tt) (byte_end 18 w refl)))))
+
+delete_sound : IsSound 41 delete_row
+unfolding written
+delete_sound raw w = front w (lit≤ tt) (number 4 2 w (lit≤ tt) (number_end 8 6 w refl))
+
+trade_long_sound : IsSound 42 trade_long_row
+unfolding written
+trade_long_sound raw w = with_a_side (side_of (slice_index raw 14)) (slice_index raw 14) _ (λ m. raw ≡ written m) (λ side is. front w (lit≤ tt) (number 4 2 w (lit≤ tt) (number 8 6 w (lit≤ tt) (side_at side w is (lit≤ tt) (number 4 15 w (lit≤ tt) (text 6 19 w (number 8 25 w (lit≤ tt) (number_end 8 33 w refl))))))))
+
+trade_short_sound : IsSound 43 trade_short_row
+unfolding written
+trade_short_sound raw w = with_a_side (side_of (slice_index raw 14)) (slice_index raw 14) _ (λ m. raw ≡ written m) (λ side is. front w (lit≤ tt) (number 4 2 w (lit≤ tt) (number 8 6 w (lit≤ tt) (side_at side w is (lit≤ tt) (number 2 15 w (lit≤ tt) (text 6 17 w (number 2 23 w (lit≤ tt) (number_end 8 25 w refl))))))))
+
+trade_break_sound : IsSound 44 trade_break_row
+unfolding written
+trade_break_sound raw w = front w (lit≤ tt) (number 4 2 w (lit≤ tt) (number_end 8 6 w refl))
+
+end_of_session_sound : IsSound 45 end_of_session_row
+unfolding written
+end_of_session_sound raw w = front w (lit≤ tt) (number_end 4 2 w refl)
+
+add_expanded_sound : IsSound 47 add_expanded_row
+unfolding written
+add_expanded_sound raw w = with_a_side (side_of (slice_index raw 14)) (slice_index raw 14) _ (λ m. raw ≡ written m) (λ side is. front w (lit≤ tt) (number 4 2 w (lit≤ tt) (number 8 6 w (lit≤ tt) (side_at side w is (lit≤ tt) (number 4 15 w (lit≤ tt) (text 8 19 w (number 8 27 w (lit≤ tt) (byte 35 w (lit≤ tt) (text_end 4 36 w refl)))))))))
+
+trade_expanded_sound : IsSound 48 trade_expanded_row
+unfolding written
+trade_expanded_sound raw w = with_a_side (side_of (slice_index raw 14)) (slice_index raw 14) _ (λ m. raw ≡ written m) (λ side is. front w (lit≤ tt) (number 4 2 w (lit≤ tt) (number 8 6 w (lit≤ tt) (side_at side w is (lit≤ tt) (number 4 15 w (lit≤ tt) (text 8 19 w (number 8 27 w (lit≤ tt) (number_end 8 35 w refl))))))))
+
+unit_clear_sound : IsSound 151 unit_clear_row
+unfolding written
+unit_clear_sound raw w = front w (lit≤ tt) (number_end 4 2 w refl)
+
+-- a row of the table, or one of those below it
+pick : (kind n : ℕ) (r : Row) (others : Option Row) → IsSound n r → ((row : Row) → others ≡ Some row → IsSound kind row)
+    → (row : Row) → cond (kind == n) (Some r) others ≡ Some row → IsSound kind row
+pick kind n r others sound below row is = elim (cases_Bool (kind == n)) [
+  | inl b ↦
+      let same : kind ≡ n = grind (arith, nat_tests, b) in
+      let chosen : Some r ≡ Some row = sym (ap (λ (t : Bool). cond t (Some r) others) b) ∙ is in
+      let e : r ≡ row = cc in
+      subst (λ (x : Row). IsSound kind x) e (subst (λ (k : ℕ). IsSound k r) (sym same) sound)
+  | inr b ↦ below row (sym (ap (λ (t : Bool). cond t (Some r) others) b) ∙ is)
+]
+
+all_sound : (kind : ℕ) (row : Row) → row_of kind ≡ Some row → IsSound kind row
+all_sound kind =
+    pick kind 32 time_row _ time_sound (
+    pick kind 33 add_long_row _ add_long_sound (
+    pick kind 34 add_short_row _ add_short_sound (
+    pick kind 35 executed_row _ executed_sound (
+    pick kind 36 executed_at_row _ executed_at_sound (
+    pick kind 37 reduce_long_row _ reduce_long_sound (
+    pick kind 38 reduce_short_row _ reduce_short_sound (
+    pick kind 39 modify_long_row _ modify_long_sound (
+    pick kind 40 modify_short_row _ modify_short_sound (
+    pick kind 41 delete_row _ delete_sound (
+    pick kind 42 trade_long_row _ trade_long_sound (
+    pick kind 43 trade_short_row _ trade_short_sound (
+    pick kind 44 trade_break_row _ trade_break_sound (
+    pick kind 45 end_of_session_row _ end_of_session_sound (
+    pick kind 47 add_expanded_row _ add_expanded_sound (
+    pick kind 48 trade_expanded_row _ trade_expanded_sound (
+    pick kind 151 unit_clear_row _ unit_clear_sound (
+    (λ row none. absurd (let e : None ≡ Some row = none in cc)))))))))))))))))))
+
+if_ok : {A E : Type 0} (r : Result A E) (P Q : A → Type 0) → ((a : A) → P a → Q a) → IfOk r P → IfOk r Q
+if_ok (Ok a) P Q more holds = more a holds
+if_ok (Err e) P Q more holds = tt
+
+all_ok : {A E : Type 0} (r : Result A E) (Q : A → Type 0) → ((a : A) → Q a) → IfOk r Q
+all_ok (Ok a) Q all = all a
+all_ok (Err e) Q all = tt
+
+-- by its row, a raw of just the length that the row needs is the writing of what it says
+by_row : (raw : List ℕ) (row : Option Row) → IsRaw raw → ((k : ℕ) → get_or raw k 0 < 256) → row_of (kind_of raw) ≡ row
+    → IfOk (reads_by row raw) (λ m. length raw ≡ option_map_or (λ (r : Row). r.needs) row 0 → raw ≡ written m)
+unfolding written
+by_row raw None is small at = λ size. refl
+by_row raw (Some row) is small at =
+    let Q : Message → Type 0 = λ m. length raw ≡ row.needs → raw ≡ written m in
+    let P : Bool → Type 0 = λ t. IfOk (cond t (Err (Short row.needs (length raw))) (row.says raw)) Q in
+    let says : IfOk (row.says raw) Q = elim (cases_eq (length raw) row.needs) [
+      | inl e ↦
+          let whole : Whole row.needs (kind_of raw) raw = record { size = e; first = is.first ∙ e; kind = refl; small = small } in
+          if_ok (row.says raw) (λ m. raw ≡ written m) Q (λ m written_so size. written_so) (all_sound (kind_of raw) row at raw whole)
+      | inr other ↦ all_ok (row.says raw) Q (λ m size. absurd (other size))
+    ] in
+    elim (cases_Bool (nat_lt (length raw) row.needs)) [
+      | inl b ↦ subst P (sym b) tt
+      | inr b ↦ subst P (sym b) says
+    ]
+
+pub rewritten : (raw : List ℕ) → IsRaw raw → ((k : ℕ) → get_or raw k 0 < 256) → IfOk (reads raw) (λ m. length raw ≡ needs_of (kind_of raw) → raw ≡ written m)
+unfolding reads
+rewritten raw is small = by_row raw (row_of (kind_of raw)) is small refl

@@ -1,0 +1,425 @@
+ghost use Rattle.std.specs.Prelude.{◌≡◌, length};
+ghost use Rattle.pitch_messages.specs.Reading.{reads};
+ghost use Rattle.pitch_messages.specs.Writing.{written, HasItsVariant};
+ghost use Rattle.pitch_messages.specs.declared.message.Message.TheVariants.{Time, AddLong, AddShort, Executed, ExecutedAt, ReduceLong, ReduceShort, ModifyLong, ModifyShort, Delete, TradeLong, TradeShort, TradeBreak, EndOfSession, AddExpanded, TradeExpanded, UnitClear};
+
+use crate::message::Message;
+use crate::raw::Raw;
+use pitch_fields::Side;
+
+#[tactic(auto, unfolding(crate::specs::Writing::written))]
+fn time_raw(second: u32) -> Raw
+    ensures { result ≡ written (Time second) }
+{
+    Raw::of_fields(0x20, &[&second.to_le_bytes()])
+}
+
+#[tactic(auto, unfolding(crate::specs::Writing::written))]
+fn add_long_raw(
+    offset: u32,
+    id: u64,
+    side: Side,
+    quantity: u32,
+    symbol: [u8; 6],
+    price: u64,
+    flags: u8,
+) -> Raw
+    ensures written { result ≡ written (AddLong offset id side quantity symbol price flags) }
+    ensures symbol { length symbol ≡ 6 }
+{
+    Raw::of_fields(
+        0x21,
+        &[
+            &offset.to_le_bytes(),
+            &id.to_le_bytes(),
+            &[side.byte()],
+            &quantity.to_le_bytes(),
+            &symbol,
+            &price.to_le_bytes(),
+            &[flags],
+        ],
+    )
+}
+
+#[tactic(auto, unfolding(crate::specs::Writing::written))]
+fn add_short_raw(
+    offset: u32,
+    id: u64,
+    side: Side,
+    quantity: u16,
+    symbol: [u8; 6],
+    price: u16,
+    flags: u8,
+) -> Raw
+    ensures written { result ≡ written (AddShort offset id side quantity symbol price flags) }
+    ensures symbol { length symbol ≡ 6 }
+{
+    Raw::of_fields(
+        0x22,
+        &[
+            &offset.to_le_bytes(),
+            &id.to_le_bytes(),
+            &[side.byte()],
+            &quantity.to_le_bytes(),
+            &symbol,
+            &price.to_le_bytes(),
+            &[flags],
+        ],
+    )
+}
+
+#[tactic(auto, unfolding(crate::specs::Writing::written))]
+fn executed_raw(offset: u32, id: u64, executed: u32, execution: u64) -> Raw
+    ensures { result ≡ written (Executed offset id executed execution) }
+{
+    Raw::of_fields(
+        0x23,
+        &[
+            &offset.to_le_bytes(),
+            &id.to_le_bytes(),
+            &executed.to_le_bytes(),
+            &execution.to_le_bytes(),
+        ],
+    )
+}
+
+#[tactic(auto, unfolding(crate::specs::Writing::written))]
+fn executed_at_raw(
+    offset: u32,
+    id: u64,
+    executed: u32,
+    remaining: u32,
+    execution: u64,
+    price: u64,
+) -> Raw
+    ensures { result ≡ written (ExecutedAt offset id executed remaining execution price) }
+{
+    Raw::of_fields(
+        0x24,
+        &[
+            &offset.to_le_bytes(),
+            &id.to_le_bytes(),
+            &executed.to_le_bytes(),
+            &remaining.to_le_bytes(),
+            &execution.to_le_bytes(),
+            &price.to_le_bytes(),
+        ],
+    )
+}
+
+#[tactic(auto, unfolding(crate::specs::Writing::written))]
+fn reduce_long_raw(offset: u32, id: u64, quantity: u32) -> Raw
+    ensures { result ≡ written (ReduceLong offset id quantity) }
+{
+    Raw::of_fields(
+        0x25,
+        &[
+            &offset.to_le_bytes(),
+            &id.to_le_bytes(),
+            &quantity.to_le_bytes(),
+        ],
+    )
+}
+
+#[tactic(auto, unfolding(crate::specs::Writing::written))]
+fn reduce_short_raw(offset: u32, id: u64, quantity: u16) -> Raw
+    ensures { result ≡ written (ReduceShort offset id quantity) }
+{
+    Raw::of_fields(
+        0x26,
+        &[
+            &offset.to_le_bytes(),
+            &id.to_le_bytes(),
+            &quantity.to_le_bytes(),
+        ],
+    )
+}
+
+#[tactic(auto, unfolding(crate::specs::Writing::written))]
+fn modify_long_raw(offset: u32, id: u64, quantity: u32, price: u64, flags: u8) -> Raw
+    ensures { result ≡ written (ModifyLong offset id quantity price flags) }
+{
+    Raw::of_fields(
+        0x27,
+        &[
+            &offset.to_le_bytes(),
+            &id.to_le_bytes(),
+            &quantity.to_le_bytes(),
+            &price.to_le_bytes(),
+            &[flags],
+        ],
+    )
+}
+
+#[tactic(auto, unfolding(crate::specs::Writing::written))]
+fn modify_short_raw(offset: u32, id: u64, quantity: u16, price: u16, flags: u8) -> Raw
+    ensures { result ≡ written (ModifyShort offset id quantity price flags) }
+{
+    Raw::of_fields(
+        0x28,
+        &[
+            &offset.to_le_bytes(),
+            &id.to_le_bytes(),
+            &quantity.to_le_bytes(),
+            &price.to_le_bytes(),
+            &[flags],
+        ],
+    )
+}
+
+#[tactic(auto, unfolding(crate::specs::Writing::written))]
+fn delete_raw(offset: u32, id: u64) -> Raw
+    ensures { result ≡ written (Delete offset id) }
+{
+    Raw::of_fields(0x29, &[&offset.to_le_bytes(), &id.to_le_bytes()])
+}
+
+#[tactic(auto, unfolding(crate::specs::Writing::written))]
+fn trade_long_raw(
+    offset: u32,
+    id: u64,
+    side: Side,
+    quantity: u32,
+    symbol: [u8; 6],
+    price: u64,
+    execution: u64,
+) -> Raw
+    ensures written { result ≡ written (TradeLong offset id side quantity symbol price execution) }
+    ensures symbol { length symbol ≡ 6 }
+{
+    Raw::of_fields(
+        0x2a,
+        &[
+            &offset.to_le_bytes(),
+            &id.to_le_bytes(),
+            &[side.byte()],
+            &quantity.to_le_bytes(),
+            &symbol,
+            &price.to_le_bytes(),
+            &execution.to_le_bytes(),
+        ],
+    )
+}
+
+#[tactic(auto, unfolding(crate::specs::Writing::written))]
+fn trade_short_raw(
+    offset: u32,
+    id: u64,
+    side: Side,
+    quantity: u16,
+    symbol: [u8; 6],
+    price: u16,
+    execution: u64,
+) -> Raw
+    ensures written { result ≡ written (TradeShort offset id side quantity symbol price execution) }
+    ensures symbol { length symbol ≡ 6 }
+{
+    Raw::of_fields(
+        0x2b,
+        &[
+            &offset.to_le_bytes(),
+            &id.to_le_bytes(),
+            &[side.byte()],
+            &quantity.to_le_bytes(),
+            &symbol,
+            &price.to_le_bytes(),
+            &execution.to_le_bytes(),
+        ],
+    )
+}
+
+#[tactic(auto, unfolding(crate::specs::Writing::written))]
+fn trade_break_raw(offset: u32, execution: u64) -> Raw
+    ensures { result ≡ written (TradeBreak offset execution) }
+{
+    Raw::of_fields(0x2c, &[&offset.to_le_bytes(), &execution.to_le_bytes()])
+}
+
+#[tactic(auto, unfolding(crate::specs::Writing::written))]
+fn end_of_session_raw(offset: u32) -> Raw
+    ensures { result ≡ written (EndOfSession offset) }
+{
+    Raw::of_fields(0x2d, &[&offset.to_le_bytes()])
+}
+
+#[tactic(auto, unfolding(crate::specs::Writing::written))]
+fn add_expanded_raw(
+    offset: u32,
+    id: u64,
+    side: Side,
+    quantity: u32,
+    symbol: [u8; 8],
+    price: u64,
+    flags: u8,
+    participant: [u8; 4],
+) -> Raw
+    ensures written { result ≡ written (AddExpanded offset id side quantity symbol price flags participant) }
+    ensures symbol { length symbol ≡ 8 }
+    ensures participant { length participant ≡ 4 }
+{
+    Raw::of_fields(
+        0x2f,
+        &[
+            &offset.to_le_bytes(),
+            &id.to_le_bytes(),
+            &[side.byte()],
+            &quantity.to_le_bytes(),
+            &symbol,
+            &price.to_le_bytes(),
+            &[flags],
+            &participant,
+        ],
+    )
+}
+
+#[tactic(auto, unfolding(crate::specs::Writing::written))]
+fn trade_expanded_raw(
+    offset: u32,
+    id: u64,
+    side: Side,
+    quantity: u32,
+    symbol: [u8; 8],
+    price: u64,
+    execution: u64,
+) -> Raw
+    ensures written { result ≡ written (TradeExpanded offset id side quantity symbol price execution) }
+    ensures symbol { length symbol ≡ 8 }
+{
+    Raw::of_fields(
+        0x30,
+        &[
+            &offset.to_le_bytes(),
+            &id.to_le_bytes(),
+            &[side.byte()],
+            &quantity.to_le_bytes(),
+            &symbol,
+            &price.to_le_bytes(),
+            &execution.to_le_bytes(),
+        ],
+    )
+}
+
+#[tactic(auto, unfolding(crate::specs::Writing::written))]
+fn unit_clear_raw(offset: u32) -> Raw
+    ensures { result ≡ written (UnitClear offset) }
+{
+    Raw::of_fields(0x97, &[&offset.to_le_bytes()])
+}
+
+/// The raw of a message: its length, its type and its fields, end to end. A raw under Other is itself.
+#[tactic(auto, unfolding(crate::specs::Writing::written))]
+pub fn write(message: &Message) -> Raw
+    ensures written { result ≡ written message.now }
+    ensures reads_back { HasItsVariant message.now → reads result ≡ Ok message.now }
+{
+    match message {
+        Message::Time { second } => time_raw(*second),
+        Message::AddLong {
+            offset,
+            id,
+            side,
+            quantity,
+            symbol,
+            price,
+            flags,
+        } => add_long_raw(*offset, *id, *side, *quantity, *symbol, *price, *flags),
+        Message::AddShort {
+            offset,
+            id,
+            side,
+            quantity,
+            symbol,
+            price,
+            flags,
+        } => add_short_raw(*offset, *id, *side, *quantity, *symbol, *price, *flags),
+        Message::Executed {
+            offset,
+            id,
+            executed,
+            execution,
+        } => executed_raw(*offset, *id, *executed, *execution),
+        Message::ExecutedAt {
+            offset,
+            id,
+            executed,
+            remaining,
+            execution,
+            price,
+        } => executed_at_raw(*offset, *id, *executed, *remaining, *execution, *price),
+        Message::ReduceLong {
+            offset,
+            id,
+            quantity,
+        } => reduce_long_raw(*offset, *id, *quantity),
+        Message::ReduceShort {
+            offset,
+            id,
+            quantity,
+        } => reduce_short_raw(*offset, *id, *quantity),
+        Message::ModifyLong {
+            offset,
+            id,
+            quantity,
+            price,
+            flags,
+        } => modify_long_raw(*offset, *id, *quantity, *price, *flags),
+        Message::ModifyShort {
+            offset,
+            id,
+            quantity,
+            price,
+            flags,
+        } => modify_short_raw(*offset, *id, *quantity, *price, *flags),
+        Message::Delete { offset, id } => delete_raw(*offset, *id),
+        Message::TradeLong {
+            offset,
+            id,
+            side,
+            quantity,
+            symbol,
+            price,
+            execution,
+        } => trade_long_raw(*offset, *id, *side, *quantity, *symbol, *price, *execution),
+        Message::TradeShort {
+            offset,
+            id,
+            side,
+            quantity,
+            symbol,
+            price,
+            execution,
+        } => trade_short_raw(*offset, *id, *side, *quantity, *symbol, *price, *execution),
+        Message::TradeBreak { offset, execution } => trade_break_raw(*offset, *execution),
+        Message::EndOfSession { offset } => end_of_session_raw(*offset),
+        Message::AddExpanded {
+            offset,
+            id,
+            side,
+            quantity,
+            symbol,
+            price,
+            flags,
+            participant,
+        } => add_expanded_raw(
+            *offset,
+            *id,
+            *side,
+            *quantity,
+            *symbol,
+            *price,
+            *flags,
+            *participant,
+        ),
+        Message::TradeExpanded {
+            offset,
+            id,
+            side,
+            quantity,
+            symbol,
+            price,
+            execution,
+        } => trade_expanded_raw(*offset, *id, *side, *quantity, *symbol, *price, *execution),
+        Message::UnitClear { offset } => unit_clear_raw(*offset),
+        Message::Other(raw) => raw.copy(),
+    }
+}

@@ -1,0 +1,8 @@
+use Rattle.pitch_model.proofs.Following.{units_rise, member-units_of}
+use Rattle.pitch_model.proofs.laws.units_are_those_named.Goals as goal
+
+pub returns-clause-rise : goal.returns-clause-rise
+returns-clause-rise c = units_rise
+
+pub returns-clause-named : goal.returns-clause-named
+returns-clause-named c = member-units_of
