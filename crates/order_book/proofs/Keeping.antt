@@ -5,7 +5,7 @@ use Rattle.std.specs.Map.{keys_of, lookup}
 use Rattle.std.specs.FinMap as map
 use Rattle.std.specs.Ordering.{nat_cmp}
 use Rattle.pitch_messages.specs.declared.order.Order.{Order}
-use Rattle.pitch_model.specs.Book.{Book, IsBook, at_second, cleared, with_order, without_order, changed}
+use Rattle.pitch_model.specs.Book.{Book, IsBook, at_second, with_order, without_order, changed}
 use Rattle.pitch_model.proofs.Books.{with_order_all, without_order_all, none_all, changed_all, with_order_len}
 use Rattle.order_book.specs.declared.change.Change.{Change}
 use Rattle.order_book.specs.declared.change.Change.TheVariants.{Reduced, Left, Modified}

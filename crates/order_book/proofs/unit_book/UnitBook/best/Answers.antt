@@ -1,6 +1,5 @@
-use Rattle.std.proofs.Common.{◌≡◌, Some, None, sym, ap, ◌∙◌}
+use Rattle.std.proofs.Common.{Some, sym, ap, ◌∙◌}
 use Rattle.std.specs.Option.{option_map}
-use Rattle.pitch_model.specs.Book.{Book}
 use Rattle.pitch_model.specs.Levels.{best, level, with_level}
 use Rattle.pitch_model.proofs.Prices.{best-some, best-none}
 use Rattle.order_book.specs.Standing.{Standing, book_of}

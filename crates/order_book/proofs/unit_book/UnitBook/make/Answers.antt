@@ -1,8 +1,6 @@
-use Rattle.std.proofs.Common.{nat_eq, sym, subst, arith, None}
-use Rattle.std.specs.List.{IsDistinct}
-use Rattle.std.specs.Map.{keys_of}
+use Rattle.std.proofs.Common.{sym, subst, arith, None}
 use Rattle.pitch_model.specs.Book.{IsBook}
-use Rattle.order_book.specs.Standing.{IsKept, book_of}
+use Rattle.order_book.specs.Standing.{book_of}
 use Rattle.order_book.proofs.Keeping.{no_orders}
 use Rattle.order_book.proofs.unit_book.UnitBook.make.Goals as goal
 
