@@ -1,9 +1,8 @@
 -- What some orders add up to does not depend on the order in which a map has its entries.
-use Rattle.std.proofs.Common.{◌≡◌, ℕ, ◌+◌, Bool, true, false, cond, ◌&&◌, ◌==◌, List, [], ◌∷◌, length, map, filter, Option, Some, None, nat_eq, refl, sym, ap, subst, ◌∙◌, arith}
-use Rattle.std.specs.Prelude.{T}
+use Rattle.std.proofs.Common.{◌≡◌, ℕ, ◌+◌, Bool, true, false, cond, ◌==◌, List, [], ◌∷◌, length, map, filter, Option, Some, None, nat_eq, refl, sym, ap, ◌∙◌, arith}
 use Rattle.std.specs.Option.{option_map}
 use Rattle.std.specs.List.{IsDistinct}
-use Rattle.std.specs.Map.{keys_of, values_of, lookup}
+use Rattle.std.specs.Map.{keys_of, values_of}
 use Rattle.std.specs.Cmp.{nat_cmp_total}
 use Rattle.std.specs.Ordering.{nat_cmp, is_eq}
 use Rattle.std.specs.declared.cmp.Ordering.{Ordering}
@@ -14,12 +13,11 @@ use Rattle.std.proofs.lemmas.Map.Keys.{IsDistinct-head, IsDistinct-tail}
 use Rattle.std.proofs.lemmas.List.Sums.{sum_by-cons}
 use Rattle.pitch_fields.specs.declared.side.Side.{Side}
 use Rattle.pitch_messages.specs.declared.order.Order.{Order}
-use Rattle.pitch_model.specs.Book.{Book}
-use Rattle.pitch_model.specs.Levels.{best_of, shares, level, best, orders_on}
+use Rattle.pitch_model.specs.Levels.{best_of, shares, level, with_level, best, prices_on}
 use Rattle.order_book.specs.Standing.{book_of}
-use Rattle.order_book.specs.Totals.{is_on, quantities, IsBestPrice}
+use Rattle.order_book.specs.Totals.{is_on, quantities}
 use Rattle.order_book.proofs.Maps.{looks, absent}
-use Rattle.order_book.proofs.Bests.{with_price, prices_swap, best_is, best_none}
+use Rattle.order_book.proofs.Bests.{with_price, prices_swap}
 
 some_none : (order : Order) → ◌≡◌ {A = Option Order} (Some order) None → ⊥
 some_none order e = cc
@@ -135,29 +133,12 @@ module _ (side : Side) (on : Order → Bool) where
       by false b = refl
 
 pub price_of : (second : Option ℕ) (es : List (ℕ × Order)) (symbol : List ℕ) (side : Side) → IsDistinct nat_eq (keys_of es)
-    → best_of side (map (λ order. order.price) (filter (is_on symbol side) (values_of es))) ≡ best_of side (map (λ order. order.price) (orders_on (book_of second es) symbol side))
+    → best_of side (map (λ order. order.price) (filter (is_on symbol side) (values_of es))) ≡ best_of side (prices_on (book_of second es) symbol side)
 unfolding chosen
 price_of second es symbol side unique = any_order (chosen side (is_on symbol side)) (chosen_add side (is_on symbol side)) (chosen_step side (is_on symbol side)) (chosen_swap side (is_on symbol side)) es unique
 
-no_prices : (orders : List Order) → map (λ order. order.price) orders ≡ [] → orders ≡ []
-no_prices orders e = nothing_mapped orders (ap length e)
-  where
-    nothing_mapped : (os : List Order) → length (map (λ order. order.price) os) ≡ 0 → os ≡ []
-    nothing_mapped [] n = refl
-    nothing_mapped (o ∷ os) n = absurd (omega arith)
-
--- what the best price of the entries says of the book
-module _ (second : Option ℕ) (es : List (ℕ × Order)) (symbol : List ℕ) (side : Side) (unique : IsDistinct nat_eq (keys_of es)) where
-  pub best_some : (price : ℕ) → Some price ≡ best_of side (map (λ order. order.price) (filter (is_on symbol side) (values_of es)))
-      → (Some (price, level (book_of second es) symbol side price) ≡ best (book_of second es) symbol side) × IsBestPrice (book_of second es) symbol side price
-  unfolding best
-  best_some price found =
-      let chosen = found ∙ price_of second es symbol side unique in
-      (ap (option_map (λ p. (p, level (book_of second es) symbol side p))) chosen, best_is side _ price (sym chosen))
-
-  pub best_missing : None ≡ best_of side (map (λ order. order.price) (filter (is_on symbol side) (values_of es)))
-      → (None ≡ best (book_of second es) symbol side) × (orders_on (book_of second es) symbol side ≡ [])
-  unfolding best
-  best_missing found =
-      let chosen = found ∙ price_of second es symbol side unique in
-      (ap (option_map (λ p. (p, level (book_of second es) symbol side p))) chosen, no_prices _ (best_none side _ (sym chosen)))
+-- the best price of the entries, with its level, is the best of the book
+pub best_of_entries : (second : Option ℕ) (es : List (ℕ × Order)) (symbol : List ℕ) (side : Side) → IsDistinct nat_eq (keys_of es)
+    → option_map (with_level (book_of second es) symbol side) (best_of side (map (λ order. order.price) (filter (is_on symbol side) (values_of es)))) ≡ best (book_of second es) symbol side
+unfolding best
+best_of_entries second es symbol side unique = ap (option_map (with_level (book_of second es) symbol side)) (price_of second es symbol side unique)

@@ -1,12 +1,11 @@
 -- What a change of one order does to the book, where the orders are a list of entries.
-use Rattle.std.proofs.Common.{◌≡◌, ◌≢◌, ℕ, Bool, true, false, cond, List, Option, Some, None, nat_eq, refl, sym, ap, subst, ◌∙◌, ◌==◌, arith}
+use Rattle.std.proofs.Common.{◌≡◌, ◌≢◌, ℕ, Bool, true, false, cond, List, Option, Some, None, nat_eq, sym, ap, ◌∙◌, ◌==◌, arith}
 use Rattle.std.specs.Option.{option_map}
 use Rattle.std.specs.Map.{lookup, lookup_key}
-use Rattle.std.specs.FinMap.{from_entries}
 use Rattle.std.proofs.lemmas.Bool.Decides.{Decides-eqb, nat_tests}
 use Rattle.std.proofs.lemmas.Map.Made.{lookup_key_same}
 use Rattle.pitch_messages.specs.declared.order.Order.{Order}
-use Rattle.pitch_model.specs.Book.{Book, changed, reformed, with_order, without_order}
+use Rattle.pitch_model.specs.Book.{changed, reformed, with_order, without_order}
 use Rattle.order_book.specs.Standing.{book_of}
 use Rattle.order_book.proofs.Maps.{inserts, removes, looks}
 

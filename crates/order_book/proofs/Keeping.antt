@@ -5,13 +5,21 @@ use Rattle.std.specs.Map.{keys_of, lookup}
 use Rattle.std.specs.FinMap as map
 use Rattle.std.specs.Ordering.{nat_cmp}
 use Rattle.pitch_messages.specs.declared.order.Order.{Order}
-use Rattle.pitch_model.specs.Book.{Book, IsBook, changed}
-use Rattle.pitch_model.proofs.Books.{at_second_book, with_order_book, without_order_book, with_order_len, cleared_book, changed_book}
+use Rattle.pitch_model.specs.Book.{Book, IsBook, at_second, with_order, without_order, changed}
+use Rattle.pitch_model.proofs.Books.{with_order_all, without_order_all, none_all, changed_all, with_order_len}
 use Rattle.order_book.specs.declared.change.Change.{Change}
 use Rattle.order_book.specs.declared.change.Change.TheVariants.{Reduced, Left, Modified}
 use Rattle.order_book.specs.Changes.{changed_by}
 use Rattle.order_book.specs.Standing.{IsKept, book_of, most_orders}
 use Rattle.order_book.proofs.Maps.{inserts, removes, lens}
+
+-- an order stands under its id
+abbrev Named : ℕ → Order → Type 0
+Named id order = order.id ≡ id
+
+-- it has shares
+abbrev Filled : ℕ → Order → Type 0
+Filled id order = 0 < order.quantity
 
 -- a change keeps the id
 same_id : (change : Change) (order : Order) → (changed_by change order).id ≡ order.id
@@ -19,12 +27,33 @@ same_id (Reduced quantity) order = refl
 same_id (Left quantity) order = refl
 same_id (Modified quantity price display) order = refl
 
+-- ---- Each effect leaves a book
+pub no_orders : (second : Option ℕ) → IsBook (record { second = second; orders = map.empty })
+no_orders second = record { ids = none_all Named second; filled = none_all Filled second }
+
+module _ (book : Book) (is : IsBook book) where
+  second_book : (second : ℕ) → IsBook (at_second book second)
+  second_book second = record { ids = is.ids; filled = is.filled }
+
+  insert_book : (order : Order) → 0 < order.quantity → IsBook (with_order book order.id order)
+  insert_book order filled = record { ids = with_order_all Named book order.id order is.ids refl; filled = with_order_all Filled book order.id order is.filled filled }
+
+  remove_book : (id : ℕ) → IsBook (without_order book id)
+  remove_book id = record { ids = without_order_all Named book id is.ids; filled = without_order_all Filled book id is.filled }
+
+  change_book : (id : ℕ) (change : Change) → IsBook (changed book id (changed_by change))
+  change_book id change = record {
+    ids = changed_all Named book id (changed_by change) is.ids (λ order named some. same_id change order ∙ named);
+    filled = changed_all Filled book id (changed_by change) is.filled (λ order filled some. some);
+  }
+
+-- ---- So what is kept stays so
 module _ (second : Option ℕ) (es : List (ℕ × Order)) (kept : IsKept second es) where
   pub kept_second : (value : ℕ) → IsKept (Some value) es
-  kept_second value = record { book = at_second_book (book_of second es) value kept.book; unique = kept.unique; few = kept.few }
+  kept_second value = record { book = second_book (book_of second es) kept.book value; unique = kept.unique; few = kept.few }
 
   pub kept_clear : IsDistinct nat_eq (keys_of {X = Order} []) → IsKept second []
-  kept_clear unique = record { book = cleared_book (book_of second es); unique = unique; few = omega arith }
+  kept_clear unique = record { book = no_orders second; unique = unique; few = omega arith }
 
   module _ (fs : List (ℕ × Order)) where
     pub kept_same : fs ≡ es → IsKept second fs
@@ -34,7 +63,7 @@ module _ (second : Option ℕ) (es : List (ℕ × Order)) (kept : IsKept second 
         → ((q : ℕ) → lookup (nat_eq q) fs ≡ cond (nat_eq order.id q) (Some order) (lookup (nat_eq q) es)) → IsKept second fs
     kept_insert order filled few unique h =
         let same = inserts es fs order.id order h in
-        let book : IsBook (book_of second fs) = subst (λ orders. IsBook (record { second = second; orders = orders })) (sym same) (with_order_book (book_of second es) order.id order kept.book refl filled) in
+        let book : IsBook (book_of second fs) = subst (λ orders. IsBook (record { second = second; orders = orders })) (sym same) (insert_book (book_of second es) kept.book order filled) in
         let count = lens fs unique in
         let more = with_order_len (book_of second es) order.id order in
         let equal = ap (map.len {R = nat_cmp}) same in
@@ -44,7 +73,7 @@ module _ (second : Option ℕ) (es : List (ℕ × Order)) (kept : IsKept second 
     kept_remove id unique fewer h =
         let few = kept.few in
         record {
-          book = subst (λ orders. IsBook (record { second = second; orders = orders })) (sym (removes es fs id h)) (without_order_book (book_of second es) id kept.book);
+          book = subst (λ orders. IsBook (record { second = second; orders = orders })) (sym (removes es fs id h)) (remove_book (book_of second es) kept.book id);
           unique = unique;
           few = omega arith;
         }
@@ -53,7 +82,7 @@ module _ (second : Option ℕ) (es : List (ℕ × Order)) (kept : IsKept second 
     kept_change id change unique fewer same =
         let few = kept.few in
         record {
-          book = subst IsBook (sym same) (changed_book (book_of second es) id (changed_by change) (same_id change) kept.book);
+          book = subst IsBook (sym same) (change_book (book_of second es) kept.book id change);
           unique = unique;
           few = omega arith;
         }

@@ -2,11 +2,10 @@ ghost use Rattle.std.specs.Prelude.{◌≡◌, ◌≤◌, ◌<◌, ◌+◌, ◌+
 ghost use Rattle.pitch_messages.specs.Raw.{IsRaw};
 ghost use Rattle.std.specs.FinMap as map;
 ghost use Rattle.pitch_model.specs.Book.{IsBook, empty_book, at_second, cleared, without_order, with_order, added, changed, after_message, after};
-ghost use Rattle.pitch_model.specs.Levels.{orders_of, orders_on, shares, level, best};
+ghost use Rattle.pitch_model.specs.Levels.{IsBestOf, orders_of, orders_on, prices_on, shares, level, best};
 ghost use Rattle.order_book.specs.Changes.{changed_by};
 ghost use Rattle.order_book.specs.Naming.{names_open, names_order};
 ghost use Rattle.order_book.specs.Standing.{most_orders};
-ghost use Rattle.order_book.specs.Totals.{IsBestPrice};
 
 use crate::adding::{is_displayed, order_of_expanded, order_of_long, order_of_short};
 use crate::change::Change;
@@ -146,7 +145,7 @@ impl UnitBook {
     /// where that side of the symbol has no order.
     pub fn best(&self, symbol: Symbol, side: Side) -> Option<(Price, u64)>
         ensures best { result ≡ best self.now.book symbol side }
-        ensures price { IfSome result (λ best. IsBestPrice self.now.book symbol side best.0) }
+        ensures price { IfSome result (λ best. IsBestOf side (prices_on self.now.book symbol side) best.0) }
         ensures level { IfSome result (λ best. best.1 ≡ level self.now.book symbol side best.0) }
         ensures none { IfNone result (orders_on self.now.book symbol side ≡ []) }
     {
