@@ -1,5 +1,5 @@
 -- How many orders a book has after a message.
-use Rattle.std.proofs.Common.{◌≡◌, ℕ, ◌+◌, ◌-◌, ◌≤◌, Bool, true, false, cond, ◌||◌, List, length, eqb, refl, arith, Option, Some, None, Ok}
+use Rattle.std.proofs.Common.{Err, ◌≡◌, ℕ, ◌+◌, ◌-◌, ◌≤◌, Bool, true, false, cond, ◌||◌, List, length, eqb, refl, arith, Option, Some, None, Ok}
 use Rattle.std.specs.FinMap.{len, len-remove, len-empty, contains_key}
 use Rattle.std.specs.Cmp.{nat_cmp_total}
 use Rattle.std.specs.Ordering.{nat_cmp}
@@ -9,9 +9,12 @@ use Rattle.pitch_fields.specs.declared.side.Side.{Side}
 use Rattle.pitch_fields.specs.Side.{side_of}
 use Rattle.pitch_messages.specs.declared.order.Order.{Order}
 use Rattle.pitch_messages.specs.declared.message.Message.{Message}
+use Rattle.pitch_messages.specs.declared.message.Message.TheVariants.{Other}
+use Rattle.pitch_messages.specs.declared.message.ReadError.TheVariants.{Short}
 use Rattle.pitch_messages.specs.Raw.{kind_of}
-use Rattle.pitch_messages.specs.Reading.{Row, plain, sided, with_side, row_of, reads, reads_by, time_row, executed_row, executed_at_row, reduce_long_row, reduce_short_row, modify_long_row, modify_short_row, delete_row, trade_long_row, trade_short_row, trade_break_row, end_of_session_row, trade_expanded_row, unit_clear_row}
-use Rattle.pitch_model.specs.Book.{Book, empty_book, after, after_message, after_read, without_order}
+use Rattle.pitch_messages.specs.Table.{reads_by}
+use Rattle.pitch_messages.specs.Reading.{MessageRow, plain, sided, with_side, row_of, reads, time_row, executed_row, executed_at_row, reduce_long_row, reduce_short_row, modify_long_row, modify_short_row, delete_row, trade_long_row, trade_short_row, trade_break_row, end_of_session_row, trade_expanded_row, unit_clear_row}
+use Rattle.pitch_model.specs.Book.{Book, empty_book, after, after_message, after_read, without_order, cleared}
 use Rattle.pitch_model.specs.History.{is_add}
 use Rattle.pitch_model.proofs.Books.{after_len, changed_len}
 use Rattle.client_core.specs.Keeping.{orders_of}
@@ -33,8 +36,8 @@ removed_most book id =
 
 module _ (book : Book) (raw : List ℕ) where
   -- what is read by a row adds no order
-  AddsNone : Option Row → Type 0
-  AddsNone row = orders_of (after_read book (reads_by row raw)) ≤ orders_of book
+  AddsNone : Option MessageRow → Type 0
+  AddsNone row = orders_of (after_read book (reads_by (λ other. Ok (Other other)) (λ needs has. Err (Short needs has)) row raw)) ≤ orders_of book
 
   unread : AddsNone None
   unfolding AddsNone
@@ -82,10 +85,9 @@ module _ (book : Book) (raw : List ℕ) where
       (row 0x97 unit_clear_row _ (λ t. plain_adds_none _ _ (let e = none_open in omega arith))
       unread))))))))))))))))
     where
-      row : (k : ℕ) (row : Row) (rest : Option Row) → (eqb (kind_of raw) k ≡ true → AddsNone (Some row)) → AddsNone rest → AddsNone (cond (eqb (kind_of raw) k) (Some row) rest)
+      row : (k : ℕ) (row : MessageRow) (rest : Option MessageRow) → (eqb (kind_of raw) k ≡ true → AddsNone (Some row)) → AddsNone rest → AddsNone (cond (eqb (kind_of raw) k) (Some row) rest)
       row k r rest here there = cond_both (eqb (kind_of raw) k) (Some r) rest AddsNone here (λ f. there)
-
-      add : (k : ℕ) (r : Row) (rest : Option Row) → eqb (kind_of raw) k ≡ false → AddsNone rest → AddsNone (cond (eqb (kind_of raw) k) (Some r) rest)
+      add : (k : ℕ) (r : MessageRow) (rest : Option MessageRow) → eqb (kind_of raw) k ≡ false → AddsNone rest → AddsNone (cond (eqb (kind_of raw) k) (Some r) rest)
       add k r rest other there = cond_both (eqb (kind_of raw) k) (Some r) rest AddsNone (λ t. absurd (both_ways _ other t)) (λ f. there)
 
   no_more : is_add raw ≡ false → orders_of (after book raw) ≤ orders_of book

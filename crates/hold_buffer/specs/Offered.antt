@@ -12,8 +12,13 @@ Answers Old h sequence raw h' = (sequence ≤ h.floor) × (h' ≡ h)
 -- it is held already
 Answers Repeat h sequence raw h' = (h.floor < sequence) × (contains_key h.held sequence ≡ true) × (h' ≡ h)
 -- it follows the floor, which rises to it, and nothing is stored, also where the limit is reached
-Answers Next h sequence raw h' = (sequence ≡ h.floor + 1) × (contains_key h.held sequence ≡ false) × (h' ≡ record h { floor = sequence })
+Answers Next h sequence raw h' =
+    (sequence ≡ h.floor + 1) × (contains_key h.held sequence ≡ false) × (h' ≡ record h { floor = sequence })
 -- the limit is reached: all that was held goes, and this one is held alone
-Answers Overflowed h sequence raw h' = (h.floor + 1 < sequence) × (contains_key h.held sequence ≡ false) × (len h.held ≡ h.limit) × (h' ≡ record h { held = insert empty sequence raw })
+Answers Overflowed h sequence raw h' =
+    (h.floor + 1 < sequence) × (contains_key h.held sequence ≡ false) × (len h.held ≡ h.limit)
+    × (h' ≡ record h { held = insert empty sequence raw })
 -- it is held besides
-Answers Kept h sequence raw h' = (h.floor + 1 < sequence) × (contains_key h.held sequence ≡ false) × (len h.held < h.limit) × (h' ≡ record h { held = insert h.held sequence raw })
+Answers Kept h sequence raw h' =
+    (h.floor + 1 < sequence) × (contains_key h.held sequence ≡ false) × (len h.held < h.limit)
+    × (h' ≡ record h { held = insert h.held sequence raw })

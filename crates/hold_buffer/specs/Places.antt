@@ -17,7 +17,10 @@ IsKeyAt {X} messages at sequence = (message : X) × (slice_get messages at ≡ S
 
 -- the sequences before the place are smaller, and one at the place is greater
 abbrev pub IsGap : {X : Type 0} → List (ℕ × X) → ℕ → ℕ → Type 0
-IsGap {X} messages at sequence = (at ≤ length messages) × ((j : ℕ) (e : ℕ × X) → j < at → slice_get messages j ≡ Some e → e.0 < sequence) × ((e : ℕ × X) → slice_get messages at ≡ Some e → sequence < e.0)
+IsGap {X} messages at sequence =
+    (at ≤ length messages)
+    × ((j : ℕ) (e : ℕ × X) → j < at → slice_get messages j ≡ Some e → e.0 < sequence)
+    × ((e : ℕ × X) → slice_get messages at ≡ Some e → sequence < e.0)
 
 -- the hold that a floor and a ring stand for, whose limit is the ring's capacity
 abbrev pub hold_of : ℕ → Buffer (ℕ × List ℕ) → HoldView

@@ -51,7 +51,7 @@ impl Model for Hold {
 }
 
 impl Hold {
-    /// A hold for at most `limit` messages, with the floor 0 and nothing held.
+    /// A hold for at most `limit` messages, 1 to 65,536, with the floor 0 and nothing held.
     pub fn make(alloc: Global, limit: u32) -> Result<Hold, OutOfMemory>
         requires { (1 ≤ limit) × (limit ≤ 65536) }
         ensures { IfOk result (λ hold. hold ≡ record { floor = 0; limit = limit; held = map.empty }) }
@@ -62,7 +62,8 @@ impl Hold {
         })
     }
 
-    /// Offers the message of a sequence. One that is next goes through at the cost of a look at the first held one.
+    /// Offers the message of a sequence, at most 4,294,967,294. One that is next is compared with the
+    /// floor and the first held one alone.
     #[inline]
     pub fn offer(&mut self, sequence: u32, raw: &Raw) -> Offer
         requires { sequence ≤ 4294967294 }
@@ -98,7 +99,10 @@ impl Hold {
     pub fn pop_next(&mut self) -> Option<Raw>
         ensures answer { result ≡ map.get self.old.held (self.old.floor + 1) }
         ensures none { MatchOption result (self.new ≡ self.old)
-            (λ raw. self.new ≡ record self.old { floor = self.old.floor + 1; held = map.remove self.old.held (self.old.floor + 1) }) }
+            (λ raw. self.new ≡ record self.old {
+              floor = self.old.floor + 1;
+              held = map.remove self.old.held (self.old.floor + 1);
+            }) }
         ensures kept { IsHold self.new }
         ensures fits { IsSome result → self.new.floor ≤ 4294967294 }
     {
@@ -111,7 +115,8 @@ impl Hold {
         Some(raw)
     }
 
-    /// Raises the floor, as after an image through it, and drops the messages at or below it.
+    /// Raises the floor, as after an image through it, and drops the messages at or below it. The new
+    /// floor is not below the old one.
     pub fn jump(&mut self, floor: u32)
         requires { self.old.floor ≤ floor }
         ensures jumped { self.new ≡
@@ -126,7 +131,8 @@ impl Hold {
     pub fn first(&self) -> Option<u32>
         ensures { MatchOption result
             ((k : ℕ) → map.get self.now.held k ≡ None)
-            (λ first. IsSome (map.get self.now.held first) × ((k : ℕ) → IsSome (map.get self.now.held k) → first ≤ k)) }
+            (λ first. IsSome (map.get self.now.held first)
+            × ((k : ℕ) → IsSome (map.get self.now.held k) → first ≤ k)) }
     {
         first_sequence(&self.ring)
     }

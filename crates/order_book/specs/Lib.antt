@@ -1,3 +1,4 @@
 pub mod Changes
+pub mod Naming
 pub mod Standing
 pub mod Totals

@@ -1,9 +1,10 @@
-ghost use Rattle.std.specs.Prelude.{◌≡◌, ◌≤◌, ◌<◌, ◌+◌, ◌++◌, [], IfOk, IfSome, IfNone, OnOk, OnErr, IsOk, IsSome, Some, Option};
+ghost use Rattle.std.specs.Prelude.{◌≡◌, ◌≤◌, ◌<◌, ◌+◌, ◌++◌, [], count_by, IfOk, IfSome, IfNone, OnOk, OnErr, IsOk, IsSome, Some, Option};
 ghost use Rattle.pitch_messages.specs.Raw.{IsRaw};
 ghost use Rattle.std.specs.FinMap as map;
-ghost use Rattle.pitch_model.specs.Book.{empty_book, at_second, cleared, without_order, with_order, added, changed, after_message, after};
+ghost use Rattle.pitch_model.specs.Book.{IsBook, empty_book, at_second, cleared, without_order, with_order, added, changed, after_message, after};
 ghost use Rattle.pitch_model.specs.Levels.{orders_of, orders_on, shares, level, best};
 ghost use Rattle.order_book.specs.Changes.{changed_by};
+ghost use Rattle.order_book.specs.Naming.{names_open, names_order};
 ghost use Rattle.order_book.specs.Standing.{most_orders};
 ghost use Rattle.order_book.specs.Totals.{IsBestPrice};
 
@@ -12,8 +13,8 @@ use crate::change::Change;
 use crate::order_list::OrderList;
 use crate::totals::{all_shares, best_price, shares_at};
 use indexmap::IndexMap;
-use pitch_fields::{OutOfMemory, Price, Side, Symbol};
-use pitch_messages::{Message, Order, Raw, read_bytes};
+use pitch_fields::{OutOfMemory, Price, Side, Symbol, get_u64};
+use pitch_messages::{Message, Order, Raw, Raws, read_bytes};
 use std::alloc::Global;
 use std::marker::Model;
 
@@ -49,86 +50,39 @@ impl UnitBook {
         }
     }
 
-    fn set_second(&mut self, second: u32)
-        ensures book { self.new.book ≡ at_second self.old.book second }
-        ensures spare { self.new.spare ≡ self.old.spare }
-    {
-        self.second = Some(second);
-    }
-
-    // Puts an order under its id.
-    #[tactic(auto, using(crate::proofs::Maps::inserts))]
-    fn insert(&mut self, order: Order) -> Result<(), OutOfMemory>
-        requires filled { 0 < order.quantity }
-        requires few { map.len self.old.book.orders < most_orders }
-        ensures ok { OnOk result (self.new.book ≡ with_order self.old.book order.id order) }
+    /// Does what a raw message says, given its bytes. A known type that is too short or names no side, and a type
+    /// that is no book message, change nothing.
+    ///
+    /// The book is as before after OutOfMemory, which never comes where the spare is at least 1.
+    #[tactic(auto, unfolding(pitch_model::specs::Book::after))]
+    pub fn apply_bytes(&mut self, raw: &[u8]) -> Result<(), OutOfMemory>
+        requires raw { IsRaw raw.now }
+        requires few { map.len self.old.book.orders < 4294967295 }
+        ensures ok { OnOk result (self.new.book ≡ after self.old.book raw.now) }
         ensures err { OnErr result (self.new.book ≡ self.old.book) }
         ensures succeeds { 1 ≤ self.old.spare → IsOk result }
         ensures spare { self.old.spare ≤ self.new.spare + 1 }
     {
-        self.orders.insert(order.id, order)?;
-        Ok(())
-    }
-
-    #[tactic(auto, using(crate::proofs::Maps::removes))]
-    fn remove(&mut self, id: u64)
-        ensures book { self.new.book ≡ without_order self.old.book id }
-        ensures spare { self.old.spare ≤ self.new.spare }
-    {
-        self.orders.swap_remove(&id);
-    }
-
-    fn clear(&mut self)
-        ensures book { self.new.book ≡ cleared self.old.book }
-        ensures spare { self.old.spare ≤ self.new.spare }
-    {
-        self.orders.clear();
-    }
-
-    /// How many orders are open.
-    #[tactic(auto, using(crate::proofs::Maps::lens))]
-    pub fn len(&self) -> u32
-        ensures { result ≡ map.len self.now.book.orders }
-    {
-        self.orders.len() as u32
-    }
-
-    /// How many new orders need no memory: with the open orders at most 4,294,967,295.
-    pub fn spare(&self) -> u32
-        ensures { result ≡ self.now.spare }
-    {
-        let room = u32::MAX - self.orders.len() as u32;
-        let ready = self.orders.capacity() - self.orders.len();
-        ready.min(room as usize) as u32
-    }
-
-    /// The open order of an id, or None exactly where none is open.
-    #[tactic(auto, using(crate::proofs::Maps::looks))]
-    pub fn order(&self, id: u64) -> Option<Order>
-        ensures { result ≡ map.get self.now.book.orders id }
-    {
-        self.orders.get(&id).copied()
-    }
-}
-
-impl UnitBook {
-    // Adds an order, unless it has no shares.
-    fn add(&mut self, order: Order) -> Result<(), OutOfMemory>
-        requires few { map.len self.old.book.orders < most_orders }
-        ensures ok { OnOk result (self.new.book ≡ added self.old.book order) }
-        ensures err { OnErr result (self.new.book ≡ self.old.book) }
-        ensures succeeds { 1 ≤ self.old.spare → IsOk result }
-        ensures spare { self.old.spare ≤ self.new.spare + 1 }
-    {
-        if order.quantity == 0 {
-            return Ok(());
+        match read_bytes(raw) {
+            Ok(message) => self.apply_message(&message),
+            Err(_) => Ok(()),
         }
-        self.insert(order)
+    }
+
+    /// Does what a raw message says, as `apply_bytes` does.
+    pub fn apply(&mut self, raw: &Raw) -> Result<(), OutOfMemory>
+        requires few { map.len self.old.book.orders < 4294967295 }
+        ensures ok { OnOk result (self.new.book ≡ after self.old.book raw.now) }
+        ensures err { OnErr result (self.new.book ≡ self.old.book) }
+        ensures succeeds { 1 ≤ self.old.spare → IsOk result }
+        ensures spare { self.old.spare ≤ self.new.spare + 1 }
+    {
+        self.apply_bytes(raw.bytes())
     }
 
     /// Makes room for more orders: the spare is then at least so many. The book is the same in either case.
     pub fn reserve(&mut self, more: u32) -> Result<(), OutOfMemory>
-        requires { map.len self.old.book.orders + more ≤ most_orders }
+        requires { map.len self.old.book.orders + more ≤ 4294967295 }
         ensures same { self.new.book ≡ self.old.book }
         ensures room { OnOk result (more ≤ self.new.spare) }
         ensures kept { self.old.spare ≤ self.new.spare }
@@ -138,23 +92,38 @@ impl UnitBook {
         Ok(())
     }
 
-    /// Appends all open orders by rising id. The list is as before after OutOfMemory.
-    pub fn orders_by_id(&self, out: &mut OrderList) -> Result<(), OutOfMemory>
-        ensures ok { OnOk result (out.new.items ≡ out.old.items ++ orders_of self.now.book) }
-        ensures err { OnErr result (out.new.items ≡ out.old.items) }
+    /// How many new orders need no memory: with the open orders at most 4,294,967,295.
+    pub fn spare(&self) -> u32
+        ensures spare { result ≡ self.now.spare }
+        ensures within { map.len self.now.book.orders + self.now.spare ≤ most_orders }
     {
-        out.append_by_id(&self.orders)?;
-        Ok(())
+        let room = u32::MAX - self.orders.len() as u32;
+        let ready = self.orders.capacity() - self.orders.len();
+        ready.min(room as usize) as u32
     }
 
-    /// An equal book.
-    pub fn copy(&self) -> Result<UnitBook, OutOfMemory>
-        ensures { IfOk result (λ copy. copy.book ≡ self.now.book) }
+    /// How many orders are open.
+    #[tactic(auto, using(crate::proofs::Maps::lens))]
+    pub fn len(&self) -> u32
+        ensures count { result ≡ map.len self.now.book.orders }
+        ensures book { IsBook self.now.book }
     {
-        Ok(UnitBook {
-            second: self.second,
-            orders: self.orders.clone()?,
-        })
+        self.orders.len() as u32
+    }
+
+    /// The second of the unit's clock, or None exactly where none is known.
+    pub fn second(&self) -> Option<u32>
+        ensures { result ≡ self.now.book.second }
+    {
+        self.second
+    }
+
+    /// The open order of an id, or None exactly where none is open.
+    #[tactic(auto, using(crate::proofs::Maps::looks))]
+    pub fn order(&self, id: u64) -> Option<Order>
+        ensures { result ≡ map.get self.now.book.orders id }
+    {
+        self.orders.get(&id).copied()
     }
 
     /// The shares of all open orders.
@@ -187,33 +156,48 @@ impl UnitBook {
         Some((price, self.level(symbol, side, price)))
     }
 
-    /// The second of the unit's clock, or None exactly where none is known.
-    pub fn second(&self) -> Option<u32>
-        ensures { result ≡ self.now.book.second }
+    /// Appends all open orders by rising id. The list is as before after OutOfMemory.
+    pub fn orders_by_id(&self, out: &mut OrderList) -> Result<(), OutOfMemory>
+        ensures ok { OnOk result (out.new.items ≡ out.old.items ++ orders_of self.now.book) }
+        ensures err { OnErr result (out.new.items ≡ out.old.items) }
     {
-        self.second
+        out.append_by_id(&self.orders)?;
+        Ok(())
     }
 
-    // Changes the order of an id, and removes it where it has no shares left.
-    fn change(&mut self, id: u64, change: Change)
-        ensures book { self.new.book ≡ changed self.old.book id (changed_by change) }
-        ensures spare { self.old.spare ≤ self.new.spare }
+    /// How many of the messages name an order that is open.
+    ///
+    /// To ask this of a block before its messages are applied makes that faster, since all the orders are then near:
+    /// these look-ups overlap, where those of `apply` wait for one another.
+    pub fn known_orders(&self, raws: Raws<'_>) -> usize
+        ensures { result ≡ count_by (names_open self.now.book) raws.entry }
     {
-        let Some((index, _, order)) = self.orders.get_full(&id) else {
-            return;
-        };
-        let order = change.of(*order);
-        if order.quantity == 0 {
-            self.orders.swap_remove_index(index);
-            return;
+        // There are no more of them than messages, whose number fits.
+        let _count = raws.len();
+        let mut known = 0;
+        for raw in raws {
+            if self.names_open(raw) {
+                known += 1;
+            }
         }
-        let (_, place) = self.orders.pair_mut(index);
-        *place = order;
+        known
     }
 
+    /// An equal book.
+    pub fn copy(&self) -> Result<UnitBook, OutOfMemory>
+        ensures { IfOk result (λ copy. copy.book ≡ self.now.book) }
+    {
+        Ok(UnitBook {
+            second: self.second,
+            orders: self.orders.clone()?,
+        })
+    }
+}
+
+impl UnitBook {
     // Does what a message says.
     fn apply_message(&mut self, message: &Message) -> Result<(), OutOfMemory>
-        requires few { map.len self.old.book.orders < most_orders }
+        requires few { map.len self.old.book.orders < 4294967295 }
         ensures ok { OnOk result (self.new.book ≡ after_message self.old.book message.now) }
         ensures err { OnErr result (self.new.book ≡ self.old.book) }
         ensures succeeds { 1 ≤ self.old.spare → IsOk result }
@@ -309,33 +293,97 @@ impl UnitBook {
         Ok(())
     }
 
-    /// Does what a raw message says, given its bytes. A known type that is too short or names no side, and a type
-    /// that is no book message, change nothing.
-    ///
-    /// The book is as before after OutOfMemory, which never comes where the spare is at least 1.
-    #[tactic(auto, unfolding(pitch_model::specs::Book::after))]
-    pub fn apply_bytes(&mut self, raw: &[u8]) -> Result<(), OutOfMemory>
-        requires raw { IsRaw raw.now }
-        requires few { map.len self.old.book.orders < most_orders }
-        ensures ok { OnOk result (self.new.book ≡ after self.old.book raw.now) }
-        ensures err { OnErr result (self.new.book ≡ self.old.book) }
-        ensures succeeds { 1 ≤ self.old.spare → IsOk result }
-        ensures spare { self.old.spare ≤ self.new.spare + 1 }
+    // Shows another second.
+    fn set_second(&mut self, second: u32)
+        ensures book { self.new.book ≡ at_second self.old.book second }
+        ensures spare { self.new.spare ≡ self.old.spare }
     {
-        match read_bytes(raw) {
-            Ok(message) => self.apply_message(&message),
-            Err(_) => Ok(()),
-        }
+        self.second = Some(second);
     }
 
-    /// Does what a raw message says, as `apply_bytes` does.
-    pub fn apply(&mut self, raw: &Raw) -> Result<(), OutOfMemory>
-        requires few { map.len self.old.book.orders < most_orders }
-        ensures ok { OnOk result (self.new.book ≡ after self.old.book raw.now) }
+    // Takes all orders out. The second stays.
+    fn clear(&mut self)
+        ensures book { self.new.book ≡ cleared self.old.book }
+        ensures spare { self.old.spare ≤ self.new.spare }
+    {
+        self.orders.clear();
+    }
+
+    // Adds an order, unless it has no shares.
+    fn add(&mut self, order: Order) -> Result<(), OutOfMemory>
+        requires few { map.len self.old.book.orders < 4294967295 }
+        ensures ok { OnOk result (self.new.book ≡ added self.old.book order) }
         ensures err { OnErr result (self.new.book ≡ self.old.book) }
         ensures succeeds { 1 ≤ self.old.spare → IsOk result }
         ensures spare { self.old.spare ≤ self.new.spare + 1 }
     {
-        self.apply_bytes(raw.bytes())
+        if order.quantity > 0 {
+            return self.insert(order);
+        }
+        Ok(())
     }
+
+    // Puts an order under its id.
+    #[tactic(auto, using(crate::proofs::Maps::inserts))]
+    fn insert(&mut self, order: Order) -> Result<(), OutOfMemory>
+        requires filled { 0 < order.quantity }
+        requires few { map.len self.old.book.orders < 4294967295 }
+        ensures ok { OnOk result (self.new.book ≡ with_order self.old.book order.id order) }
+        ensures err { OnErr result (self.new.book ≡ self.old.book) }
+        ensures succeeds { 1 ≤ self.old.spare → IsOk result }
+        ensures spare { self.old.spare ≤ self.new.spare + 1 }
+    {
+        self.orders.insert(order.id, order)?;
+        Ok(())
+    }
+
+    // Takes the order of an id out.
+    #[tactic(auto, using(crate::proofs::Maps::removes))]
+    fn remove(&mut self, id: u64)
+        ensures book { self.new.book ≡ without_order self.old.book id }
+        ensures spare { self.old.spare ≤ self.new.spare }
+    {
+        self.orders.swap_remove(&id);
+    }
+
+    // Changes the order of an id, and removes it where it has no shares left.
+    fn change(&mut self, id: u64, change: Change)
+        ensures book { self.new.book ≡ changed self.old.book id (changed_by change) }
+        ensures spare { self.old.spare ≤ self.new.spare }
+    {
+        let Some((index, _, order)) = self.orders.get_full(&id) else {
+            return;
+        };
+        let order = change.of(*order);
+        if order.quantity == 0 {
+            self.orders.swap_remove_index(index);
+            return;
+        }
+        let (_, place) = self.orders.pair_mut(index);
+        *place = order;
+    }
+
+    // Whether a message names an open order.
+    fn names_open(&self, raw: &[u8]) -> bool
+        ensures { result ≡ names_open self.now.book raw.now }
+    {
+        raw.len() >= 14 && names_order(raw[1]) && self.is_open(get_u64(raw, 6))
+    }
+
+    // Whether an order is open. Its quantity is read, which is never 0, so that the order is near afterwards.
+    fn is_open(&self, id: u64) -> bool
+        ensures { result ≡ map.contains_key self.now.book.orders id }
+    {
+        match self.orders.get(&id) {
+            Some(order) => order.quantity > 0,
+            None => false,
+        }
+    }
+}
+
+// Whether messages of a type name an order.
+fn names_order(kind: u8) -> bool
+    ensures { result ≡ names_order kind }
+{
+    matches!(kind, 0x21..=0x29 | 0x2f)
 }

@@ -3,3 +3,4 @@ pub mod Rows
 pub mod Fields
 pub mod RoundTrip
 pub mod Rewriting
+pub mod SessionTrip

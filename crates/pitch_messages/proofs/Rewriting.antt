@@ -1,6 +1,5 @@
 -- A raw of just the length that its type needs is the writing of what it says.
 use Rattle.std.proofs.Common.{◌≡◌, ℕ, suc, ◌+◌, ◌<◌, ◌≤◌, Bool, true, false, cond, List, [], ◌∷◌, ◌++◌, length, take, drop, get_or, refl, sym, ap, ◌∙◌, arith, subst, slice_index, ◌⊎◌, Option, None, Some, Result, Ok, Err, IfOk, inl, inr, lit≤, nat_lt, ◌==◌}
-use Rattle.std.specs.Option.{option_map_or}
 use Rattle.std.proofs.Math.ListN.{drop_of_length-le}
 use Rattle.std.proofs.lemmas.List.{append-nil, drop-drop, length-drop, get_or-drop, take-append-drop}
 use Rattle.std.proofs.Math.Seq.{drop-cons}
@@ -13,9 +12,11 @@ use Rattle.pitch_fields.specs.declared.side.Side.{Side}
 use Rattle.pitch_fields.specs.declared.side.Side.TheVariants.{Buy, Sell}
 use Rattle.pitch_fields.proofs.LittleEndian.{bytes_of_number}
 use Rattle.pitch_messages.specs.Raw.{IsRaw, kind_of}
-use Rattle.pitch_messages.specs.Reading.{Row, reads, reads_by, row_of, needs_of, bytes_at, with_side, time_row, add_long_row, add_short_row, executed_row, executed_at_row, reduce_long_row, reduce_short_row, modify_long_row, modify_short_row, delete_row, trade_long_row, trade_short_row, trade_break_row, end_of_session_row, add_expanded_row, trade_expanded_row, unit_clear_row}
+use Rattle.pitch_messages.specs.Table.{bytes_at, needs_by, reads_by}
+use Rattle.pitch_messages.specs.Reading.{MessageRow, reads, row_of, needs_of, with_side, time_row, add_long_row, add_short_row, executed_row, executed_at_row, reduce_long_row, reduce_short_row, modify_long_row, modify_short_row, delete_row, trade_long_row, trade_short_row, trade_break_row, end_of_session_row, add_expanded_row, trade_expanded_row, unit_clear_row}
 use Rattle.pitch_messages.specs.Writing.{written}
 use Rattle.pitch_messages.specs.declared.message.Message.{Message}
+use Rattle.pitch_messages.specs.declared.message.Message.TheVariants.{Other}
 use Rattle.pitch_messages.specs.declared.message.ReadError.TheVariants.{Short}
 
 -- a raw of just this length and type
@@ -77,7 +78,7 @@ with_a_side None b message P holds = tt
 with_a_side (Some side) b message P holds = holds side refl
 
 -- what a row says of a raw of just its length is written as that raw
-abbrev pub IsSound : ℕ → Row → Type 0
+abbrev pub IsSound : ℕ → MessageRow → Type 0
 IsSound kind row = (raw : List ℕ) → Whole row.needs kind raw → IfOk (row.says raw) (λ m. raw ≡ written m)
 
 time_sound : IsSound 32 time_row
@@ -149,18 +150,18 @@ unfolding written
 unit_clear_sound raw w = front w (lit≤ tt) (number_end 4 2 w refl)
 
 -- a row of the table, or one of those below it
-pick : (kind n : ℕ) (r : Row) (others : Option Row) → IsSound n r → ((row : Row) → others ≡ Some row → IsSound kind row)
-    → (row : Row) → cond (kind == n) (Some r) others ≡ Some row → IsSound kind row
+pick : (kind n : ℕ) (r : MessageRow) (others : Option MessageRow) → IsSound n r → ((row : MessageRow) → others ≡ Some row → IsSound kind row)
+    → (row : MessageRow) → cond (kind == n) (Some r) others ≡ Some row → IsSound kind row
 pick kind n r others sound below row is = elim (cases_Bool (kind == n)) [
   | inl b ↦
       let same : kind ≡ n = grind (arith, nat_tests, b) in
       let chosen : Some r ≡ Some row = sym (ap (λ (t : Bool). cond t (Some r) others) b) ∙ is in
       let e : r ≡ row = cc in
-      subst (λ (x : Row). IsSound kind x) e (subst (λ (k : ℕ). IsSound k r) (sym same) sound)
+      subst (λ (x : MessageRow). IsSound kind x) e (subst (λ (k : ℕ). IsSound k r) (sym same) sound)
   | inr b ↦ below row (sym (ap (λ (t : Bool). cond t (Some r) others) b) ∙ is)
 ]
 
-all_sound : (kind : ℕ) (row : Row) → row_of kind ≡ Some row → IsSound kind row
+all_sound : (kind : ℕ) (row : MessageRow) → row_of kind ≡ Some row → IsSound kind row
 all_sound kind =
     pick kind 32 time_row _ time_sound (
     pick kind 33 add_long_row _ add_long_sound (
@@ -190,8 +191,8 @@ all_ok (Ok a) Q all = all a
 all_ok (Err e) Q all = tt
 
 -- by its row, a raw of just the length that the row needs is the writing of what it says
-by_row : (raw : List ℕ) (row : Option Row) → IsRaw raw → ((k : ℕ) → get_or raw k 0 < 256) → row_of (kind_of raw) ≡ row
-    → IfOk (reads_by row raw) (λ m. length raw ≡ option_map_or (λ (r : Row). r.needs) row 0 → raw ≡ written m)
+by_row : (raw : List ℕ) (row : Option MessageRow) → IsRaw raw → ((k : ℕ) → get_or raw k 0 < 256) → row_of (kind_of raw) ≡ row
+    → IfOk (reads_by (λ other. Ok (Other other)) (λ needs has. Err (Short needs has)) row raw) (λ m. length raw ≡ needs_by row → raw ≡ written m)
 unfolding written
 by_row raw None is small at = λ size. refl
 by_row raw (Some row) is small at =

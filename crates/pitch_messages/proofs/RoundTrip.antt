@@ -14,15 +14,15 @@ side_back Buy = refl
 side_back Sell = refl
 
 -- a number of that width is read back
-number_back : (n x : ℕ) → x < 256 ^ n → little_number n (little_bytes n x ++ []) ≡ x
+pub number_back : (n x : ℕ) → x < 256 ^ n → little_number n (little_bytes n x ++ []) ≡ x
 number_back n x fits = little_number-reads_back n x [] fits
 
 -- the first n bytes, one by one
-abbrev spelled : ℕ → List ℕ → List ℕ
+abbrev pub spelled : ℕ → List ℕ → List ℕ
 spelled zero xs = []
 spelled (suc n) xs = slice_index xs 0 ∷ spelled n (drop 1 xs)
 
-all_spelled : (n : ℕ) (xs : List ℕ) → length xs ≡ n → xs ≡ spelled n xs
+pub all_spelled : (n : ℕ) (xs : List ℕ) → length xs ≡ n → xs ≡ spelled n xs
 all_spelled zero [] size = refl
 all_spelled zero (x ∷ xs) size = absurd (omega (arith, size))
 all_spelled (suc n) [] size = absurd (omega (arith, size))

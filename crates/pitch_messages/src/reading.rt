@@ -3,8 +3,9 @@ ghost use Rattle.std.specs.Option.{option_map};
 ghost use Rattle.pitch_fields.specs.Side.{side_of};
 ghost use Rattle.pitch_messages.specs.Raw.{IsRaw, kind_of};
 ghost use Rattle.pitch_messages.specs.declared.message.ReadError.TheVariants.{BadSide};
+ghost use Rattle.pitch_messages.specs.Table.{bytes_at};
 ghost use Rattle.pitch_messages.specs.Writing.{written};
-ghost use Rattle.pitch_messages.specs.Reading.{bytes_at, needs_of, reads, row_of, time_row, add_long_row, add_short_row, executed_row, executed_at_row, reduce_long_row, reduce_short_row, modify_long_row, modify_short_row, delete_row, trade_long_row, trade_short_row, trade_break_row, end_of_session_row, add_expanded_row, trade_expanded_row, unit_clear_row};
+ghost use Rattle.pitch_messages.specs.Reading.{needs_of, reads, row_of, time_row, add_long_row, add_short_row, executed_row, executed_at_row, reduce_long_row, reduce_short_row, modify_long_row, modify_short_row, delete_row, trade_long_row, trade_short_row, trade_break_row, end_of_session_row, add_expanded_row, trade_expanded_row, unit_clear_row};
 
 use crate::message::{Message, ReadError};
 use crate::raw::Raw;
@@ -12,7 +13,7 @@ use pitch_fields::{Side, get_u16, get_u32, get_u64};
 
 // The four bytes from a place.
 #[inline(always)]
-fn four_at(bytes: &[u8], at: usize) -> [u8; 4]
+pub(crate) fn four_at(bytes: &[u8], at: usize) -> [u8; 4]
     requires { at + 4 ≤ length bytes.now }
     ensures { result ≡ bytes_at 4 at bytes.now }
 {

@@ -27,99 +27,115 @@ some_some x y e = cc
 open_from_test : (n : ℕ) → (n == 0) ≡ false → 0 < n
 open_from_test n f = grind (arith, nat_tests, f)
 
--- ---- Each effect leaves a book
-pub with_order_book : (book : Book) (id : ℕ) (order : Order) → IsBook book → order.id ≡ id → 0 < order.quantity → IsBook (with_order book id order)
-with_order_book book id order B named some = record {
-  ids = λ q other g. elim_get q other g (λ j o. o.id ≡ j) named B.ids;
-  filled = λ q other g. elim_get q other g (λ j o. 0 < o.quantity) some B.filled;
-}
-  where
-    elim_get : (q : ℕ) (other : Order) → map.get (map.insert book.orders id order) q ≡ Some other → (C : ℕ → Order → Type 0) → C id order → ((j : ℕ) (o : Order) → map.get book.orders j ≡ Some o → C j o) → C q other
-    elim_get q other g C here there = by (eq_by_cmp nat_cmp q id) refl (sym (map.get-insert nat_cmp_total book.orders id order q) ∙ g)
-      where
-        by : (b : Bool) → eq_by_cmp nat_cmp q id ≡ b → cond b (Some order) (map.get book.orders q) ≡ Some other → C q other
-        by true t e =
-            let same : id ≡ q = sym (eqb-true q id (sym (same_test q id) ∙ t)) in
-            subst (λ (j : ℕ). C j other) same (subst (C id) (some_some order other e) here)
-        by false t e = there q other e
+-- ---- What holds of each open order, through each effect
+abbrev pub AllOrders : (ℕ → Order → Type 0) → Book → Type 0
+AllOrders C book = (id : ℕ) (order : Order) → map.get book.orders id ≡ Some order → C id order
 
-pub without_order_book : (book : Book) (id : ℕ) → IsBook book → IsBook (without_order book id)
-without_order_book book id B = record {
-  ids = λ q other g. B.ids q other (still q other g);
-  filled = λ q other g. B.filled q other (still q other g);
-}
-  where
-    still : (q : ℕ) (other : Order) → map.get (map.remove book.orders id) q ≡ Some other → map.get book.orders q ≡ Some other
-    still q other g = by (eq_by_cmp nat_cmp q id) (sym (map.get-remove nat_cmp_total book.orders id q) ∙ g)
-      where
-        by : (b : Bool) → cond b None (map.get book.orders q) ≡ Some other → map.get book.orders q ≡ Some other
-        by true e = absurd (none_some other e)
-        by false e = e
+module _ (C : ℕ → Order → Type 0) where
+  pub with_order_all : (book : Book) (id : ℕ) (order : Order) → AllOrders C book → C id order → AllOrders C (with_order book id order)
+  with_order_all book id order all here q other g = by (eq_by_cmp nat_cmp q id) refl (sym (map.get-insert nat_cmp_total book.orders id order q) ∙ g)
+    where
+      by : (b : Bool) → eq_by_cmp nat_cmp q id ≡ b → cond b (Some order) (map.get book.orders q) ≡ Some other → C q other
+      by true t e =
+          let same : id ≡ q = sym (eqb-true q id (sym (same_test q id) ∙ t)) in
+          subst (λ (j : ℕ). C j other) same (subst (C id) (some_some order other e) here)
+      by false t e = all q other e
+
+  pub without_order_all : (book : Book) (id : ℕ) → AllOrders C book → AllOrders C (without_order book id)
+  without_order_all book id all q other g = by (eq_by_cmp nat_cmp q id) (sym (map.get-remove nat_cmp_total book.orders id q) ∙ g)
+    where
+      by : (b : Bool) → cond b None (map.get book.orders q) ≡ Some other → C q other
+      by true e = absurd (none_some other e)
+      by false e = all q other e
+
+  pub none_all : (second : Option ℕ) → AllOrders C (record { second = second; orders = map.empty })
+  none_all second q other g = absurd (none_some other (sym (map.get-empty nat_cmp q) ∙ g))
+
+  pub added_all : (book : Book) (order : Order) → AllOrders C book → (0 < order.quantity → C order.id order) → AllOrders C (added book order)
+  added_all book order all here =
+      cond_both (order.quantity == 0) book (with_order book order.id order) (AllOrders C) (λ t. all) (λ f. with_order_all book order.id order all (here (open_from_test order.quantity f)))
+
+  pub changed_all : (book : Book) (id : ℕ) (change : Order → Order) → AllOrders C book → ((order : Order) → C id order → 0 < (change order).quantity → C id (change order)) → AllOrders C (changed book id change)
+  changed_all book id change all keeps = by (map.get book.orders id) refl
+    where
+      by : (o : Option Order) → map.get book.orders id ≡ o → AllOrders C (reformed book id (option_map change o))
+      by None e = all
+      by (Some order) e =
+          cond_both ((change order).quantity == 0) (without_order book id) (with_order book id (change order)) (AllOrders C)
+          (λ t. without_order_all book id all)
+          (λ f. with_order_all book id (change order) all (keeps order (all id order e) (open_from_test (change order).quantity f)))
+
+-- an order stands under its id, and has shares
+abbrev Stands : ℕ → Order → Type 0
+Stands id order = (order.id ≡ id) × (0 < order.quantity)
+
+book_from : (book : Book) → AllOrders Stands book → IsBook book
+book_from book all = record { ids = λ id order g. (all id order g).0; filled = λ id order g. (all id order g).1 }
+
+all_from : (book : Book) → IsBook book → AllOrders Stands book
+all_from book is id order g = (is.ids id order g, is.filled id order g)
+
+added_stands : (book : Book) (order : Order) → AllOrders Stands book → AllOrders Stands (added book order)
+added_stands book order all = added_all Stands book order all (λ some. (refl, some))
+
+changed_stands : (book : Book) (id : ℕ) (change : Order → Order) → ((order : Order) → (change order).id ≡ order.id) → AllOrders Stands book → AllOrders Stands (changed book id change)
+changed_stands book id change keeps all = changed_all Stands book id change all (λ order here some. (keeps order ∙ here.0, some))
+
+-- ---- Each effect leaves a book
+pub empty_book_book : IsBook empty_book
+empty_book_book = book_from empty_book (none_all Stands None)
 
 pub cleared_book : (book : Book) → IsBook (cleared book)
-cleared_book book = record {
-  ids = λ q other g. absurd (none_some other (sym (map.get-empty nat_cmp q) ∙ g));
-  filled = λ q other g. absurd (none_some other (sym (map.get-empty nat_cmp q) ∙ g));
-}
-
-pub empty_book_book : IsBook empty_book
-empty_book_book = record {
-  ids = λ q other g. absurd (none_some other (sym (map.get-empty nat_cmp q) ∙ g));
-  filled = λ q other g. absurd (none_some other (sym (map.get-empty nat_cmp q) ∙ g));
-}
+cleared_book book = book_from (cleared book) (none_all Stands book.second)
 
 pub at_second_book : (book : Book) (second : ℕ) → IsBook book → IsBook (at_second book second)
-at_second_book book second B = record { ids = B.ids; filled = B.filled }
+at_second_book book second is = record { ids = is.ids; filled = is.filled }
 
-pub added_book : (book : Book) (order : Order) → IsBook book → IsBook (added book order)
-added_book book order B = cond_both (order.quantity == 0) book (with_order book order.id order) IsBook (λ t. B) (λ f. with_order_book book order.id order B refl (open_from_test order.quantity f))
+pub with_order_book : (book : Book) (id : ℕ) (order : Order) → IsBook book → order.id ≡ id → 0 < order.quantity → IsBook (with_order book id order)
+with_order_book book id order is named some = book_from (with_order book id order) (with_order_all Stands book id order (all_from book is) (named, some))
+
+pub without_order_book : (book : Book) (id : ℕ) → IsBook book → IsBook (without_order book id)
+without_order_book book id is = book_from (without_order book id) (without_order_all Stands book id (all_from book is))
 
 -- a change that keeps the id
 pub changed_book : (book : Book) (id : ℕ) (change : Order → Order) → ((order : Order) → (change order).id ≡ order.id) → IsBook book → IsBook (changed book id change)
-changed_book book id change keeps B = by (map.get book.orders id) refl
-  where
-    by : (o : Option Order) → map.get book.orders id ≡ o → IsBook (reformed book id (option_map change o))
-    by None e = B
-    by (Some order) e =
-        cond_both ((change order).quantity == 0) (without_order book id) (with_order book id (change order)) IsBook
-        (λ t. without_order_book book id B)
-        (λ f. with_order_book book id (change order) B (keeps order ∙ B.ids id order e) (open_from_test (change order).quantity f))
+changed_book book id change keeps is = book_from (changed book id change) (changed_stands book id change keeps (all_from book is))
 
--- ---- So does each message
-after_message_book : (book : Book) (message : Message) → IsBook book → IsBook (after_message book message)
-after_message_book book (Time second) B = at_second_book book second B
-after_message_book book (UnitClear offset) B = cleared_book book
-after_message_book book (AddLong offset id side quantity symbol price flags) B = added_book book _ B
-after_message_book book (AddShort offset id side quantity symbol price flags) B = added_book book _ B
-after_message_book book (AddExpanded offset id side quantity symbol price flags participant) B = added_book book _ B
-after_message_book book (Executed offset id executed execution) B = changed_book book id (reduced_by executed) (λ order. refl) B
-after_message_book book (ExecutedAt offset id executed remaining execution price) B = changed_book book id (left_with remaining) (λ order. refl) B
-after_message_book book (ReduceLong offset id quantity) B = changed_book book id (reduced_by quantity) (λ order. refl) B
-after_message_book book (ReduceShort offset id quantity) B = changed_book book id (reduced_by quantity) (λ order. refl) B
-after_message_book book (ModifyLong offset id quantity price flags) B = changed_book book id (modified quantity price (is_displayed flags)) (λ order. refl) B
-after_message_book book (ModifyShort offset id quantity price flags) B = changed_book book id (modified quantity (long_price price) (is_displayed flags)) (λ order. refl) B
-after_message_book book (Delete offset id) B = without_order_book book id B
-after_message_book book (TradeLong offset id side quantity symbol price execution) B = B
-after_message_book book (TradeShort offset id side quantity symbol price execution) B = B
-after_message_book book (TradeExpanded offset id side quantity symbol price execution) B = B
-after_message_book book (TradeBreak offset execution) B = B
-after_message_book book (EndOfSession offset) B = B
-after_message_book book (Other raw) B = B
+-- ---- Each message leaves a book
+after_message_stands : (book : Book) (message : Message) → AllOrders Stands book → AllOrders Stands (after_message book message)
+after_message_stands book (Time second) B = B
+after_message_stands book (UnitClear offset) B = none_all Stands book.second
+after_message_stands book (AddLong offset id side quantity symbol price flags) B = added_stands book _ B
+after_message_stands book (AddShort offset id side quantity symbol price flags) B = added_stands book _ B
+after_message_stands book (AddExpanded offset id side quantity symbol price flags participant) B = added_stands book _ B
+after_message_stands book (Executed offset id executed execution) B = changed_stands book id (reduced_by executed) (λ order. refl) B
+after_message_stands book (ExecutedAt offset id executed remaining execution price) B = changed_stands book id (left_with remaining) (λ order. refl) B
+after_message_stands book (ReduceLong offset id quantity) B = changed_stands book id (reduced_by quantity) (λ order. refl) B
+after_message_stands book (ReduceShort offset id quantity) B = changed_stands book id (reduced_by quantity) (λ order. refl) B
+after_message_stands book (ModifyLong offset id quantity price flags) B = changed_stands book id (modified quantity price (is_displayed flags)) (λ order. refl) B
+after_message_stands book (ModifyShort offset id quantity price flags) B = changed_stands book id (modified quantity (long_price price) (is_displayed flags)) (λ order. refl) B
+after_message_stands book (Delete offset id) B = without_order_all Stands book id B
+after_message_stands book (TradeLong offset id side quantity symbol price execution) B = B
+after_message_stands book (TradeShort offset id side quantity symbol price execution) B = B
+after_message_stands book (TradeExpanded offset id side quantity symbol price execution) B = B
+after_message_stands book (TradeBreak offset execution) B = B
+after_message_stands book (EndOfSession offset) B = B
+after_message_stands book (Other raw) B = B
 
 pub after_book : (book : Book) (raw : Raw) → IsBook book → IsBook (after book raw)
 unfolding after
-after_book book raw B = by (reads raw)
+after_book book raw is = by (reads raw)
   where
     by : (read : Result Message ReadError) → IsBook (after_read book read)
-    by (Err error) = B
-    by (Ok message) = after_message_book book message B
+    by (Err error) = is
+    by (Ok message) = book_from (after_message book message) (after_message_stands book message (all_from book is))
 
 folded_book : (raws : List Raw) (book : Book) → IsBook book → IsBook (fold after book raws)
 folded_book [] book B = B
 folded_book (raw ∷ raws) book B = folded_book raws (after book raw) (after_book book raw B)
 
 pub book_after_book : (raws : List Raw) → IsBook (book_after raws)
-book_after_book raws = folded_book raws empty_book empty_book_book
+book_after_book raws = folded_book raws empty_book (book_from empty_book (none_all Stands None))
 
 -- ---- How many orders there are
 pub with_order_len : (book : Book) (id : ℕ) (order : Order) → map.len (with_order book id order).orders ≤ map.len book.orders + 1

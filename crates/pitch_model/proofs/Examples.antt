@@ -1,6 +1,6 @@
 -- Worked examples, computed by the definitions.
-use Rattle.std.proofs.Common.{◌≡◌, ℕ, ◌++◌, true, false, List, [], ◌∷◌, refl, sym, ap, ◌∙◌, ◌+◌, ◌-◌, cond, codes, decimal, Option, Some}
-use Rattle.std.specs.Option.{is_some}
+use Rattle.std.proofs.Common.{◌≡◌, ℕ, ◌++◌, true, false, List, [], ◌∷◌, refl, sym, ap, ◌∙◌, ◌+◌, ◌-◌, cond, codes, decimal, Option, Some, None}
+use Rattle.std.specs.Option.{is_some, option_map}
 use Rattle.std.specs.List.{flat_map}
 use Rattle.std.specs.Ordering.{nat_cmp}
 use Rattle.std.specs.FinMap as map
@@ -11,9 +11,11 @@ use Rattle.unit_packets.specs.Blocks.{Block}
 use Rattle.pitch_fields.specs.Name.{name_shown}
 use Rattle.pitch_messages.specs.declared.order.Order.{Order}
 use Rattle.pitch_messages.specs.Reading.{reads}
-use Rattle.pitch_model.specs.Book.{Book, after, book_after}
+use Rattle.pitch_model.specs.Book.{Book, with_order, without_order, reformed, reduced_by, modified, after, book_after}
 use Rattle.pitch_model.specs.BookText.{book_text, order_line, second_text}
-use Rattle.pitch_model.specs.History.{Entry, Message, Next}
+use Rattle.pitch_model.specs.History.{Entry, Message, Next, GrpUp, SpinUp, Advertised, SpinReply, SpinFinished, Ticked}
+use Rattle.pitch_model.specs.Asking.{ask_of}
+use Rattle.pitch_model.specs.declared.ask.Ask.TheVariants.{Gap, Spin}
 use Rattle.pitch_model.specs.Reach.{is_overflow, is_held, reach_of, held_count}
 use Rattle.pitch_model.specs.Status.{status_of}
 use Rattle.pitch_model.specs.Follow.{block_line, lines_after, follow_text}
@@ -182,3 +184,56 @@ text_of_an_empty_book = shown 1 3 34200 0 [] (book_after (clock ∷ order ∷ de
     none = map.len-remove nat_cmp_total one_sold 5
         ∙ ap (λ (o : Option Order). cond (is_some o) (map.len one_sold - 1) (map.len one_sold)) (map.get-insert nat_cmp_total no_orders 5 sold 5)
         ∙ ap (λ (k : ℕ). k - 1) one_order
+
+-- ---- Changes of an open order
+-- to 7 shares at 11.0000, hidden; and then 3 shares fewer, and 4 more
+abbrev modification : List ℕ
+modification = 0x1b ∷ 0x27 ∷ 0 ∷ 0 ∷ 0 ∷ 0 ∷ 5 ∷ 0 ∷ 0 ∷ 0 ∷ 0 ∷ 0 ∷ 0 ∷ 0 ∷ 7 ∷ 0 ∷ 0 ∷ 0 ∷ 0xb0 ∷ 0xad ∷ 1 ∷ 0 ∷ 0 ∷ 0 ∷ 0 ∷ 0 ∷ 0 ∷ []
+
+abbrev reduction : ℕ → List ℕ
+reduction shares = 0x10 ∷ 0x26 ∷ 0 ∷ 0 ∷ 0 ∷ 0 ∷ 5 ∷ 0 ∷ 0 ∷ 0 ∷ 0 ∷ 0 ∷ 0 ∷ 0 ∷ shares ∷ 0 ∷ []
+
+abbrev book_of_one : Order → Book
+book_of_one order = record { second = None; orders = map.insert no_orders 5 order }
+
+abbrev hidden : ℕ → Order
+hidden shares = record { id = 5; side = Buy; quantity = shares; symbol = codes "IBM     "; price = 110000; display = false; participant = codes "    " }
+
+stands : (order : Order) → map.get (map.insert no_orders 5 order) 5 ≡ Some order
+stands order = map.get-insert nat_cmp_total no_orders 5 order 5
+
+quantity_price_and_display_are_modified : after (book_of_one sold) modification ≡ with_order (book_of_one sold) 5 (hidden 7)
+unfolding after reads
+quantity_price_and_display_are_modified = ap (λ (o : Option Order). reformed (book_of_one sold) 5 (option_map (modified 7 110000 false) o)) (stands sold)
+
+shares_are_reduced : after (book_of_one (hidden 7)) (reduction 3) ≡ with_order (book_of_one (hidden 7)) 5 (hidden 4)
+unfolding after reads
+shares_are_reduced = ap (λ (o : Option Order). reformed (book_of_one (hidden 7)) 5 (option_map (reduced_by 3) o)) (stands (hidden 7))
+
+no_shares_are_no_order : after (book_of_one (hidden 4)) (reduction 4) ≡ without_order (book_of_one (hidden 4)) 5
+unfolding after reads
+no_shares_are_no_order = ap (λ (o : Option Order). reformed (book_of_one (hidden 4)) 5 (option_map (reduced_by 4) o)) (stands (hidden 4))
+
+nothing_is_reduced_where_none_is_open : after (record { second = None; orders = no_orders }) (reduction 3) ≡ record { second = None; orders = no_orders }
+unfolding after reads
+nothing_is_reduced_where_none_is_open = ap (λ (o : Option Order). reformed (record { second = None; orders = no_orders }) 5 (option_map (reduced_by 3) o)) (map.get-empty nat_cmp 5)
+
+-- ---- What is asked for
+-- 2 is missing, and the Gap Request Proxy is up
+gap_before_the_first_held : ask_of 4096 (message 3 ∷ message 1 ∷ GrpUp ∷ []) ≡ Some (Gap 2 1)
+unfolding reach_of held_count
+gap_before_the_first_held = refl
+
+nothing_while_a_reply_is_owed : ask_of 4096 (Ticked (Some (Gap 2 1)) ∷ message 3 ∷ message 1 ∷ GrpUp ∷ []) ≡ None
+unfolding reach_of held_count
+nothing_while_a_reply_is_owed = refl
+
+-- the Gap Request Proxy is down, and an image through 4 is advertised
+image_where_no_gap_can_be_asked : ask_of 4096 (message 5 ∷ Advertised 4 ∷ SpinUp ∷ []) ≡ Some (Spin 4)
+unfolding reach_of held_count
+image_where_no_gap_can_be_asked = refl
+
+-- an image through 4 of no orders is finished, behind which 5 was held
+current_after_an_image : status_of 4096 (SpinFinished 4 ∷ SpinReply 4 0 true ∷ Ticked (Some (Spin 4)) ∷ message 5 ∷ Advertised 4 ∷ SpinUp ∷ []) ≡ Current 5
+unfolding reach_of held_count
+current_after_an_image = refl

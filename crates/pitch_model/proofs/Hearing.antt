@@ -7,7 +7,9 @@ use Rattle.std.proofs.lemmas.Bool.{cond-true, cond-false, eq-eqb, ne_eqb}
 use Rattle.unit_packets.specs.Blocks.{Block, StaysWithin}
 use Rattle.pitch_model.specs.History.{Entry, Raw, Message}
 use Rattle.pitch_model.specs.Reach.{is_overflow}
-use Rattle.pitch_model.specs.Heard.{IsItem, IsItemOf, heard, heard_block, heard_sequenced, heard_messages, is_fresh, fresh_messages, overflowed_messages, block_overflows, overflows_of}
+use Rattle.pitch_model.specs.Heard.{IsItem, IsItemOf, heard, heard_block, heard_sequenced, heard_messages, is_fresh, fresh_messages, overflowed_messages, fresh_of, overflows_of, image_end, block_fresh, block_overflows, change_of, block_change}
+use Rattle.pitch_model.specs.Status.{status_of}
+use Rattle.pitch_model.specs.declared.change.ImageEnd.TheVariants.{NoImage}
 use Rattle.pitch_model.specs.declared.item.Item.{Item}
 use Rattle.pitch_model.specs.declared.item.Item.TheVariants as item
 
@@ -105,6 +107,47 @@ overflows_item H block (item.Advertised sequence) E is = absurd is
 overflows_item H block (item.SpinReply sequence orders status) E is = absurd is
 overflows_item H block (item.ImageMessages raws) E is = absurd is
 overflows_item H block (item.SpinFinished sequence) E is = absurd is
+
+pub fresh_item : (H : ℕ) (block : Block) (it : Item) (E : List Entry) → IsItemOf block it → fresh_of H E it ≡ block_fresh H E block
+fresh_item H block (item.Messages first raws) E is =
+    let sequenced = ne_eqb block.sequence 0 (λ e. let p = is.0 in omega arith) in
+    ap (λ n. fresh_messages H n raws.items E) is.2 ∙ ap (λ rs. fresh_messages H block.sequence rs E) is.3 ∙ sym (cond-false (block.sequence == 0) 0 (fresh_messages H block.sequence block.raws E) sequenced)
+fresh_item H block (item.Next next) E is =
+    let sequenced = ne_eqb block.sequence 0 (λ e. let p = is.0 in omega arith) in
+    ap (λ rs. fresh_messages H block.sequence rs E) (sym is.1) ∙ sym (cond-false (block.sequence == 0) 0 (fresh_messages H block.sequence block.raws E) sequenced)
+fresh_item H block item.Nothing E is = sym (cond-true (block.sequence == 0) 0 (fresh_messages H block.sequence block.raws E) (eq-eqb block.sequence 0 is))
+fresh_item H block item.GrpUp E is = absurd is
+fresh_item H block item.GrpDown E is = absurd is
+fresh_item H block (item.GapReply sequence count status) E is = absurd is
+fresh_item H block item.SpinUp E is = absurd is
+fresh_item H block item.SpinDown E is = absurd is
+fresh_item H block (item.Advertised sequence) E is = absurd is
+fresh_item H block (item.SpinReply sequence orders status) E is = absurd is
+fresh_item H block (item.ImageMessages raws) E is = absurd is
+fresh_item H block (item.SpinFinished sequence) E is = absurd is
+
+no_image_item : (H : ℕ) (block : Block) (it : Item) (E : List Entry) → IsItemOf block it → image_end H E it ≡ NoImage
+no_image_item H block (item.Messages first raws) E is = refl
+no_image_item H block (item.Next next) E is = refl
+no_image_item H block item.Nothing E is = refl
+no_image_item H block item.GrpUp E is = refl
+no_image_item H block item.GrpDown E is = refl
+no_image_item H block (item.GapReply sequence count status) E is = refl
+no_image_item H block item.SpinUp E is = refl
+no_image_item H block item.SpinDown E is = refl
+no_image_item H block (item.Advertised sequence) E is = refl
+no_image_item H block (item.SpinReply sequence orders status) E is = refl
+no_image_item H block (item.ImageMessages raws) E is = refl
+no_image_item H block (item.SpinFinished sequence) E is = absurd is
+
+pub change_item : (H : ℕ) (block : Block) (it : Item) (E : List Entry) → IsItemOf block it → change_of H E it ≡ block_change H E block
+change_item H block it E is = λ i. record {
+  before = status_of H E;
+  after = status_of H (heard_item block it E is i);
+  fresh = fresh_item H block it E is i;
+  overflows = overflows_item H block it E is i;
+  image = no_image_item H block it E is i;
+}
 
 -- the item of a block of a feed is an item of a feed
 pub item_fits : (block : Block) (it : Item) → StaysWithin block.sequence (length block.raws) → IsItemOf block it → IsItem it

@@ -15,3 +15,4 @@ pub mod Books
 pub mod Following
 pub mod Prices
 pub mod Images
+pub mod Widths

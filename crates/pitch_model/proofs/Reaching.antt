@@ -87,7 +87,7 @@ joined_le_top P k J =
 pub base_joined : (P : Part) → Joined P P.base
 base_joined P = record { anchor = P.base; is_anchored = or_left _ _ (eq-eqb P.base P.base refl); below = omega arith; run = λ j a b. absurd (omega arith) }
 
--- D15's reach is the greatest that is joined
+-- the reach is the greatest number that is joined
 pub reach_is : (P : Part) → IsReach P (reach_of P)
 unfolding reach_of
 reach_is P = record {

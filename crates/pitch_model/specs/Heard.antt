@@ -92,7 +92,10 @@ abbrev pub overflowed_messages : ℕ → ℕ → List Raw → List Entry → ℕ
 overflowed_messages H first [] E = 0
 overflowed_messages H first (raw ∷ raws) E = cond (is_overflow H E (entry.Message first raw)) 1 0 + overflowed_messages H (first + 1) raws (entry.Message first raw ∷ E)
 
--- the same of a block
+-- the same of a block; an unsequenced one has none
+abbrev pub block_fresh : ℕ → List Entry → Block → ℕ
+block_fresh H E block = cond (block.sequence == 0) 0 (fresh_messages H block.sequence block.raws E)
+
 abbrev pub block_overflows : ℕ → List Entry → Block → ℕ
 block_overflows H E block = cond (block.sequence == 0) 0 (overflowed_messages H block.sequence block.raws E)
 
@@ -123,4 +126,14 @@ change_of H E item = record {
   fresh = fresh_of H E item;
   overflows = overflows_of H E item;
   image = image_end H E item;
+}
+
+-- what a block changes that is heard after a history
+abbrev pub block_change : ℕ → List Entry → Block → Change
+block_change H E block = record {
+  before = status_of H E;
+  after = status_of H (heard_block block E);
+  fresh = block_fresh H E block;
+  overflows = block_overflows H E block;
+  image = end.NoImage;
 }

@@ -1,8 +1,8 @@
 -- The image of a book: messages that make it anew from the empty book ("Spin Server").
 use Rattle.std.specs.Prelude.{ℕ, List, [], ◌∷◌, ◌++◌, Option, None, Some, map, take}
-use Rattle.pitch_messages.specs.declared.order.Order.{Order}
 use Rattle.pitch_messages.specs.declared.message.Message.{Message}
 use Rattle.pitch_messages.specs.declared.message.Message.TheVariants.{Time}
+use Rattle.pitch_messages.specs.Forms.{add_message}
 use Rattle.pitch_messages.specs.Writing.{written}
 use Rattle.pitch_model.specs.Book.{Book, book_after}
 use Rattle.pitch_model.specs.Levels.{orders_of}
@@ -12,12 +12,10 @@ abbrev pub clock_of : Option ℕ → List Message
 clock_of None = []
 clock_of (Some second) = Time second ∷ []
 
--- `add order offset` is the message by which the venue adds an order
-module _ (add : Order → ℕ → Message) where
-  -- the clock, and then an add with offset 0 for each open order, by rising id
-  abbrev pub messages_of : Book → List Message
-  messages_of book = clock_of book.second ++ map (λ order. add order 0) (orders_of book)
+-- the clock, and then the add of each open order with offset 0, by rising id
+abbrev pub messages_of : Book → List Message
+messages_of book = clock_of book.second ++ map (λ order. add_message order 0) (orders_of book)
 
-  -- the image through a sequence: that of the book which the messages up to it leave
-  unfoldable pub image : List (List ℕ) → ℕ → List (List ℕ)
-  image V sequence = map written (messages_of (book_after (take sequence V)))
+-- the image through a sequence: that of the book which the messages up to it leave
+unfoldable pub image : List (List ℕ) → ℕ → List (List ℕ)
+image V sequence = map written (messages_of (book_after (take sequence V)))

@@ -1,6 +1,7 @@
 pub mod Book
 pub mod Levels
 pub mod Image
+pub mod Widths
 pub mod History
 pub mod Reach
 pub mod Settling

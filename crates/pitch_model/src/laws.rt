@@ -1,7 +1,7 @@
 //! Laws of the definitions. These functions do nothing: what they ensure is proved of the definitions alone.
 
-ghost use Rattle.std.specs.Prelude.{◌≡◌, ℕ, ◌+◌, ◌<◌, ◌≤◌, Bool, true, false, ◌||◌, ◌==◌, List, [], ◌∷◌, ◌++◌, length, reverse, nat_eq, unwrap_or};
-ghost use Rattle.std.specs.List.{list_any};
+ghost use Rattle.std.specs.Prelude.{◌≡◌, ℕ, ◌+◌, ◌<◌, ◌≤◌, Bool, true, false, ◌||◌, ◌==◌, List, [], ◌∷◌, ◌++◌, length, reverse, take, nat_eq, unwrap_or};
+ghost use Rattle.std.specs.List.{list_any, AllByRecursion};
 ghost use Rattle.std.specs.List.Sorted.{IsStrictlyIncreasing};
 ghost use Rattle.std.specs.Set.{is_member};
 ghost use Rattle.std.specs.FinMap as map;
@@ -9,9 +9,11 @@ ghost use Rattle.pitch_fields.specs.declared.side.Side.{Side};
 ghost use Rattle.unit_packets.specs.Blocks.{Block, StaysWithin};
 ghost use Rattle.pitch_model.specs.declared.item.Item.{Item};
 ghost use Rattle.pitch_model.specs.Book.{Book, IsBook, book_after};
+ghost use Rattle.pitch_model.specs.Image.{image};
+ghost use Rattle.pitch_model.specs.Widths.{AreBytes, IsWireBook};
 ghost use Rattle.pitch_model.specs.Levels.{IsBestOf, best, level, orders_on, prices_on};
 ghost use Rattle.pitch_model.specs.History.{Entry, Raw, Message, SpinFinished, spin_of, images_at, image_finished, messages_at};
-ghost use Rattle.pitch_model.specs.Heard.{IsItem, IsItemOf, heard, heard_block, overflows_of, block_overflows};
+ghost use Rattle.pitch_model.specs.Heard.{IsItem, IsItemOf, heard, heard_block, change_of, block_change};
 ghost use Rattle.pitch_model.specs.Honest.{Honest};
 ghost use Rattle.pitch_model.specs.Follow.{lines_after, line_after, units_of};
 ghost use Rattle.pitch_model.specs.Reach.{Part, IsReach, is_anchor, is_seen, reach_of, held_count, part_of, reach, is_held};
@@ -74,10 +76,12 @@ pub fn other_entries_change_nothing()
     ensures { (H : ℕ) (E : List Entry) (entry : Entry) → messages_at entry ≡ [] → images_at entry (spin_of E) ≡ [] → part_of H (entry ∷ E) ≡ part_of H E }
 {}
 
-/// In the book that messages leave, each order stands under its id and has shares, and there are no more orders than messages.
+/// In the book that messages leave, each order stands under its id and has shares, and there are no more orders than
+/// messages. Where the messages are bytes, the fields of each order have the widths of the wire.
 pub fn books_have_open_orders()
     ensures book { (raws : List Raw) → IsBook (book_after raws) }
     ensures few { (raws : List Raw) → map.len (book_after raws).orders ≤ length raws }
+    ensures wire { (raws : List Raw) → AllByRecursion AreBytes raws → IsWireBook (book_after raws) }
 {}
 
 /// An honest history tells of no message that the venue has not.
@@ -88,7 +92,7 @@ pub fn honest_histories_stay_within_the_venue()
 /// The item of a block says what the block says.
 pub fn items_say_what_their_blocks_say()
     ensures heard { (block : Block) (item : Item) (E : List Entry) → IsItemOf block item → heard item E ≡ heard_block block E }
-    ensures overflows { (H : ℕ) (block : Block) (item : Item) (E : List Entry) → IsItemOf block item → overflows_of H E item ≡ block_overflows H E block }
+    ensures change { (H : ℕ) (block : Block) (item : Item) (E : List Entry) → IsItemOf block item → change_of H E item ≡ block_change H E block }
     ensures fits { (block : Block) (item : Item) → StaysWithin block.sequence (length block.raws) → IsItemOf block item → IsItem item }
 {}
 
@@ -109,4 +113,9 @@ pub fn units_are_those_named()
 pub fn best_price_is_the_best()
     ensures some { (book : Book) (symbol : List ℕ) (side : Side) (price shares : ℕ) → best book symbol side ≡ Some (price, shares) → IsBestOf side (prices_on book symbol side) price × (shares ≡ level book symbol side price) }
     ensures none { (book : Book) (symbol : List ℕ) (side : Side) → best book symbol side ≡ None → orders_on book symbol side ≡ [] }
+{}
+
+/// The image through a sequence leaves the book that the messages up to it leave.
+pub fn images_leave_their_books()
+    ensures { (V : List Raw) (s : ℕ) → AllByRecursion AreBytes V → book_after (image V s) ≡ book_after (take s V) }
 {}

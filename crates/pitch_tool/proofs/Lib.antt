@@ -1,4 +1,8 @@
+pub mod Booking
 pub mod Flow
 pub mod Hearing
+pub mod Naming
 pub mod Pieces
 pub mod Printing
+pub mod Streaming
+pub mod Uniting

@@ -84,3 +84,11 @@ prints_whole a b t x p =
     let none : length (drop p.count (t ++ x)) ≡ 0 = ap length (sym p.rest) in
     let all : p.count ≡ length (t ++ x) = omega (arith, none, length-drop p.count (t ++ x), within) in
     subst (Grows a b) (ap (λ (k : ℕ). take k (t ++ x)) all ∙ take-length (t ++ x)) p.written
+
+-- place was made, and a text added
+pub prints_line : (a b : Option (List ℕ)) (t u v x : List ℕ) → Prints a t b u [] → v ≡ u ++ x → Prints a t b v x
+prints_line a b t u v x p is = prints_more a b b t u v [] x p (prints_added b u v x is)
+
+-- a sink that failed while more was printed
+pub puts_then : (a b c : Option (List ℕ)) (t u x y : List ℕ) → Prints a t b u x → PutsSome b c (u ++ y) → PutsSome a c (t ++ (x ++ y))
+puts_then a b c t u x y p q = puts_after a b c t (u ++ y) (x ++ y) (prints_more a b b t u (u ++ y) x y p (prints_added b u (u ++ y) y refl)) q

@@ -1,5 +1,9 @@
+pub mod Books
+pub mod Hearing
 pub mod Lines
 pub mod Page
 pub mod Putting
+pub mod Rising
+pub mod Standing
 pub mod Stands
 pub mod Statuses

@@ -11,6 +11,10 @@ use Rattle.client_core.specs.declared.client.UnitClient.{UnitClient}
 abbrev pub is_named : List Block → ℕ → Bool
 is_named before unit = list_any (λ block. unit == block.unit) before
 
+-- a header names a unit by one byte
+abbrev pub AreUnits : List Block → Type 0
+AreUnits before = (unit : ℕ) → is_named before unit ≡ true → unit < 256
+
 -- a unit has a client exactly where a block names it, and the client is where the unit's blocks bring it
 abbrev pub IsClient : ℕ → List Block → ℕ → Option UnitClient → Type 0
 IsClient H before unit None = is_named before unit ≡ false

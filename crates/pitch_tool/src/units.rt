@@ -1,15 +1,21 @@
 //! The clients of all units.
 
-ghost use Rattle.std.specs.Prelude.{◌≡◌, ◌≤◌, ◌<◌, ℕ, List, [], ◌∷◌, OnOk, IfOk, Option, Some, slice_get, vec_len};
+ghost use Rattle.std.specs.Prelude.{◌≡◌, ◌≤◌, ◌<◌, ℕ, List, [], ◌∷◌, OnOk, OnErr, IfOk, Err, Option, Some, slice_get, length};
 ghost use Rattle.unit_packets.specs.Blocks.{Block};
 ghost use Rattle.pitch_model.specs.History.{Raw};
 ghost use Rattle.pitch_model.specs.Follow.{unit_history, AllHonest};
 ghost use Rattle.client_core.specs.Blocks.{block_change};
 ghost use Rattle.client_core.specs.Tracks.{Tracks, Keeps};
-ghost use Rattle.pitch_tool.specs.Stands.{IsClient, Clients, KeepsTo, AllKeep};
+ghost use Rattle.pitch_io.specs.Causes.{HasCause};
+ghost use Rattle.pitch_tool.specs.Books.{PrintsUnit, PutsUnit, PrintsBooks, PutsBooks};
+ghost use Rattle.pitch_tool.specs.Stands.{AreUnits, IsClient, Clients, KeepsTo, AllKeep};
 
+use crate::books::print_book;
+use crate::page::Page;
+use crate::stop::PrintError;
 use client_core::{Change, UnitClient};
 use pitch_fields::OutOfMemory;
+use pitch_io::Sink;
 use std::alloc::Global;
 use std::mem::replace;
 use unit_packets::BlockView;
@@ -49,12 +55,12 @@ pub fn hear_block(
     block: &BlockView<'_>,
 ) -> Result<Change, OutOfMemory>
     requires limit { (1 ≤ limit) × (limit ≤ 65536) }
-    requires many { vec_len clients.old ≡ 256 }
+    requires many { length clients.old.items ≡ 256 }
     ensures clients { OnOk result ((before : List Block) → Clients limit clients.old.items before → Clients limit clients.new.items (block.now ∷ before)) }
     ensures keep { OnOk result ((Image : List Raw → ℕ → List Raw) (Vs : ℕ → List Raw) (before : List Block) → Clients limit clients.old.items before
         → AllHonest Image Vs (block.now ∷ before) → AllKeep Vs clients.old.items → AllKeep Vs clients.new.items) }
     ensures change { IfOk result (λ change. (before : List Block) → Clients limit clients.old.items before → change ≡ block_change limit (unit_history block.now.unit before) block.now) }
-    ensures many { OnOk result (vec_len clients.new ≡ 256) }
+    ensures many { OnOk result (length clients.new.items ≡ 256) }
 {
     let header = block.header();
     let unit = header.unit as usize;
@@ -63,4 +69,47 @@ pub fn hear_block(
     let change = client.hear_block(header.sequence, block.raws())?;
     clients[unit] = Some(client);
     Ok(change)
+}
+
+// Prints the book of a unit, where it has a client.
+fn print_unit<O: Sink>(
+    alloc: Global,
+    unit: u8,
+    slot: &Option<UnitClient>,
+    page: &mut Page,
+    out: &mut O,
+) -> Result<(), PrintError>
+    requires { 512 ≤ page.old.size }
+    ensures printed { OnOk result ((H : ℕ) (before : List Block) → IsClient H before unit slot.now
+        → PrintsUnit H slot.now before unit (O.written out.old) page.old.text (O.written out.new) page.new.text) }
+    ensures err { OnErr result ((H : ℕ) (before : List Block) → IsClient H before unit slot.now
+        → PutsUnit H slot.now before unit (O.written out.old) page.old.text (O.written out.new)) }
+    ensures size { OnOk result (page.new.size ≡ page.old.size) }
+    ensures cause { HasCause (O.faults out.old) (O.faults out.new) (result ≡ Err PrintError.PutFailed) }
+{
+    match slot {
+        Some(client) => print_book(alloc, page, out, unit, client.reach(), client.book()),
+        None => Ok(()),
+    }
+}
+
+/// Prints the books of all units that have a client, by rising unit.
+pub fn print_books<O: Sink>(
+    alloc: Global,
+    clients: &[Option<UnitClient>],
+    page: &mut Page,
+    out: &mut O,
+) -> Result<(), PrintError>
+    requires many { length clients.now ≡ 256 }
+    requires size { 512 ≤ page.old.size }
+    ensures printed { OnOk result ((H : ℕ) (before : List Block) → Clients H clients.now before
+        → PrintsBooks H clients.now before 256 (O.written out.old) page.old.text (O.written out.new) page.new.text) }
+    ensures err { OnErr result ((H : ℕ) (before : List Block) → Clients H clients.now before → AreUnits before
+        → PutsBooks H clients.now before (O.written out.old) page.old.text (O.written out.new)) }
+    ensures cause { HasCause (O.faults out.old) (O.faults out.new) (result ≡ Err PrintError.PutFailed) }
+{
+    'units: for unit in 0..clients.len() {
+        print_unit(alloc, unit as u8, &clients[unit], page, out)?;
+    }
+    Ok(())
 }

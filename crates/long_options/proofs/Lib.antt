@@ -1,0 +1,9 @@
+pub mod LongWords
+pub mod Apart
+pub mod Rows
+pub mod Turns
+pub mod Sound
+pub mod Complete
+pub mod Level
+pub mod Found
+pub mod Program

@@ -1,0 +1,12 @@
+use Rattle.std.proofs.Common.{◌≡◌, ◌≤◌, take}
+use Rattle.std.specs.List.{flat_map}
+use Rattle.pitch_model.specs.BookText.{order_line}
+use Rattle.pitch_tool.specs.Page.{Prints}
+use Rattle.pitch_tool.proofs.books.print_orders.Given as goal
+
+abbrev pub invariant-lines : goal.invariant-lines
+invariant-lines g l = record {
+  size : l.page.size ≡ l.fn.page.size;
+  printed : Prints (g.O.Sink.written l.fn.out) l.fn.page.text (g.O.Sink.written l.out) l.page.text (flat_map (λ o. order_line o.id o) (take l.order-index l.orders));
+  later : g.O.Sink.faults l.fn.out ≤ g.O.Sink.faults l.out
+}

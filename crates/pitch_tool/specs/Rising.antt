@@ -1,0 +1,7 @@
+-- Numbers that pass a test.
+use Rattle.std.specs.Prelude.{ℕ, zero, suc, Bool, cond, List, [], ◌∷◌, ◌++◌}
+
+-- those below n, rising
+unfoldable pub named_below : (ℕ → Bool) → ℕ → List ℕ
+named_below p zero = []
+named_below p (suc n) = named_below p n ++ cond (p n) (n ∷ []) []

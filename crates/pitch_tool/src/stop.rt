@@ -1,0 +1,60 @@
+use crate::ends::PutFailed;
+use pitch_fields::OutOfMemory;
+use unit_packets::BlockFault;
+
+/// What is wrong with an input of blocks.
+#[derive(Clone, Copy, Debug, PartialEq, Eq)]
+pub enum Trouble {
+    /// A block has a fault, or the input ends inside one.
+    Faulty(BlockFault),
+    /// It has more bytes than are read.
+    TooLong,
+}
+
+/// Why lines could not be printed.
+#[derive(Clone, Copy, Debug, PartialEq, Eq)]
+pub enum PrintError {
+    PutFailed,
+    OutOfMemory,
+}
+
+impl From<PutFailed> for PrintError {
+    ghost use Rattle.std.specs.Prelude.{◌≡◌};
+    ghost use Rattle.pitch_tool.specs.declared.stop.PrintError.TheVariants as printing;
+
+    ghost from_gives = { λ _ error. error ≡ printing.PutFailed };
+
+    fn from(_: PutFailed) -> PrintError {
+        PrintError::PutFailed
+    }
+}
+
+impl From<OutOfMemory> for PrintError {
+    ghost use Rattle.std.specs.Prelude.{◌≡◌};
+    ghost use Rattle.pitch_tool.specs.declared.stop.PrintError.TheVariants as printing;
+
+    ghost from_gives = { λ _ error. error ≡ printing.OutOfMemory };
+
+    fn from(_: OutOfMemory) -> PrintError {
+        PrintError::OutOfMemory
+    }
+}
+
+/// Why a command stopped before its end.
+#[derive(Clone, Copy, Debug, PartialEq, Eq)]
+pub enum Stop {
+    BadInput(Trouble),
+    ReadFailed,
+    Unprinted(PrintError),
+}
+
+impl From<PrintError> for Stop {
+    ghost use Rattle.std.specs.Prelude.{◌≡◌};
+    ghost use Rattle.pitch_tool.specs.declared.stop.Stop.TheVariants.{Unprinted};
+
+    ghost from_gives = { λ error stop. stop ≡ Unprinted error };
+
+    fn from(error: PrintError) -> Stop {
+        Stop::Unprinted(error)
+    }
+}

@@ -1,0 +1,81 @@
+-- The words are a form exactly where clap takes them and finds the form.
+use Rattle.std.proofs.Common.{◌≡◌, ◌∙◌, ℕ, Bool, true, false, refl, sym, ap, subst, List, [], Option, Some, None, true≢false}
+use Rattle.std.specs.Prelude.{MatchOption, codes}
+use Rattle.std.specs.List.{All, list_all}
+use Rattle.std.specs.Str.{IsUtf8, bytes_eq}
+use Rattle.std.proofs.lemmas.Slice.Eq.{bytes_eq-Decides}
+use Rattle.clap.specs.Walk.{Row}
+use Rattle.clap.specs.Simple.{subcommand_of}
+use Rattle.clap.specs.Faults.{fault_of}
+use Rattle.long_options.specs.Words.{Described, IsCall, Text, described, has_dashes, is_plain}
+use Rattle.long_options.specs.Found.{Options, found_options}
+use Rattle.long_options.proofs.Program.{calls_taken, takes_calls}
+use Rattle.pitch_words.specs.Numbers.{IsGivenOr}
+use Rattle.pitch_words.specs.Forms.{HasForm, HasNumbers, IsForm, command_of, commands, pitch}
+use Rattle.pitch_words.specs.declared.form.Form.{Form}
+use Rattle.pitch_words.specs.declared.form.Form.TheVariants.{Follow}
+
+-- ---- a line for each form
+
+-- a form's command is one of the program's
+command_is : (form : Form) → described commands (command_of form).0 ≡ Some (command_of form)
+command_is (Follow hold) = refl
+
+given_or_same : (default least most : ℕ) (o : Option Text) (m n : ℕ) → IsGivenOr default least most o m → IsGivenOr default least most o n → m ≡ n
+given_or_same default least most None m n a b = a ∙ sym b
+given_or_same default least most (Some t) m n a b = sym a.2 ∙ b.2
+
+-- options have the numbers of one form of a command
+numbers_same : (options : Options) (a b : Form) → bytes_eq (command_of a).0 (command_of b).0 ≡ true → HasNumbers options a → HasNumbers options b → a ≡ b
+numbers_same options (Follow m) (Follow n) e a b = ap Follow (given_or_same 4096 1 65536 (options.value (codes "hold")) m n a b)
+
+-- ---- whatever the forms are
+
+commands_plain : list_all is_plain commands ≡ true
+commands_plain = refl
+
+-- a form is taken by clap, which finds it
+form_taken : (words : List Text) (form : Form) → IsForm words form → (fault_of pitch words ≡ []) × HasForm (subcommand_of pitch words) form × (has_dashes words ≡ false)
+form_taken words form (given, call, numbers) =
+    let (takes, finds, dashes) = calls_taken (codes "pitch") commands words (command_of form) given commands_plain (command_is form) call in
+    let (rows, is, same) = finds in
+    (takes, subst (λ found. HasForm found form) (sym is) (refl, subst (λ o. HasNumbers o form) (sym same) numbers), dashes)
+
+same_command : (c d : Described) → described commands c.0 ≡ Some c → described commands d.0 ≡ Some d → c.0 ≡ d.0 → c ≡ d
+same_command c d at_c at_d e = let both : Some c ≡ Some d = sym at_c ∙ ap (described commands) e ∙ at_d in cc
+
+-- what clap takes and finds as a form is that form
+form_found : (words : List Text) (form : Form) → All IsUtf8 words → has_dashes words ≡ false → fault_of pitch words ≡ [] → HasForm (subcommand_of pitch words) form → IsForm words form
+form_found words form texts dashes takes h =
+    let (c, given, found, call, finds) = takes_calls (codes "pitch") commands words commands_plain texts dashes takes in
+    let (rows, is, same) = finds in
+    let has : HasForm (Some (c.0, rows)) form = subst (λ x. HasForm x form) is h in
+    let same_c : c ≡ command_of form = same_command c (command_of form) found (command_is form) has.0 in
+    (given, subst (λ (x : Described). IsCall x words given) same_c call, subst (λ o. HasNumbers o form) (ap (λ (x : Described). found_options x.1 rows) (sym same_c) ∙ same) has.1)
+
+has_same : (found : Option (Text × List Row)) (a b : Form) → HasForm found a → HasForm found b → a ≡ b
+has_same None a b x y = absurd x
+has_same (Some found) a b x y =
+    let named : (command_of a).0 ≡ (command_of b).0 = sym x.0 ∙ y.0 in
+    let same : command_of a ≡ command_of b = same_command (command_of a) (command_of b) (command_is a) (command_is b) named in
+    numbers_same (found_options (command_of b).1 found.1) a b ((bytes_eq-Decides (command_of a).0 (command_of b).0).1 named)
+    (subst (λ (c : Described). HasNumbers (found_options c.1 found.1) a) same x.1) y.1
+
+pub at_most_one : (words : List Text) (a b : Form) → IsForm words a → IsForm words b → a ≡ b
+at_most_one words a b x y = has_same (subcommand_of pitch words) a b (form_taken words a x).1 (form_taken words b y).1
+
+-- ---- the three answers
+
+abbrev IsNone : List Text → Type 0
+IsNone words = (form : Form) → IsForm words form → ⊥
+
+pub none_with_dashes : (words : List Text) (b : Bool) → b ≡ has_dashes words → b ≡ true → IsNone words
+none_with_dashes words b is e form h = true≢false (sym e ∙ is ∙ (form_taken words form h).2)
+
+pub none_refused : (words : List Text) → (fault_of pitch words ≡ [] → ⊥) → IsNone words
+none_refused words fails form h = fails (form_taken words form h).0
+
+pub as_found : (words : List Text) (texts : All IsUtf8 words) (b : Bool) (rows : Option (Text × List Row)) (r : Option Form) → b ≡ has_dashes words → b ≡ false
+    → (fault_of pitch words ≡ []) × (rows ≡ subcommand_of pitch words) → MatchOption r ((form : Form) → HasForm rows form → ⊥) (HasForm rows) → MatchOption r (IsNone words) (IsForm words)
+as_found words texts b rows None is e (takes, at) h = λ form f. h form (subst (λ x. HasForm x form) (sym at) (form_taken words form f).1)
+as_found words texts b rows (Some form) is e (takes, at) h = form_found words form texts (sym is ∙ e) takes (subst (λ x. HasForm x form) at h)

@@ -1,0 +1,43 @@
+-- The forms of the program's words.
+use Rattle.std.specs.Prelude.{◌≡◌, ◌≤◌, List, [], ◌∷◌, Option, Some, None, codes}
+use Rattle.clap.specs.Simple.{App}
+use Rattle.clap.specs.Walk.{Row}
+use Rattle.long_options.specs.Words.{Described, Given, IsCall, Text, may_have}
+use Rattle.long_options.specs.Apps.{program}
+use Rattle.long_options.specs.Found.{Options, found_options, given_options}
+use Rattle.pitch_words.specs.Numbers.{IsGivenOr}
+use Rattle.pitch_words.specs.declared.form.Form.{Form}
+use Rattle.pitch_words.specs.declared.form.Form.TheVariants.{Follow}
+
+-- `follow [--hold H]`
+abbrev pub follow : Described
+follow = (codes "follow", may_have (codes "hold") ∷ [])
+
+-- the program's commands
+abbrev pub commands : List Described
+commands = follow ∷ []
+
+-- the command that a form gives
+abbrev pub command_of : Form → Described
+command_of (Follow hold) = follow
+
+-- the options have the form's numbers: H is 1 to 65,536, and 4,096 where it isn't given
+abbrev pub HasNumbers : Options → Form → Type 0
+HasNumbers options (Follow hold) = IsGivenOr 4096 1 65536 (options.value (codes "hold")) hold
+
+-- the words are this form: its command, then that command's options, with its numbers
+abbrev pub IsForm : List Text → Form → Type 0
+IsForm words form = (given : List Given) × IsCall (command_of form) words given × HasNumbers (given_options given) form
+
+-- a form's numbers lie within their ranges
+abbrev pub IsInRange : Form → Type 0
+IsInRange (Follow hold) = (1 ≤ hold) × (hold ≤ 65536)
+
+-- the program as clap's builders make it
+abbrev pub pitch : App
+pitch = program (codes "pitch") commands
+
+-- what clap found is this form: its command's name, and its numbers
+abbrev pub HasForm : Option (Text × List Row) → Form → Type 0
+HasForm None form = ⊥
+HasForm (Some found) form = (found.0 ≡ (command_of form).0) × HasNumbers (found_options (command_of form).1 found.1) form

@@ -1,0 +1,72 @@
+//! The program's commands, as `clap` reads them.
+ghost use Rattle.std.specs.Prelude.{◌≡◌, IfOk, false, [], codes};
+ghost use Rattle.clap.specs.Walk.{rule_of};
+ghost use Rattle.clap.specs.Simple.{app_of, with_rule};
+ghost use Rattle.clap.specs.declared.builder.command.Command.TheViews.{out-Command as fields_of};
+ghost use Rattle.long_options.specs.Apps.{command_app, empty_program, option_rule};
+ghost use Rattle.pitch_words.specs.Forms.{follow as follow_words, pitch};
+
+use clap::{Arg, ArgAction, Command};
+use std::alloc::{AllocError, Global};
+
+/// An option `--name` with one value.
+fn option<'a>(alloc: Global, name: &'a str, required: bool) -> Arg<'a>
+    ensures rule { rule_of result ≡ option_rule (name.now, required, false) }
+    ensures local { result.global ≡ false }
+{
+    Arg::new(alloc, name)
+        .long(name)
+        .action(ArgAction::Set)
+        .required(required)
+}
+
+/// The command with one option more.
+fn with_option<'a>(
+    alloc: Global,
+    command: Command<'a>,
+    name: &'a str,
+    required: bool,
+) -> Result<Command<'a>, AllocError>
+    ensures app { IfOk result (λ r. app_of r ≡ with_rule (app_of command.entry) (option_rule (name.now, required, false))) }
+    ensures local { IfOk result (λ r. (fields_of command.entry).has_globals ≡ false → (fields_of r).has_globals ≡ false) }
+{
+    command.arg(option(alloc, name, required))
+}
+
+/// A command without options.
+fn command<'a>(alloc: Global, name: &'a str) -> Command<'a>
+    ensures app { app_of result ≡ command_app (name.now, []) }
+    ensures local { (fields_of result).has_globals ≡ false }
+{
+    Command::new(alloc, name)
+        .disable_help_flag(true)
+        .disable_version_flag(true)
+}
+
+/// `follow [--hold H]`
+fn follow<'a>(alloc: Global) -> Result<Command<'a>, AllocError>
+    ensures app { IfOk result (λ r. app_of r ≡ command_app follow_words) }
+    ensures local { IfOk result (λ r. (fields_of r).has_globals ≡ false) }
+{
+    with_option(alloc, command(alloc, "follow"), "hold", false)
+}
+
+/// The program without its commands, of which one must be there.
+fn top<'a>(alloc: Global) -> Command<'a>
+    ensures app { app_of result ≡ empty_program (codes "pitch") }
+    ensures local { (fields_of result).has_globals ≡ false }
+{
+    Command::new(alloc, "pitch")
+        .no_binary_name(true)
+        .disable_help_flag(true)
+        .disable_help_subcommand(true)
+        .disable_version_flag(true)
+        .subcommand_required(true)
+}
+
+/// The program with its commands.
+pub(crate) fn app<'a>(alloc: Global) -> Result<Command<'a>, AllocError>
+    ensures app { IfOk result (λ r. app_of r ≡ pitch) }
+{
+    top(alloc).subcommand(follow(alloc)?)
+}

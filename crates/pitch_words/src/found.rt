@@ -1,0 +1,79 @@
+//! The form in what `clap` found.
+ghost use Rattle.std.specs.Prelude.{◌≡◌, ℕ, ◌≤◌, IfNone, IfSome, MatchOption, Some, codes, option_map};
+ghost use Rattle.clap.specs.Matches.{found_of};
+ghost use Rattle.clap.specs.Simple.{subcommand_rows_of};
+ghost use Rattle.clap.specs.Walk.{first_of, rows_of};
+ghost use Rattle.pitch_words.specs.Numbers.{IsGivenOr, IsNumber};
+ghost use Rattle.pitch_words.specs.Forms.{HasForm, IsInRange};
+ghost use Rattle.pitch_words.specs.declared.form.Form.{Form};
+
+use crate::form::Form;
+use clap::ArgMatches;
+
+/// The number that the text writes by 1 to 20 digits, where it lies within the range.
+fn number(text: &str, least: u64, most: u64) -> Option<u64>
+    ensures some { IfSome result (λ n. IsNumber least most text.now n) }
+    ensures none { IfNone result ((n : ℕ) → ¬ IsNumber least most text.now n) }
+{
+    let bytes = text.as_bytes();
+    if bytes.len() > 20 || bytes.first() == Some(&b'+') {
+        return None;
+    }
+    match text.parse::<u64>() {
+        Ok(n) if least <= n && n <= most => Some(n),
+        _ => None,
+    }
+}
+
+/// The text of an option's value.
+#[tactic(auto, using(crate::proofs::Rows::first_is))]
+fn text_of<'a>(matches: &ArgMatches<'a>, name: &str) -> Option<&'a str>
+    ensures { option_map (λ s. s.now) result ≡ first_of name.now (rows_of (found_of matches.now)) }
+{
+    matches.get_str(name)
+}
+
+/// The number of an option that may be left out, and has a default then.
+fn given_or(matches: &ArgMatches, name: &str, default: u64, least: u64, most: u64) -> Option<u64>
+    requires default_in_range { least ≤ default × default ≤ most }
+    ensures some { IfSome result (λ n. IsGivenOr default least most (first_of name.now (rows_of (found_of matches.now))) n) }
+    ensures none { IfNone result ((n : ℕ) → ¬ IsGivenOr default least most (first_of name.now (rows_of (found_of matches.now))) n) }
+    ensures range { IfSome result (λ n. (least ≤ n) × (n ≤ most)) }
+{
+    match text_of(matches, name) {
+        Some(text) => number(text, least, most),
+        None => Some(default),
+    }
+}
+
+/// `follow [--hold H]`
+fn follow(matches: &ArgMatches) -> Option<Form>
+    ensures form { MatchOption result ((form : Form) → ¬ HasForm (Some (codes "follow", rows_of (found_of matches.now))) form)
+        (HasForm (Some (codes "follow", rows_of (found_of matches.now)))) }
+    ensures range { IfSome result IsInRange }
+{
+    let hold = given_or(matches, "hold", 4096, 1, 65536)?;
+    Some(Form::Follow { hold: hold as u32 })
+}
+
+/// The form of the command of this name.
+fn form_in(name: &str, matches: &ArgMatches) -> Option<Form>
+    ensures form { MatchOption result ((form : Form) → ¬ HasForm (Some (name.now, rows_of (found_of matches.now))) form)
+        (HasForm (Some (name.now, rows_of (found_of matches.now)))) }
+    ensures range { IfSome result IsInRange }
+{
+    match name {
+        "follow" => follow(matches),
+        _ => None,
+    }
+}
+
+/// The form that `clap`'s matches have, if they have one.
+pub(crate) fn form_of(matches: &ArgMatches) -> Option<Form>
+    ensures form { MatchOption result ((form : Form) → ¬ HasForm (subcommand_rows_of matches.now) form)
+        (HasForm (subcommand_rows_of matches.now)) }
+    ensures range { IfSome result IsInRange }
+{
+    let (name, inner) = matches.subcommand()?;
+    form_in(name, inner)
+}

@@ -1,0 +1,27 @@
+//! The words of a command line, and the form that they are.
+//!
+//! A form is one thing that the program can be asked to do, with its numbers. Today there is one:
+//!
+//! | Words | Range | Default |
+//! |---|---|---|
+//! | `follow [--hold H]` | H is 1 to 65,536 | 4,096 |
+//!
+//! The first word is a command's name. The options follow in any order, each at most once, as `--name value` or
+//! `--name=value`; those in brackets may be left out. A value is 1 to 20 digits and lies within its range, and zeros
+//! in front count as digits. All else is no form: no words, an empty word, the word `--`, a repeated
+//! option, a word that the command does not have, and any request for help or a version.
+//!
+//! `clap` reads the words, with its own help and version switched off, and its answer decides. The
+//! program adds only what `clap` would let pass: no word is `--`, and each number lies within its range.
+#![tactic(auto)]
+
+mod app;
+mod form;
+mod found;
+mod parse;
+mod reading;
+#[cfg(test)]
+mod tests;
+
+pub use crate::form::Form;
+pub use crate::reading::{one_form, read};

@@ -1,0 +1,73 @@
+use crate::{Form, read};
+use pitch_fields::OutOfMemory;
+use std::test::*;
+
+/// The answer to the words of the line, which single spaces part.
+fn form_of_line(alloc: std::alloc::Global, line: &str) -> Result<Option<Form>, OutOfMemory> {
+    let mut words = Vec::new(alloc);
+    for word in line.split(' ') {
+        words.push(String::from_str(alloc, word)?)?;
+    }
+    read(alloc, words.as_slice())
+}
+
+#[test]
+fn words_and_their_forms(rt: HostRuntime) -> Result<(), Fail> {
+    let forms = [
+        ("follow", 4096),
+        ("follow --hold 2", 2),
+        ("follow --hold=2", 2),
+        ("follow --hold 1", 1),
+        ("follow --hold 65536", 65536),
+        ("follow --hold 00004", 4),
+        ("follow --hold=00000000000000000005", 5),
+    ];
+    for (line, hold) in forms {
+        let got = form_of_line(rt.alloc(), line)?;
+        assert!(rt; got == Some(Form::Follow { hold }), "words {line}");
+    }
+    let refused = [
+        "follow --hold 0",
+        "follow --hold 65537",
+        "follow --hold=000000000000000000005",
+        "follow --hold +5",
+        "follow --hold -5",
+        "follow --hold=-5",
+        "follow --hold x",
+        "follow --hold",
+        "follow --hold=",
+        "follow --hold ",
+        "follow --hold 2 --hold 2",
+        "follow --hold 2 --hold=3",
+        "follow --",
+        "follow -- --hold 2",
+        "follow --hold 2 --",
+        "follow -h",
+        "follow --help",
+        "follow --version",
+        "follow -",
+        "follow x",
+        "follow --port 5",
+        "follow --hol 5",
+        "follow ",
+        "--hold 2 follow",
+        "--",
+        "-- follow",
+        "show",
+        "fol",
+        "FOLLOW",
+        "help",
+        "help follow",
+        "--help",
+        "--version",
+        "-h",
+        "",
+        " follow",
+    ];
+    for line in refused {
+        assert!(rt; form_of_line(rt.alloc(), line)? == None, "words {line}");
+    }
+    let none: Vec<String> = Vec::new(rt.alloc());
+    assert!(rt; read(rt.alloc(), none.as_slice())? == None);
+    Ok(())
+}
