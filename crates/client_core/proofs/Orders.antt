@@ -87,6 +87,7 @@ module _ (book : Book) (raw : List ℕ) where
     where
       row : (k : ℕ) (row : MessageRow) (rest : Option MessageRow) → (eqb (kind_of raw) k ≡ true → AddsNone (Some row)) → AddsNone rest → AddsNone (cond (eqb (kind_of raw) k) (Some row) rest)
       row k r rest here there = cond_both (eqb (kind_of raw) k) (Some r) rest AddsNone here (λ f. there)
+
       add : (k : ℕ) (r : MessageRow) (rest : Option MessageRow) → eqb (kind_of raw) k ≡ false → AddsNone rest → AddsNone (cond (eqb (kind_of raw) k) (Some r) rest)
       add k r rest other there = cond_both (eqb (kind_of raw) k) (Some r) rest AddsNone (λ t. absurd (both_ways _ other t)) (λ f. there)
 

@@ -36,7 +36,7 @@ impl UnitClient {
     ghost use Rattle.pitch_model.specs.Reach.{reach, part_of, held_count};
     ghost use Rattle.pitch_model.specs.Status.{status_of};
     ghost use Rattle.client_core.specs.Keeping.{HasRoom};
-    ghost use Rattle.client_core.specs.Tracks.{Tracks, Keeps, IsAsBefore, held_number, open_orders, spare_of};
+    ghost use Rattle.client_core.specs.Tracks.{Tracks, Keeps, IsAsBefore, book_of, held_number, open_orders, spare_of};
 
     /// A client that has heard nothing and holds at most `limit` messages.
     pub fn make(alloc: Global, limit: u32) -> Result<UnitClient, OutOfMemory>
@@ -78,6 +78,7 @@ impl UnitClient {
     // Makes room for so many messages and for those that are held.
     pub(crate) fn make_room(&mut self, messages: u32) -> Result<(), OutOfMemory>
         ensures same { IsAsBefore self.old self.new }
+        ensures hold { self.new.hold ≡ self.old.hold }
         ensures room { OnOk result (HasRoom messages self.new.hold self.new.book.spare) }
         ensures memory { messages + held_number self.old ≤ spare_of self.old → IsOk result }
     {
@@ -117,6 +118,7 @@ impl UnitClient {
     pub fn book(&self) -> &UnitBook
         ensures book { (H : ℕ) (E : List Entry) (V : List Raw) → Tracks self.now H E → Keeps self.now V → result.now.book ≡ book_after (take (reach H E) V) }
         ensures orders { (H : ℕ) (E : List Entry) → Tracks self.now H E → map.len result.now.book.orders ≤ reach H E }
+        ensures same { result.now.book ≡ book_of self.now }
         ensures open { map.len result.now.book.orders ≡ open_orders self.now }
     {
         &self.book

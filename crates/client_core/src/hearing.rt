@@ -179,7 +179,10 @@ impl UnitClient {
     }
 
     /// Hears a block with this sequence and these messages: nothing of an unsequenced one, a heartbeat where it has no
-    /// messages, else its messages with rising sequence.
+    /// messages, else its messages with rising sequence ("Sequenced Unit Header", "Heartbeat Messages").
+    ///
+    /// After OutOfMemory the client is as before the block. It never runs out of memory where the spare is at least the
+    /// number of the block's messages and of those held, nor for a block with no messages or no sequence.
     pub fn hear_block(&mut self, sequence: u32, raws: Raws<'_>) -> Result<Change, OutOfMemory>
         requires { StaysWithin sequence (length raws) }
         ensures tracks { OnOk result ((block : Block) → Carries block sequence raws.entry → (H : ℕ) (E : List Entry) → Tracks self.old H E → Tracks self.new H (heard_block block E)) }
