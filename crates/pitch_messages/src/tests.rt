@@ -1,7 +1,6 @@
 use crate::session::{self, SessionError, SessionMessage};
 use crate::{
-    ByteList, Message, Order, Raw, RawList, add_raw, modify_raw, read, reduce_raw,
-    trade_raw, write,
+    ByteList, Message, Order, Raw, RawList, add_raw, modify_raw, read, reduce_raw, trade_raw, write,
 };
 use pitch_fields::{Price, Side, Symbol};
 use std::process::Abort;
@@ -11,11 +10,14 @@ fn raw_of(rt: &impl Abort, bytes: &[u8]) -> Raw {
 }
 
 // An add of 100 IBM at 10 dollars, that has grown by two bytes.
-const GROWN: [u8; 36] = *b"\x24\x21\0\0\0\0\x05\0\0\0\0\0\0\0B\x64\0\0\0IBM   \xa0\x86\x01\0\0\0\0\0\x01\xaa\xbb";
+const GROWN: [u8; 36] =
+    *b"\x24\x21\0\0\0\0\x05\0\0\0\0\0\0\0B\x64\0\0\0IBM   \xa0\x86\x01\0\0\0\0\0\x01\xaa\xbb";
 
 // Two adds of 100 IBM, at 655.35 and at 655.36 dollars.
 const IN_CENTS: [u8; 26] = *b"\x1a\x22\0\0\0\0\x01\0\0\0\0\0\0\0B\x64\0IBM   \xff\xff\x01";
-const ABOVE_CENTS: [u8; 34] = *b"\x22\x21\0\0\0\0\x02\0\0\0\0\0\0\0B\x64\0\0\0IBM   \0\0\x64\0\0\0\0\0\x01";
+
+const ABOVE_CENTS: [u8; 34] =
+    *b"\x22\x21\0\0\0\0\x02\0\0\0\0\0\0\0B\x64\0\0\0IBM   \0\0\x64\0\0\0\0\0\x01";
 
 #[test]
 fn raws_say_what_stands_at_their_places(rt: HostRuntime) {
@@ -29,10 +31,7 @@ fn raws_say_what_stands_at_their_places(rt: HostRuntime) {
             &IN_CENTS,
             "Ok(AddShort { offset: 0, id: 1, side: Buy, quantity: 100, symbol: [73, 66, 77, 32, 32, 32], price: 65535, flags: 1 })",
         ),
-        (
-            b"\x05\x2d\x01\x02\x03",
-            "Err(Short { needs: 6, has: 5 })",
-        ),
+        (b"\x05\x2d\x01\x02\x03", "Err(Short { needs: 6, has: 5 })"),
         (
             b"\x1a\x22\0\0\0\0\x01\0\0\0\0\0\0\0X\x64\0IBM   \xff\xff\x01",
             "Err(BadSide { byte: 88 })",
