@@ -54,7 +54,8 @@ impl<'a> Raws<'a> {
     /// The next message, or None where none is left.
     #[inline(always)]
     pub fn next_raw(&mut self) -> Option<&'a [u8]>
-        ensures { MatchOption result ((self.old ≡ []) × (self.new ≡ [])) (λ raw. (self.old ≡ raw.now ∷ self.new) × IsRaw raw.now) }
+        ensures { MatchOption result ((self.old ≡ []) × (self.new ≡ []))
+            (λ raw. (self.old ≡ raw.now ∷ self.new) × IsRaw raw.now) }
     {
         if self.count == 0 {
             return None;

@@ -59,7 +59,8 @@ fn eight_at(bytes: &[u8], at: usize) -> [u8; 8]
 fn side_at(bytes: &[u8]) -> Result<Side, ReadError>
     requires { 15 ≤ length bytes.now }
     ensures ok { IfOk result (λ side. side_of (slice_index bytes.now 14) ≡ Some side) }
-    ensures err { IfErr result (λ e. (side_of (slice_index bytes.now 14) ≡ None) × (e ≡ BadSide (slice_index bytes.now 14))) }
+    ensures err { IfErr result (λ e.
+        (side_of (slice_index bytes.now 14) ≡ None) × (e ≡ BadSide (slice_index bytes.now 14))) }
 {
     match Side::from_byte(bytes[14]) {
         Some(side) => Ok(side),
@@ -382,7 +383,8 @@ pub fn read_bytes(bytes: &[u8]) -> Result<Message, ReadError>
 /// A raw of just the length that its type needs is what `write` makes of its message.
 pub fn read(raw: &Raw) -> Result<Message, ReadError>
     ensures said { result ≡ reads raw.now }
-    ensures rewritten { IfOk result (λ message. length raw.now ≡ needs_of (kind_of raw.now) → raw.now ≡ written message) }
+    ensures rewritten { IfOk result
+        (λ message. length raw.now ≡ needs_of (kind_of raw.now) → raw.now ≡ written message) }
 {
     let bytes = raw.bytes();
     read_bytes(bytes)
