@@ -41,24 +41,24 @@ record Same (n m : ℕ) (bytes : List ℕ) : Type 0 where
 -- it is no matter how many blocks more there might be than there are bytes
 enough : (n m : ℕ) (bytes : List ℕ) → length bytes ≤ n → length bytes ≤ m → Same n m bytes
 enough zero m bytes few more = elim (cases_Result (judge bytes)) [
-    | inl found ↦ absurd (omega (arith, shorter bytes found.0 found.1))
-    | inr none ↦ record { blocks = by_err zero bytes none.0 none.1 ∙ sym (by_err m bytes none.0 none.1); rest = rest_err zero bytes none.0 none.1 ∙ sym (rest_err m bytes none.0 none.1) }
-  ]
+  | inl found ↦ absurd (omega (arith, shorter bytes found.0 found.1))
+  | inr none ↦ record { blocks = by_err zero bytes none.0 none.1 ∙ sym (by_err m bytes none.0 none.1); rest = rest_err zero bytes none.0 none.1 ∙ sym (rest_err m bytes none.0 none.1) }
+]
 enough (suc n) zero bytes few more = elim (cases_Result (judge bytes)) [
-    | inl found ↦ absurd (omega (arith, shorter bytes found.0 found.1))
-    | inr none ↦ record { blocks = by_err (suc n) bytes none.0 none.1 ∙ sym (by_err zero bytes none.0 none.1); rest = rest_err (suc n) bytes none.0 none.1 ∙ sym (rest_err zero bytes none.0 none.1) }
-  ]
+  | inl found ↦ absurd (omega (arith, shorter bytes found.0 found.1))
+  | inr none ↦ record { blocks = by_err (suc n) bytes none.0 none.1 ∙ sym (by_err zero bytes none.0 none.1); rest = rest_err (suc n) bytes none.0 none.1 ∙ sym (rest_err zero bytes none.0 none.1) }
+]
 enough (suc n) (suc m) bytes few more = elim (cases_Result (judge bytes)) [
-    | inl found ↦
-        let h : Header = found.0 in
-        let left = shorter bytes h found.1 in
-        let again = enough n m (drop h.length bytes) (omega (arith, left)) (omega (arith, left)) in
-        record {
-          blocks = by_ok n bytes h found.1 ∙ ap (λ (bs : List Block). block_at h bytes ∷ bs) again.blocks ∙ sym (by_ok m bytes h found.1);
-          rest = rest_ok n bytes h found.1 ∙ again.rest ∙ sym (rest_ok m bytes h found.1)
-        }
-    | inr none ↦ record { blocks = by_err (suc n) bytes none.0 none.1 ∙ sym (by_err (suc m) bytes none.0 none.1); rest = rest_err (suc n) bytes none.0 none.1 ∙ sym (rest_err (suc m) bytes none.0 none.1) }
-  ]
+  | inl found ↦
+      let h : Header = found.0 in
+      let left = shorter bytes h found.1 in
+      let again = enough n m (drop h.length bytes) (omega (arith, left)) (omega (arith, left)) in
+      record {
+        blocks = by_ok n bytes h found.1 ∙ ap (λ (bs : List Block). block_at h bytes ∷ bs) again.blocks ∙ sym (by_ok m bytes h found.1);
+        rest = rest_ok n bytes h found.1 ∙ again.rest ∙ sym (rest_ok m bytes h found.1);
+      }
+  | inr none ↦ record { blocks = by_err (suc n) bytes none.0 none.1 ∙ sym (by_err (suc m) bytes none.0 none.1); rest = rest_err (suc n) bytes none.0 none.1 ∙ sym (rest_err (suc m) bytes none.0 none.1) }
+]
 
 pub record First (bytes : List ℕ) (h : Header) : Type 0 where
   pub blocks : blocks_of bytes ≡ block_at h bytes ∷ blocks_of (drop h.length bytes)
@@ -72,7 +72,7 @@ first_of bytes h is =
     let less = enough (length bytes) (length (drop h.length bytes)) (drop h.length bytes) (omega (arith, left)) (omega arith) in
     record {
       blocks = more.blocks ∙ by_ok (length bytes) bytes h is ∙ ap (λ (bs : List Block). block_at h bytes ∷ bs) less.blocks;
-      rest = more.rest ∙ rest_ok (length bytes) bytes h is ∙ less.rest
+      rest = more.rest ∙ rest_ok (length bytes) bytes h is ∙ less.rest;
     }
 
 pub record None_at (bytes : List ℕ) : Type 0 where
@@ -101,47 +101,48 @@ appends_none fed more e is =
     let none = none_of fed e is in
     record {
       blocks = ap (λ (r : List ℕ). blocks_of (r ++ more)) (sym none.rest) ∙ ap (λ (bs : List Block). bs ++ blocks_of (rest_of fed ++ more)) (sym none.blocks);
-      rest = ap (λ (r : List ℕ). rest_of (r ++ more)) (sym none.rest)
+      rest = ap (λ (r : List ℕ). rest_of (r ++ more)) (sym none.rest);
     }
+
 appends_by : (n : ℕ) (fed more : List ℕ) → length fed ≤ n → Appends fed more
 appends_by zero fed more le = elim (cases_Result (judge fed)) [
-    | inl found ↦ absurd (omega (arith, shorter fed found.0 found.1))
-    | inr none ↦ appends_none fed more none.0 none.1
-  ]
+  | inl found ↦ absurd (omega (arith, shorter fed found.0 found.1))
+  | inr none ↦ appends_none fed more none.0 none.1
+]
 appends_by (suc n) fed more le = elim (cases_Result (judge fed)) [
-    | inl found ↦
-        let h : Header = found.0 in
-        let s = judge_found fed h found.1 in
-        let first = first_of fed h found.1 in
-        let longer = first_of (fed ++ more) h (judge_more fed more (subst (λ r. IsFinal r) (sym found.1) tt) ∙ found.1) in
-        let again = appends_by n (drop h.length fed) more (omega (arith, shorter fed h found.1)) in
-        let cut : drop h.length (fed ++ more) ≡ drop h.length fed ++ more = drop_append h.length fed more s.fits in
-        record {
-          blocks = longer.blocks
+  | inl found ↦
+      let h : Header = found.0 in
+      let s = judge_found fed h found.1 in
+      let first = first_of fed h found.1 in
+      let longer = first_of (fed ++ more) h (judge_more fed more (subst (λ r. IsFinal r) (sym found.1) tt) ∙ found.1) in
+      let again = appends_by n (drop h.length fed) more (omega (arith, shorter fed h found.1)) in
+      let cut : drop h.length (fed ++ more) ≡ drop h.length fed ++ more = drop_append h.length fed more s.fits in
+      record {
+        blocks = longer.blocks
             ∙ ap (λ (b : Block). b ∷ blocks_of (drop h.length (fed ++ more))) (at_more h fed more s.fits)
             ∙ ap (λ (r : List ℕ). block_at h fed ∷ blocks_of r) cut
             ∙ ap (λ (bs : List Block). block_at h fed ∷ bs) again.blocks
             ∙ ap (λ (r : List ℕ). (block_at h fed ∷ blocks_of (drop h.length fed)) ++ blocks_of (r ++ more)) (sym first.rest)
             ∙ ap (λ (bs : List Block). bs ++ blocks_of (rest_of fed ++ more)) (sym first.blocks);
-          rest = longer.rest ∙ ap rest_of cut ∙ again.rest ∙ ap (λ (r : List ℕ). rest_of (r ++ more)) (sym first.rest)
-        }
-    | inr none ↦ appends_none fed more none.0 none.1
-  ]
+        rest = longer.rest ∙ ap rest_of cut ∙ again.rest ∙ ap (λ (r : List ℕ). rest_of (r ++ more)) (sym first.rest);
+      }
+  | inr none ↦ appends_none fed more none.0 none.1
+]
 
 pub appends : (fed more : List ℕ) → Appends fed more
 appends fed more = appends_by (length fed) fed more (omega arith)
 
 rest_short_by : (n : ℕ) (bytes : List ℕ) → length bytes ≤ n → length (rest_of bytes) ≤ length bytes
 rest_short_by zero bytes le = elim (cases_Result (judge bytes)) [
-    | inl found ↦ absurd (omega (arith, shorter bytes found.0 found.1))
-    | inr none ↦ omega (arith, ap length (none_of bytes none.0 none.1).rest)
-  ]
+  | inl found ↦ absurd (omega (arith, shorter bytes found.0 found.1))
+  | inr none ↦ omega (arith, ap length (none_of bytes none.0 none.1).rest)
+]
 rest_short_by (suc n) bytes le = elim (cases_Result (judge bytes)) [
-    | inl found ↦
-        let left = shorter bytes found.0 found.1 in
-        omega (arith, left, ap length (first_of bytes found.0 found.1).rest, rest_short_by n (drop found.0.length bytes) (omega (arith, left)))
-    | inr none ↦ omega (arith, ap length (none_of bytes none.0 none.1).rest)
-  ]
+  | inl found ↦
+      let left = shorter bytes found.0 found.1 in
+      omega (arith, left, ap length (first_of bytes found.0 found.1).rest, rest_short_by n (drop found.0.length bytes) (omega (arith, left)))
+  | inr none ↦ omega (arith, ap length (none_of bytes none.0 none.1).rest)
+]
 
 pub rest_short : (bytes : List ℕ) → length (rest_of bytes) ≤ length bytes
 rest_short bytes = rest_short_by (length bytes) bytes (omega arith)
@@ -159,5 +160,5 @@ front_takes bytes h f =
     record {
       header = omega (arith, head, size);
       fits = f.fits;
-      stand = sym f.block.count ∙ get_or-take h.length bytes 2 0 (omega (arith, head, size)) ∙ sym (ap (λ (g : Header). g.count) f.header)
+      stand = sym f.block.count ∙ get_or-take h.length bytes 2 0 (omega (arith, head, size)) ∙ sym (ap (λ (g : Header). g.count) f.header);
     }

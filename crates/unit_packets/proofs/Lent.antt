@@ -31,10 +31,10 @@ lent bytes h raws f judged are =
     let block : Block = block_at h bytes in
     let header = front_header bytes h f in
     let there : StandsAtFront bytes block = record {
-        judged = sym judged ∙ ap (λ (g : Header). Ok g) (sym header);
-        block_is = ap (λ (g : Header). block_at g bytes) (sym header);
-        front = subst (λ (g : Header). IsBlock (take g.length bytes) block) (sym header) f.block
-      } in
+      judged = sym judged ∙ ap (λ (g : Header). Ok g) (sym header);
+      block_is = ap (λ (g : Header). block_at g bytes) (sym header);
+      front = subst (λ (g : Header). IsBlock (take g.length bytes) block) (sym header) f.block;
+    } in
     subst (λ (rs : List (List ℕ)). StandsAtFront bytes (block_of h rs)) (sym are) there
 
 pub lent_body : (bytes : List ℕ) (h : Header) (n : ℕ) (raws : List (List ℕ)) → IsFront bytes h → Ok h ≡ judge bytes → 8 + n ≡ h.length → raws ≡ raws_of h.count (take n (drop 8 bytes)) → StandsAtFront bytes (block_of h raws)

@@ -22,9 +22,9 @@ AreSmall bytes = (i : ℕ) → get_or bytes i 0 < 256
 
 pub small_bytes : (bytes : List ℕ) → IsBytes bytes → AreSmall bytes
 small_bytes bytes all i = elim (cases_lt i (length bytes)) [
-    | inl lt ↦ All-get_or (λ (b : ℕ). b < 2 ^ 8) bytes i 0 lt all
-    | inr le ↦ subst (λ (v : ℕ). v < 256) (sym (get_or-eq_default bytes 0 le)) (omega arith)
-  ]
+  | inl lt ↦ All-get_or (λ (b : ℕ). b < 2 ^ 8) bytes i 0 lt all
+  | inr le ↦ subst (λ (v : ℕ). v < 256) (sym (get_or-eq_default bytes 0 le)) (omega arith)
+]
 
 pub drop_small : (n : ℕ) (bytes : List ℕ) → AreSmall bytes → AreSmall (drop n bytes)
 drop_small n bytes small i = subst (λ (v : ℕ). v < 256) (sym (get_or-drop n bytes i 0)) (small (n + i))
@@ -36,21 +36,21 @@ no_block bytes e is =
 
 whole_by : (n : ℕ) (bytes : List ℕ) → length bytes ≤ n → AreSmall bytes → Cuts bytes (blocks_of bytes) (rest_of bytes)
 whole_by zero bytes le small = elim (cases_Result (judge bytes)) [
-    | inl found ↦ let s = judge_found bytes found.0 found.1 in absurd (omega (arith, s.header, s.fits))
-    | inr none ↦ no_block bytes none.0 none.1
-  ]
+  | inl found ↦ let s = judge_found bytes found.0 found.1 in absurd (omega (arith, s.header, s.fits))
+  | inr none ↦ no_block bytes none.0 none.1
+]
 whole_by (suc n) bytes le small = elim (cases_Result (judge bytes)) [
-    | inl found ↦
-        let h : Header = found.0 in
-        let s = judge_found bytes h found.1 in
-        let f = first_of bytes h found.1 in
-        let front = judged_front bytes h small found.1 in
-        let more = whole_by n (drop h.length bytes) (omega (arith, s.header, s.fits, length-drop h.length bytes)) (drop_small h.length bytes small) in
-        subst (λ (bs : List Block). Cuts bytes bs (rest_of bytes)) (sym f.blocks)
-          (subst (λ (r : List ℕ). Cuts bytes (block_at h bytes ∷ blocks_of (drop h.length bytes)) r) (sym f.rest)
-            (record { whole = (take h.length bytes, drop h.length bytes, sym (take-append-drop h.length bytes), front.block, more.whole); longest = more.longest }))
-    | inr none ↦ no_block bytes none.0 none.1
-  ]
+  | inl found ↦
+      let h : Header = found.0 in
+      let s = judge_found bytes h found.1 in
+      let f = first_of bytes h found.1 in
+      let front = judged_front bytes h small found.1 in
+      let more = whole_by n (drop h.length bytes) (omega (arith, s.header, s.fits, length-drop h.length bytes)) (drop_small h.length bytes small) in
+      subst (λ (bs : List Block). Cuts bytes bs (rest_of bytes)) (sym f.blocks)
+      (subst (λ (r : List ℕ). Cuts bytes (block_at h bytes ∷ blocks_of (drop h.length bytes)) r) (sym f.rest)
+      (record { whole = (take h.length bytes, drop h.length bytes, sym (take-append-drop h.length bytes), front.block, more.whole); longest = more.longest }))
+  | inr none ↦ no_block bytes none.0 none.1
+]
 
 -- for bytes, the computed cutting is one
 pub cuts_are_computed : CutsAreComputed
@@ -72,17 +72,17 @@ one_block : (front back : List ℕ) (block : Block) → IsBlock front block → 
 one_block front back block is =
     let s = front_stands front back block is in
     let raws : raws_of (header_of (front ++ back)).count (drop 8 (take (header_of (front ++ back)).length (front ++ back))) ≡ block.raws =
-      ap (λ (n : ℕ). raws_of n (drop 8 (take (header_of (front ++ back)).length (front ++ back)))) s.count_is
-      ∙ ap (λ (r : List ℕ). raws_of (length block.raws) (drop 8 r)) s.cut ∙ s.raws_are in
+    ap (λ (n : ℕ). raws_of n (drop 8 (take (header_of (front ++ back)).length (front ++ back)))) s.count_is
+    ∙ ap (λ (r : List ℕ). raws_of (length block.raws) (drop 8 r)) s.cut ∙ s.raws_are in
     same_block _ _ _ block s.unit_is s.sequence_is raws
 
 computed_by : (bytes : List ℕ) (blocks : List Block) (rest : List ℕ) → AreSmall bytes → AreBlocks bytes blocks rest → BeginsNoBlock rest → Computed bytes blocks rest
 computed_by bytes [] rest small same none = elim (cases_Result (judge bytes)) [
-    | inl found ↦
-        let f = judged_front bytes found.0 small found.1 in
-        absurd (none (take found.0.length bytes) (drop found.0.length bytes) (block_at found.0 bytes) (sym same ∙ sym (take-append-drop found.0.length bytes)) f.block)
-    | inr fault ↦ let n = none_of bytes fault.0 fault.1 in record { blocks_are = sym n.blocks; rest_is = sym same ∙ sym n.rest }
-  ]
+  | inl found ↦
+      let f = judged_front bytes found.0 small found.1 in
+      absurd (none (take found.0.length bytes) (drop found.0.length bytes) (block_at found.0 bytes) (sym same ∙ sym (take-append-drop found.0.length bytes)) f.block)
+  | inr fault ↦ let n = none_of bytes fault.0 fault.1 in record { blocks_are = sym n.blocks; rest_is = sym same ∙ sym n.rest }
+]
 computed_by bytes (block ∷ blocks) rest small (front, back, split, is, more) none =
     let h : Header = header_of (front ++ back) in
     let s = front_stands front back block is in
@@ -91,10 +91,10 @@ computed_by bytes (block ∷ blocks) rest small (front, back, split, is, more) n
     let again = computed_by back blocks rest (subst AreSmall left (drop_small h.length (front ++ back) (subst AreSmall split small))) more none in
     record {
       blocks_are = ap (λ (bs : List Block). block ∷ bs) again.blocks_are
-        ∙ ap (λ (b : Block). b ∷ blocks_of back) (sym (one_block front back block is))
-        ∙ ap (λ (r : List ℕ). block_at h (front ++ back) ∷ blocks_of r) (sym left)
-        ∙ sym first.blocks ∙ ap blocks_of (sym split);
-      rest_is = again.rest_is ∙ ap rest_of (sym left) ∙ sym first.rest ∙ ap rest_of (sym split)
+          ∙ ap (λ (b : Block). b ∷ blocks_of back) (sym (one_block front back block is))
+          ∙ ap (λ (r : List ℕ). block_at h (front ++ back) ∷ blocks_of r) (sym left)
+          ∙ sym first.blocks ∙ ap blocks_of (sym split);
+      rest_is = again.rest_is ∙ ap rest_of (sym left) ∙ sym first.rest ∙ ap rest_of (sym split);
     }
 
 -- two cuttings of the same bytes are both the computed one

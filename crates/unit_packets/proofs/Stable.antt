@@ -36,26 +36,26 @@ IsFinal (Err e) = is_truncated e ≡ false
 
 by_more : (h : Header) (bytes more : List ℕ) → IsFinal (judged_by h bytes) → judged_by h (bytes ++ more) ≡ judged_by h bytes
 by_more h bytes more final = elim (cases_Bool (nat_lt h.length 8)) [
-    | inl low ↦ cond-true (nat_lt h.length 8) _ _ low ∙ sym (cond-true (nat_lt h.length 8) _ _ low)
-    | inr low ↦ elim (cases_Bool (passes_last h)) [
-        | inl past ↦
-            cond-false (nat_lt h.length 8) _ _ low ∙ cond-true (passes_last h) _ _ past
-            ∙ sym (cond-false (nat_lt h.length 8) _ _ low ∙ cond-true (passes_last h) _ _ past)
-        | inr past ↦ elim (cases_Bool (nat_lt (length bytes) h.length)) [
-            | inl short ↦
-                let e : judged_by h bytes ≡ Err (Truncated (length bytes) h.length) =
-                  cond-false (nat_lt h.length 8) _ _ low ∙ cond-false (passes_last h) _ _ past ∙ cond-true (nat_lt (length bytes) h.length) _ _ short in
-                let f : true ≡ false = subst IsFinal e final in
-                absurd (false≢true (sym f))
-            | inr whole ↦
-                let fits : h.length ≤ length bytes = ltb-false (length bytes) h.length whole in
-                cond-false (nat_lt h.length 8) _ _ low ∙ cond-false (passes_last h) _ _ past
-                ∙ cond-false (nat_lt (length (bytes ++ more)) h.length) _ _ (le-ltb (length (bytes ++ more)) h.length (omega (arith, length-append bytes more)))
-                ∙ ap (λ (r : List ℕ). judge_end h (messages_end h.count r)) (take-append-le h.length bytes more fits)
-                ∙ sym (cond-false (nat_lt h.length 8) _ _ low ∙ cond-false (passes_last h) _ _ past ∙ cond-false (nat_lt (length bytes) h.length) _ _ whole)
-          ]
-      ]
+  | inl low ↦ cond-true (nat_lt h.length 8) _ _ low ∙ sym (cond-true (nat_lt h.length 8) _ _ low)
+  | inr low ↦ elim (cases_Bool (passes_last h)) [
+    | inl past ↦
+        cond-false (nat_lt h.length 8) _ _ low ∙ cond-true (passes_last h) _ _ past
+        ∙ sym (cond-false (nat_lt h.length 8) _ _ low ∙ cond-true (passes_last h) _ _ past)
+    | inr past ↦ elim (cases_Bool (nat_lt (length bytes) h.length)) [
+      | inl short ↦
+          let e : judged_by h bytes ≡ Err (Truncated (length bytes) h.length) =
+          cond-false (nat_lt h.length 8) _ _ low ∙ cond-false (passes_last h) _ _ past ∙ cond-true (nat_lt (length bytes) h.length) _ _ short in
+          let f : true ≡ false = subst IsFinal e final in
+          absurd (false≢true (sym f))
+      | inr whole ↦
+          let fits : h.length ≤ length bytes = ltb-false (length bytes) h.length whole in
+          cond-false (nat_lt h.length 8) _ _ low ∙ cond-false (passes_last h) _ _ past
+          ∙ cond-false (nat_lt (length (bytes ++ more)) h.length) _ _ (le-ltb (length (bytes ++ more)) h.length (omega (arith, length-append bytes more)))
+          ∙ ap (λ (r : List ℕ). judge_end h (messages_end h.count r)) (take-append-le h.length bytes more fits)
+          ∙ sym (cond-false (nat_lt h.length 8) _ _ low ∙ cond-false (passes_last h) _ _ past ∙ cond-false (nat_lt (length bytes) h.length) _ _ whole)
+    ]
   ]
+]
 
 pub header_more : (bytes more : List ℕ) → 8 ≤ length bytes → header_of (bytes ++ more) ≡ header_of bytes
 header_more bytes more long =
@@ -71,18 +71,18 @@ header_more bytes more long =
 -- more bytes change no judgement but that there are too few
 pub judge_more : (bytes more : List ℕ) → IsFinal (judge bytes) → judge (bytes ++ more) ≡ judge bytes
 judge_more bytes more final = elim (cases_Bool (nat_lt (length bytes) 8)) [
-    | inl short ↦
-        let e : judge bytes ≡ Err (Truncated (length bytes) 8) = judge_is bytes ∙ cond-true (nat_lt (length bytes) 8) _ _ short in
-        let f : true ≡ false = subst IsFinal e final in
-        absurd (false≢true (sym f))
-    | inr long ↦
-        let eight : 8 ≤ length bytes = ltb-false (length bytes) 8 long in
-        let e : judge bytes ≡ judged_by (header_of bytes) bytes = judge_is bytes ∙ cond-false (nat_lt (length bytes) 8) _ _ long in
-        judge_is (bytes ++ more) ∙ cond-false (nat_lt (length (bytes ++ more)) 8) _ _ (le-ltb (length (bytes ++ more)) 8 (omega (arith, length-append bytes more)))
-        ∙ ap (λ (h : Header). judged_by h (bytes ++ more)) (header_more bytes more eight)
-        ∙ by_more (header_of bytes) bytes more (subst IsFinal e final)
-        ∙ sym e
-  ]
+  | inl short ↦
+      let e : judge bytes ≡ Err (Truncated (length bytes) 8) = judge_is bytes ∙ cond-true (nat_lt (length bytes) 8) _ _ short in
+      let f : true ≡ false = subst IsFinal e final in
+      absurd (false≢true (sym f))
+  | inr long ↦
+      let eight : 8 ≤ length bytes = ltb-false (length bytes) 8 long in
+      let e : judge bytes ≡ judged_by (header_of bytes) bytes = judge_is bytes ∙ cond-false (nat_lt (length bytes) 8) _ _ long in
+      judge_is (bytes ++ more) ∙ cond-false (nat_lt (length (bytes ++ more)) 8) _ _ (le-ltb (length (bytes ++ more)) 8 (omega (arith, length-append bytes more)))
+      ∙ ap (λ (h : Header). judged_by h (bytes ++ more)) (header_more bytes more eight)
+      ∙ by_more (header_of bytes) bytes more (subst IsFinal e final)
+      ∙ sym e
+]
 
 guard_ok : {A E : Type 0} (b : Bool) (d : E) (r : Result A E) (y : A) → cond b (Err d) r ≡ Ok y → (b ≡ false) × (r ≡ Ok y)
 guard_ok true d r y e = cc

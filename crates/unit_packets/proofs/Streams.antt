@@ -31,7 +31,7 @@ leads rest block stands =
       header = found.header;
       fits = found.fits;
       blocks = first.blocks ∙ ap (λ (b : Block). b ∷ blocks_of (drop h.length rest)) (sym stands.block_is);
-      rest_is = first.rest
+      rest_is = first.rest;
     }
 
 -- ---- A fault
@@ -69,9 +69,9 @@ open_in place (byte ∷ rest) e is cut = truncated_from false place (judge (byte
 ended_in : (place : ℕ) (rest : List ℕ) (e : BlockError) → 0 < length rest → judge rest ≡ Err e → fault_in true place rest ≡ faulty place e
 ended_in place [] e some is = absurd (omega arith)
 ended_in place (byte ∷ rest) e some is = elim (cases_Bool (is_truncated e)) [
-    | inl cut ↦ truncated_from true place (judge (byte ∷ rest)) e is cut
-    | inr lasts ↦ lasting_from true place (judge (byte ∷ rest)) e is lasts
-  ]
+  | inl cut ↦ truncated_from true place (judge (byte ∷ rest)) e is cut
+  | inr lasts ↦ lasting_from true place (judge (byte ∷ rest)) e is lasts
+]
 
 -- a fault that more bytes do not mend
 pub fault_lasting : (bytes : List ℕ) (e : BlockError) → judge (rest_of bytes) ≡ Err e → is_truncated e ≡ false → fault_of bytes ≡ Some (record { place = place_of bytes; error = e })
@@ -104,8 +104,8 @@ fault_stays bytes more e is lasts =
     let end : rest_of (bytes ++ more) ≡ rest ++ more = all.rest ∙ none.rest in
     let short = rest_short bytes in
     let place : place_of (bytes ++ more) ≡ place_of bytes =
-      omega (arith, ap length end, length-append rest more, length-append bytes more, short) in
+    omega (arith, ap length end, length-append rest more, length-append bytes more, short) in
     record {
       blocks = all.blocks ∙ ap (λ (bs : List Block). blocks_of bytes ++ bs) none.blocks ∙ append-nil (blocks_of bytes);
-      fault = fault_lasting (bytes ++ more) e (ap judge end ∙ later) lasts ∙ ap (λ (p : ℕ). faulty p e) place
+      fault = fault_lasting (bytes ++ more) e (ap judge end ∙ later) lasts ∙ ap (λ (p : ℕ). faulty p e) place;
     }

@@ -84,7 +84,9 @@ impl fmt::Display for BlockFault {
     ghost output = { λ fault. Some (fault_text fault) };
 
     fn fmt<W: fmt::Write>(&self, f: &mut fmt::Formatter<W>) -> fmt::Result {
-        let place = self.place.saturating_add(u64::from(self.error.inner_place()));
+        let place = self
+            .place
+            .saturating_add(u64::from(self.error.inner_place()));
         let error = self.error;
         write!(f, "byte {place}: {error}")
     }

@@ -5,5 +5,4 @@ ghost use Rattle.unit_packets.specs.CuttingLaws.{CutsAreComputed, CutsAreOne};
 pub fn cutting_laws()
     ensures computed { CutsAreComputed }
     ensures one { CutsAreOne }
-{
-}
+{}
