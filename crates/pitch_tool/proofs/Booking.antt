@@ -1,13 +1,13 @@
 -- The orders of a book by their ids.
-use Rattle.std.proofs.Common.{◌≡◌, ℕ, ◌+◌, ◌<◌, Bool, true, false, true≢false, cond, ◌&&◌, List, [], ◌∷◌, ◌++◌, map, refl, sym, ap, ◌∙◌, subst, Option, Some, None, decimal, codes, append_assoc, arith, take, get_or, slice_get}
+use Rattle.std.proofs.Common.{◌≡◌, ℕ, ◌+◌, Bool, true, false, cond, List, [], ◌∷◌, ◌++◌, map, refl, sym, ap, ◌∙◌, Option, Some, None, decimal, codes, append_assoc, arith, take, slice_get}
 use Rattle.std.proofs.Math.Dec.{T}
 use Rattle.std.specs.List.{flat_map}
 use Rattle.std.proofs.lemmas.List.{append-nil, take_more}
-use Rattle.std.proofs.lemmas.Option.{slice_get_within, get_or_from_slice_get, slice_get_read}
-use Rattle.std.specs.Ordering.{nat_cmp, is_lt, is_eq, eq_by_cmp}
+use Rattle.std.proofs.lemmas.Option.{slice_get_within, get_or_from_slice_get}
+use Rattle.std.specs.Ordering.{nat_cmp, is_lt, eq_by_cmp}
 use Rattle.std.specs.FinMap as fin
 use Rattle.std.specs.FinMap.Entries.{below_all, is_sorted}
-use Rattle.std.proofs.lemmas.Bool.{and_parts, eqb-true}
+use Rattle.std.proofs.lemmas.Bool.{and_parts}
 use Rattle.std.proofs.lemmas.Bool.Decides.{nat_tests}
 use Rattle.pitch_messages.specs.declared.order.Order.{Order}
 use Rattle.pitch_model.specs.Book.{Book, IsBook}
@@ -62,7 +62,7 @@ pub order_lines : (book : Book) → IsBook book → flat_map (λ (o : Order). or
 unfolding Named
 order_lines book is =
     named_lines (fin.entries book.orders) (true_from_T (is_sorted nat_cmp (fin.entries book.orders)) (fin.entries_sorted book.orders))
-      (λ q order at. is.ids q order (fin.get-entries book.orders q ∙ at))
+    (λ q order at. is.ids q order (fin.get-entries book.orders q ∙ at))
 
 regroup : (a b c d e f g h i x : List ℕ) → (a ++ (b ++ (c ++ (d ++ e)))) ++ (f ++ ((g ++ (h ++ i)) ++ x)) ≡ (a ++ b ++ c ++ d ++ e ++ f ++ g ++ h ++ i) ++ x
 regroup a b c d e f g h i x = simp append_assoc
@@ -73,7 +73,7 @@ pub book_text_is : (unit n : ℕ) (book : Book) → IsBook book
 unfolding book_text
 book_text_is unit n book is =
     regroup (codes "book unit ") (decimal unit) (codes " at ") (decimal n) (codes " second ") (second_text book.second) (codes " orders ") (decimal (fin.len book.orders)) (10 ∷ [])
-      (flat_map (λ e. order_line e.0 e.1) (fin.entries book.orders))
+    (flat_map (λ e. order_line e.0 e.1) (fin.entries book.orders))
     ∙ ap (λ (t : List ℕ). book_head unit n book.second (fin.len book.orders) ++ t) (sym (order_lines book is))
 
 -- ---- Lines of some orders

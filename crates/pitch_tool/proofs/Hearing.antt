@@ -1,12 +1,11 @@
 -- A unit's client hears a block.
-use Rattle.std.proofs.Common.{◌≡◌, ◌≢◌, ℕ, zero, suc, ◌+◌, ◌<◌, ◌≤◌, ◌⊎◌, inl, inr, Bool, true, false, ◌||◌, ◌==◌, cond, List, [], ◌∷◌, ◌++◌, length, eqb, refl, sym, ap, ◌∙◌, subst, arith, Option, Some, None, Result, Ok, Err, slice_get, IfOk, OnOk, OnErr}
-use Rattle.std.specs.List.{list_any}
+use Rattle.std.proofs.Common.{◌≡◌, ◌≢◌, ℕ, zero, suc, ◌⊎◌, inl, inr, Bool, true, false, ◌||◌, List, [], ◌∷◌, ◌++◌, eqb, refl, sym, ap, ◌∙◌, subst, arith, Option, Some, None, Result, Ok, Err, slice_get, IfOk, OnOk, OnErr}
 use Rattle.std.proofs.Math.ListN.{set, length-set}
-use Rattle.std.proofs.lemmas.Bool.{cases_eq, eq-eqb, ne_eqb, or_parts}
+use Rattle.std.proofs.lemmas.Bool.{eq-eqb, ne_eqb}
 use Rattle.unit_packets.specs.Blocks.{Block}
 use Rattle.pitch_model.specs.History.{Entry, Raw}
 use Rattle.pitch_model.specs.Heard.{heard_block}
-use Rattle.pitch_model.specs.Follow.{unit_history, AllHonest}
+use Rattle.pitch_model.specs.Follow.{unit_history}
 use Rattle.pitch_model.proofs.Following.{history_same, history_other}
 use Rattle.client_core.specs.Tracks.{Tracks, Keeps}
 use Rattle.client_core.specs.declared.client.UnitClient.{UnitClient}
@@ -39,9 +38,9 @@ get_set (x ∷ xs) zero zero y r e = inl (refl, cc)
 get_set (x ∷ xs) zero (suc q) y r e = inr ((λ same. omega arith), e)
 get_set (x ∷ xs) (suc i) zero y r e = inr ((λ same. omega arith), e)
 get_set (x ∷ xs) (suc i) (suc q) y r e = elim (get_set xs i q y r e) [
-    | inl here ↦ inl (omega (arith, here.0), here.1)
-    | inr other ↦ inr ((λ same. other.0 (omega arith)), other.1)
-  ]
+  | inl here ↦ inl (omega (arith, here.0), here.1)
+  | inr other ↦ inr ((λ same. other.0 (omega arith)), other.1)
+]
 
 -- one more None
 pub get_none_more : {X : Type 0} (xs : List (Option X)) (q : ℕ) (r : Option X) → ((p : ℕ) (s : Option X) → slice_get xs p ≡ Some s → s ≡ None) → slice_get (xs ++ None ∷ []) q ≡ Some r → r ≡ None
@@ -85,34 +84,36 @@ named_other block before unit other = ap (λ (b : Bool). b || is_named before un
 
 other_client : (H : ℕ) (block : Block) (before : List Block) (unit : ℕ) (slot : Option UnitClient) → unit ≢ block.unit → IsClient H before unit slot → IsClient H (block ∷ before) unit slot
 other_client H block before unit None other stands = named_other block before unit other ∙ stands
-other_client H block before unit (Some client) other stands =
-    (named_other block before unit other ∙ stands.0,
-     subst (λ (E : List Entry). Tracks client H E) (sym (history_other unit block before (λ same. other (sym same)))) stands.1)
+other_client H block before unit (Some client) other stands = (
+  named_other block before unit other ∙ stands.0,
+  subst (λ (E : List Entry). Tracks client H E) (sym (history_other unit block before (λ same. other (sym same)))) stands.1,
+)
 
 pub clients_hear : (H u : ℕ) (old : List (Option UnitClient)) (gone : Option UnitClient) (client : UnitClient) (block : Block) (before : List Block) → Clients H old before → u ≡ block.unit
     → Tracks client H (heard_block block (unit_history u before)) → Clients H (set (set old u gone) u (Some client)) (block ∷ before)
 clients_hear H u old gone client block before stands same heard = record {
-    many = length-set (set old u gone) u (Some client) ∙ length-set old u gone ∙ stands.many;
-    each = λ unit slot at. elim (get_set (set old u gone) u unit (Some client) slot at) [
-        | inl here ↦
-            let there : unit ≡ block.unit = here.0 ∙ same in
-            subst (IsClient H (block ∷ before) unit) (sym here.1)
-              (named_first block before unit there,
-               subst (λ (n : ℕ). Tracks client H (unit_history n (block ∷ before))) (sym there)
-                 (subst (λ (E : List Entry). Tracks client H E) (sym (history_same block before))
-                   (subst (λ (n : ℕ). Tracks client H (heard_block block (unit_history n before))) same heard)))
-        | inr other ↦ elim (get_set old u unit gone slot other.1) [
-            | inl here ↦ absurd (other.0 here.0)
-            | inr kept ↦ other_client H block before unit slot (λ e. other.0 (e ∙ sym same)) (stands.each unit slot kept.1)
-          ]
-      ]
-  }
+  many = length-set (set old u gone) u (Some client) ∙ length-set old u gone ∙ stands.many;
+  each = λ unit slot at. elim (get_set (set old u gone) u unit (Some client) slot at) [
+    | inl here ↦
+        let there : unit ≡ block.unit = here.0 ∙ same in
+        subst (IsClient H (block ∷ before) unit) (sym here.1) (
+          named_first block before unit there,
+          subst (λ (n : ℕ). Tracks client H (unit_history n (block ∷ before))) (sym there)
+              (subst (λ (E : List Entry). Tracks client H E) (sym (history_same block before))
+              (subst (λ (n : ℕ). Tracks client H (heard_block block (unit_history n before))) same heard)),
+        )
+    | inr other ↦ elim (get_set old u unit gone slot other.1) [
+      | inl here ↦ absurd (other.0 here.0)
+      | inr kept ↦ other_client H block before unit slot (λ e. other.0 (e ∙ sym same)) (stands.each unit slot kept.1)
+    ]
+  ];
+}
 
 pub clients_keep : (Vs : ℕ → List Raw) (u : ℕ) (old : List (Option UnitClient)) (gone : Option UnitClient) (client : UnitClient) → AllKeep Vs old → Keeps client (Vs u) → AllKeep Vs (set (set old u gone) u (Some client))
 clients_keep Vs u old gone client keeps kept unit slot at = elim (get_set (set old u gone) u unit (Some client) slot at) [
-    | inl here ↦ subst (KeepsTo (Vs unit)) (sym here.1) (subst (λ (n : ℕ). Keeps client (Vs n)) (sym here.0) kept)
-    | inr other ↦ elim (get_set old u unit gone slot other.1) [
-        | inl here ↦ absurd (other.0 here.0)
-        | inr there ↦ keeps unit slot there.1
-      ]
+  | inl here ↦ subst (KeepsTo (Vs unit)) (sym here.1) (subst (λ (n : ℕ). Keeps client (Vs n)) (sym here.0) kept)
+  | inr other ↦ elim (get_set old u unit gone slot other.1) [
+    | inl here ↦ absurd (other.0 here.0)
+    | inr there ↦ keeps unit slot there.1
   ]
+]

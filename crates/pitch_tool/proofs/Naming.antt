@@ -1,8 +1,7 @@
 -- The units that blocks name, one after another.
-use Rattle.std.proofs.Common.{◌≡◌, ◌≢◌, ℕ, zero, suc, ◌+◌, ◌≤◌, ◌<◌, ◌⊎◌, inl, inr, Bool, true, false, true≢false, ◌||◌, ◌==◌, cond, List, [], ◌∷◌, ◌++◌, eqb, ltb, nat_lt, refl, sym, ap, ◌∙◌, subst, arith, append_assoc}
-use Rattle.std.specs.List.{list_any, flat_map}
+use Rattle.std.proofs.Common.{◌≡◌, ℕ, zero, suc, ◌+◌, ◌≤◌, ◌<◌, inl, inr, Bool, true, false, ◌||◌, ◌==◌, cond, List, [], ◌∷◌, ◌++◌, eqb, ltb, refl, sym, ap, ◌∙◌, arith, append_assoc}
 use Rattle.std.proofs.lemmas.List.{append-nil}
-use Rattle.std.proofs.lemmas.Bool.{cases_Bool, cases_eq, cases_lt, eq-eqb, ne_eqb, eqb-true, lt-ltb, le-ltb, cond-true, cond-false}
+use Rattle.std.proofs.lemmas.Bool.{cases_eq, cases_lt, eq-eqb, ne_eqb, lt-ltb, le-ltb, cond-true, cond-false}
 use Rattle.unit_packets.specs.Blocks.{Block}
 use Rattle.pitch_model.specs.Follow.{with_number, units_of}
 use Rattle.pitch_tool.specs.Rising.{named_below}
@@ -27,11 +26,11 @@ below_split p i zero le = ([], ap (named_below p) (zero_is i le) ∙ sym (append
     zero_is : (i : ℕ) → i ≤ 0 → 0 ≡ i
     zero_is i le = omega arith
 below_split p i (suc n) le = elim (cases_lt n i) [
-    | inl lt ↦ ([], ap (named_below p) (same i n le lt) ∙ sym (append-nil (named_below p i)))
-    | inr more ↦
-        let before = below_split p i n more in
-        (before.0 ++ cond (p n) (n ∷ []) [], ap (λ (l : List ℕ). l ++ cond (p n) (n ∷ []) []) before.1 ∙ append_assoc (named_below p i) before.0 (cond (p n) (n ∷ []) []))
-  ]
+  | inl lt ↦ ([], ap (named_below p) (same i n le lt) ∙ sym (append-nil (named_below p i)))
+  | inr more ↦
+      let before = below_split p i n more in
+      (before.0 ++ cond (p n) (n ∷ []) [], ap (λ (l : List ℕ). l ++ cond (p n) (n ∷ []) []) before.1 ∙ append_assoc (named_below p i) before.0 (cond (p n) (n ∷ []) []))
+]
   where
     same : (i n : ℕ) → i ≤ suc n → n < i → suc n ≡ i
     same i n le lt = omega arith
@@ -49,7 +48,8 @@ behind u p (suc n) ys le =
   where
     past : with_number u (n ∷ ys) ≡ n ∷ with_number u ys
     past = cond-false (eqb u n) (n ∷ ys) (cond (ltb u n) (u ∷ n ∷ ys) (n ∷ with_number u ys)) (ne_eqb u n (λ e. omega arith))
-      ∙ cond-false (ltb u n) (u ∷ n ∷ ys) (n ∷ with_number u ys) (le-ltb u n (omega arith))
+        ∙ cond-false (ltb u n) (u ∷ n ∷ ys) (n ∷ with_number u ys) (le-ltb u n (omega arith))
+
     one : (b : Bool) → with_number u (cond b (n ∷ []) [] ++ ys) ≡ cond b (n ∷ []) [] ++ with_number u ys
     one true = past
     one false = refl
@@ -81,20 +81,21 @@ put_in : (u : ℕ) (p : ℕ → Bool) (n : ℕ) → u < n → with_number u (nam
 unfolding named_below
 put_in u p zero lt = absurd (omega arith)
 put_in u p (suc n) lt = elim (cases_eq u n) [
-    | inl same ↦
-        behind u p n (cond (p n) (n ∷ []) []) (omega arith)
-        ∙ ap (λ (l : List ℕ). named_below p n ++ l) (here (p n) same)
-        ∙ ap (λ (l : List ℕ). l ++ n ∷ []) (sym (others_same u p n (omega arith)))
-        ∙ ap (λ (b : Bool). named_below (or_is u p) n ++ cond (b || p n) (n ∷ []) []) (sym (eq-eqb n u (sym same)))
-    | inr apart ↦
-        there (p n) (omega arith)
-        ∙ ap (λ (l : List ℕ). l ++ cond (p n) (n ∷ []) []) (put_in u p n (omega arith))
-        ∙ ap (λ (b : Bool). named_below (or_is u p) n ++ cond (b || p n) (n ∷ []) []) (sym (ne_eqb n u (λ e. apart (sym e))))
-  ]
+  | inl same ↦
+      behind u p n (cond (p n) (n ∷ []) []) (omega arith)
+      ∙ ap (λ (l : List ℕ). named_below p n ++ l) (here (p n) same)
+      ∙ ap (λ (l : List ℕ). l ++ n ∷ []) (sym (others_same u p n (omega arith)))
+      ∙ ap (λ (b : Bool). named_below (or_is u p) n ++ cond (b || p n) (n ∷ []) []) (sym (eq-eqb n u (sym same)))
+  | inr apart ↦
+      there (p n) (omega arith)
+      ∙ ap (λ (l : List ℕ). l ++ cond (p n) (n ∷ []) []) (put_in u p n (omega arith))
+      ∙ ap (λ (b : Bool). named_below (or_is u p) n ++ cond (b || p n) (n ∷ []) []) (sym (ne_eqb n u (λ e. apart (sym e))))
+]
   where
     here : (b : Bool) → u ≡ n → with_number u (cond b (n ∷ []) []) ≡ n ∷ []
     here true same = cond-true (eqb u n) (n ∷ []) (cond (ltb u n) (u ∷ n ∷ []) (n ∷ u ∷ [])) (eq-eqb u n same)
     here false same = ap (λ (k : ℕ). k ∷ []) same
+
     there : (b : Bool) → u < n → with_number u (named_below p n ++ cond b (n ∷ []) []) ≡ with_number u (named_below p n) ++ cond b (n ∷ []) []
     there true lt = ahead u n (named_below p n) lt
     there false lt = ap (with_number u) (append-nil (named_below p n)) ∙ sym (append-nil (with_number u (named_below p n)))
@@ -118,6 +119,6 @@ units_below n (block ∷ before) low =
 -- a block more
 pub low_more : (n : ℕ) (block : Block) (before : List Block) → block.unit < n → ((unit : ℕ) → is_named before unit ≡ true → unit < n) → (unit : ℕ) → is_named (block ∷ before) unit ≡ true → unit < n
 low_more n block before here low unit named = elim (cases_eq unit block.unit) [
-    | inl same ↦ omega arith
-    | inr apart ↦ low unit (sym (ap (λ (b : Bool). b || is_named before unit) (ne_eqb unit block.unit apart)) ∙ named)
-  ]
+  | inl same ↦ omega arith
+  | inr apart ↦ low unit (sym (ap (λ (b : Bool). b || is_named before unit) (ne_eqb unit block.unit apart)) ∙ named)
+]

@@ -1,6 +1,6 @@
 -- Text that goes onto a page and from there to a sink.
-use Rattle.std.proofs.Common.{◌≡◌, ◌≤◌, ◌<◌, ◌+◌, ◌-◌, ℕ, zero, suc, List, [], ◌∷◌, ◌++◌, length, take, drop, Option, Some, None, refl, sym, ap, ◌∙◌, subst, append_assoc, arith, length-append}
-use Rattle.std.proofs.lemmas.List.{append-nil, take-append-le, drop-append-le, length-drop, take-append-drop, drop-drop}
+use Rattle.std.proofs.Common.{◌≡◌, ◌+◌, ℕ, List, [], ◌∷◌, ◌++◌, length, take, drop, Option, refl, sym, ap, ◌∙◌, subst, append_assoc, arith, length-append}
+use Rattle.std.proofs.lemmas.List.{append-nil, take-append-le, drop-append-le, length-drop, drop-drop}
 use Rattle.std.proofs.Math.Seq.{take-add, take-length}
 use Rattle.pitch_io.specs.Putting.{Grows}
 use Rattle.pitch_tool.specs.Page.{Prints}
@@ -18,11 +18,11 @@ prints_added o t u x is = record { count = 0; within = omega arith; written = gr
 -- the page is written out
 pub prints_flushed : (a b : Option (List ℕ)) (t : List ℕ) → Grows a b t → Prints a t b [] []
 prints_flushed a b t g = record {
-    count = length t;
-    within = omega (arith, length-append t []);
-    written = subst (Grows a b) (sym (take-append-le (length t) t [] (omega arith) ∙ take-length t)) g;
-    rest = sym (drop-append-le (length t) t [] (omega arith) ∙ ap (λ (l : List ℕ). l ++ []) (drop_all t))
-  }
+  count = length t;
+  within = omega (arith, length-append t []);
+  written = subst (Grows a b) (sym (take-append-le (length t) t [] (omega arith) ∙ take-length t)) g;
+  rest = sym (drop-append-le (length t) t [] (omega arith) ∙ ap (λ (l : List ℕ). l ++ []) (drop_all t));
+}
   where
     drop_all : (t : List ℕ) → drop (length t) t ≡ []
     drop_all [] = refl
@@ -44,8 +44,8 @@ prints_more a b c t u v x y p q =
       count = n + m;
       within = omega (arith, p_within, q_within, ap length left, size, ap length whole, length-append all y);
       written = subst (Grows a c) (sym (take-add n m (t ++ (x ++ y)) ∙ ap (λ (l : List ℕ). l ++ take m (drop n (t ++ (x ++ y)))) front ∙ ap (λ (l : List ℕ). take n all ++ take m l) (sym left)))
-        (grows_more a b c (take n all) (take m (u ++ y)) p.written q.written);
-      rest = q.rest ∙ ap (drop m) left ∙ drop-drop m n (t ++ (x ++ y)) ∙ ap (λ (k : ℕ). drop k (t ++ (x ++ y))) (omega arith)
+          (grows_more a b c (take n all) (take m (u ++ y)) p.written q.written);
+      rest = q.rest ∙ ap (drop m) left ∙ drop-drop m n (t ++ (x ++ y)) ∙ ap (λ (k : ℕ). drop k (t ++ (x ++ y))) (omega arith);
     }
 
 -- a sink that failed has some front
@@ -60,7 +60,7 @@ puts_after a b c t u x p q =
       count = n + m;
       within = omega (arith, p_within, q_within, ap length p.rest, size);
       grows = subst (Grows a c) (sym (take-add n m (t ++ x) ∙ ap (λ (l : List ℕ). take n (t ++ x) ++ take m l) (sym p.rest)))
-        (grows_more a b c (take n (t ++ x)) (take m u) p.written q.grows)
+          (grows_more a b c (take n (t ++ x)) (take m u) p.written q.grows);
     }
 
 -- and so has one that was not asked for more
@@ -74,7 +74,7 @@ puts_longer a b t x p =
     record {
       count = p.count;
       within = omega (arith, within, length-append t x);
-      grows = subst (Grows a b) (sym (take-append-le p.count t x p.within)) p.grows
+      grows = subst (Grows a b) (sym (take-append-le p.count t x p.within)) p.grows;
     }
 
 -- all was written where nothing is left on the page

@@ -1,5 +1,5 @@
 -- The books of all units, one after another.
-use Rattle.std.proofs.Common.{◌≡◌, ℕ, suc, ◌+◌, ◌≤◌, ◌<◌, Bool, true, false, cond, List, [], ◌∷◌, ◌++◌, take, refl, sym, ap, ◌∙◌, subst, arith, Option, Some, None, slice_get, append_assoc}
+use Rattle.std.proofs.Common.{◌≡◌, ℕ, ◌+◌, ◌<◌, Bool, true, false, cond, List, [], ◌∷◌, ◌++◌, take, refl, sym, ap, ◌∙◌, subst, arith, Option, Some, None, slice_get, append_assoc}
 use Rattle.std.specs.List.{flat_map}
 use Rattle.std.proofs.lemmas.List.{append-nil}
 use Rattle.unit_packets.specs.Blocks.{Block}
@@ -7,24 +7,24 @@ use Rattle.pitch_model.specs.Book.{Book, book_after}
 use Rattle.pitch_model.specs.BookText.{book_text}
 use Rattle.pitch_model.specs.History.{Entry, Raw}
 use Rattle.pitch_model.specs.Reach.{reach}
-use Rattle.pitch_model.specs.Follow.{unit_history, unit_text, units_of, books_of}
+use Rattle.pitch_model.specs.Follow.{unit_history, unit_text, books_of}
 use Rattle.client_core.specs.Tracks.{Tracks, Keeps}
 use Rattle.client_core.specs.declared.client.UnitClient.{UnitClient}
 use Rattle.pitch_tool.specs.Books.{named_text, PrintsUnit, PutsUnit, PrintsBooks, PutsBooks}
 use Rattle.pitch_tool.specs.Page.{Prints}
 use Rattle.pitch_tool.specs.Putting.{PutsSome}
 use Rattle.pitch_tool.specs.Rising.{named_below}
-use Rattle.pitch_tool.specs.Stands.{is_named, IsClient, KeepsTo, AllKeep, AreUnits}
+use Rattle.pitch_tool.specs.Stands.{is_named, IsClient, KeepsTo, AreUnits}
 use Rattle.pitch_tool.proofs.Naming.{below_none, below_more, below_split, units_below}
 use Rattle.pitch_tool.proofs.Printing.{prints_none, prints_more, puts_then}
 
 -- ---- One unit
 pub unit_none : (H : ℕ) (slot : Option UnitClient) (before : List Block) (unit : ℕ) (w : Option (List ℕ)) (t : List ℕ) → slot ≡ None → IsClient H before unit slot → PrintsUnit H slot before unit w t w t
 unit_none H slot before unit w t is stands = record {
-    book = [];
-    printed = prints_none w t;
-    is = λ Vs keeps. sym (ap (λ (b : Bool). cond b (unit_text H Vs before unit) []) (subst (IsClient H before unit) is stands))
-  }
+  book = [];
+  printed = prints_none w t;
+  is = λ Vs keeps. sym (ap (λ (b : Bool). cond b (unit_text H Vs before unit) []) (subst (IsClient H before unit) is stands));
+}
 
 -- what a client's book prints as
 text_is : (H : ℕ) (client : UnitClient) (before : List Block) (unit n : ℕ) (book : Book) (Vs : ℕ → List Raw) → is_named before unit ≡ true → n ≡ reach H (unit_history unit before)
@@ -75,29 +75,30 @@ books_start H clients before w t = record { books = []; printed = prints_none w 
 pub books_more : (H : ℕ) (clients : List (Option UnitClient)) (before : List Block) (n : ℕ) (slot : Option UnitClient) (a : Option (List ℕ)) (t : List ℕ) (b : Option (List ℕ)) (u : List ℕ) (c : Option (List ℕ)) (v : List ℕ)
     → PrintsBooks H clients before n a t b u → slice_get clients n ≡ Some slot → PrintsUnit H slot before n b u c v → PrintsBooks H clients before (n + 1) a t c v
 books_more H clients before n slot a t b u c v so_far at more = record {
-    books = so_far.books ++ more.book;
-    printed = prints_more a b c t u v so_far.books more.book so_far.printed more.printed;
-    are = λ Vs keep. ap (λ (l : List ℕ). l ++ more.book) (so_far.are Vs keep)
+  books = so_far.books ++ more.book;
+  printed = prints_more a b c t u v so_far.books more.book so_far.printed more.printed;
+  are = λ Vs keep. ap (λ (l : List ℕ). l ++ more.book) (so_far.are Vs keep)
       ∙ ap (λ (l : List ℕ). flat_map (unit_text H Vs before) (named_below (is_named before) n) ++ l) (more.is Vs (keep n slot at))
-      ∙ sym (one_more H Vs before n)
-  }
+      ∙ sym (one_more H Vs before n);
+}
 
 pub books_fail : (H : ℕ) (clients : List (Option UnitClient)) (before : List Block) (n : ℕ) (slot : Option UnitClient) (a : Option (List ℕ)) (t : List ℕ) (b : Option (List ℕ)) (u : List ℕ) (c : Option (List ℕ)) → n < 256 → AreUnits before
     → PrintsBooks H clients before n a t b u → slice_get clients n ≡ Some slot → PutsUnit H slot before n b u c → PutsBooks H clients before a t c
 books_fail H clients before n slot a t b u c lt low so_far at fails = record {
-    books = so_far.books ++ fails.book;
-    puts = puts_then a b c t u so_far.books fails.book so_far.printed fails.puts;
-    are = λ Vs keep.
-        let split = below_split (is_named before) (n + 1) 256 (omega arith) in
-        let here : so_far.books ++ fails.book ≡ flat_map (unit_text H Vs before) (named_below (is_named before) (n + 1)) =
-          ap (λ (l : List ℕ). l ++ fails.book) (so_far.are Vs keep)
-          ∙ ap (λ (l : List ℕ). flat_map (unit_text H Vs before) (named_below (is_named before) n) ++ l) (fails.is Vs (keep n slot at))
-          ∙ sym (one_more H Vs before n) in
-        (flat_map (unit_text H Vs before) split.0,
-         ap (flat_map (unit_text H Vs before)) (units_below 256 before low ∙ split.1)
-         ∙ flat_append (unit_text H Vs before) (named_below (is_named before) (n + 1)) split.0
-         ∙ ap (λ (l : List ℕ). l ++ flat_map (unit_text H Vs before) split.0) (sym here))
-  }
+  books = so_far.books ++ fails.book;
+  puts = puts_then a b c t u so_far.books fails.book so_far.printed fails.puts;
+  are = λ Vs keep.
+      let split = below_split (is_named before) (n + 1) 256 (omega arith) in
+      let here : so_far.books ++ fails.book ≡ flat_map (unit_text H Vs before) (named_below (is_named before) (n + 1)) =
+      ap (λ (l : List ℕ). l ++ fails.book) (so_far.are Vs keep)
+      ∙ ap (λ (l : List ℕ). flat_map (unit_text H Vs before) (named_below (is_named before) n) ++ l) (fails.is Vs (keep n slot at))
+      ∙ sym (one_more H Vs before n) in (
+        flat_map (unit_text H Vs before) split.0,
+        ap (flat_map (unit_text H Vs before)) (units_below 256 before low ∙ split.1)
+            ∙ flat_append (unit_text H Vs before) (named_below (is_named before) (n + 1)) split.0
+            ∙ ap (λ (l : List ℕ). l ++ flat_map (unit_text H Vs before) split.0) (sym here),
+      );
+}
 
 -- all of them are the books of all units
 pub books_are : (H : ℕ) (Vs : ℕ → List Raw) (before : List Block) → AreUnits before → flat_map (unit_text H Vs before) (named_below (is_named before) 256) ≡ books_of H Vs before

@@ -20,7 +20,7 @@ pub record Hears (f f' : Following) (written written' : Option (List ℕ)) (bloc
   pub heard : (before : List Block) → HasHeard f before → HasHeard f' (reverse blocks ++ before)
   pub printed : (before : List Block) → HasHeard f before → Prints written f.page.text written' f'.page.text (lines_after f.limit before blocks)
   pub keep : (Image : List Raw → ℕ → List Raw) (Vs : ℕ → List Raw) (before : List Block) → HasHeard f before
-    → AllHonest Image Vs (reverse blocks ++ before) → AllKeep Vs f.clients.items → AllKeep Vs f'.clients.items
+      → AllHonest Image Vs (reverse blocks ++ before) → AllKeep Vs f.clients.items → AllKeep Vs f'.clients.items
 
 -- all the blocks that are whole in what a reader has loaded were heard, and no block stands in what is left
 pub record HearsAll (f f' : Following) (r r' : Reading) (written written' : Option (List ℕ)) (error : BlockError) : Type 0 where

@@ -1,7 +1,10 @@
 pub mod Books
+pub mod Feeding
 pub mod Hearing
+pub mod Inputs
 pub mod Lines
 pub mod Page
+pub mod Program
 pub mod Putting
 pub mod Rising
 pub mod Standing

@@ -5,8 +5,6 @@ use Rattle.pitch_fields.specs.Name.{name_shown}
 use Rattle.pitch_fields.specs.Price.{price_digits}
 use Rattle.pitch_messages.specs.declared.order.Order.{Order}
 use Rattle.pitch_model.specs.BookText.{second_text, hidden_text, participant_text}
-use Rattle.pitch_model.specs.StatusText.{status_text}
-use Rattle.pitch_model.specs.declared.status.Status.{Status}
 
 -- the head of a block's line
 abbrev pub block_head : ℕ → ℕ → ℕ → ℕ → List ℕ

@@ -1,5 +1,5 @@
 -- What was written to a sink.
-use Rattle.std.specs.Prelude.{◌≡◌, ◌≤◌, ℕ, List, length, take, Option}
+use Rattle.std.specs.Prelude.{◌≤◌, ℕ, List, length, take, Option}
 use Rattle.pitch_io.specs.Putting.{Grows}
 
 -- some front of the bytes was written

@@ -1,5 +1,5 @@
 -- What is known once some blocks were heard. Blocks stand newest first.
-use Rattle.std.specs.Prelude.{◌≡◌, ℕ, ◌≤◌, List, length, Option}
+use Rattle.std.specs.Prelude.{◌≡◌, ◌≤◌, List, length}
 use Rattle.unit_packets.specs.Blocks.{Block}
 use Rattle.pitch_tool.specs.Stands.{Clients, AreUnits}
 use Rattle.pitch_tool.specs.declared.following.Following.{Following}

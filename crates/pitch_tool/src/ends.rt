@@ -1,4 +1,4 @@
-ghost use Rattle.std.specs.Prelude.{OnOk, OnErr, IsErr};
+ghost use Rattle.std.specs.Prelude.{◌≡◌, OnOk, OnErr, IsErr, IfOk, length};
 ghost use Rattle.pitch_io.specs.Causes.{HasCause};
 ghost use Rattle.pitch_io.specs.Putting.{Grows};
 ghost use Rattle.pitch_tool.specs.Putting.{PutsSome};
@@ -31,6 +31,8 @@ pub fn put_all<O: Sink>(out: &mut O, bytes: &[u8]) -> Result<(), PutFailed>
 }
 
 /// Room for a piece of the source.
-pub fn piece_buffer(alloc: Global, size: usize) -> Result<Vec<u8>, OutOfMemory> {
+pub fn piece_buffer(alloc: Global, size: usize) -> Result<Vec<u8>, OutOfMemory>
+    ensures { IfOk result (λ piece. length piece.items ≡ size) }
+{
     Ok(Vec::from_elem(alloc, 0u8, size)?)
 }

@@ -48,7 +48,12 @@ impl Following {
     }
 
     /// Hears a block and adds its line to the page.
-    pub fn hear<O: Sink>(&mut self, alloc: Global, block: &BlockView<'_>, out: &mut O) -> Result<(), PrintError>
+    pub fn hear<O: Sink>(
+        &mut self,
+        alloc: Global,
+        block: &BlockView<'_>,
+        out: &mut O,
+    ) -> Result<(), PrintError>
         requires ready { IsReady self.old }
         requires few { self.old.number < 2 ^ 32 }
         ensures ready { OnOk result (IsReady self.new) }
@@ -67,7 +72,8 @@ impl Following {
         let change = hear_block(alloc, self.limit, &mut self.clients, block)?;
         self.number += 1;
         let overflow = change.overflows > 0;
-        self.page.add_block(self.number, header, overflow, change.after);
+        self.page
+            .add_block(self.number, header, overflow, change.after);
         Ok(())
     }
 

@@ -7,8 +7,12 @@ mod follow;
 mod following;
 mod lines;
 mod page;
+mod program;
 mod status;
 mod stop;
+#[cfg(test)]
+mod tests;
 mod units;
 
+pub use crate::program::pitch;
 pub use crate::status::ExitStatus;

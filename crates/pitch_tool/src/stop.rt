@@ -58,3 +58,27 @@ impl From<PrintError> for Stop {
         Stop::Unprinted(error)
     }
 }
+
+impl From<PutFailed> for Stop {
+    ghost use Rattle.std.specs.Prelude.{◌≡◌};
+    ghost use Rattle.pitch_tool.specs.declared.stop.PrintError.TheVariants as printing;
+    ghost use Rattle.pitch_tool.specs.declared.stop.Stop.TheVariants.{Unprinted};
+
+    ghost from_gives = { λ _ stop. stop ≡ Unprinted printing.PutFailed };
+
+    fn from(_: PutFailed) -> Stop {
+        Stop::Unprinted(PrintError::PutFailed)
+    }
+}
+
+impl From<OutOfMemory> for Stop {
+    ghost use Rattle.std.specs.Prelude.{◌≡◌};
+    ghost use Rattle.pitch_tool.specs.declared.stop.PrintError.TheVariants as printing;
+    ghost use Rattle.pitch_tool.specs.declared.stop.Stop.TheVariants.{Unprinted};
+
+    ghost from_gives = { λ _ stop. stop ≡ Unprinted printing.OutOfMemory };
+
+    fn from(_: OutOfMemory) -> Stop {
+        Stop::Unprinted(PrintError::OutOfMemory)
+    }
+}

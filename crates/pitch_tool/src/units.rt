@@ -36,7 +36,11 @@ pub fn make_units(alloc: Global) -> Result<Vec<Option<UnitClient>>, OutOfMemory>
 }
 
 // The unit's client, or a new one where it has none.
-fn known_or_new(alloc: Global, limit: u32, slot: Option<UnitClient>) -> Result<UnitClient, OutOfMemory>
+fn known_or_new(
+    alloc: Global,
+    limit: u32,
+    slot: Option<UnitClient>,
+) -> Result<UnitClient, OutOfMemory>
     requires { (1 ≤ limit) × (limit ≤ 65536) }
     ensures client { IfOk result (λ client. (before : List Block) (unit : ℕ) → IsClient limit before unit slot → Tracks client limit (unit_history unit before)) }
     ensures keeps { IfOk result (λ client. (V : List Raw) → KeepsTo V slot → Keeps client V) }

@@ -1,4 +1,4 @@
-use Rattle.std.proofs.Common.{◌≡◌, ◌++◌, ℕ, List, [], Option, sym, ap, ◌∙◌, subst}
+use Rattle.std.proofs.Common.{◌≡◌, ◌++◌, ℕ, List, Option, sym, ap, ◌∙◌, subst}
 use Rattle.std.specs.FinMap as fin
 use Rattle.pitch_messages.specs.declared.order.Order.{Order}
 use Rattle.pitch_model.specs.Book.{Book, IsBook}
@@ -32,9 +32,9 @@ returns-clause-printed g c =
     let listed : slice ≡ orders_of book = c.as_slice.ensures ∙ c.in_ok-orders_by_id.ensures.ok ∙ ap (λ (l : List Order). l ++ orders_of book) c.make-orders.ensures in
     let first = prints_line w v c.args.page.now.text c.make_place.new.self.text c.add_book.new.self.text head c.in_ok-make_place.ensures.ok (ap (λ (p : Page). p.text) c.add_book.ensures) in
     on_ok_map (Prints v c.add_book.new.self.text z c.print_orders.new.page.text (lines_of slice)) (Prints w c.args.page.now.text z c.print_orders.new.page.text (book_text c.args.unit c.args.reach book)) _ c.print_orders.ensures.printed
-      (λ p. subst (Prints w c.args.page.now.text z c.print_orders.new.page.text)
-        (whole c.args.unit c.args.reach c.from.result c.second.result slice book c.len.ensures.book c.second.ensures (c.from.ensures ∙ c.len.ensures.count) listed)
-        (prints_more w v z c.args.page.now.text c.add_book.new.self.text c.print_orders.new.page.text head (lines_of slice) first p))
+    (λ p. subst (Prints w c.args.page.now.text z c.print_orders.new.page.text)
+    (whole c.args.unit c.args.reach c.from.result c.second.result slice book c.len.ensures.book c.second.ensures (c.from.ensures ∙ c.len.ensures.count) listed)
+    (prints_more w v z c.args.page.now.text c.add_book.new.self.text c.print_orders.new.page.text head (lines_of slice) first p))
 
 pub returns-clause-err : goal.returns-clause-err
 returns-clause-err g c =
@@ -47,6 +47,6 @@ returns-clause-err g c =
     let listed : slice ≡ orders_of book = c.as_slice.ensures ∙ c.in_ok-orders_by_id.ensures.ok ∙ ap (λ (l : List Order). l ++ orders_of book) c.make-orders.ensures in
     let first = prints_line w v c.args.page.now.text c.make_place.new.self.text c.add_book.new.self.text head c.in_ok-make_place.ensures.ok (ap (λ (p : Page). p.text) c.add_book.ensures) in
     on_err_map (PutsSome v z (c.add_book.new.self.text ++ lines_of slice)) (PutsSome w z (c.args.page.now.text ++ book_text c.args.unit c.args.reach book)) _ c.print_orders.ensures.err
-      (λ p. subst (λ (t : List ℕ). PutsSome w z (c.args.page.now.text ++ t))
-        (whole c.args.unit c.args.reach c.from.result c.second.result slice book c.len.ensures.book c.second.ensures (c.from.ensures ∙ c.len.ensures.count) listed)
-        (puts_then w v z c.args.page.now.text c.add_book.new.self.text head (lines_of slice) first p))
+    (λ p. subst (λ (t : List ℕ). PutsSome w z (c.args.page.now.text ++ t))
+    (whole c.args.unit c.args.reach c.from.result c.second.result slice book c.len.ensures.book c.second.ensures (c.from.ensures ∙ c.len.ensures.count) listed)
+    (puts_then w v z c.args.page.now.text c.add_book.new.self.text head (lines_of slice) first p))

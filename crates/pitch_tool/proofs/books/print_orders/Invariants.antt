@@ -8,5 +8,5 @@ abbrev pub invariant-lines : goal.invariant-lines
 invariant-lines g l = record {
   size : l.page.size ≡ l.fn.page.size;
   printed : Prints (g.O.Sink.written l.fn.out) l.fn.page.text (g.O.Sink.written l.out) l.page.text (flat_map (λ o. order_line o.id o) (take l.order-index l.orders));
-  later : g.O.Sink.faults l.fn.out ≤ g.O.Sink.faults l.out
+  later : g.O.Sink.faults l.fn.out ≤ g.O.Sink.faults l.out;
 }

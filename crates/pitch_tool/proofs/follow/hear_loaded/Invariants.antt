@@ -5,7 +5,7 @@ use Rattle.pitch_tool.proofs.follow.hear_loaded.Given as goal
 abbrev pub invariant-front : goal.invariant-front
 invariant-front g l = record {
   hearing : Hearing l.fn.following l.following l.fn.reader l.reader (g.O.Sink.written l.fn.out) (g.O.Sink.written l.out);
-  later : g.O.Sink.faults l.fn.out ≤ g.O.Sink.faults l.out
+  later : g.O.Sink.faults l.fn.out ≤ g.O.Sink.faults l.out;
 }
 
 abbrev pub decreases-front : goal.decreases-front

@@ -1,4 +1,4 @@
-use Rattle.std.proofs.Common.{◌≡◌, ◌∙◌, ◌++◌, ap, sym, List, ℕ, take}
+use Rattle.std.proofs.Common.{◌∙◌, ◌++◌, ap, sym, List, ℕ, take}
 use Rattle.pitch_tool.proofs.Pieces.{five, block_line_is}
 use Rattle.pitch_tool.proofs.lines.put_block_line.Goals as goal
 

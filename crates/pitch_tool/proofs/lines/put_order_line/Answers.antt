@@ -1,4 +1,4 @@
-use Rattle.std.proofs.Common.{◌≡◌, ◌∙◌, ◌++◌, ap, sym, List, ℕ, take, append_assoc}
+use Rattle.std.proofs.Common.{◌∙◌, ◌++◌, ap, sym, List, ℕ, take, append_assoc}
 use Rattle.pitch_tool.specs.Lines.{order_head, order_tail}
 use Rattle.pitch_tool.proofs.Pieces.{order_line_is}
 use Rattle.pitch_tool.proofs.lines.put_order_line.Goals as goal

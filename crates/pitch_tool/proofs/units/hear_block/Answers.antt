@@ -1,4 +1,4 @@
-use Rattle.std.proofs.Common.{rules, ◌≡◌, ℕ, ◌<◌, List, ◌∷◌, Option, Some, sym, ap, ◌∙◌, subst, arith, slice_get, length, refl}
+use Rattle.std.proofs.Common.{rules, ◌≡◌, ℕ, ◌<◌, List, Some, sym, ap, ◌∙◌, subst, slice_get, length, refl}
 use Rattle.std.proofs.lemmas.Option.{slice_get_read}
 use Rattle.unit_packets.specs.Blocks.{Block}
 use Rattle.unit_packets.specs.declared.header.Header.{Header}
@@ -34,19 +34,19 @@ tracks c before stands = c.in_ok-client.ensures.client before c.header-header.re
 pub returns-clause-clients : goal.returns-clause-clients
 returns-clause-clients c = λ before stands.
     clients_hear c.args.limit c.header-header.result.unit c.args.clients.now.items c.replace-slot.new.dest c.hear_block.new.self c.args.block.now before stands (unit_is c)
-      (c.in_ok-change.ensures.tracks c.args.block.now (carries c) c.args.limit (unit_history c.header-header.result.unit before) (tracks c before stands))
+    (c.in_ok-change.ensures.tracks c.args.block.now (carries c) c.args.limit (unit_history c.header-header.result.unit before) (tracks c before stands))
 
 pub returns-clause-keep : goal.returns-clause-keep
 returns-clause-keep c = λ Image Vs before stands honest keeps.
     let u : ℕ = c.header-header.result.unit in
     let there = honest c.args.block.now.unit in
     let heard : Honest Image (Vs c.args.block.now.unit) (heard_block c.args.block.now (unit_history c.args.block.now.unit before)) =
-      subst (λ (E : List Entry). Honest Image (Vs c.args.block.now.unit) E) (history_same c.args.block.now before) there in
+    subst (λ (E : List Entry). Honest Image (Vs c.args.block.now.unit) E) (history_same c.args.block.now before) there in
     let here : Honest Image (Vs u) (heard_block c.args.block.now (unit_history u before)) =
-      subst (λ (n : ℕ). Honest Image (Vs n) (heard_block c.args.block.now (unit_history n before))) (sym (unit_is c)) heard in
+    subst (λ (n : ℕ). Honest Image (Vs n) (heard_block c.args.block.now (unit_history n before))) (sym (unit_is c)) heard in
     let kept = c.in_ok-client.ensures.keeps (Vs u) (keeps u c.replace-slot.result (slot_at c)) in
     clients_keep Vs u c.args.clients.now.items c.replace-slot.new.dest c.hear_block.new.self keeps
-      (c.in_ok-change.ensures.keeps c.args.block.now (carries c) Image (Vs u) (unit_history u before) here kept)
+    (c.in_ok-change.ensures.keeps c.args.block.now (carries c) Image (Vs u) (unit_history u before) here kept)
 
 pub returns-clause-change : goal.returns-clause-change
 returns-clause-change c = λ before stands.

@@ -10,5 +10,5 @@ use Rattle.pitch_tool.proofs.units.known_or_new.Goals as goal
 pub returns-in-None-clause-client : goal.returns-in-None-clause-client
 returns-in-None-clause-client c =
     if_ok_map (λ (client : UnitClient). Tracks client c.args.limit [])
-      (λ (client : UnitClient). (before : List Block) (unit : ℕ) → IsClient c.args.limit before unit c.args.slot → Tracks client c.args.limit (unit_history unit before))
-      c.make.result c.make.ensures.tracks (λ client fresh. new_client c.args.limit client c.args.slot c.in-None.is fresh)
+    (λ (client : UnitClient). (before : List Block) (unit : ℕ) → IsClient c.args.limit before unit c.args.slot → Tracks client c.args.limit (unit_history unit before))
+    c.make.result c.make.ensures.tracks (λ client fresh. new_client c.args.limit client c.args.slot c.in-None.is fresh)

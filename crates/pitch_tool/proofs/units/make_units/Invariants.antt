@@ -5,5 +5,5 @@ use Rattle.pitch_tool.proofs.units.make_units.Given as goal
 abbrev pub invariant-loop : goal.invariant-loop
 invariant-loop l = record {
   many : vec_len l.clients ≡ l.counter;
-  none : (unit : ℕ) (slot : Option UnitClient) → slice_get l.clients.items unit ≡ Some slot → slot ≡ None
+  none : (unit : ℕ) (slot : Option UnitClient) → slice_get l.clients.items unit ≡ Some slot → slot ≡ None;
 }

@@ -8,5 +8,5 @@ abbrev pub invariant-units : goal.invariant-units
 invariant-units g l = record {
   printed : (H : ℕ) (before : List Block) → Clients H l.clients before → PrintsBooks H l.clients before l.unit (g.O.Sink.written l.fn.out) l.fn.page.text (g.O.Sink.written l.out) l.page.text;
   size : l.page.size ≡ l.fn.page.size;
-  later : g.O.Sink.faults l.fn.out ≤ g.O.Sink.faults l.out
+  later : g.O.Sink.faults l.fn.out ≤ g.O.Sink.faults l.out;
 }

@@ -1,4 +1,4 @@
-use Rattle.std.proofs.Common.{rules, ◌≡◌, ◌+◌, ◌<◌, ℕ, ap, sym, subst, refl, arith}
+use Rattle.std.proofs.Common.{rules, ◌≡◌, ◌<◌, ap, arith}
 use Rattle.unit_packets.specs.declared.header.Header.{Header}
 use Rattle.pitch_tool.proofs.Naming.{low_more}
 use Rattle.pitch_tool.proofs.following.Following.hear.Goals as goal
@@ -12,7 +12,7 @@ returns-clause-heard g c = λ before heard.
     record {
       clients = c.in_ok-change.ensures.clients before heard.clients;
       number_is = omega (arith, number);
-      units = low_more 256 c.args.block.now before unit heard.units
+      units = low_more 256 c.args.block.now before unit heard.units;
     }
 
 pub returns-clause-keep : goal.returns-clause-keep

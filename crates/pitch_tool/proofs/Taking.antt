@@ -1,0 +1,126 @@
+-- A stream that is taken piece by piece.
+use Rattle.std.proofs.Common.{◌≡◌, ℕ, ◌+◌, ◌≤◌, true, true≢false, List, [], ◌++◌, length, take, drop, ◌-◌, reverse, refl, sym, ap, ◌∙◌, subst, arith, length-append, Option, Some, None, Result, Ok, Err}
+use Rattle.std.specs.Io.KnownBytes.{Consumes}
+use Rattle.std.specs.Result.{IsErr, IsErrAnd}
+use Rattle.std.proofs.lemmas.List.{append-nil, take-append-le}
+use Rattle.pitch_io.specs.Causes.{HasCause}
+use Rattle.pitch_io.specs.Putting.{Grows}
+use Rattle.unit_packets.specs.Cutting.{blocks_of, rest_of, is_truncated}
+use Rattle.unit_packets.specs.Judging.{judge}
+use Rattle.unit_packets.specs.Reading.{Reading}
+use Rattle.unit_packets.specs.declared.header.BlockError.{BlockError}
+use Rattle.unit_packets.specs.declared.header.BlockError.TheVariants.{Truncated}
+use Rattle.unit_packets.proofs.Cuts.{none_of}
+use Rattle.pitch_model.specs.History.{Raw}
+use Rattle.pitch_model.specs.Follow.{lines_after}
+use Rattle.pitch_model.proofs.Following.{lines_none}
+use Rattle.pitch_tool.specs.Feeding.{Fed}
+use Rattle.pitch_tool.specs.Inputs.{lines_for, WritesSome, Ends}
+use Rattle.pitch_tool.specs.Page.{Prints}
+use Rattle.pitch_tool.specs.Standing.{HasHeard, IsReady}
+use Rattle.pitch_tool.specs.Stands.{AllKeep}
+use Rattle.pitch_tool.specs.declared.following.Following.{Following}
+use Rattle.pitch_tool.specs.declared.stop.PrintError.{PrintError}
+use Rattle.pitch_tool.specs.declared.stop.Stop.{Stop}
+use Rattle.pitch_tool.specs.declared.stop.Stop.TheVariants.{Unprinted}
+use Rattle.pitch_tool.proofs.Feeding.{take_front, consumes_more, consumes_none, writes_lines}
+use Rattle.pitch_tool.proofs.Printing.{prints_none}
+
+-- the bytes that were taken so far were fed
+pub record Taken (H : ℕ) (f : Following) (r : Reading) (e : BlockError) (count : ℕ) (first left start written : Option (List ℕ)) : Type 0 where
+  pub bytes : List ℕ
+  pub size : length bytes ≡ count
+  pub within : length bytes ≤ 1073741824
+  pub read : Consumes first left bytes
+  pub fed : Fed H start written f r e bytes
+  pub unended : is_truncated e ≡ true
+
+judge_nothing : judge [] ≡ Err (Truncated 0 8)
+unfolding judge
+judge_nothing = refl
+
+no_blocks : blocks_of [] ≡ []
+no_blocks = (none_of [] (Truncated 0 8) judge_nothing).blocks
+
+no_rest : rest_of [] ≡ []
+no_rest = (none_of [] (Truncated 0 8) judge_nothing).rest
+
+no_lines : (H : ℕ) → lines_for H [] ≡ []
+no_lines H = ap (lines_after H []) no_blocks ∙ lines_none H []
+
+-- nothing was taken yet
+pub taken_none : (H : ℕ) (f : Following) (r : Reading) (first start : Option (List ℕ)) → IsReady f → f.limit ≡ H → HasHeard f [] → ((Vs : ℕ → List Raw) → AllKeep Vs f.clients.items) → f.page.text ≡ []
+    → r ≡ record { rest = []; place = 0 } → Taken H f r (Truncated 0 8) 0 first first start start
+taken_none H f r first start ready limit heard keep page reader =
+    let number = heard.number_is in
+    let rest = ap (λ (s : Reading). s.rest) reader in
+    record {
+      bytes = [];
+      size = refl;
+      within = omega arith;
+      read = consumes_none first;
+      fed = record {
+        ready = ready;
+        limit_is = limit;
+        rest = rest ∙ sym no_rest;
+        place = ap (λ (s : Reading). s.place) reader ∙ omega (arith, ap length no_rest);
+        judged = ap judge rest ∙ judge_nothing;
+        heard = subst (HasHeard f) (sym (ap reverse no_blocks)) heard;
+        keep = λ Image Vs honest. keep Vs;
+        printed = subst (Prints start [] start f.page.text) (sym (no_lines H)) (subst (λ (t : List ℕ). Prints start [] start t []) (sym page) (prints_none start []));
+        few = omega (arith, number, ap length rest);
+      };
+      unended = refl;
+    }
+
+-- a piece more was taken
+pub taken_more : (H : ℕ) (f g : Following) (r s : Reading) (d e : BlockError) (count more : ℕ) (first left left' start u v : Option (List ℕ)) (piece : List ℕ) → (t : Taken H f r d count first left start u)
+    → length piece ≡ more → Consumes left left' piece → Fed H start v g s e (t.bytes ++ piece) × (is_truncated e ≡ true) × (length (t.bytes ++ piece) ≤ 1073741824) → Taken H g s e (count + more) first left' start v
+taken_more H f g r s d e count more first left left' start u v piece t size read fed = record {
+  bytes = t.bytes ++ piece;
+  size = length-append t.bytes piece ∙ omega (arith, t.size, size);
+  within = fed.2;
+  read = consumes_more first left left' t.bytes piece t.read read;
+  fed = fed.0;
+  unended = fed.1;
+}
+
+-- nothing was read and nothing written
+pub writes_none : (H : ℕ) (first start : Option (List ℕ)) → WritesSome H first first start start
+writes_none H first start = writes_lines H first first start start [] (consumes_none first) (record { count = 0; within = omega arith; grows = grows_none start })
+  where
+    grows_none : (o : Option (List ℕ)) → Grows o o (take 0 (lines_for H []))
+    grows_none None = tt
+    grows_none (Some xs) = sym (append-nil xs)
+
+-- memory ran out before anything was read
+pub ends_early : (H most : ℕ) (r : Result (Unit {0}) Stop) (first start : Option (List ℕ)) (e : PrintError) → IsErr r × IsErrAnd r (λ stop. stop ≡ Unprinted e) → Ends H most r first first start start
+ends_early H most (Ok done) first start e is = absurd (true≢false (sym is.0))
+ends_early H most (Err stop) first start e is = subst (λ (s : Stop). Ends H most (Err s) first first start start) (sym is.1) (writes_none H first start)
+
+-- an error is that error whatever the other answer is
+pub same_err : (x y : Stop) → ◌≡◌ {A = Result (Unit {0}) Stop} (Err x) (Err y) → ◌≡◌ {A = Result BlockError Stop} (Err x) (Err y)
+same_err x y e = ap Err (same x y e)
+  where
+    same : (x y : Stop) → ◌≡◌ {A = Result (Unit {0}) Stop} (Err x) (Err y) → x ≡ y
+    same x y e = cc
+
+-- a later cause is one
+pub later_cause : (a b c : ℕ) (failed wanted : Type 0) → a ≤ b → HasCause b c failed → (wanted → failed) → HasCause a c wanted
+later_cause a b c failed wanted le cause gives =
+    let later = cause.later in
+    record {
+      later = omega (arith, le, later);
+      rose = λ w.
+          let rose = cause.rose (gives w) in
+          omega (arith, le, rose);
+    }
+
+-- the limit is the hold's
+pub own_limit : (H : ℕ) (start u : Option (List ℕ)) (f : Following) (r : Reading) (e : BlockError) (bytes : List ℕ) → Fed H start u f r e bytes → Fed f.limit start u f r e bytes
+own_limit H start u f r e bytes fed = subst (λ (n : ℕ). Fed n start u f r e bytes) (sym fed.limit_is) fed
+
+-- the bytes that a source gave, where a buffer has them at its front
+pub given_bytes : (count len : ℕ) (into items buffer : List ℕ) → count ≤ length into → length into ≤ len → buffer ≡ take len (into ++ drop (length into) items) → take count buffer ≡ take count into
+given_bytes count len into items buffer le fits is =
+    ap (take count) (is ∙ take_front len into (drop (length into) items) fits) ∙ take-append-le count into (take (len - length into) (drop (length into) items)) le

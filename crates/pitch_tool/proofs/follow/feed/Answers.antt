@@ -1,0 +1,56 @@
+use Rattle.std.proofs.Common.{rules, ◌≤◌, ◌+◌, ◌-◌, min, ℕ, length, sym, ap, ◌∙◌, subst, arith, length-append}
+use Rattle.pitch_tool.specs.Inputs.{Refuses}
+use Rattle.pitch_tool.specs.declared.follow.TheConstants.{INPUT_LIMIT}
+use Rattle.pitch_tool.specs.declared.stop.Trouble.TheVariants.{Faulty}
+use Rattle.pitch_tool.proofs.Keeping.{fed_kept, kept_fails, kept_unflushed, kept_faulty, kept_long, kept_all}
+use Rattle.pitch_tool.proofs.follow.feed.Goals as goal
+
+pub returns-in-Err-clause-feeds : goal.returns-in-Err-clause-feeds
+returns-in-Err-clause-feeds g c = λ first now start bytes error size fed read.
+    kept_fails c.min-kept.result c.args.following.now first now start (g.O.Sink.written c.args.out.now) (g.O.Sink.written c.hear_piece.new.out) c.args.reader.now error bytes c.args.piece.now fed read
+    c.in-Err.ensures.err
+
+pub returns-in-Ok-flush-clause-feeds : goal.returns-in-Ok-flush-clause-feeds
+returns-in-Ok-flush-clause-feeds g c = λ first now start bytes error size fed read.
+    let small : c.min-kept.result + length bytes ≤ 1073741824 = omega (arith, c.min-kept.ensures, c.requires.within, size) in
+    let kept = fed_kept c.min-kept.result c.args.following.now c.hear_piece.new.following start (g.O.Sink.written c.args.out.now) (g.O.Sink.written c.hear_piece.new.out) c.args.reader.now
+    c.hear_piece.new.reader error c.in-Ok.stopped bytes c.args.piece.now small fed c.in-Ok.ensures.hears in
+    subst (λ (p : ℕ). Refuses c.args.following.now.limit INPUT_LIMIT (Faulty (record { place = p; error = c.in-Ok.stopped })) first start (g.O.Sink.written c.flush.new.out)) (sym c.place-place.ensures)
+    (kept_faulty c.min-kept.result c.args.following.now.limit c.hear_piece.new.following first now start (g.O.Sink.written c.hear_piece.new.out) (g.O.Sink.written c.flush.new.out)
+    c.hear_piece.new.reader c.in-Ok.stopped bytes c.args.piece.now small kept read (sym c.may_mend.ensures ∙ c.if-not-may_mend.true) c.in-Ok-flush.ensures.ok)
+
+pub returns-in-Err-flush-clause-feeds : goal.returns-in-Err-flush-clause-feeds
+returns-in-Err-flush-clause-feeds g c = λ first now start bytes error size fed read.
+    let small : c.min-kept.result + length bytes ≤ 1073741824 = omega (arith, c.min-kept.ensures, c.requires.within, size) in
+    let kept = fed_kept c.min-kept.result c.args.following.now c.hear_piece.new.following start (g.O.Sink.written c.args.out.now) (g.O.Sink.written c.hear_piece.new.out) c.args.reader.now
+    c.hear_piece.new.reader error c.in-Ok.stopped bytes c.args.piece.now small fed c.in-Ok.ensures.hears in
+    kept_unflushed c.min-kept.result c.args.following.now.limit c.hear_piece.new.following first now start (g.O.Sink.written c.hear_piece.new.out) (g.O.Sink.written c.flush.new.out)
+    c.hear_piece.new.reader c.in-Ok.stopped bytes c.args.piece.now kept read c.in-Err-flush.ensures.err
+
+pub returns-in-Ok-flush-2-clause-feeds : goal.returns-in-Ok-flush-2-clause-feeds
+returns-in-Ok-flush-2-clause-feeds g c = λ first now start bytes error size fed read.
+    let small : c.min-kept.result + length bytes ≤ 1073741824 = omega (arith, c.min-kept.ensures, c.requires.within, size) in
+    let kept = fed_kept c.min-kept.result c.args.following.now c.hear_piece.new.following start (g.O.Sink.written c.args.out.now) (g.O.Sink.written c.hear_piece.new.out) c.args.reader.now
+    c.hear_piece.new.reader error c.in-Ok.stopped bytes c.args.piece.now small fed c.in-Ok.ensures.hears in
+    kept_long c.args.following.now.limit c.hear_piece.new.following first now start (g.O.Sink.written c.hear_piece.new.out) (g.O.Sink.written c.flush-then-kept-piece.new.out)
+    c.hear_piece.new.reader c.in-Ok.stopped bytes c.args.piece.now c.min-kept.result (omega (arith, size, c.requires.within))
+    (c.min-kept.ensures ∙ ap (λ (n : ℕ). min (length c.args.piece.now) (1073741824 - n)) (sym size)) (search rules) kept read (sym c.may_mend.ensures ∙ c.if-not-may_mend.false) c.in-Ok-flush-2.ensures.ok
+
+pub returns-in-Err-flush-2-clause-feeds : goal.returns-in-Err-flush-2-clause-feeds
+returns-in-Err-flush-2-clause-feeds g c = λ first now start bytes error size fed read.
+    let small : c.min-kept.result + length bytes ≤ 1073741824 = omega (arith, c.min-kept.ensures, c.requires.within, size) in
+    let kept = fed_kept c.min-kept.result c.args.following.now c.hear_piece.new.following start (g.O.Sink.written c.args.out.now) (g.O.Sink.written c.hear_piece.new.out) c.args.reader.now
+    c.hear_piece.new.reader error c.in-Ok.stopped bytes c.args.piece.now small fed c.in-Ok.ensures.hears in
+    kept_unflushed c.min-kept.result c.args.following.now.limit c.hear_piece.new.following first now start (g.O.Sink.written c.hear_piece.new.out) (g.O.Sink.written c.flush-then-kept-piece.new.out)
+    c.hear_piece.new.reader c.in-Ok.stopped bytes c.args.piece.now kept read c.in-Err-flush-2.ensures.err
+
+pub returns-clause-feeds : goal.returns-clause-feeds
+returns-clause-feeds g c = λ first now start bytes error size fed read.
+    let small : c.min-kept.result + length bytes ≤ 1073741824 = omega (arith, c.min-kept.ensures, c.requires.within, size) in
+    let kept = fed_kept c.min-kept.result c.args.following.now c.hear_piece.new.following start (g.O.Sink.written c.args.out.now) (g.O.Sink.written c.hear_piece.new.out) c.args.reader.now
+    c.hear_piece.new.reader error c.in-Ok.stopped bytes c.args.piece.now small fed c.in-Ok.ensures.hears in
+    let all : length c.args.piece.now ≤ c.min-kept.result = search rules in (
+      kept_all c.min-kept.result c.args.following.now.limit c.hear_piece.new.following start (g.O.Sink.written c.hear_piece.new.out) c.hear_piece.new.reader c.in-Ok.stopped bytes c.args.piece.now all kept,
+      sym c.may_mend.ensures ∙ c.if-not-may_mend.false,
+      omega (arith, all, small, length-append bytes c.args.piece.now),
+    )

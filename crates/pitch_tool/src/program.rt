@@ -1,0 +1,121 @@
+ghost use Rattle.std.specs.Prelude.{◌≡◌, ◌⊎◌, IfOk, Err, map, string_bytes};
+ghost use Rattle.pitch_io.specs.Causes.{HasCause, Rose};
+ghost use Rattle.pitch_io.specs.Putting.{Grows};
+ghost use Rattle.pitch_tool.specs.Program.{trouble_text, Closes, Runs};
+
+use crate::ends::put_all;
+use crate::follow::follow;
+use crate::status::ExitStatus;
+use crate::stop::{PrintError, Stop, Trouble};
+use pitch_fields::OutOfMemory;
+use pitch_io::{Sink, Source};
+use pitch_words::{Form, read};
+use std::alloc::Global;
+
+/// Why the program ends before its whole text.
+#[derive(Clone, Copy, Debug, PartialEq, Eq)]
+pub enum Ending {
+    Usage,
+    Stopped(Stop),
+    OutOfMemory,
+}
+
+// Does what the words ask for.
+fn run<I: Source, O: Sink>(
+    alloc: Global,
+    words: &[String],
+    input: &mut I,
+    out: &mut O,
+) -> Result<(), Ending>
+    ensures runs { Runs (map string_bytes words.now) result (I.left input.old) (I.left input.new) (O.written out.old) (O.written out.new) }
+    ensures read_cause { HasCause (I.faults input.old) (I.faults input.new) (result ≡ Err (Ending.Stopped Stop.ReadFailed)) }
+    ensures write_cause { HasCause (O.faults out.old) (O.faults out.new) (result ≡ Err (Ending.Stopped (Stop.Unprinted PrintError.PutFailed))) }
+{
+    match read(alloc, words) {
+        Ok(Some(Form::Follow { hold })) => match follow(alloc, hold, input, out) {
+            Ok(()) => Ok(()),
+            Err(stop) => Err(Ending::Stopped(stop)),
+        },
+        Ok(None) => Err(Ending::Usage),
+        Err(_) => Err(Ending::OutOfMemory),
+    }
+}
+
+// Says why the program ends, unless the sink fails.
+fn say<E: Sink>(err: &mut E, text: &[u8])
+    ensures { Rose (E.faults err.old) (E.faults err.new) ⊎ Grows (E.written err.old) (E.written err.new) text.now }
+{
+    let _said = put_all(err, text);
+}
+
+// What is said of an input with trouble.
+fn trouble_line(alloc: Global, trouble: Trouble) -> Result<String, OutOfMemory>
+    ensures { IfOk result (λ line. string_bytes line ≡ trouble_text trouble) }
+{
+    match trouble {
+        Trouble::Faulty(fault) => Ok(format!(in alloc; "pitch: bad input at {fault}\n")?),
+        Trouble::TooLong => Ok(String::from_str(
+            alloc,
+            "pitch: input is longer than 1073741824 bytes\n",
+        )?),
+    }
+}
+
+/// The program: does what the words ask for, and says on `err` why it ends before its whole text.
+///
+/// `words` are those after the program's name: `follow`, and perhaps `--hold H` with H from 1 to 65,536 (4,096 where it
+/// isn't given). `follow` reads a stream of Sequenced Unit Header blocks from `input`, at most `INPUT_LIMIT` bytes, and writes to `out` a
+/// line for each block, and at the stream's end the books of all units that a block named.
+///
+/// At `Done` the whole text was written and nothing was said. At `Usage` nothing was read or written. At `BadInput` the lines of the whole
+/// blocks before the trouble were written, and no book.
+pub fn pitch<I: Source, O: Sink, E: Sink>(
+    alloc: Global,
+    words: &[String],
+    input: &mut I,
+    out: &mut O,
+    err: &mut E,
+) -> ExitStatus
+    ensures ends { Closes (map string_bytes words.now) result (I.left input.old) (I.left input.new) (O.written out.old) (O.written out.new)
+        (λ text. Rose (E.faults err.old) (E.faults err.new) ⊎ Grows (E.written err.old) (E.written err.new) text) }
+    ensures quiet { result ≡ ExitStatus.Done → E.written err.new ≡ E.written err.old }
+    ensures read_cause { HasCause (I.faults input.old) (I.faults input.new) (result ≡ ExitStatus.ReadFault) }
+    ensures write_cause { HasCause (O.faults out.old) (O.faults out.new) (result ≡ ExitStatus.WriteFault) }
+{
+    match run(alloc, words, input, out) {
+        Ok(()) => ExitStatus::Done,
+        Err(Ending::Usage) => {
+            say(
+                err,
+                b"pitch: usage: follow | show | pack | replay | storm | drill | demo\n",
+            );
+            ExitStatus::Usage
+        }
+        Err(Ending::Stopped(Stop::BadInput(trouble))) => match trouble_line(alloc, trouble) {
+            Ok(line) => {
+                say(err, line.as_bytes());
+                ExitStatus::BadInput
+            }
+            Err(_) => {
+                say(err, b"pitch: out of memory\n");
+                ExitStatus::OutOfMemory
+            }
+        },
+        Err(Ending::Stopped(Stop::ReadFailed)) => {
+            say(err, b"pitch: read fault\n");
+            ExitStatus::ReadFault
+        }
+        Err(Ending::Stopped(Stop::Unprinted(PrintError::PutFailed))) => {
+            say(err, b"pitch: write fault\n");
+            ExitStatus::WriteFault
+        }
+        Err(Ending::Stopped(Stop::Unprinted(PrintError::OutOfMemory))) => {
+            say(err, b"pitch: out of memory\n");
+            ExitStatus::OutOfMemory
+        }
+        Err(Ending::OutOfMemory) => {
+            say(err, b"pitch: out of memory\n");
+            ExitStatus::OutOfMemory
+        }
+    }
+}
