@@ -14,5 +14,5 @@ mod stop;
 mod tests;
 mod units;
 
-pub use crate::program::pitch;
+pub use crate::program::{pitch, say_out_of_memory};
 pub use crate::status::ExitStatus;

@@ -1,7 +1,7 @@
 ghost use Rattle.std.specs.Prelude.{◌≡◌, ◌⊎◌, IfOk, Err, map, string_bytes};
 ghost use Rattle.pitch_io.specs.Causes.{HasCause, Rose};
 ghost use Rattle.pitch_io.specs.Putting.{Grows};
-ghost use Rattle.pitch_tool.specs.Program.{trouble_text, Closes, Runs};
+ghost use Rattle.pitch_tool.specs.Program.{memory_text, trouble_text, Closes, Runs};
 
 use crate::ends::put_all;
 use crate::follow::follow;
@@ -46,6 +46,13 @@ fn say<E: Sink>(err: &mut E, text: &[u8])
     ensures { Rose (E.faults err.old) (E.faults err.new) ⊎ Grows (E.written err.old) (E.written err.new) text.now }
 {
     let _said = put_all(err, text);
+}
+
+/// Says that memory ran out, unless the sink fails.
+pub fn say_out_of_memory<E: Sink>(err: &mut E)
+    ensures { Rose (E.faults err.old) (E.faults err.new) ⊎ Grows (E.written err.old) (E.written err.new) memory_text }
+{
+    say(err, b"pitch: out of memory\n");
 }
 
 // What is said of an input with trouble.
@@ -97,7 +104,7 @@ pub fn pitch<I: Source, O: Sink, E: Sink>(
                 ExitStatus::BadInput
             }
             Err(_) => {
-                say(err, b"pitch: out of memory\n");
+                say_out_of_memory(err);
                 ExitStatus::OutOfMemory
             }
         },
@@ -110,11 +117,11 @@ pub fn pitch<I: Source, O: Sink, E: Sink>(
             ExitStatus::WriteFault
         }
         Err(Ending::Stopped(Stop::Unprinted(PrintError::OutOfMemory))) => {
-            say(err, b"pitch: out of memory\n");
+            say_out_of_memory(err);
             ExitStatus::OutOfMemory
         }
         Err(Ending::OutOfMemory) => {
-            say(err, b"pitch: out of memory\n");
+            say_out_of_memory(err);
             ExitStatus::OutOfMemory
         }
     }
