@@ -7,13 +7,17 @@ use Rattle.std.specs.List.{flat_map, list_all}
 abbrev pub hex_digit : ℕ → ℕ
 hex_digit d = if nat_lt d 10 then 48 + d else 87 + d
 
+-- a byte by two hexadecimal digits
+abbrev pub hex_text : ℕ → List ℕ
+hex_text byte = hex_digit (byte / 16) ∷ hex_digit (byte % 16) ∷ []
+
 -- a printing byte other than the space and the backslash
 abbrev pub is_printing : ℕ → Bool
 is_printing b = nat_le 33 b && (nat_le b 126 && not (b == 92))
 
 -- a byte as it is shown: as itself, or as `\x` and two hexadecimal digits
 abbrev pub shown_byte : ℕ → List ℕ
-shown_byte b = if is_printing b then b ∷ [] else 92 ∷ 120 ∷ hex_digit (b / 16) ∷ hex_digit (b % 16) ∷ []
+shown_byte b = if is_printing b then b ∷ [] else 92 ∷ 120 ∷ hex_text b
 
 -- all of the bytes are spaces
 abbrev pub is_blank : List ℕ → Bool

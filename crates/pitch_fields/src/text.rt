@@ -1,6 +1,6 @@
 ghost use Rattle.std.specs.Prelude.{◌≡◌, ◌≤◌, ◌<◌, ◌+◌, ◌++◌, [], ◌∷◌, take, length, decimal};
 ghost use Rattle.pitch_fields.specs.Fields.{Begins};
-ghost use Rattle.pitch_fields.specs.Name.{hex_digit, name_shown, shown_byte};
+ghost use Rattle.pitch_fields.specs.Name.{hex_digit, hex_text, name_shown, shown_byte};
 ghost use Rattle.pitch_fields.specs.Price.{price_digits};
 
 use crate::digits::digits;
@@ -84,6 +84,17 @@ fn hex(digit: u8) -> u8
     }
 }
 
+/// Writes a byte by two hexadecimal digits, in lower case, from a place, and answers where it ends.
+#[inline]
+pub fn put_hex(out: &mut [u8], at: usize, byte: u8) -> usize
+    requires { at + 2 ≤ length out.old }
+    ensures end { result ≡ at + 2 }
+    ensures text { take result out.new ≡ take at out.old ++ hex_text byte }
+    ensures kept { length out.new ≡ length out.old }
+{
+    put_text(out, at, &[hex(byte / 16), hex(byte % 16)])
+}
+
 /// Writes a byte of a name from a place, as itself or as `\x` and two hexadecimal digits, and answers where
 /// it ends.
 #[inline]
@@ -96,7 +107,8 @@ pub fn put_shown_byte(out: &mut [u8], at: usize, byte: u8) -> usize
     if is_printing(byte) {
         return put_byte(out, at, byte);
     }
-    put_text(out, at, &[b'\\', b'x', hex(byte / 16), hex(byte % 16)])
+    let escaped = put_text(out, at, b"\\x");
+    put_hex(out, escaped, byte)
 }
 
 /// Writes a symbol or a participant of at most 8 bytes from a place, and answers where it ends.

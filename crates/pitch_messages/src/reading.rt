@@ -5,7 +5,7 @@ ghost use Rattle.pitch_messages.specs.Raw.{IsRaw, kind_of};
 ghost use Rattle.pitch_messages.specs.declared.message.ReadError.TheVariants.{BadSide};
 ghost use Rattle.pitch_messages.specs.Table.{bytes_at};
 ghost use Rattle.pitch_messages.specs.Writing.{written};
-ghost use Rattle.pitch_messages.specs.Reading.{needs_of, reads, row_of, time_row, add_long_row, add_short_row, executed_row, executed_at_row, reduce_long_row, reduce_short_row, modify_long_row, modify_short_row, delete_row, trade_long_row, trade_short_row, trade_break_row, end_of_session_row, add_expanded_row, trade_expanded_row, unit_clear_row};
+ghost use Rattle.pitch_messages.specs.Reading.{needs_of, extra_of, reads, row_of, time_row, add_long_row, add_short_row, executed_row, executed_at_row, reduce_long_row, reduce_short_row, modify_long_row, modify_short_row, delete_row, trade_long_row, trade_short_row, trade_break_row, end_of_session_row, add_expanded_row, trade_expanded_row, unit_clear_row};
 
 use crate::message::{Message, ReadError};
 use crate::raw::Raw;
@@ -327,6 +327,19 @@ fn needs_of(kind: u8) -> Option<u8>
         0x30 => Some(43),
         0x97 => Some(6),
         _ => None,
+    }
+}
+
+/// How many bytes a message of a known type has beyond those that its type needs, as one of a later edition of the feed
+/// may; 0 where its type is not known.
+#[inline]
+pub fn extra_bytes(raw: &[u8]) -> usize
+    requires { IsRaw raw.now }
+    ensures { result ≡ extra_of raw.now }
+{
+    match needs_of(raw[1]) {
+        Some(needs) => raw.len().saturating_sub(usize::from(needs)),
+        None => 0,
     }
 }
 

@@ -19,6 +19,7 @@ use Rattle.pitch_model.specs.declared.ask.Ask.TheVariants.{Gap, Spin}
 use Rattle.pitch_model.specs.Reach.{is_overflow, is_held, reach_of, held_count}
 use Rattle.pitch_model.specs.Status.{status_of}
 use Rattle.pitch_model.specs.Follow.{block_line, lines_after, follow_text}
+use Rattle.pitch_model.specs.Texts.{texts_after}
 use Rattle.pitch_fields.specs.declared.side.Side.TheVariants.{Buy, Sell}
 use Rattle.pitch_model.specs.declared.status.Status.TheVariants.{Silent, Current, Behind}
 
@@ -100,24 +101,24 @@ lines_of_a_stream : lines_after 4096 [] stream
     ++ codes "block 2 unit 1 first 2 count 1; current 2\n"
     ++ codes "block 3 unit 1 first 4 count 0; behind 2 of 3\n"
     ++ codes "block 4 unit 1 first 3 count 1; current 3\n"
-unfolding reach_of held_count lines_after block_line digits
+unfolding reach_of held_count texts_after block_line digits
 lines_of_a_stream = refl
 
 mark_of_an_overflow : lines_after 2 [] (block 3 (clock ∷ clock ∷ clock ∷ []) ∷ []) ≡ codes "block 1 unit 1 first 3 count 3 overflow; behind 0 of 5\n"
-unfolding reach_of held_count lines_after block_line digits
+unfolding reach_of held_count texts_after block_line digits
 mark_of_an_overflow = refl
 
 -- a heartbeat alone, and an unsequenced block
 line_of_a_heartbeat : lines_after 4096 [] (block 1 [] ∷ []) ≡ codes "block 1 unit 1 first 1 count 0; current 0\n"
-unfolding reach_of held_count lines_after block_line digits
+unfolding reach_of held_count texts_after block_line digits
 line_of_a_heartbeat = refl
 
 line_of_an_unsequenced_block : lines_after 4096 [] (block 0 [] ∷ []) ≡ codes "block 1 unit 1 first 0 count 0; silent\n"
-unfolding reach_of held_count lines_after block_line digits
+unfolding reach_of held_count texts_after block_line digits
 line_of_an_unsequenced_block = refl
 
 text_of_nothing : follow_text 4096 (λ unit. []) [] ≡ []
-unfolding lines_after
+unfolding texts_after
 text_of_nothing = refl
 
 -- ---- The text of a book

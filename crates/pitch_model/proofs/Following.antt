@@ -14,33 +14,34 @@ use Rattle.unit_packets.specs.Blocks.{Block}
 use Rattle.pitch_model.specs.History.{Entry, Raw}
 use Rattle.pitch_model.specs.Heard.{heard_block, heard_sequenced}
 use Rattle.pitch_model.specs.Honest.{Honest}
-use Rattle.pitch_model.specs.Follow.{unit_history, line_after, lines_after, with_number, units_of, AllHonest}
+use Rattle.pitch_model.specs.Follow.{unit_history, with_number, units_of, AllHonest}
+use Rattle.pitch_model.specs.Texts.{texts_after}
 use Rattle.pitch_model.proofs.Honesty.{honest_before}
 
--- ---- Lines
-pub lines_none : (H : ℕ) (before : List Block) → lines_after H before [] ≡ []
-unfolding lines_after
-lines_none H before = refl
+-- ---- Texts
+pub texts_none : (text : List Block → Block → List ℕ) (before : List Block) → texts_after text before [] ≡ []
+unfolding texts_after
+texts_none text before = refl
 
-pub lines_first : (H : ℕ) (before : List Block) (block : Block) (blocks : List Block) → lines_after H before (block ∷ blocks) ≡ line_after H before block ++ lines_after H (block ∷ before) blocks
-unfolding lines_after
-lines_first H before block blocks = refl
+pub texts_first : (text : List Block → Block → List ℕ) (before : List Block) (block : Block) (blocks : List Block) → texts_after text before (block ∷ blocks) ≡ text before block ++ texts_after text (block ∷ before) blocks
+unfolding texts_after
+texts_first text before block blocks = refl
 
 reverse_cons : (block : Block) (blocks before : List Block) → reverse (block ∷ blocks) ++ before ≡ reverse blocks ++ (block ∷ before)
 reverse_cons block blocks before = ap (λ (bs : List Block). bs ++ before) (reverse_onto blocks block []) ∙ append_assoc (reverse blocks) (block ∷ []) before
 
 -- a block more
-pub lines_more : (H : ℕ) (before blocks : List Block) (block : Block) → lines_after H before (blocks ++ block ∷ []) ≡ lines_after H before blocks ++ line_after H (reverse blocks ++ before) block
-unfolding lines_after
-lines_more H before [] block = append-nil (line_after H before block)
-lines_more H before (b ∷ blocks) block =
-    ap (λ (t : List ℕ). line_after H before b ++ t) (lines_more H (b ∷ before) blocks block)
-    ∙ sym (append_assoc (line_after H before b) (lines_after H (b ∷ before) blocks) (line_after H (reverse blocks ++ (b ∷ before)) block))
-    ∙ ap (λ (bs : List Block). (line_after H before b ++ lines_after H (b ∷ before) blocks) ++ line_after H bs block) (sym (reverse_cons b blocks before))
+pub texts_more : (text : List Block → Block → List ℕ) (before blocks : List Block) (block : Block) → texts_after text before (blocks ++ block ∷ []) ≡ texts_after text before blocks ++ text (reverse blocks ++ before) block
+unfolding texts_after
+texts_more text before [] block = append-nil (text before block)
+texts_more text before (b ∷ blocks) block =
+    ap (λ (t : List ℕ). text before b ++ t) (texts_more text (b ∷ before) blocks block)
+    ∙ sym (append_assoc (text before b) (texts_after text (b ∷ before) blocks) (text (reverse blocks ++ (b ∷ before)) block))
+    ∙ ap (λ (bs : List Block). (text before b ++ texts_after text (b ∷ before) blocks) ++ text bs block) (sym (reverse_cons b blocks before))
 
--- the lines from the start on, with a block more
-pub lines_grown : (H : ℕ) (blocks : List Block) (block : Block) → lines_after H [] (blocks ++ block ∷ []) ≡ lines_after H [] blocks ++ line_after H (reverse blocks) block
-lines_grown H blocks block = lines_more H [] blocks block ∙ ap (λ (bs : List Block). lines_after H [] blocks ++ line_after H bs block) (append-nil (reverse blocks))
+-- the texts from the start on, with a block more
+pub texts_grown : (text : List Block → Block → List ℕ) (blocks : List Block) (block : Block) → texts_after text [] (blocks ++ block ∷ []) ≡ texts_after text [] blocks ++ text (reverse blocks) block
+texts_grown text blocks block = texts_more text [] blocks block ∙ ap (λ (bs : List Block). texts_after text [] blocks ++ text bs block) (append-nil (reverse blocks))
 
 pub reverse_more : (blocks : List Block) (block : Block) → reverse (blocks ++ block ∷ []) ≡ block ∷ reverse blocks
 reverse_more blocks block = reverse-append blocks (block ∷ [])

@@ -16,3 +16,4 @@ pub mod Following
 pub mod Prices
 pub mod Images
 pub mod Widths
+mod Shown

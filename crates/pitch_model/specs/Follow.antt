@@ -11,6 +11,7 @@ use Rattle.pitch_model.specs.Status.{status_of}
 use Rattle.pitch_model.specs.Honest.{Honest}
 use Rattle.pitch_model.specs.StatusText.{status_text}
 use Rattle.pitch_model.specs.BookText.{book_text}
+use Rattle.pitch_model.specs.Texts.{texts_after}
 
 -- what a unit's client heard of the blocks
 abbrev pub unit_history : ℕ → List Block → List Entry
@@ -35,9 +36,8 @@ abbrev pub line_after : ℕ → List Block → Block → List ℕ
 line_after H before block = line_at H (length before + 1) block (unit_history block.unit before)
 
 -- a line for each block
-unfoldable pub lines_after : ℕ → List Block → List Block → List ℕ
-lines_after H before [] = []
-lines_after H before (block ∷ blocks) = line_after H before block ++ lines_after H (block ∷ before) blocks
+abbrev pub lines_after : ℕ → List Block → List Block → List ℕ
+lines_after H before blocks = texts_after (line_after H) before blocks
 
 -- a number put into its place among rising ones, where it does not stand there
 abbrev pub with_number : ℕ → List ℕ → List ℕ

@@ -13,3 +13,5 @@ pub mod Asking
 pub mod StatusText
 pub mod BookText
 pub mod Follow
+pub mod Show
+pub mod Texts

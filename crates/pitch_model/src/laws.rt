@@ -15,7 +15,8 @@ ghost use Rattle.pitch_model.specs.Levels.{IsBestOf, best, level, orders_on, pri
 ghost use Rattle.pitch_model.specs.History.{Entry, Raw, Message, SpinFinished, spin_of, images_at, image_finished, messages_at};
 ghost use Rattle.pitch_model.specs.Heard.{IsItem, IsItemOf, heard, heard_block, change_of, block_change};
 ghost use Rattle.pitch_model.specs.Honest.{Honest};
-ghost use Rattle.pitch_model.specs.Follow.{lines_after, line_after, units_of};
+ghost use Rattle.pitch_model.specs.Follow.{units_of};
+ghost use Rattle.pitch_model.specs.Texts.{texts_after};
 ghost use Rattle.pitch_model.specs.Reach.{Part, IsReach, is_anchor, is_seen, reach_of, held_count, part_of, reach, is_held};
 ghost use Rattle.pitch_model.specs.Status.{top_of};
 ghost use Rattle.pitch_model.specs.Steps.{SameReach, Leaves, Drains};
@@ -96,10 +97,10 @@ pub fn items_say_what_their_blocks_say()
     ensures fits { (block : Block) (item : Item) → StaysWithin block.sequence (length block.raws) → IsItemOf block item → IsItem item }
 {}
 
-/// The lines of a stream with a block more are the lines before it, and the line of that block.
-pub fn lines_grow_by_the_block()
-    ensures none { (H : ℕ) → lines_after H [] [] ≡ [] }
-    ensures more { (H : ℕ) (blocks : List Block) (block : Block) → lines_after H [] (blocks ++ block ∷ []) ≡ lines_after H [] blocks ++ line_after H (reverse blocks) block }
+/// The texts of a stream with a block more are the texts before it, and the text of that block.
+pub fn texts_grow_by_the_block()
+    ensures none { (text : List Block → Block → List ℕ) → texts_after text [] [] ≡ [] }
+    ensures more { (text : List Block → Block → List ℕ) (blocks : List Block) (block : Block) → texts_after text [] (blocks ++ block ∷ []) ≡ texts_after text [] blocks ++ text (reverse blocks) block }
 {}
 
 /// Each unit that a block names is listed once, by rising number, and no other unit is.

@@ -13,13 +13,14 @@ use Rattle.long_options.proofs.Program.{calls_taken, takes_calls}
 use Rattle.pitch_words.specs.Numbers.{IsGivenOr}
 use Rattle.pitch_words.specs.Forms.{HasForm, HasNumbers, IsForm, command_of, commands, pitch}
 use Rattle.pitch_words.specs.declared.form.Form.{Form}
-use Rattle.pitch_words.specs.declared.form.Form.TheVariants.{Follow}
+use Rattle.pitch_words.specs.declared.form.Form.TheVariants.{Follow, Show}
 
 -- ---- a line for each form
 
 -- a form's command is one of the program's
 command_is : (form : Form) → described commands (command_of form).0 ≡ Some (command_of form)
 command_is (Follow hold) = refl
+command_is Show = refl
 
 given_or_same : (default least most : ℕ) (o : Option Text) (m n : ℕ) → IsGivenOr default least most o m → IsGivenOr default least most o n → m ≡ n
 given_or_same default least most None m n a b = a ∙ sym b
@@ -28,6 +29,9 @@ given_or_same default least most (Some t) m n a b = sym a.2 ∙ b.2
 -- options have the numbers of one form of a command
 numbers_same : (options : Options) (a b : Form) → bytes_eq (command_of a).0 (command_of b).0 ≡ true → HasNumbers options a → HasNumbers options b → a ≡ b
 numbers_same options (Follow m) (Follow n) e a b = ap Follow (given_or_same 4096 1 65536 (options.value (codes "hold")) m n a b)
+numbers_same options (Follow m) Show e a b = cc
+numbers_same options Show (Follow n) e a b = cc
+numbers_same options Show Show e a b = refl
 
 -- ---- whatever the forms are
 

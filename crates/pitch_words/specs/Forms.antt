@@ -7,23 +7,29 @@ use Rattle.long_options.specs.Apps.{program}
 use Rattle.long_options.specs.Found.{Options, found_options, given_options}
 use Rattle.pitch_words.specs.Numbers.{IsGivenOr}
 use Rattle.pitch_words.specs.declared.form.Form.{Form}
-use Rattle.pitch_words.specs.declared.form.Form.TheVariants.{Follow}
+use Rattle.pitch_words.specs.declared.form.Form.TheVariants.{Follow, Show}
 
 -- `follow [--hold H]`
 abbrev pub follow : Described
 follow = (codes "follow", may_have (codes "hold") ∷ [])
 
+-- `show`
+abbrev pub show : Described
+show = (codes "show", [])
+
 -- the program's commands
 abbrev pub commands : List Described
-commands = follow ∷ []
+commands = follow ∷ show ∷ []
 
 -- the command that a form gives
 abbrev pub command_of : Form → Described
 command_of (Follow hold) = follow
+command_of Show = show
 
--- the options have the form's numbers: H is 1 to 65,536, and 4,096 where it isn't given
+-- the options have the form's numbers: H is 1 to 65,536, and 4,096 where it isn't given; `show` has none
 abbrev pub HasNumbers : Options → Form → Type 0
 HasNumbers options (Follow hold) = IsGivenOr 4096 1 65536 (options.value (codes "hold")) hold
+HasNumbers options Show = Unit {0}
 
 -- the words are this form: its command, then that command's options, with its numbers
 abbrev pub IsForm : List Text → Form → Type 0
@@ -32,6 +38,7 @@ IsForm words form = (given : List Given) × IsCall (command_of form) words given
 -- a form's numbers lie within their ranges
 abbrev pub IsInRange : Form → Type 0
 IsInRange (Follow hold) = (1 ≤ hold) × (hold ≤ 65536)
+IsInRange Show = Unit {0}
 
 -- the program as clap's builders make it
 abbrev pub pitch : App

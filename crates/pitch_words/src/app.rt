@@ -68,5 +68,6 @@ fn top<'a>(alloc: Global) -> Command<'a>
 pub(crate) fn app<'a>(alloc: Global) -> Result<Command<'a>, AllocError>
     ensures app { IfOk result (λ r. app_of r ≡ pitch) }
 {
-    top(alloc).subcommand(follow(alloc)?)
+    let with_follow = top(alloc).subcommand(follow(alloc)?)?;
+    with_follow.subcommand(command(alloc, "show"))
 }

@@ -8,4 +8,6 @@ pub enum Form {
         /// How many messages a unit's hold has room for: 1 to 65,536.
         hold: u32,
     },
+    /// `show`: read a block stream, and print its blocks and messages.
+    Show,
 }

@@ -64,6 +64,7 @@ fn form_in(name: &str, matches: &ArgMatches) -> Option<Form>
 {
     match name {
         "follow" => follow(matches),
+        "show" => Some(Form::Show),
         _ => None,
     }
 }

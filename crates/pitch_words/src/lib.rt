@@ -1,10 +1,11 @@
 //! The words of a command line, and the form that they are.
 //!
-//! A form is one thing that the program can be asked to do, with its numbers. Today there is one:
+//! A form is one thing that the program can be asked to do, with its numbers:
 //!
 //! | Words | Range | Default |
 //! |---|---|---|
 //! | `follow [--hold H]` | H is 1 to 65,536 | 4,096 |
+//! | `show` | | |
 //!
 //! The first word is a command's name. The options follow in any order, each at most once, as `--name value` or
 //! `--name=value`; those in brackets may be left out. A value is 1 to 20 digits and lies within its range, and zeros

@@ -26,6 +26,7 @@ fn words_and_their_forms(rt: HostRuntime) -> Result<(), Fail> {
         let got = form_of_line(rt.alloc(), line)?;
         assert!(rt; got == Some(Form::Follow { hold }), "words {line}");
     }
+    assert!(rt; form_of_line(rt.alloc(), "show")? == Some(Form::Show));
     let refused = [
         "follow --hold 0",
         "follow --hold 65537",
@@ -53,7 +54,11 @@ fn words_and_their_forms(rt: HostRuntime) -> Result<(), Fail> {
         "--hold 2 follow",
         "--",
         "-- follow",
-        "show",
+        "show x",
+        "show --hold 2",
+        "show --",
+        "show -h",
+        "show ",
         "fol",
         "FOLLOW",
         "help",

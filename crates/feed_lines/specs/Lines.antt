@@ -6,11 +6,6 @@ use Rattle.pitch_fields.specs.Price.{price_digits}
 use Rattle.pitch_messages.specs.declared.order.Order.{Order}
 use Rattle.pitch_model.specs.BookText.{second_text, hidden_text, participant_text}
 
--- the head of a block's line
-abbrev pub block_head : ℕ → ℕ → ℕ → ℕ → List ℕ
-block_head k unit first count =
-    codes "block " ++ decimal k ++ codes " unit " ++ decimal unit ++ codes " first " ++ decimal first ++ codes " count " ++ decimal count
-
 -- that the hold overflowed
 abbrev pub overflow_text : Bool → List ℕ
 overflow_text overflow = if overflow then codes " overflow" else []

@@ -1,7 +1,7 @@
 use Rattle.std.proofs.Common.{◌∙◌, ◌++◌, ap, sym, List, ℕ, take, append_assoc}
-use Rattle.pitch_tool.specs.Lines.{order_head, order_tail}
-use Rattle.pitch_tool.proofs.Pieces.{order_line_is}
-use Rattle.pitch_tool.proofs.lines.put_order_line.Goals as goal
+use Rattle.feed_lines.specs.Lines.{order_head, order_tail}
+use Rattle.feed_lines.proofs.Pieces.{order_line_is}
+use Rattle.feed_lines.proofs.lines.put_order_line.Goals as goal
 
 pub returns-clause-text : goal.returns-clause-text
 returns-clause-text c =

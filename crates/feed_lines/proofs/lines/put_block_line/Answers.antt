@@ -1,6 +1,6 @@
 use Rattle.std.proofs.Common.{◌∙◌, ◌++◌, ap, sym, List, ℕ, take}
-use Rattle.pitch_tool.proofs.Pieces.{five, block_line_is}
-use Rattle.pitch_tool.proofs.lines.put_block_line.Goals as goal
+use Rattle.feed_lines.proofs.Pieces.{five, block_line_is}
+use Rattle.feed_lines.proofs.lines.put_block_line.Goals as goal
 
 pub returns-clause-text : goal.returns-clause-text
 returns-clause-text c =

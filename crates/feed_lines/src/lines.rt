@@ -3,8 +3,10 @@
 ghost use Rattle.std.specs.Prelude.{◌≡◌, ◌≤◌, ◌+◌, ◌++◌, [], ◌∷◌, take, length};
 ghost use Rattle.pitch_model.specs.BookText.{hidden_text, participant_text, second_text, order_line};
 ghost use Rattle.pitch_model.specs.Follow.{block_line};
+ghost use Rattle.pitch_model.specs.Show.{shown_head};
 ghost use Rattle.pitch_model.specs.StatusText.{status_text};
-ghost use Rattle.pitch_tool.specs.Lines.{block_head, overflow_text, book_place, book_head, order_head, order_tail};
+ghost use Rattle.pitch_model.specs.Texts.{block_head};
+ghost use Rattle.feed_lines.specs.Lines.{overflow_text, book_place, book_head, order_head, order_tail};
 
 use pitch_fields::{put_byte, put_name, put_number, put_price, put_text};
 use pitch_messages::Order;
@@ -14,8 +16,8 @@ use unit_packets::Header;
 /// How many bytes a line has at most.
 pub const LINE: usize = 512;
 
-/// Writes the head of a block's line.
-pub fn put_block_head(out: &mut [u8], at: usize, number: u64, header: Header) -> usize
+// Writes how the line of a block begins.
+fn put_block_head(out: &mut [u8], at: usize, number: u64, header: Header) -> usize
     requires { at + 120 ≤ length out.old }
     ensures end { result ≤ at + 120 }
     ensures text { take result out.new ≡ take at out.old ++ block_head number header.unit header.sequence header.count }
@@ -31,8 +33,8 @@ pub fn put_block_head(out: &mut [u8], at: usize, number: u64, header: Header) ->
     put_number(out, count, u64::from(header.count))
 }
 
-/// Writes a status.
-pub fn put_status(out: &mut [u8], at: usize, status: Status) -> usize
+// Writes a status.
+fn put_status(out: &mut [u8], at: usize, status: Status) -> usize
     requires { at + 60 ≤ length out.old }
     ensures end { result ≤ at + 60 }
     ensures text { take result out.new ≡ take at out.old ++ status_text status }
@@ -86,6 +88,18 @@ pub fn put_block_line(
     let colon = put_text(out, marked, b"; ");
     let stated = put_status(out, colon, status);
     put_byte(out, stated, b'\n')
+}
+
+/// Writes the line of a block whose messages follow, each on a line of its own.
+#[tactic(auto, unfolding(pitch_model::specs::Show::shown_head))]
+pub fn put_shown_head(out: &mut [u8], at: usize, number: u64, header: Header) -> usize
+    requires { at + LINE ≤ length out.old }
+    ensures end { result ≤ at + LINE }
+    ensures text { take result out.new ≡ take at out.old ++ shown_head number header.unit header.sequence header.count }
+    ensures kept { length out.new ≡ length out.old }
+{
+    let head = put_block_head(out, at, number, header);
+    put_byte(out, head, b'\n')
 }
 
 // Writes a second, or a dash.

@@ -1,0 +1,8 @@
+use Rattle.std.proofs.Common.{◌++◌, ℕ, List, take, ap, sym, ◌∙◌, refl}
+use Rattle.pitch_model.specs.Show.{message_line}
+use Rattle.feed_lines.proofs.Pieces.{four}
+use Rattle.feed_lines.proofs.messages.put_message_line.Goals as goal
+
+pub returns-clause-text : goal.returns-clause-text
+unfolding message_line
+returns-clause-text c = four _ _ _ _ _ _ _ _ _ c.put_sequence-numbered.ensures.text c.put_byte-spaced.ensures.text c.put_said-said.ensures.text c.put_byte.ensures.text

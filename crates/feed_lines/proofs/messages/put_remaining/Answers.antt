@@ -1,0 +1,5 @@
+use Rattle.feed_lines.proofs.Pieces.{three}
+use Rattle.feed_lines.proofs.messages.put_remaining.Goals as goal
+
+pub returns-clause-text : goal.returns-clause-text
+returns-clause-text c = three _ _ _ _ _ _ _ c.put_count_field-left.ensures.text c.put_number_field-traded.ensures.text c.put_price_field.ensures.text

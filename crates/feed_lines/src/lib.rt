@@ -1,0 +1,13 @@
+//! The lines that the program prints, each written at a place of a lent buffer.
+//!
+//! Each function answers where its line ends, and its contract says which bytes stand there afterwards: those of the
+//! definition. Nothing here takes memory, and nothing can fail.
+#![tactic(auto)]
+
+mod fields;
+mod lines;
+mod messages;
+mod terms;
+
+pub use crate::lines::{LINE, put_block_line, put_book_head, put_order_line, put_shown_head};
+pub use crate::messages::{next_after, put_message_line};
