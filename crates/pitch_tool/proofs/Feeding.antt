@@ -14,44 +14,46 @@ use Rattle.unit_packets.specs.declared.header.BlockError.{BlockError}
 use Rattle.unit_packets.specs.declared.header.BlockFault.{BlockFault}
 use Rattle.unit_packets.proofs.Cuts.{appends, rest_short}
 use Rattle.unit_packets.proofs.Streams.{fault_open, fault_rest, fault_no_rest, fault_stays}
-use Rattle.pitch_model.specs.History.{Raw}
-use Rattle.pitch_model.specs.Follow.{lines_after, books_of, AllHonest}
-use Rattle.pitch_model.proofs.Following.{all_honest_before}
+use Rattle.pitch_model.specs.Texts.{texts_after}
+use Rattle.pitch_words.specs.declared.form.Form.{Form}
+use Rattle.pitch_words.specs.declared.form.Form.TheVariants.{Follow, Show}
 use Rattle.pitch_tool.specs.Feeding.{Fed}
-use Rattle.pitch_tool.specs.Hearing.{Hears, HearsAll}
-use Rattle.pitch_tool.specs.Inputs.{faulty, trouble_of, lines_for, ReadsAll, Follows, Has, Refuses, WritesSome}
+use Rattle.pitch_tool.specs.Inputs.{faulty, trouble_of, ReadsAll, WritesAll, Has, Refuses, WritesSome}
+use Rattle.pitch_tool.specs.Knowing.{form_of}
 use Rattle.pitch_tool.specs.Page.{Prints}
+use Rattle.pitch_tool.specs.Printing.{PrintsBlocks, PrintsAll}
 use Rattle.pitch_tool.specs.Putting.{PutsSome}
-use Rattle.pitch_tool.specs.Standing.{HasHeard}
-use Rattle.pitch_tool.specs.declared.following.Following.{Following}
+use Rattle.pitch_tool.specs.Standing.{HasPrinted}
+use Rattle.pitch_tool.specs.Texts.{block_text, texts_for, IsText, IsFrontOfText, IsEnd, IsFrontOfEnd}
+use Rattle.pitch_tool.specs.declared.printer.Printer.{Printer}
 use Rattle.pitch_tool.specs.declared.stop.Trouble.TheVariants.{Faulty, TooLong}
 use Rattle.pitch_tool.proofs.Printing.{prints_more, prints_whole, puts_after, puts_longer, puts_then}
-use Rattle.pitch_tool.proofs.Streaming.{lines_append}
+use Rattle.pitch_tool.proofs.Streaming.{texts_append}
 
 -- ---- Blocks of longer bytes
-honest_prefix : (Image : List Raw → ℕ → List Raw) (Vs : ℕ → List Raw) (xs ys : List Block) → AllHonest Image Vs (xs ++ ys) → AllHonest Image Vs ys
-honest_prefix Image Vs [] ys h = h
-honest_prefix Image Vs (x ∷ xs) ys h = honest_prefix Image Vs xs ys (all_honest_before Image Vs x (xs ++ ys) h)
-
 reverse_split : (bytes piece : List ℕ) → reverse (blocks_of (bytes ++ piece)) ≡ reverse (blocks_of (rest_of bytes ++ piece)) ++ reverse (blocks_of bytes)
 reverse_split bytes piece = ap reverse ((appends bytes piece).blocks) ∙ reverse-append (blocks_of bytes) (blocks_of (rest_of bytes ++ piece))
 
-pub lines_split : (H : ℕ) (bytes piece : List ℕ) → lines_for H (bytes ++ piece) ≡ lines_for H bytes ++ lines_after H (reverse (blocks_of bytes)) (blocks_of (rest_of bytes ++ piece))
-lines_split H bytes piece =
-    ap (lines_after H []) ((appends bytes piece).blocks) ∙ lines_append H [] (blocks_of bytes) (blocks_of (rest_of bytes ++ piece))
-    ∙ ap (λ (bs : List Block). lines_for H bytes ++ lines_after H bs (blocks_of (rest_of bytes ++ piece))) (append-nil (reverse (blocks_of bytes)))
+-- the texts of the blocks that a piece more completes
+abbrev more_texts : Form → List ℕ → List ℕ → List ℕ
+more_texts form bytes piece = texts_after (block_text form) (reverse (blocks_of bytes)) (blocks_of (rest_of bytes ++ piece))
 
--- some front of the lines of fewer bytes is some front of those of more
-pub puts_lines : (H : ℕ) (a b : Option (List ℕ)) (bytes piece : List ℕ) → PutsSome a b (lines_for H bytes) → PutsSome a b (lines_for H (bytes ++ piece))
-puts_lines H a b bytes piece p = subst (PutsSome a b) (sym (lines_split H bytes piece)) (puts_longer a b (lines_for H bytes) (lines_after H (reverse (blocks_of bytes)) (blocks_of (rest_of bytes ++ piece))) p)
+texts_split : (form : Form) (bytes piece : List ℕ) → texts_for form (bytes ++ piece) ≡ texts_for form bytes ++ more_texts form bytes piece
+texts_split form bytes piece =
+    ap (texts_after (block_text form) []) ((appends bytes piece).blocks) ∙ texts_append (block_text form) [] (blocks_of bytes) (blocks_of (rest_of bytes ++ piece))
+    ∙ ap (λ (bs : List Block). texts_for form bytes ++ texts_after (block_text form) bs (blocks_of (rest_of bytes ++ piece))) (append-nil (reverse (blocks_of bytes)))
+
+-- some front of the texts of fewer bytes is some front of those of more
+pub puts_texts : (form : Form) (a b : Option (List ℕ)) (bytes piece : List ℕ) → PutsSome a b (texts_for form bytes) → PutsSome a b (texts_for form (bytes ++ piece))
+puts_texts form a b bytes piece p = subst (PutsSome a b) (sym (texts_split form bytes piece)) (puts_longer a b (texts_for form bytes) (more_texts form bytes piece) p)
 
 -- a piece more
-pub fed_piece : (H : ℕ) (start u v : Option (List ℕ)) (f g : Following) (r s : Reading) (d e : BlockError) (bytes piece : List ℕ) → Fed H start u f r d bytes → length (bytes ++ piece) ≤ 1073741824
-    → HearsAll f g (loaded r piece) s u v e → Fed H start v g s e (bytes ++ piece)
-fed_piece H start u v f g r s d e bytes piece fed small all =
+pub fed_piece : (form : Form) (start u v : Option (List ℕ)) (f g : Printer) (r s : Reading) (d e : BlockError) (bytes piece : List ℕ) → Fed form start u f r d bytes → length (bytes ++ piece) ≤ 1073741824
+    → PrintsAll f g (loaded r piece) s u v e → Fed form start v g s e (bytes ++ piece)
+fed_piece form start u v f g r s d e bytes piece fed small all =
     let more : List Block = blocks_of (rest_of bytes ++ piece) in
     let same : r.rest ++ piece ≡ rest_of bytes ++ piece = ap (λ (l : List ℕ). l ++ piece) fed.rest in
-    let hears : Hears f g u v more = subst (λ (l : List ℕ). Hears f g u v (blocks_of l)) same all.hears in
+    let prints : PrintsBlocks f g u v more = subst (λ (l : List ℕ). PrintsBlocks f g u v (blocks_of l)) same all.prints in
     let cut = appends bytes piece in
     let left : s.rest ≡ rest_of (bytes ++ piece) = all.rest ∙ ap rest_of same ∙ sym cut.rest in
     let place = fed.place in
@@ -65,33 +67,28 @@ fed_piece H start u v f g r s d e bytes piece fed small all =
     let joined' = length-append bytes piece in
     let size = ap length fed.rest in
     let size' : length (rest_of (r.rest ++ piece)) ≡ length (rest_of (bytes ++ piece)) = ap length (ap rest_of same ∙ sym cut.rest) in
-    let heard = hears.heard (reverse (blocks_of bytes)) fed.heard in
     record {
-      ready = hears.ready;
-      limit_is = hears.limit_is ∙ fed.limit_is;
+      ready = prints.ready;
+      form_is = prints.form_is ∙ fed.form_is;
       rest = left;
       place = omega (arith, place, place', short, short', within, joined, joined', size, size', small);
       judged = all.judged;
-      heard = subst (HasHeard g) (sym (reverse_split bytes piece)) heard;
-      keep = λ Image Vs honest.
-          let whole = subst (AllHonest Image Vs) (reverse_split bytes piece) honest in
-          hears.keep Image Vs (reverse (blocks_of bytes)) fed.heard whole (fed.keep Image Vs (honest_prefix Image Vs (reverse more) (reverse (blocks_of bytes)) whole));
-      printed = subst (Prints start [] v g.page.text) (sym (lines_split H bytes piece))
-          (prints_more start u v [] f.page.text g.page.text (lines_for H bytes) (lines_after H (reverse (blocks_of bytes)) more) fed.printed
-          (subst (λ (n : ℕ). Prints u f.page.text v g.page.text (lines_after n (reverse (blocks_of bytes)) more)) fed.limit_is (hears.printed (reverse (blocks_of bytes)) fed.heard)));
+      known = subst (HasPrinted g) (sym (reverse_split bytes piece)) (prints.known (reverse (blocks_of bytes)) fed.known);
+      printed = subst (Prints start [] v g.page.text) (sym (texts_split form bytes piece))
+          (prints_more start u v [] f.page.text g.page.text (texts_for form bytes) (more_texts form bytes piece) fed.printed
+          (subst (λ (k : Form). Prints u f.page.text v g.page.text (texts_after (block_text k) (reverse (blocks_of bytes)) more)) fed.form_is (prints.printed (reverse (blocks_of bytes)) fed.known)));
       few = omega (arith, few, few', joined, joined');
     }
 
 -- a sink that fails at a piece
-pub fed_fails : (H : ℕ) (start u v : Option (List ℕ)) (f : Following) (r : Reading) (d : BlockError) (bytes piece : List ℕ) → Fed H start u f r d bytes
-    → ((before : List Block) → HasHeard f before → PutsSome u v (f.page.text ++ lines_after f.limit before (blocks_of (r.rest ++ piece)))) → PutsSome start v (lines_for H (bytes ++ piece))
-fed_fails H start u v f r d bytes piece fed fails =
-    let more : List ℕ = lines_after H (reverse (blocks_of bytes)) (blocks_of (rest_of bytes ++ piece)) in
-    let here = fails (reverse (blocks_of bytes)) fed.heard in
-    let there : PutsSome u v (f.page.text ++ more) =
-    subst (λ (l : List ℕ). PutsSome u v (f.page.text ++ lines_after H (reverse (blocks_of bytes)) (blocks_of (l ++ piece)))) fed.rest
-    (subst (λ (n : ℕ). PutsSome u v (f.page.text ++ lines_after n (reverse (blocks_of bytes)) (blocks_of (r.rest ++ piece)))) fed.limit_is here) in
-    subst (PutsSome start v) (sym (lines_split H bytes piece)) (puts_then start u v [] f.page.text (lines_for H bytes) more fed.printed there)
+pub fed_fails : (form : Form) (start u v : Option (List ℕ)) (f : Printer) (r : Reading) (d : BlockError) (bytes piece : List ℕ) → Fed form start u f r d bytes
+    → ((before : List Block) → HasPrinted f before → PutsSome u v (f.page.text ++ texts_after (block_text (form_of f.task)) before (blocks_of (r.rest ++ piece)))) → PutsSome start v (texts_for form (bytes ++ piece))
+fed_fails form start u v f r d bytes piece fed fails =
+    let here = fails (reverse (blocks_of bytes)) fed.known in
+    let there : PutsSome u v (f.page.text ++ more_texts form bytes piece) =
+    subst (λ (l : List ℕ). PutsSome u v (f.page.text ++ texts_after (block_text form) (reverse (blocks_of bytes)) (blocks_of (l ++ piece)))) fed.rest
+    (subst (λ (k : Form). PutsSome u v (f.page.text ++ texts_after (block_text k) (reverse (blocks_of bytes)) (blocks_of (r.rest ++ piece)))) fed.form_is here) in
+    subst (PutsSome start v) (sym (texts_split form bytes piece)) (puts_then start u v [] f.page.text (texts_for form bytes) (more_texts form bytes piece) fed.printed there)
 
 -- what was printed, once the page is written out
 pub prints_out : (a b c : Option (List ℕ)) (t x : List ℕ) → Prints a [] b t x → Grows b c t → Grows a c x
@@ -103,12 +100,12 @@ prints_out a b c t x p g = prints_whole a c [] x (subst (Prints a [] c []) (appe
 })))
 
 -- the page was written out
-pub fed_flushed : (H : ℕ) (start u v : Option (List ℕ)) (f : Following) (r : Reading) (d : BlockError) (bytes : List ℕ) → Fed H start u f r d bytes → Grows u v f.page.text → Grows start v (lines_for H bytes)
-fed_flushed H start u v f r d bytes fed grows = prints_out start u v f.page.text (lines_for H bytes) fed.printed grows
+pub fed_flushed : (form : Form) (start u v : Option (List ℕ)) (f : Printer) (r : Reading) (d : BlockError) (bytes : List ℕ) → Fed form start u f r d bytes → Grows u v f.page.text → Grows start v (texts_for form bytes)
+fed_flushed form start u v f r d bytes fed grows = prints_out start u v f.page.text (texts_for form bytes) fed.printed grows
 
 -- or failed to be
-pub fed_unflushed : (H : ℕ) (start u v : Option (List ℕ)) (f : Following) (r : Reading) (d : BlockError) (bytes : List ℕ) → Fed H start u f r d bytes → PutsSome u v f.page.text → PutsSome start v (lines_for H bytes)
-fed_unflushed H start u v f r d bytes fed puts = puts_after start u v [] f.page.text (lines_for H bytes) fed.printed puts
+pub fed_unflushed : (form : Form) (start u v : Option (List ℕ)) (f : Printer) (r : Reading) (d : BlockError) (bytes : List ℕ) → Fed form start u f r d bytes → PutsSome u v f.page.text → PutsSome start v (texts_for form bytes)
+fed_unflushed form start u v f r d bytes fed puts = puts_after start u v [] f.page.text (texts_for form bytes) fed.printed puts
 
 -- ---- How it ends
 pub take_front : (most : ℕ) (bytes more : List ℕ) → length bytes ≤ most → take most (bytes ++ more) ≡ bytes ++ take (most - length bytes) more
@@ -168,10 +165,10 @@ has_all (Some all) (Some left) (Some now) bytes read end =
     (whole, (whole, ap Some (end.1 ∙ end.0)))
 
 -- a block's fault that lasts, wherever the input ends
-pub refuses_lasting : (H most : ℕ) (first now start written : Option (List ℕ)) (bytes extra : List ℕ) (r : Reading) (e : BlockError) → length bytes ≤ most → Consumes first now (bytes ++ extra)
-    → r.rest ≡ rest_of bytes → r.place ≡ place_of bytes → judge r.rest ≡ Err e → is_truncated e ≡ false → Grows start written (lines_for H bytes)
-    → Refuses H most (Faulty (record { place = r.place; error = e })) first start written
-refuses_lasting H most first now start written bytes extra r e le read rest place judged lasts wrote =
+pub refuses_lasting : (form : Form) (most : ℕ) (first now start written : Option (List ℕ)) (bytes extra : List ℕ) (r : Reading) (e : BlockError) → length bytes ≤ most → Consumes first now (bytes ++ extra)
+    → r.rest ≡ rest_of bytes → r.place ≡ place_of bytes → judge r.rest ≡ Err e → is_truncated e ≡ false → Grows start written (texts_for form bytes)
+    → Refuses form most (Faulty (record { place = r.place; error = e })) first start written
+refuses_lasting form most first now start written bytes extra r e le read rest place judged lasts wrote =
     let more = has_more first now (bytes ++ extra) read in
     let here : judge (rest_of bytes) ≡ Err e = ap judge (sym rest) ∙ judged in
     let trouble = lasting_trouble most bytes (extra ++ more.0) e le here lasts in
@@ -180,12 +177,12 @@ refuses_lasting H most first now start written bytes extra r e le read rest plac
       bytes = bytes ++ (extra ++ more.0);
       has = subst (Has first) whole more.1;
       trouble_is = trouble.0 ∙ ap (λ (p : ℕ). Some (Faulty (record { place = p; error = e }))) (sym place);
-      wrote = subst (λ (bs : List Block). Grows start written (lines_after H [] bs)) (sym trouble.1) wrote;
+      wrote = subst (λ (bs : List Block). Grows start written (texts_after (block_text form) [] bs)) (sym trouble.1) wrote;
     }
 
-pub refuses_long : (H most : ℕ) (first now start written : Option (List ℕ)) (bytes extra : List ℕ) (r : Reading) (e : BlockError) → length bytes ≡ most → 0 < length extra → Consumes first now (bytes ++ extra)
-    → r.rest ≡ rest_of bytes → judge r.rest ≡ Err e → is_truncated e ≡ true → Grows start written (lines_for H bytes) → Refuses H most TooLong first start written
-refuses_long H most first now start written bytes extra r e size some read rest judged cut wrote =
+pub refuses_long : (form : Form) (most : ℕ) (first now start written : Option (List ℕ)) (bytes extra : List ℕ) (r : Reading) (e : BlockError) → length bytes ≡ most → 0 < length extra → Consumes first now (bytes ++ extra)
+    → r.rest ≡ rest_of bytes → judge r.rest ≡ Err e → is_truncated e ≡ true → Grows start written (texts_for form bytes) → Refuses form most TooLong first start written
+refuses_long form most first now start written bytes extra r e size some read rest judged cut wrote =
     let more = has_more first now (bytes ++ extra) read in
     let here : judge (rest_of bytes) ≡ Err e = ap judge (sym rest) ∙ judged in
     let trouble = long_trouble most bytes (extra ++ more.0) e size (omega (arith, length-append extra more.0, some)) here cut in
@@ -193,36 +190,54 @@ refuses_long H most first now start written bytes extra r e size some read rest 
       bytes = bytes ++ (extra ++ more.0);
       has = subst (Has first) (append_assoc bytes extra more.0) more.1;
       trouble_is = trouble.0;
-      wrote = subst (λ (bs : List ℕ). Grows start written (lines_for H bs)) (sym trouble.1) wrote;
+      wrote = subst (λ (bs : List ℕ). Grows start written (texts_for form bs)) (sym trouble.1) wrote;
     }
 
 -- the input ended inside a block
-pub refuses_rest : (H most : ℕ) (first before now start written : Option (List ℕ)) (bytes : List ℕ) (r : Reading) (e : BlockError) → length bytes ≤ most → Consumes first before bytes → IsAtEnd before × Keeps before now
-    → r.rest ≡ rest_of bytes → r.place ≡ place_of bytes → 0 < length r.rest → judge r.rest ≡ Err e → is_truncated e ≡ true → Grows start written (lines_for H bytes)
-    → Refuses H most (Faulty (record { place = r.place; error = e })) first start written
-refuses_rest H most first before now start written bytes r e le read end rest place some judged cut wrote =
+pub refuses_rest : (form : Form) (most : ℕ) (first before now start written : Option (List ℕ)) (bytes : List ℕ) (r : Reading) (e : BlockError) → length bytes ≤ most → Consumes first before bytes → IsAtEnd before × Keeps before now
+    → r.rest ≡ rest_of bytes → r.place ≡ place_of bytes → 0 < length r.rest → judge r.rest ≡ Err e → is_truncated e ≡ true → Grows start written (texts_for form bytes)
+    → Refuses form most (Faulty (record { place = r.place; error = e })) first start written
+refuses_rest form most first before now start written bytes r e le read end rest place some judged cut wrote =
     let here : judge (rest_of bytes) ≡ Err e = ap judge (sym rest) ∙ judged in
     record {
       bytes = bytes;
       has = (has_all first before now bytes read end).0;
       trouble_is = ended most bytes e le here cut ∙ ap (λ (o : Option BlockFault). faulty o None) (fault_rest bytes e (subst (λ (l : List ℕ). 0 < length l) rest some) here)
           ∙ ap (λ (p : ℕ). Some (Faulty (record { place = p; error = e }))) (sym place);
-      wrote = subst (λ (bs : List ℕ). Grows start written (lines_for H bs)) (sym (take_all most bytes le)) wrote;
+      wrote = subst (λ (bs : List ℕ). Grows start written (texts_for form bs)) (sym (take_all most bytes le)) wrote;
     }
 
+-- ---- The whole text
+is_text : (form : Form) (bytes end : List ℕ) → IsEnd form (reverse (blocks_of bytes)) end → IsText form bytes (texts_for form bytes ++ end)
+is_text (Follow hold) bytes end is = record { lines = (end, refl); honest = λ Image Vs honest. ap (λ (t : List ℕ). texts_for (Follow hold) bytes ++ t) (is Image Vs honest) }
+is_text Show bytes end is = ap (λ (t : List ℕ). texts_for Show bytes ++ t) is ∙ append-nil (texts_for Show bytes)
+
+is_front : (form : Form) (bytes end : List ℕ) → IsFrontOfEnd form (reverse (blocks_of bytes)) end → IsFrontOfText form bytes (texts_for form bytes ++ end)
+is_front (Follow hold) bytes end are = record {
+  lines = (end, refl);
+  honest = λ Image Vs honest.
+      let here = are Image Vs honest in
+      (here.0, ap (λ (t : List ℕ). texts_for (Follow hold) bytes ++ t) here.1 ∙ sym (append_assoc (texts_for (Follow hold) bytes) end here.0));
+}
+is_front Show bytes end is = ap (λ (t : List ℕ). texts_for Show bytes ++ t) is ∙ append-nil (texts_for Show bytes)
+
+-- the end is a front of itself
+pub whole_front : (form : Form) (before : List Block) (end : List ℕ) → IsEnd form before end → IsFrontOfEnd form before end
+whole_front (Follow hold) before end is = λ Image Vs honest. ([], sym (is Image Vs honest) ∙ sym (append-nil end))
+whole_front Show before end is = is
+
 -- all was written
-pub follows_whole : (H most : ℕ) (first before now start written : Option (List ℕ)) (bytes books : List ℕ) (r : Reading) (e : BlockError) → length bytes ≤ most → Consumes first before bytes → IsAtEnd before × Keeps before now
-    → r.rest ≡ rest_of bytes → length r.rest ≡ 0 → judge r.rest ≡ Err e → is_truncated e ≡ true
-    → ((Image : List Raw → ℕ → List Raw) (Vs : ℕ → List Raw) → AllHonest Image Vs (reverse (blocks_of bytes)) → books ≡ books_of H Vs (reverse (blocks_of bytes)))
-    → Grows start written (lines_for H bytes ++ books) → Follows H most first now start written
-follows_whole H most first before now start written bytes books r e le read end rest none judged cut are wrote =
+pub writes_whole : (form : Form) (most : ℕ) (first before now start written : Option (List ℕ)) (bytes end : List ℕ) (r : Reading) (e : BlockError) → length bytes ≤ most → Consumes first before bytes → IsAtEnd before × Keeps before now
+    → r.rest ≡ rest_of bytes → length r.rest ≡ 0 → judge r.rest ≡ Err e → is_truncated e ≡ true → IsEnd form (reverse (blocks_of bytes)) end
+    → Grows start written (texts_for form bytes ++ end) → WritesAll form most first now start written
+writes_whole form most first before now start written bytes end r e le read ends rest none judged cut is wrote =
     let here : judge (rest_of bytes) ≡ Err e = ap judge (sym rest) ∙ judged in
     record {
       bytes = bytes;
-      read = (has_all first before now bytes read end).1;
+      read = (has_all first before now bytes read ends).1;
       sound = ended most bytes e le here cut ∙ ap (λ (o : Option BlockFault). faulty o None) (fault_no_rest bytes (nothing (rest_of bytes) (ap length (sym rest) ∙ none)));
-      text = lines_for H bytes ++ books;
-      is_text = record { lines = (books, refl); honest = λ Image Vs honest. ap (λ (t : List ℕ). lines_for H bytes ++ t) (are Image Vs honest) };
+      text = texts_for form bytes ++ end;
+      is_text = is_text form bytes end is;
       wrote = wrote;
     }
   where
@@ -230,28 +245,19 @@ follows_whole H most first before now start written bytes books r e le read end 
     nothing [] z = refl
     nothing (x ∷ l) z = absurd (omega arith)
 
--- a front of the lines was written
-pub writes_lines : (H : ℕ) (first now start written : Option (List ℕ)) (bytes : List ℕ) → Consumes first now bytes → PutsSome start written (lines_for H bytes) → WritesSome H first now start written
-writes_lines H first now start written bytes read puts = record { bytes = bytes; read = read; text = lines_for H bytes; wrote = puts; is_front = inl refl }
+-- a front of the texts was written
+pub writes_texts : (form : Form) (first now start written : Option (List ℕ)) (bytes : List ℕ) → Consumes first now bytes → PutsSome start written (texts_for form bytes) → WritesSome form first now start written
+writes_texts form first now start written bytes read puts = record { bytes = bytes; read = read; text = texts_for form bytes; wrote = puts; is_front = inl refl }
 
 -- a front of the whole text was written
-pub writes_text : (H : ℕ) (first before now start written : Option (List ℕ)) (bytes books : List ℕ) → Consumes first now bytes → Consumes first before bytes → IsAtEnd before × Keeps before now
-    → ((Image : List Raw → ℕ → List Raw) (Vs : ℕ → List Raw) → AllHonest Image Vs (reverse (blocks_of bytes)) → (more : List ℕ) × (books_of H Vs (reverse (blocks_of bytes)) ≡ books ++ more))
-    → PutsSome start written (lines_for H bytes ++ books) → WritesSome H first now start written
-writes_text H first before now start written bytes books read so_far end are puts = record {
+pub writes_front : (form : Form) (first before now start written : Option (List ℕ)) (bytes end : List ℕ) → Consumes first now bytes → Consumes first before bytes → IsAtEnd before × Keeps before now
+    → IsFrontOfEnd form (reverse (blocks_of bytes)) end → PutsSome start written (texts_for form bytes ++ end) → WritesSome form first now start written
+writes_front form first before now start written bytes end read so_far ends are puts = record {
   bytes = bytes;
   read = read;
-  text = lines_for H bytes ++ books;
+  text = texts_for form bytes ++ end;
   wrote = puts;
-  is_front = inr (
-    (has_all first before now bytes so_far end).1,
-    record {
-      lines = (books, refl);
-      honest = λ Image Vs honest.
-          let here = are Image Vs honest in
-          (here.0, ap (λ (t : List ℕ). lines_for H bytes ++ t) here.1 ∙ sym (append_assoc (lines_for H bytes) books here.0));
-    },
-  );
+  is_front = inr ((has_all first before now bytes so_far ends).1, is_front form bytes end are);
 }
 
 -- what was kept of the bytes taken

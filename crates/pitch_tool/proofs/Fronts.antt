@@ -3,13 +3,15 @@ use Rattle.std.proofs.Common.{ℕ, inl, inr, List, length, take, drop, refl, sym
 use Rattle.std.proofs.lemmas.List.{take-append-drop}
 use Rattle.std.proofs.Math.Seq.{take-length}
 use Rattle.pitch_io.specs.Putting.{Grows}
-use Rattle.pitch_tool.specs.Inputs.{lines_for, ReadsAll, Has, Refuses, WritesSome, WritesFront}
+use Rattle.pitch_words.specs.declared.form.Form.{Form}
+use Rattle.pitch_tool.specs.Inputs.{ReadsAll, Has, Refuses, WritesSome, WritesFront}
+use Rattle.pitch_tool.specs.Texts.{texts_for}
 use Rattle.pitch_tool.specs.declared.stop.Trouble.{Trouble}
 use Rattle.pitch_tool.proofs.Feeding.{has_more}
 
-pub front_refused : (H most : ℕ) (trouble : Trouble) (left written written' : Option (List ℕ)) → Refuses H most trouble left written written' → WritesFront H left written written'
-front_refused H most trouble left written written' r =
-    let text : List ℕ = lines_for H (take most r.bytes) in
+pub front_refused : (form : Form) (most : ℕ) (trouble : Trouble) (left written written' : Option (List ℕ)) → Refuses form most trouble left written written' → WritesFront form left written written'
+front_refused form most trouble left written written' r =
+    let text : List ℕ = texts_for form (take most r.bytes) in
     record {
       bytes = take most r.bytes;
       has = (drop most r.bytes, subst (Has left) (sym (take-append-drop most r.bytes)) r.has);
@@ -18,8 +20,8 @@ front_refused H most trouble left written written' r =
       is_front = inl refl;
     }
 
-pub front_written : (H : ℕ) (left left' written written' : Option (List ℕ)) → WritesSome H left left' written written' → WritesFront H left written written'
-front_written H left left' written written' s = record {
+pub front_written : (form : Form) (left left' written written' : Option (List ℕ)) → WritesSome form left left' written written' → WritesFront form left written written'
+front_written form left left' written written' s = record {
   bytes = s.bytes;
   has = has_more left left' s.bytes s.read;
   text = s.text;

@@ -9,58 +9,61 @@ use Rattle.unit_packets.specs.Blocks.{Block}
 use Rattle.unit_packets.specs.Cutting.{blocks_of, is_truncated}
 use Rattle.unit_packets.specs.Reading.{Reading, loaded}
 use Rattle.unit_packets.specs.declared.header.BlockError.{BlockError}
-use Rattle.pitch_model.specs.Follow.{lines_after}
+use Rattle.pitch_model.specs.Texts.{texts_after}
+use Rattle.pitch_words.specs.declared.form.Form.{Form}
 use Rattle.pitch_tool.specs.Feeding.{Fed}
-use Rattle.pitch_tool.specs.Hearing.{HearsAll}
-use Rattle.pitch_tool.specs.Inputs.{lines_for, Refuses, WritesSome}
+use Rattle.pitch_tool.specs.Inputs.{Refuses, WritesSome}
+use Rattle.pitch_tool.specs.Knowing.{form_of}
+use Rattle.pitch_tool.specs.Printing.{PrintsAll}
 use Rattle.pitch_tool.specs.Putting.{PutsSome}
-use Rattle.pitch_tool.specs.Standing.{HasHeard}
-use Rattle.pitch_tool.specs.declared.following.Following.{Following}
+use Rattle.pitch_tool.specs.Standing.{HasPrinted}
+use Rattle.pitch_tool.specs.Texts.{block_text, texts_for}
+use Rattle.pitch_tool.specs.declared.printer.Printer.{Printer}
 use Rattle.pitch_tool.specs.declared.stop.Trouble.TheVariants.{Faulty, TooLong}
-use Rattle.pitch_tool.proofs.Feeding.{fed_piece, fed_fails, fed_flushed, fed_unflushed, puts_lines, refuses_lasting, refuses_long, writes_lines}
+use Rattle.pitch_tool.proofs.Feeding.{fed_piece, fed_fails, fed_flushed, fed_unflushed, puts_texts, refuses_lasting, refuses_long, writes_texts}
 
 whole : (k : ℕ) (bytes piece : List ℕ) → (bytes ++ take k piece) ++ drop k piece ≡ bytes ++ piece
 whole k bytes piece = append_assoc bytes (take k piece) (drop k piece) ∙ ap (λ (l : List ℕ). bytes ++ l) (take-append-drop k piece)
 
 -- what was kept
-pub fed_kept : (k : ℕ) (f g : Following) (start u v : Option (List ℕ)) (r s : Reading) (d e : BlockError) (bytes piece : List ℕ) → k + length bytes ≤ 1073741824 → Fed f.limit start u f r d bytes
-    → HearsAll f g (loaded r (take k piece)) s u v e → Fed f.limit start v g s e (bytes ++ take k piece)
+pub fed_kept : (k : ℕ) (f g : Printer) (start u v : Option (List ℕ)) (r s : Reading) (d e : BlockError) (bytes piece : List ℕ) → k + length bytes ≤ 1073741824 → Fed (form_of f.task) start u f r d bytes
+    → PrintsAll f g (loaded r (take k piece)) s u v e → Fed (form_of f.task) start v g s e (bytes ++ take k piece)
 fed_kept k f g start u v r s d e bytes piece small fed hears =
-    fed_piece f.limit start u v f g r s d e bytes (take k piece) fed (omega (arith, length-append bytes (take k piece), length-take k piece, small)) hears
+    fed_piece (form_of f.task) start u v f g r s d e bytes (take k piece) fed (omega (arith, length-append bytes (take k piece), length-take k piece, small)) hears
 
 -- the sink failed while the piece was heard
-pub kept_fails : (k : ℕ) (f : Following) (first now start u v : Option (List ℕ)) (r : Reading) (d : BlockError) (bytes piece : List ℕ) → Fed f.limit start u f r d bytes → Consumes first now (bytes ++ piece)
-    → ((before : List Block) → HasHeard f before → PutsSome u v (f.page.text ++ lines_after f.limit before (blocks_of (r.rest ++ take k piece)))) → WritesSome f.limit first now start v
+pub kept_fails : (k : ℕ) (f : Printer) (first now start u v : Option (List ℕ)) (r : Reading) (d : BlockError) (bytes piece : List ℕ) → Fed (form_of f.task) start u f r d bytes → Consumes first now (bytes ++ piece)
+    → ((before : List Block) → HasPrinted f before → PutsSome u v (f.page.text ++ texts_after (block_text (form_of f.task)) before (blocks_of (r.rest ++ take k piece)))) → WritesSome (form_of f.task) first now start v
 kept_fails k f first now start u v r d bytes piece fed read fails =
-    writes_lines f.limit first now start v (bytes ++ piece) read
-    (subst (λ (l : List ℕ). PutsSome start v (lines_for f.limit l)) (whole k bytes piece)
-    (puts_lines f.limit start v (bytes ++ take k piece) (drop k piece) (fed_fails f.limit start u v f r d bytes (take k piece) fed fails)))
+    writes_texts (form_of f.task) first now start v (bytes ++ piece) read
+    (subst (λ (l : List ℕ). PutsSome start v (texts_for (form_of f.task) l)) (whole k bytes piece)
+    (puts_texts (form_of f.task) start v (bytes ++ take k piece) (drop k piece) (fed_fails (form_of f.task) start u v f r d bytes (take k piece) fed fails)))
 
 -- or when the page was written out
-pub kept_unflushed : (k H : ℕ) (g : Following) (first now start v w : Option (List ℕ)) (s : Reading) (e : BlockError) (bytes piece : List ℕ) → Fed H start v g s e (bytes ++ take k piece)
-    → Consumes first now (bytes ++ piece) → PutsSome v w g.page.text → WritesSome H first now start w
-kept_unflushed k H g first now start v w s e bytes piece fed read puts =
-    writes_lines H first now start w (bytes ++ piece) read
-    (subst (λ (l : List ℕ). PutsSome start w (lines_for H l)) (whole k bytes piece)
-    (puts_lines H start w (bytes ++ take k piece) (drop k piece) (fed_unflushed H start v w g s e (bytes ++ take k piece) fed puts)))
+pub kept_unflushed : (k : ℕ) (form : Form) (g : Printer) (first now start v w : Option (List ℕ)) (s : Reading) (e : BlockError) (bytes piece : List ℕ) → Fed form start v g s e (bytes ++ take k piece)
+    → Consumes first now (bytes ++ piece) → PutsSome v w g.page.text → WritesSome form first now start w
+kept_unflushed k form g first now start v w s e bytes piece fed read puts =
+    writes_texts form first now start w (bytes ++ piece) read
+    (subst (λ (l : List ℕ). PutsSome start w (texts_for form l)) (whole k bytes piece)
+    (puts_texts form start w (bytes ++ take k piece) (drop k piece) (fed_unflushed form start v w g s e (bytes ++ take k piece) fed puts)))
 
 -- a fault in what was kept
-pub kept_faulty : (k H : ℕ) (g : Following) (first now start v w : Option (List ℕ)) (s : Reading) (e : BlockError) (bytes piece : List ℕ) → k + length bytes ≤ 1073741824
-    → Fed H start v g s e (bytes ++ take k piece) → Consumes first now (bytes ++ piece) → is_truncated e ≡ false → Grows v w g.page.text
-    → Refuses H 1073741824 (Faulty (record { place = s.place; error = e })) first start w
-kept_faulty k H g first now start v w s e bytes piece small fed read lasts wrote =
-    refuses_lasting H 1073741824 first now start w (bytes ++ take k piece) (drop k piece) s e (omega (arith, length-append bytes (take k piece), length-take k piece, small))
-    (subst (Consumes first now) (sym (whole k bytes piece)) read) fed.rest fed.place fed.judged lasts (fed_flushed H start v w g s e (bytes ++ take k piece) fed wrote)
+pub kept_faulty : (k : ℕ) (form : Form) (g : Printer) (first now start v w : Option (List ℕ)) (s : Reading) (e : BlockError) (bytes piece : List ℕ) → k + length bytes ≤ 1073741824
+    → Fed form start v g s e (bytes ++ take k piece) → Consumes first now (bytes ++ piece) → is_truncated e ≡ false → Grows v w g.page.text
+    → Refuses form 1073741824 (Faulty (record { place = s.place; error = e })) first start w
+kept_faulty k form g first now start v w s e bytes piece small fed read lasts wrote =
+    refuses_lasting form 1073741824 first now start w (bytes ++ take k piece) (drop k piece) s e (omega (arith, length-append bytes (take k piece), length-take k piece, small))
+    (subst (Consumes first now) (sym (whole k bytes piece)) read) fed.rest fed.place fed.judged lasts (fed_flushed form start v w g s e (bytes ++ take k piece) fed wrote)
 
 -- more than is kept
-pub kept_long : (H : ℕ) (g : Following) (first now start v w : Option (List ℕ)) (s : Reading) (e : BlockError) (bytes piece : List ℕ) (k : ℕ) → length bytes ≤ 1073741824 → k ≡ min (length piece) (1073741824 - length bytes)
-    → k < length piece → Fed H start v g s e (bytes ++ take k piece) → Consumes first now (bytes ++ piece) → is_truncated e ≡ true → Grows v w g.page.text → Refuses H 1073741824 TooLong first start w
-kept_long H g first now start v w s e bytes piece k small is more fed read cut wrote =
-    refuses_long H 1073741824 first now start w (bytes ++ take k piece) (drop k piece) s e (omega (arith, length-append bytes (take k piece), length-take k piece, small, is, more))
+pub kept_long : (form : Form) (g : Printer) (first now start v w : Option (List ℕ)) (s : Reading) (e : BlockError) (bytes piece : List ℕ) (k : ℕ) → length bytes ≤ 1073741824 → k ≡ min (length piece) (1073741824 - length bytes)
+    → k < length piece → Fed form start v g s e (bytes ++ take k piece) → Consumes first now (bytes ++ piece) → is_truncated e ≡ true → Grows v w g.page.text → Refuses form 1073741824 TooLong first start w
+kept_long form g first now start v w s e bytes piece k small is more fed read cut wrote =
+    refuses_long form 1073741824 first now start w (bytes ++ take k piece) (drop k piece) s e (omega (arith, length-append bytes (take k piece), length-take k piece, small, is, more))
     (omega (arith, length-drop k piece, more))
-    (subst (Consumes first now) (sym (whole k bytes piece)) read) fed.rest fed.judged cut (fed_flushed H start v w g s e (bytes ++ take k piece) fed wrote)
+    (subst (Consumes first now) (sym (whole k bytes piece)) read) fed.rest fed.judged cut (fed_flushed form start v w g s e (bytes ++ take k piece) fed wrote)
 
 -- all of it was kept
-pub kept_all : (k H : ℕ) (g : Following) (start v : Option (List ℕ)) (s : Reading) (e : BlockError) (bytes piece : List ℕ) → length piece ≤ k → Fed H start v g s e (bytes ++ take k piece) → Fed H start v g s e (bytes ++ piece)
-kept_all k H g start v s e bytes piece le fed =
-    subst (Fed H start v g s e) (sym (append-nil (bytes ++ take k piece)) ∙ ap (λ (l : List ℕ). (bytes ++ take k piece) ++ l) (sym (drop_of_length-le piece le)) ∙ whole k bytes piece) fed
+pub kept_all : (k : ℕ) (form : Form) (g : Printer) (start v : Option (List ℕ)) (s : Reading) (e : BlockError) (bytes piece : List ℕ) → length piece ≤ k → Fed form start v g s e (bytes ++ take k piece) → Fed form start v g s e (bytes ++ piece)
+kept_all k form g start v s e bytes piece le fed =
+    subst (Fed form start v g s e) (sym (append-nil (bytes ++ take k piece)) ∙ ap (λ (l : List ℕ). (bytes ++ take k piece) ++ l) (sym (drop_of_length-le piece le)) ∙ whole k bytes piece) fed

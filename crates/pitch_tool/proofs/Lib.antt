@@ -6,8 +6,8 @@ pub mod Fronts
 pub mod Hearing
 pub mod Keeping
 pub mod Naming
-pub mod Pieces
 pub mod Printing
 pub mod Streaming
 pub mod Taking
 pub mod Uniting
+pub mod Showing

@@ -10,82 +10,70 @@ use Rattle.unit_packets.specs.Reading.{Reading, passed}
 use Rattle.unit_packets.specs.declared.header.BlockError.{BlockError}
 use Rattle.unit_packets.proofs.Streams.{leads}
 use Rattle.unit_packets.proofs.Cuts.{none_of}
-use Rattle.pitch_model.specs.History.{Raw}
-use Rattle.pitch_model.specs.Follow.{lines_after, line_after, AllHonest}
-use Rattle.pitch_model.proofs.Following.{lines_none, lines_first, lines_more, all_honest_before, reverse_more}
-use Rattle.pitch_tool.specs.Hearing.{Hears, HearsAll}
+use Rattle.pitch_words.specs.declared.form.Form.{Form}
+use Rattle.pitch_model.specs.Texts.{texts_after}
+use Rattle.pitch_model.proofs.Following.{texts_none, texts_first, texts_more, reverse_more}
+use Rattle.pitch_tool.specs.Knowing.{form_of}
+use Rattle.pitch_tool.specs.Printing.{PrintsBlock, PrintsBlocks, PrintsAll}
 use Rattle.pitch_tool.specs.Page.{Prints}
 use Rattle.pitch_tool.specs.Putting.{PutsSome}
-use Rattle.pitch_tool.specs.Standing.{HasHeard, IsReady}
-use Rattle.pitch_tool.specs.Stands.{AllKeep}
-use Rattle.pitch_tool.specs.declared.following.Following.{Following}
-use Rattle.pitch_tool.proofs.Printing.{prints_none, prints_more, puts_after, puts_longer}
+use Rattle.pitch_tool.specs.Standing.{HasPrinted, IsReady}
+use Rattle.pitch_tool.specs.Texts.{block_text}
+use Rattle.pitch_tool.specs.declared.printer.Printer.{Printer}
+use Rattle.pitch_tool.proofs.Printing.{prints_none, prints_more, puts_longer, puts_then}
 
--- ---- Lines and blocks
+-- ---- Texts and blocks
 reverse_then : (xs : List Block) (b : Block) (before : List Block) → reverse (xs ++ b ∷ []) ++ before ≡ b ∷ (reverse xs ++ before)
 reverse_then xs b before = ap (λ (bs : List Block). bs ++ before) (reverse_more xs b)
 
-pub lines_append : (H : ℕ) (before xs ys : List Block) → lines_after H before (xs ++ ys) ≡ lines_after H before xs ++ lines_after H (reverse xs ++ before) ys
-lines_append H before xs [] =
-    ap (lines_after H before) (append-nil xs) ∙ sym (append-nil (lines_after H before xs))
-    ∙ ap (λ (t : List ℕ). lines_after H before xs ++ t) (sym (lines_none H (reverse xs ++ before)))
-lines_append H before xs (b ∷ ys) =
-    ap (lines_after H before) (sym (append_assoc xs (b ∷ []) ys))
-    ∙ lines_append H before (xs ++ b ∷ []) ys
-    ∙ ap (λ (t : List ℕ). t ++ lines_after H (reverse (xs ++ b ∷ []) ++ before) ys) (lines_more H before xs b)
-    ∙ ap (λ (bs : List Block). (lines_after H before xs ++ line_after H (reverse xs ++ before) b) ++ lines_after H bs ys) (reverse_then xs b before)
-    ∙ append_assoc (lines_after H before xs) (line_after H (reverse xs ++ before) b) (lines_after H (b ∷ (reverse xs ++ before)) ys)
-    ∙ ap (λ (t : List ℕ). lines_after H before xs ++ t) (sym (lines_first H (reverse xs ++ before) b ys))
+pub texts_append : (text : List Block → Block → List ℕ) (before xs ys : List Block) → texts_after text before (xs ++ ys) ≡ texts_after text before xs ++ texts_after text (reverse xs ++ before) ys
+texts_append text before xs [] =
+    ap (texts_after text before) (append-nil xs) ∙ sym (append-nil (texts_after text before xs))
+    ∙ ap (λ (t : List ℕ). texts_after text before xs ++ t) (sym (texts_none text (reverse xs ++ before)))
+texts_append text before xs (b ∷ ys) =
+    ap (texts_after text before) (sym (append_assoc xs (b ∷ []) ys))
+    ∙ texts_append text before (xs ++ b ∷ []) ys
+    ∙ ap (λ (t : List ℕ). t ++ texts_after text (reverse (xs ++ b ∷ []) ++ before) ys) (texts_more text before xs b)
+    ∙ ap (λ (bs : List Block). (texts_after text before xs ++ text (reverse xs ++ before) b) ++ texts_after text bs ys) (reverse_then xs b before)
+    ∙ append_assoc (texts_after text before xs) (text (reverse xs ++ before) b) (texts_after text (b ∷ (reverse xs ++ before)) ys)
+    ∙ ap (λ (t : List ℕ). texts_after text before xs ++ t) (sym (texts_first text (reverse xs ++ before) b ys))
 
 -- ---- A block more
-pub hears_none : (f : Following) (written : Option (List ℕ)) → IsReady f → Hears f f written written []
-hears_none f written ready = record {
+pub prints_no_block : (p : Printer) (written : Option (List ℕ)) → IsReady p → PrintsBlocks p p written written []
+prints_no_block p written ready = record {
   ready = ready;
-  limit_is = refl;
-  heard = λ before h. h;
-  printed = λ before h. subst (λ (t : List ℕ). Prints written f.page.text written f.page.text t) (sym (lines_none f.limit before)) (prints_none written f.page.text);
-  keep = λ Image Vs before h honest keeps. keeps;
+  form_is = refl;
+  known = λ before h. h;
+  printed = λ before h. subst (λ (t : List ℕ). Prints written p.page.text written p.page.text t) (sym (texts_none (block_text (form_of p.task)) before)) (prints_none written p.page.text);
 }
 
--- a block that is heard after others
-pub record HearsBlock (f f' : Following) (written written' : Option (List ℕ)) (block : Block) : Type 0 where
-  pub ready : IsReady f'
-  pub limit_is : f'.limit ≡ f.limit
-  pub heard : (before : List Block) → HasHeard f before → HasHeard f' (block ∷ before)
-  pub printed : (before : List Block) → HasHeard f before → Prints written f.page.text written' f'.page.text (line_after f.limit before block)
-  pub keep : (Image : List Raw → ℕ → List Raw) (Vs : ℕ → List Raw) (before : List Block) → HasHeard f before
-      → AllHonest Image Vs (block ∷ before) → AllKeep Vs f.clients.items → AllKeep Vs f'.clients.items
-
-pub hears_more : (f g h : Following) (u v w : Option (List ℕ)) (blocks : List Block) (block : Block) → Hears f g u v blocks → HearsBlock g h v w block → Hears f h u w (blocks ++ block ∷ [])
-hears_more f g h u v w blocks block some more = record {
+pub prints_block_more : (f g h : Printer) (u v w : Option (List ℕ)) (blocks : List Block) (block : Block) → PrintsBlocks f g u v blocks → PrintsBlock g h v w block → PrintsBlocks f h u w (blocks ++ block ∷ [])
+prints_block_more f g h u v w blocks block some more = record {
   ready = more.ready;
-  limit_is = more.limit_is ∙ some.limit_is;
-  heard = λ before stands. subst (HasHeard h) (sym (reverse_then blocks block before)) (more.heard (reverse blocks ++ before) (some.heard before stands));
+  form_is = more.form_is ∙ some.form_is;
+  known = λ before stands. subst (HasPrinted h) (sym (reverse_then blocks block before)) (more.known (reverse blocks ++ before) (some.known before stands));
   printed = λ before stands.
-      let line = subst (λ (H : ℕ). Prints v g.page.text w h.page.text (line_after H (reverse blocks ++ before) block)) some.limit_is (more.printed (reverse blocks ++ before) (some.heard before stands)) in
-      subst (λ (t : List ℕ). Prints u f.page.text w h.page.text t) (sym (lines_more f.limit before blocks block))
-      (prints_more u v w f.page.text g.page.text h.page.text (lines_after f.limit before blocks) (line_after f.limit (reverse blocks ++ before) block) (some.printed before stands) line);
-  keep = λ Image Vs before stands honest keeps.
-      let both = subst (AllHonest Image Vs) (reverse_then blocks block before) honest in
-      more.keep Image Vs (reverse blocks ++ before) (some.heard before stands) both
-      (some.keep Image Vs before stands (all_honest_before Image Vs block (reverse blocks ++ before) both) keeps);
+      let text = block_text (form_of f.task) in
+      let last = subst (λ (form : Form). Prints v g.page.text w h.page.text (block_text form (reverse blocks ++ before) block)) some.form_is (more.printed (reverse blocks ++ before) (some.known before stands)) in
+      subst (λ (t : List ℕ). Prints u f.page.text w h.page.text t) (sym (texts_more text before blocks block))
+      (prints_more u v w f.page.text g.page.text h.page.text (texts_after text before blocks) (text (reverse blocks ++ before) block) (some.printed before stands) last);
 }
 
 -- ---- A reader's blocks
--- some blocks of what was loaded were heard, and the others follow in what is left
-pub record Hearing (f f' : Following) (r r' : Reading) (written written' : Option (List ℕ)) : Type 0 where
+-- some blocks of what was loaded were printed, and the others follow in what is left
+pub record Taking (f f' : Printer) (r r' : Reading) (written written' : Option (List ℕ)) : Type 0 where
   pub done : List Block
-  pub hears : Hears f f' written written' done
+  pub prints : PrintsBlocks f f' written written' done
   pub blocks : blocks_of r.rest ≡ done ++ blocks_of r'.rest
   pub rest : rest_of r.rest ≡ rest_of r'.rest
   pub short : length r'.rest ≤ length r.rest
   pub place : r'.place ≡ counted (r.place + (length r.rest - length r'.rest))
   pub few : 8 * f'.number + length r'.rest ≤ 8 * f.number + length r.rest
 
-pub hearing_start : (f : Following) (r : Reading) (written : Option (List ℕ)) → IsReady f → r.place ≤ 2 ^ 64 - 1 → Hearing f f r r written written
-hearing_start f r written ready fits = record {
+pub taking_start : (f : Printer) (r : Reading) (written : Option (List ℕ)) → IsReady f → r.place ≤ 2 ^ 64 - 1 → Taking f f r r written written
+taking_start f r written ready fits = record {
   done = [];
-  hears = hears_none f written ready;
+  prints = prints_no_block f written ready;
   blocks = refl;
   rest = refl;
   short = omega arith;
@@ -93,9 +81,9 @@ hearing_start f r written ready fits = record {
   few = omega arith;
 }
 
-pub hearing_more : (f g h : Following) (r s t : Reading) (u v w : Option (List ℕ)) (block : Block) (n : ℕ) → Hearing f g r s u v → StandsAtFront s.rest block → n ≡ (header_for block).length → t ≡ passed s n
-    → HearsBlock g h v w block → h.number ≡ g.number + 1 → Hearing f h r t u w
-hearing_more f g h r s t u v w block n so_far stands size pass more number =
+pub taking_more : (f g h : Printer) (r s t : Reading) (u v w : Option (List ℕ)) (block : Block) (n : ℕ) → Taking f g r s u v → StandsAtFront s.rest block → n ≡ (header_for block).length → t ≡ passed s n
+    → PrintsBlock g h v w block → h.number ≡ g.number + 1 → Taking f h r t u w
+taking_more f g h r s t u v w block n so_far stands size pass more number =
     let l = leads s.rest block stands in
     let short = so_far.short in
     let place = so_far.place in
@@ -108,7 +96,7 @@ hearing_more f g h r s t u v w block n so_far stands size pass more number =
     let same : drop n s.rest ≡ drop (header_for block).length s.rest = ap (λ (k : ℕ). drop k s.rest) size in
     record {
       done = so_far.done ++ block ∷ [];
-      hears = hears_more f g h u v w so_far.done block so_far.hears more;
+      prints = prints_block_more f g h u v w so_far.done block so_far.prints more;
       blocks = so_far.blocks ∙ ap (λ (bs : List Block). so_far.done ++ bs) (l.blocks ∙ ap (λ (q : List ℕ). block ∷ blocks_of q) (sym (left ∙ same)))
           ∙ sym (append_assoc so_far.done (block ∷ []) (blocks_of t.rest));
       rest = so_far.rest ∙ l.rest_is ∙ ap rest_of (sym (left ∙ same));
@@ -117,26 +105,35 @@ hearing_more f g h r s t u v w block n so_far stands size pass more number =
       few = omega (arith, few, number, length_left, header, size, fits);
     }
 
-pub hearing_end : (f g : Following) (r s : Reading) (u v : Option (List ℕ)) (error : BlockError) → Hearing f g r s u v → judge s.rest ≡ Err error → HearsAll f g r s u v error
-hearing_end f g r s u v error so_far judged =
+pub taking_end : (f g : Printer) (r s : Reading) (u v : Option (List ℕ)) (error : BlockError) → Taking f g r s u v → judge s.rest ≡ Err error → PrintsAll f g r s u v error
+taking_end f g r s u v error so_far judged =
     let none = none_of s.rest error judged in
     let all : blocks_of r.rest ≡ so_far.done = so_far.blocks ∙ ap (λ (bs : List Block). so_far.done ++ bs) none.blocks ∙ append-nil so_far.done in
     let left : rest_of r.rest ≡ s.rest = so_far.rest ∙ none.rest in
     record {
-      hears = subst (Hears f g u v) (sym all) so_far.hears;
+      prints = subst (PrintsBlocks f g u v) (sym all) so_far.prints;
       judged = judged;
       rest = sym left;
       place = so_far.place ∙ ap (λ (q : List ℕ). counted (r.place + (length r.rest - length q))) (sym left);
       few = so_far.few;
     }
 
--- a sink that fails at a block has some front of the lines
-pub hearing_fails : (f g : Following) (r s : Reading) (u v w : Option (List ℕ)) (before : List Block) → Hearing f g r s u v → HasHeard f before → PutsSome v w g.page.text
-    → PutsSome u w (f.page.text ++ lines_after f.limit before (blocks_of r.rest))
-hearing_fails f g r s u v w before so_far stands fails =
-    let done = lines_after f.limit before so_far.done in
-    let more = lines_after f.limit (reverse so_far.done ++ before) (blocks_of s.rest) in
-    let all : lines_after f.limit before (blocks_of r.rest) ≡ done ++ more =
-    ap (lines_after f.limit before) so_far.blocks ∙ lines_append f.limit before so_far.done (blocks_of s.rest) in
-    let some = puts_after u v w f.page.text g.page.text done (so_far.hears.printed before stands) fails in
-    subst (PutsSome u w) (append_assoc f.page.text done more ∙ ap (λ (t : List ℕ). f.page.text ++ t) (sym all)) (puts_longer u w (f.page.text ++ done) more some)
+-- a sink that fails at a block has some front of the texts
+pub taking_fails : (f g : Printer) (r s : Reading) (u v w : Option (List ℕ)) (before : List Block) (block : Block) → Taking f g r s u v → HasPrinted f before → StandsAtFront s.rest block
+    → ((earlier : List Block) → HasPrinted g earlier → PutsSome v w (g.page.text ++ block_text (form_of g.task) earlier block))
+    → PutsSome u w (f.page.text ++ texts_after (block_text (form_of f.task)) before (blocks_of r.rest))
+taking_fails f g r s u v w before block so_far known stands fails =
+    let text = block_text (form_of f.task) in
+    let l = leads s.rest block stands in
+    let earlier : List Block = reverse so_far.done ++ before in
+    let left : List ℕ = drop (header_for block).length s.rest in
+    let done = texts_after text before so_far.done in
+    let more = texts_after text (block ∷ earlier) (blocks_of left) in
+    let all : texts_after text before (blocks_of r.rest) ≡ done ++ (text earlier block ++ more) =
+    ap (texts_after text before) so_far.blocks ∙ texts_append text before so_far.done (blocks_of s.rest)
+    ∙ ap (λ (bs : List Block). done ++ texts_after text earlier bs) l.blocks
+    ∙ ap (λ (t : List ℕ). done ++ t) (texts_first text earlier block (blocks_of left)) in
+    let here : PutsSome v w (g.page.text ++ text earlier block) = subst (λ (form : Form). PutsSome v w (g.page.text ++ block_text form earlier block)) so_far.prints.form_is (fails earlier (so_far.prints.known before known)) in
+    let some = puts_then u v w f.page.text g.page.text done (text earlier block) (so_far.prints.printed before known) here in
+    let longer = puts_longer u w (f.page.text ++ (done ++ text earlier block)) more some in
+    subst (PutsSome u w) (append_assoc f.page.text (done ++ text earlier block) more ∙ ap (λ (t : List ℕ). f.page.text ++ t) (append_assoc done (text earlier block) more ∙ sym all)) longer

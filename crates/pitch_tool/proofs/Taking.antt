@@ -11,28 +11,29 @@ use Rattle.unit_packets.specs.Reading.{Reading}
 use Rattle.unit_packets.specs.declared.header.BlockError.{BlockError}
 use Rattle.unit_packets.specs.declared.header.BlockError.TheVariants.{Truncated}
 use Rattle.unit_packets.proofs.Cuts.{none_of}
-use Rattle.pitch_model.specs.History.{Raw}
-use Rattle.pitch_model.specs.Follow.{lines_after}
-use Rattle.pitch_model.proofs.Following.{lines_none}
+use Rattle.pitch_model.specs.Texts.{texts_after}
+use Rattle.pitch_model.proofs.Following.{texts_none}
+use Rattle.pitch_words.specs.declared.form.Form.{Form}
 use Rattle.pitch_tool.specs.Feeding.{Fed}
-use Rattle.pitch_tool.specs.Inputs.{lines_for, WritesSome, Ends}
+use Rattle.pitch_tool.specs.Inputs.{WritesSome, Ends}
+use Rattle.pitch_tool.specs.Knowing.{form_of}
 use Rattle.pitch_tool.specs.Page.{Prints}
-use Rattle.pitch_tool.specs.Standing.{HasHeard, IsReady}
-use Rattle.pitch_tool.specs.Stands.{AllKeep}
-use Rattle.pitch_tool.specs.declared.following.Following.{Following}
+use Rattle.pitch_tool.specs.Standing.{HasPrinted, IsReady}
+use Rattle.pitch_tool.specs.Texts.{block_text, texts_for}
+use Rattle.pitch_tool.specs.declared.printer.Printer.{Printer}
 use Rattle.pitch_tool.specs.declared.stop.PrintError.{PrintError}
 use Rattle.pitch_tool.specs.declared.stop.Stop.{Stop}
 use Rattle.pitch_tool.specs.declared.stop.Stop.TheVariants.{Unprinted}
-use Rattle.pitch_tool.proofs.Feeding.{take_front, consumes_more, consumes_none, writes_lines}
+use Rattle.pitch_tool.proofs.Feeding.{take_front, consumes_more, consumes_none, writes_texts}
 use Rattle.pitch_tool.proofs.Printing.{prints_none}
 
 -- the bytes that were taken so far were fed
-pub record Taken (H : ℕ) (f : Following) (r : Reading) (e : BlockError) (count : ℕ) (first left start written : Option (List ℕ)) : Type 0 where
+pub record Taken (form : Form) (f : Printer) (r : Reading) (e : BlockError) (count : ℕ) (first left start written : Option (List ℕ)) : Type 0 where
   pub bytes : List ℕ
   pub size : length bytes ≡ count
   pub within : length bytes ≤ 1073741824
   pub read : Consumes first left bytes
-  pub fed : Fed H start written f r e bytes
+  pub fed : Fed form start written f r e bytes
   pub unended : is_truncated e ≡ true
 
 judge_nothing : judge [] ≡ Err (Truncated 0 8)
@@ -45,14 +46,14 @@ no_blocks = (none_of [] (Truncated 0 8) judge_nothing).blocks
 no_rest : rest_of [] ≡ []
 no_rest = (none_of [] (Truncated 0 8) judge_nothing).rest
 
-no_lines : (H : ℕ) → lines_for H [] ≡ []
-no_lines H = ap (lines_after H []) no_blocks ∙ lines_none H []
+no_texts : (form : Form) → texts_for form [] ≡ []
+no_texts form = ap (texts_after (block_text form) []) no_blocks ∙ texts_none (block_text form) []
 
 -- nothing was taken yet
-pub taken_none : (H : ℕ) (f : Following) (r : Reading) (first start : Option (List ℕ)) → IsReady f → f.limit ≡ H → HasHeard f [] → ((Vs : ℕ → List Raw) → AllKeep Vs f.clients.items) → f.page.text ≡ []
-    → r ≡ record { rest = []; place = 0 } → Taken H f r (Truncated 0 8) 0 first first start start
-taken_none H f r first start ready limit heard keep page reader =
-    let number = heard.number_is in
+pub taken_none : (form : Form) (f : Printer) (r : Reading) (first start : Option (List ℕ)) → IsReady f → form_of f.task ≡ form → HasPrinted f [] → f.page.text ≡ []
+    → r ≡ record { rest = []; place = 0 } → Taken form f r (Truncated 0 8) 0 first first start start
+taken_none form f r first start ready is known page reader =
+    let number = known.number_is in
     let rest = ap (λ (s : Reading). s.rest) reader in
     record {
       bytes = [];
@@ -61,22 +62,21 @@ taken_none H f r first start ready limit heard keep page reader =
       read = consumes_none first;
       fed = record {
         ready = ready;
-        limit_is = limit;
+        form_is = is;
         rest = rest ∙ sym no_rest;
         place = ap (λ (s : Reading). s.place) reader ∙ omega (arith, ap length no_rest);
         judged = ap judge rest ∙ judge_nothing;
-        heard = subst (HasHeard f) (sym (ap reverse no_blocks)) heard;
-        keep = λ Image Vs honest. keep Vs;
-        printed = subst (Prints start [] start f.page.text) (sym (no_lines H)) (subst (λ (t : List ℕ). Prints start [] start t []) (sym page) (prints_none start []));
+        known = subst (HasPrinted f) (sym (ap reverse no_blocks)) known;
+        printed = subst (Prints start [] start f.page.text) (sym (no_texts form)) (subst (λ (t : List ℕ). Prints start [] start t []) (sym page) (prints_none start []));
         few = omega (arith, number, ap length rest);
       };
       unended = refl;
     }
 
 -- a piece more was taken
-pub taken_more : (H : ℕ) (f g : Following) (r s : Reading) (d e : BlockError) (count more : ℕ) (first left left' start u v : Option (List ℕ)) (piece : List ℕ) → (t : Taken H f r d count first left start u)
-    → length piece ≡ more → Consumes left left' piece → Fed H start v g s e (t.bytes ++ piece) × (is_truncated e ≡ true) × (length (t.bytes ++ piece) ≤ 1073741824) → Taken H g s e (count + more) first left' start v
-taken_more H f g r s d e count more first left left' start u v piece t size read fed = record {
+pub taken_more : (form : Form) (f g : Printer) (r s : Reading) (d e : BlockError) (count more : ℕ) (first left left' start u v : Option (List ℕ)) (piece : List ℕ) → (t : Taken form f r d count first left start u)
+    → length piece ≡ more → Consumes left left' piece → Fed form start v g s e (t.bytes ++ piece) × (is_truncated e ≡ true) × (length (t.bytes ++ piece) ≤ 1073741824) → Taken form g s e (count + more) first left' start v
+taken_more form f g r s d e count more first left left' start u v piece t size read fed = record {
   bytes = t.bytes ++ piece;
   size = length-append t.bytes piece ∙ omega (arith, t.size, size);
   within = fed.2;
@@ -86,17 +86,17 @@ taken_more H f g r s d e count more first left left' start u v piece t size read
 }
 
 -- nothing was read and nothing written
-pub writes_none : (H : ℕ) (first start : Option (List ℕ)) → WritesSome H first first start start
-writes_none H first start = writes_lines H first first start start [] (consumes_none first) (record { count = 0; within = omega arith; grows = grows_none start })
+pub writes_none : (form : Form) (first start : Option (List ℕ)) → WritesSome form first first start start
+writes_none form first start = writes_texts form first first start start [] (consumes_none first) (record { count = 0; within = omega arith; grows = grows_none start })
   where
-    grows_none : (o : Option (List ℕ)) → Grows o o (take 0 (lines_for H []))
+    grows_none : (o : Option (List ℕ)) → Grows o o (take 0 (texts_for form []))
     grows_none None = tt
     grows_none (Some xs) = sym (append-nil xs)
 
 -- memory ran out before anything was read
-pub ends_early : (H most : ℕ) (r : Result (Unit {0}) Stop) (first start : Option (List ℕ)) (e : PrintError) → IsErr r × IsErrAnd r (λ stop. stop ≡ Unprinted e) → Ends H most r first first start start
-ends_early H most (Ok done) first start e is = absurd (true≢false (sym is.0))
-ends_early H most (Err stop) first start e is = subst (λ (s : Stop). Ends H most (Err s) first first start start) (sym is.1) (writes_none H first start)
+pub ends_early : (form : Form) (most : ℕ) (r : Result (Unit {0}) Stop) (first start : Option (List ℕ)) (e : PrintError) → IsErr r × IsErrAnd r (λ stop. stop ≡ Unprinted e) → Ends form most r first first start start
+ends_early form most (Ok done) first start e is = absurd (true≢false (sym is.0))
+ends_early form most (Err stop) first start e is = subst (λ (s : Stop). Ends form most (Err s) first first start start) (sym is.1) (writes_none form first start)
 
 -- an error is that error whatever the other answer is
 pub same_err : (x y : Stop) → ◌≡◌ {A = Result (Unit {0}) Stop} (Err x) (Err y) → ◌≡◌ {A = Result BlockError Stop} (Err x) (Err y)
@@ -116,9 +116,9 @@ later_cause a b c failed wanted le cause gives =
           omega (arith, le, rose);
     }
 
--- the limit is the hold's
-pub own_limit : (H : ℕ) (start u : Option (List ℕ)) (f : Following) (r : Reading) (e : BlockError) (bytes : List ℕ) → Fed H start u f r e bytes → Fed f.limit start u f r e bytes
-own_limit H start u f r e bytes fed = subst (λ (n : ℕ). Fed n start u f r e bytes) (sym fed.limit_is) fed
+-- the form is that of the task
+pub own_form : (form : Form) (start u : Option (List ℕ)) (f : Printer) (r : Reading) (e : BlockError) (bytes : List ℕ) → Fed form start u f r e bytes → Fed (form_of f.task) start u f r e bytes
+own_form form start u f r e bytes fed = subst (λ (k : Form). Fed k start u f r e bytes) (sym fed.form_is) fed
 
 -- the bytes that a source gave, where a buffer has them at its front
 pub given_bytes : (count len : ℕ) (into items buffer : List ℕ) → count ≤ length into → length into ≤ len → buffer ≡ take len (into ++ drop (length into) items) → take count buffer ≡ take count into

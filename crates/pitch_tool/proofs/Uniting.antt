@@ -11,6 +11,10 @@ use Rattle.pitch_model.specs.Follow.{unit_history, unit_text, books_of}
 use Rattle.client_core.specs.Tracks.{Tracks, Keeps}
 use Rattle.client_core.specs.declared.client.UnitClient.{UnitClient}
 use Rattle.pitch_tool.specs.Books.{named_text, PrintsUnit, PutsUnit, PrintsBooks, PutsBooks}
+use Rattle.pitch_words.specs.declared.form.Form.TheVariants.{Follow}
+use Rattle.pitch_tool.specs.Ending.{PrintsEnd, PutsEnd}
+use Rattle.pitch_tool.specs.Knowing.{HaveHeard}
+use Rattle.pitch_tool.specs.declared.units.Units.{Units}
 use Rattle.pitch_tool.specs.Page.{Prints}
 use Rattle.pitch_tool.specs.Putting.{PutsSome}
 use Rattle.pitch_tool.specs.Rising.{named_below}
@@ -103,3 +107,17 @@ books_fail H clients before n slot a t b u c lt low so_far at fails = record {
 -- all of them are the books of all units
 pub books_are : (H : ℕ) (Vs : ℕ → List Raw) (before : List Block) → AreUnits before → flat_map (unit_text H Vs before) (named_below (is_named before) 256) ≡ books_of H Vs before
 books_are H Vs before low = ap (flat_map (unit_text H Vs before)) (sym (units_below 256 before low))
+
+-- ---- The end of a stream that was followed
+-- for a venue that the blocks speak of, the books are those of its messages
+pub end_of_books : (units : Units) (before : List Block) (w : Option (List ℕ)) (t : List ℕ) (v : Option (List ℕ)) (u : List ℕ) → HaveHeard units before
+    → PrintsBooks units.limit units.clients.items before 256 w t v u → PrintsEnd (Follow units.limit) before w t v u
+end_of_books units before w t v u heard p = record {
+  end = p.books;
+  printed = p.printed;
+  is_end = λ Image Vs honest. p.are Vs (heard.keep Image Vs honest) ∙ books_are units.limit Vs before heard.named;
+}
+
+pub front_of_books : (units : Units) (before : List Block) (w : Option (List ℕ)) (t : List ℕ) (v : Option (List ℕ)) → HaveHeard units before
+    → PutsBooks units.limit units.clients.items before w t v → PutsEnd (Follow units.limit) before w t v
+front_of_books units before w t v heard p = record { end = p.books; puts = p.puts; is_front = λ Image Vs honest. p.are Vs (heard.keep Image Vs honest) }

@@ -1,12 +1,14 @@
 pub mod Books
+pub mod Ending
 pub mod Feeding
-pub mod Hearing
+pub mod Knowing
 pub mod Inputs
-pub mod Lines
 pub mod Page
+pub mod Printing
 pub mod Program
 pub mod Putting
 pub mod Rising
 pub mod Standing
 pub mod Stands
 pub mod Statuses
+pub mod Texts

@@ -2,10 +2,9 @@
 use Rattle.std.specs.Prelude.{◌≡◌, ℕ, List, ◌++◌, codes, Option, Result, Ok, Err, ◌⊎◌}
 use Rattle.pitch_words.specs.Forms.{IsForm}
 use Rattle.pitch_words.specs.declared.form.Form.{Form}
-use Rattle.pitch_words.specs.declared.form.Form.TheVariants.{Follow}
 use Rattle.unit_packets.specs.Causes.{fault_text}
-use Rattle.pitch_tool.specs.Inputs.{Ends, Follows, Refuses, ReadsSome, WritesSome, WritesFront}
-use Rattle.pitch_tool.specs.declared.follow.TheConstants.{INPUT_LIMIT}
+use Rattle.pitch_tool.specs.Inputs.{Ends, WritesAll, Refuses, ReadsSome, WritesSome, WritesFront}
+use Rattle.pitch_tool.specs.declared.stream.TheConstants.{INPUT_LIMIT}
 use Rattle.pitch_tool.specs.declared.program.Ending.{Ending}
 use Rattle.pitch_tool.specs.declared.program.Ending.TheVariants as ending
 use Rattle.pitch_tool.specs.declared.status.ExitStatus.{ExitStatus}
@@ -32,22 +31,22 @@ memory_text = codes "pitch: out of memory\n"
 
 -- memory ran out: nothing was written, or a front of what the words ask for
 abbrev pub RunsOut : List (List ℕ) → (left written written' : Option (List ℕ)) → Type 0
-RunsOut words left written written' = (written' ≡ written) ⊎ ((hold : ℕ) × IsForm words (Follow hold) × WritesFront hold left written written')
+RunsOut words left written written' = (written' ≡ written) ⊎ ((form : Form) × IsForm words form × WritesFront form left written written')
 
 -- how the program ends: what the words are, what was read of the source and written to the sink, and what was said on the
 -- error line
 abbrev pub Closes : List (List ℕ) → ExitStatus → (left left' written written' : Option (List ℕ)) → (List ℕ → Type 0) → Type 0
-Closes words Done left left' written written' says = (hold : ℕ) × IsForm words (Follow hold) × Follows hold INPUT_LIMIT left left' written written'
+Closes words Done left left' written written' says = (form : Form) × IsForm words form × WritesAll form INPUT_LIMIT left left' written written'
 Closes words Usage left left' written written' says = ((form : Form) → IsForm words form → ⊥) × (left' ≡ left) × (written' ≡ written) × says usage_text
 Closes words BadInput left left' written written' says =
-    (trouble : Trouble) × (hold : ℕ) × IsForm words (Follow hold) × Refuses hold INPUT_LIMIT trouble left written written' × says (trouble_text trouble)
-Closes words ReadFault left left' written written' says = (hold : ℕ) × IsForm words (Follow hold) × ReadsSome hold left left' written written' × says read_text
-Closes words WriteFault left left' written written' says = (hold : ℕ) × IsForm words (Follow hold) × WritesSome hold left left' written written' × says write_text
+    (trouble : Trouble) × (form : Form) × IsForm words form × Refuses form INPUT_LIMIT trouble left written written' × says (trouble_text trouble)
+Closes words ReadFault left left' written written' says = (form : Form) × IsForm words form × ReadsSome form left left' written written' × says read_text
+Closes words WriteFault left left' written written' says = (form : Form) × IsForm words form × WritesSome form left left' written written' × says write_text
 Closes words OutOfMemory left left' written written' says = RunsOut words left written written' × says memory_text
 
 -- how it ends before anything is said
 abbrev pub Runs : List (List ℕ) → Result (Unit {0}) Ending → (left left' written written' : Option (List ℕ)) → Type 0
-Runs words (Ok done) left left' written written' = (hold : ℕ) × IsForm words (Follow hold) × Follows hold INPUT_LIMIT left left' written written'
+Runs words (Ok done) left left' written written' = (form : Form) × IsForm words form × WritesAll form INPUT_LIMIT left left' written written'
 Runs words (Err ending.Usage) left left' written written' = ((form : Form) → IsForm words form → ⊥) × (left' ≡ left) × (written' ≡ written)
-Runs words (Err (ending.Stopped stop)) left left' written written' = (hold : ℕ) × IsForm words (Follow hold) × Ends hold INPUT_LIMIT (Err stop) left left' written written'
+Runs words (Err (ending.Stopped stop)) left left' written written' = (form : Form) × IsForm words form × Ends form INPUT_LIMIT (Err stop) left left' written written'
 Runs words (Err ending.OutOfMemory) left left' written written' = written' ≡ written

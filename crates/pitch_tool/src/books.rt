@@ -5,9 +5,9 @@ ghost use Rattle.pitch_model.specs.BookText.{order_line, book_text};
 ghost use Rattle.pitch_tool.specs.Page.{Prints};
 ghost use Rattle.pitch_tool.specs.Putting.{PutsSome};
 
-use crate::lines::LINE;
 use crate::page::Page;
 use crate::stop::PrintError;
+use feed_lines::LINE;
 use order_book::{OrderList, UnitBook};
 use pitch_io::Sink;
 use pitch_messages::Order;

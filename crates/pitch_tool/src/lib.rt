@@ -3,13 +3,14 @@
 
 mod books;
 mod ends;
-mod follow;
-mod following;
-mod lines;
 mod page;
+mod printer;
 mod program;
+mod shown;
 mod status;
 mod stop;
+mod stream;
+mod task;
 #[cfg(test)]
 mod tests;
 mod units;

@@ -3,12 +3,16 @@ ghost use Rattle.pitch_io.specs.Causes.{HasCause};
 ghost use Rattle.pitch_io.specs.Putting.{Grows};
 ghost use Rattle.pitch_model.specs.BookText.{order_line};
 ghost use Rattle.pitch_model.specs.Follow.{block_line};
-ghost use Rattle.pitch_tool.specs.Lines.{book_head};
+ghost use Rattle.pitch_model.specs.Show.{shown_head, message_line};
+ghost use Rattle.pitch_messages.specs.Raw.{IsRaw};
+ghost use Rattle.feed_lines.specs.Lines.{book_head};
 ghost use Rattle.pitch_tool.specs.Page.{Prints};
 ghost use Rattle.pitch_tool.specs.Putting.{PutsSome};
 
 use crate::ends::{PutFailed, put_all};
-use crate::lines::{LINE, put_block_line, put_book_head, put_order_line};
+use feed_lines::{
+    LINE, put_block_line, put_book_head, put_message_line, put_order_line, put_shown_head,
+};
 use pitch_fields::OutOfMemory;
 use pitch_io::Sink;
 use pitch_messages::Order;
@@ -79,6 +83,24 @@ impl Page {
         ensures { self.new ≡ record self.old { text = self.old.text ++ block_line number header.unit header.sequence header.count overflow status } }
     {
         self.at = put_block_line(&mut self.bytes, self.at, number, header, overflow, status);
+    }
+
+    /// Adds the line of a block whose messages follow.
+    pub fn add_shown_head(&mut self, number: u64, header: Header)
+        requires { length self.old.text + LINE ≤ self.old.size }
+        ensures { self.new ≡ record self.old { text = self.old.text ++ shown_head number header.unit header.sequence header.count } }
+    {
+        self.at = put_shown_head(&mut self.bytes, self.at, number, header);
+    }
+
+    /// Adds the line of a message.
+    #[inline]
+    pub fn add_message(&mut self, sequence: u32, raw: &[u8])
+        requires place { length self.old.text + LINE ≤ self.old.size }
+        requires raw { IsRaw raw.now }
+        ensures { self.new ≡ record self.old { text = self.old.text ++ message_line sequence raw.now } }
+    {
+        self.at = put_message_line(&mut self.bytes, self.at, sequence, raw);
     }
 
     /// Adds the first line of a unit's book.

@@ -4,12 +4,12 @@ ghost use Rattle.pitch_io.specs.Putting.{Grows};
 ghost use Rattle.pitch_tool.specs.Program.{memory_text, trouble_text, Closes, Runs};
 
 use crate::ends::put_all;
-use crate::follow::follow;
 use crate::status::ExitStatus;
 use crate::stop::{PrintError, Stop, Trouble};
+use crate::stream::print_stream;
 use pitch_fields::OutOfMemory;
 use pitch_io::{Sink, Source};
-use pitch_words::{Form, read};
+use pitch_words::read;
 use std::alloc::Global;
 
 /// Why the program ends before its whole text.
@@ -32,7 +32,7 @@ fn run<I: Source, O: Sink>(
     ensures write_cause { HasCause (O.faults out.old) (O.faults out.new) (result ≡ Err (Ending.Stopped (Stop.Unprinted PrintError.PutFailed))) }
 {
     match read(alloc, words) {
-        Ok(Some(Form::Follow { hold })) => match follow(alloc, hold, input, out) {
+        Ok(Some(form)) => match print_stream(alloc, form, input, out) {
             Ok(()) => Ok(()),
             Err(stop) => Err(Ending::Stopped(stop)),
         },
@@ -71,10 +71,11 @@ fn trouble_line(alloc: Global, trouble: Trouble) -> Result<String, OutOfMemory>
 /// The program: does what the words ask for, and says on `err` why it ends before its whole text.
 ///
 /// `words` are those after the program's name: `follow`, and perhaps `--hold H` with H from 1 to 65,536 (4,096 where it
-/// isn't given). `follow` reads a stream of Sequenced Unit Header blocks from `input`, at most `INPUT_LIMIT` bytes, and writes to `out` a
-/// line for each block, and at the stream's end the books of all units that a block named.
+/// isn't given), or `show`. Both read a stream of Sequenced Unit Header blocks from `input`, at most `INPUT_LIMIT` bytes. `follow` writes to
+/// `out` a line for each block, and at the stream's end the books of all units that a block named; `show` writes a line for each block and
+/// for each message.
 ///
-/// At `Done` the whole text was written and nothing was said. At `Usage` nothing was read or written. At `BadInput` the lines of the whole
+/// At `Done` the whole text was written and nothing was said. At `Usage` nothing was read or written. At `BadInput` the texts of the whole
 /// blocks before the trouble were written, and no book.
 pub fn pitch<I: Source, O: Sink, E: Sink>(
     alloc: Global,

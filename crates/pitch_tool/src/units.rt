@@ -8,6 +8,7 @@ ghost use Rattle.client_core.specs.Blocks.{block_change};
 ghost use Rattle.client_core.specs.Tracks.{Tracks, Keeps};
 ghost use Rattle.pitch_io.specs.Causes.{HasCause};
 ghost use Rattle.pitch_tool.specs.Books.{PrintsUnit, PutsUnit, PrintsBooks, PutsBooks};
+ghost use Rattle.pitch_tool.specs.Knowing.{HaveHeard, CanHear};
 ghost use Rattle.pitch_tool.specs.Stands.{AreUnits, IsClient, Clients, KeepsTo, AllKeep};
 
 use crate::books::print_book;
@@ -23,8 +24,15 @@ use unit_packets::BlockView;
 /// The number of units that a header can name.
 pub const UNITS: usize = 256;
 
-/// No unit has a client yet.
-pub fn make_units(alloc: Global) -> Result<Vec<Option<UnitClient>>, OutOfMemory>
+/// The client of each unit that a block named, and how many messages a client holds at most.
+#[derive(Drop)]
+pub struct Units {
+    pub limit: u32,
+    pub clients: Vec<Option<UnitClient>>,
+}
+
+// No unit has a client yet.
+fn no_clients(alloc: Global) -> Result<Vec<Option<UnitClient>>, OutOfMemory>
     ensures clients { IfOk result (λ clients. (H : ℕ) → Clients H clients.items []) }
     ensures keep { IfOk result (λ clients. (Vs : ℕ → List Raw) → AllKeep Vs clients.items) }
 {
@@ -33,6 +41,17 @@ pub fn make_units(alloc: Global) -> Result<Vec<Option<UnitClient>>, OutOfMemory>
         clients.push(None)?;
     }
     Ok(clients)
+}
+
+/// No unit has a client yet, and each will hold at most `limit` messages.
+pub fn make_units(alloc: Global, limit: u32) -> Result<Units, OutOfMemory>
+    requires { (1 ≤ limit) × (limit ≤ 65536) }
+    ensures limit { IfOk result (λ units. units.limit ≡ limit) }
+    ensures able { IfOk result CanHear }
+    ensures heard { IfOk result (λ units. HaveHeard units []) }
+{
+    let clients = no_clients(alloc)?;
+    Ok(Units { limit, clients })
 }
 
 // The unit's client, or a new one where it has none.
@@ -54,24 +73,22 @@ fn known_or_new(
 /// The block's unit hears it.
 pub fn hear_block(
     alloc: Global,
-    limit: u32,
-    clients: &mut Vec<Option<UnitClient>>,
+    units: &mut Units,
     block: &BlockView<'_>,
 ) -> Result<Change, OutOfMemory>
-    requires limit { (1 ≤ limit) × (limit ≤ 65536) }
-    requires many { length clients.old.items ≡ 256 }
-    ensures clients { OnOk result ((before : List Block) → Clients limit clients.old.items before → Clients limit clients.new.items (block.now ∷ before)) }
-    ensures keep { OnOk result ((Image : List Raw → ℕ → List Raw) (Vs : ℕ → List Raw) (before : List Block) → Clients limit clients.old.items before
-        → AllHonest Image Vs (block.now ∷ before) → AllKeep Vs clients.old.items → AllKeep Vs clients.new.items) }
-    ensures change { IfOk result (λ change. (before : List Block) → Clients limit clients.old.items before → change ≡ block_change limit (unit_history block.now.unit before) block.now) }
-    ensures many { OnOk result (length clients.new.items ≡ 256) }
+    requires able { CanHear units.old }
+    ensures able { OnOk result (CanHear units.new) }
+    ensures limit { OnOk result (units.new.limit ≡ units.old.limit) }
+    ensures heard { OnOk result ((before : List Block) → HaveHeard units.old before → HaveHeard units.new (block.now ∷ before)) }
+    ensures change { IfOk result (λ change. (before : List Block) → HaveHeard units.old before
+        → change ≡ block_change units.old.limit (unit_history block.now.unit before) block.now) }
 {
     let header = block.header();
     let unit = header.unit as usize;
-    let slot = replace(&mut clients[unit], None);
-    let mut client = known_or_new(alloc, limit, slot)?;
+    let slot = replace(&mut units.clients[unit], None);
+    let mut client = known_or_new(alloc, units.limit, slot)?;
     let change = client.hear_block(header.sequence, block.raws())?;
-    clients[unit] = Some(client);
+    units.clients[unit] = Some(client);
     Ok(change)
 }
 

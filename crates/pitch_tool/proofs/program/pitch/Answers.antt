@@ -1,6 +1,6 @@
 use Rattle.std.proofs.Common.{map, inr, string_bytes, Err, ap, ◌∙◌, subst}
 use Rattle.pitch_tool.specs.Program.{Runs}
-use Rattle.pitch_tool.specs.declared.follow.TheConstants.{INPUT_LIMIT}
+use Rattle.pitch_tool.specs.declared.stream.TheConstants.{INPUT_LIMIT}
 use Rattle.pitch_tool.specs.declared.program.Ending.{Ending}
 use Rattle.pitch_tool.specs.declared.program.Ending.TheVariants.{Stopped}
 use Rattle.pitch_tool.specs.declared.stop.Stop.TheVariants.{Unprinted}

@@ -1,0 +1,36 @@
+-- What a task knows once some blocks came. Blocks stand newest first.
+use Rattle.std.specs.Prelude.{◌≡◌, ◌≤◌, ℕ, List, length}
+use Rattle.unit_packets.specs.Blocks.{Block}
+use Rattle.pitch_model.specs.History.{Raw}
+use Rattle.pitch_model.specs.Follow.{AllHonest}
+use Rattle.pitch_words.specs.declared.form.Form.{Form}
+use Rattle.pitch_words.specs.declared.form.Form.TheVariants as form
+use Rattle.pitch_tool.specs.Stands.{Clients, AreUnits, AllKeep}
+use Rattle.pitch_tool.specs.declared.task.Task.{Task}
+use Rattle.pitch_tool.specs.declared.task.Task.TheVariants.{Follow, Show}
+use Rattle.pitch_tool.specs.declared.units.Units.{Units}
+
+-- the form that a task does
+abbrev pub form_of : Task → Form
+form_of (Follow units) = form.Follow units.limit
+form_of Show = form.Show
+
+-- each unit's client heard its blocks, and keeps to its venue's messages wherever the blocks speak of no others
+pub record HaveHeard (units : Units) (before : List Block) : Type 0 where
+  pub clients : Clients units.limit units.clients.items before
+  pub named : AreUnits before
+  pub keep : (Image : List Raw → ℕ → List Raw) (Vs : ℕ → List Raw) → AllHonest Image Vs before → AllKeep Vs units.clients.items
+
+-- the clients of all units can hear a block
+pub record CanHear (units : Units) : Type 0 where
+  pub least : 1 ≤ units.limit
+  pub most : units.limit ≤ 65536
+  pub many : length units.clients.items ≡ 256
+
+abbrev pub Knows : Task → List Block → Type 0
+Knows (Follow units) before = HaveHeard units before
+Knows Show before = Unit {0}
+
+abbrev pub IsAble : Task → Type 0
+IsAble (Follow units) = CanHear units
+IsAble Show = Unit {0}

@@ -1,0 +1,205 @@
+ghost use Rattle.std.specs.Prelude.{◌≡◌, ◌≢◌, true, Option, ◌≤◌, ◌<◌, ◌+◌, ◌*◌, ◌-◌, ◌++◌, [], ℕ, List, length, reverse, OnOk, OnErr, IfOk, Err, Ok};
+ghost use Rattle.std.specs.Io.KnownBytes.{Consumes, Keeps, IsAtEnd};
+ghost use Rattle.unit_packets.specs.Blocks.{Block};
+ghost use Rattle.unit_packets.specs.Cutting.{blocks_of, rest_of, is_truncated};
+ghost use Rattle.unit_packets.specs.Judging.{judge};
+ghost use Rattle.unit_packets.specs.Reading.{Reading, loaded};
+ghost use Rattle.pitch_model.specs.Texts.{texts_after};
+ghost use Rattle.pitch_io.specs.Causes.{HasCause};
+ghost use Rattle.pitch_words.specs.Forms.{IsInRange};
+ghost use Rattle.pitch_tool.specs.Feeding.{Fed, Feeds};
+ghost use Rattle.pitch_tool.specs.Inputs.{Ends};
+ghost use Rattle.pitch_tool.specs.Knowing.{form_of};
+ghost use Rattle.pitch_tool.specs.Printing.{PrintsAll};
+ghost use Rattle.pitch_tool.specs.Putting.{PutsSome};
+ghost use Rattle.pitch_tool.specs.Standing.{HasPrinted, IsReady};
+ghost use Rattle.pitch_tool.specs.Texts.{block_text};
+
+use crate::ends::{PIECE, piece_buffer};
+use crate::printer::Printer;
+use crate::stop::{PrintError, Stop, Trouble};
+use pitch_io::{Sink, Source, Taken};
+use pitch_words::Form;
+use std::alloc::Global;
+use unit_packets::{BlockError, BlockFault, BlockReader, view_block};
+
+/// How many bytes of an input are read at most.
+pub const INPUT_LIMIT: usize = 1073741824;
+
+// Prints the blocks that are whole. Answers why no block stands at the front of what is left.
+fn print_loaded<O: Sink>(
+    alloc: Global,
+    reader: &mut BlockReader,
+    printer: &mut Printer,
+    out: &mut O,
+) -> Result<BlockError, PrintError>
+    requires ready { IsReady printer.old }
+    requires few { 8 * printer.old.number + length reader.old.rest ≤ 1073741824 }
+    requires place { reader.old.place ≤ 1073741824 }
+    ensures prints { IfOk result (λ error. PrintsAll printer.old printer.new reader.old reader.new (O.written out.old) (O.written out.new) error) }
+    ensures err { OnErr result ((before : List Block) → HasPrinted printer.old before
+        → PutsSome (O.written out.old) (O.written out.new) (printer.old.page.text ++ texts_after (block_text (form_of printer.old.task)) before (blocks_of reader.old.rest))) }
+    ensures cause { HasCause (O.faults out.old) (O.faults out.new) (result ≡ Err PrintError.PutFailed) }
+{
+    'front: loop {
+        let length = match view_block(reader.rest()) {
+            Ok(block) => {
+                printer.print(alloc, &block, out)?;
+                block.header().length as usize
+            }
+            Err(error) => return Ok(error),
+        };
+        reader.pass(length);
+    }
+}
+
+// Prints the blocks that are whole with a piece more of the stream. Answers why no block stands at the front of what is left.
+fn print_piece<O: Sink>(
+    alloc: Global,
+    reader: &mut BlockReader,
+    printer: &mut Printer,
+    piece: &[u8],
+    out: &mut O,
+) -> Result<BlockError, PrintError>
+    requires ready { IsReady printer.old }
+    requires few { 8 * printer.old.number + length reader.old.rest + length piece.now ≤ 1073741824 }
+    requires place { reader.old.place ≤ 1073741824 }
+    ensures prints { IfOk result (λ error. PrintsAll printer.old printer.new (loaded reader.old piece.now) reader.new (O.written out.old) (O.written out.new) error) }
+    ensures err { OnErr result ((before : List Block) → HasPrinted printer.old before
+        → PutsSome (O.written out.old) (O.written out.new) (printer.old.page.text ++ texts_after (block_text (form_of printer.old.task)) before (blocks_of (reader.old.rest ++ piece.now)))) }
+    ensures cause { HasCause (O.faults out.old) (O.faults out.new) (result ≡ Err PrintError.PutFailed) }
+{
+    reader.load(piece)?;
+    print_loaded(alloc, reader, printer, out)
+}
+
+// Whether more bytes may mend the fault.
+fn may_mend(error: BlockError) -> bool
+    ensures { result ≡ is_truncated error }
+{
+    matches!(error, BlockError::Truncated { .. })
+}
+
+// Takes a piece more of the stream, of which at most `INPUT_LIMIT` bytes are taken. Answers why no block stands at the front
+// of what is left.
+fn feed<O: Sink>(
+    alloc: Global,
+    printer: &mut Printer,
+    reader: &mut BlockReader,
+    fed: usize,
+    piece: &[u8],
+    out: &mut O,
+) -> Result<BlockError, Stop>
+    requires ready { IsReady printer.old }
+    requires within { fed ≤ INPUT_LIMIT }
+    requires few { 8 * printer.old.number + length reader.old.rest ≤ fed }
+    requires place { reader.old.place ≤ fed }
+    ensures feeds { (first now start : Option (List ℕ)) (bytes : List ℕ) (error : BlockError) → length bytes ≡ fed
+        → Fed (form_of printer.old.task) start (O.written out.old) printer.old reader.old error bytes → Consumes first now (bytes ++ piece.now)
+        → Feeds (form_of printer.old.task) INPUT_LIMIT result first now start (O.written out.new) printer.new reader.new (bytes ++ piece.now) }
+    ensures cause { HasCause (O.faults out.old) (O.faults out.new) (result ≡ Err (Stop.Unprinted PrintError.PutFailed)) }
+    ensures not_read { result ≢ Err Stop.ReadFailed }
+{
+    let kept = piece.len().min(INPUT_LIMIT - fed);
+    let stopped = match print_piece(alloc, reader, printer, &piece[..kept], out) {
+        Ok(stopped) => stopped,
+        Err(error) => return Err(Stop::Unprinted(error)),
+    };
+    if !may_mend(stopped) {
+        let place = reader.place();
+        return match printer.page.flush(out) {
+            Ok(()) => Err(Stop::BadInput(Trouble::Faulty(BlockFault {
+                place,
+                error: stopped,
+            }))),
+            Err(_) => Err(Stop::Unprinted(PrintError::PutFailed)),
+        };
+    }
+    if kept < piece.len() {
+        return match printer.page.flush(out) {
+            Ok(()) => Err(Stop::BadInput(Trouble::TooLong)),
+            Err(_) => Err(Stop::Unprinted(PrintError::PutFailed)),
+        };
+    }
+    Ok(stopped)
+}
+
+// Ends the stream: prints what stands at its end, unless a rest is left.
+fn finish<O: Sink>(
+    alloc: Global,
+    printer: &mut Printer,
+    reader: &BlockReader,
+    stopped: BlockError,
+    out: &mut O,
+) -> Result<(), Stop>
+    requires { IsReady printer.old }
+    ensures finishes { (first before now start : Option (List ℕ)) (bytes : List ℕ) → length bytes ≤ INPUT_LIMIT
+        → Fed (form_of printer.old.task) start (O.written out.old) printer.old reader.now stopped bytes → is_truncated stopped ≡ true
+        → Consumes first before bytes → IsAtEnd before × Keeps before now → Ends (form_of printer.old.task) INPUT_LIMIT result first now start (O.written out.new) }
+    ensures cause { HasCause (O.faults out.old) (O.faults out.new) (result ≡ Err (Stop.Unprinted PrintError.PutFailed)) }
+    ensures not_read { result ≢ Err Stop.ReadFailed }
+{
+    if !reader.rest().is_empty() {
+        let place = reader.place();
+        return match printer.page.flush(out) {
+            Ok(()) => Err(Stop::BadInput(Trouble::Faulty(BlockFault {
+                place,
+                error: stopped,
+            }))),
+            Err(_) => Err(Stop::Unprinted(PrintError::PutFailed)),
+        };
+    }
+    if let Err(error) = printer.print_end(alloc, out) {
+        return Err(Stop::Unprinted(error));
+    }
+    match printer.page.flush(out) {
+        Ok(()) => Ok(()),
+        Err(_) => Err(Stop::Unprinted(PrintError::PutFailed)),
+    }
+}
+
+// Stops where the source has failed.
+fn stop_unread<O: Sink>(printer: &mut Printer, out: &mut O) -> Result<(), Stop>
+    ensures stops { (form : Form) (most : ℕ) (first now start : Option (List ℕ)) (reader : Reading) (error : BlockError) (bytes : List ℕ) → Consumes first now bytes
+        → Fed form start (O.written out.old) printer.old reader error bytes → Ends form most result first now start (O.written out.new) }
+    ensures cause { HasCause (O.faults out.old) (O.faults out.new) (result ≡ Err (Stop.Unprinted PrintError.PutFailed)) }
+{
+    match printer.page.flush(out) {
+        Ok(()) => Err(Stop::ReadFailed),
+        Err(_) => Err(Stop::Unprinted(PrintError::PutFailed)),
+    }
+}
+
+/// Prints what the form asks for of the stream of blocks that a source gives: a text for each block, and one at the
+/// stream's end. At most `INPUT_LIMIT` bytes are read.
+pub fn print_stream<I: Source, O: Sink>(
+    alloc: Global,
+    form: Form,
+    input: &mut I,
+    out: &mut O,
+) -> Result<(), Stop>
+    requires { IsInRange form }
+    ensures ends { Ends form INPUT_LIMIT result (I.left input.old) (I.left input.new) (O.written out.old) (O.written out.new) }
+    ensures read_cause { HasCause (I.faults input.old) (I.faults input.new) (result ≡ Err Stop.ReadFailed) }
+    ensures write_cause { HasCause (O.faults out.old) (O.faults out.new) (result ≡ Err (Stop.Unprinted PrintError.PutFailed)) }
+{
+    let mut printer = Printer::make(alloc, form)?;
+    let mut reader = BlockReader::make(alloc);
+    let mut piece = piece_buffer(alloc, PIECE)?;
+    let mut stopped = BlockError::Truncated { has: 0, needs: 8 };
+    let mut fed = 0;
+    'takes: for turn in 0..INPUT_LIMIT + 1 {
+        match input.take(&mut piece) {
+            Taken::Got(count) => {
+                match feed(alloc, &mut printer, &mut reader, fed, &piece[..count], out) {
+                    Ok(error) => stopped = error,
+                    Err(stop) => return Err(stop),
+                }
+                fed += count;
+            }
+            Taken::End => return finish(alloc, &mut printer, &reader, stopped, out),
+            Taken::Failed => return stop_unread(&mut printer, out),
+        }
+    }
+    unreachable!()
+}
