@@ -1,10 +1,9 @@
 -- What a reader of a stream may conclude at each block, at each piece, and at a fault.
-use Rattle.std.proofs.Common.{◌≡◌, ℕ, zero, suc, ◌+◌, ◌-◌, ◌<◌, ◌≤◌, Bool, true, false, true≢false, cond, List, [], ◌∷◌, ◌++◌, length, take, drop, refl, sym, ap, ◌∙◌, subst, arith, Option, Some, None, Ok, Err, Result, length-append, inl, inr}
-use Rattle.std.specs.List.{concat}
+use Rattle.std.proofs.Common.{◌≡◌, ℕ, ◌<◌, ◌≤◌, Bool, true, false, true≢false, cond, List, [], ◌∷◌, ◌++◌, length, drop, refl, sym, ap, ◌∙◌, subst, arith, Option, Some, None, Err, Result, length-append, inl, inr}
 use Rattle.std.proofs.lemmas.List.{append-nil}
 use Rattle.std.proofs.lemmas.Bool.{cases_Bool}
 use Rattle.unit_packets.specs.Blocks.{Block}
-use Rattle.unit_packets.specs.Judging.{judge, block_at}
+use Rattle.unit_packets.specs.Judging.{judge}
 use Rattle.unit_packets.specs.Lending.{header_for, StandsAtFront}
 use Rattle.unit_packets.specs.Cutting.{blocks_of, rest_of, place_of, fault_from, fault_in, fault_of, fault_at_end, is_truncated}
 use Rattle.unit_packets.specs.declared.header.Header.{Header}
