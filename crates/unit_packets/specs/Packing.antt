@@ -5,6 +5,7 @@ use Rattle.pitch_messages.specs.Raw.{IsRaw}
 use Rattle.pitch_messages.specs.Room.{Roomy}
 use Rattle.unit_packets.specs.Blocks.{IsBlock, StaysWithin}
 use Rattle.unit_packets.specs.BlockBytes.{block_bytes}
+use Rattle.unit_packets.specs.CuttingLaws.{IsBytes}
 
 -- the messages go into one datagram: 1,400 bytes with the header, and 255 messages, at most
 pub record FitsDatagram (raws : List (List ℕ)) : Type 0 where
@@ -95,3 +96,8 @@ pub record Finishes (old new : Packing) (before after : List (Roomy ℕ)) : Type
 -- the computed packing is one
 abbrev pub PackingIsComputed : Type 0
 PackingIsComputed = (unit first : ℕ) (raws : List (List ℕ)) → unit < 256 → AllByRecursion IsRaw raws → StaysWithin first (length raws) → IsPacking unit first raws (packed unit first raws)
+
+-- two packings of the same messages, in bytes, are one
+abbrev pub PackingIsOne : Type 0
+PackingIsOne = (unit first : ℕ) (raws datagrams others : List (List ℕ)) → AllByRecursion IsBytes datagrams → AllByRecursion IsBytes others
+    → IsPacking unit first raws datagrams → IsPacking unit first raws others → datagrams ≡ others

@@ -1,0 +1,8 @@
+use Rattle.unit_packets.proofs.Feeds.{pieces_are_cut, pieces_do_not_matter}
+use Rattle.unit_packets.proofs.laws.feeding_laws.Goals as goal
+
+pub returns-clause-cut : goal.returns-clause-cut
+returns-clause-cut c = pieces_are_cut
+
+pub returns-clause-pieces : goal.returns-clause-pieces
+returns-clause-pieces c = pieces_do_not_matter
