@@ -77,6 +77,17 @@ impl<T: Drop> List<T> {
         Ok(())
     }
 
+    /// Puts the items of a Vec at the end. The list is as before after OutOfMemory.
+    pub fn append(&mut self, mut items: Vec<T>) -> Result<(), OutOfMemory>
+        ensures ok { OnOk result (self.new.items ≡ self.old.items ++ items.items) }
+        ensures err { OnErr result (self.new.items ≡ self.old.items) }
+        ensures spare { self.old.spare ≤ self.new.spare + length items.items }
+        ensures succeeds { length items.items ≤ self.old.spare → IsOk result }
+    {
+        self.items.append(&mut items)?;
+        Ok(())
+    }
+
     /// Takes memory ahead, so that the next `more` pushes are Ok. The list is as before after OutOfMemory.
     pub fn reserve(&mut self, more: usize) -> Result<(), OutOfMemory>
         ensures items { self.new.items ≡ self.old.items }

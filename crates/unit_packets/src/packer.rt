@@ -94,6 +94,13 @@ impl Packer {
         }
     }
 
+    /// The sequence that the next message will have, or 0 where messages are unsequenced.
+    pub fn next_sequence(&self) -> u32
+        ensures { result ≡ next_sequence self.now }
+    {
+        sequence_after(self.sequence, self.count)
+    }
+
     // The block that was begun has room for the message.
     fn takes(&self, raw: &Raw) -> bool
         ensures { IsTrue result ↔ (0 < length self.now.begun) × IsTrue (fits_datagram (self.now.begun ++ raw.now ∷ [])) }
