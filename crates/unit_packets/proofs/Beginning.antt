@@ -70,19 +70,20 @@ taken sequence count bytes raw begun =
     let rs : List (List ℕ) = raws_of count (drop 8 bytes) in
     let many : length rs ≡ count = begun.chain.many in
     let longer = length-append rs (raw ∷ []) in
-    let more = size_more rs raw in
-    (λ fits. let eight : 8 ≤ length bytes = begun.header fits.0 in
-        let size = body_size count bytes begun.chain eight in
-        let short = fits.1.1 in
-        let few = fits.1.0 in
-        (omega (arith, many, fits.0), fits_true (rs ++ raw ∷ []) (record { size = omega (arith, more, size, short); count = omega (arith, longer, many, few) })),
-     λ both. let some : 0 < count = omega (arith, many, both.0) in
-        let eight : 8 ≤ length bytes = begun.header some in
-        let size = body_size count bytes begun.chain eight in
-        let fits = fits_of (rs ++ raw ∷ []) both.1 in
-        let least = fits.size in
-        let few = fits.count in
-        (some, (omega (arith, few, longer, many), omega (arith, least, more, size))))
+    let more = size_more rs raw in (
+      λ fits. let eight : 8 ≤ length bytes = begun.header fits.0 in
+          let size = body_size count bytes begun.chain eight in
+          let short = fits.1.1 in
+          let few = fits.1.0 in
+          (omega (arith, many, fits.0), fits_true (rs ++ raw ∷ []) (record { size = omega (arith, more, size, short); count = omega (arith, longer, many, few) })),
+      λ both. let some : 0 < count = omega (arith, many, both.0) in
+          let eight : 8 ≤ length bytes = begun.header some in
+          let size = body_size count bytes begun.chain eight in
+          let fits = fits_of (rs ++ raw ∷ []) both.1 in
+          let least = fits.size in
+          let few = fits.count in
+          (some, (omega (arith, few, longer, many), omega (arith, least, more, size))),
+    )
 
 -- the bytes of the block that is given out
 pub closed : (unit sequence count size kept : ℕ) (bytes was now new : List ℕ) → IsBegun sequence count bytes → 0 < count → was ≡ bytes → now ≡ was → size ≡ length bytes → kept ≡ length bytes

@@ -94,9 +94,14 @@ full_packing unit sequence (b ∷ begun) raws raw small are reach fits not more 
     let long = length-append (b ∷ begun) (raw ∷ raws) in
     let front : InReach sequence (length (b ∷ begun)) = reach_less sequence (length ((b ∷ begun) ++ raw ∷ raws)) (length (b ∷ begun)) (omega (arith, long)) reach in
     let back : InReach (sequence_after sequence (length (b ∷ begun))) (length (raw ∷ raws)) = reach_after sequence (length (b ∷ begun)) (length (raw ∷ raws)) (subst (λ (n : ℕ). InReach sequence n) long reach) in
-    subst (λ (ds : List (List ℕ)). IsPacking unit sequence ((b ∷ begun) ++ raw ∷ raws) ds) (sym (on_full unit sequence b raw begun raws not))
-    (b ∷ begun, raw ∷ raws, refl, datagram_is unit sequence (b ∷ begun) small apart.0 front (omega arith) fits, (λ fit. false≢true (sym not ∙ fits_true ((b ∷ begun) ++ raw ∷ []) fit)),
-        more (sequence_after sequence (length (b ∷ begun))) apart.1 back (fits_of (raw ∷ []) (one_fits raw apart.1.0)))
+    subst (λ (ds : List (List ℕ)). IsPacking unit sequence ((b ∷ begun) ++ raw ∷ raws) ds) (sym (on_full unit sequence b raw begun raws not)) (
+      b ∷ begun,
+      raw ∷ raws,
+      refl,
+      datagram_is unit sequence (b ∷ begun) small apart.0 front (omega arith) fits,
+      (λ fit. false≢true (sym not ∙ fits_true ((b ∷ begun) ++ raw ∷ []) fit)),
+      more (sequence_after sequence (length (b ∷ begun))) apart.1 back (fits_of (raw ∷ []) (one_fits raw apart.1.0)),
+    )
 
 is_packing : (raws : List (List ℕ)) (unit sequence : ℕ) (begun : List (List ℕ)) → unit < 256 → AllByRecursion IsRaw (begun ++ raws) → InReach sequence (length (begun ++ raws)) → FitsDatagram begun
     → IsPacking unit sequence (begun ++ raws) (packed_on unit sequence begun raws)
@@ -203,8 +208,8 @@ one_by (d ∷ datagrams) (o ∷ others) unit first raws bytes more (front, back,
       let there : IsDatagram unit first front o = subst (λ (rs : List (List ℕ)). IsDatagram unit first rs o) (sym both.0) also in
       let head : d ≡ o = same_block_bytes d o _ bytes.0 more.0 is.block there.block in
       let follow : IsPacking unit (sequence_after first (length front)) back others =
-        subst (λ (rs : List (List ℕ)). IsPacking unit (sequence_after first (length front)) rs others) (sym both.1)
-        (subst (λ (rs : List (List ℕ)). IsPacking unit (sequence_after first (length rs)) left others) (sym both.0) tail) in
+      subst (λ (rs : List (List ℕ)). IsPacking unit (sequence_after first (length front)) rs others) (sym both.1)
+      (subst (λ (rs : List (List ℕ)). IsPacking unit (sequence_after first (length rs)) left others) (sym both.0) tail) in
       ap (λ (x : List ℕ). x ∷ datagrams) head ∙ ap (λ (xs : List (List ℕ)). o ∷ xs) (one_by datagrams others unit (sequence_after first (length front)) back bytes.1 more.1 rest follow)
   | inr either ↦ elim either [
     | inl l ↦ absurd (too_early front fore back left l full also.fits)

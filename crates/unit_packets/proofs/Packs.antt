@@ -100,9 +100,9 @@ takes_more old new raw before after fits unit sequence begun same = record {
         ∙ ap (sequence_after f) (sym (length-append raws (raw ∷ [])));
     goes_on = λ more. ap (packed u f) (append_assoc raws (raw ∷ []) more) ∙ has.goes_on (raw ∷ more)
         ∙ ap (λ (ds : List (List ℕ)). datagrams ++ ds) (packed_takes old.unit old.sequence old.begun more raw fits
-            ∙ ap (λ (b : List (List ℕ)). packed_on old.unit old.sequence b more) (sym begun)
-            ∙ ap (λ (s : ℕ). packed_on old.unit s new.begun more) (sym sequence)
-            ∙ ap (λ (v : ℕ). packed_on v new.sequence new.begun more) (sym unit))
+        ∙ ap (λ (b : List (List ℕ)). packed_on old.unit old.sequence b more) (sym begun)
+        ∙ ap (λ (s : ℕ). packed_on old.unit s new.begun more) (sym sequence)
+        ∙ ap (λ (v : ℕ). packed_on v new.sequence new.begun more) (sym unit))
         ∙ ap (λ (ds : List (List ℕ)). ds ++ packed_on new.unit new.sequence new.begun more) (sym (append-nil datagrams));
   };
 }
@@ -122,10 +122,10 @@ begins_block old new raw before after added is full given gives unit sequence be
         ∙ ap (sequence_after f) (sym (length-append raws (raw ∷ [])));
     goes_on = λ more. ap (packed u f) (append_assoc raws (raw ∷ []) more) ∙ has.goes_on (raw ∷ more)
         ∙ ap (λ (ds : List (List ℕ)). datagrams ++ ds) (packed_begins old.unit old.sequence old.begun more raw is full
-            ∙ ap (λ (ds : List (List ℕ)). ds ++ packed_on old.unit (next_sequence old) (raw ∷ []) more) (sym gives)
-            ∙ ap (λ (b : List (List ℕ)). bytes_in added ++ packed_on old.unit (next_sequence old) b more) (sym begun)
-            ∙ ap (λ (s : ℕ). bytes_in added ++ packed_on old.unit s new.begun more) (sym sequence)
-            ∙ ap (λ (v : ℕ). bytes_in added ++ packed_on v new.sequence new.begun more) (sym unit))
+        ∙ ap (λ (ds : List (List ℕ)). ds ++ packed_on old.unit (next_sequence old) (raw ∷ []) more) (sym gives)
+        ∙ ap (λ (b : List (List ℕ)). bytes_in added ++ packed_on old.unit (next_sequence old) b more) (sym begun)
+        ∙ ap (λ (s : ℕ). bytes_in added ++ packed_on old.unit s new.begun more) (sym sequence)
+        ∙ ap (λ (v : ℕ). bytes_in added ++ packed_on v new.sequence new.begun more) (sym unit))
         ∙ sym (append_assoc datagrams (bytes_in added) (packed_on new.unit new.sequence new.begun more));
   };
 }

@@ -1,5 +1,7 @@
+ghost use Rattle.std.specs.Prelude.{[]};
 ghost use Rattle.unit_packets.specs.CuttingLaws.{CutsAreComputed, CutsAreOne};
-ghost use Rattle.unit_packets.specs.Feeding.{PiecesAreCut, PiecesDoNotMatter};
+ghost use Rattle.unit_packets.specs.Feeding.{StandsFor, PiecesAreCut, PiecesDoNotMatter};
+ghost use Rattle.unit_packets.specs.Reading.{unread};
 ghost use Rattle.unit_packets.specs.Packing.{PackingIsComputed, PackingIsOne};
 
 /// The laws of cutting a stream into blocks: the cutting that the definitions compute is a longest list of blocks
@@ -9,9 +11,10 @@ pub fn cutting_laws()
     ensures one { CutsAreOne }
 {}
 
-/// The laws of feeding a stream in pieces: what a reader put out, and the fault that it keeps, are those of all bytes
+/// The laws of feeding a stream in pieces: a new reader stands for no bytes; what a reader put out, and the fault that it keeps, are those of all bytes
 /// in one; so other pieces of the same bytes give the same blocks and the same fault.
 pub fn feeding_laws()
+    ensures begins { StandsFor unread [] }
     ensures cut { PiecesAreCut }
     ensures pieces { PiecesDoNotMatter }
 {}

@@ -91,7 +91,15 @@ fn feed_in_pieces(rt: &impl Abort, alloc: Global, stream: &Stream, size: usize) 
     assert_eq!(rt; reader.finish().err(), end);
     assert_eq!(rt; out.len(), stream.blocks);
     let first = out.get(0).expect(rt, "a block");
-    assert_eq!(rt; first.header, Header { length: 14, count: 1, unit: 1, sequence: 1 });
+    assert_eq!(rt;
+        first.header,
+        Header {
+            length: 14,
+            count: 1,
+            unit: 1,
+            sequence: 1
+        }
+    );
     assert!(rt; first.raws.get(0) == Some(b"\x06\x20\x98\x85\0\0".as_slice()));
 }
 
@@ -137,7 +145,9 @@ fn header(length: u16, count: u8, sequence: u32) -> Header {
 fn messages_are_packed(rt: HostRuntime) {
     // 1,400 bytes are not passed, and may be reached; nor are 255 messages.
     let large = pack(&rt, rt.alloc(), 255, 11, 7);
-    assert!(rt; large.as_slice() == [header(1283, 5, 7), header(1283, 5, 12), header(263, 1, 17)].as_slice());
+    assert!(rt;
+        large.as_slice() == [header(1283, 5, 7), header(1283, 5, 12), header(263, 1, 17)].as_slice()
+    );
     let even = pack(&rt, rt.alloc(), 232, 7, 1);
     assert!(rt; even.as_slice() == [header(1400, 6, 1), header(240, 1, 7)].as_slice());
     let small = pack(&rt, rt.alloc(), 2, 256, 1);
@@ -152,5 +162,8 @@ fn blocks_of_no_and_of_one_message(rt: HostRuntime) {
     let login = Raw::from_bytes(b"\x16\x010001FEED  PITCH     ").expect(&rt, "a raw");
     let mut out = Vec::new(rt.alloc());
     put_session(0, &login, &mut out).expect(&rt, "memory");
-    assert_eq!(rt; out.as_slice(), b"\x1e\0\x01\0\0\0\0\0\x16\x010001FEED  PITCH     ".as_slice());
+    assert_eq!(rt;
+        out.as_slice(),
+        b"\x1e\0\x01\0\0\0\0\0\x16\x010001FEED  PITCH     ".as_slice()
+    );
 }

@@ -21,7 +21,7 @@ returns-clause-bytes c =
 pub returns-clause-after : goal.returns-clause-after
 returns-clause-after c =
     let next : c.sequence_after-self-inside.result ≡ next_sequence c.args.self.now =
-      c.sequence_after-self-inside.ensures ∙ ap (sequence_after c.self.inside.sequence) (sym c.self.invariant.chain.many) ∙ ap next_sequence c.self.view_is in
+    c.sequence_after-self-inside.ensures ∙ ap (sequence_after c.self.inside.sequence) (sym c.self.invariant.chain.many) ∙ ap next_sequence c.self.view_is in
     ap (λ (rs : List (List ℕ)). record { unit = c.self.inside.unit; sequence = c.sequence_after-self-inside.result; begun = rs }) (no_raws (drop 8 c.replace-bytes.new.dest.items))
     ∙ ap (λ (s : ℕ). record { unit = c.self.inside.unit; sequence = s; begun = [] }) next
     ∙ ap (λ (p : Packing). record { unit = p.unit; sequence = next_sequence c.args.self.now; begun = [] }) c.self.view_is

@@ -35,4 +35,4 @@ returns-clause-ok c =
     let least : c.self-2.inside.sequence ≤ 4294967294 = subst (λ (n : ℕ). n ≤ 4294967294) (sym next) c.requires in
     let one = one_begun _ c.in_ok-begun.begun.items c.args.raw.now (c.in_ok-begun.ensures.size ∙ ap (λ (r : List ℕ). 8 + length r) c.bytes-2.ensures.bytes) (c.in_ok-begun.ensures.body ∙ c.bytes-2.ensures.bytes) c.bytes-2.ensures.raw least in
     begins_block _ _ _ _ _ done.added c.bytes-2.ensures.raw (λ p. both_ways c.takes.result c.if-takes.false (c.takes.ensures.1 p)) done.given done.gives
-      (ap (λ (q : Packing). q.unit) empty) next one.are
+    (ap (λ (q : Packing). q.unit) empty) next one.are
