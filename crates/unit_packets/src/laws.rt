@@ -11,8 +11,8 @@ pub fn cutting_laws()
     ensures one { CutsAreOne }
 {}
 
-/// The laws of feeding a stream in pieces: a new reader stands for no bytes; what a reader put out, and the fault that it keeps, are those of all bytes
-/// in one; so other pieces of the same bytes give the same blocks and the same fault.
+/// The laws of feeding a stream in pieces: a new reader stands for no bytes; what a reader put out, and the fault that
+/// it keeps, are those of all bytes in one; so other pieces of the same bytes give the same blocks and the same fault.
 pub fn feeding_laws()
     ensures begins { StandsFor unread [] }
     ensures cut { PiecesAreCut }
