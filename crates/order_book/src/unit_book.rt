@@ -9,7 +9,7 @@ ghost use Rattle.order_book.specs.Standing.{most_orders};
 
 use crate::adding::{is_displayed, order_of_expanded, order_of_long, order_of_short};
 use crate::change::Change;
-use crate::order_list::OrderList;
+use crate::order_list::{OrderList, append_by_id};
 use crate::totals::{all_shares, best_price, shares_at};
 use indexmap::IndexMap;
 use pitch_fields::{OutOfMemory, Price, Side, Symbol, get_u64};
@@ -160,7 +160,7 @@ impl UnitBook {
         ensures ok { OnOk result (out.new.items ≡ out.old.items ++ orders_of self.now.book) }
         ensures err { OnErr result (out.new.items ≡ out.old.items) }
     {
-        out.append_by_id(&self.orders)?;
+        append_by_id(out, &self.orders)?;
         Ok(())
     }
 

@@ -1,5 +1,5 @@
 -- The longest list of blocks.
-use Rattle.std.proofs.Common.{◌≡◌, ℕ, zero, suc, ◌+◌, ◌-◌, ◌<◌, ◌≤◌, ◌⊎◌, Bool, true, false, List, [], ◌∷◌, ◌++◌, length, take, drop, get_or, refl, sym, ap, ◌∙◌, arith, Ok, Err, Result, subst, length-append, append_assoc, inl, inr}
+use Rattle.std.proofs.Common.{◌≡◌, ℕ, zero, suc, ◌+◌, ◌≤◌, ◌⊎◌, List, [], ◌∷◌, ◌++◌, length, take, drop, refl, sym, ap, ◌∙◌, arith, Ok, Err, Result, subst, inl, inr}
 use Rattle.std.proofs.lemmas.List.{take-append-le, length-drop, get_or-take, length-take-le}
 use Rattle.unit_packets.specs.Blocks.{Block}
 use Rattle.unit_packets.specs.declared.header.Header.{Header}
@@ -7,7 +7,7 @@ use Rattle.unit_packets.specs.declared.header.BlockError.{BlockError}
 use Rattle.unit_packets.specs.Judging.{judge, block_at, IsFront}
 use Rattle.pitch_messages.specs.Raw.{raws_of}
 use Rattle.unit_packets.specs.Cutting.{blocks_on, rest_on, blocks_by, rest_by, blocks_of, rest_of}
-use Rattle.unit_packets.proofs.Stable.{judge_found, judge_more, Stands, IsFinal}
+use Rattle.unit_packets.proofs.Stable.{judge_found, judge_more, IsFinal}
 
 pub cases_Result : {A E : Type 0} (r : Result A E) → ((x : A) × (r ≡ Ok x)) ⊎ ((e : E) × (r ≡ Err e))
 cases_Result (Ok x) = inl (x, refl)
@@ -88,7 +88,7 @@ pub record Appends (fed more : List ℕ) : Type 0 where
   pub blocks : blocks_of (fed ++ more) ≡ blocks_of fed ++ blocks_of (rest_of fed ++ more)
   pub rest : rest_of (fed ++ more) ≡ rest_of (rest_of fed ++ more)
 
-drop_append : {A : Type 0} (n : ℕ) (xs ys : List A) → n ≤ length xs → drop n (xs ++ ys) ≡ drop n xs ++ ys
+pub drop_append : {A : Type 0} (n : ℕ) (xs ys : List A) → n ≤ length xs → drop n (xs ++ ys) ≡ drop n xs ++ ys
 drop_append zero xs ys le = refl
 drop_append (suc n) [] ys le = absurd (omega arith)
 drop_append (suc n) (x ∷ xs) ys le = drop_append n xs ys (omega arith)

@@ -1,14 +1,13 @@
 -- A block at the front of some bytes, by its header and messages.
-use Rattle.std.proofs.Common.{◌≡◌, ℕ, ◌+◌, ◌-◌, ◌≤◌, List, length, take, drop, get_or, refl, sym, ap, ◌∙◌, subst, arith, Ok, Err, Result}
+use Rattle.std.proofs.Common.{◌≡◌, ℕ, ◌+◌, ◌-◌, List, length, take, drop, sym, ap, ◌∙◌, subst, arith, Ok}
 use Rattle.std.specs.List.{concat}
 use Rattle.std.proofs.lemmas.List.{length-take-le, length-drop, get_or-take, drop-take}
 use Rattle.pitch_messages.specs.Raw.{raws_of}
 use Rattle.unit_packets.specs.Blocks.{Block, IsBlock}
-use Rattle.unit_packets.specs.Judging.{judge, block_at, header_of, IsFront}
+use Rattle.unit_packets.specs.Judging.{judge, block_at, IsFront}
 use Rattle.unit_packets.specs.Lending.{header_for, StandsAtFront}
 use Rattle.unit_packets.specs.Held.{block_of}
 use Rattle.unit_packets.specs.declared.header.Header.{Header}
-use Rattle.unit_packets.specs.declared.header.BlockError.{BlockError}
 
 abbrev header_made : ℕ → ℕ → Header → Header
 header_made n k h = record { length = n; count = k; unit = h.unit; sequence = h.sequence }

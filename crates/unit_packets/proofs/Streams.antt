@@ -1,10 +1,9 @@
 -- What a reader of a stream may conclude at each block, at each piece, and at a fault.
-use Rattle.std.proofs.Common.{◌≡◌, ℕ, zero, suc, ◌+◌, ◌-◌, ◌<◌, ◌≤◌, Bool, true, false, true≢false, cond, List, [], ◌∷◌, ◌++◌, length, take, drop, refl, sym, ap, ◌∙◌, subst, arith, Option, Some, None, Ok, Err, Result, length-append, inl, inr}
-use Rattle.std.specs.List.{concat}
+use Rattle.std.proofs.Common.{◌≡◌, ℕ, ◌<◌, ◌≤◌, Bool, true, false, true≢false, cond, List, [], ◌∷◌, ◌++◌, length, drop, refl, sym, ap, ◌∙◌, subst, arith, Option, Some, None, Err, Result, length-append, inl, inr, Ok}
 use Rattle.std.proofs.lemmas.List.{append-nil}
 use Rattle.std.proofs.lemmas.Bool.{cases_Bool}
 use Rattle.unit_packets.specs.Blocks.{Block}
-use Rattle.unit_packets.specs.Judging.{judge, block_at}
+use Rattle.unit_packets.specs.Judging.{judge}
 use Rattle.unit_packets.specs.Lending.{header_for, StandsAtFront}
 use Rattle.unit_packets.specs.Cutting.{blocks_of, rest_of, place_of, fault_from, fault_in, fault_of, fault_at_end, is_truncated}
 use Rattle.unit_packets.specs.declared.header.Header.{Header}
@@ -93,6 +92,8 @@ fault_no_rest bytes none = ap (fault_in true (place_of bytes)) none
 pub record Stays (bytes more : List ℕ) (e : BlockError) : Type 0 where
   pub blocks : blocks_of (bytes ++ more) ≡ blocks_of bytes
   pub fault : fault_of (bytes ++ more) ≡ Some (record { place = place_of bytes; error = e })
+  pub rest_is : rest_of (bytes ++ more) ≡ rest_of bytes ++ more
+  pub place_is : place_of (bytes ++ more) ≡ place_of bytes
 
 pub fault_stays : (bytes more : List ℕ) (e : BlockError) → judge (rest_of bytes) ≡ Err e → is_truncated e ≡ false → Stays bytes more e
 fault_stays bytes more e is lasts =
@@ -108,4 +109,34 @@ fault_stays bytes more e is lasts =
     record {
       blocks = all.blocks ∙ ap (λ (bs : List Block). blocks_of bytes ++ bs) none.blocks ∙ append-nil (blocks_of bytes);
       fault = fault_lasting (bytes ++ more) e (ap judge end ∙ later) lasts ∙ ap (λ (p : ℕ). faulty p e) place;
+      rest_is = end;
+      place_is = place;
     }
+
+-- a rest of no bytes has no fault, as bytes that are cut off
+pub fault_judged : (place : ℕ) (rest : List ℕ) → fault_in false place rest ≡ fault_from false place (judge rest)
+fault_judged place [] = sym (ap (fault_from false place) judge_nothing)
+fault_judged place (byte ∷ rest) = refl
+
+-- a fault that lasts is one at the stream's end too
+pub record Lasting (place : ℕ) (rest : List ℕ) (fault : BlockFault) : Type 0 where
+  pub error : BlockError
+  pub judged : judge rest ≡ Err error
+  pub lasts : is_truncated error ≡ false
+  pub is : fault ≡ record { place = place; error = error }
+
+lasting_by : (place : ℕ) (rest : List ℕ) (fault : BlockFault) (r : Result Header BlockError) → judge rest ≡ r → fault_from false place r ≡ Some fault → Lasting place rest fault
+lasting_by place rest fault (Ok h) is some = cc
+lasting_by place rest fault (Err e) is some = elim (cases_Bool (is_truncated e)) [
+  | inl cut ↦ let none : None ≡ Some fault = sym (truncated_from false place (Err e) e refl cut) ∙ some in cc
+  | inr lasts ↦ let same : faulty place e ≡ Some fault = sym (lasting_from false place (Err e) e refl lasts) ∙ some in record { error = e; judged = is; lasts = lasts; is = cc }
+]
+
+pub lasting_of : (place : ℕ) (rest : List ℕ) (fault : BlockFault) → fault_in false place rest ≡ Some fault → Lasting place rest fault
+lasting_of place rest fault is = lasting_by place rest fault (judge rest) refl (sym (fault_judged place rest) ∙ is)
+
+-- bytes that begin with a lasting fault have it
+pub lasting_more : (ended : Bool) (place : ℕ) (rest more : List ℕ) (e : BlockError) → judge rest ≡ Err e → is_truncated e ≡ false → fault_in ended place (rest ++ more) ≡ Some (record { place = place; error = e })
+lasting_more ended place rest more e is lasts =
+    let final : IsFinal (judge rest) = subst (λ r. IsFinal r) (sym is) lasts in
+    lasting_in ended place (rest ++ more) e (judge_more rest more final ∙ is) lasts

@@ -1,5 +1,5 @@
 -- What a reader of a stream knows.
-use Rattle.std.specs.Prelude.{ℕ, List, [], ◌++◌, drop, ◌+◌}
+use Rattle.std.specs.Prelude.{ℕ, List, [], ◌++◌, take, drop, ◌+◌}
 use Rattle.unit_packets.specs.Causes.{counted}
 
 -- a place in the stream, and the bytes that were loaded from there on
@@ -18,3 +18,7 @@ loaded reading piece = record { place = reading.place; rest = reading.rest ++ pi
 -- the first n bytes of the rest are behind
 abbrev pub passed : Reading → ℕ → Reading
 passed reading n = record { place = counted (reading.place + n); rest = drop n reading.rest }
+
+-- of the rest only the first n bytes are kept
+abbrev pub kept : Reading → ℕ → Reading
+kept reading n = record { place = reading.place; rest = take n reading.rest }

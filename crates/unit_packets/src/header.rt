@@ -1,5 +1,6 @@
 ghost use Rattle.std.specs.Prelude.{◌≡◌};
 ghost use Rattle.unit_packets.specs.Causes.{inner_place};
+ghost use Rattle.unit_packets.specs.Cutting.{is_truncated};
 
 use std::fmt;
 
@@ -33,6 +34,13 @@ pub enum BlockError {
 }
 
 impl BlockError {
+    /// The block is cut off: more bytes may complete it.
+    pub fn is_truncated(&self) -> bool
+        ensures { result ≡ is_truncated self.now }
+    {
+        matches!(*self, BlockError::Truncated { .. })
+    }
+
     /// The place inside the block, where the error has one; else 0.
     pub fn inner_place(&self) -> u32
         ensures { result ≡ inner_place self.now }

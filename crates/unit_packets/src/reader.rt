@@ -1,6 +1,12 @@
-ghost use Rattle.std.specs.Prelude.{◌≡◌, ◌≤◌, length, drop, vec_len, OnOk, OnErr};
-ghost use Rattle.unit_packets.specs.Reading.{unread, loaded, passed};
+ghost use Rattle.std.specs.Prelude.{◌≡◌, ℕ, ◌≤◌, List, ◌++◌, [], ◌∷◌, length, take, drop, vec_len, IfOk, OnOk, OnErr, Err, true};
+ghost use Rattle.unit_packets.specs.Cutting.{fault_in, fault_from};
+ghost use Rattle.unit_packets.specs.Feeding.{StandsFor, Feeds, WithMemory, IsRepeated, CutsTo, kept_fault, fed_answer, ended_answer, ended_fault};
+ghost use Rattle.unit_packets.specs.Reading.{unread, loaded, passed, kept};
 
+use crate::block::{BlockList, FeedError};
+use crate::header::{BlockError, BlockFault};
+use crate::judge::read_block;
+use crate::view::{BlockView, view_block};
 use pitch_fields::OutOfMemory;
 use std::alloc::Global;
 use std::marker::Model;
@@ -13,6 +19,77 @@ fn keep_from(buffer: &mut Vec<u8>, start: usize)
     let left = buffer.len() - start;
     buffer.copy_within(start.., 0);
     buffer.truncate(left);
+}
+
+// The error is one that more bytes do not mend, or the stream has ended.
+fn fault_from(ended: bool, place: u64, error: BlockError) -> Option<BlockFault>
+    ensures { result ≡ fault_from ended place (Err error) }
+{
+    if !ended && error.is_truncated() {
+        return None;
+    }
+    Some(BlockFault { place, error })
+}
+
+// The fault of the bytes that stand at a place behind the whole blocks.
+fn fault_in(ended: bool, place: u64, rest: &[u8]) -> Option<BlockFault>
+    ensures { result ≡ fault_in ended place rest.now }
+{
+    if rest.is_empty() {
+        return None;
+    }
+    match read_block(rest) {
+        Ok(_) => None,
+        Err(error) => fault_from(ended, place, error),
+    }
+}
+
+fn answer(fault: Option<BlockFault>) -> Result<(), FeedError>
+    ensures { result ≡ fed_answer fault }
+{
+    match fault {
+        None => Ok(()),
+        Some(fault) => Err(FeedError::Fault(fault)),
+    }
+}
+
+// Appends a copy of a lent block.
+fn push_copy(alloc: Global, view: &BlockView<'_>, out: &mut BlockList) -> Result<(), OutOfMemory>
+    ensures ok { OnOk result (out.new.items ≡ out.old.items ++ view.now ∷ []) }
+    ensures err { OnErr result (out.new.items ≡ out.old.items) }
+{
+    let block = view.to_block(alloc)?;
+    out.push(block)
+}
+
+// Appends the blocks at the front of the bytes. Answers how many bytes they have, and why no block stands behind them.
+fn cut_blocks(
+    alloc: Global,
+    bytes: &[u8],
+    out: &mut BlockList,
+) -> Result<(usize, BlockError), OutOfMemory>
+    ensures ok { IfOk result (λ cut. CutsTo bytes.now cut.0 cut.1 out.old.items out.new.items) }
+    ensures err { OnErr result (out.new.items ≡ out.old.items) }
+{
+    let before = out.len();
+    let mut at = 0;
+    'next: while at <= bytes.len() {
+        let rest = &bytes[at..];
+        match view_block(rest) {
+            Ok(view) => {
+                match push_copy(alloc, &view, out) {
+                    Ok(()) => {}
+                    Err(error) => {
+                        out.truncate(before);
+                        return Err(error);
+                    }
+                }
+                at += view.header().length as usize;
+            }
+            Err(error) => return Ok((at, error)),
+        }
+    }
+    unreachable!()
 }
 
 /// The rest of a stream that comes in pieces: what was loaded and is not yet behind, and its place in the stream.
@@ -81,5 +158,56 @@ impl BlockReader {
     {
         self.start += count;
         self.place = self.place.saturating_add(count as u64);
+    }
+
+    // Keeps the first bytes of the rest.
+    fn keep(&mut self, count: usize)
+        requires { count ≤ length self.old.rest }
+        ensures { self.new ≡ kept self.old count }
+    {
+        self.buffer.truncate(self.start + count);
+    }
+
+    /// Feeds the next piece of the stream, and appends each block that became whole.
+    ///
+    /// The answer is the fault of the stream so far, unless more bytes may mend it; the blocks before it are in `out`, and each
+    /// later call answers it again, appends nothing and keeps nothing of its piece. Reader and list are as before after OutOfMemory.
+    pub fn feed(&mut self, piece: &[u8], out: &mut BlockList) -> Result<(), FeedError>
+        // However the bytes were cut into pieces.
+        ensures fed { WithMemory result ((fed : List ℕ) → StandsFor self.old fed → Feeds fed piece.now self.new out.old.items out.new.items result) }
+        ensures again { IsRepeated (kept_fault self.old) result ((self.new ≡ self.old) × (out.new.items ≡ out.old.items)) }
+        ensures memory { result ≡ Err FeedError.OutOfMemory → (self.new ≡ self.old) × (out.new.items ≡ out.old.items) }
+    {
+        match fault_in(false, self.place(), self.rest()) {
+            Some(fault) => return Err(FeedError::Fault(fault)),
+            None => {}
+        }
+        let before = self.rest().len();
+        match self.load(piece) {
+            Ok(()) => {}
+            Err(_) => return Err(FeedError::OutOfMemory),
+        }
+        let alloc = *self.buffer.allocator();
+        match cut_blocks(alloc, self.rest(), out) {
+            Ok((passed, error)) => {
+                self.pass(passed);
+                answer(fault_from(false, self.place(), error))
+            }
+            Err(_) => {
+                self.keep(before);
+                Err(FeedError::OutOfMemory)
+            }
+        }
+    }
+
+    /// Ends the stream. Where bytes are kept, they are a fault: the one that was kept, or that the block is cut off.
+    pub fn finish(&self) -> Result<(), BlockFault>
+        ensures kept { result ≡ ended_answer (fault_in true self.now.place self.now.rest) }
+        ensures fed { (fed : List ℕ) → StandsFor self.now fed → result ≡ ended_answer (ended_fault fed) }
+    {
+        match fault_in(true, self.place(), self.rest()) {
+            None => Ok(()),
+            Some(fault) => Err(fault),
+        }
     }
 }

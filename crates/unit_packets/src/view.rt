@@ -1,11 +1,14 @@
-ghost use Rattle.std.specs.Prelude.{◌≡◌, ◌≤◌, length, IfOk, IfErr, Err};
+ghost use Rattle.std.specs.Prelude.{◌≡◌, length, IfOk, IfErr, Err};
 ghost use Rattle.unit_packets.specs.Blocks.{StaysWithin};
 ghost use Rattle.unit_packets.specs.Judging.{judge};
 ghost use Rattle.unit_packets.specs.Lending.{header_for, StandsAtFront};
 
+use crate::block::Block;
 use crate::header::{BlockError, Header};
 use crate::judge::read_block;
-use pitch_messages::Raws;
+use pitch_fields::OutOfMemory;
+use pitch_messages::{RawList, Raws};
+use std::alloc::Global;
 use std::marker::Model;
 
 /// A whole block, lent from the bytes in which it stands.
@@ -43,6 +46,16 @@ impl<'a> BlockView<'a> {
         ensures within { StaysWithin self.now.sequence (length self.now.raws) }
     {
         self.raws.copy()
+    }
+
+    /// A block of its own, copied in one go.
+    pub fn to_block(&self, alloc: Global) -> Result<Block, OutOfMemory>
+        ensures { IfOk result (λ block. block ≡ self.now) }
+    {
+        Ok(Block {
+            header: self.header(),
+            raws: RawList::of_raws(alloc, self.raws())?,
+        })
     }
 }
 

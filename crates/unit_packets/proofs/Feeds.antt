@@ -1,0 +1,182 @@
+-- What a reader stands for after a piece.
+use Rattle.std.proofs.Common.{◌≡◌, ℕ, ◌+◌, ◌≤◌, ◌⊎◌, Bool, true, false, List, [], ◌∷◌, ◌++◌, length, take, drop, refl, sym, ap, ◌∙◌, subst, arith, Option, Some, None, Ok, Err, Result, length-append, append_assoc, inl, inr, is_some}
+use Rattle.std.specs.List.{concat}
+use Rattle.std.proofs.lemmas.List.{append-nil, length-drop, drop-drop, take_at}
+use Rattle.unit_packets.specs.Blocks.{Block}
+use Rattle.unit_packets.specs.Causes.{counted}
+use Rattle.unit_packets.specs.Judging.{judge}
+use Rattle.unit_packets.specs.Lending.{header_for, StandsAtFront}
+use Rattle.unit_packets.specs.Cutting.{blocks_of, rest_of, place_of, fault_in, fault_from}
+use Rattle.unit_packets.specs.Reading.{Reading, unread}
+use Rattle.unit_packets.specs.Feeding.{fed_fault, kept_fault, StandsFor, fed_answer, Feeds, WithMemory, CutsTo, FeedsAll, PiecesAreCut, PiecesDoNotMatter}
+use Rattle.unit_packets.specs.declared.header.BlockError.{BlockError}
+use Rattle.unit_packets.specs.declared.header.BlockFault.{BlockFault}
+use Rattle.unit_packets.specs.declared.block.FeedError.{FeedError}
+use Rattle.unit_packets.specs.declared.block.FeedError.TheVariants.{Fault, OutOfMemory}
+use Rattle.unit_packets.proofs.Cuts.{appends, none_of, rest_short}
+use Rattle.unit_packets.specs.declared.header.Header.{Header}
+use Rattle.unit_packets.specs.Cutting.{rest_by, blocks_by}
+use Rattle.unit_packets.proofs.Stable.{IsFinal, judge_more}
+use Rattle.unit_packets.proofs.Streams.{leads, fault_judged, lasting_of, lasting_more, fault_stays}
+
+-- ---- Cutting a piece
+pub record Cutting (bytes : List ℕ) (at : ℕ) (before so_far : List Block) : Type 0 where
+  pub within : at ≤ length bytes
+  pub rest : rest_of bytes ≡ rest_of (drop at bytes)
+  pub added : List Block
+  pub are : so_far ≡ before ++ added
+  pub blocks : added ++ blocks_of (drop at bytes) ≡ blocks_of bytes
+
+pub cutting_none : (bytes : List ℕ) (before : List Block) → Cutting bytes 0 before before
+cutting_none bytes before = record { within = omega arith; rest = refl; added = []; are = sym (append-nil before); blocks = refl }
+
+pub cutting_kept : (bytes : List ℕ) (at n : ℕ) (before so_far : List Block) → Cutting bytes at before so_far → n ≡ length before → take n so_far ≡ before
+cutting_kept bytes at n before so_far c is = ap (λ (k : ℕ). take k so_far) is ∙ ap (take (length before)) c.are ∙ take_at before c.added (length before) refl
+
+pub cutting_more : (bytes rest : List ℕ) (at n : ℕ) (before so_far longer : List Block) (block : Block) → Cutting bytes at before so_far → rest ≡ drop at bytes → StandsAtFront rest block → n ≡ (header_for block).length
+    → longer ≡ so_far ++ block ∷ [] → Cutting bytes (at + n) before longer
+cutting_more bytes rest at n before so_far longer block c is stands size more =
+    let l = leads (drop at bytes) block (subst (λ (r : List ℕ). StandsAtFront r block) is stands) in
+    let cut : drop (header_for block).length (drop at bytes) ≡ drop (at + n) bytes = drop-drop (header_for block).length at bytes ∙ ap (λ (k : ℕ). drop (at + k) bytes) (sym size) in
+    record {
+      within = omega (arith, l.fits, length-drop at bytes, c.within, size);
+      rest = c.rest ∙ l.rest_is ∙ ap rest_of cut;
+      added = c.added ++ block ∷ [];
+      are = more ∙ ap (λ (bs : List Block). bs ++ block ∷ []) c.are ∙ append_assoc before c.added (block ∷ []);
+      blocks = append_assoc c.added (block ∷ []) (blocks_of (drop (at + n) bytes))
+          ∙ ap (λ (r : List ℕ). c.added ++ (block ∷ blocks_of r)) (sym cut)
+          ∙ ap (λ (bs : List Block). c.added ++ bs) (sym l.blocks)
+          ∙ c.blocks;
+    }
+
+pub cutting_end : (bytes rest : List ℕ) (at : ℕ) (before so_far : List Block) (e : BlockError) → Cutting bytes at before so_far → rest ≡ drop at bytes → judge rest ≡ Err e → CutsTo bytes at e before so_far
+cutting_end bytes rest at before so_far e c is stop =
+    let there : judge (drop at bytes) ≡ Err e = ap judge (sym is) ∙ stop in
+    let none = none_of (drop at bytes) e there in
+    record {
+      within = c.within;
+      rest = c.rest ∙ none.rest;
+      blocks = c.are ∙ ap (λ (bs : List Block). before ++ bs) (sym (append-nil c.added) ∙ ap (λ (bs : List Block). c.added ++ bs) (sym none.blocks) ∙ c.blocks);
+      stop = there;
+    }
+
+-- ---- Standing for bytes
+counted_on : (a b : ℕ) → counted (counted a + b) ≡ counted (a + b)
+counted_on a b = omega arith
+
+no_some : (o : Option BlockFault) → o ≡ None → is_some o ≡ true → ⊥
+no_some o none some = cc
+
+all_kept : (reading : Reading) (fed : List ℕ) → StandsFor reading fed → kept_fault reading ≡ None → rest_of fed ≡ reading.rest
+all_kept reading fed stands none = elim stands.keeps [
+  | inl all ↦ stands.rest_is ∙ ap (λ (d : List ℕ). reading.rest ++ d) all ∙ append-nil reading.rest
+  | inr some ↦ absurd (no_some (kept_fault reading) none some)
+]
+
+-- a piece was cut, behind no fault
+pub fed_on : (fed piece all : List ℕ) (at : ℕ) (error : BlockError) (old new : Reading) (before after : List Block) (answer : Result (Unit {0}) FeedError)
+    → StandsFor old fed → kept_fault old ≡ None → all ≡ old.rest ++ piece → CutsTo all at error before after
+    → new.place ≡ counted (old.place + at) → new.rest ≡ drop at all → answer ≡ fed_answer (fault_from false new.place (Err error))
+    → Feeds fed piece new before after answer
+fed_on fed piece all at error old new before after answer stands none are c place rest gives =
+    let more = appends fed piece in
+    let kept : rest_of fed ≡ old.rest = all_kept old fed stands none in
+    let bytes : rest_of fed ++ piece ≡ all = ap (λ (r : List ℕ). r ++ piece) kept ∙ sym are in
+    let left : rest_of (fed ++ piece) ≡ drop at all = more.rest ∙ ap rest_of bytes ∙ c.rest in
+    let short = rest_short fed in
+    let within = c.within in
+    let size : length all ≡ length (rest_of fed) + length piece = sym (ap length bytes) ∙ length-append (rest_of fed) piece in
+    let on : place_of fed + at ≡ place_of (fed ++ piece) = omega (arith, short, within, size, ap length left, length-drop at all, length-append fed piece) in
+    let here : new.place ≡ counted (place_of (fed ++ piece)) = place ∙ ap (λ (p : ℕ). counted (p + at)) stands.place_is ∙ counted_on (place_of fed) at ∙ ap counted on in
+    record {
+      stands = record { place_is = here; dropped = []; rest_is = left ∙ sym rest ∙ sym (append-nil new.rest); keeps = inl refl };
+      added = blocks_of all;
+      given = c.blocks;
+      blocks = more.blocks ∙ ap (λ (r : List ℕ). blocks_of fed ++ blocks_of r) bytes;
+      fault = gives ∙ ap (λ (r : Result Header BlockError). fed_answer (fault_from false new.place r)) (sym c.stop)
+          ∙ ap fed_answer (sym (fault_judged new.place (drop at all)))
+          ∙ ap (λ (p : ℕ). fed_answer (fault_in false p (drop at all))) here
+          ∙ ap (λ (r : List ℕ). fed_answer (fault_in false (counted (place_of (fed ++ piece))) r)) (sym left);
+    }
+
+-- behind a fault nothing becomes whole
+pub fed_past : (fed piece : List ℕ) (reading : Reading) (fault : BlockFault) (before : List Block) → StandsFor reading fed → kept_fault reading ≡ Some fault → Feeds fed piece reading before before (Err (Fault fault))
+fed_past fed piece reading fault before stands some =
+    let l = lasting_of reading.place reading.rest fault some in
+    let final : IsFinal (judge reading.rest) = subst (λ r. IsFinal r) (sym l.judged) l.lasts in
+    let there : judge (rest_of fed) ≡ Err l.error = ap judge stands.rest_is ∙ judge_more reading.rest stands.dropped final ∙ l.judged in
+    let stays = fault_stays fed piece l.error there l.lasts in
+    let left : rest_of (fed ++ piece) ≡ reading.rest ++ (stands.dropped ++ piece) = stays.rest_is ∙ ap (λ (r : List ℕ). r ++ piece) stands.rest_is ∙ append_assoc reading.rest stands.dropped piece in
+    let here : reading.place ≡ counted (place_of (fed ++ piece)) = stands.place_is ∙ ap counted (sym stays.place_is) in
+    record {
+      stands = record { place_is = here; dropped = stands.dropped ++ piece; rest_is = left; keeps = inr (ap is_some some) };
+      added = [];
+      given = sym (append-nil before);
+      blocks = stays.blocks ∙ sym (append-nil (blocks_of fed));
+      fault = ap (λ (f : BlockFault). Err (Fault f)) l.is
+          ∙ ap fed_answer (sym (lasting_more false reading.place reading.rest (stands.dropped ++ piece) l.error l.judged l.lasts))
+          ∙ ap (λ (p : ℕ). fed_answer (fault_in false p (reading.rest ++ (stands.dropped ++ piece)))) here
+          ∙ ap (λ (r : List ℕ). fed_answer (fault_in false (counted (place_of (fed ++ piece))) r)) (sym left);
+    }
+
+-- the fault of a rest and of more bytes behind a lasting fault is one
+same_fault : (ended : Bool) (place : ℕ) (rest dropped : List ℕ) (o : Option BlockFault) → fault_in false place rest ≡ o → (dropped ≡ []) ⊎ (is_some o ≡ true) → fault_in ended place (rest ++ dropped) ≡ fault_in ended place rest
+same_fault ended place rest dropped None is (inl none) = ap (fault_in ended place) (ap (λ (d : List ℕ). rest ++ d) none ∙ append-nil rest)
+same_fault ended place rest dropped None is (inr some) = cc
+same_fault ended place rest dropped (Some fault) is either =
+    let l = lasting_of place rest fault is in
+    lasting_more ended place rest dropped l.error l.judged l.lasts
+    ∙ sym (lasting_more ended place rest [] l.error l.judged l.lasts)
+    ∙ ap (fault_in ended place) (append-nil rest)
+
+pub stands_fault : (ended : Bool) (reading : Reading) (fed : List ℕ) → StandsFor reading fed → fault_in ended reading.place reading.rest ≡ fault_in ended (counted (place_of fed)) (rest_of fed)
+stands_fault ended reading fed stands =
+    sym (same_fault ended reading.place reading.rest stands.dropped (kept_fault reading) refl stands.keeps)
+    ∙ ap (fault_in ended reading.place) (sym stands.rest_is)
+    ∙ ap (λ (p : ℕ). fault_in ended p (rest_of fed)) stands.place_is
+
+-- ---- Pieces
+pub stands_unread : StandsFor unread []
+unfolding rest_of rest_by
+stands_unread = record { place_is = refl; dropped = []; rest_is = refl; keeps = inl refl }
+
+blocks_none : blocks_of [] ≡ []
+unfolding blocks_of blocks_by
+blocks_none = refl
+
+record AllFed (fed pieces : List ℕ) (new : Reading) (before after : List Block) : Type 0 where
+  stands : StandsFor new (fed ++ pieces)
+  blocks : before ≡ blocks_of fed → after ≡ blocks_of (fed ++ pieces)
+
+all_fed : (pieces : List (List ℕ)) (fed : List ℕ) (old new : Reading) (before after : List Block) → StandsFor old fed → FeedsAll pieces old new before after → AllFed fed (concat pieces) new before after
+all_fed [] fed old new before after stands (same, none) = record {
+  stands = subst (λ (r : Reading). StandsFor r (fed ++ [])) (sym same) (subst (λ (b : List ℕ). StandsFor old b) (sym (append-nil fed)) stands);
+  blocks = λ was. none ∙ was ∙ ap blocks_of (sym (append-nil fed));
+}
+all_fed (piece ∷ pieces) fed old new before after stands (next, middle, answer, one, others) =
+    let first = one fed stands in
+    let then = all_fed pieces (fed ++ piece) next new middle after first.stands others in
+    let join : (fed ++ piece) ++ concat pieces ≡ fed ++ concat (piece ∷ pieces) = append_assoc fed piece (concat pieces) in
+    record {
+      stands = subst (λ (b : List ℕ). StandsFor new b) join then.stands;
+      blocks = λ was. then.blocks (first.given ∙ ap (λ (bs : List Block). bs ++ first.added) was ∙ sym first.blocks) ∙ ap blocks_of join;
+    }
+
+pub pieces_are_cut : PiecesAreCut
+pieces_are_cut pieces reading blocks all =
+    let a = all_fed pieces [] unread reading [] blocks stands_unread all in
+    (a.blocks (sym blocks_none), stands_fault false reading (concat pieces) a.stands, a.stands)
+
+pub pieces_do_not_matter : PiecesDoNotMatter
+pieces_do_not_matter pieces others reading left blocks some same one other =
+    let a = pieces_are_cut pieces reading blocks one in
+    let b = pieces_are_cut others left some other in
+    (a.0 ∙ ap blocks_of same ∙ sym b.0, a.1 ∙ ap fed_fault same ∙ sym b.1)
+
+pub with_memory : (answer : Result (Unit {0}) FeedError) (P : Type 0) → P → WithMemory answer P
+with_memory (Ok done) P p = p
+with_memory (Err (Fault fault)) P p = p
+with_memory (Err OutOfMemory) P p = tt
+
+pub same_kept : (a b : Reading) → a.place ≡ b.place → a.rest ≡ b.rest → a ≡ b
+same_kept a b place rest = ap (λ (p : ℕ). record { place = p; rest = a.rest }) place ∙ ap (λ (r : List ℕ). record { place = b.place; rest = r }) rest

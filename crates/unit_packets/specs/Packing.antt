@@ -1,0 +1,103 @@
+-- How messages are packed into datagrams.
+use Rattle.std.specs.Prelude.{◌≡◌, ℕ, ◌+◌, ◌≤◌, ◌<◌, Bool, ◌&&◌, nat_le, nat_eq, List, [], ◌∷◌, ◌++◌, length, map, if◌then◌else◌}
+use Rattle.std.specs.List.{concat, AllByRecursion}
+use Rattle.pitch_messages.specs.Raw.{IsRaw}
+use Rattle.pitch_messages.specs.Room.{Roomy}
+use Rattle.unit_packets.specs.Blocks.{IsBlock, StaysWithin}
+use Rattle.unit_packets.specs.BlockBytes.{block_bytes}
+use Rattle.unit_packets.specs.CuttingLaws.{IsBytes}
+
+-- the messages go into one datagram: 1,400 bytes with the header, and 255 messages, at most
+pub record FitsDatagram (raws : List (List ℕ)) : Type 0 where
+  pub size : 8 + length (concat raws) ≤ 1400
+  pub count : length raws ≤ 255
+
+-- the sequence after so many messages; unsequenced stays unsequenced
+abbrev pub sequence_after : ℕ → ℕ → ℕ
+sequence_after first count = if nat_eq first 0 then 0 else (first + count)
+
+-- one block of that unit, with at least one message, the first of which has that sequence
+pub record IsDatagram (unit sequence : ℕ) (raws : List (List ℕ)) (datagram : List ℕ) : Type 0 where
+  pub block : IsBlock datagram (record { unit = unit; sequence = sequence; raws = raws })
+  pub some : 0 < length raws
+  pub fits : FitsDatagram raws
+
+-- the first of the messages that follow does not go in with these
+abbrev pub IsFull : List (List ℕ) → List (List ℕ) → Type 0
+IsFull raws [] = Unit {0}
+IsFull raws (raw ∷ following) = FitsDatagram (raws ++ raw ∷ []) → ⊥
+
+-- the datagrams hold the messages in their order, from a sequence on, and none but the last could also take the first message of the next
+abbrev pub IsPacking : ℕ → ℕ → List (List ℕ) → List (List ℕ) → Type 0
+IsPacking unit first raws [] = raws ≡ []
+IsPacking unit first raws (datagram ∷ datagrams) =
+    (front back : List (List ℕ)) × (raws ≡ front ++ back) × IsDatagram unit first front datagram × IsFull front back × IsPacking unit (sequence_after first (length front)) back datagrams
+
+-- ---- The same, computed
+unfoldable pub fits_datagram : List (List ℕ) → Bool
+fits_datagram raws = nat_le (8 + length (concat raws)) 1400 && nat_le (length raws) 255
+
+-- the datagram of a block that was begun, if any
+abbrev pub begun_datagrams : ℕ → ℕ → List (List ℕ) → List (List ℕ)
+begun_datagrams unit sequence [] = []
+begun_datagrams unit sequence (raw ∷ raws) = block_bytes (record { unit = unit; sequence = sequence; raws = raw ∷ raws }) ∷ []
+
+-- the datagrams of a block that was begun and of the messages that follow
+unfoldable pub packed_on : ℕ → ℕ → List (List ℕ) → List (List ℕ) → List (List ℕ)
+packed_on unit sequence begun [] = begun_datagrams unit sequence begun
+packed_on unit sequence begun (raw ∷ raws) =
+    if fits_datagram (begun ++ raw ∷ []) then packed_on unit sequence (begun ++ raw ∷ []) raws
+    else (begun_datagrams unit sequence begun ++ packed_on unit (sequence_after sequence (length begun)) (raw ∷ []) raws)
+
+-- the datagrams of messages from a sequence on
+abbrev pub packed : ℕ → ℕ → List (List ℕ) → List (List ℕ)
+packed unit first raws = packed_on unit first [] raws
+
+-- ---- What a packer knows
+-- its unit, and the block that was begun: the sequence of its first message, and its messages
+pub record Packing : Type 0 where
+  pub unit : ℕ
+  pub sequence : ℕ
+  pub begun : List (List ℕ)
+
+-- nothing was packed yet
+abbrev pub unpacked : ℕ → ℕ → Packing
+unpacked unit first = record { unit = unit; sequence = first; begun = [] }
+
+-- the sequence of the next message
+abbrev pub next_sequence : Packing → ℕ
+next_sequence packing = sequence_after packing.sequence (length packing.begun)
+
+-- the messages from a sequence on were pushed, and the datagrams given out: whatever messages follow, the packing of all is these datagrams and those that the packer will give
+pub record HasPacked (packing : Packing) (unit first : ℕ) (raws datagrams : List (List ℕ)) : Type 0 where
+  pub unit_is : packing.unit ≡ unit
+  pub next_is : next_sequence packing ≡ sequence_after first (length raws)
+  pub goes_on : (more : List (List ℕ)) → packed unit first (raws ++ more) ≡ datagrams ++ packed_on packing.unit packing.sequence packing.begun more
+
+-- the bytes of the datagrams in a list
+abbrev pub bytes_in : List (Roomy ℕ) → List (List ℕ)
+bytes_in lists = map (λ (list : Roomy ℕ). list.items) lists
+
+-- one message more was pushed, and the datagram that it did not go into, if any, given out
+pub record Pushes (old : Packing) (raw : List ℕ) (new : Packing) (before after : List (Roomy ℕ)) : Type 0 where
+  pub added : List (Roomy ℕ)
+  pub given : after ≡ before ++ added
+  pub stands : (unit first : ℕ) (raws datagrams : List (List ℕ)) → HasPacked old unit first raws datagrams → HasPacked new unit first (raws ++ raw ∷ []) (datagrams ++ bytes_in added)
+
+-- all that was pushed is given out, and the next message begins a packing of its own
+pub record Finishes (old new : Packing) (before after : List (Roomy ℕ)) : Type 0 where
+  pub added : List (Roomy ℕ)
+  pub given : after ≡ before ++ added
+  pub gives : bytes_in added ≡ begun_datagrams old.unit old.sequence old.begun
+  pub whole : (unit first : ℕ) (raws datagrams : List (List ℕ)) → HasPacked old unit first raws datagrams → datagrams ++ bytes_in added ≡ packed unit first raws
+  pub stands : (unit first : ℕ) (raws datagrams : List (List ℕ)) → HasPacked old unit first raws datagrams → HasPacked new unit (sequence_after first (length raws)) [] []
+
+-- ---- Laws
+-- the computed packing is one
+abbrev pub PackingIsComputed : Type 0
+PackingIsComputed = (unit first : ℕ) (raws : List (List ℕ)) → unit < 256 → AllByRecursion IsRaw raws → StaysWithin first (length raws) → IsPacking unit first raws (packed unit first raws)
+
+-- two packings of the same messages, in bytes, are one
+abbrev pub PackingIsOne : Type 0
+PackingIsOne = (unit first : ℕ) (raws datagrams others : List (List ℕ)) → AllByRecursion IsBytes datagrams → AllByRecursion IsBytes others
+    → IsPacking unit first raws datagrams → IsPacking unit first raws others → datagrams ≡ others
