@@ -1,9 +1,19 @@
 //! Venue commands and schedules as text: one grammar, read and printed.
+//!
+//! A text is cut into lines, and a line into fields. `read_commands` and `read_schedule` append the entries of a
+//! text, or answer the place and the cause of its first fault. `print_entry` writes an entry's canonical line,
+//! which reads as that entry again.
 #![tactic(auto)]
 
 mod command;
+mod command_forms;
 mod fault;
+mod fields;
+mod kinds;
+mod options;
+mod reading;
 mod verb;
+mod verb_forms;
 
 pub use crate::command::{Command, CommandEntry};
 pub use crate::fault::{TextCause, TextError};

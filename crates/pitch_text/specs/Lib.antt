@@ -1,0 +1,10 @@
+pub mod Fields
+pub mod Seen
+pub mod Reading
+pub mod Kinds
+pub mod Options
+pub mod InTurn
+pub mod CommandGrammar
+pub mod ScheduleGrammar
+pub mod Text
+pub mod Causes
