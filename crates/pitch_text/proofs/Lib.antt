@@ -1,2 +1,4 @@
 pub mod FieldLemmas
 pub mod OptionLemmas
+pub mod TextLemmas
+pub mod KindLemmas

@@ -7,14 +7,19 @@
 
 mod command;
 mod command_forms;
+mod command_text;
 mod fault;
 mod fields;
 mod kinds;
+mod lines;
 mod options;
 mod reading;
+mod schedule_text;
 mod verb;
 mod verb_forms;
 
 pub use crate::command::{Command, CommandEntry};
+pub use crate::command_text::{CommandList, read_commands};
 pub use crate::fault::{TextCause, TextError};
+pub use crate::schedule_text::{ScheduleList, read_schedule};
 pub use crate::verb::{ScheduleEntry, Session, Verb};
