@@ -13,13 +13,16 @@ mod fields;
 mod kinds;
 mod lines;
 mod options;
+mod print;
 mod reading;
 mod schedule_text;
 mod verb;
 mod verb_forms;
+mod well_formed;
 
 pub use crate::command::{Command, CommandEntry};
 pub use crate::command_text::{CommandList, read_commands};
 pub use crate::fault::{TextCause, TextError};
+pub use crate::print::print_entry;
 pub use crate::schedule_text::{ScheduleList, read_schedule};
 pub use crate::verb::{ScheduleEntry, Session, Verb};
