@@ -16,6 +16,8 @@ mod options;
 mod print;
 mod reading;
 mod schedule_text;
+#[cfg(test)]
+mod tests;
 mod verb;
 mod verb_forms;
 mod well_formed;
