@@ -51,6 +51,13 @@ printing_dark (b ∷ bs) h =
 number_word : (n k : ℕ) → 0 < k → k ≤ 20 → n < 10 ^ k → n < 2 ^ 64 → IsWord (decimal n)
 number_word n k some le small fits = record { filled = decimal_nonempty n fits; dark = digits_dark (decimal n) (decimal_digits n fits); short = omega (arith, length-decimal-le k n some small fits) }
 
+-- a number of 64 bits, and one of 32
+id_is_word : (n : ℕ) → n < 2 ^ 64 → IsWord (decimal n)
+id_is_word n h = number_word n 20 (omega arith) (omega arith) (omega (arith, h)) h
+
+count_is_word : (n : ℕ) → n < 2 ^ 32 → IsWord (decimal n)
+count_is_word n h = id_is_word n (omega (arith, h))
+
 -- a name in front
 named_word : (name text : List ℕ) → list_all is_dark name ≡ true → list_all is_dark text ≡ true → 0 < length name → length name + length text ≤ 20 → IsWord (name ++ text)
 named_word name text d e some le = record { filled = omega (arith, length-append name text); dark = list_all-append is_dark name text ∙ and_from (list_all is_dark name) (list_all is_dark text) d e; short = omega (arith, length-append name text) }
@@ -120,7 +127,7 @@ add_ok o offset ok off =
     let h = hidden_ok o.display in
     let m = mpid_ok o.participant (pointwise nat_eq o.participant no_participant) ok.participant in
     let t = at_ok offset off in
-    let order : AreWords (order_words (codes "add") o) = (literal (codes "add") refl refl refl, (number_word o.id 20 (omega arith) (omega arith) (omega (arith, ok.id)) ok.id, (side_word o.side, (number_word o.quantity 20 (omega arith) (omega arith) (omega (arith, ok.quantity)) (omega (arith, ok.quantity)), (symbol_word o.symbol ok.symbol, (price_word o.price ok.price, tt)))))) in
+    let order : AreWords (order_words (codes "add") o) = (literal (codes "add") refl refl refl, (id_is_word o.id ok.id, (side_word o.side, (count_is_word o.quantity ok.quantity, (symbol_word o.symbol ok.symbol, (price_word o.price ok.price, tt)))))) in
     record {
       words = are_append (order_words (codes "add") o) (hidden_words o.display ++ (mpid_words o.participant ++ at_words offset)) order (are_append (hidden_words o.display) (mpid_words o.participant ++ at_words offset) h.0 (are_append (mpid_words o.participant) (at_words offset) m.0 t.0));
       few = omega (arith, length-append (hidden_words o.display) (mpid_words o.participant ++ at_words offset), length-append (mpid_words o.participant) (at_words offset), h.1, m.1, t.1);
@@ -130,20 +137,20 @@ trade_ok : (o : Order) (execution offset : ℕ) → IsOrder o → execution < 2 
 trade_ok o execution offset ok ex off =
     let t = at_ok offset off in
     record {
-      words = (literal (codes "trade") refl refl refl, (number_word o.id 20 (omega arith) (omega arith) (omega (arith, ok.id)) ok.id, (side_word o.side, (number_word o.quantity 20 (omega arith) (omega arith) (omega (arith, ok.quantity)) (omega (arith, ok.quantity)), (symbol_word o.symbol ok.symbol, (price_word o.price ok.price, (number_word execution 20 (omega arith) (omega arith) (omega (arith, ex)) ex, t.0)))))));
+      words = (literal (codes "trade") refl refl refl, (id_is_word o.id ok.id, (side_word o.side, (count_is_word o.quantity ok.quantity, (symbol_word o.symbol ok.symbol, (price_word o.price ok.price, (id_is_word execution ex, t.0)))))));
       few = omega (arith, t.1);
     }
 
 command_ok : (c : Command) → IsCommand c → AreFew (command_words c)
 command_ok (commands.Time second) h = record { words = (literal (codes "time") refl refl refl, (number_word second 20 (omega arith) (omega arith) (omega arith) (omega arith), tt)); few = omega arith }
 command_ok (commands.Add o offset) h = add_ok o offset h.0 h.1
-command_ok (commands.Reduce id quantity offset) h = record { words = (literal (codes "reduce") refl refl refl, (number_word id 20 (omega arith) (omega arith) (omega (arith, h.0)) h.0, (number_word quantity 20 (omega arith) (omega arith) (omega (arith, h.1)) (omega (arith, h.1)), (at_ok offset h.2).0))); few = omega (arith, (at_ok offset h.2).1) }
-command_ok (commands.Exec id quantity execution offset) h = record { words = (literal (codes "exec") refl refl refl, (number_word id 20 (omega arith) (omega arith) (omega (arith, h.0)) h.0, (number_word quantity 20 (omega arith) (omega arith) (omega (arith, h.1)) (omega (arith, h.1)), (number_word execution 20 (omega arith) (omega arith) (omega (arith, h.2)) h.2, (at_ok offset h.3).0)))); few = omega (arith, (at_ok offset h.3).1) }
-command_ok (commands.ExecAt id quantity remaining execution price offset) h = record { words = (literal (codes "execat") refl refl refl, (number_word id 20 (omega arith) (omega arith) (omega (arith, h.0)) h.0, (number_word quantity 20 (omega arith) (omega arith) (omega (arith, h.1)) (omega (arith, h.1)), (number_word remaining 20 (omega arith) (omega arith) (omega (arith, h.2)) (omega (arith, h.2)), (number_word execution 20 (omega arith) (omega arith) (omega (arith, h.3)) h.3, (price_word price h.4, (at_ok offset h.5).0)))))); few = omega (arith, (at_ok offset h.5).1) }
-command_ok (commands.Delete id offset) h = record { words = (literal (codes "delete") refl refl refl, (number_word id 20 (omega arith) (omega arith) (omega (arith, h.0)) h.0, (at_ok offset h.1).0)); few = omega (arith, (at_ok offset h.1).1) }
-command_ok (commands.Break execution offset) h = record { words = (literal (codes "break") refl refl refl, (number_word execution 20 (omega arith) (omega arith) (omega (arith, h.0)) h.0, (at_ok offset h.1).0)); few = omega (arith, (at_ok offset h.1).1) }
+command_ok (commands.Reduce id quantity offset) h = record { words = (literal (codes "reduce") refl refl refl, (id_is_word id h.0, (count_is_word quantity h.1, (at_ok offset h.2).0))); few = omega (arith, (at_ok offset h.2).1) }
+command_ok (commands.Exec id quantity execution offset) h = record { words = (literal (codes "exec") refl refl refl, (id_is_word id h.0, (count_is_word quantity h.1, (id_is_word execution h.2, (at_ok offset h.3).0)))); few = omega (arith, (at_ok offset h.3).1) }
+command_ok (commands.ExecAt id quantity remaining execution price offset) h = record { words = (literal (codes "execat") refl refl refl, (id_is_word id h.0, (count_is_word quantity h.1, (count_is_word remaining h.2, (id_is_word execution h.3, (price_word price h.4, (at_ok offset h.5).0)))))); few = omega (arith, (at_ok offset h.5).1) }
+command_ok (commands.Delete id offset) h = record { words = (literal (codes "delete") refl refl refl, (id_is_word id h.0, (at_ok offset h.1).0)); few = omega (arith, (at_ok offset h.1).1) }
+command_ok (commands.Break execution offset) h = record { words = (literal (codes "break") refl refl refl, (id_is_word execution h.0, (at_ok offset h.1).0)); few = omega (arith, (at_ok offset h.1).1) }
 command_ok (commands.EndSession offset) h = record { words = (literal (codes "end") refl refl refl, (at_ok offset h).0); few = omega (arith, (at_ok offset h).1) }
-command_ok (commands.Modify id quantity price display offset) h = record { words = (literal (codes "modify") refl refl refl, (number_word id 20 (omega arith) (omega arith) (omega (arith, h.0)) h.0, (number_word quantity 20 (omega arith) (omega arith) (omega (arith, h.1)) (omega (arith, h.1)), (price_word price h.2, are_append (hidden_words display) (at_words offset) (hidden_ok display).0 (at_ok offset h.3).0)))); few = omega (arith, length-append (hidden_words display) (at_words offset), (hidden_ok display).1, (at_ok offset h.3).1) }
+command_ok (commands.Modify id quantity price display offset) h = record { words = (literal (codes "modify") refl refl refl, (id_is_word id h.0, (count_is_word quantity h.1, (price_word price h.2, are_append (hidden_words display) (at_words offset) (hidden_ok display).0 (at_ok offset h.3).0)))); few = omega (arith, length-append (hidden_words display) (at_words offset), (hidden_ok display).1, (at_ok offset h.3).1) }
 command_ok (commands.Trade o execution offset) h = trade_ok o execution offset h.0 h.3 h.4
 command_ok (commands.Clear offset) h = record { words = (literal (codes "clear") refl refl refl, (at_ok offset h).0); few = omega (arith, (at_ok offset h).1) }
 
@@ -158,17 +165,28 @@ session_word_ok Spin = literal (codes "spin") refl refl refl
 
 count_word_ok : (o : Option ℕ) → IfSome o (λ n. n < 2 ^ 32) → IsWord (count_word (codes "all") o)
 count_word_ok None h = literal (codes "all") refl refl refl
-count_word_ok (Some n) h = number_word n 20 (omega arith) (omega arith) (omega (arith, h)) (omega (arith, h))
+count_word_ok (Some n) h = count_is_word n h
 
-verb_ok : (v : Verb) → IsVerb v → AreFew (verb_words v)
-verb_ok (verbs.Command c) h = command_ok c h
-verb_ok (verbs.Setup hold kept second minute day) h =
+setup_ok : (hold kept second minute day : ℕ) → IsVerb (verbs.Setup hold kept second minute day) → AreFew (verb_words (verbs.Setup hold kept second minute day))
+setup_ok hold kept second minute day h =
+    let holds = number_words (codes "hold=") 4096 hold in
+    let keeps = number_words (codes "kept=") 65536 kept in
+    let seconds = number_words (codes "second=") 10 second in
+    let minutes = number_words (codes "minute=") 100 minute in
+    let days = number_words (codes "day=") 10000 day in
     let w0 = number_words_ok (codes "hold=") 4096 hold 5 (eqb hold 4096) refl (omega arith) (omega arith) (omega arith) (omega (arith, h.1)) (omega (arith, h.1)) in
     let w1 = number_words_ok (codes "kept=") 65536 kept 5 (eqb kept 65536) refl (omega arith) (omega arith) (omega arith) (omega (arith, h.3)) (omega (arith, h.3)) in
     let w2 = number_words_ok (codes "second=") 10 second 7 (eqb second 10) refl (omega arith) (omega arith) (omega arith) (omega (arith, h.5)) (omega (arith, h.5)) in
     let w3 = number_words_ok (codes "minute=") 100 minute 7 (eqb minute 100) refl (omega arith) (omega arith) (omega arith) (omega (arith, h.7)) (omega (arith, h.7)) in
     let w4 = number_words_ok (codes "day=") 10000 day 7 (eqb day 10000) refl (omega arith) (omega arith) (omega arith) (omega (arith, h.9)) (omega (arith, h.9)) in
-    record { words = (literal (codes "open") refl refl refl, are_append (number_words (codes "hold=") 4096 hold) (number_words (codes "kept=") 65536 kept ++ (number_words (codes "second=") 10 second ++ (number_words (codes "minute=") 100 minute ++ number_words (codes "day=") 10000 day))) w0.0 (are_append (number_words (codes "kept=") 65536 kept) (number_words (codes "second=") 10 second ++ (number_words (codes "minute=") 100 minute ++ number_words (codes "day=") 10000 day)) w1.0 (are_append (number_words (codes "second=") 10 second) (number_words (codes "minute=") 100 minute ++ number_words (codes "day=") 10000 day) w2.0 (are_append (number_words (codes "minute=") 100 minute) (number_words (codes "day=") 10000 day) w3.0 w4.0)))); few = omega (arith, length-append (number_words (codes "hold=") 4096 hold) (number_words (codes "kept=") 65536 kept ++ (number_words (codes "second=") 10 second ++ (number_words (codes "minute=") 100 minute ++ number_words (codes "day=") 10000 day))), length-append (number_words (codes "kept=") 65536 kept) (number_words (codes "second=") 10 second ++ (number_words (codes "minute=") 100 minute ++ number_words (codes "day=") 10000 day)), length-append (number_words (codes "second=") 10 second) (number_words (codes "minute=") 100 minute ++ number_words (codes "day=") 10000 day), length-append (number_words (codes "minute=") 100 minute) (number_words (codes "day=") 10000 day), w0.1, w1.1, w2.1, w3.1, w4.1) }
+    record {
+      words = (literal (codes "open") refl refl refl, are_append holds (keeps ++ (seconds ++ (minutes ++ days))) w0.0 (are_append keeps (seconds ++ (minutes ++ days)) w1.0 (are_append seconds (minutes ++ days) w2.0 (are_append minutes days w3.0 w4.0))));
+      few = omega (arith, length-append holds (keeps ++ (seconds ++ (minutes ++ days))), length-append keeps (seconds ++ (minutes ++ days)), length-append seconds (minutes ++ days), length-append minutes days, w0.1, w1.1, w2.1, w3.1, w4.1);
+    }
+
+verb_ok : (v : Verb) → IsVerb v → AreFew (verb_words v)
+verb_ok (verbs.Command c) h = command_ok c h
+verb_ok (verbs.Setup hold kept second minute day) h = setup_ok hold kept second minute day h
 verb_ok verbs.Flush h = record { words = (literal (codes "flush") refl refl refl, tt); few = omega arith }
 verb_ok verbs.Beat h = record { words = (literal (codes "beat") refl refl refl, tt); few = omega arith }
 verb_ok verbs.Advertise h = record { words = (literal (codes "advertise") refl refl refl, tt); few = omega arith }
@@ -176,7 +194,7 @@ verb_ok verbs.Tick h = record { words = (literal (codes "tick") refl refl refl, 
 verb_ok verbs.Show h = record { words = (literal (codes "show") refl refl refl, tt); few = omega arith }
 verb_ok (verbs.Connect session) h = record { words = (session_word_ok session, (literal (codes "open") refl refl refl, tt)); few = omega arith }
 verb_ok (verbs.Down session bytes) h = record { words = (session_word_ok session, (literal (codes "down") refl refl refl, (count_word_ok bytes h, tt))); few = omega arith }
-verb_ok (verbs.Deliver line n) h = record { words = (line_word_ok line, (number_word n 20 (omega arith) (omega arith) (omega (arith, h.1)) (omega (arith, h.1)), tt)); few = omega arith }
+verb_ok (verbs.Deliver line n) h = record { words = (line_word_ok line, (count_is_word n h.1, tt)); few = omega arith }
 verb_ok (verbs.Rest line) h = record { words = (line_word_ok line, (literal (codes "rest") refl refl refl, tt)); few = omega arith }
 verb_ok (verbs.Cut session) h = record { words = (session_word_ok session, (literal (codes "cut") refl refl refl, tt)); few = omega arith }
 verb_ok (verbs.Up session bytes) h = record { words = (session_word_ok session, (literal (codes "up") refl refl refl, (count_word_ok bytes h, tt))); few = omega arith }

@@ -114,6 +114,13 @@ mpid_words_not : (p : List ℕ) (b : Bool) (more : List (List ℕ)) → NotFirst
 mpid_words_not p true more h = h
 mpid_words_not p false more h = refl
 
+-- a number of 64 bits, and one of 32
+id_again : (n : ℕ) → n < 2 ^ 64 → number_of 0 (2 ^ 64 - 1) (decimal n) ≡ Some n
+id_again n h = number_again 0 (2 ^ 64 - 1) n (omega arith) (omega arith) h
+
+shares_again : (n : ℕ) → n < 2 ^ 32 → number_of 0 (2 ^ 32 - 1) (decimal n) ≡ Some n
+shares_again n h = number_again 0 (2 ^ 32 - 1) n (omega arith) (omega arith) (omega arith)
+
 side_again : (s : Side) → side_in (byte_of s ∷ []) ≡ Some s
 side_again Buy = refl
 side_again Sell = refl
@@ -188,7 +195,7 @@ unfolding reduce_form
 reduce_again id quantity offset past column i q h =
     let c1 = column + length (decimal id) + 1 in
     let t = offset_options_again offset (c1 + length (decimal quantity)) (c1 + length (decimal quantity) + 1) h in
-    record { past = t.past; column = 0; is = rw (number_again 0 (2 ^ 64 - 1) id (omega arith) (omega arith) i, number_again 0 (2 ^ 32 - 1) quantity (omega arith) (omega arith) (omega arith), t.is, t.times) refl }
+    record { past = t.past; column = 0; is = rw (id_again id i, shares_again quantity q, t.is, t.times) refl }
 
 pub clear_again : (offset past column : ℕ) → IsOffset offset → Read (clear_form (left past column (at_words offset))) (commands.Clear offset) []
 unfolding clear_form
@@ -204,7 +211,7 @@ add_again o offset past column ok off =
     let c4 = c3 + length (name_of o.symbol) + 1 in
     let p5 = c4 + length (price_digits o.price) in
     let t = order_options_again o.display o.participant offset p5 (p5 + 1) ok.participant off in
-    record { past = t.past; column = 0; is = rw (number_again 0 (2 ^ 64 - 1) o.id (omega arith) (omega (arith, ok.id)) ok.id, side_again o.side, number_again 0 (2 ^ 32 - 1) o.quantity (omega arith) (omega (arith, ok.quantity)) (omega (arith, ok.quantity)), ok.symbol, price_again o.price ok.price, t.is, t.shows, t.names, t.times) refl }
+    record { past = t.past; column = 0; is = rw (id_again o.id ok.id, side_again o.side, shares_again o.quantity ok.quantity, ok.symbol, price_again o.price ok.price, t.is, t.shows, t.names, t.times) refl }
 
 pub exec_again : (id quantity execution offset past column : ℕ) → id < 2 ^ 64 → quantity < 2 ^ 32 → execution < 2 ^ 64 → IsOffset offset → Read (exec_form (left past column (decimal id ∷ decimal quantity ∷ decimal execution ∷ at_words offset))) (commands.Exec id quantity execution offset) []
 unfolding exec_form
@@ -216,7 +223,7 @@ exec_again id quantity execution offset past column h0 h1 h2 h =
     let p2 = c1 + length (decimal execution) in
     let c2 = p2 + 1 in
     let t = offset_options_again offset p2 c2 h in
-    record { past = t.past; column = 0; is = rw (number_again 0 (2 ^ 64 - 1) id (omega arith) (omega arith) h0, number_again 0 (2 ^ 32 - 1) quantity (omega arith) (omega arith) (omega arith), number_again 0 (2 ^ 64 - 1) execution (omega arith) (omega arith) h2, t.is, t.times) refl }
+    record { past = t.past; column = 0; is = rw (id_again id h0, shares_again quantity h1, id_again execution h2, t.is, t.times) refl }
 
 pub execat_again : (id quantity remaining execution price offset past column : ℕ) → id < 2 ^ 64 → quantity < 2 ^ 32 → remaining < 2 ^ 32 → execution < 2 ^ 64 → price < 2 ^ 64 → IsOffset offset → Read (execat_form (left past column (decimal id ∷ decimal quantity ∷ decimal remaining ∷ decimal execution ∷ price_digits price ∷ at_words offset))) (commands.ExecAt id quantity remaining execution price offset) []
 unfolding execat_form
@@ -232,7 +239,7 @@ execat_again id quantity remaining execution price offset past column h0 h1 h2 h
     let p4 = c3 + length (price_digits price) in
     let c4 = p4 + 1 in
     let t = offset_options_again offset p4 c4 h in
-    record { past = t.past; column = 0; is = rw (number_again 0 (2 ^ 64 - 1) id (omega arith) (omega arith) h0, number_again 0 (2 ^ 32 - 1) quantity (omega arith) (omega arith) (omega arith), number_again 0 (2 ^ 32 - 1) remaining (omega arith) (omega arith) (omega arith), number_again 0 (2 ^ 64 - 1) execution (omega arith) (omega arith) h3, price_again price h4, t.is, t.times) refl }
+    record { past = t.past; column = 0; is = rw (id_again id h0, shares_again quantity h1, shares_again remaining h2, id_again execution h3, price_again price h4, t.is, t.times) refl }
 
 pub delete_again : (id offset past column : ℕ) → id < 2 ^ 64 → IsOffset offset → Read (delete_form (left past column (decimal id ∷ at_words offset))) (commands.Delete id offset) []
 unfolding delete_form
@@ -240,7 +247,7 @@ delete_again id offset past column h0 h =
     let p0 = column + length (decimal id) in
     let c0 = p0 + 1 in
     let t = offset_options_again offset p0 c0 h in
-    record { past = t.past; column = 0; is = rw (number_again 0 (2 ^ 64 - 1) id (omega arith) (omega arith) h0, t.is, t.times) refl }
+    record { past = t.past; column = 0; is = rw (id_again id h0, t.is, t.times) refl }
 
 pub break_again : (execution offset past column : ℕ) → execution < 2 ^ 64 → IsOffset offset → Read (break_form (left past column (decimal execution ∷ at_words offset))) (commands.Break execution offset) []
 unfolding break_form
@@ -248,7 +255,7 @@ break_again execution offset past column h0 h =
     let p0 = column + length (decimal execution) in
     let c0 = p0 + 1 in
     let t = offset_options_again offset p0 c0 h in
-    record { past = t.past; column = 0; is = rw (number_again 0 (2 ^ 64 - 1) execution (omega arith) (omega arith) h0, t.is, t.times) refl }
+    record { past = t.past; column = 0; is = rw (id_again execution h0, t.is, t.times) refl }
 
 pub end_again : (offset past column : ℕ) → IsOffset offset → Read (end_form (left past column (at_words offset))) (commands.EndSession offset) []
 unfolding end_form
@@ -264,7 +271,7 @@ modify_again id quantity price display offset past column i q r off =
     let c2 = c1 + length (decimal quantity) + 1 in
     let p3 = c2 + length (price_digits price) in
     let t = display_options_again display offset p3 (p3 + 1) off in
-    record { past = t.past; column = 0; is = rw (number_again 0 (2 ^ 64 - 1) id (omega arith) (omega arith) i, number_again 0 (2 ^ 32 - 1) quantity (omega arith) (omega arith) (omega arith), price_again price r, t.is, t.shows, t.times) refl }
+    record { past = t.past; column = 0; is = rw (id_again id i, shares_again quantity q, price_again price r, t.is, t.shows, t.times) refl }
 
 pub trade_again : (o : Order) (execution offset past column : ℕ) → IsOrder o → o.display ≡ true → o.participant ≡ no_participant → execution < 2 ^ 64 → IsOffset offset
     → Read (trade_form (left past column (decimal o.id ∷ (byte_of o.side ∷ []) ∷ (terms_words o ++ (decimal execution ∷ at_words offset))))) (commands.Trade o execution offset) []
@@ -277,7 +284,7 @@ trade_again o execution offset past column ok shown blank ex off =
     let c5 = c4 + length (price_digits o.price) + 1 in
     let p6 = c5 + length (decimal execution) in
     let t = offset_options_again offset p6 (p6 + 1) off in
-    record { past = t.past; column = 0; is = rw (number_again 0 (2 ^ 64 - 1) o.id (omega arith) (omega (arith, ok.id)) ok.id, side_again o.side, number_again 0 (2 ^ 32 - 1) o.quantity (omega arith) (omega (arith, ok.quantity)) (omega (arith, ok.quantity)), ok.symbol, price_again o.price ok.price, number_again 0 (2 ^ 64 - 1) execution (omega arith) (omega arith) ex, t.is, t.times, ← shown, ← blank) refl }
+    record { past = t.past; column = 0; is = rw (id_again o.id ok.id, side_again o.side, shares_again o.quantity ok.quantity, ok.symbol, price_again o.price ok.price, id_again execution ex, t.is, t.times, ← shown, ← blank) refl }
 
 -- ---- verbs
 
@@ -314,10 +321,13 @@ not_named_append : (name : List ℕ) (xs ys : List (List ℕ)) → NotNamed name
 not_named_append name [] ys h k = k
 not_named_append name (x ∷ xs) ys h k = h
 
--- a word of another name
+-- the words of a limit with another name, and then others
 other_name : (name other : List ℕ) (default n : ℕ) (b : Bool) → ((x : List ℕ) → starts_with nat_eq (other ++ x) name ≡ false) → NotNamed name (cond b [] ((other ++ decimal n) ∷ []))
 other_name name other default n true h = tt
 other_name name other default n false h = h (decimal n)
+
+other_words : (name other : List ℕ) (default n : ℕ) (more : List (List ℕ)) → ((x : List ℕ) → starts_with nat_eq (other ++ x) name ≡ false) → NotNamed name more → NotNamed name (number_words other default n ++ more)
+other_words name other default n more h k = not_named_append name (number_words other default n) more (other_name name other default n (eqb n default) h) k
 
 -- limits were read, and say these numbers, where none was said its default
 record LimitsRead (read : Result (Limits × Rest) Fault) (hold kept second minute day : ℕ) : Type 0 where
@@ -333,10 +343,19 @@ limit_words hold kept second minute day = number_words (codes "hold=") 4096 hold
 limits_again : (hold kept second minute day past column : ℕ) → IsVerb (verbs.Setup hold kept second minute day) → LimitsRead (limit_options (left past column (limit_words hold kept second minute day))) hold kept second minute day
 unfolding limits_in_turn
 limits_again hold kept second minute day past column h =
-    let r0 = number_read (codes "hold=") 1 65536 4096 hold past column (number_words (codes "kept=") 65536 kept ++ (number_words (codes "second=") 10 second ++ (number_words (codes "minute=") 100 minute ++ (number_words (codes "day=") 10000 day ++ [])))) is_hold (not_named_append (codes "hold=") (number_words (codes "kept=") 65536 kept) (number_words (codes "second=") 10 second ++ (number_words (codes "minute=") 100 minute ++ (number_words (codes "day=") 10000 day ++ []))) (other_name (codes "hold=") (codes "kept=") 65536 kept (eqb kept 65536) (λ x. refl)) (not_named_append (codes "hold=") (number_words (codes "second=") 10 second) (number_words (codes "minute=") 100 minute ++ (number_words (codes "day=") 10000 day ++ [])) (other_name (codes "hold=") (codes "second=") 10 second (eqb second 10) (λ x. refl)) (not_named_append (codes "hold=") (number_words (codes "minute=") 100 minute) (number_words (codes "day=") 10000 day ++ []) (other_name (codes "hold=") (codes "minute=") 100 minute (eqb minute 100) (λ x. refl)) (not_named_append (codes "hold=") (number_words (codes "day=") 10000 day) [] (other_name (codes "hold=") (codes "day=") 10000 day (eqb day 10000) (λ x. refl)) tt)))) h.0 h.1 (omega arith) in
-    let r1 = number_read (codes "kept=") 1 65536 65536 kept r0.past r0.column (number_words (codes "second=") 10 second ++ (number_words (codes "minute=") 100 minute ++ (number_words (codes "day=") 10000 day ++ []))) is_kept (not_named_append (codes "kept=") (number_words (codes "second=") 10 second) (number_words (codes "minute=") 100 minute ++ (number_words (codes "day=") 10000 day ++ [])) (other_name (codes "kept=") (codes "second=") 10 second (eqb second 10) (λ x. refl)) (not_named_append (codes "kept=") (number_words (codes "minute=") 100 minute) (number_words (codes "day=") 10000 day ++ []) (other_name (codes "kept=") (codes "minute=") 100 minute (eqb minute 100) (λ x. refl)) (not_named_append (codes "kept=") (number_words (codes "day=") 10000 day) [] (other_name (codes "kept=") (codes "day=") 10000 day (eqb day 10000) (λ x. refl)) tt))) h.2 h.3 (omega arith) in
-    let r2 = number_read (codes "second=") 1 1000000 10 second r1.past r1.column (number_words (codes "minute=") 100 minute ++ (number_words (codes "day=") 10000 day ++ [])) is_second (not_named_append (codes "second=") (number_words (codes "minute=") 100 minute) (number_words (codes "day=") 10000 day ++ []) (other_name (codes "second=") (codes "minute=") 100 minute (eqb minute 100) (λ x. refl)) (not_named_append (codes "second=") (number_words (codes "day=") 10000 day) [] (other_name (codes "second=") (codes "day=") 10000 day (eqb day 10000) (λ x. refl)) tt)) h.4 h.5 (omega arith) in
-    let r3 = number_read (codes "minute=") 1 1000000 100 minute r2.past r2.column (number_words (codes "day=") 10000 day ++ []) is_minute (not_named_append (codes "minute=") (number_words (codes "day=") 10000 day) [] (other_name (codes "minute=") (codes "day=") 10000 day (eqb day 10000) (λ x. refl)) tt) h.6 h.7 (omega arith) in
+    let from_day = number_words (codes "day=") 10000 day ++ [] in
+    let from_minute = number_words (codes "minute=") 100 minute ++ from_day in
+    let from_second = number_words (codes "second=") 10 second ++ from_minute in
+    let from_kept = number_words (codes "kept=") 65536 kept ++ from_second in
+    let r0 = number_read (codes "hold=") 1 65536 4096 hold past column from_kept is_hold
+    (other_words (codes "hold=") (codes "kept=") 65536 kept from_second (λ x. refl) (other_words (codes "hold=") (codes "second=") 10 second from_minute (λ x. refl)
+    (other_words (codes "hold=") (codes "minute=") 100 minute from_day (λ x. refl) (other_words (codes "hold=") (codes "day=") 10000 day [] (λ x. refl) tt)))) h.0 h.1 (omega arith) in
+    let r1 = number_read (codes "kept=") 1 65536 65536 kept r0.past r0.column from_second is_kept
+    (other_words (codes "kept=") (codes "second=") 10 second from_minute (λ x. refl) (other_words (codes "kept=") (codes "minute=") 100 minute from_day (λ x. refl)
+    (other_words (codes "kept=") (codes "day=") 10000 day [] (λ x. refl) tt))) h.2 h.3 (omega arith) in
+    let r2 = number_read (codes "second=") 1 1000000 10 second r1.past r1.column from_minute is_second
+    (other_words (codes "second=") (codes "minute=") 100 minute from_day (λ x. refl) (other_words (codes "second=") (codes "day=") 10000 day [] (λ x. refl) tt)) h.4 h.5 (omega arith) in
+    let r3 = number_read (codes "minute=") 1 1000000 100 minute r2.past r2.column from_day is_minute (other_words (codes "minute=") (codes "day=") 10000 day [] (λ x. refl) tt) h.6 h.7 (omega arith) in
     let r4 = number_read (codes "day=") 1 1000000 10000 day r3.past r3.column [] is_day tt h.8 h.9 (omega arith) in
     record {
       said = record { hold = r0.value; kept = r1.value; second = r2.value; minute = r3.value; day = r4.value };
@@ -371,12 +390,12 @@ connect_again session past column = record { past = column + 4; column = 0; is =
 down_again : (session : Session) (bytes : Option ℕ) (past column : ℕ) → IfSome bytes (λ n. n < 2 ^ 32) → Read (session_form session (left past column (codes "down" ∷ count_word (codes "all") bytes ∷ []))) (verbs.Down session bytes) []
 unfolding session_form down_form
 down_again session None past column h = record { past = column + 4 + 1 + 3; column = 0; is = refl }
-down_again session (Some n) past column h = record { past = column + 4 + 1 + length (decimal n); column = 0; is = rw (not_word n 97 (codes "ll") (omega arith) refl, number_again 0 (2 ^ 32 - 1) n (omega arith) (omega arith) (omega arith)) refl }
+down_again session (Some n) past column h = record { past = column + 4 + 1 + length (decimal n); column = 0; is = rw (not_word n 97 (codes "ll") (omega arith) refl, shares_again n h) refl }
 
 up_again : (session : Session) (bytes : Option ℕ) (past column : ℕ) → IfSome bytes (λ n. n < 2 ^ 32) → Read (session_form session (left past column (codes "up" ∷ count_word (codes "all") bytes ∷ []))) (verbs.Up session bytes) []
 unfolding session_form up_form
 up_again session None past column h = record { past = column + 2 + 1 + 3; column = 0; is = refl }
-up_again session (Some n) past column h = record { past = column + 2 + 1 + length (decimal n); column = 0; is = rw (not_word n 97 (codes "ll") (omega arith) refl, number_again 0 (2 ^ 32 - 1) n (omega arith) (omega arith) (omega arith)) refl }
+up_again session (Some n) past column h = record { past = column + 2 + 1 + length (decimal n); column = 0; is = rw (not_word n 97 (codes "ll") (omega arith) refl, shares_again n h) refl }
 
 pub verb_again : (v : Verb) (past column : ℕ) → IsVerb v → Read (verb (left past column (verb_words v))) v []
 unfolding verb word_form quote_form

@@ -1,4 +1,4 @@
-ghost use Rattle.std.specs.Prelude.{◌≡◌, ◌++◌, ◌∷◌, [], OnOk, OnErr, Ok, decimal};
+ghost use Rattle.std.specs.Prelude.{◌≡◌, ◌++◌, ◌∷◌, [], OnOk, OnErr, Ok, decimal, map};
 ghost use Rattle.pitch_fields.specs.Price.{price_digits};
 ghost use Rattle.pitch_text.specs.Printing.{spaced, hidden_words, mpid_words, number_words, order_words, terms_words, setup_words, command_words, verb_words, entry_text, at_words, line_word, session_word, count_word, name_of};
 ghost use Rattle.pitch_text.specs.ScheduleGrammar.{entry as entry_grammar};
@@ -96,23 +96,15 @@ fn push_verb(line: &mut Vec<u8>, verb: &Verb) -> Result<(), OutOfMemory>
 fn push_command(line: &mut Vec<u8>, command: &Command) -> Result<(), OutOfMemory>
     ensures { OnOk result (line.new.items ≡ line.old.items ++ spaced (command_words command.now)) }
 {
-    match command {
-        Command::Time { second } => {
-            push_word(line, b"time")?;
-            push_number(line, u64::from(*second))
-        }
-        Command::Add { order, offset } => push_add(line, order, *offset),
+    match *command {
+        Command::Time { second } => push_numbers(line, b"time", &[u64::from(second)]),
+        Command::Add { order, offset } => push_add(line, &order, offset),
         Command::Exec {
             id,
             quantity,
             execution,
             offset,
-        } => {
-            push_word(line, b"exec")?;
-            push_numbers(line, *id, u64::from(*quantity))?;
-            push_number(line, *execution)?;
-            push_offset(line, *offset)
-        }
+        } => push_plain(line, b"exec", &[id, u64::from(quantity), execution], offset),
         Command::ExecAt {
             id,
             quantity,
@@ -121,21 +113,16 @@ fn push_command(line: &mut Vec<u8>, command: &Command) -> Result<(), OutOfMemory
             price,
             offset,
         } => {
-            push_word(line, b"execat")?;
-            push_numbers(line, *id, u64::from(*quantity))?;
-            push_numbers(line, u64::from(*remaining), *execution)?;
-            push_price(line, *price)?;
-            push_offset(line, *offset)
+            let (quantity, remaining) = (u64::from(quantity), u64::from(remaining));
+            push_numbers(line, b"execat", &[id, quantity, remaining, execution])?;
+            push_price(line, price)?;
+            push_offset(line, offset)
         }
         Command::Reduce {
             id,
             quantity,
             offset,
-        } => {
-            push_word(line, b"reduce")?;
-            push_numbers(line, *id, u64::from(*quantity))?;
-            push_offset(line, *offset)
-        }
+        } => push_plain(line, b"reduce", &[id, u64::from(quantity)], offset),
         Command::Modify {
             id,
             quantity,
@@ -143,31 +130,24 @@ fn push_command(line: &mut Vec<u8>, command: &Command) -> Result<(), OutOfMemory
             display,
             offset,
         } => {
-            push_word(line, b"modify")?;
-            push_numbers(line, *id, u64::from(*quantity))?;
-            push_price(line, *price)?;
-            push_hidden(line, *display)?;
-            push_offset(line, *offset)
+            push_numbers(line, b"modify", &[id, u64::from(quantity)])?;
+            push_price(line, price)?;
+            push_hidden(line, display)?;
+            push_offset(line, offset)
         }
-        Command::Delete { id, offset } => push_one(line, b"delete", *id, *offset),
+        Command::Delete { id, offset } => push_plain(line, b"delete", &[id], offset),
         Command::Trade {
             order,
             execution,
             offset,
         } => {
-            push_order(line, b"trade", order)?;
-            push_number(line, *execution)?;
-            push_offset(line, *offset)
+            push_order(line, b"trade", &order)?;
+            push_number(line, execution)?;
+            push_offset(line, offset)
         }
-        Command::Break { execution, offset } => push_one(line, b"break", *execution, *offset),
-        Command::Clear { offset } => {
-            push_word(line, b"clear")?;
-            push_offset(line, *offset)
-        }
-        Command::EndSession { offset } => {
-            push_word(line, b"end")?;
-            push_offset(line, *offset)
-        }
+        Command::Break { execution, offset } => push_plain(line, b"break", &[execution], offset),
+        Command::Clear { offset } => push_plain(line, b"clear", &[], offset),
+        Command::EndSession { offset } => push_plain(line, b"end", &[], offset),
     }
 }
 
@@ -181,13 +161,17 @@ fn push_add(line: &mut Vec<u8>, order: &Order, offset: u32) -> Result<(), OutOfM
     push_offset(line, offset)
 }
 
-// A word, an id and an offset.
+// A word, numbers and an offset.
 #[tactic(auto, using(crate::proofs::WordLemmas::spaced_append))]
-fn push_one(line: &mut Vec<u8>, word: &[u8], id: u64, offset: u32) -> Result<(), OutOfMemory>
-    ensures { OnOk result (line.new.items ≡ line.old.items ++ spaced (word.now ∷ decimal id ∷ at_words offset)) }
+fn push_plain(
+    line: &mut Vec<u8>,
+    word: &[u8],
+    numbers: &[u64],
+    offset: u32,
+) -> Result<(), OutOfMemory>
+    ensures { OnOk result (line.new.items ≡ line.old.items ++ spaced (word.now ∷ (map decimal numbers.now ++ at_words offset))) }
 {
-    push_word(line, word)?;
-    push_number(line, id)?;
+    push_numbers(line, word, numbers)?;
     push_offset(line, offset)
 }
 
@@ -306,11 +290,15 @@ fn push_count(line: &mut Vec<u8>, word: &[u8], count: Option<u32>) -> Result<(),
     }
 }
 
-fn push_numbers(line: &mut Vec<u8>, first: u64, second: u64) -> Result<(), OutOfMemory>
-    ensures { OnOk result (line.new.items ≡ line.old.items ++ spaced (decimal first ∷ decimal second ∷ [])) }
+// A word and numbers.
+fn push_numbers(line: &mut Vec<u8>, word: &[u8], numbers: &[u64]) -> Result<(), OutOfMemory>
+    ensures { OnOk result (line.new.items ≡ line.old.items ++ spaced (word.now ∷ map decimal numbers.now)) }
 {
-    push_number(line, first)?;
-    push_number(line, second)
+    push_word(line, word)?;
+    for number in numbers {
+        push_number(line, *number)?;
+    }
+    Ok(())
 }
 
 fn push_number(line: &mut Vec<u8>, number: u64) -> Result<(), OutOfMemory>
