@@ -48,7 +48,7 @@ bind_ok : {A B : Type 0} (r : Result (A × Rest) Fault) (next : A → Reading B)
 bind_ok (Ok x) next y e = (x, refl, e)
 bind_ok (Err d) next y e = absurd cc
 
-pub always_then : {A B : Type 0} (P : A → Type 0) (Q : B → Type 0) (read : Reading A) (next : A → Reading B) → Always P read → ((x : A) → P x → Always Q (next x)) → Always Q (read >>= next)
+always_then : {A B : Type 0} (P : A → Type 0) (Q : B → Type 0) (read : Reading A) (next : A → Reading B) → Always P read → ((x : A) → P x → Always Q (next x)) → Always Q (read >>= next)
 always_then P Q read next h k rest y left e =
     let b = bind_ok (read rest) next (y, left) e in
     k b.0.0 (h rest b.0.0 b.0.1 b.1) b.0.1 y left b.2
@@ -62,7 +62,7 @@ inside p q e = cc
 done_is : {A : Type 0} (x y : A) (r s : Rest) → gives x r ≡ Ok (y, s) → x ≡ y
 done_is x y r s e = ap (λ p. p.0) (inside (x, r) (y, s) e)
 
-pub always_gives : {A : Type 0} (P : A → Type 0) (x : A) → P x → Always P (gives x)
+always_gives : {A : Type 0} (P : A → Type 0) (x : A) → P x → Always P (gives x)
 always_gives P x h rest y left e = subst P (done_is x y rest left e) h
 
 fault_found : {A : Type 0} (o : Option A) (column : ℕ) (cause : TextCause) (rest left : Rest) (x : A) → or_fault o column cause rest ≡ Ok (x, left) → o ≡ Some x
@@ -79,7 +79,7 @@ always_choice P meaning cause h rest x left e = choice_found P meaning cause h r
 always_field : {A : Type 0} (P : A → Type 0) (meaning : List ℕ → Option A) (cause : TextCause) → ((bytes : List ℕ) (x : A) → meaning bytes ≡ Some x → P x) → Always P (field meaning cause)
 always_field P meaning cause h = always_choice P meaning (λ _. cause) h
 
-pub always_any : {A : Type 0} (read : Reading A) → Always (λ _. Unit {0}) read
+always_any : {A : Type 0} (read : Reading A) → Always (λ _. Unit {0}) read
 always_any read rest x left e = tt
 
 guard_is : {A : Type 0} (b : Bool) (x y : A) → cond b (Some x) None ≡ Some y → (b ≡ true) × (x ≡ y)
@@ -96,7 +96,7 @@ number_found_in : (low high : ℕ) (o : Option ℕ) (n : ℕ) → option_and_the
 number_found_in low high None n e = absurd cc
 number_found_in low high (Some m) n e = within_found low high m n e
 
-pub always_number : (low high : ℕ) → Always (λ n. (low ≤ n) × (n ≤ high)) (number low high)
+always_number : (low high : ℕ) → Always (λ n. (low ≤ n) × (n ≤ high)) (number low high)
 always_number low high = always_field (λ n. (low ≤ n) × (n ≤ high)) (number_of low high) BadNumber (λ bytes n e. number_found_in low high (digits_of 20 bytes) n e)
 
 some_found : {A : Type 0} (o : Option A) (column : ℕ) (cause : TextCause) (rest left : Rest) (x : Option A) → as_some (or_fault o column cause rest) ≡ Ok (x, left) → o ≡ x
@@ -119,7 +119,7 @@ value_found P name meaning cause h past (f ∷ fields) x left e = value_by P nam
 always_value : {A : Type 0} (P : A → Type 0) (name : List ℕ) (meaning : List ℕ → Option A) (cause : TextCause) → ((bytes : List ℕ) (x : A) → meaning bytes ≡ Some x → P x) → Always (λ o. IfSome o P) (value_next name meaning cause)
 always_value P name meaning cause h rest x left e = value_found P name meaning cause h rest.past rest.fields x left e
 
-pub always_at : Always (λ o. IfSome o IsOffset) offset_next
+always_at : Always (λ o. IfSome o IsOffset) offset_next
 always_at = always_value IsOffset (codes "at=") offset_of BadNumber (λ bytes n e. (number_found_in 0 999999999 (digits_of 20 bytes) n e).1)
 
 offset_is : (o : Option ℕ) → IfSome o IsOffset → IsOffset (unwrap_or o 0)
@@ -137,7 +137,7 @@ lookup_by P first rest true h k form e = h form e
 lookup_by P first rest false h k form e = k form e
 
 -- each form of a table
-pub lookup_found : {A : Type 0} (P : A → Type 0) (test : List ℕ → Bool) (forms : List (List ℕ × Reading A)) → AllByRecursion (λ p. Always P p.1) forms → (form : Reading A) → lookup test forms ≡ Some form → Always P form
+lookup_found : {A : Type 0} (P : A → Type 0) (test : List ℕ → Bool) (forms : List (List ℕ × Reading A)) → AllByRecursion (λ p. Always P p.1) forms → (form : Reading A) → lookup test forms ≡ Some form → Always P form
 lookup_found P test [] h form e = absurd cc
 lookup_found P test (p ∷ forms) h form e = lookup_by P (Some p.1) (lookup test forms) (test p.0) (λ f k. subst (λ g. Always P g) (some_is p.1 f k) h.0) (lookup_found P test forms h.1) form e
 
@@ -164,16 +164,16 @@ padded_back width bytes s e =
     let back : name_of s ≡ bytes = ap name_of (sym g.1) ∙ name_back bytes (width - length bytes) p.1 in
     ap (padded_of width) back ∙ e
 
-pub always_symbol : Always IsSymbol symbol_field
+always_symbol : Always IsSymbol symbol_field
 always_symbol = always_field IsSymbol symbol_of BadSymbol (λ bytes s e. padded_back 8 bytes s e)
 
-pub always_price : Always (λ n. n < 2 ^ 64) price_field
+always_price : Always (λ n. n < 2 ^ 64) price_field
 always_price = always_field (λ n. n < 2 ^ 64) price_in BadPrice (λ bytes n e. omega (arith, (number_found_in 0 (2 ^ 64 - 1) (price_sum (digits_of 16 (before_first is_point bytes)) (cond (ltb (position_or_len is_point bytes) (length bytes)) (fraction_of (after_first is_point bytes)) (Some 0))) n e).1))
 
 abbrev pub IsMpid : List ℕ → Type 0
 IsMpid p = participant_of (name_of p) ≡ Some p
 
-pub always_participant : Always (λ o. IfSome o IsMpid) participant_next
+always_participant : Always (λ o. IfSome o IsMpid) participant_next
 always_participant = always_value IsMpid (codes "mpid=") participant_of BadSymbol (λ bytes p e. padded_back 4 bytes p e)
 
 same_bytes : (xs ys : List ℕ) → pointwise nat_eq xs ys ≡ true → xs ≡ ys
@@ -242,76 +242,13 @@ always_id rest n left e = omega (arith, (always_number 0 (2 ^ 64 - 1) rest n lef
 always_shares : Always IsCount shares
 always_shares rest n left e = omega (arith, (always_number 0 (2 ^ 32 - 1) rest n left e).1)
 
--- ---- forms
+-- ---- forms: each command that a form gives is in its ranges
 
-pub time_found : Always IsCommand time_form
+time_found : Always IsCommand time_form
 unfolding time_form
 time_found = always_then (λ n. (0 ≤ n) × (n ≤ 86399)) IsCommand (number 0 86399) _ (always_number 0 86399) (λ second s. always_then (λ _. Unit {0}) IsCommand ends _ (always_any ends) (λ _ _. always_gives IsCommand (commands.Time second) s.1))
 
-pub reduce_found : Always IsCommand reduce_form
-unfolding reduce_form
-reduce_found =
-    always_then IsId IsCommand order_id _ always_id (λ id i.
-    always_then IsCount IsCommand shares _ always_shares (λ quantity q.
-    always_then IsSaid IsCommand offset_options _ always_offset (λ said o.
-    always_gives IsCommand (commands.Reduce id quantity (said_offset said)) (i, q, offset_is said.offset o.offset))))
-
-pub exec_found : Always IsCommand (exec_form)
-unfolding exec_form
-exec_found =
-    always_then IsId IsCommand order_id _ always_id (λ id i.
-    always_then IsCount IsCommand shares _ always_shares (λ quantity q.
-    always_then IsId IsCommand execution_id _ always_id (λ execution x.
-    always_then IsSaid IsCommand offset_options _ always_offset (λ said o.
-    always_gives IsCommand (commands.Exec id quantity execution (said_offset said)) (i, q, x, offset_is said.offset o.offset)))))
-
-pub execat_found : Always IsCommand (execat_form)
-unfolding execat_form
-execat_found =
-    always_then IsId IsCommand order_id _ always_id (λ id i.
-    always_then IsCount IsCommand shares _ always_shares (λ quantity q.
-    always_then IsCount IsCommand shares _ always_shares (λ remaining r.
-    always_then IsId IsCommand execution_id _ always_id (λ execution x.
-    always_then (λ n. n < 2 ^ 64) IsCommand price_field _ always_price (λ price p.
-    always_then IsSaid IsCommand offset_options _ always_offset (λ said o.
-    always_gives IsCommand (commands.ExecAt id quantity remaining execution price (said_offset said)) (i, q, r, x, p, offset_is said.offset o.offset)))))))
-
-pub modify_found : Always IsCommand (modify_form)
-unfolding modify_form
-modify_found =
-    always_then IsId IsCommand order_id _ always_id (λ id i.
-    always_then IsCount IsCommand shares _ always_shares (λ quantity q.
-    always_then (λ n. n < 2 ^ 64) IsCommand price_field _ always_price (λ price p.
-    always_then IsSaid IsCommand display_options _ always_display (λ said o.
-    always_gives IsCommand (commands.Modify id quantity price (not said.hidden) (said_offset said)) (i, q, p, offset_is said.offset o.offset)))))
-
-pub delete_found : Always IsCommand (delete_form)
-unfolding delete_form
-delete_found =
-    always_then IsId IsCommand order_id _ always_id (λ id i.
-    always_then IsSaid IsCommand offset_options _ always_offset (λ said o.
-    always_gives IsCommand (commands.Delete id (said_offset said)) (i, offset_is said.offset o.offset)))
-
-pub break_found : Always IsCommand (break_form)
-unfolding break_form
-break_found =
-    always_then IsId IsCommand execution_id _ always_id (λ execution x.
-    always_then IsSaid IsCommand offset_options _ always_offset (λ said o.
-    always_gives IsCommand (commands.Break execution (said_offset said)) (x, offset_is said.offset o.offset)))
-
-pub clear_found : Always IsCommand (clear_form)
-unfolding clear_form
-clear_found =
-    always_then IsSaid IsCommand offset_options _ always_offset (λ said o.
-    always_gives IsCommand (commands.Clear (said_offset said)) (offset_is said.offset o.offset))
-
-pub end_found : Always IsCommand (end_form)
-unfolding end_form
-end_found =
-    always_then IsSaid IsCommand offset_options _ always_offset (λ said o.
-    always_gives IsCommand (commands.EndSession (said_offset said)) (offset_is said.offset o.offset))
-
-pub add_found : Always IsCommand (add_form)
+add_found : Always IsCommand (add_form)
 unfolding add_form
 add_found =
     always_then IsId IsCommand order_id _ always_id (λ id i.
@@ -322,7 +259,51 @@ add_found =
     always_then IsSaid IsCommand order_options _ always_order (λ said o.
     always_gives IsCommand (commands.Add (record { id = id; side = side; quantity = quantity; symbol = symbol; price = price; display = not said.hidden; participant = unwrap_or said.participant no_participant }) (said_offset said)) (record { id = i; quantity = q; symbol = y; price = p; participant = participant_is said.participant o.participant }, offset_is said.offset o.offset)))))))
 
-pub trade_found : Always IsCommand (trade_form)
+exec_found : Always IsCommand (exec_form)
+unfolding exec_form
+exec_found =
+    always_then IsId IsCommand order_id _ always_id (λ id i.
+    always_then IsCount IsCommand shares _ always_shares (λ quantity q.
+    always_then IsId IsCommand execution_id _ always_id (λ execution x.
+    always_then IsSaid IsCommand offset_options _ always_offset (λ said o.
+    always_gives IsCommand (commands.Exec id quantity execution (said_offset said)) (i, q, x, offset_is said.offset o.offset)))))
+
+execat_found : Always IsCommand (execat_form)
+unfolding execat_form
+execat_found =
+    always_then IsId IsCommand order_id _ always_id (λ id i.
+    always_then IsCount IsCommand shares _ always_shares (λ quantity q.
+    always_then IsCount IsCommand shares _ always_shares (λ remaining r.
+    always_then IsId IsCommand execution_id _ always_id (λ execution x.
+    always_then (λ n. n < 2 ^ 64) IsCommand price_field _ always_price (λ price p.
+    always_then IsSaid IsCommand offset_options _ always_offset (λ said o.
+    always_gives IsCommand (commands.ExecAt id quantity remaining execution price (said_offset said)) (i, q, r, x, p, offset_is said.offset o.offset)))))))
+
+reduce_found : Always IsCommand reduce_form
+unfolding reduce_form
+reduce_found =
+    always_then IsId IsCommand order_id _ always_id (λ id i.
+    always_then IsCount IsCommand shares _ always_shares (λ quantity q.
+    always_then IsSaid IsCommand offset_options _ always_offset (λ said o.
+    always_gives IsCommand (commands.Reduce id quantity (said_offset said)) (i, q, offset_is said.offset o.offset))))
+
+modify_found : Always IsCommand (modify_form)
+unfolding modify_form
+modify_found =
+    always_then IsId IsCommand order_id _ always_id (λ id i.
+    always_then IsCount IsCommand shares _ always_shares (λ quantity q.
+    always_then (λ n. n < 2 ^ 64) IsCommand price_field _ always_price (λ price p.
+    always_then IsSaid IsCommand display_options _ always_display (λ said o.
+    always_gives IsCommand (commands.Modify id quantity price (not said.hidden) (said_offset said)) (i, q, p, offset_is said.offset o.offset)))))
+
+delete_found : Always IsCommand (delete_form)
+unfolding delete_form
+delete_found =
+    always_then IsId IsCommand order_id _ always_id (λ id i.
+    always_then IsSaid IsCommand offset_options _ always_offset (λ said o.
+    always_gives IsCommand (commands.Delete id (said_offset said)) (i, offset_is said.offset o.offset)))
+
+trade_found : Always IsCommand (trade_form)
 unfolding trade_form
 trade_found =
     always_then IsId IsCommand order_id _ always_id (λ id i.
@@ -334,13 +315,32 @@ trade_found =
     always_then IsSaid IsCommand offset_options _ always_offset (λ said o.
     always_gives IsCommand (commands.Trade (record { id = id; side = side; quantity = quantity; symbol = symbol; price = price; display = true; participant = no_participant }) execution (said_offset said)) (record { id = i; quantity = q; symbol = y; price = p; participant = refl }, refl, refl, x, offset_is said.offset o.offset))))))))
 
+break_found : Always IsCommand (break_form)
+unfolding break_form
+break_found =
+    always_then IsId IsCommand execution_id _ always_id (λ execution x.
+    always_then IsSaid IsCommand offset_options _ always_offset (λ said o.
+    always_gives IsCommand (commands.Break execution (said_offset said)) (x, offset_is said.offset o.offset)))
+
+clear_found : Always IsCommand (clear_form)
+unfolding clear_form
+clear_found =
+    always_then IsSaid IsCommand offset_options _ always_offset (λ said o.
+    always_gives IsCommand (commands.Clear (said_offset said)) (offset_is said.offset o.offset))
+
+end_found : Always IsCommand (end_form)
+unfolding end_form
+end_found =
+    always_then IsSaid IsCommand offset_options _ always_offset (λ said o.
+    always_gives IsCommand (commands.EndSession (said_offset said)) (offset_is said.offset o.offset))
+
 -- ---- commands
 
 any_command : (form : Reading Command) (word : List ℕ) → form_of command_forms word ≡ Some form → Always IsCommand form
 any_command form word e = lookup_found IsCommand (pointwise nat_eq word) command_forms (time_found, (add_found, (exec_found, (execat_found, (reduce_found, (modify_found, (delete_found, (trade_found, (break_found, (clear_found, (end_found, tt))))))))))) form e
 
 -- each command that a line gives is well formed
-pub command_found : Always IsCommand command
+command_found : Always IsCommand command
 unfolding command
 command_found = always_then (λ form. Always IsCommand form) IsCommand (field (form_of command_forms) BadWord) (λ form. form) (always_field (λ form. Always IsCommand form) (form_of command_forms) BadWord (λ word form e. any_command form word e)) (λ form h. h)
 
@@ -372,7 +372,7 @@ always_limits = always_same AreLimits limits_in_turn limit_options limits_is_rul
     always_then (λ _. Unit {0}) AreLimits (end_next (is_some day)) _ (always_any (end_next (is_some day))) (λ _ _.
     always_gives AreLimits (record { hold = hold; kept = kept; second = second; minute = minute; day = day }) (record { hold = a; kept = b; second = c; minute = d; day = f }))))))))
 
-pub setup_found : Always IsVerb setup_form
+setup_found : Always IsVerb setup_form
 unfolding setup_form
 setup_found = always_then AreLimits IsVerb limit_options _ always_limits (λ said l.
     let p = limit_is 4096 65536 said.hold (omega arith) (omega arith) l.hold in
@@ -382,7 +382,7 @@ setup_found = always_then AreLimits IsVerb limit_options _ always_limits (λ sai
     let t = limit_is 10000 1000000 said.day (omega arith) (omega arith) l.day in
     always_gives IsVerb (setup_of said) (p.0, p.1, q.0, q.1, r.0, r.1, s.0, s.1, t.0, t.1))
 
-pub word_found : (v : Verb) → IsVerb v → Always IsVerb (word_form v)
+word_found : (v : Verb) → IsVerb v → Always IsVerb (word_form v)
 unfolding word_form
 word_found v h = always_then (λ _. Unit {0}) IsVerb ends _ (always_any ends) (λ _ _. always_gives IsVerb v h)
 
@@ -405,7 +405,7 @@ count_is : (o : Option ℕ) → IfSome o (λ n. (0 ≤ n) × (n ≤ 2 ^ 32 - 1))
 count_is None h = tt
 count_is (Some n) h = omega (arith, h.1)
 
-pub deliver_found : (line : Line) → Always IsVerb (deliver_form line)
+deliver_found : (line : Line) → Always IsVerb (deliver_form line)
 unfolding deliver_form
 deliver_found line = always_then (λ o. IfSome o (λ n. (1 ≤ n) × (n ≤ 2 ^ 32 - 1))) IsVerb (count_or (codes "rest") 1) _ (always_count (codes "rest") 1) (λ o h. always_then (λ _. Unit {0}) IsVerb ends _ (always_any ends) (λ _ _. always_gives IsVerb (delivery line o) (delivery_is line o h)))
 
@@ -436,12 +436,12 @@ either_form None None h k form e = absurd cc
 either_form None (Some f) h k form e = subst (λ g. Always IsVerb g) (some_is (as_verb f) form e) (always_then IsCommand IsVerb f _ (k f refl) (λ c w. always_gives IsVerb (verbs.Command c) w))
 either_form (Some f) c h k form e = h form e
 
-pub verb_found : Always IsVerb verb
+verb_found : Always IsVerb verb
 unfolding verb
 verb_found = always_then (λ form. Always IsVerb form) IsVerb (field verb_form BadWord) (λ form. form) (always_field (λ form. Always IsVerb form) verb_form BadWord (λ word form e. either_form (form_of verb_forms word) (form_of command_forms word) (λ f k. any_verb f word k) (λ f k. any_command f word k) form e)) (λ form h. h)
 
 -- each entry that a line gives is well formed
-pub entry_found : Always (λ p. IsWellFormed p.0 p.1) entry
+entry_found : Always (λ p. IsWellFormed p.0 p.1) entry
 unfolding entry
 entry_found = always_then (λ n. (1 ≤ n) × (n ≤ 64)) (λ p. IsWellFormed p.0 p.1) (number 1 64) _ (always_number 1 64) (λ unit u. always_then IsVerb (λ p. IsWellFormed p.0 p.1) verb _ verb_found (λ v h. always_gives (λ p. IsWellFormed p.0 p.1) (unit, v) (record { in_range = u; each = h })))
 
@@ -463,7 +463,7 @@ line_by true false read y e = absurd cc
 line_by false true read y e = absurd cc
 line_by false false read y e = read_by read y e
 
-pub line_found : (line : List ℕ) (unit : ℕ) (v : Verb) → line_of entry line ≡ Ok (Some (unit, v)) → IsWellFormed unit v
+line_found : (line : List ℕ) (unit : ℕ) (v : Verb) → line_of entry line ≡ Ok (Some (unit, v)) → IsWellFormed unit v
 line_found line unit v e =
     let r = line_by (is_skipped (fields_of line)) (ltb 200 (length line)) (entry (record { past = 1; fields = fields_of line })) (unit, v) e in
     entry_found (record { past = 1; fields = fields_of line }) (unit, v) r.0 r.1

@@ -20,7 +20,7 @@ AreDigits ds = list_all is_ascii_digit ds ≡ true
 in_range : (c : ℕ) → is_ascii_digit c ≡ true → IsInRange 48 57 c
 in_range c h = let p = and_parts (leb 48 c) (leb c 57) h in (leb-true 48 c p.0, leb-true c 57 p.1)
 
-pub from_range : (c : ℕ) → IsInRange 48 57 c → is_ascii_digit c ≡ true
+from_range : (c : ℕ) → IsInRange 48 57 c → is_ascii_digit c ≡ true
 from_range c r = and_from (leb 48 c) (leb c 57) (le-leb 48 c r.0) (le-leb c 57 r.1)
 
 tells : IsDigitsTest AreDigits
@@ -30,7 +30,7 @@ tells = record {
   more = λ c cs r h. and_from (is_ascii_digit c) (list_all is_ascii_digit cs) (from_range c r) h;
 }
 
-pub digits_again : (most n : ℕ) → n < 2 ^ 64 → length (decimal n) ≤ most → digits_of most (decimal n) ≡ Some n
+digits_again : (most n : ℕ) → n < 2 ^ 64 → length (decimal n) ≤ most → digits_of most (decimal n) ≡ Some n
 digits_again most n small short =
     let own = numerals_by_value AreDigits tells in
     let filled : ltb 0 (length (decimal n)) ≡ true = lt-ltb _ _ (decimal_nonempty n small) in

@@ -76,14 +76,14 @@ number_by : (name : List ℕ) (low high default n : ℕ) (b : Bool) (past column
 number_by name low high default n true past column more e i a l h w = let same : default ≡ n = sym (eqb-true n default e) in subst (λ m. OptionRead (value_next name (number_of low high) BadNumber (left past column more)) default m more) same (absent name (number_of low high) BadNumber default past column more a)
 number_by name low high default n false past column more e i a l h w = present name (number_of low high) BadNumber default n (decimal n) past column more i (number_again low high n l h (omega arith))
 
-pub number_read : (name : List ℕ) (low high default n : ℕ) (past column : ℕ) (more : List (List ℕ)) → IsName name → NotNamed name more → low ≤ n → n ≤ high → high < 2 ^ 64
+number_read : (name : List ℕ) (low high default n : ℕ) (past column : ℕ) (more : List (List ℕ)) → IsName name → NotNamed name more → low ≤ n → n ≤ high → high < 2 ^ 64
     → OptionRead (value_next name (number_of low high) BadNumber (left past column (number_words name default n ++ more))) default n more
 number_read name low high default n past column more i a l h w = number_by name low high default n (eqb n default) past column more refl i a l h w
 
 is_at : IsName (codes "at=")
 is_at = record { seen = λ x. refl; passed = λ x. refl }
 
-pub at_again : (n past column : ℕ) → IsOffset n → OptionRead (offset_next (left past column (at_words n))) 0 n []
+at_again : (n past column : ℕ) → IsOffset n → OptionRead (offset_next (left past column (at_words n))) 0 n []
 at_again n past column h = subst (λ ws. OptionRead (offset_next (left past column ws)) 0 n []) (append-nil (at_words n)) (number_read (codes "at=") 0 999999999 0 n past column [] is_at tt (omega arith) h (omega arith))
 
 -- ---- the words in front of `at=`
@@ -184,24 +184,13 @@ order_options_again display p n past column named off =
       times = t.stands;
     }
 
--- ---- commands
+-- ---- commands: the words of each read as it
 
-pub time_again : (second past column : ℕ) → second ≤ 86399 → Read (time_form (left past column (decimal second ∷ []))) (commands.Time second) []
+time_again : (second past column : ℕ) → second ≤ 86399 → Read (time_form (left past column (decimal second ∷ []))) (commands.Time second) []
 unfolding time_form
 time_again second past column h = record { past = column + length (decimal second); column = 0; is = rw (number_again 0 86399 second (omega arith) h (omega arith)) refl }
 
-pub reduce_again : (id quantity offset past column : ℕ) → id < 2 ^ 64 → quantity < 2 ^ 32 → IsOffset offset → Read (reduce_form (left past column (decimal id ∷ decimal quantity ∷ at_words offset))) (commands.Reduce id quantity offset) []
-unfolding reduce_form
-reduce_again id quantity offset past column i q h =
-    let c1 = column + length (decimal id) + 1 in
-    let t = offset_options_again offset (c1 + length (decimal quantity)) (c1 + length (decimal quantity) + 1) h in
-    record { past = t.past; column = 0; is = rw (id_again id i, shares_again quantity q, t.is, t.times) refl }
-
-pub clear_again : (offset past column : ℕ) → IsOffset offset → Read (clear_form (left past column (at_words offset))) (commands.Clear offset) []
-unfolding clear_form
-clear_again offset past column h = let t = offset_options_again offset past column h in record { past = t.past; column = 0; is = rw (t.is, t.times) refl }
-
-pub add_again : (o : Order) (offset past column : ℕ) → IsOrder o → IsOffset offset
+add_again : (o : Order) (offset past column : ℕ) → IsOrder o → IsOffset offset
     → Read (add_form (left past column (decimal o.id ∷ (byte_of o.side ∷ []) ∷ (terms_words o ++ (hidden_words o.display ++ (mpid_words o.participant ++ at_words offset)))))) (commands.Add o offset) []
 unfolding add_form
 add_again o offset past column ok off =
@@ -213,7 +202,7 @@ add_again o offset past column ok off =
     let t = order_options_again o.display o.participant offset p5 (p5 + 1) ok.participant off in
     record { past = t.past; column = 0; is = rw (id_again o.id ok.id, side_again o.side, shares_again o.quantity ok.quantity, ok.symbol, price_again o.price ok.price, t.is, t.shows, t.names, t.times) refl }
 
-pub exec_again : (id quantity execution offset past column : ℕ) → id < 2 ^ 64 → quantity < 2 ^ 32 → execution < 2 ^ 64 → IsOffset offset → Read (exec_form (left past column (decimal id ∷ decimal quantity ∷ decimal execution ∷ at_words offset))) (commands.Exec id quantity execution offset) []
+exec_again : (id quantity execution offset past column : ℕ) → id < 2 ^ 64 → quantity < 2 ^ 32 → execution < 2 ^ 64 → IsOffset offset → Read (exec_form (left past column (decimal id ∷ decimal quantity ∷ decimal execution ∷ at_words offset))) (commands.Exec id quantity execution offset) []
 unfolding exec_form
 exec_again id quantity execution offset past column h0 h1 h2 h =
     let p0 = column + length (decimal id) in
@@ -225,7 +214,7 @@ exec_again id quantity execution offset past column h0 h1 h2 h =
     let t = offset_options_again offset p2 c2 h in
     record { past = t.past; column = 0; is = rw (id_again id h0, shares_again quantity h1, id_again execution h2, t.is, t.times) refl }
 
-pub execat_again : (id quantity remaining execution price offset past column : ℕ) → id < 2 ^ 64 → quantity < 2 ^ 32 → remaining < 2 ^ 32 → execution < 2 ^ 64 → price < 2 ^ 64 → IsOffset offset → Read (execat_form (left past column (decimal id ∷ decimal quantity ∷ decimal remaining ∷ decimal execution ∷ price_digits price ∷ at_words offset))) (commands.ExecAt id quantity remaining execution price offset) []
+execat_again : (id quantity remaining execution price offset past column : ℕ) → id < 2 ^ 64 → quantity < 2 ^ 32 → remaining < 2 ^ 32 → execution < 2 ^ 64 → price < 2 ^ 64 → IsOffset offset → Read (execat_form (left past column (decimal id ∷ decimal quantity ∷ decimal remaining ∷ decimal execution ∷ price_digits price ∷ at_words offset))) (commands.ExecAt id quantity remaining execution price offset) []
 unfolding execat_form
 execat_again id quantity remaining execution price offset past column h0 h1 h2 h3 h4 h =
     let p0 = column + length (decimal id) in
@@ -241,29 +230,14 @@ execat_again id quantity remaining execution price offset past column h0 h1 h2 h
     let t = offset_options_again offset p4 c4 h in
     record { past = t.past; column = 0; is = rw (id_again id h0, shares_again quantity h1, shares_again remaining h2, id_again execution h3, price_again price h4, t.is, t.times) refl }
 
-pub delete_again : (id offset past column : ℕ) → id < 2 ^ 64 → IsOffset offset → Read (delete_form (left past column (decimal id ∷ at_words offset))) (commands.Delete id offset) []
-unfolding delete_form
-delete_again id offset past column h0 h =
-    let p0 = column + length (decimal id) in
-    let c0 = p0 + 1 in
-    let t = offset_options_again offset p0 c0 h in
-    record { past = t.past; column = 0; is = rw (id_again id h0, t.is, t.times) refl }
+reduce_again : (id quantity offset past column : ℕ) → id < 2 ^ 64 → quantity < 2 ^ 32 → IsOffset offset → Read (reduce_form (left past column (decimal id ∷ decimal quantity ∷ at_words offset))) (commands.Reduce id quantity offset) []
+unfolding reduce_form
+reduce_again id quantity offset past column i q h =
+    let c1 = column + length (decimal id) + 1 in
+    let t = offset_options_again offset (c1 + length (decimal quantity)) (c1 + length (decimal quantity) + 1) h in
+    record { past = t.past; column = 0; is = rw (id_again id i, shares_again quantity q, t.is, t.times) refl }
 
-pub break_again : (execution offset past column : ℕ) → execution < 2 ^ 64 → IsOffset offset → Read (break_form (left past column (decimal execution ∷ at_words offset))) (commands.Break execution offset) []
-unfolding break_form
-break_again execution offset past column h0 h =
-    let p0 = column + length (decimal execution) in
-    let c0 = p0 + 1 in
-    let t = offset_options_again offset p0 c0 h in
-    record { past = t.past; column = 0; is = rw (id_again execution h0, t.is, t.times) refl }
-
-pub end_again : (offset past column : ℕ) → IsOffset offset → Read (end_form (left past column (at_words offset))) (commands.EndSession offset) []
-unfolding end_form
-end_again offset past column h =
-    let t = offset_options_again offset past column h in
-    record { past = t.past; column = 0; is = rw (t.is, t.times) refl }
-
-pub modify_again : (id quantity price : ℕ) (display : Bool) (offset past column : ℕ) → id < 2 ^ 64 → quantity < 2 ^ 32 → price < 2 ^ 64 → IsOffset offset
+modify_again : (id quantity price : ℕ) (display : Bool) (offset past column : ℕ) → id < 2 ^ 64 → quantity < 2 ^ 32 → price < 2 ^ 64 → IsOffset offset
     → Read (modify_form (left past column (decimal id ∷ decimal quantity ∷ price_digits price ∷ (hidden_words display ++ at_words offset)))) (commands.Modify id quantity price display offset) []
 unfolding modify_form
 modify_again id quantity price display offset past column i q r off =
@@ -273,7 +247,15 @@ modify_again id quantity price display offset past column i q r off =
     let t = display_options_again display offset p3 (p3 + 1) off in
     record { past = t.past; column = 0; is = rw (id_again id i, shares_again quantity q, price_again price r, t.is, t.shows, t.times) refl }
 
-pub trade_again : (o : Order) (execution offset past column : ℕ) → IsOrder o → o.display ≡ true → o.participant ≡ no_participant → execution < 2 ^ 64 → IsOffset offset
+delete_again : (id offset past column : ℕ) → id < 2 ^ 64 → IsOffset offset → Read (delete_form (left past column (decimal id ∷ at_words offset))) (commands.Delete id offset) []
+unfolding delete_form
+delete_again id offset past column h0 h =
+    let p0 = column + length (decimal id) in
+    let c0 = p0 + 1 in
+    let t = offset_options_again offset p0 c0 h in
+    record { past = t.past; column = 0; is = rw (id_again id h0, t.is, t.times) refl }
+
+trade_again : (o : Order) (execution offset past column : ℕ) → IsOrder o → o.display ≡ true → o.participant ≡ no_participant → execution < 2 ^ 64 → IsOffset offset
     → Read (trade_form (left past column (decimal o.id ∷ (byte_of o.side ∷ []) ∷ (terms_words o ++ (decimal execution ∷ at_words offset))))) (commands.Trade o execution offset) []
 unfolding trade_form
 trade_again o execution offset past column ok shown blank ex off =
@@ -286,21 +268,39 @@ trade_again o execution offset past column ok shown blank ex off =
     let t = offset_options_again offset p6 (p6 + 1) off in
     record { past = t.past; column = 0; is = rw (id_again o.id ok.id, side_again o.side, shares_again o.quantity ok.quantity, ok.symbol, price_again o.price ok.price, id_again execution ex, t.is, t.times, ← shown, ← blank) refl }
 
+break_again : (execution offset past column : ℕ) → execution < 2 ^ 64 → IsOffset offset → Read (break_form (left past column (decimal execution ∷ at_words offset))) (commands.Break execution offset) []
+unfolding break_form
+break_again execution offset past column h0 h =
+    let p0 = column + length (decimal execution) in
+    let c0 = p0 + 1 in
+    let t = offset_options_again offset p0 c0 h in
+    record { past = t.past; column = 0; is = rw (id_again execution h0, t.is, t.times) refl }
+
+clear_again : (offset past column : ℕ) → IsOffset offset → Read (clear_form (left past column (at_words offset))) (commands.Clear offset) []
+unfolding clear_form
+clear_again offset past column h = let t = offset_options_again offset past column h in record { past = t.past; column = 0; is = rw (t.is, t.times) refl }
+
+end_again : (offset past column : ℕ) → IsOffset offset → Read (end_form (left past column (at_words offset))) (commands.EndSession offset) []
+unfolding end_form
+end_again offset past column h =
+    let t = offset_options_again offset past column h in
+    record { past = t.past; column = 0; is = rw (t.is, t.times) refl }
+
 -- ---- verbs
 
 command_verb : (c : Command) (past column : ℕ) → IsCommand c → Read (verb (left past column (command_words c))) (verbs.Command c) []
 unfolding verb
 command_verb (commands.Time second) past column h = let r = time_again second (column + 4) (column + 4 + 1) h in record { past = r.past; column = r.column; is = rw r.is refl }
 command_verb (commands.Add o offset) past column h = let r = add_again o offset (column + 3) (column + 3 + 1) h.0 h.1 in record { past = r.past; column = r.column; is = rw r.is refl }
-command_verb (commands.Reduce id quantity offset) past column h = let r = reduce_again id quantity offset (column + 6) (column + 6 + 1) h.0 h.1 h.2 in record { past = r.past; column = r.column; is = rw r.is refl }
 command_verb (commands.Exec id quantity execution offset) past column h = let r = exec_again id quantity execution offset (column + 4) (column + 4 + 1) h.0 h.1 h.2 h.3 in record { past = r.past; column = r.column; is = rw r.is refl }
 command_verb (commands.ExecAt id quantity remaining execution price offset) past column h = let r = execat_again id quantity remaining execution price offset (column + 6) (column + 6 + 1) h.0 h.1 h.2 h.3 h.4 h.5 in record { past = r.past; column = r.column; is = rw r.is refl }
+command_verb (commands.Reduce id quantity offset) past column h = let r = reduce_again id quantity offset (column + 6) (column + 6 + 1) h.0 h.1 h.2 in record { past = r.past; column = r.column; is = rw r.is refl }
 command_verb (commands.Modify id quantity price display offset) past column h = let r = modify_again id quantity price display offset (column + 6) (column + 6 + 1) h.0 h.1 h.2 h.3 in record { past = r.past; column = r.column; is = rw r.is refl }
 command_verb (commands.Delete id offset) past column h = let r = delete_again id offset (column + 6) (column + 6 + 1) h.0 h.1 in record { past = r.past; column = r.column; is = rw r.is refl }
 command_verb (commands.Trade o execution offset) past column h = let r = trade_again o execution offset (column + 5) (column + 5 + 1) h.0 h.1 h.2 h.3 h.4 in record { past = r.past; column = r.column; is = rw r.is refl }
 command_verb (commands.Break execution offset) past column h = let r = break_again execution offset (column + 5) (column + 5 + 1) h.0 h.1 in record { past = r.past; column = r.column; is = rw r.is refl }
-command_verb (commands.EndSession offset) past column h = let r = end_again offset (column + 3) (column + 3 + 1) h in record { past = r.past; column = r.column; is = rw r.is refl }
 command_verb (commands.Clear offset) past column h = let r = clear_again offset (column + 5) (column + 5 + 1) h in record { past = r.past; column = r.column; is = rw r.is refl }
+command_verb (commands.EndSession offset) past column h = let r = end_again offset (column + 3) (column + 3 + 1) h in record { past = r.past; column = r.column; is = rw r.is refl }
 
 is_hold : IsName (codes "hold=")
 is_hold = record { seen = λ x. refl; passed = λ x. refl }
@@ -397,7 +397,7 @@ unfolding session_form up_form
 up_again session None past column h = record { past = column + 2 + 1 + 3; column = 0; is = refl }
 up_again session (Some n) past column h = record { past = column + 2 + 1 + length (decimal n); column = 0; is = rw (not_word n 97 (codes "ll") (omega arith) refl, shares_again n h) refl }
 
-pub verb_again : (v : Verb) (past column : ℕ) → IsVerb v → Read (verb (left past column (verb_words v))) v []
+verb_again : (v : Verb) (past column : ℕ) → IsVerb v → Read (verb (left past column (verb_words v))) v []
 unfolding verb word_form quote_form
 verb_again (verbs.Command c) past column h = command_verb c past column h
 verb_again (verbs.Setup hold kept second minute day) past column h = let r = setup_again hold kept second minute day (column + 4) (column + 4 + 1) h in record { past = r.past; column = r.column; is = rw r.is refl }

@@ -37,18 +37,18 @@ no_stop_at stop (b ∷ w) le h =
     let above : 32 < b = ltb-true 32 b p.0 in
     (ne_eqb b stop (λ e. omega arith), no_stop_at stop w le p.1)
 
-pub no_stop : (stop : ℕ) (w : List ℕ) → stop ≤ 32 → list_all is_dark w ≡ true → All (λ b. eqb b stop ≡ false) w
+no_stop : (stop : ℕ) (w : List ℕ) → stop ≤ 32 → list_all is_dark w ≡ true → All (λ b. eqb b stop ≡ false) w
 no_stop stop w le h = All-from_recursion (λ b. eqb b stop ≡ false) w (no_stop_at stop w le h)
 
 by_append : (P : ℕ → Type 0) (xs ys : List ℕ) → AllByRecursion P xs → AllByRecursion P ys → AllByRecursion P (xs ++ ys)
 by_append P [] ys h k = k
 by_append P (x ∷ xs) ys h k = (h.0, by_append P xs ys h.1 k)
 
-pub split_words : (w : List ℕ) (ws : List (List ℕ)) → IsWord w → AreWords ws → slice_split is_space (w ++ spaced ws) ≡ w ∷ ws
+split_words : (w : List ℕ) (ws : List (List ℕ)) → IsWord w → AreWords ws → slice_split is_space (w ++ spaced ws) ≡ w ∷ ws
 split_words w [] h hs = rw append-nil (slice_split_none is_space w (no_stop 32 w (omega arith) h.dark))
 split_words w (v ∷ ws) h hs = slice_split_at is_space w 32 (v ++ spaced ws) (no_stop 32 w (omega arith) h.dark) refl ∙ ap (λ (ps : List (List ℕ)). w ∷ ps) (split_words v ws hs.0 hs.1)
 
-pub all_filled : (c : ℕ) (ws : List (List ℕ)) → AreWords ws → filter (λ (f : Field). not (eqb (length f.bytes) 0)) (placed c ws) ≡ placed c ws
+all_filled : (c : ℕ) (ws : List (List ℕ)) → AreWords ws → filter (λ (f : Field). not (eqb (length f.bytes) 0)) (placed c ws) ≡ placed c ws
 all_filled c [] hs = refl
 all_filled c (w ∷ ws) hs =
     let some : 0 < length w = hs.0.filled in
@@ -72,15 +72,15 @@ pub spaced_length : (ws : List (List ℕ)) → AreWords ws → length (spaced ws
 spaced_length [] hs = omega arith
 spaced_length (w ∷ ws) hs = omega (arith, length-append w (spaced ws), hs.0.short, spaced_length ws hs.1)
 
-pub spaced_stops : (stop : ℕ) (ws : List (List ℕ)) → stop < 32 → AreWords ws → AllByRecursion (λ b. eqb b stop ≡ false) (spaced ws)
+spaced_stops : (stop : ℕ) (ws : List (List ℕ)) → stop < 32 → AreWords ws → AllByRecursion (λ b. eqb b stop ≡ false) (spaced ws)
 spaced_stops stop [] le hs = tt
 spaced_stops stop (w ∷ ws) le hs = (ne_eqb 32 stop (λ e. omega arith), by_append (λ b. eqb b stop ≡ false) w (spaced ws) (no_stop_at stop w (omega arith) hs.0.dark) (spaced_stops stop ws le hs.1))
 
-pub line_stops : (stop : ℕ) (w : List ℕ) (ws : List (List ℕ)) → stop < 32 → IsWord w → AreWords ws → AllByRecursion (λ b. eqb b stop ≡ false) (w ++ spaced ws)
+line_stops : (stop : ℕ) (w : List ℕ) (ws : List (List ℕ)) → stop < 32 → IsWord w → AreWords ws → AllByRecursion (λ b. eqb b stop ≡ false) (w ++ spaced ws)
 line_stops stop w ws le h hs = by_append (λ b. eqb b stop ≡ false) w (spaced ws) (no_stop_at stop w (omega arith) h.dark) (spaced_stops stop ws le hs)
 
 -- no byte is a carriage return, so none is taken off
-pub keeps_return : (line : List ℕ) → 0 < length line → All (λ b. eqb b 13 ≡ false) line → strip_carriage_return line ≡ line
+keeps_return : (line : List ℕ) → 0 < length line → All (λ b. eqb b 13 ≡ false) line → strip_carriage_return line ≡ line
 keeps_return line some h = rw (h (length line - 1) 0 (omega arith)) refl
 
 pub one_line : (w : List ℕ) (ws : List (List ℕ)) → IsWord w → AreWords ws → lines_of (w ++ spaced ws) ≡ (w ++ spaced ws) ∷ []
