@@ -1,6 +1,6 @@
 -- The words of an entry read as that entry.
 use Rattle.std.proofs.Common.{◌≡◌, ℕ, ◌+◌, ◌-◌, ◌^◌, ◌<◌, ◌≤◌, Bool, true, false, not, eqb, cond, List, [], ◌∷◌, ◌++◌, length, drop, Option, Some, None, Result, Ok, refl, sym, ap, subst, ◌∙◌, arith}
-use Rattle.std.specs.Prelude.{IfSome, MatchBool, decimal, codes, unwrap_or, nat_eq, replicate}
+use Rattle.std.specs.Prelude.{IfSome, MatchBool, decimal, codes, unwrap_or, nat_eq}
 use Rattle.std.proofs.lemmas.Bool.{eqb-true}
 use Rattle.pitch_fields.specs.Price.{price_digits}
 use Rattle.pitch_fields.specs.Side.{byte_of}
@@ -25,7 +25,7 @@ use Rattle.pitch_text.specs.Fields.{Rest, placed}
 use Rattle.pitch_text.specs.declared.options.Limits.{Limits}
 use Rattle.pitch_text.specs.declared.options.OrderOptions.{OrderOptions}
 use Rattle.pitch_text.specs.InTurn.{value_next, hidden_next, participant_next, offset_next, offset_in_turn, display_in_turn, order_in_turn, limits_in_turn}
-use Rattle.pitch_text.specs.Kinds.{number_of, offset_of, participant_of, side_in}
+use Rattle.pitch_text.specs.Kinds.{number_of, participant_of, side_in}
 use Rattle.pitch_text.specs.CommandGrammar.{offset_options, display_options, order_options, no_participant, said_offset, time_form, add_form, reduce_form, clear_form, exec_form, execat_form, modify_form, delete_form, trade_form, break_form, end_form}
 use Rattle.pitch_text.specs.ScheduleGrammar.{limit_options, setup_of, verb, entry, setup_form, word_form, deliver_form, up_form, down_form, session_form, quote_form}
 use Rattle.pitch_text.specs.Printing.{verb_words, command_words, number_words, at_words, hidden_words, mpid_words, terms_words, name_of, count_word, setup_words}

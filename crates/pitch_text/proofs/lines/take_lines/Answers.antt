@@ -1,4 +1,4 @@
-use Rattle.std.proofs.Common.{◌-◌, length, take, drop, arith, length-take, length-drop}
+use Rattle.std.proofs.Common.{◌-◌, length, drop, arith, length-take, length-drop}
 use Rattle.pitch_text.proofs.TextLemmas.{cut_off, first_line, next_line, faulty_line, last_line}
 use Rattle.pitch_text.proofs.lines.take_lines.Goals as goal
 
