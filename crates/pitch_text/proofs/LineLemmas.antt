@@ -62,14 +62,15 @@ count_is_word n h = id_is_word n (omega (arith, h))
 named_word : (name text : List ℕ) → list_all is_dark name ≡ true → list_all is_dark text ≡ true → 0 < length name → length name + length text ≤ 20 → IsWord (name ++ text)
 named_word name text d e some le = record { filled = omega (arith, length-append name text); dark = list_all-append is_dark name text ∙ and_from (list_all is_dark name) (list_all is_dark text) d e; short = omega (arith, length-append name text) }
 
-guard_some : {A : Type 0} (b : Bool) (x y : A) → cond b (Some x) None ≡ Some y → b ≡ true
-guard_some true x y e = refl
-guard_some false x y e = absurd cc
+-- a value under a test: the test held, and it is that value
+pub guard_is : {A : Type 0} (b : Bool) (x y : A) → cond b (Some x) None ≡ Some y → (b ≡ true) × (x ≡ y)
+guard_is true x y e = (refl, cc)
+guard_is false x y e = absurd cc
 
 name_word : (width : ℕ) (x s : List ℕ) → padded_of width x ≡ Some s → (0 < length x) × (length x ≤ width) × (list_all is_dark x ≡ true)
 name_word width x s e =
-    let g = guard_some (ltb 0 (length x) && leb (length x) width && list_all is_printing x) _ s e in
-    let p = and_parts (ltb 0 (length x) && leb (length x) width) (list_all is_printing x) g in
+    let g = guard_is (ltb 0 (length x) && leb (length x) width && list_all is_printing x) _ s e in
+    let p = and_parts (ltb 0 (length x) && leb (length x) width) (list_all is_printing x) g.0 in
     let q = and_parts (ltb 0 (length x)) (leb (length x) width) p.0 in
     (ltb-true _ _ q.0, leb-true _ _ q.1, printing_dark x p.1)
 

@@ -1,7 +1,7 @@
 -- A line of words is cut into those words.
-use Rattle.std.proofs.Common.{◌≡◌, ℕ, ◌+◌, ◌<◌, ◌≤◌, Bool, true, false, not, eqb, ltb, List, [], ◌∷◌, ◌++◌, ◌&&◌, length, filter, All, refl, ap, ◌∙◌, arith, append_assoc, length-append, ◌*◌, ◌-◌, map}
+use Rattle.std.proofs.Common.{◌≡◌, ℕ, ◌+◌, ◌<◌, ◌≤◌, Bool, true, false, not, eqb, ltb, List, [], ◌∷◌, ◌++◌, length, filter, All, refl, ap, ◌∙◌, arith, append_assoc, length-append, ◌*◌, ◌-◌, map}
 use Rattle.std.specs.List.{slice_split, list_all, AllByRecursion}
-use Rattle.std.proofs.lemmas.Bool.{ne_eqb, ltb-true}
+use Rattle.std.proofs.lemmas.Bool.{and_parts, ne_eqb, ltb-true}
 use Rattle.std.proofs.lemmas.List.{append-nil}
 use Rattle.std.proofs.lemmas.List.Splits.{slice_split_none, slice_split_at}
 use Rattle.std.proofs.lemmas.List.Concat.{flat_map-append}
@@ -16,18 +16,16 @@ use Rattle.pitch_text.proofs.FieldLemmas.{is_space}
 abbrev pub is_dark : ℕ → Bool
 is_dark b = ltb 32 b
 
+-- a word of a printed line
 pub record IsWord (w : List ℕ) : Type 0 where
   pub filled : 0 < length w
   pub dark : list_all is_dark w ≡ true
   pub short : length w ≤ 21
 
+-- words, one after the other
 abbrev pub AreWords : List (List ℕ) → Type 0
 AreWords [] = Unit {0}
 AreWords (w ∷ ws) = IsWord w × AreWords ws
-
-and_parts : (a b : Bool) → a && b ≡ true → (a ≡ true) × (b ≡ true)
-and_parts true b e = (refl, e)
-and_parts false b e = absurd cc
 
 -- no byte of a word is one that is not above the space
 no_stop_at : (stop : ℕ) (w : List ℕ) → stop ≤ 32 → list_all is_dark w ≡ true → AllByRecursion (λ b. eqb b stop ≡ false) w
@@ -40,14 +38,17 @@ no_stop_at stop (b ∷ w) le h =
 no_stop : (stop : ℕ) (w : List ℕ) → stop ≤ 32 → list_all is_dark w ≡ true → All (λ b. eqb b stop ≡ false) w
 no_stop stop w le h = All-from_recursion (λ b. eqb b stop ≡ false) w (no_stop_at stop w le h)
 
+-- what each of two lists keeps, both in a row keep
 by_append : (P : ℕ → Type 0) (xs ys : List ℕ) → AllByRecursion P xs → AllByRecursion P ys → AllByRecursion P (xs ++ ys)
 by_append P [] ys h k = k
 by_append P (x ∷ xs) ys h k = (h.0, by_append P xs ys h.1 k)
 
+-- a line of words is cut into those words
 split_words : (w : List ℕ) (ws : List (List ℕ)) → IsWord w → AreWords ws → slice_split is_space (w ++ spaced ws) ≡ w ∷ ws
 split_words w [] h hs = rw append-nil (slice_split_none is_space w (no_stop 32 w (omega arith) h.dark))
 split_words w (v ∷ ws) h hs = slice_split_at is_space w 32 (v ++ spaced ws) (no_stop 32 w (omega arith) h.dark) refl ∙ ap (λ (ps : List (List ℕ)). w ∷ ps) (split_words v ws hs.0 hs.1)
 
+-- none of them is empty
 all_filled : (c : ℕ) (ws : List (List ℕ)) → AreWords ws → filter (λ (f : Field). not (eqb (length f.bytes) 0)) (placed c ws) ≡ placed c ws
 all_filled c [] hs = refl
 all_filled c (w ∷ ws) hs =

@@ -8,6 +8,12 @@ use crate::fault::{Fault, TextCause, TextError};
 use crate::fields::{LineFields, length_before};
 use pitch_messages::List;
 
+/// The most bytes that a line can have, without its line end.
+pub(crate) const LONGEST_LINE: usize = 200;
+
+// Where a longer line has its fault.
+const LONG_LINE_COLUMN: u32 = 201;
+
 /// A grammar of lines: what the fields of a line say, and the entry which that makes.
 pub(crate) trait Grammar {
     ghost use Rattle.std.specs.Prelude.{ℕ, Result};
@@ -105,24 +111,15 @@ fn read_line<G: Grammar>(line: &[u8]) -> Result<Option<G::Said>, Fault>
     requires { length line.now < 2 ^ 31 }
     ensures { result ≡ line_of G.reading line.now }
 {
-    let is_long = line.len() > 200;
+    let is_long = line.len() > LONGEST_LINE;
     let mut fields = LineFields::new(line);
     if skips(&fields) {
         return if is_long { Err(long_line()) } else { Ok(None) };
     }
     match G::read(&mut fields) {
-        Ok(said) => if is_long {
-            Err(long_line())
-        } else {
-            Ok(Some(said))
-        },
-        Err(fault) => {
-            if is_long && fault.column >= 201 {
-                Err(long_line())
-            } else {
-                Err(fault)
-            }
-        }
+        Ok(said) if !is_long => Ok(Some(said)),
+        Err(fault) if !is_long || fault.column < LONG_LINE_COLUMN => Err(fault),
+        _ => Err(long_line()),
     }
 }
 
@@ -141,7 +138,7 @@ fn long_line() -> Fault
     ensures { result ≡ too_long }
 {
     Fault {
-        column: 201,
+        column: LONG_LINE_COLUMN,
         cause: TextCause::LongLine,
     }
 }

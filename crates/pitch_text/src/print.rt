@@ -7,6 +7,7 @@ ghost use Rattle.pitch_text.specs.WellFormed.{IsWellFormed};
 
 use crate::command::Command;
 use crate::fields::length_before;
+use crate::lines::LONGEST_LINE;
 use crate::verb::{ScheduleEntry, Session, Verb};
 use pitch_fields::{OutOfMemory, Price, Symbol, number_text, price_text};
 use pitch_io::Line;
@@ -37,9 +38,6 @@ fn push_line(entry: &ScheduleEntry, out: &mut Vec<u8>) -> Result<(), OutOfMemory
     out.extend_from_slice(&line)?;
     Ok(())
 }
-
-// No line that is read has more bytes.
-const LONGEST_LINE: usize = 200;
 
 // The words of a verb, each with a space in front.
 #[tactic(auto, using(crate::proofs::WordLemmas::spaced_append))]
