@@ -1,4 +1,4 @@
-ghost use Rattle.std.specs.Prelude.{◌≡◌, ◌≤◌, ◌<◌, ◌+◌, ◌++◌, [], count_by, IfOk, IfSome, IfNone, OnOk, OnErr, IsOk, IsSome, Some, Option};
+ghost use Rattle.std.specs.Prelude.{◌≡◌, ◌≤◌, ◌<◌, ◌+◌, ◌++◌, ◌&&◌, [], count_by, IfOk, IfSome, IfNone, OnOk, OnErr, IsOk, IsSome, Some, Option};
 ghost use Rattle.pitch_messages.specs.Raw.{IsRaw};
 ghost use Rattle.std.specs.FinMap as map;
 ghost use Rattle.pitch_model.specs.Book.{IsBook, empty_book, at_second, cleared, without_order, with_order, added, changed, after_message, after};
@@ -363,13 +363,37 @@ impl UnitBook {
     }
 
     // Whether a message names an open order.
+    #[inline(always)]
     fn names_open(&self, raw: &[u8]) -> bool
         ensures { result ≡ names_open self.now.book raw.now }
     {
-        raw.len() >= 14 && names_order(raw[1]) && self.is_open(get_u64(raw, 6))
+        raw.len() >= 14 && self.is_named(raw[1], get_u64(raw, 6))
+    }
+
+    // Whether messages of a type name an order, and the order of this id is open. An add names one that is seldom open,
+    // and the others one that mostly is, so each kind has a look-up of its own, whose answer is easily foreseen.
+    #[inline(always)]
+    fn is_named(&self, kind: u8, id: u64) -> bool
+        ensures { result ≡ (names_order kind && map.contains_key self.now.book.orders id) }
+    {
+        match kind {
+            0x21 | 0x22 | 0x2f => self.has(id),
+            0x23..=0x29 => self.is_open(id),
+            _ => false,
+        }
+    }
+
+    // Whether an order is open.
+    #[inline(always)]
+    #[tactic(auto, using(crate::proofs::Maps::looks))]
+    fn has(&self, id: u64) -> bool
+        ensures { result ≡ map.contains_key self.now.book.orders id }
+    {
+        self.orders.contains_key(&id)
     }
 
     // Whether an order is open. Its quantity is read, which is never 0, so that the order is near afterwards.
+    #[inline(always)]
     fn is_open(&self, id: u64) -> bool
         ensures { result ≡ map.contains_key self.now.book.orders id }
     {
@@ -378,11 +402,4 @@ impl UnitBook {
             None => false,
         }
     }
-}
-
-// Whether messages of a type name an order.
-fn names_order(kind: u8) -> bool
-    ensures { result ≡ names_order kind }
-{
-    matches!(kind, 0x21..=0x29 | 0x2f)
 }
