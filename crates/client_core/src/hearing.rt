@@ -1,4 +1,4 @@
-ghost use Rattle.std.specs.Prelude.{◌≡◌, ◌+◌, ◌<◌, ◌||◌, [], ◌∷◌, false, if◌then◌else◌};
+ghost use Rattle.std.specs.Prelude.{◌≡◌, ◌+◌, ◌^◌, ◌<◌, ◌≤◌, ◌||◌, [], ◌∷◌, false, IsTrue, if◌then◌else◌};
 ghost use Rattle.pitch_model.specs.Status.{raised};
 
 use crate::client::UnitClient;
@@ -35,6 +35,14 @@ fn raised_by(top: Option<u32>, sequence: u32) -> Option<u32>
     }
 }
 
+/// Whether there are messages with rising sequence, and the last of them is at or below the floor.
+fn is_old(first: u32, count: usize, floor: u32) -> bool
+    requires { count < 2 ^ 32 }
+    ensures { IsTrue result → (1 ≤ count) × (first + count ≤ floor + 1) }
+{
+    count > 0 && first as u64 + count as u64 <= floor as u64 + 1
+}
+
 fn counted(n: u32, one: bool) -> u32
     requires { n < 4294967295 }
     ensures { result ≡ (if one then 1 else 0) + n }
@@ -67,6 +75,7 @@ impl UnitClient {
     ghost use Rattle.pitch_model.specs.Heard.{heard_messages, heard_block, heard, IsItem, is_fresh, fresh_messages, overflowed_messages, block_overflows, fresh_of, overflows_of, image_end, image_end_at, change_of};
     ghost use Rattle.pitch_model.specs.Honest.{Honest, IsHonestAt, AreVenues, message_at};
     ghost use Rattle.pitch_model.specs.Reach.{is_overflow, reach};
+    ghost use Rattle.hold_buffer.specs.HoldView.{IsHold};
     ghost use Rattle.client_core.specs.Keeping.{HasRoom};
     ghost use Rattle.client_core.specs.Noting.{noted, with_more, CanNote};
     ghost use Rattle.client_core.specs.Spinning.{IsReady};
@@ -137,9 +146,33 @@ impl UnitClient {
         ensures err_noted { OnErr result (noted tape.new ≡ noted tape.old) }
         ensures memory { noted tape.old ≡ None → length raws.entry + held_number self.old ≤ spare_of self.old → IsOk result }
     {
+        if is_old(first, raws.len(), self.hold.floor()) {
+            return Ok(self.pass_over(first, &raws));
+        }
         tape.reserve(raws.len() + self.hold.len() as usize)?;
         self.make_room(raws.len() as u32)?;
+        self.look_up(raws.copy());
         Ok(self.hear_raws(tape, first, raws))
+    }
+
+    // Passes over messages with rising sequence that are all old: the top alone may rise.
+    fn pass_over(&mut self, first: u32, raws: &Raws<'_>) -> Counts
+        requires some { 1 ≤ length raws.now }
+        requires within { first + length raws.now ≤ 4294967295 }
+        requires old { first + length raws.now ≤ self.old.hold.floor + 1 }
+        requires hold { IsHold self.old.hold }
+        ensures tracks { (H : ℕ) (E : List Entry) → Tracks self.old H E → Tracks self.new H (heard_messages first raws.now E) }
+        ensures keeps { (V : List Raw) → Keeps self.old V → Keeps self.new V }
+        ensures fresh { (H : ℕ) (E : List Entry) → Tracks self.old H E → result.fresh ≡ fresh_messages H first raws.now E }
+        ensures overflows { (H : ℕ) (E : List Entry) → Tracks self.old H E → result.overflows ≡ overflowed_messages H first raws.now E }
+        ensures floor { self.new.hold.floor ≡ self.old.hold.floor }
+    {
+        let last = first + (raws.len() as u32 - 1);
+        self.top = raised_by(self.top, last);
+        Counts {
+            fresh: 0,
+            overflows: 0,
+        }
     }
 
     fn hear_next(&mut self, next: u32)

@@ -1,4 +1,5 @@
 ghost use Rattle.std.specs.Prelude.{◌≡◌, ℕ, ◌+◌, ◌<◌, ◌≤◌, ◌↔◌, IfOk, IsTrue, IsSome, MatchOption, None, nat_lt};
+ghost use Rattle.std.specs.Option.{option_copied};
 ghost use Rattle.std.specs.FinMap as map;
 ghost use Rattle.pitch_messages.specs.Raw.{IsRaw};
 ghost use Rattle.hold_buffer.specs.HoldView.{IsHold};
@@ -113,6 +114,34 @@ impl Hold {
         let (_, raw) = self.ring.pop_front()?;
         self.floor = first;
         Some(raw)
+    }
+
+    /// The message that follows the floor, where it is held.
+    #[inline]
+    pub fn next(&self) -> Option<&Raw>
+        ensures answer { option_copied result ≡ map.get self.now.held (self.now.floor + 1) }
+        ensures fits { IsSome result → self.now.floor < 4294967294 }
+        ensures kept { IsHold self.now }
+    {
+        let message = self.ring.front()?;
+        if message.0 - 1 != self.floor {
+            return None;
+        }
+        Some(&message.1)
+    }
+
+    /// Drops the message that follows the floor, and raises the floor to it.
+    #[inline]
+    pub fn drop_next(&mut self)
+        requires { IsSome (map.get self.old.held (self.old.floor + 1)) }
+        ensures dropped { self.new ≡ record self.old {
+          floor = self.old.floor + 1;
+          held = map.remove self.old.held (self.old.floor + 1);
+        } }
+        ensures kept { IsHold self.new }
+        ensures fits { self.new.floor ≤ 4294967294 }
+    {
+        let _ = self.pop_next();
     }
 
     /// Raises the floor, as after an image through it, and drops the messages at or below it. The new

@@ -1,6 +1,6 @@
 -- What a change of one order does to the book, where the orders are a list of entries.
 use Rattle.std.proofs.Common.{◌≡◌, ◌≢◌, ℕ, Bool, true, false, cond, List, Option, Some, None, nat_eq, sym, ap, ◌∙◌, ◌==◌, arith}
-use Rattle.std.specs.Option.{option_map}
+use Rattle.std.specs.Option.{option_map, unwrap_or}
 use Rattle.std.specs.Map.{lookup, lookup_key}
 use Rattle.std.proofs.lemmas.Bool.Decides.{Decides-eqb, nat_tests}
 use Rattle.std.proofs.lemmas.Map.Made.{lookup_key_same}
@@ -8,6 +8,10 @@ use Rattle.pitch_messages.specs.declared.order.Order.{Order}
 use Rattle.pitch_model.specs.Book.{changed, reformed, with_order, without_order}
 use Rattle.order_book.specs.Standing.{book_of}
 use Rattle.order_book.proofs.Maps.{inserts, removes, looks}
+
+-- what was read twice at a place is the same
+pub same_value : (p q : ℕ × Order) → Some p ≡ Some q → p.1 ≡ q.1
+same_value p q e = ap (λ (o : Option (ℕ × Order)). (unwrap_or o p).1) e
 
 none_left : (n m : ℕ) → n ≡ m → n ≡ 0 → (m == 0) ≡ true
 none_left n m e z = grind (arith, nat_tests, e, z)

@@ -20,26 +20,35 @@ pub(crate) enum Change {
 }
 
 impl Change {
-    /// What the change makes of an order.
-    pub(crate) fn of(self, order: Order) -> Order
-        ensures { result ≡ changed_by self order }
+    /// How many shares the change leaves of an order.
+    #[inline(always)]
+    pub(crate) fn shares_left(&self, order: &Order) -> u32
+        ensures { result ≡ (changed_by self.now order.now).quantity }
     {
-        match self {
-            Change::Reduced(quantity) => Order {
-                quantity: order.quantity.saturating_sub(quantity),
-                ..order
-            },
-            Change::Left(quantity) => Order { quantity, ..order },
+        match *self {
+            Change::Reduced(quantity) => order.quantity.saturating_sub(quantity),
+            Change::Left(quantity) => quantity,
+            Change::Modified { quantity, .. } => quantity,
+        }
+    }
+
+    /// Changes an order in its place; only the fields that change are written.
+    #[inline(always)]
+    pub(crate) fn make(&self, order: &mut Order)
+        ensures { order.new ≡ changed_by self.now order.old }
+    {
+        match *self {
+            Change::Reduced(quantity) => order.quantity = order.quantity.saturating_sub(quantity),
+            Change::Left(quantity) => order.quantity = quantity,
             Change::Modified {
                 quantity,
                 price,
                 display,
-            } => Order {
-                quantity,
-                price,
-                display,
-                ..order
-            },
+            } => {
+                order.quantity = quantity;
+                order.price = price;
+                order.display = display;
+            }
         }
     }
 }

@@ -1,7 +1,7 @@
-ghost use Rattle.std.specs.Prelude.{◌≡◌, ◌≤◌, ◌<◌, ◌+◌, ◌++◌, [], count_by, IfOk, IfSome, IfNone, OnOk, OnErr, IsOk, IsSome, Some, Option};
+ghost use Rattle.std.specs.Prelude.{◌≡◌, ◌≤◌, ◌<◌, ◌+◌, ◌++◌, ◌&&◌, [], count_by, IfOk, IfSome, IfNone, OnOk, OnErr, IsOk, IsSome, Some, Option};
 ghost use Rattle.pitch_messages.specs.Raw.{IsRaw};
 ghost use Rattle.std.specs.FinMap as map;
-ghost use Rattle.pitch_model.specs.Book.{IsBook, empty_book, at_second, cleared, without_order, with_order, added, changed, after_message, after};
+ghost use Rattle.pitch_model.specs.Book.{IsBook, empty_book, at_second, cleared, without_order, with_order, added, changed, after_message, after_read, after};
 ghost use Rattle.pitch_model.specs.Levels.{IsBestOf, orders_of, orders_on, prices_on, shares, level, best};
 ghost use Rattle.order_book.specs.Changes.{changed_by};
 ghost use Rattle.order_book.specs.Naming.{names_open, names_order};
@@ -13,7 +13,7 @@ use crate::order_list::{OrderList, append_by_id};
 use crate::totals::{all_shares, best_price, shares_at};
 use indexmap::IndexMap;
 use pitch_fields::{OutOfMemory, Price, Side, Symbol, get_u64};
-use pitch_messages::{Message, Order, Raw, Raws, read_bytes};
+use pitch_messages::{Message, Order, Raw, Raws, ReadError, read_as, read_bytes};
 use std::alloc::Global;
 use std::marker::Model;
 
@@ -53,6 +53,7 @@ impl UnitBook {
     /// that is no book message, change nothing.
     ///
     /// The book is as before after OutOfMemory, which never comes where the spare is at least 1.
+    // Each type that changes a book is read by a literal, so that its fields go straight to what is done with them.
     #[tactic(auto, unfolding(pitch_model::specs::Book::after))]
     pub fn apply_bytes(&mut self, raw: &[u8]) -> Result<(), OutOfMemory>
         requires raw { IsRaw raw.now }
@@ -62,9 +63,19 @@ impl UnitBook {
         ensures succeeds { 1 ≤ self.old.spare → IsOk result }
         ensures spare { self.old.spare ≤ self.new.spare + 1 }
     {
-        match read_bytes(raw) {
-            Ok(message) => self.apply_message(&message),
-            Err(_) => Ok(()),
+        match raw[1] {
+            0x20 => self.apply_read(read_as(0x20, raw)),
+            0x21 => self.apply_read(read_as(0x21, raw)),
+            0x22 => self.apply_read(read_as(0x22, raw)),
+            0x23 => self.apply_read(read_as(0x23, raw)),
+            0x24 => self.apply_read(read_as(0x24, raw)),
+            0x25 => self.apply_read(read_as(0x25, raw)),
+            0x26 => self.apply_read(read_as(0x26, raw)),
+            0x27 => self.apply_read(read_as(0x27, raw)),
+            0x28 => self.apply_read(read_as(0x28, raw)),
+            0x29 => self.apply_read(read_as(0x29, raw)),
+            0x2f => self.apply_read(read_as(0x2f, raw)),
+            _ => self.apply_read(read_bytes(raw)),
         }
     }
 
@@ -194,7 +205,23 @@ impl UnitBook {
 }
 
 impl UnitBook {
+    // Does what was read of a raw message.
+    #[inline(always)]
+    fn apply_read(&mut self, read: Result<Message, ReadError>) -> Result<(), OutOfMemory>
+        requires few { map.len self.old.book.orders < 4294967295 }
+        ensures ok { OnOk result (self.new.book ≡ after_read self.old.book read) }
+        ensures err { OnErr result (self.new.book ≡ self.old.book) }
+        ensures succeeds { 1 ≤ self.old.spare → IsOk result }
+        ensures spare { self.old.spare ≤ self.new.spare + 1 }
+    {
+        match read {
+            Ok(message) => self.apply_message(&message),
+            Err(_) => Ok(()),
+        }
+    }
+
     // Does what a message says.
+    #[inline(always)]
     fn apply_message(&mut self, message: &Message) -> Result<(), OutOfMemory>
         requires few { map.len self.old.book.orders < 4294967295 }
         ensures ok { OnOk result (self.new.book ≡ after_message self.old.book message.now) }
@@ -353,23 +380,46 @@ impl UnitBook {
         let Some((index, _, order)) = self.orders.get_full(&id) else {
             return;
         };
-        let order = change.of(*order);
-        if order.quantity == 0 {
+        if change.shares_left(order) == 0 {
             self.orders.swap_remove_index(index);
             return;
         }
         let (_, place) = self.orders.pair_mut(index);
-        *place = order;
+        change.make(place);
     }
 
     // Whether a message names an open order.
+    #[inline(always)]
     fn names_open(&self, raw: &[u8]) -> bool
         ensures { result ≡ names_open self.now.book raw.now }
     {
-        raw.len() >= 14 && names_order(raw[1]) && self.is_open(get_u64(raw, 6))
+        raw.len() >= 14 && self.is_named(raw[1], get_u64(raw, 6))
+    }
+
+    // Whether messages of a type name an order, and the order of this id is open. An add names one that is seldom open,
+    // and the others one that mostly is, so each kind has a look-up of its own, whose answer is easily foreseen.
+    #[inline(always)]
+    fn is_named(&self, kind: u8, id: u64) -> bool
+        ensures { result ≡ (names_order kind && map.contains_key self.now.book.orders id) }
+    {
+        match kind {
+            0x21 | 0x22 | 0x2f => self.has(id),
+            0x23..=0x29 => self.is_open(id),
+            _ => false,
+        }
+    }
+
+    // Whether an order is open.
+    #[inline(always)]
+    #[tactic(auto, using(crate::proofs::Maps::looks))]
+    fn has(&self, id: u64) -> bool
+        ensures { result ≡ map.contains_key self.now.book.orders id }
+    {
+        self.orders.contains_key(&id)
     }
 
     // Whether an order is open. Its quantity is read, which is never 0, so that the order is near afterwards.
+    #[inline(always)]
     fn is_open(&self, id: u64) -> bool
         ensures { result ≡ map.contains_key self.now.book.orders id }
     {
@@ -378,11 +428,4 @@ impl UnitBook {
             None => false,
         }
     }
-}
-
-// Whether messages of a type name an order.
-fn names_order(kind: u8) -> bool
-    ensures { result ≡ names_order kind }
-{
-    matches!(kind, 0x21..=0x29 | 0x2f)
 }

@@ -345,12 +345,13 @@ pub fn extra_bytes(raw: &[u8]) -> usize
 
 // Whether a message has the bytes that its type needs.
 #[inline(always)]
-fn long_enough(bytes: &[u8]) -> Result<(), ReadError>
-    requires { IsRaw bytes.now }
+fn long_enough(kind: u8, bytes: &[u8]) -> Result<(), ReadError>
+    requires raw { IsRaw bytes.now }
+    requires kind { kind ≡ kind_of bytes.now }
     ensures ok { OnOk result (needs_of (kind_of bytes.now) ≤ length bytes.now) }
     ensures err { IfErr result (λ e. reads bytes.now ≡ Err e) }
 {
-    match needs_of(bytes[1]) {
+    match needs_of(kind) {
         Some(needs) if bytes.len() < usize::from(needs) => Err(ReadError::Short {
             needs,
             has: bytes[0],
@@ -359,17 +360,18 @@ fn long_enough(bytes: &[u8]) -> Result<(), ReadError>
     }
 }
 
-/// The message of a raw's bytes.
+/// The message of the bytes of a raw of this type, as `read_bytes` says it.
 ///
-/// Short where its type is known and needs more bytes, BadSide where it has them and its side is neither `B` nor `S`.
-/// Bytes past those that its type needs are ignored, and a message of an unknown type is Other.
-#[inline]
-pub fn read_bytes(bytes: &[u8]) -> Result<Message, ReadError>
-    requires { IsRaw bytes.now }
+/// Where the type is a literal, one form alone is read: nothing is left of the choice among them, nor of a message that may
+/// be of any form.
+#[inline(always)]
+pub fn read_as(kind: u8, bytes: &[u8]) -> Result<Message, ReadError>
+    requires raw { IsRaw bytes.now }
+    requires kind { kind ≡ kind_of bytes.now }
     ensures { result ≡ reads bytes.now }
 {
-    long_enough(bytes)?;
-    match bytes[1] {
+    long_enough(kind, bytes)?;
+    match kind {
         0x20 => time(bytes),
         0x21 => add_long(bytes),
         0x22 => add_short(bytes),
@@ -389,6 +391,18 @@ pub fn read_bytes(bytes: &[u8]) -> Result<Message, ReadError>
         0x97 => unit_clear(bytes),
         _ => Ok(Message::Other(Raw::of(bytes))),
     }
+}
+
+/// The message of a raw's bytes.
+///
+/// Short where its type is known and needs more bytes, BadSide where it has them and its side is neither `B` nor `S`.
+/// Bytes past those that its type needs are ignored, and a message of an unknown type is Other.
+#[inline]
+pub fn read_bytes(bytes: &[u8]) -> Result<Message, ReadError>
+    requires { IsRaw bytes.now }
+    ensures { result ≡ reads bytes.now }
+{
+    read_as(bytes[1], bytes)
 }
 
 /// The message of a raw, as `read_bytes` says it.

@@ -73,13 +73,6 @@ fn print_piece<O: Sink>(
     print_loaded(alloc, reader, printer, out)
 }
 
-// Whether more bytes may mend the fault.
-fn may_mend(error: BlockError) -> bool
-    ensures { result ≡ is_truncated error }
-{
-    matches!(error, BlockError::Truncated { .. })
-}
-
 // Takes a piece more of the stream, of which at most `INPUT_LIMIT` bytes are taken. Answers why no block stands at the front
 // of what is left.
 fn feed<O: Sink>(
@@ -105,7 +98,7 @@ fn feed<O: Sink>(
         Ok(stopped) => stopped,
         Err(error) => return Err(Stop::Unprinted(error)),
     };
-    if !may_mend(stopped) {
+    if !stopped.is_truncated() {
         let place = reader.place();
         return match printer.page.flush(out) {
             Ok(()) => Err(Stop::BadInput(Trouble::Faulty(BlockFault {

@@ -18,7 +18,7 @@ returns-in-Ok-flush-clause-feeds g c = λ first now start bytes error size fed r
     c.print_piece.new.reader error c.in-Ok.stopped bytes c.args.piece.now small fed c.in-Ok.ensures.prints in
     subst (λ (p : ℕ). Refuses (form_of c.args.printer.now.task) INPUT_LIMIT (Faulty (record { place = p; error = c.in-Ok.stopped })) first start (g.O.Sink.written c.flush.new.out)) (sym c.place-place.ensures)
     (kept_faulty c.min-kept.result (form_of c.args.printer.now.task) c.print_piece.new.printer first now start (g.O.Sink.written c.print_piece.new.out) (g.O.Sink.written c.flush.new.out)
-    c.print_piece.new.reader c.in-Ok.stopped bytes c.args.piece.now small kept read (sym c.may_mend.ensures ∙ c.if-not-may_mend.true) c.in-Ok-flush.ensures.ok)
+    c.print_piece.new.reader c.in-Ok.stopped bytes c.args.piece.now small kept read (sym c.is_truncated.ensures ∙ c.if-not-is_truncated.true) c.in-Ok-flush.ensures.ok)
 
 pub returns-in-Err-flush-clause-feeds : goal.returns-in-Err-flush-clause-feeds
 returns-in-Err-flush-clause-feeds g c = λ first now start bytes error size fed read.
@@ -35,7 +35,7 @@ returns-in-Ok-flush-2-clause-feeds g c = λ first now start bytes error size fed
     c.print_piece.new.reader error c.in-Ok.stopped bytes c.args.piece.now small fed c.in-Ok.ensures.prints in
     kept_long (form_of c.args.printer.now.task) c.print_piece.new.printer first now start (g.O.Sink.written c.print_piece.new.out) (g.O.Sink.written c.flush-then-kept-piece.new.out)
     c.print_piece.new.reader c.in-Ok.stopped bytes c.args.piece.now c.min-kept.result (omega (arith, size, c.requires.within))
-    (c.min-kept.ensures ∙ ap (λ (n : ℕ). min (length c.args.piece.now) (1073741824 - n)) (sym size)) (search rules) kept read (sym c.may_mend.ensures ∙ c.if-not-may_mend.false) c.in-Ok-flush-2.ensures.ok
+    (c.min-kept.ensures ∙ ap (λ (n : ℕ). min (length c.args.piece.now) (1073741824 - n)) (sym size)) (search rules) kept read (sym c.is_truncated.ensures ∙ c.if-not-is_truncated.false) c.in-Ok-flush-2.ensures.ok
 
 pub returns-in-Err-flush-2-clause-feeds : goal.returns-in-Err-flush-2-clause-feeds
 returns-in-Err-flush-2-clause-feeds g c = λ first now start bytes error size fed read.
@@ -52,6 +52,6 @@ returns-clause-feeds g c = λ first now start bytes error size fed read.
     c.print_piece.new.reader error c.in-Ok.stopped bytes c.args.piece.now small fed c.in-Ok.ensures.prints in
     let all : length c.args.piece.now ≤ c.min-kept.result = search rules in (
       kept_all c.min-kept.result (form_of c.args.printer.now.task) c.print_piece.new.printer start (g.O.Sink.written c.print_piece.new.out) c.print_piece.new.reader c.in-Ok.stopped bytes c.args.piece.now all kept,
-      sym c.may_mend.ensures ∙ c.if-not-may_mend.false,
+      sym c.is_truncated.ensures ∙ c.if-not-is_truncated.false,
       omega (arith, all, small, length-append bytes c.args.piece.now),
     )
