@@ -1,5 +1,5 @@
 ghost use Rattle.std.specs.Prelude.{◌≡◌, ◌≤◌, ◌<◌, ◌+◌, ◌++◌, ◌&&◌, [], count_by, IfOk, IfSome, IfNone, OnOk, OnErr, IsOk, IsSome, Some, Option};
-ghost use Rattle.pitch_messages.specs.Raw.{IsRaw};
+ghost use Rattle.pitch_messages.specs.Raw.{IsRaw, kind_of};
 ghost use Rattle.std.specs.FinMap as map;
 ghost use Rattle.pitch_model.specs.Book.{IsBook, empty_book, at_second, cleared, without_order, with_order, added, changed, after_message, after_read, after};
 ghost use Rattle.pitch_model.specs.Levels.{IsBestOf, orders_of, orders_on, prices_on, shares, level, best};
@@ -66,7 +66,7 @@ impl UnitBook {
         match raw[1] {
             0x20 => self.apply_read(read_as(0x20, raw)),
             0x21 => self.apply_read(read_as(0x21, raw)),
-            0x22 => self.apply_read(read_as(0x22, raw)),
+            0x22 => self.apply_add_short(raw),
             0x23 => self.apply_read(read_as(0x23, raw)),
             0x24 => self.apply_read(read_as(0x24, raw)),
             0x25 => self.apply_read(read_as(0x25, raw)),
@@ -75,7 +75,7 @@ impl UnitBook {
             0x28 => self.apply_read(read_as(0x28, raw)),
             0x29 => self.apply_read(read_as(0x29, raw)),
             0x2f => self.apply_read(read_as(0x2f, raw)),
-            _ => self.apply_read(read_bytes(raw)),
+            _ => self.apply_any(raw),
         }
     }
 
@@ -205,6 +205,48 @@ impl UnitBook {
 }
 
 impl UnitBook {
+    // Does what a raw message of any type says.
+    #[inline(never)]
+    #[tactic(auto, unfolding(pitch_model::specs::Book::after))]
+    fn apply_any(&mut self, raw: &[u8]) -> Result<(), OutOfMemory>
+        requires raw { IsRaw raw.now }
+        requires few { map.len self.old.book.orders < 4294967295 }
+        ensures ok { OnOk result (self.new.book ≡ after self.old.book raw.now) }
+        ensures err { OnErr result (self.new.book ≡ self.old.book) }
+        ensures succeeds { 1 ≤ self.old.spare → IsOk result }
+        ensures spare { self.old.spare ≤ self.new.spare + 1 }
+    {
+        self.apply_read(read_bytes(raw))
+    }
+
+    // Does what an add in the short form says. Most adds are in it, and no other form is in sight here, so that its fields
+    // stay in registers.
+    #[tactic(auto, unfolding(pitch_model::specs::Book::after))]
+    fn apply_add_short(&mut self, raw: &[u8]) -> Result<(), OutOfMemory>
+        requires raw { IsRaw raw.now }
+        requires kind { 0x22 ≡ kind_of raw.now }
+        requires few { map.len self.old.book.orders < 4294967295 }
+        ensures ok { OnOk result (self.new.book ≡ after self.old.book raw.now) }
+        ensures err { OnErr result (self.new.book ≡ self.old.book) }
+        ensures succeeds { 1 ≤ self.old.spare → IsOk result }
+        ensures spare { self.old.spare ≤ self.new.spare + 1 }
+    {
+        match read_as(0x22, raw) {
+            Ok(
+                Message::AddShort {
+                    id,
+                    side,
+                    quantity,
+                    symbol,
+                    price,
+                    flags,
+                    ..
+                },
+            ) => self.add(order_of_short(id, side, quantity, symbol, price, flags)),
+            _ => self.apply_any(raw),
+        }
+    }
+
     // Does what was read of a raw message.
     #[inline(always)]
     fn apply_read(&mut self, read: Result<Message, ReadError>) -> Result<(), OutOfMemory>
