@@ -1,8 +1,8 @@
 //! Lines of messages, field by field.
 
-ghost use Rattle.std.specs.Prelude.{◌≡◌, ◌≤◌, ◌<◌, ◌+◌, ◌++◌, take, length, codes, Err};
+ghost use Rattle.std.specs.Prelude.{◌≡◌, ◌≤◌, ◌<◌, ◌+◌, ◌++◌, take, length, codes, Result, Err};
 ghost use Rattle.pitch_fields.specs.Name.{name_shown};
-ghost use Rattle.pitch_messages.specs.Raw.{IsRaw};
+ghost use Rattle.pitch_messages.specs.Raw.{IsRaw, kind_of};
 ghost use Rattle.pitch_messages.specs.Reading.{reads};
 ghost use Rattle.pitch_model.specs.Show.{number_field, kind_text, price_text, flags_text, add_text, trade_text, reduce_text, modify_text, executed_text, message_text, short_text, bad_side_text, said_text, message_line, next_after};
 ghost use Rattle.feed_lines.specs.Terms.{shown};
@@ -14,7 +14,7 @@ use crate::fields::{
 use crate::lines::LINE;
 use crate::terms::Terms;
 use pitch_fields::{Price, put_byte, put_hex, put_name, put_text};
-use pitch_messages::{Message, ReadError, extra_bytes, read_bytes};
+use pitch_messages::{Message, ReadError, extra_bytes, read_as};
 
 #[inline(always)]
 fn put_add(
@@ -146,7 +146,7 @@ fn put_other(out: &mut [u8], at: usize, raw: &[u8]) -> usize
 }
 
 // Writes the name of a message and its fields, in the order of the table.
-#[inline]
+#[inline(always)]
 #[tactic(auto, unfolding(pitch_model::specs::Show::message_text))]
 fn put_message(out: &mut [u8], at: usize, message: &Message) -> usize
     requires { at + 300 ≤ length out.old }
@@ -331,9 +331,28 @@ fn put_unread(out: &mut [u8], at: usize, raw: &[u8], error: ReadError) -> usize
     }
 }
 
-// Writes what a raw says.
-#[inline]
+// Writes what was read of a raw.
+#[inline(always)]
 #[tactic(auto, unfolding(pitch_model::specs::Show::said_text))]
+fn put_read(out: &mut [u8], at: usize, raw: &[u8], read: Result<Message, ReadError>) -> usize
+    requires place { at + 400 ≤ length out.old }
+    requires raw { IsRaw raw.now }
+    ensures end { result ≤ at + 400 }
+    ensures text { take result out.new ≡ take at out.old ++ said_text raw.now read }
+    ensures kept { length out.new ≡ length out.old }
+{
+    match read {
+        Ok(message) => {
+            let told = put_message(out, at, &message);
+            put_extra(out, told, extra_bytes(raw))
+        }
+        Err(error) => put_unread(out, at, raw, error),
+    }
+}
+
+// Writes what a raw says. At each literal one form alone is read and written, with no other in sight; the types that few messages
+// have share one place.
+#[inline(always)]
 fn put_said(out: &mut [u8], at: usize, raw: &[u8]) -> usize
     requires place { at + 400 ≤ length out.old }
     requires raw { IsRaw raw.now }
@@ -341,13 +360,34 @@ fn put_said(out: &mut [u8], at: usize, raw: &[u8]) -> usize
     ensures text { take result out.new ≡ take at out.old ++ said_text raw.now (reads raw.now) }
     ensures kept { length out.new ≡ length out.old }
 {
-    match read_bytes(raw) {
-        Ok(message) => {
-            let told = put_message(out, at, &message);
-            put_extra(out, told, extra_bytes(raw))
-        }
-        Err(error) => put_unread(out, at, raw, error),
+    match raw[1] {
+        0x20 => put_read(out, at, raw, read_as(0x20, raw)),
+        0x21 => put_read(out, at, raw, read_as(0x21, raw)),
+        0x22 => put_read(out, at, raw, read_as(0x22, raw)),
+        0x23 => put_read(out, at, raw, read_as(0x23, raw)),
+        0x24 => put_read(out, at, raw, read_as(0x24, raw)),
+        0x25 => put_read(out, at, raw, read_as(0x25, raw)),
+        0x26 => put_read(out, at, raw, read_as(0x26, raw)),
+        0x27 => put_read(out, at, raw, read_as(0x27, raw)),
+        0x28 => put_read(out, at, raw, read_as(0x28, raw)),
+        0x29 => put_read(out, at, raw, read_as(0x29, raw)),
+        0x2a => put_read(out, at, raw, read_as(0x2a, raw)),
+        0x2b => put_read(out, at, raw, read_as(0x2b, raw)),
+        0x2f => put_read(out, at, raw, read_as(0x2f, raw)),
+        kind => put_any(out, at, raw, kind),
     }
+}
+
+// Writes what a raw of this type says.
+fn put_any(out: &mut [u8], at: usize, raw: &[u8], kind: u8) -> usize
+    requires place { at + 400 ≤ length out.old }
+    requires raw { IsRaw raw.now }
+    requires kind { kind ≡ kind_of raw.now }
+    ensures end { result ≤ at + 400 }
+    ensures text { take result out.new ≡ take at out.old ++ said_text raw.now (reads raw.now) }
+    ensures kept { length out.new ≡ length out.old }
+{
+    put_read(out, at, raw, read_as(kind, raw))
 }
 
 /// Writes the line of a message: its sequence, where it has one, then its name and its fields, or why it can't be read.

@@ -151,6 +151,68 @@ const FAULTY_STREAMS: [(&[&[u8]], &str, &str); 7] = [
     ),
 ];
 
+// A short add, a long add, as a venue writes them.
+const ADDS: &[u8] = b"\x44\x00\x02\x01\x01\x00\x00\x00\
+    \x1a\x22\x00\x00\x00\x00\x01\x00\x00\x00\x00\x00\x00\x00B\x64\x00IBM   \xff\xff\x01\
+    \x22\x21\x00\x00\x00\x00\x02\x00\x00\x00\x00\x00\x00\x00B\x64\x00\x00\x00IBM   \
+    \x00\x00\x64\x00\x00\x00\x00\x00\x01";
+
+// A clock of five bytes, and a short add whose side is `Z`, unsequenced.
+const UNREAD: &[u8] = b"\x27\x00\x02\x07\x00\x00\x00\x00\x05\x20\x98\x85\x00\
+    \x1a\x22\x00\x00\x00\x00\x01\x00\x00\x00\x00\x00\x00\x00Z\x64\x00IBM   \xff\xff\x01";
+
+// A trade in the expanded form, and the end of the session.
+const TRADE: &[u8] = b"\x39\x00\x02\x02\x09\x00\x00\x00\
+    \x2b\x30\x01\x00\x00\x00\x04\x00\x00\x00\x00\x00\x00\x00S\x05\x00\x00\x00GAMMADLT\
+    \x40\xe2\x01\x00\x00\x00\x00\x00\x11\x00\x00\x00\x00\x00\x00\x00\x06\x2d\x02\x00\x00\x00";
+
+// The blocks of a stream, and what `show` prints of it.
+const SHOWN: [(&[&[u8]], &str); 6] = [
+    (&[], ""),
+    (
+        &[
+            TIME,
+            b"\x0b\x00\x01\x01\x02\x00\x00\x00\x03\x99\x07",
+            BEAT,
+        ],
+        "block 1 unit 1 first 1 count 1\n\
+        1 time second=34200\n\
+        block 2 unit 1 first 2 count 1\n\
+        2 other kind=99 length=3\n\
+        block 3 unit 1 first 4 count 0\n",
+    ),
+    (
+        &[ADDS],
+        "block 1 unit 1 first 1 count 2\n\
+        1 add-short offset=0 id=1 side=B quantity=100 symbol=IBM price=655.3500 flags=01\n\
+        2 add-long offset=0 id=2 side=B quantity=100 symbol=IBM price=655.3600 flags=01\n",
+    ),
+    (
+        &[LONGER, DELETE],
+        "block 1 unit 1 first 1 count 3\n\
+        1 time second=34200\n\
+        2 other kind=99 length=3\n\
+        3 add-long offset=0 id=5 side=B quantity=100 symbol=IBM price=10.0000 flags=01 extra=2\n\
+        block 2 unit 1 first 3 count 1\n\
+        3 delete offset=0 id=5\n",
+    ),
+    (
+        &[UNREAD],
+        "block 1 unit 7 first 0 count 2\n\
+        - short kind=20 needs=6 has=5\n\
+        - bad-side kind=22 byte=5a\n",
+    ),
+    (
+        &[HIDDEN, TRADE],
+        "block 1 unit 1 first 1 count 2\n\
+        1 add-expanded offset=0 id=9 side=S quantity=50 symbol=ABCDEFGH price=12.3456 flags=00 participant=CBOE\n\
+        2 add-short offset=0 id=3 side=B quantity=7 symbol=IBM price=10.0000 flags=01\n\
+        block 2 unit 2 first 9 count 2\n\
+        9 trade-expanded offset=1 id=4 side=S quantity=5 symbol=GAMMADLT price=12.3456 execution=17\n\
+        10 end offset=2\n",
+    ),
+];
+
 // Sequences 1, 3, 5, 7, 6, 2, 3, 4 and 5 of unit 1, each the second of its own number.
 const SHUFFLED: [&[u8]; 9] = [
     b"\x0e\x00\x01\x01\x01\x00\x00\x00\x06\x20\x01\x00\x00\x00",
@@ -242,6 +304,24 @@ fn each_stream_has_its_text_in_pieces_of_any_size(rt: HostRuntime) -> Result<(),
             assert!(rt; outcome.status == ExitStatus::BadInput, "by {piece}");
         }
     }
+    Ok(())
+}
+
+#[test]
+fn each_message_is_shown(rt: HostRuntime) -> Result<(), Fail> {
+    for piece in [1, 7, 65536] {
+        for (blocks, text) in SHOWN {
+            let outcome = run(rt.alloc(), "show", blocks, piece)?;
+            assert_eq!(rt; from_utf8(outcome.out.written())?, text, "by {piece}");
+            assert!(rt; outcome.status == ExitStatus::Done, "by {piece}");
+        }
+    }
+    let outcome = run(rt.alloc(), "show", &[TIME, SPARE], 35)?;
+    let shown = "block 1 unit 1 first 1 count 1\n1 time second=34200\n";
+    assert_eq!(rt; from_utf8(outcome.out.written())?, shown);
+    let fault = "pitch: bad input at byte 22: spare bytes\n";
+    assert_eq!(rt; from_utf8(outcome.err.written())?, fault);
+    assert!(rt; outcome.status == ExitStatus::BadInput);
     Ok(())
 }
 
