@@ -1,0 +1,82 @@
+-- A text as lines, and its first fault.
+use Rattle.std.specs.Prelude.{◌≡◌, ℕ, ◌+◌, ◌==◌, Bool, true, nat_eq, nat_lt, List, [], ◌∷◌, ◌++◌, length, map, Option, Some, None, Result, Ok, Err, codes, if◌then◌else◌}
+use Rattle.std.specs.List.{slice_split, starts_with}
+use Rattle.std.specs.Str.Lines.{strip_carriage_return}
+use Rattle.pitch_text.specs.declared.fault.Fault.{Fault}
+use Rattle.pitch_text.specs.declared.fault.TextCause.TheVariants.{LongLine}
+use Rattle.pitch_text.specs.declared.fault.TextError.{TextError}
+use Rattle.pitch_text.specs.declared.fault.TextError.TheVariants as errors
+use Rattle.pitch_text.specs.Fields.{Field, Rest, fields_of}
+use Rattle.pitch_text.specs.Reading.{Reading, fault_at}
+
+-- ---- one line
+
+-- a line of spaces only, or whose first byte behind them is `#`
+abbrev pub is_skipped : List Field → Bool
+is_skipped [] = true
+is_skipped (f ∷ fields) = starts_with nat_eq f.bytes (codes "#")
+
+-- the fault of a line of more than 200 bytes
+abbrev pub too_long : Fault
+too_long = fault_at 201 LongLine
+
+-- the leftmost fault of such a line: one that the grammar finds up to column 200, or that it is too long
+abbrev pub long_fault : {A : Type 0} → Result (A × Rest) Fault → Fault
+long_fault (Ok x) = too_long
+long_fault (Err f) = if nat_lt f.column 201 then f else too_long
+
+-- what was read of a whole line
+abbrev pub value_read : {A : Type 0} → Result (A × Rest) Fault → Result (Option A) Fault
+value_read (Ok x) = Ok (Some x.0)
+value_read (Err f) = Err f
+
+-- what a line says: nothing where it is skipped, or its first fault
+abbrev pub line_of : {A : Type 0} → Reading A → List ℕ → Result (Option A) Fault
+line_of grammar line =
+    let fields = fields_of line in
+    let read = grammar (record { past = 1; fields = fields }) in
+    if is_skipped fields then (if nat_lt 200 (length line) then Err too_long else Ok None)
+    else if nat_lt 200 (length line) then Err (long_fault read) else value_read read
+
+-- ---- the lines of a text
+
+-- The lines between line feeds, each without one carriage return at its end. An empty part behind the last line feed is
+-- skipped like any line of spaces only.
+abbrev pub lines_of : List ℕ → List (List ℕ)
+lines_of text = map strip_carriage_return (slice_split (λ b. b == 10) text)
+
+-- the number of a line, counted from 1, and the fault in it
+pub record TextFault : Type 0 where
+  pub line : ℕ
+  pub fault : Fault
+
+-- what the lines behind say, with these entries in front
+abbrev pub with_front : {X : Type 0} → List X → Result (List X) TextFault → Result (List X) TextFault
+with_front front (Ok xs) = Ok (front ++ xs)
+with_front front (Err f) = Err f
+
+-- what a line with this number says, and then the lines behind it
+abbrev pub followed : {A : Type 0} → ℕ → Result (Option A) Fault → Result (List (ℕ × A)) TextFault → Result (List (ℕ × A)) TextFault
+followed n (Err f) rest = Err (record { line = n; fault = f })
+followed n (Ok None) rest = rest
+followed n (Ok (Some x)) rest = with_front ((n, x) ∷ []) rest
+
+-- what the lines from a number on say, each with its number, or the first fault
+abbrev pub entries_from : {A : Type 0} → Reading A → ℕ → List (List ℕ) → Result (List (ℕ × A)) TextFault
+entries_from grammar n [] = Ok []
+entries_from grammar n (line ∷ lines) = followed n (line_of grammar line) (entries_from grammar (n + 1) lines)
+
+-- what the lines of a text say, each with its number, or the text's first fault
+unfoldable pub entries_of : {A : Type 0} → Reading A → List ℕ → Result (List (ℕ × A)) TextFault
+entries_of grammar text = entries_from grammar 1 (lines_of text)
+
+-- ---- what a call answers
+
+-- the text has no fault, and its entries were appended to a list
+abbrev pub AppendsEntries : {X Y : Type 0} → (X → Y) → Result (List X) TextFault → List Y → List Y → Type 0
+AppendsEntries {X} entry read old new = (xs : List X) × (read ≡ Ok xs) × (new ≡ old ++ map entry xs)
+
+-- a call's error is the text's first fault; want of memory tells nothing of the text
+abbrev pub IsFirstFault : {X : Type 0} → Result (List X) TextFault → TextError → Type 0
+IsFirstFault read errors.OutOfMemory = Unit {0}
+IsFirstFault read (errors.Bad line column cause) = read ≡ Err (record { line = line; fault = fault_at column cause })
