@@ -1,0 +1,11 @@
+//! The venue of one unit: which commands it accepts, which message each makes, and the datagrams that it sends.
+#![tactic(auto)]
+
+mod error;
+mod message;
+mod packing;
+mod refusal;
+mod venue;
+
+pub use crate::error::VenueError;
+pub use crate::venue::Venue;
