@@ -5,6 +5,8 @@ mod error;
 mod message;
 mod packing;
 mod refusal;
+#[cfg(test)]
+mod tests;
 mod venue;
 
 pub use crate::error::VenueError;
