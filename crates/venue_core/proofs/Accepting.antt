@@ -1,0 +1,108 @@
+-- What a venue stands for once it has taken in the message of a command.
+use Rattle.std.proofs.Common.{◌≡◌, ℕ, ◌+◌, ◌-◌, Bool, true, false, ◌||◌, nat_le, List, [], ◌∷◌, ◌++◌, length, Option, None, Some, Ok, refl, sym, ap, ◌∙◌, arith, length-append}
+use Rattle.std.specs.List.{slice_get}
+use Rattle.std.specs.FinMap as map
+use Rattle.std.specs.Ordering.{nat_cmp}
+use Rattle.std.proofs.lemmas.Bool.{cond_both}
+use Rattle.std.proofs.lemmas.List.{drop-append-le}
+use Rattle.std.proofs.lemmas.List.Folds.{list_any-append}
+use Rattle.pitch_messages.specs.declared.order.Order.{Order}
+use Rattle.pitch_messages.specs.declared.message.Message.{Message}
+use Rattle.pitch_messages.specs.declared.message.Message.TheVariants.{ReduceLong, ReduceShort}
+use Rattle.pitch_messages.specs.Forms.{add_form, add_message, plain_symbol, short_price, trade_form, trade_message, reduce_message, modify_form, modify_message}
+use Rattle.pitch_fields.specs.Name.{six_of}
+use Rattle.pitch_messages.specs.Reading.{reads}
+use Rattle.pitch_model.specs.Book.{Book, empty_book, after}
+use Rattle.pitch_model.proofs.Books.{after_len}
+use Rattle.pitch_model.proofs.Folding.{book_after-append}
+use Rattle.pitch_text.specs.declared.command.Command.{Command}
+use Rattle.pitch_text.specs.declared.command.Command.TheVariants as commands
+use Rattle.venue_core.specs.Commands.{message_of, raw_of, ends_session}
+use Rattle.venue_core.specs.Refusals.{is_end, reads_end, is_ended}
+use Rattle.venue_core.specs.Standing.{VenueState, IsPossible, advanced}
+use Rattle.venue_core.specs.Stands.{Stands, last_of}
+
+-- ---- Which commands end the session
+add_goes_on : (six : Option (List ℕ)) (cents : Option ℕ) (order : Order) (offset : ℕ) → is_end (add_form six cents order offset) ≡ false
+add_goes_on None cents order offset = refl
+add_goes_on (Some six) (Some cents) order offset = refl
+add_goes_on (Some six) None order offset = refl
+
+trade_goes_on : (six : Option (List ℕ)) (cents : Option ℕ) (order : Order) (execution offset : ℕ) → is_end (trade_form six cents order execution offset) ≡ false
+trade_goes_on None cents order execution offset = refl
+trade_goes_on (Some six) (Some cents) order execution offset = refl
+trade_goes_on (Some six) None order execution offset = refl
+
+modify_goes_on : (cents : Option ℕ) (id quantity price : ℕ) (display : Bool) (offset : ℕ) → is_end (modify_form cents id quantity price display offset) ≡ false
+modify_goes_on (Some cents) id quantity price display offset = refl
+modify_goes_on None id quantity price display offset = refl
+
+ends_by_message : (command : Command) → is_end (message_of command) ≡ ends_session command
+unfolding add_message trade_message reduce_message modify_message
+ends_by_message (commands.Time second) = refl
+ends_by_message (commands.Add order offset) = add_goes_on (plain_symbol order) (short_price order.quantity order.price) order offset
+ends_by_message (commands.Exec id quantity execution offset) = refl
+ends_by_message (commands.ExecAt id quantity remaining execution price offset) = refl
+ends_by_message (commands.Reduce id quantity offset) =
+    cond_both (nat_le quantity 65535) (ReduceShort offset id quantity) (ReduceLong offset id quantity) (λ (m : Message). is_end m ≡ false) (λ t. refl) (λ f. refl)
+ends_by_message (commands.Modify id quantity price display offset) = modify_goes_on (short_price quantity price) id quantity price display offset
+ends_by_message (commands.Delete id offset) = refl
+ends_by_message (commands.Trade order execution offset) = trade_goes_on (six_of order.symbol) (short_price order.quantity order.price) order execution offset
+ends_by_message (commands.Break execution offset) = refl
+ends_by_message (commands.Clear offset) = refl
+ends_by_message (commands.EndSession offset) = refl
+
+or_false : (b : Bool) → (b || false) ≡ b
+or_false true = refl
+or_false false = refl
+
+ended_more : (accepted : List (List ℕ)) (command : Command) → is_ended accepted ≡ false → reads (raw_of command) ≡ Ok (message_of command)
+    → ends_session command ≡ is_ended (accepted ++ raw_of command ∷ [])
+ended_more accepted command goes_on known = sym
+    (list_any-append (λ (raw : List ℕ). reads_end (reads raw)) accepted (raw_of command ∷ [])
+    ∙ ap (λ (b : Bool). b || (reads_end (reads (raw_of command)) || false)) goes_on
+    ∙ or_false (reads_end (reads (raw_of command)))
+    ∙ ap reads_end known
+    ∙ ends_by_message command)
+
+-- ---- The last message
+last_there : (accepted : List (List ℕ)) (raw : List ℕ) → slice_get (accepted ++ raw ∷ []) (length accepted) ≡ Some raw
+last_there [] raw = refl
+last_there (first ∷ accepted) raw = last_there accepted raw
+
+last_more : (accepted : List (List ℕ)) (raw : List ℕ) → Some raw ≡ last_of (accepted ++ raw ∷ [])
+last_more accepted raw =
+    let l : length (accepted ++ raw ∷ []) - 1 ≡ length accepted = omega (arith, length-append accepted (raw ∷ [])) in
+    sym (ap (slice_get (accepted ++ raw ∷ [])) l ∙ last_there accepted raw)
+
+-- ---- The whole venue
+pub stands_on : (venue : VenueState) (accepted : List (List ℕ)) (sent : ℕ) (command : Command) → Stands venue accepted sent → venue.ended ≡ false → reads (raw_of command) ≡ Ok (message_of command)
+    → Stands (advanced venue command) (accepted ++ raw_of command ∷ []) sent
+stands_on venue accepted sent command stands goes_on known = record {
+  book = ap (λ (b : Book). after b (raw_of command)) stands.book ∙ sym (book_after-append accepted (raw_of command ∷ []));
+  next = ap (λ (n : ℕ). n + 1) (stands.next ∙ sym (length-append accepted (raw_of command ∷ [])));
+  ended = ended_more accepted command (sym stands.ended ∙ goes_on) known;
+  last = last_more accepted (raw_of command);
+  pending = ap (λ (p : List (List ℕ)). p ++ raw_of command ∷ []) stands.pending ∙ sym (drop-append-le sent accepted (raw_of command ∷ []) stands.within);
+  within = let w = stands.within in omega (arith, w, length-append accepted (raw_of command ∷ []));
+}
+
+-- ---- What is possible
+pub none_possible : (book : Book) (pending : List (List ℕ)) → book ≡ empty_book → pending ≡ [] → IsPossible book 1 pending
+none_possible book pending empty none = record {
+  orders = let l : map.len book.orders ≡ 0 = ap (λ (b : Book). map.len b.orders) empty ∙ map.len-empty nat_cmp Order in omega arith;
+  unsent = let l : length pending ≡ 0 = ap (λ (p : List (List ℕ)). length p) none in omega arith;
+}
+
+pub one_more_possible : (book new : Book) (next : ℕ) (pending waiting : List (List ℕ)) (raw : List ℕ) → IsPossible book next pending → new ≡ after book raw → waiting ≡ pending ++ raw ∷ [] → IsPossible new (next + 1) waiting
+one_more_possible book new next pending waiting raw possible applied pushed = record {
+  orders =
+      let l : map.len new.orders ≡ map.len (after book raw).orders = ap (λ (b : Book). map.len b.orders) applied in
+      let m = after_len book raw in
+      let o = possible.orders in
+      omega (arith, l, m, o);
+  unsent =
+      let l : length waiting ≡ length pending + 1 = ap (λ (p : List (List ℕ)). length p) pushed ∙ length-append pending (raw ∷ []) in
+      let o = possible.unsent in
+      omega (arith, l, o);
+}

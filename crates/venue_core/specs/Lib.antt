@@ -1,0 +1,5 @@
+pub mod Causes
+pub mod Commands
+pub mod Refusals
+pub mod Standing
+pub mod Stands

@@ -1,0 +1,159 @@
+use crate::{Venue, VenueError};
+use pitch_fields::{Price, Side, Symbol};
+use pitch_messages::{Order, Raw};
+use pitch_text::{Command, CommandList, read_commands};
+use std::alloc::{AllocError, Global};
+use std::process::Abort;
+use std::test::*;
+use unit_packets::DatagramList;
+
+// The commands of a session, and what the venue answers to each.
+const SESSION: [(&str, &str); 30] = [
+    ("add 1 B 100 IBM 10.00", "accepted 1"),
+    ("add 1 B 1 IBM 1", "refused known-id"),
+    ("exec 1 101 9", "refused too-much 101 100"),
+    ("reduce 2 5", "refused unknown-id"),
+    ("add 2 B 0 IBM 1", "refused zero-quantity"),
+    ("execat 1 40 0 7 9.99", "accepted 2"),
+    ("add 1 S 30 IBM 10.05", "accepted 3"),
+    ("clear", "accepted 4"),
+    // an order may be taken whole, and not more
+    ("add 3 B 10 IBM 1 hidden mpid=AB", "accepted 5"),
+    ("reduce 3 11", "refused too-much 11 10"),
+    ("execat 3 11 0 7 1", "refused too-much 11 10"),
+    ("modify 3 20 2", "accepted 6"),
+    ("exec 3 20 9", "accepted 7"),
+    ("delete 3", "refused unknown-id"),
+    ("modify 3 1 1", "refused unknown-id"),
+    ("exec 3 1 1", "refused unknown-id"),
+    ("execat 3 1 1 1 1", "refused unknown-id"),
+    // of two refusals the first
+    ("add 3 B 5 IBM 1", "accepted 8"),
+    ("add 3 B 0 IBM 1", "refused zero-quantity"),
+    ("exec 4 0 9", "refused zero-quantity"),
+    ("execat 4 0 1 7 1", "refused zero-quantity"),
+    ("reduce 4 0", "refused zero-quantity"),
+    ("modify 4 0 1", "refused zero-quantity"),
+    ("trade 4 B 0 IBM 1 2", "refused zero-quantity"),
+    // no order has to be open
+    ("trade 4 B 1 IBM 1 2", "accepted 9"),
+    ("break 2", "accepted 10"),
+    ("time 34200", "accepted 11"),
+    ("delete 3", "accepted 12"),
+    ("end", "accepted 13"),
+    ("delete 1", "refused ended"),
+];
+
+// An answer as a schedule's outcome says it.
+fn outcome(alloc: Global, answer: Result<u32, VenueError>) -> Result<String, AllocError> {
+    match answer {
+        Ok(sequence) => format!(in alloc; "accepted {sequence}"),
+        Err(error) => format!(in alloc; "refused {error}"),
+    }
+}
+
+// Lets a venue accept the commands of a text.
+fn accept_all(
+    rt: &impl Abort,
+    alloc: Global,
+    venue: &mut Venue,
+    text: &str,
+) -> Result<String, Fail> {
+    let mut commands = CommandList::make(alloc);
+    assert!(rt; text.len() < 1000);
+    read_commands(text.as_bytes(), &mut commands)?;
+    let mut said = String::new(alloc);
+    for entry in commands.as_slice() {
+        said = outcome(alloc, venue.accept(&entry.command))?;
+    }
+    Ok(said)
+}
+
+#[test]
+fn a_session(rt: HostRuntime) -> Result<(), Fail> {
+    let mut venue = Venue::make(rt.alloc(), 1);
+    assert!(rt; venue.last_raw().is_none());
+    for (text, expected) in SESSION {
+        let said = accept_all(&rt, rt.alloc(), &mut venue, text)?;
+        assert!(rt; said.as_str() == expected, "command {text}");
+    }
+    assert!(rt; venue.next_sequence() == 14);
+    assert!(rt; venue.book().len() == 0);
+    assert!(rt; venue.book().second() == Some(34_200));
+    assert!(rt; venue.last_raw().map(Raw::kind) == Some(0x2d));
+    Ok(())
+}
+
+// Symbols and participants, and whether an add may have them.
+const NAMES: [(&[u8; 8], &[u8; 4], bool); 9] = [
+    (b"IBM     ", b"    ", true),
+    (b"ABCDEFGH", b"ABCD", true),
+    (b"I       ", b"A   ", true),
+    (b"        ", b"    ", false),
+    (b" IBM    ", b"    ", false),
+    (b"I M     ", b"    ", false),
+    (b"I\\M     ", b"    ", false),
+    (b"IBM     ", b"A B ", false),
+    (b"IBM     ", b" A  ", false),
+];
+
+#[test]
+fn names_of_adds(rt: HostRuntime) {
+    for (symbol, participant, allowed) in NAMES {
+        let mut venue = Venue::make(rt.alloc(), 1);
+        let order = Order {
+            id: 1,
+            side: Side::Buy,
+            quantity: 1,
+            symbol: Symbol::from_eight(*symbol),
+            price: Price::from_long(1),
+            display: true,
+            participant: *participant,
+        };
+        let answer = venue.accept(&Command::Add { order, offset: 0 });
+        assert!(rt;
+            answer
+                == if allowed {
+                    Ok(1)
+                } else {
+                    Err(VenueError::BadSymbol)
+                }
+        );
+    }
+}
+
+#[test]
+fn heartbeats(rt: HostRuntime) -> Result<(), Fail> {
+    let mut venue = Venue::make(rt.alloc(), 1);
+    let mut out = DatagramList::make(rt.alloc());
+    accept_all(&rt, rt.alloc(), &mut venue, "time 34200")?;
+    assert!(rt; venue.beat() == *b"\x08\0\0\x01\x01\0\0\0");
+    assert!(rt; venue.flush(&mut out) == Ok(1));
+    assert!(rt; venue.beat() == *b"\x08\0\0\x01\x02\0\0\0");
+    assert!(rt; venue.flush(&mut out) == Ok(0));
+    assert!(rt; out.len() == 1);
+    Ok(())
+}
+
+#[test]
+fn datagrams(rt: HostRuntime) -> Result<(), Fail> {
+    let mut venue = Venue::make(rt.alloc(), 1);
+    let mut out = DatagramList::make(rt.alloc());
+    accept_all(
+        &rt,
+        rt.alloc(),
+        &mut venue,
+        "add 1 B 100 IBM 655.35\nadd 2 B 100 IBM 655.36",
+    )?;
+    assert!(rt; venue.flush(&mut out) == Ok(1));
+    for datagram in out.as_slice() {
+        assert!(rt;
+            datagram.bytes()
+                == b"\x44\0\x02\x01\x01\0\0\0\
+                    \x1a\x22\0\0\0\0\x01\0\0\0\0\0\0\0\x42\x64\0\x49\x42\x4d\x20\x20\x20\xff\xff\x01\
+                    \x22\x21\0\0\0\0\x02\0\0\0\0\0\0\0\x42\x64\0\0\0\x49\x42\x4d\x20\x20\x20\0\0\x64\0\0\0\0\0\x01"
+                    .as_slice()
+        );
+    }
+    Ok(())
+}
