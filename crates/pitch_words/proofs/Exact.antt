@@ -10,10 +10,10 @@ use Rattle.clap.specs.Faults.{fault_of}
 use Rattle.long_options.specs.Words.{Described, IsCall, Text, described, has_dashes, is_plain}
 use Rattle.long_options.specs.Found.{Options, found_options}
 use Rattle.long_options.proofs.Program.{calls_taken, takes_calls}
-use Rattle.pitch_words.specs.Numbers.{IsGivenOr}
+use Rattle.pitch_words.specs.Numbers.{IsGiven, IsGivenOr}
 use Rattle.pitch_words.specs.Forms.{HasForm, HasNumbers, IsForm, command_of, commands, pitch}
 use Rattle.pitch_words.specs.declared.form.Form.{Form}
-use Rattle.pitch_words.specs.declared.form.Form.TheVariants.{Follow, Show}
+use Rattle.pitch_words.specs.declared.form.Form.TheVariants.{Follow, Show, Pack}
 
 -- ---- a line for each form
 
@@ -21,10 +21,15 @@ use Rattle.pitch_words.specs.declared.form.Form.TheVariants.{Follow, Show}
 command_is : (form : Form) → described commands (command_of form).0 ≡ Some (command_of form)
 command_is (Follow hold) = refl
 command_is Show = refl
+command_is (Pack unit) = refl
 
 given_or_same : (default least most : ℕ) (o : Option Text) (m n : ℕ) → IsGivenOr default least most o m → IsGivenOr default least most o n → m ≡ n
 given_or_same default least most None m n a b = a ∙ sym b
 given_or_same default least most (Some t) m n a b = sym a.2 ∙ b.2
+
+given_same : (least most : ℕ) (o : Option Text) (m n : ℕ) → IsGiven least most o m → IsGiven least most o n → m ≡ n
+given_same least most None m n a b = absurd a
+given_same least most (Some t) m n a b = sym a.2 ∙ b.2
 
 -- options have the numbers of one form of a command
 numbers_same : (options : Options) (a b : Form) → bytes_eq (command_of a).0 (command_of b).0 ≡ true → HasNumbers options a → HasNumbers options b → a ≡ b
@@ -32,6 +37,11 @@ numbers_same options (Follow m) (Follow n) e a b = ap Follow (given_or_same 4096
 numbers_same options (Follow m) Show e a b = cc
 numbers_same options Show (Follow n) e a b = cc
 numbers_same options Show Show e a b = refl
+numbers_same options (Pack m) (Pack n) e a b = ap Pack (given_same 1 255 (options.value (codes "unit")) m n a b)
+numbers_same options (Pack m) (Follow n) e a b = cc
+numbers_same options (Pack m) Show e a b = cc
+numbers_same options (Follow m) (Pack n) e a b = cc
+numbers_same options Show (Pack n) e a b = cc
 
 -- ---- whatever the forms are
 

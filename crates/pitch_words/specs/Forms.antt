@@ -2,12 +2,12 @@
 use Rattle.std.specs.Prelude.{◌≡◌, ◌≤◌, List, [], ◌∷◌, Option, Some, None, codes}
 use Rattle.clap.specs.Simple.{App}
 use Rattle.clap.specs.Walk.{Row}
-use Rattle.long_options.specs.Words.{Described, Given, IsCall, Text, may_have}
+use Rattle.long_options.specs.Words.{Described, Given, IsCall, Text, may_have, must_have}
 use Rattle.long_options.specs.Apps.{program}
 use Rattle.long_options.specs.Found.{Options, found_options, given_options}
-use Rattle.pitch_words.specs.Numbers.{IsGivenOr}
+use Rattle.pitch_words.specs.Numbers.{IsGiven, IsGivenOr}
 use Rattle.pitch_words.specs.declared.form.Form.{Form}
-use Rattle.pitch_words.specs.declared.form.Form.TheVariants.{Follow, Show}
+use Rattle.pitch_words.specs.declared.form.Form.TheVariants.{Follow, Show, Pack}
 
 -- `follow [--hold H]`
 abbrev pub follow : Described
@@ -17,19 +17,25 @@ follow = (codes "follow", may_have (codes "hold") ∷ [])
 abbrev pub show : Described
 show = (codes "show", [])
 
+-- `pack --unit U`
+abbrev pub pack : Described
+pack = (codes "pack", must_have (codes "unit") ∷ [])
+
 -- the program's commands
 abbrev pub commands : List Described
-commands = follow ∷ show ∷ []
+commands = follow ∷ show ∷ pack ∷ []
 
 -- the command that a form gives
 abbrev pub command_of : Form → Described
 command_of (Follow hold) = follow
 command_of Show = show
+command_of (Pack unit) = pack
 
--- the options have the form's numbers: H is 1 to 65,536, and 4,096 where it isn't given; `show` has none
+-- the options have the form's numbers: H is 1 to 65,536, and 4,096 where it isn't given; `show` has none, and U is 1 to 255
 abbrev pub HasNumbers : Options → Form → Type 0
 HasNumbers options (Follow hold) = IsGivenOr 4096 1 65536 (options.value (codes "hold")) hold
 HasNumbers options Show = Unit {0}
+HasNumbers options (Pack unit) = IsGiven 1 255 (options.value (codes "unit")) unit
 
 -- the words are this form: its command, then that command's options, with its numbers
 abbrev pub IsForm : List Text → Form → Type 0
@@ -39,6 +45,7 @@ IsForm words form = (given : List Given) × IsCall (command_of form) words given
 abbrev pub IsInRange : Form → Type 0
 IsInRange (Follow hold) = (1 ≤ hold) × (hold ≤ 65536)
 IsInRange Show = Unit {0}
+IsInRange (Pack unit) = (1 ≤ unit) × (unit ≤ 255)
 
 -- the program as clap's builders make it
 abbrev pub pitch : App

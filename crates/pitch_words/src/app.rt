@@ -4,7 +4,7 @@ ghost use Rattle.clap.specs.Walk.{rule_of};
 ghost use Rattle.clap.specs.Simple.{app_of, with_rule};
 ghost use Rattle.clap.specs.declared.builder.command.Command.TheViews.{out-Command as fields_of};
 ghost use Rattle.long_options.specs.Apps.{command_app, empty_program, option_rule};
-ghost use Rattle.pitch_words.specs.Forms.{follow as follow_words, pitch};
+ghost use Rattle.pitch_words.specs.Forms.{follow as follow_words, pack as pack_words, pitch};
 
 use clap::{Arg, ArgAction, Command};
 use std::alloc::{AllocError, Global};
@@ -51,6 +51,14 @@ fn follow<'a>(alloc: Global) -> Result<Command<'a>, AllocError>
     with_option(alloc, command(alloc, "follow"), "hold", false)
 }
 
+/// `pack --unit U`
+fn pack<'a>(alloc: Global) -> Result<Command<'a>, AllocError>
+    ensures app { IfOk result (λ r. app_of r ≡ command_app pack_words) }
+    ensures local { IfOk result (λ r. (fields_of r).has_globals ≡ false) }
+{
+    with_option(alloc, command(alloc, "pack"), "unit", true)
+}
+
 /// The program without its commands, of which one must be there.
 fn top<'a>(alloc: Global) -> Command<'a>
     ensures app { app_of result ≡ empty_program (codes "pitch") }
@@ -69,5 +77,6 @@ pub(crate) fn app<'a>(alloc: Global) -> Result<Command<'a>, AllocError>
     ensures app { IfOk result (λ r. app_of r ≡ pitch) }
 {
     let with_follow = top(alloc).subcommand(follow(alloc)?)?;
-    with_follow.subcommand(command(alloc, "show"))
+    let with_show = with_follow.subcommand(command(alloc, "show"))?;
+    with_show.subcommand(pack(alloc)?)
 }

@@ -10,4 +10,9 @@ pub enum Form {
     },
     /// `show`: read a block stream, and print its blocks and messages.
     Show,
+    /// `pack --unit U`: read venue commands, and write their datagrams.
+    Pack {
+        /// The unit of the datagrams: 1 to 255.
+        unit: u8,
+    },
 }

@@ -3,7 +3,7 @@ ghost use Rattle.std.specs.Prelude.{◌≡◌, ℕ, ◌≤◌, IfNone, IfSome, M
 ghost use Rattle.clap.specs.Matches.{found_of};
 ghost use Rattle.clap.specs.Simple.{subcommand_rows_of};
 ghost use Rattle.clap.specs.Walk.{first_of, rows_of};
-ghost use Rattle.pitch_words.specs.Numbers.{IsGivenOr, IsNumber};
+ghost use Rattle.pitch_words.specs.Numbers.{IsGiven, IsGivenOr, IsNumber};
 ghost use Rattle.pitch_words.specs.Forms.{HasForm, IsInRange};
 ghost use Rattle.pitch_words.specs.declared.form.Form.{Form};
 
@@ -33,6 +33,18 @@ fn text_of<'a>(matches: &ArgMatches<'a>, name: &str) -> Option<&'a str>
     matches.get_str(name)
 }
 
+/// The number of an option that must be given.
+fn given(matches: &ArgMatches, name: &str, least: u64, most: u64) -> Option<u64>
+    ensures some { IfSome result (λ n. IsGiven least most (first_of name.now (rows_of (found_of matches.now))) n) }
+    ensures none { IfNone result ((n : ℕ) → ¬ IsGiven least most (first_of name.now (rows_of (found_of matches.now))) n) }
+    ensures range { IfSome result (λ n. (least ≤ n) × (n ≤ most)) }
+{
+    match text_of(matches, name) {
+        Some(text) => number(text, least, most),
+        None => None,
+    }
+}
+
 /// The number of an option that may be left out, and has a default then.
 fn given_or(matches: &ArgMatches, name: &str, default: u64, least: u64, most: u64) -> Option<u64>
     requires default_in_range { least ≤ default × default ≤ most }
@@ -56,6 +68,16 @@ fn follow(matches: &ArgMatches) -> Option<Form>
     Some(Form::Follow { hold: hold as u32 })
 }
 
+/// `pack --unit U`
+fn pack(matches: &ArgMatches) -> Option<Form>
+    ensures form { MatchOption result ((form : Form) → ¬ HasForm (Some (codes "pack", rows_of (found_of matches.now))) form)
+        (HasForm (Some (codes "pack", rows_of (found_of matches.now)))) }
+    ensures range { IfSome result IsInRange }
+{
+    let unit = given(matches, "unit", 1, 255)?;
+    Some(Form::Pack { unit: unit as u8 })
+}
+
 /// The form of the command of this name.
 fn form_in(name: &str, matches: &ArgMatches) -> Option<Form>
     ensures form { MatchOption result ((form : Form) → ¬ HasForm (Some (name.now, rows_of (found_of matches.now))) form)
@@ -65,6 +87,7 @@ fn form_in(name: &str, matches: &ArgMatches) -> Option<Form>
     match name {
         "follow" => follow(matches),
         "show" => Some(Form::Show),
+        "pack" => pack(matches),
         _ => None,
     }
 }

@@ -6,6 +6,7 @@
 //! |---|---|---|
 //! | `follow [--hold H]` | H is 1 to 65,536 | 4,096 |
 //! | `show` | | |
+//! | `pack --unit U` | U is 1 to 255 | |
 //!
 //! The first word is a command's name. The options follow in any order, each at most once, as `--name value` or
 //! `--name=value`; those in brackets may be left out. A value is 1 to 20 digits and lies within its range, and zeros

@@ -27,6 +27,10 @@ fn words_and_their_forms(rt: HostRuntime) -> Result<(), Fail> {
         assert!(rt; got == Some(Form::Follow { hold }), "words {line}");
     }
     assert!(rt; form_of_line(rt.alloc(), "show")? == Some(Form::Show));
+    for (line, unit) in [("pack --unit 1", 1), ("pack --unit=255", 255)] {
+        let got = form_of_line(rt.alloc(), line)?;
+        assert!(rt; got == Some(Form::Pack { unit }), "words {line}");
+    }
     let refused = [
         "follow --hold 0",
         "follow --hold 65537",
@@ -54,6 +58,12 @@ fn words_and_their_forms(rt: HostRuntime) -> Result<(), Fail> {
         "--hold 2 follow",
         "--",
         "-- follow",
+        "pack",
+        "pack --unit",
+        "pack --unit 0",
+        "pack --unit 256",
+        "pack --unit 1 --unit 1",
+        "pack --hold 1",
         "show x",
         "show --hold 2",
         "show --",
