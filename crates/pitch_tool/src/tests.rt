@@ -170,11 +170,7 @@ const TRADE: &[u8] = b"\x39\x00\x02\x02\x09\x00\x00\x00\
 const SHOWN: [(&[&[u8]], &str); 6] = [
     (&[], ""),
     (
-        &[
-            TIME,
-            b"\x0b\x00\x01\x01\x02\x00\x00\x00\x03\x99\x07",
-            BEAT,
-        ],
+        &[TIME, b"\x0b\x00\x01\x01\x02\x00\x00\x00\x03\x99\x07", BEAT],
         "block 1 unit 1 first 1 count 1\n\
         1 time second=34200\n\
         block 2 unit 1 first 2 count 1\n\
