@@ -1,0 +1,12 @@
+use Rattle.std.proofs.Common.{◌++◌, ◌+◌, ℕ, List, drop, ap, ◌∙◌}
+use Rattle.std.specs.List.{concat}
+use Rattle.pitch_messages.specs.Room.{Roomy}
+use Rattle.unit_packets.specs.Packing.{bytes_in, packed}
+use Rattle.command_feed.proofs.feed.append_datagrams.Goals as goal
+
+pub returns-clause-ok : goal.returns-clause-ok
+returns-clause-ok c = λ accepted stands.
+    c.in_default.ensures.ok
+    ∙ ap (λ (l : List (List ℕ)). c.args.out.now.items ++ concat l)
+    (ap bytes_in c.as_slice.ensures ∙ c.in_ok-flush.ensures.datagrams accepted 0 stands
+    ∙ ap (λ (lists : List (Roomy ℕ)). bytes_in lists ++ packed c.args.venue.now.unit 1 accepted) c.make-datagrams.ensures)

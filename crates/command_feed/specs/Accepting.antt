@@ -1,0 +1,34 @@
+-- What accepting commands does.
+use Rattle.std.specs.Prelude.{◌≡◌, ℕ, List, [], ◌∷◌, ◌++◌, None, Some, Ok, Err}
+use Rattle.pitch_text.specs.declared.command.CommandEntry.{CommandEntry}
+use Rattle.venue_core.specs.Commands.{raw_of}
+use Rattle.venue_core.specs.Refusals.{refusal}
+use Rattle.venue_core.specs.Standing.{VenueState}
+use Rattle.venue_core.specs.Stands.{Stands}
+use Rattle.venue_core.specs.declared.error.VenueError.{VenueError}
+use Rattle.command_feed.specs.Feed.{accepted_after, messages_of}
+use Rattle.command_feed.specs.declared.error.FeedError.{FeedError}
+use Rattle.command_feed.specs.declared.error.FeedError.TheVariants.{Refused}
+
+-- a venue that accepted some messages refuses nothing of the command, and stands for its message too
+pub record IsAccepted (accepted : List (List ℕ)) (entry : CommandEntry) (venue : VenueState) : Type 0 where
+  pub none : refusal accepted entry.command ≡ None
+  pub stands : Stands venue (accepted ++ raw_of entry.command ∷ []) 0
+
+-- it refuses the command, which is the error of the line
+pub record IsRefused (accepted : List (List ℕ)) (entry : CommandEntry) (error : FeedError) : Type 0 where
+  pub cause : VenueError
+  pub refuses : refusal accepted entry.command ≡ Some cause
+  pub is : error ≡ Refused entry.line cause
+
+-- it accepted all the commands
+pub record AcceptsAll (accepted : List (List ℕ)) (entries : List CommandEntry) (venue : VenueState) : Type 0 where
+  pub all : List (List ℕ)
+  pub accepts : accepted_after accepted entries ≡ Ok all
+  pub stands : Stands venue all 0
+
+-- it accepted the messages of a text
+pub record IsVenueAfter (text : List ℕ) (venue : VenueState) : Type 0 where
+  pub all : List (List ℕ)
+  pub accepts : messages_of text ≡ Ok all
+  pub stands : Stands venue all 0

@@ -1,0 +1,18 @@
+-- An error of a part as an error of the whole.
+use Rattle.std.specs.Prelude.{ℕ}
+use Rattle.pitch_text.specs.declared.fault.TextError.{TextError}
+use Rattle.pitch_text.specs.declared.fault.TextError.TheVariants as text
+use Rattle.venue_core.specs.declared.error.VenueError.{VenueError}
+use Rattle.venue_core.specs.declared.error.VenueError.TheVariants as venue
+use Rattle.command_feed.specs.declared.error.FeedError.{FeedError}
+use Rattle.command_feed.specs.declared.error.FeedError.TheVariants.{Bad, Refused, OutOfMemory}
+
+-- why a text was not read
+abbrev pub of_text : TextError → FeedError
+of_text (text.Bad line column cause) = Bad line column cause
+of_text text.OutOfMemory = OutOfMemory
+
+-- why the command of a line was not accepted
+abbrev pub of_venue : ℕ → VenueError → FeedError
+of_venue line venue.OutOfMemory = OutOfMemory
+of_venue line error = Refused line error

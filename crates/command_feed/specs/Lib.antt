@@ -1,0 +1,4 @@
+pub mod Causes
+pub mod Feed
+pub mod Faults
+pub mod Accepting

@@ -1,0 +1,11 @@
+//! The feed of one unit that a text of venue commands makes: the text is read, the venue accepts its commands one
+//! after another, and all messages are packed into datagrams.
+#![tactic(auto)]
+
+mod error;
+mod feed;
+#[cfg(test)]
+mod tests;
+
+pub use crate::error::FeedError;
+pub use crate::feed::append_feed;
