@@ -15,8 +15,8 @@ use Rattle.unit_packets.specs.declared.header.BlockFault.{BlockFault}
 use Rattle.unit_packets.proofs.Cuts.{appends, rest_short}
 use Rattle.unit_packets.proofs.Streams.{fault_open, fault_rest, fault_no_rest, fault_stays}
 use Rattle.pitch_model.specs.Texts.{texts_after}
-use Rattle.pitch_words.specs.declared.form.Form.{Form}
-use Rattle.pitch_words.specs.declared.form.Form.TheVariants.{Follow, Show}
+use Rattle.pitch_tool.specs.declared.stream_form.StreamForm.{StreamForm}
+use Rattle.pitch_tool.specs.declared.stream_form.StreamForm.TheVariants.{Follow, Show}
 use Rattle.pitch_tool.specs.Feeding.{Fed}
 use Rattle.pitch_tool.specs.Inputs.{faulty, trouble_of, ReadsAll, WritesAll, Has, Refuses, WritesSome}
 use Rattle.pitch_tool.specs.Knowing.{form_of}
@@ -35,20 +35,20 @@ reverse_split : (bytes piece : List ℕ) → reverse (blocks_of (bytes ++ piece)
 reverse_split bytes piece = ap reverse ((appends bytes piece).blocks) ∙ reverse-append (blocks_of bytes) (blocks_of (rest_of bytes ++ piece))
 
 -- the texts of the blocks that a piece more completes
-abbrev more_texts : Form → List ℕ → List ℕ → List ℕ
+abbrev more_texts : StreamForm → List ℕ → List ℕ → List ℕ
 more_texts form bytes piece = texts_after (block_text form) (reverse (blocks_of bytes)) (blocks_of (rest_of bytes ++ piece))
 
-texts_split : (form : Form) (bytes piece : List ℕ) → texts_for form (bytes ++ piece) ≡ texts_for form bytes ++ more_texts form bytes piece
+texts_split : (form : StreamForm) (bytes piece : List ℕ) → texts_for form (bytes ++ piece) ≡ texts_for form bytes ++ more_texts form bytes piece
 texts_split form bytes piece =
     ap (texts_after (block_text form) []) ((appends bytes piece).blocks) ∙ texts_append (block_text form) [] (blocks_of bytes) (blocks_of (rest_of bytes ++ piece))
     ∙ ap (λ (bs : List Block). texts_for form bytes ++ texts_after (block_text form) bs (blocks_of (rest_of bytes ++ piece))) (append-nil (reverse (blocks_of bytes)))
 
 -- some front of the texts of fewer bytes is some front of those of more
-pub puts_texts : (form : Form) (a b : Option (List ℕ)) (bytes piece : List ℕ) → PutsSome a b (texts_for form bytes) → PutsSome a b (texts_for form (bytes ++ piece))
+pub puts_texts : (form : StreamForm) (a b : Option (List ℕ)) (bytes piece : List ℕ) → PutsSome a b (texts_for form bytes) → PutsSome a b (texts_for form (bytes ++ piece))
 puts_texts form a b bytes piece p = subst (PutsSome a b) (sym (texts_split form bytes piece)) (puts_longer a b (texts_for form bytes) (more_texts form bytes piece) p)
 
 -- a piece more
-pub fed_piece : (form : Form) (start u v : Option (List ℕ)) (f g : Printer) (r s : Reading) (d e : BlockError) (bytes piece : List ℕ) → Fed form start u f r d bytes → length (bytes ++ piece) ≤ 1073741824
+pub fed_piece : (form : StreamForm) (start u v : Option (List ℕ)) (f g : Printer) (r s : Reading) (d e : BlockError) (bytes piece : List ℕ) → Fed form start u f r d bytes → length (bytes ++ piece) ≤ 1073741824
     → PrintsAll f g (loaded r piece) s u v e → Fed form start v g s e (bytes ++ piece)
 fed_piece form start u v f g r s d e bytes piece fed small all =
     let more : List Block = blocks_of (rest_of bytes ++ piece) in
@@ -76,18 +76,18 @@ fed_piece form start u v f g r s d e bytes piece fed small all =
       known = subst (HasPrinted g) (sym (reverse_split bytes piece)) (prints.known (reverse (blocks_of bytes)) fed.known);
       printed = subst (Prints start [] v g.page.text) (sym (texts_split form bytes piece))
           (prints_more start u v [] f.page.text g.page.text (texts_for form bytes) (more_texts form bytes piece) fed.printed
-          (subst (λ (k : Form). Prints u f.page.text v g.page.text (texts_after (block_text k) (reverse (blocks_of bytes)) more)) fed.form_is (prints.printed (reverse (blocks_of bytes)) fed.known)));
+          (subst (λ (k : StreamForm). Prints u f.page.text v g.page.text (texts_after (block_text k) (reverse (blocks_of bytes)) more)) fed.form_is (prints.printed (reverse (blocks_of bytes)) fed.known)));
       few = omega (arith, few, few', joined, joined');
     }
 
 -- a sink that fails at a piece
-pub fed_fails : (form : Form) (start u v : Option (List ℕ)) (f : Printer) (r : Reading) (d : BlockError) (bytes piece : List ℕ) → Fed form start u f r d bytes
+pub fed_fails : (form : StreamForm) (start u v : Option (List ℕ)) (f : Printer) (r : Reading) (d : BlockError) (bytes piece : List ℕ) → Fed form start u f r d bytes
     → ((before : List Block) → HasPrinted f before → PutsSome u v (f.page.text ++ texts_after (block_text (form_of f.task)) before (blocks_of (r.rest ++ piece)))) → PutsSome start v (texts_for form (bytes ++ piece))
 fed_fails form start u v f r d bytes piece fed fails =
     let here = fails (reverse (blocks_of bytes)) fed.known in
     let there : PutsSome u v (f.page.text ++ more_texts form bytes piece) =
     subst (λ (l : List ℕ). PutsSome u v (f.page.text ++ texts_after (block_text form) (reverse (blocks_of bytes)) (blocks_of (l ++ piece)))) fed.rest
-    (subst (λ (k : Form). PutsSome u v (f.page.text ++ texts_after (block_text k) (reverse (blocks_of bytes)) (blocks_of (r.rest ++ piece)))) fed.form_is here) in
+    (subst (λ (k : StreamForm). PutsSome u v (f.page.text ++ texts_after (block_text k) (reverse (blocks_of bytes)) (blocks_of (r.rest ++ piece)))) fed.form_is here) in
     subst (PutsSome start v) (sym (texts_split form bytes piece)) (puts_then start u v [] f.page.text (texts_for form bytes) (more_texts form bytes piece) fed.printed there)
 
 -- what was printed, once the page is written out
@@ -100,11 +100,11 @@ prints_out a b c t x p g = prints_whole a c [] x (subst (Prints a [] c []) (appe
 })))
 
 -- the page was written out
-pub fed_flushed : (form : Form) (start u v : Option (List ℕ)) (f : Printer) (r : Reading) (d : BlockError) (bytes : List ℕ) → Fed form start u f r d bytes → Grows u v f.page.text → Grows start v (texts_for form bytes)
+pub fed_flushed : (form : StreamForm) (start u v : Option (List ℕ)) (f : Printer) (r : Reading) (d : BlockError) (bytes : List ℕ) → Fed form start u f r d bytes → Grows u v f.page.text → Grows start v (texts_for form bytes)
 fed_flushed form start u v f r d bytes fed grows = prints_out start u v f.page.text (texts_for form bytes) fed.printed grows
 
 -- or failed to be
-pub fed_unflushed : (form : Form) (start u v : Option (List ℕ)) (f : Printer) (r : Reading) (d : BlockError) (bytes : List ℕ) → Fed form start u f r d bytes → PutsSome u v f.page.text → PutsSome start v (texts_for form bytes)
+pub fed_unflushed : (form : StreamForm) (start u v : Option (List ℕ)) (f : Printer) (r : Reading) (d : BlockError) (bytes : List ℕ) → Fed form start u f r d bytes → PutsSome u v f.page.text → PutsSome start v (texts_for form bytes)
 fed_unflushed form start u v f r d bytes fed puts = puts_after start u v [] f.page.text (texts_for form bytes) fed.printed puts
 
 -- ---- How it ends
@@ -165,7 +165,7 @@ has_all (Some all) (Some left) (Some now) bytes read end =
     (whole, (whole, ap Some (end.1 ∙ end.0)))
 
 -- a block's fault that lasts, wherever the input ends
-pub refuses_lasting : (form : Form) (most : ℕ) (first now start written : Option (List ℕ)) (bytes extra : List ℕ) (r : Reading) (e : BlockError) → length bytes ≤ most → Consumes first now (bytes ++ extra)
+pub refuses_lasting : (form : StreamForm) (most : ℕ) (first now start written : Option (List ℕ)) (bytes extra : List ℕ) (r : Reading) (e : BlockError) → length bytes ≤ most → Consumes first now (bytes ++ extra)
     → r.rest ≡ rest_of bytes → r.place ≡ place_of bytes → judge r.rest ≡ Err e → is_truncated e ≡ false → Grows start written (texts_for form bytes)
     → Refuses form most (Faulty (record { place = r.place; error = e })) first start written
 refuses_lasting form most first now start written bytes extra r e le read rest place judged lasts wrote =
@@ -180,7 +180,7 @@ refuses_lasting form most first now start written bytes extra r e le read rest p
       wrote = subst (λ (bs : List Block). Grows start written (texts_after (block_text form) [] bs)) (sym trouble.1) wrote;
     }
 
-pub refuses_long : (form : Form) (most : ℕ) (first now start written : Option (List ℕ)) (bytes extra : List ℕ) (r : Reading) (e : BlockError) → length bytes ≡ most → 0 < length extra → Consumes first now (bytes ++ extra)
+pub refuses_long : (form : StreamForm) (most : ℕ) (first now start written : Option (List ℕ)) (bytes extra : List ℕ) (r : Reading) (e : BlockError) → length bytes ≡ most → 0 < length extra → Consumes first now (bytes ++ extra)
     → r.rest ≡ rest_of bytes → judge r.rest ≡ Err e → is_truncated e ≡ true → Grows start written (texts_for form bytes) → Refuses form most TooLong first start written
 refuses_long form most first now start written bytes extra r e size some read rest judged cut wrote =
     let more = has_more first now (bytes ++ extra) read in
@@ -194,7 +194,7 @@ refuses_long form most first now start written bytes extra r e size some read re
     }
 
 -- the input ended inside a block
-pub refuses_rest : (form : Form) (most : ℕ) (first before now start written : Option (List ℕ)) (bytes : List ℕ) (r : Reading) (e : BlockError) → length bytes ≤ most → Consumes first before bytes → IsAtEnd before × Keeps before now
+pub refuses_rest : (form : StreamForm) (most : ℕ) (first before now start written : Option (List ℕ)) (bytes : List ℕ) (r : Reading) (e : BlockError) → length bytes ≤ most → Consumes first before bytes → IsAtEnd before × Keeps before now
     → r.rest ≡ rest_of bytes → r.place ≡ place_of bytes → 0 < length r.rest → judge r.rest ≡ Err e → is_truncated e ≡ true → Grows start written (texts_for form bytes)
     → Refuses form most (Faulty (record { place = r.place; error = e })) first start written
 refuses_rest form most first before now start written bytes r e le read end rest place some judged cut wrote =
@@ -208,11 +208,11 @@ refuses_rest form most first before now start written bytes r e le read end rest
     }
 
 -- ---- The whole text
-is_text : (form : Form) (bytes end : List ℕ) → IsEnd form (reverse (blocks_of bytes)) end → IsText form bytes (texts_for form bytes ++ end)
+is_text : (form : StreamForm) (bytes end : List ℕ) → IsEnd form (reverse (blocks_of bytes)) end → IsText form bytes (texts_for form bytes ++ end)
 is_text (Follow hold) bytes end is = record { lines = (end, refl); honest = λ Image Vs honest. ap (λ (t : List ℕ). texts_for (Follow hold) bytes ++ t) (is Image Vs honest) }
 is_text Show bytes end is = ap (λ (t : List ℕ). texts_for Show bytes ++ t) is ∙ append-nil (texts_for Show bytes)
 
-is_front : (form : Form) (bytes end : List ℕ) → IsFrontOfEnd form (reverse (blocks_of bytes)) end → IsFrontOfText form bytes (texts_for form bytes ++ end)
+is_front : (form : StreamForm) (bytes end : List ℕ) → IsFrontOfEnd form (reverse (blocks_of bytes)) end → IsFrontOfText form bytes (texts_for form bytes ++ end)
 is_front (Follow hold) bytes end are = record {
   lines = (end, refl);
   honest = λ Image Vs honest.
@@ -222,12 +222,12 @@ is_front (Follow hold) bytes end are = record {
 is_front Show bytes end is = ap (λ (t : List ℕ). texts_for Show bytes ++ t) is ∙ append-nil (texts_for Show bytes)
 
 -- the end is a front of itself
-pub whole_front : (form : Form) (before : List Block) (end : List ℕ) → IsEnd form before end → IsFrontOfEnd form before end
+pub whole_front : (form : StreamForm) (before : List Block) (end : List ℕ) → IsEnd form before end → IsFrontOfEnd form before end
 whole_front (Follow hold) before end is = λ Image Vs honest. ([], sym (is Image Vs honest) ∙ sym (append-nil end))
 whole_front Show before end is = is
 
 -- all was written
-pub writes_whole : (form : Form) (most : ℕ) (first before now start written : Option (List ℕ)) (bytes end : List ℕ) (r : Reading) (e : BlockError) → length bytes ≤ most → Consumes first before bytes → IsAtEnd before × Keeps before now
+pub writes_whole : (form : StreamForm) (most : ℕ) (first before now start written : Option (List ℕ)) (bytes end : List ℕ) (r : Reading) (e : BlockError) → length bytes ≤ most → Consumes first before bytes → IsAtEnd before × Keeps before now
     → r.rest ≡ rest_of bytes → length r.rest ≡ 0 → judge r.rest ≡ Err e → is_truncated e ≡ true → IsEnd form (reverse (blocks_of bytes)) end
     → Grows start written (texts_for form bytes ++ end) → WritesAll form most first now start written
 writes_whole form most first before now start written bytes end r e le read ends rest none judged cut is wrote =
@@ -246,11 +246,11 @@ writes_whole form most first before now start written bytes end r e le read ends
     nothing (x ∷ l) z = absurd (omega arith)
 
 -- a front of the texts was written
-pub writes_texts : (form : Form) (first now start written : Option (List ℕ)) (bytes : List ℕ) → Consumes first now bytes → PutsSome start written (texts_for form bytes) → WritesSome form first now start written
+pub writes_texts : (form : StreamForm) (first now start written : Option (List ℕ)) (bytes : List ℕ) → Consumes first now bytes → PutsSome start written (texts_for form bytes) → WritesSome form first now start written
 writes_texts form first now start written bytes read puts = record { bytes = bytes; read = read; text = texts_for form bytes; wrote = puts; is_front = inl refl }
 
 -- a front of the whole text was written
-pub writes_front : (form : Form) (first before now start written : Option (List ℕ)) (bytes end : List ℕ) → Consumes first now bytes → Consumes first before bytes → IsAtEnd before × Keeps before now
+pub writes_front : (form : StreamForm) (first before now start written : Option (List ℕ)) (bytes end : List ℕ) → Consumes first now bytes → Consumes first before bytes → IsAtEnd before × Keeps before now
     → IsFrontOfEnd form (reverse (blocks_of bytes)) end → PutsSome start written (texts_for form bytes ++ end) → WritesSome form first now start written
 writes_front form first before now start written bytes end read so_far ends are puts = record {
   bytes = bytes;

@@ -4,7 +4,7 @@ use Rattle.std.specs.Bool.{◌==◌}
 use Rattle.std.specs.Io.KnownBytes.{Consumes, Keeps, IsAtEnd}
 use Rattle.std.proofs.lemmas.Bool.{eqb-true}
 use Rattle.pitch_io.specs.Putting.{Grows}
-use Rattle.pitch_words.specs.declared.form.Form.{Form}
+use Rattle.pitch_tool.specs.declared.stream_form.StreamForm.{StreamForm}
 use Rattle.unit_packets.specs.Cutting.{blocks_of, is_truncated}
 use Rattle.unit_packets.specs.Reading.{Reading}
 use Rattle.unit_packets.specs.declared.header.BlockError.{BlockError}
@@ -26,12 +26,12 @@ pub none_left : (n : ℕ) → true ≡ (n == 0) → n ≡ 0
 none_left n e = eqb-true n 0 (sym e)
 
 -- the end was printed behind the texts of the blocks
-end_printed : (form : Form) (p : Printer) (start u v : Option (List ℕ)) (t : List ℕ) (r : Reading) (e : BlockError) (bytes : List ℕ) → Fed form start u p r e bytes
+end_printed : (form : StreamForm) (p : Printer) (start u v : Option (List ℕ)) (t : List ℕ) (r : Reading) (e : BlockError) (bytes : List ℕ) → Fed form start u p r e bytes
     → (q : PrintsEnd form (reverse (blocks_of bytes)) u p.page.text v t) → Prints start [] v t (texts_for form bytes ++ q.end)
 end_printed form p start u v t r e bytes fed q = prints_more start u v [] p.page.text t (texts_for form bytes) q.end fed.printed q.printed
 
 -- all was written
-pub ends_whole : (form : Form) (most : ℕ) (first before now start u v w : Option (List ℕ)) (p : Printer) (t : List ℕ) (r : Reading) (e : BlockError) (bytes : List ℕ) → length bytes ≤ most
+pub ends_whole : (form : StreamForm) (most : ℕ) (first before now start u v w : Option (List ℕ)) (p : Printer) (t : List ℕ) (r : Reading) (e : BlockError) (bytes : List ℕ) → length bytes ≤ most
     → Fed form start u p r e bytes → is_truncated e ≡ true → Consumes first before bytes → IsAtEnd before × Keeps before now → length r.rest ≡ 0
     → PrintsEnd form (reverse (blocks_of bytes)) u p.page.text v t → Grows v w t → WritesAll form most first now start w
 ends_whole form most first before now start u v w p t r e bytes small fed cut read end none q wrote =
@@ -39,7 +39,7 @@ ends_whole form most first before now start u v w p t r e bytes small fed cut re
     (prints_out start v w t (texts_for form bytes ++ q.end) (end_printed form p start u v t r e bytes fed q) wrote)
 
 -- the sink failed at the last page
-pub ends_unflushed : (form : Form) (first before now start u v w : Option (List ℕ)) (p : Printer) (t : List ℕ) (r : Reading) (e : BlockError) (bytes : List ℕ)
+pub ends_unflushed : (form : StreamForm) (first before now start u v w : Option (List ℕ)) (p : Printer) (t : List ℕ) (r : Reading) (e : BlockError) (bytes : List ℕ)
     → Fed form start u p r e bytes → Consumes first now bytes → Consumes first before bytes → IsAtEnd before × Keeps before now
     → PrintsEnd form (reverse (blocks_of bytes)) u p.page.text v t → PutsSome v w t → WritesSome form first now start w
 ends_unflushed form first before now start u v w p t r e bytes fed all read end q puts =
@@ -47,7 +47,7 @@ ends_unflushed form first before now start u v w p t r e bytes fed all read end 
     (puts_after start v w [] t (texts_for form bytes ++ q.end) (end_printed form p start u v t r e bytes fed q) puts)
 
 -- the sink failed while the end was printed
-pub ends_unprinted : (form : Form) (first before now start u v : Option (List ℕ)) (p : Printer) (r : Reading) (e : BlockError) (bytes : List ℕ)
+pub ends_unprinted : (form : StreamForm) (first before now start u v : Option (List ℕ)) (p : Printer) (r : Reading) (e : BlockError) (bytes : List ℕ)
     → Fed form start u p r e bytes → Consumes first now bytes → Consumes first before bytes → IsAtEnd before × Keeps before now
     → PutsEnd form (reverse (blocks_of bytes)) u p.page.text v → WritesSome form first now start v
 ends_unprinted form first before now start u v p r e bytes fed all read end q =

@@ -10,7 +10,7 @@ use Rattle.unit_packets.specs.Cutting.{blocks_of, is_truncated}
 use Rattle.unit_packets.specs.Reading.{Reading, loaded}
 use Rattle.unit_packets.specs.declared.header.BlockError.{BlockError}
 use Rattle.pitch_model.specs.Texts.{texts_after}
-use Rattle.pitch_words.specs.declared.form.Form.{Form}
+use Rattle.pitch_tool.specs.declared.stream_form.StreamForm.{StreamForm}
 use Rattle.pitch_tool.specs.Feeding.{Fed}
 use Rattle.pitch_tool.specs.Inputs.{Refuses, WritesSome}
 use Rattle.pitch_tool.specs.Knowing.{form_of}
@@ -40,7 +40,7 @@ kept_fails k f first now start u v r d bytes piece fed read fails =
     (puts_texts (form_of f.task) start v (bytes ++ take k piece) (drop k piece) (fed_fails (form_of f.task) start u v f r d bytes (take k piece) fed fails)))
 
 -- or when the page was written out
-pub kept_unflushed : (k : ℕ) (form : Form) (g : Printer) (first now start v w : Option (List ℕ)) (s : Reading) (e : BlockError) (bytes piece : List ℕ) → Fed form start v g s e (bytes ++ take k piece)
+pub kept_unflushed : (k : ℕ) (form : StreamForm) (g : Printer) (first now start v w : Option (List ℕ)) (s : Reading) (e : BlockError) (bytes piece : List ℕ) → Fed form start v g s e (bytes ++ take k piece)
     → Consumes first now (bytes ++ piece) → PutsSome v w g.page.text → WritesSome form first now start w
 kept_unflushed k form g first now start v w s e bytes piece fed read puts =
     writes_texts form first now start w (bytes ++ piece) read
@@ -48,7 +48,7 @@ kept_unflushed k form g first now start v w s e bytes piece fed read puts =
     (puts_texts form start w (bytes ++ take k piece) (drop k piece) (fed_unflushed form start v w g s e (bytes ++ take k piece) fed puts)))
 
 -- a fault in what was kept
-pub kept_faulty : (k : ℕ) (form : Form) (g : Printer) (first now start v w : Option (List ℕ)) (s : Reading) (e : BlockError) (bytes piece : List ℕ) → k + length bytes ≤ 1073741824
+pub kept_faulty : (k : ℕ) (form : StreamForm) (g : Printer) (first now start v w : Option (List ℕ)) (s : Reading) (e : BlockError) (bytes piece : List ℕ) → k + length bytes ≤ 1073741824
     → Fed form start v g s e (bytes ++ take k piece) → Consumes first now (bytes ++ piece) → is_truncated e ≡ false → Grows v w g.page.text
     → Refuses form 1073741824 (Faulty (record { place = s.place; error = e })) first start w
 kept_faulty k form g first now start v w s e bytes piece small fed read lasts wrote =
@@ -56,7 +56,7 @@ kept_faulty k form g first now start v w s e bytes piece small fed read lasts wr
     (subst (Consumes first now) (sym (whole k bytes piece)) read) fed.rest fed.place fed.judged lasts (fed_flushed form start v w g s e (bytes ++ take k piece) fed wrote)
 
 -- more than is kept
-pub kept_long : (form : Form) (g : Printer) (first now start v w : Option (List ℕ)) (s : Reading) (e : BlockError) (bytes piece : List ℕ) (k : ℕ) → length bytes ≤ 1073741824 → k ≡ min (length piece) (1073741824 - length bytes)
+pub kept_long : (form : StreamForm) (g : Printer) (first now start v w : Option (List ℕ)) (s : Reading) (e : BlockError) (bytes piece : List ℕ) (k : ℕ) → length bytes ≤ 1073741824 → k ≡ min (length piece) (1073741824 - length bytes)
     → k < length piece → Fed form start v g s e (bytes ++ take k piece) → Consumes first now (bytes ++ piece) → is_truncated e ≡ true → Grows v w g.page.text → Refuses form 1073741824 TooLong first start w
 kept_long form g first now start v w s e bytes piece k small is more fed read cut wrote =
     refuses_long form 1073741824 first now start w (bytes ++ take k piece) (drop k piece) s e (omega (arith, length-append bytes (take k piece), length-take k piece, small, is, more))
@@ -64,6 +64,6 @@ kept_long form g first now start v w s e bytes piece k small is more fed read cu
     (subst (Consumes first now) (sym (whole k bytes piece)) read) fed.rest fed.judged cut (fed_flushed form start v w g s e (bytes ++ take k piece) fed wrote)
 
 -- all of it was kept
-pub kept_all : (k : ℕ) (form : Form) (g : Printer) (start v : Option (List ℕ)) (s : Reading) (e : BlockError) (bytes piece : List ℕ) → length piece ≤ k → Fed form start v g s e (bytes ++ take k piece) → Fed form start v g s e (bytes ++ piece)
+pub kept_all : (k : ℕ) (form : StreamForm) (g : Printer) (start v : Option (List ℕ)) (s : Reading) (e : BlockError) (bytes piece : List ℕ) → length piece ≤ k → Fed form start v g s e (bytes ++ take k piece) → Fed form start v g s e (bytes ++ piece)
 kept_all k form g start v s e bytes piece le fed =
     subst (Fed form start v g s e) (sym (append-nil (bytes ++ take k piece)) ∙ ap (λ (l : List ℕ). (bytes ++ take k piece) ++ l) (sym (drop_of_length-le piece le)) ∙ whole k bytes piece) fed

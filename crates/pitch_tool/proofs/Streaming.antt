@@ -10,7 +10,7 @@ use Rattle.unit_packets.specs.Reading.{Reading, passed}
 use Rattle.unit_packets.specs.declared.header.BlockError.{BlockError}
 use Rattle.unit_packets.proofs.Streams.{leads}
 use Rattle.unit_packets.proofs.Cuts.{none_of}
-use Rattle.pitch_words.specs.declared.form.Form.{Form}
+use Rattle.pitch_tool.specs.declared.stream_form.StreamForm.{StreamForm}
 use Rattle.pitch_model.specs.Texts.{texts_after}
 use Rattle.pitch_model.proofs.Following.{texts_none, texts_first, texts_more, reverse_more}
 use Rattle.pitch_tool.specs.Knowing.{form_of}
@@ -54,7 +54,7 @@ prints_block_more f g h u v w blocks block some more = record {
   known = λ before stands. subst (HasPrinted h) (sym (reverse_then blocks block before)) (more.known (reverse blocks ++ before) (some.known before stands));
   printed = λ before stands.
       let text = block_text (form_of f.task) in
-      let last = subst (λ (form : Form). Prints v g.page.text w h.page.text (block_text form (reverse blocks ++ before) block)) some.form_is (more.printed (reverse blocks ++ before) (some.known before stands)) in
+      let last = subst (λ (form : StreamForm). Prints v g.page.text w h.page.text (block_text form (reverse blocks ++ before) block)) some.form_is (more.printed (reverse blocks ++ before) (some.known before stands)) in
       subst (λ (t : List ℕ). Prints u f.page.text w h.page.text t) (sym (texts_more text before blocks block))
       (prints_more u v w f.page.text g.page.text h.page.text (texts_after text before blocks) (text (reverse blocks ++ before) block) (some.printed before stands) last);
 }
@@ -133,7 +133,7 @@ taking_fails f g r s u v w before block so_far known stands fails =
     ap (texts_after text before) so_far.blocks ∙ texts_append text before so_far.done (blocks_of s.rest)
     ∙ ap (λ (bs : List Block). done ++ texts_after text earlier bs) l.blocks
     ∙ ap (λ (t : List ℕ). done ++ t) (texts_first text earlier block (blocks_of left)) in
-    let here : PutsSome v w (g.page.text ++ text earlier block) = subst (λ (form : Form). PutsSome v w (g.page.text ++ block_text form earlier block)) so_far.prints.form_is (fails earlier (so_far.prints.known before known)) in
+    let here : PutsSome v w (g.page.text ++ text earlier block) = subst (λ (form : StreamForm). PutsSome v w (g.page.text ++ block_text form earlier block)) so_far.prints.form_is (fails earlier (so_far.prints.known before known)) in
     let some = puts_then u v w f.page.text g.page.text done (text earlier block) (so_far.prints.printed before known) here in
     let longer = puts_longer u w (f.page.text ++ (done ++ text earlier block)) more some in
     subst (PutsSome u w) (append_assoc f.page.text (done ++ text earlier block) more ∙ ap (λ (t : List ℕ). f.page.text ++ t) (append_assoc done (text earlier block) more ∙ sym all)) longer

@@ -13,7 +13,7 @@ use Rattle.unit_packets.specs.declared.header.BlockError.TheVariants.{Truncated}
 use Rattle.unit_packets.proofs.Cuts.{none_of}
 use Rattle.pitch_model.specs.Texts.{texts_after}
 use Rattle.pitch_model.proofs.Following.{texts_none}
-use Rattle.pitch_words.specs.declared.form.Form.{Form}
+use Rattle.pitch_tool.specs.declared.stream_form.StreamForm.{StreamForm}
 use Rattle.pitch_tool.specs.Feeding.{Fed}
 use Rattle.pitch_tool.specs.Inputs.{WritesSome, Ends}
 use Rattle.pitch_tool.specs.Knowing.{form_of}
@@ -28,7 +28,7 @@ use Rattle.pitch_tool.proofs.Feeding.{take_front, consumes_more, consumes_none, 
 use Rattle.pitch_tool.proofs.Printing.{prints_none}
 
 -- the bytes that were taken so far were fed
-pub record Taken (form : Form) (f : Printer) (r : Reading) (e : BlockError) (count : ℕ) (first left start written : Option (List ℕ)) : Type 0 where
+pub record Taken (form : StreamForm) (f : Printer) (r : Reading) (e : BlockError) (count : ℕ) (first left start written : Option (List ℕ)) : Type 0 where
   pub bytes : List ℕ
   pub size : length bytes ≡ count
   pub within : length bytes ≤ 1073741824
@@ -46,11 +46,11 @@ no_blocks = (none_of [] (Truncated 0 8) judge_nothing).blocks
 no_rest : rest_of [] ≡ []
 no_rest = (none_of [] (Truncated 0 8) judge_nothing).rest
 
-no_texts : (form : Form) → texts_for form [] ≡ []
+no_texts : (form : StreamForm) → texts_for form [] ≡ []
 no_texts form = ap (texts_after (block_text form) []) no_blocks ∙ texts_none (block_text form) []
 
 -- nothing was taken yet
-pub taken_none : (form : Form) (f : Printer) (r : Reading) (first start : Option (List ℕ)) → IsReady f → form_of f.task ≡ form → HasPrinted f [] → f.page.text ≡ []
+pub taken_none : (form : StreamForm) (f : Printer) (r : Reading) (first start : Option (List ℕ)) → IsReady f → form_of f.task ≡ form → HasPrinted f [] → f.page.text ≡ []
     → r ≡ record { rest = []; place = 0 } → Taken form f r (Truncated 0 8) 0 first first start start
 taken_none form f r first start ready is known page reader =
     let number = known.number_is in
@@ -74,7 +74,7 @@ taken_none form f r first start ready is known page reader =
     }
 
 -- a piece more was taken
-pub taken_more : (form : Form) (f g : Printer) (r s : Reading) (d e : BlockError) (count more : ℕ) (first left left' start u v : Option (List ℕ)) (piece : List ℕ) → (t : Taken form f r d count first left start u)
+pub taken_more : (form : StreamForm) (f g : Printer) (r s : Reading) (d e : BlockError) (count more : ℕ) (first left left' start u v : Option (List ℕ)) (piece : List ℕ) → (t : Taken form f r d count first left start u)
     → length piece ≡ more → Consumes left left' piece → Fed form start v g s e (t.bytes ++ piece) × (is_truncated e ≡ true) × (length (t.bytes ++ piece) ≤ 1073741824) → Taken form g s e (count + more) first left' start v
 taken_more form f g r s d e count more first left left' start u v piece t size read fed = record {
   bytes = t.bytes ++ piece;
@@ -86,7 +86,7 @@ taken_more form f g r s d e count more first left left' start u v piece t size r
 }
 
 -- nothing was read and nothing written
-pub writes_none : (form : Form) (first start : Option (List ℕ)) → WritesSome form first first start start
+pub writes_none : (form : StreamForm) (first start : Option (List ℕ)) → WritesSome form first first start start
 writes_none form first start = writes_texts form first first start start [] (consumes_none first) (record { count = 0; within = omega arith; grows = grows_none start })
   where
     grows_none : (o : Option (List ℕ)) → Grows o o (take 0 (texts_for form []))
@@ -94,7 +94,7 @@ writes_none form first start = writes_texts form first first start start [] (con
     grows_none (Some xs) = sym (append-nil xs)
 
 -- memory ran out before anything was read
-pub ends_early : (form : Form) (most : ℕ) (r : Result (Unit {0}) Stop) (first start : Option (List ℕ)) (e : PrintError) → IsErr r × IsErrAnd r (λ stop. stop ≡ Unprinted e) → Ends form most r first first start start
+pub ends_early : (form : StreamForm) (most : ℕ) (r : Result (Unit {0}) Stop) (first start : Option (List ℕ)) (e : PrintError) → IsErr r × IsErrAnd r (λ stop. stop ≡ Unprinted e) → Ends form most r first first start start
 ends_early form most (Ok done) first start e is = absurd (true≢false (sym is.0))
 ends_early form most (Err stop) first start e is = subst (λ (s : Stop). Ends form most (Err s) first first start start) (sym is.1) (writes_none form first start)
 
@@ -117,8 +117,8 @@ later_cause a b c failed wanted le cause gives =
     }
 
 -- the form is that of the task
-pub own_form : (form : Form) (start u : Option (List ℕ)) (f : Printer) (r : Reading) (e : BlockError) (bytes : List ℕ) → Fed form start u f r e bytes → Fed (form_of f.task) start u f r e bytes
-own_form form start u f r e bytes fed = subst (λ (k : Form). Fed k start u f r e bytes) (sym fed.form_is) fed
+pub own_form : (form : StreamForm) (start u : Option (List ℕ)) (f : Printer) (r : Reading) (e : BlockError) (bytes : List ℕ) → Fed form start u f r e bytes → Fed (form_of f.task) start u f r e bytes
+own_form form start u f r e bytes fed = subst (λ (k : StreamForm). Fed k start u f r e bytes) (sym fed.form_is) fed
 
 -- the bytes that a source gave, where a buffer has them at its front
 pub given_bytes : (count len : ℕ) (into items buffer : List ℕ) → count ≤ length into → length into ≤ len → buffer ≡ take len (into ++ drop (length into) items) → take count buffer ≡ take count into

@@ -11,7 +11,7 @@ use Rattle.pitch_model.specs.Follow.{unit_history, unit_text, books_of}
 use Rattle.client_core.specs.Tracks.{Tracks, Keeps}
 use Rattle.client_core.specs.declared.client.UnitClient.{UnitClient}
 use Rattle.pitch_tool.specs.Books.{named_text, PrintsUnit, PutsUnit, PrintsBooks, PutsBooks}
-use Rattle.pitch_words.specs.declared.form.Form.TheVariants.{Follow}
+use Rattle.pitch_tool.specs.declared.stream_form.StreamForm.TheVariants.{Follow}
 use Rattle.pitch_tool.specs.Ending.{PrintsEnd, PutsEnd}
 use Rattle.pitch_tool.specs.Knowing.{HaveHeard}
 use Rattle.pitch_tool.specs.declared.units.Units.{Units}

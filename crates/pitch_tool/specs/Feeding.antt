@@ -4,7 +4,7 @@ use Rattle.unit_packets.specs.Cutting.{blocks_of, rest_of, place_of, is_truncate
 use Rattle.unit_packets.specs.Judging.{judge}
 use Rattle.unit_packets.specs.Reading.{Reading}
 use Rattle.unit_packets.specs.declared.header.BlockError.{BlockError}
-use Rattle.pitch_words.specs.declared.form.Form.{Form}
+use Rattle.pitch_tool.specs.declared.stream_form.StreamForm.{StreamForm}
 use Rattle.pitch_tool.specs.Inputs.{Ends}
 use Rattle.pitch_tool.specs.Knowing.{form_of}
 use Rattle.pitch_tool.specs.Page.{Prints}
@@ -14,7 +14,7 @@ use Rattle.pitch_tool.specs.declared.printer.Printer.{Printer}
 use Rattle.pitch_tool.specs.declared.stop.Stop.{Stop}
 
 -- the blocks that are whole were printed, and no block stands in what is left
-pub record Fed (form : Form) (start written : Option (List ℕ)) (p : Printer) (r : Reading) (error : BlockError) (bytes : List ℕ) : Type 0 where
+pub record Fed (form : StreamForm) (start written : Option (List ℕ)) (p : Printer) (r : Reading) (error : BlockError) (bytes : List ℕ) : Type 0 where
   pub ready : IsReady p
   pub form_is : form_of p.task ≡ form
   pub rest : r.rest ≡ rest_of bytes
@@ -25,6 +25,6 @@ pub record Fed (form : Form) (start written : Option (List ℕ)) (p : Printer) (
   pub few : 8 * p.number + length r.rest ≤ length bytes
 
 -- a piece more was fed, and bytes are still missing, or the stream ends here
-abbrev pub Feeds : Form → ℕ → Result BlockError Stop → (first now start written : Option (List ℕ)) → Printer → Reading → List ℕ → Type 0
+abbrev pub Feeds : StreamForm → ℕ → Result BlockError Stop → (first now start written : Option (List ℕ)) → Printer → Reading → List ℕ → Type 0
 Feeds form most (Ok error) first now start written p r bytes = Fed form start written p r error bytes × (is_truncated error ≡ true) × (length bytes ≤ most)
 Feeds form most (Err stop) first now start written p r bytes = Ends form most (Err stop) first now start written

@@ -4,7 +4,7 @@ use Rattle.std.specs.Io.KnownBytes.{Consumes}
 use Rattle.pitch_io.specs.Putting.{Grows}
 use Rattle.unit_packets.specs.Cutting.{fault_of, fault_at_end}
 use Rattle.unit_packets.specs.declared.header.BlockFault.{BlockFault}
-use Rattle.pitch_words.specs.declared.form.Form.{Form}
+use Rattle.pitch_tool.specs.declared.stream_form.StreamForm.{StreamForm}
 use Rattle.pitch_tool.specs.Putting.{PutsSome}
 use Rattle.pitch_tool.specs.Texts.{texts_for, IsText, IsFrontOfText}
 use Rattle.pitch_tool.specs.declared.stop.Stop.{Stop}
@@ -29,7 +29,7 @@ ReadsAll None left bytes = Unit {0}
 ReadsAll (Some all) left bytes = (all ≡ bytes) × (left ≡ Some [])
 
 -- the whole input was read and has no fault, and its text was written
-pub record WritesAll (form : Form) (most : ℕ) (left left' written written' : Option (List ℕ)) : Type 0 where
+pub record WritesAll (form : StreamForm) (most : ℕ) (left left' written written' : Option (List ℕ)) : Type 0 where
   pub bytes : List ℕ
   pub read : ReadsAll left left' bytes
   pub sound : trouble_of most bytes ≡ None
@@ -43,20 +43,20 @@ Has None bytes = Unit {0}
 Has (Some all) bytes = all ≡ bytes
 
 -- the input has this trouble, and the texts of the whole blocks before were written, and no book
-pub record Refuses (form : Form) (most : ℕ) (trouble : Trouble) (left written written' : Option (List ℕ)) : Type 0 where
+pub record Refuses (form : StreamForm) (most : ℕ) (trouble : Trouble) (left written written' : Option (List ℕ)) : Type 0 where
   pub bytes : List ℕ
   pub has : Has left bytes
   pub trouble_is : trouble_of most bytes ≡ Some trouble
   pub wrote : Grows written written' (texts_for form (take most bytes))
 
 -- the source failed after some bytes, and the texts of their whole blocks were written
-pub record ReadsSome (form : Form) (left left' written written' : Option (List ℕ)) : Type 0 where
+pub record ReadsSome (form : StreamForm) (left left' written written' : Option (List ℕ)) : Type 0 where
   pub bytes : List ℕ
   pub read : Consumes left left' bytes
   pub wrote : Grows written written' (texts_for form bytes)
 
 -- some bytes were read, and a front of the texts of their blocks was written, or, where they are all, of the whole text
-pub record WritesSome (form : Form) (left left' written written' : Option (List ℕ)) : Type 0 where
+pub record WritesSome (form : StreamForm) (left left' written written' : Option (List ℕ)) : Type 0 where
   pub bytes : List ℕ
   pub read : Consumes left left' bytes
   pub text : List ℕ
@@ -64,7 +64,7 @@ pub record WritesSome (form : Form) (left left' written written' : Option (List 
   pub is_front : (text ≡ texts_for form bytes) ⊎ (ReadsAll left left' bytes × IsFrontOfText form bytes text)
 
 -- a front of the texts of some front of the input was written, or, where that is the whole input, of the whole text
-pub record WritesFront (form : Form) (left written written' : Option (List ℕ)) : Type 0 where
+pub record WritesFront (form : StreamForm) (left written written' : Option (List ℕ)) : Type 0 where
   pub bytes : List ℕ
   pub has : (more : List ℕ) × Has left (bytes ++ more)
   pub text : List ℕ
@@ -72,7 +72,7 @@ pub record WritesFront (form : Form) (left written written' : Option (List ℕ))
   pub is_front : (text ≡ texts_for form bytes) ⊎ (Has left bytes × IsFrontOfText form bytes text)
 
 -- how a stream ends
-abbrev pub Ends : Form → ℕ → Result (Unit {0}) Stop → (left left' written written' : Option (List ℕ)) → Type 0
+abbrev pub Ends : StreamForm → ℕ → Result (Unit {0}) Stop → (left left' written written' : Option (List ℕ)) → Type 0
 Ends form most (Ok done) left left' written written' = WritesAll form most left left' written written'
 Ends form most (Err (BadInput trouble)) left left' written written' = Refuses form most trouble left written written'
 Ends form most (Err ReadFailed) left left' written written' = ReadsSome form left left' written written'

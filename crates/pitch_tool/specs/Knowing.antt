@@ -3,15 +3,20 @@ use Rattle.std.specs.Prelude.{◌≡◌, ◌≤◌, ℕ, List, length}
 use Rattle.unit_packets.specs.Blocks.{Block}
 use Rattle.pitch_model.specs.History.{Raw}
 use Rattle.pitch_model.specs.Follow.{AllHonest}
-use Rattle.pitch_words.specs.declared.form.Form.{Form}
-use Rattle.pitch_words.specs.declared.form.Form.TheVariants as form
+use Rattle.pitch_tool.specs.declared.stream_form.StreamForm.{StreamForm}
+use Rattle.pitch_tool.specs.declared.stream_form.StreamForm.TheVariants as form
 use Rattle.pitch_tool.specs.Stands.{Clients, AreUnits, AllKeep}
 use Rattle.pitch_tool.specs.declared.task.Task.{Task}
 use Rattle.pitch_tool.specs.declared.task.Task.TheVariants.{Follow, Show}
 use Rattle.pitch_tool.specs.declared.units.Units.{Units}
 
+-- the hold has a place at least, and at most 65,536
+abbrev pub IsPossible : StreamForm → Type 0
+IsPossible (form.Follow hold) = (1 ≤ hold) × (hold ≤ 65536)
+IsPossible form.Show = Unit {0}
+
 -- the form that a task does
-abbrev pub form_of : Task → Form
+abbrev pub form_of : Task → StreamForm
 form_of (Follow units) = form.Follow units.limit
 form_of Show = form.Show
 

@@ -3,6 +3,7 @@ pub mod Ending
 pub mod Feeding
 pub mod Knowing
 pub mod Inputs
+pub mod Packs
 pub mod Page
 pub mod Printing
 pub mod Program

@@ -3,6 +3,7 @@
 
 mod books;
 mod ends;
+mod pack;
 mod page;
 mod printer;
 mod program;
@@ -10,6 +11,7 @@ mod shown;
 mod status;
 mod stop;
 mod stream;
+mod stream_form;
 mod task;
 #[cfg(test)]
 mod tests;

@@ -1,11 +1,11 @@
 use crate::ends::PIECE;
 use crate::page::Page;
 use crate::stop::PrintError;
+use crate::stream_form::StreamForm;
 use crate::task::{Task, make_task, print_block, print_end};
 use feed_lines::LINE;
 use pitch_fields::OutOfMemory;
 use pitch_io::Sink;
-use pitch_words::Form;
 use std::alloc::Global;
 use unit_packets::BlockView;
 
@@ -21,17 +21,16 @@ impl Printer {
     ghost use Rattle.std.specs.Prelude.{◌≡◌, ◌≤◌, ◌<◌, ◌+◌, ◌^◌, ◌++◌, [], ◌∷◌, List, length, OnOk, OnErr, IfOk, Err};
     ghost use Rattle.unit_packets.specs.Blocks.{Block};
     ghost use Rattle.pitch_io.specs.Causes.{HasCause};
-    ghost use Rattle.pitch_words.specs.Forms.{IsInRange};
     ghost use Rattle.pitch_tool.specs.Ending.{PrintsEnd, PutsEnd};
-    ghost use Rattle.pitch_tool.specs.Knowing.{form_of};
+    ghost use Rattle.pitch_tool.specs.Knowing.{IsPossible, form_of};
     ghost use Rattle.pitch_tool.specs.Printing.{PrintsBlock};
     ghost use Rattle.pitch_tool.specs.Putting.{PutsSome};
     ghost use Rattle.pitch_tool.specs.Standing.{HasPrinted, IsReady};
     ghost use Rattle.pitch_tool.specs.Texts.{block_text};
 
     /// Nothing was printed yet of what the form asks for.
-    pub fn make(alloc: Global, form: Form) -> Result<Printer, OutOfMemory>
-        requires { IsInRange form }
+    pub fn make(alloc: Global, form: StreamForm) -> Result<Printer, OutOfMemory>
+        requires { IsPossible form }
         ensures ready { IfOk result IsReady }
         ensures known { IfOk result (λ p. HasPrinted p []) }
         ensures form { IfOk result (λ p. form_of p.task ≡ form) }

@@ -1,15 +1,18 @@
 ghost use Rattle.std.specs.Prelude.{◌≡◌, ◌⊎◌, IfOk, Err, map, string_bytes};
 ghost use Rattle.pitch_io.specs.Causes.{HasCause, Rose};
 ghost use Rattle.pitch_io.specs.Putting.{Grows};
-ghost use Rattle.pitch_tool.specs.Program.{memory_text, trouble_text, Closes, Runs};
+ghost use Rattle.pitch_words.specs.Forms.{IsInRange};
+ghost use Rattle.pitch_tool.specs.Program.{memory_text, trouble_text, Closes, EndsAs, Runs};
 
 use crate::ends::put_all;
+use crate::pack::pack;
 use crate::status::ExitStatus;
 use crate::stop::{PrintError, Stop, Trouble};
 use crate::stream::print_stream;
+use crate::stream_form::StreamForm;
 use pitch_fields::OutOfMemory;
 use pitch_io::{Sink, Source};
-use pitch_words::read;
+use pitch_words::{Form, read};
 use std::alloc::Global;
 
 /// Why the program ends before its whole text.
@@ -18,6 +21,25 @@ pub enum Ending {
     Usage,
     Stopped(Stop),
     OutOfMemory,
+}
+
+// Does what a form asks for.
+fn do_form<I: Source, O: Sink>(
+    alloc: Global,
+    form: Form,
+    input: &mut I,
+    out: &mut O,
+) -> Result<(), Stop>
+    requires { IsInRange form }
+    ensures ends { EndsAs form result (I.left input.old) (I.left input.new) (O.written out.old) (O.written out.new) }
+    ensures read_cause { HasCause (I.faults input.old) (I.faults input.new) (result ≡ Err Stop.ReadFailed) }
+    ensures write_cause { HasCause (O.faults out.old) (O.faults out.new) (result ≡ Err (Stop.Unprinted PrintError.PutFailed)) }
+{
+    match form {
+        Form::Follow { hold } => print_stream(alloc, StreamForm::Follow { hold }, input, out),
+        Form::Show => print_stream(alloc, StreamForm::Show, input, out),
+        Form::Pack { unit } => pack(alloc, unit, input, out),
+    }
 }
 
 // Does what the words ask for.
@@ -32,7 +54,7 @@ fn run<I: Source, O: Sink>(
     ensures write_cause { HasCause (O.faults out.old) (O.faults out.new) (result ≡ Err (Ending.Stopped (Stop.Unprinted PrintError.PutFailed))) }
 {
     match read(alloc, words) {
-        Ok(Some(form)) => match print_stream(alloc, form, input, out) {
+        Ok(Some(form)) => match do_form(alloc, form, input, out) {
             Ok(()) => Ok(()),
             Err(stop) => Err(Ending::Stopped(stop)),
         },
@@ -65,18 +87,24 @@ fn trouble_line(alloc: Global, trouble: Trouble) -> Result<String, OutOfMemory>
             alloc,
             "pitch: input is longer than 1073741824 bytes\n",
         )?),
+        Trouble::LongText => Ok(String::from_str(
+            alloc,
+            "pitch: input is longer than 67108864 bytes\n",
+        )?),
+        Trouble::Unfed(error) => Ok(format!(in alloc; "pitch: {error}\n")?),
     }
 }
 
 /// The program: does what the words ask for, and says on `err` why it ends before its whole text.
 ///
 /// `words` are those after the program's name: `follow`, and perhaps `--hold H` with H from 1 to 65,536 (4,096 where it
-/// isn't given), or `show`. Both read a stream of Sequenced Unit Header blocks from `input`, at most `INPUT_LIMIT` bytes. `follow` writes to
+/// isn't given), `show`, or `pack --unit U` with U from 1 to 255. The first two read a stream of Sequenced Unit Header blocks from `input`, at most `INPUT_LIMIT` bytes. `follow` writes to
 /// `out` a line for each block, and at the stream's end the books of all units that a block named; `show` writes a line for each block and
-/// for each message.
+/// for each message. `pack` reads venue commands, a text of at most `TEXT_LIMIT` bytes, and writes their datagrams, back to back,
+/// once the venue has accepted all.
 ///
 /// At `Done` the whole text was written and nothing was said. At `Usage` nothing was read or written. At `BadInput` the texts of the whole
-/// blocks before the trouble were written, and no book.
+/// blocks before the trouble were written, and no book; by `pack` nothing was.
 pub fn pitch<I: Source, O: Sink, E: Sink>(
     alloc: Global,
     words: &[String],

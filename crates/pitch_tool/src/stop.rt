@@ -1,14 +1,19 @@
 use crate::ends::PutFailed;
+use command_feed::FeedError;
 use pitch_fields::OutOfMemory;
 use unit_packets::BlockFault;
 
-/// What is wrong with an input of blocks.
+/// What is wrong with an input.
 #[derive(Clone, Copy, Debug, PartialEq, Eq)]
 pub enum Trouble {
     /// A block has a fault, or the input ends inside one.
     Faulty(BlockFault),
-    /// It has more bytes than are read.
+    /// A stream of blocks has more bytes than are read.
     TooLong,
+    /// A text of commands has more bytes than are read.
+    LongText,
+    /// A text of commands has a fault, or the venue refuses one of them.
+    Unfed(FeedError),
 }
 
 /// Why lines could not be printed.

@@ -6,20 +6,20 @@ ghost use Rattle.unit_packets.specs.Judging.{judge};
 ghost use Rattle.unit_packets.specs.Reading.{Reading, loaded};
 ghost use Rattle.pitch_model.specs.Texts.{texts_after};
 ghost use Rattle.pitch_io.specs.Causes.{HasCause};
-ghost use Rattle.pitch_words.specs.Forms.{IsInRange};
 ghost use Rattle.pitch_tool.specs.Feeding.{Fed, Feeds};
 ghost use Rattle.pitch_tool.specs.Inputs.{Ends};
-ghost use Rattle.pitch_tool.specs.Knowing.{form_of};
+ghost use Rattle.pitch_tool.specs.Knowing.{IsPossible, form_of};
 ghost use Rattle.pitch_tool.specs.Printing.{PrintsAll};
 ghost use Rattle.pitch_tool.specs.Putting.{PutsSome};
 ghost use Rattle.pitch_tool.specs.Standing.{HasPrinted, IsReady};
 ghost use Rattle.pitch_tool.specs.Texts.{block_text};
+ghost use Rattle.pitch_tool.specs.declared.stream_form.StreamForm.{StreamForm};
 
 use crate::ends::{PIECE, piece_buffer};
 use crate::printer::Printer;
 use crate::stop::{PrintError, Stop, Trouble};
+use crate::stream_form::StreamForm;
 use pitch_io::{Sink, Source, Taken};
-use pitch_words::Form;
 use std::alloc::Global;
 use unit_packets::{BlockError, BlockFault, BlockReader, view_block};
 
@@ -153,7 +153,7 @@ fn finish<O: Sink>(
 
 // Stops where the source has failed.
 fn stop_unread<O: Sink>(printer: &mut Printer, out: &mut O) -> Result<(), Stop>
-    ensures stops { (form : Form) (most : ℕ) (first now start : Option (List ℕ)) (reader : Reading) (error : BlockError) (bytes : List ℕ) → Consumes first now bytes
+    ensures stops { (form : StreamForm) (most : ℕ) (first now start : Option (List ℕ)) (reader : Reading) (error : BlockError) (bytes : List ℕ) → Consumes first now bytes
         → Fed form start (O.written out.old) printer.old reader error bytes → Ends form most result first now start (O.written out.new) }
     ensures cause { HasCause (O.faults out.old) (O.faults out.new) (result ≡ Err (Stop.Unprinted PrintError.PutFailed)) }
 {
@@ -167,11 +167,11 @@ fn stop_unread<O: Sink>(printer: &mut Printer, out: &mut O) -> Result<(), Stop>
 /// stream's end. At most `INPUT_LIMIT` bytes are read.
 pub fn print_stream<I: Source, O: Sink>(
     alloc: Global,
-    form: Form,
+    form: StreamForm,
     input: &mut I,
     out: &mut O,
 ) -> Result<(), Stop>
-    requires { IsInRange form }
+    requires { IsPossible form }
     ensures ends { Ends form INPUT_LIMIT result (I.left input.old) (I.left input.new) (O.written out.old) (O.written out.new) }
     ensures read_cause { HasCause (I.faults input.old) (I.faults input.new) (result ≡ Err Stop.ReadFailed) }
     ensures write_cause { HasCause (O.faults out.old) (O.faults out.new) (result ≡ Err (Stop.Unprinted PrintError.PutFailed)) }

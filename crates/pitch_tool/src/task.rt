@@ -3,9 +3,8 @@ ghost use Rattle.unit_packets.specs.Blocks.{Block};
 ghost use Rattle.pitch_io.specs.Causes.{HasCause};
 ghost use Rattle.pitch_model.specs.Follow.{line_after};
 ghost use Rattle.pitch_model.specs.Show.{shown_head, message_lines};
-ghost use Rattle.pitch_words.specs.Forms.{IsInRange};
 ghost use Rattle.pitch_tool.specs.Ending.{PrintsEnd, PutsEnd};
-ghost use Rattle.pitch_tool.specs.Knowing.{form_of, HaveHeard, CanHear, Knows, IsAble};
+ghost use Rattle.pitch_tool.specs.Knowing.{IsPossible, form_of, HaveHeard, CanHear, Knows, IsAble};
 ghost use Rattle.pitch_tool.specs.Page.{Prints};
 ghost use Rattle.pitch_tool.specs.Putting.{PutsSome};
 ghost use Rattle.pitch_tool.specs.Texts.{block_text};
@@ -13,10 +12,10 @@ ghost use Rattle.pitch_tool.specs.Texts.{block_text};
 use crate::page::Page;
 use crate::shown::print_messages;
 use crate::stop::PrintError;
+use crate::stream_form::StreamForm;
 use crate::units::{Units, hear_block, make_units, print_books};
 use pitch_fields::OutOfMemory;
 use pitch_io::Sink;
-use pitch_words::Form;
 use std::alloc::Global;
 use unit_packets::BlockView;
 
@@ -30,15 +29,15 @@ pub enum Task {
 }
 
 /// The task of a form.
-pub fn make_task(alloc: Global, form: Form) -> Result<Task, OutOfMemory>
-    requires { IsInRange form }
+pub fn make_task(alloc: Global, form: StreamForm) -> Result<Task, OutOfMemory>
+    requires { IsPossible form }
     ensures form { IfOk result (λ task. form_of task ≡ form) }
     ensures able { IfOk result IsAble }
     ensures knows { IfOk result (λ task. Knows task []) }
 {
     match form {
-        Form::Follow { hold } => Ok(Task::Follow(make_units(alloc, hold)?)),
-        Form::Show => Ok(Task::Show),
+        StreamForm::Follow { hold } => Ok(Task::Follow(make_units(alloc, hold)?)),
+        StreamForm::Show => Ok(Task::Show),
     }
 }
 

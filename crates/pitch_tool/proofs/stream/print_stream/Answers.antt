@@ -1,7 +1,7 @@
 use Rattle.std.proofs.Common.{rules, ◌≤◌, ◌++◌, ℕ, List, take, length, Ok, Err, sym, ap, ◌∙◌, subst, arith}
 use Rattle.std.specs.Io.KnownBytes.{Consumes}
 use Rattle.std.proofs.lemmas.List.{length-take-le}
-use Rattle.pitch_words.specs.declared.form.Form.{Form}
+use Rattle.pitch_tool.specs.declared.stream_form.StreamForm.{StreamForm}
 use Rattle.pitch_tool.specs.Feeding.{Feeds}
 use Rattle.pitch_tool.specs.Inputs.{Ends}
 use Rattle.pitch_tool.specs.declared.stream.TheConstants.{INPUT_LIMIT}
@@ -51,7 +51,7 @@ returns-in-Err-clause-ends g c =
     let given = given_bytes c.in-Got.count c.takes.piece.len c.take.new.into c.takes.piece.items c.deref.result.now c.in-Got.ensures.count.1 fits c.deref.ensures.value in
     let took = subst (Consumes (g.I.Source.left c.takes.input) (g.I.Source.left c.take.new.self)) (sym given) c.in-Got.ensures.bytes in
     let read = consumes_more first (g.I.Source.left c.takes.input) (g.I.Source.left c.take.new.self) t.bytes piece t.read took in
-    subst (λ (n : Form). Ends n INPUT_LIMIT (Err c.in-Err.stop) first (g.I.Source.left c.take.new.self) start (g.O.Sink.written c.feed.new.out)) t.fed.form_is
+    subst (λ (n : StreamForm). Ends n INPUT_LIMIT (Err c.in-Err.stop) first (g.I.Source.left c.take.new.self) start (g.O.Sink.written c.feed.new.out)) t.fed.form_is
     (c.in-Err.ensures.feeds first (g.I.Source.left c.take.new.self) start t.bytes c.takes.stopped t.size
     (own_form c.args.form start (g.O.Sink.written c.takes.out) c.takes.printer c.takes.reader c.takes.stopped t.bytes t.fed) read)
 
@@ -79,7 +79,7 @@ returns-in-End-clause-ends g c =
     let t = c.takes.invariant.taken in
     let first = g.I.Source.left c.args.input.now in
     let start = g.O.Sink.written c.args.out.now in
-    subst (λ (n : Form). Ends n INPUT_LIMIT c.finish.result first (g.I.Source.left c.take.new.self) start (g.O.Sink.written c.finish.new.out)) t.fed.form_is
+    subst (λ (n : StreamForm). Ends n INPUT_LIMIT c.finish.result first (g.I.Source.left c.take.new.self) start (g.O.Sink.written c.finish.new.out)) t.fed.form_is
     (c.finish.ensures.finishes first (g.I.Source.left c.takes.input) (g.I.Source.left c.take.new.self) start t.bytes t.within
     (own_form c.args.form start (g.O.Sink.written c.takes.out) c.takes.printer c.takes.reader c.takes.stopped t.bytes t.fed) t.unended t.read c.in-End.ensures.bytes)
 
@@ -117,7 +117,7 @@ takes-preserved g c =
     let given = given_bytes c.in-Got.count c.takes.piece.len c.take.new.into c.takes.piece.items c.deref.result.now c.in-Got.ensures.count.1 fits c.deref.ensures.value in
     let took = subst (Consumes (g.I.Source.left c.takes.input) (g.I.Source.left c.take.new.self)) (sym given) c.in-Got.ensures.bytes in
     let read = consumes_more first (g.I.Source.left c.takes.input) (g.I.Source.left c.take.new.self) t.bytes piece t.read took in
-    let fed = subst (λ (n : Form). Feeds n INPUT_LIMIT (Ok c.in-Ok.error) first (g.I.Source.left c.take.new.self) start (g.O.Sink.written c.feed.new.out) c.feed.new.printer c.feed.new.reader (t.bytes ++ piece)) t.fed.form_is
+    let fed = subst (λ (n : StreamForm). Feeds n INPUT_LIMIT (Ok c.in-Ok.error) first (g.I.Source.left c.take.new.self) start (g.O.Sink.written c.feed.new.out) c.feed.new.printer c.feed.new.reader (t.bytes ++ piece)) t.fed.form_is
     (c.in-Ok.ensures.feeds first (g.I.Source.left c.take.new.self) start t.bytes c.takes.stopped t.size
     (own_form c.args.form start (g.O.Sink.written c.takes.out) c.takes.printer c.takes.reader c.takes.stopped t.bytes t.fed) read) in
     let some = c.in-Got.ensures.count.0 in
