@@ -1,12 +1,11 @@
 -- Packing message by message: what was appended to a list of datagrams.
-use Rattle.std.proofs.Common.{◌≡◌, ℕ, suc, ◌+◌, ◌<◌, ◌≤◌, ◌≢◌, List, [], ◌∷◌, ◌++◌, length, take, refl, sym, ap, ◌∙◌, subst, arith, length-append, append_assoc}
+use Rattle.std.proofs.Common.{◌≡◌, ℕ, suc, ◌+◌, ◌≤◌, List, [], ◌∷◌, ◌++◌, length, refl, sym, ap, ◌∙◌, subst, arith, length-append, append_assoc}
 use Rattle.std.specs.List.{AllByRecursion}
 use Rattle.std.proofs.lemmas.Bool.{cond_both}
 use Rattle.std.proofs.lemmas.List.{append-nil, map-append}
 use Rattle.pitch_messages.specs.Raw.{IsRaw}
 use Rattle.pitch_messages.specs.Room.{Roomy}
-use Rattle.unit_packets.specs.Packing.{sequence_after, fits_datagram, begun_datagrams, packed_on, packed, Packing, next_sequence, HasPacked, bytes_in, Pushes, Finishes}
-use Rattle.unit_packets.proofs.Packs.{after_known}
+use Rattle.unit_packets.specs.Packing.{sequence_after, fits_datagram, begun_datagrams, packed_on, packed, Packing, HasPacked, bytes_in, Pushes, Finishes}
 
 -- of all messages some were pushed and the rest was not; the packer and the list are as after those pushes
 pub record Sends (before : List (Roomy ℕ)) (unit first : ℕ) (all rest : List (List ℕ)) (packer : Packing) (now : List (Roomy ℕ)) : Type 0 where
@@ -16,18 +15,6 @@ pub record Sends (before : List (Roomy ℕ)) (unit first : ℕ) (all rest : List
   pub given : now ≡ before ++ added
   pub has : HasPacked packer unit first pushed (bytes_in added)
   pub raws : AllByRecursion IsRaw rest
-
-pub none_sent : (before : List (Roomy ℕ)) (unit first : ℕ) (all : List (List ℕ)) (packer : Packing) → AllByRecursion IsRaw all → HasPacked packer unit first [] [] → Sends before unit first all all packer before
-none_sent before unit first all packer raws has = record { pushed = []; added = []; split = refl; given = sym (append-nil before); has = has; raws = raws }
-
--- the next message has a sequence
-pub has_sequence : (before now : List (Roomy ℕ)) (unit first : ℕ) (all rest : List (List ℕ)) (raw : List ℕ) (packer : Packing) → Sends before unit first all (raw ∷ rest) packer now → 0 < first → first + length all ≤ 4294967295
-    → next_sequence packer ≤ 4294967294
-has_sequence before now unit first all rest raw packer sends some within =
-    let known : first ≢ 0 = λ none. omega (arith, none, some) in
-    let e : next_sequence packer ≡ first + length sends.pushed = sends.has.next_is ∙ after_known first (length sends.pushed) known in
-    let l : length all ≡ length sends.pushed + length (raw ∷ rest) = ap (λ (r : List (List ℕ)). length r) sends.split ∙ length-append sends.pushed (raw ∷ rest) in
-    omega (arith, e, l, within)
 
 -- one message more
 pub one_sent : (before now later : List (Roomy ℕ)) (unit first : ℕ) (all rest left : List (List ℕ)) (raw : List ℕ) (old new : Packing) → left ≡ raw ∷ rest → Sends before unit first all left old now → Pushes old raw new now later
@@ -40,14 +27,6 @@ one_sent before now later unit first all rest left raw old new front waits pushe
   has = subst (HasPacked new unit first (sends.pushed ++ raw ∷ [])) (sym (map-append (λ (list : Roomy ℕ). list.items) sends.added pushes.added)) (pushes.stands unit first sends.pushed (bytes_in sends.added) sends.has);
   raws = sends.raws.1;
 }
-
--- what stood in the list before is still at its front
-pub kept : (before now : List (Roomy ℕ)) (unit first : ℕ) (all rest : List (List ℕ)) (packer : Packing) → Sends before unit first all rest packer now → take (length before) now ≡ before
-kept before now unit first all rest packer sends = ap (take (length before)) sends.given ∙ front before sends.added
-  where
-    front : (xs ys : List (Roomy ℕ)) → take (length xs) (xs ++ ys) ≡ xs
-    front [] ys = refl
-    front (x ∷ xs) ys = ap (λ (l : List (Roomy ℕ)). x ∷ l) (front xs ys)
 
 -- ---- At the end
 pub all_sent : (before now later : List (Roomy ℕ)) (unit first : ℕ) (all : List (List ℕ)) (old new : Packing) → Sends before unit first all [] old now → Finishes old new now later
@@ -62,14 +41,6 @@ all_sent before now later unit first all old new sends finishes =
     ∙ ap (λ (l : List (List ℕ)). l ++ bytes_in finishes.added) (map-append (λ (list : Roomy ℕ). list.items) before sends.added)
     ∙ append_assoc (bytes_in before) (bytes_in sends.added) (bytes_in finishes.added)
     ∙ ap (λ (l : List (List ℕ)). bytes_in before ++ l) (whole ∙ ap (packed unit first) same)
-
-pub all_kept : (before now later : List (Roomy ℕ)) (unit first : ℕ) (all : List (List ℕ)) (old new : Packing) → Sends before unit first all [] old now → Finishes old new now later → take (length before) later ≡ before
-all_kept before now later unit first all old new sends finishes =
-    ap (take (length before)) (finishes.given ∙ ap (λ (l : List (Roomy ℕ)). l ++ finishes.added) sends.given ∙ append_assoc before sends.added finishes.added) ∙ front before (sends.added ++ finishes.added)
-  where
-    front : (xs ys : List (Roomy ℕ)) → take (length xs) (xs ++ ys) ≡ xs
-    front [] ys = refl
-    front (x ∷ xs) ys = ap (λ (l : List (Roomy ℕ)). x ∷ l) (front xs ys)
 
 -- ---- There are no more datagrams than messages
 one_at_most : (unit sequence : ℕ) (begun : List (List ℕ)) → length (begun_datagrams unit sequence begun) ≤ 1

@@ -1,10 +1,10 @@
 ghost use Rattle.std.specs.Prelude.{◌≡◌, ◌+◌, ◌<◌, ◌≤◌, ◌++◌, length, take, OnOk, OnErr, IfOk};
-ghost use Rattle.unit_packets.specs.Packing.{packed, bytes_in};
+ghost use Rattle.unit_packets.specs.Packing.{IsPacking, packed, bytes_in};
 
 use pitch_fields::OutOfMemory;
 use pitch_messages::{Raw, Raws};
 use std::alloc::Global;
-use unit_packets::{DatagramList, Packer};
+use unit_packets::{DatagramList, Packer, packing_laws};
 
 // Packs messages of a unit from a sequence on, and answers how many datagrams they are. The list is as before after
 // OutOfMemory.
@@ -18,9 +18,13 @@ pub(crate) fn pack(
     requires known { 0 < first }
     requires within { first + length raws ≤ 4294967295 }
     ensures ok { OnOk result (bytes_in out.new.items ≡ bytes_in out.old.items ++ packed unit first raws.entry) }
+    ensures packing { IsPacking unit first raws.entry (packed unit first raws.entry) }
     ensures count { IfOk result (λ count. length out.new.items ≡ length out.old.items + count) }
     ensures err { OnErr result (out.new.items ≡ out.old.items) }
 {
+    // The messages are raws, so the packing that is computed is one.
+    let _raws = raws.len();
+    packing_laws();
     let before = out.len();
     if let Err(error) = append(alloc, unit, first, raws, out) {
         out.truncate(before);

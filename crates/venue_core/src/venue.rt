@@ -3,7 +3,7 @@ ghost use Rattle.std.specs.Option.{option_copied};
 ghost use Rattle.pitch_messages.specs.Reading.{reads};
 ghost use Rattle.pitch_model.specs.Book.{book_after};
 ghost use Rattle.unit_packets.specs.BlockBytes.{block_bytes, heartbeat_block};
-ghost use Rattle.unit_packets.specs.Packing.{packed, bytes_in};
+ghost use Rattle.unit_packets.specs.Packing.{IsPacking, packed, bytes_in};
 ghost use Rattle.venue_core.specs.Commands.{message_of, raw_of};
 ghost use Rattle.venue_core.specs.Refusals.{refusal, refusal_at, IsAnswer};
 ghost use Rattle.venue_core.specs.Standing.{advanced};
@@ -74,6 +74,7 @@ impl Venue {
             → IsAnswer (refusal accepted command.now) (length accepted + 1) result }
         ensures ok { OnOk result ((accepted : List (List ℕ)) (sent : ℕ) → Stands self.old accepted sent
             → Stands self.new (accepted ++ raw_of command.now ∷ []) sent) }
+        ensures says { OnOk result (reads (raw_of command.now) ≡ Ok (message_of command.now)) }
         ensures err { OnErr result (self.new ≡ self.old) }
         ensures unit { self.new.unit ≡ self.old.unit }
     {
@@ -98,6 +99,8 @@ impl Venue {
     pub fn flush(&mut self, out: &mut DatagramList) -> Result<u32, OutOfMemory>
         ensures datagrams { OnOk result ((accepted : List (List ℕ)) (sent : ℕ) → Stands self.old accepted sent
             → bytes_in out.new.items ≡ bytes_in out.old.items ++ packed self.old.unit (sent + 1) (drop sent accepted)) }
+        ensures packing { OnOk result ((accepted : List (List ℕ)) (sent : ℕ) → Stands self.old accepted sent
+            → IsPacking self.old.unit (sent + 1) (drop sent accepted) (packed self.old.unit (sent + 1) (drop sent accepted))) }
         ensures count { IfOk result (λ count. length out.new.items ≡ length out.old.items + count) }
         ensures stands { OnOk result ((accepted : List (List ℕ)) (sent : ℕ) → Stands self.old accepted sent
             → Stands self.new accepted (length accepted)) }
