@@ -321,6 +321,41 @@ fn each_message_is_shown(rt: HostRuntime) -> Result<(), Fail> {
     Ok(())
 }
 
+// Texts of commands, the bytes that `pack` writes of them for unit 1, and what is said.
+const TEXTS: [(&[u8], &[u8], &str); 5] = [
+    (b"", b"", ""),
+    (b"add 1 B 100 IBM 655.35\nadd 2 B 100 IBM 655.36", ADDS, ""),
+    (
+        b"add 1 B 100 IBM 10.00\nadd 1 B 1 IBM 1\n",
+        b"",
+        "pitch: refused at line 2: known-id\n",
+    ),
+    (
+        b"add 1 B 100 IBM 10.00\nreduce 1 101\n",
+        b"",
+        "pitch: refused at line 2: too-much 101 100\n",
+    ),
+    (
+        b"\nadd 1 X 100 IBM 10.00\n",
+        b"",
+        "pitch: bad input at line 2 column 7: bad-word\n",
+    ),
+];
+
+#[test]
+fn commands_are_packed(rt: HostRuntime) -> Result<(), Fail> {
+    for piece in [1, 65536] {
+        for (text, bytes, said) in TEXTS {
+            let outcome = run(rt.alloc(), "pack --unit 1", &[text], piece)?;
+            assert!(rt; outcome.out.written() == bytes, "by {piece}");
+            assert_eq!(rt; from_utf8(outcome.err.written())?, said, "by {piece}");
+            let done = outcome.status == ExitStatus::Done;
+            assert!(rt; done == said.is_empty(), "by {piece}");
+        }
+    }
+    Ok(())
+}
+
 #[test]
 fn words_say_how_many_are_held(rt: HostRuntime) -> Result<(), Fail> {
     let alloc = rt.alloc();
