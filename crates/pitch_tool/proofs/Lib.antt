@@ -11,3 +11,4 @@ pub mod Streaming
 pub mod Taking
 pub mod Uniting
 pub mod Showing
+pub mod Completing

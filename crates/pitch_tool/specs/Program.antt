@@ -1,12 +1,12 @@
 -- The program: what it writes, and how it ends.
-use Rattle.std.specs.Prelude.{◌≡◌, ℕ, List, ◌++◌, codes, Option, Result, Ok, Err, ◌⊎◌}
+use Rattle.std.specs.Prelude.{◌≡◌, ℕ, List, ◌++◌, codes, Option, None, Result, Ok, Err, ◌⊎◌}
 use Rattle.pitch_words.specs.Forms.{IsForm}
 use Rattle.pitch_words.specs.declared.form.Form.{Form}
 use Rattle.pitch_words.specs.declared.form.Form.TheVariants as form
 use Rattle.unit_packets.specs.Causes.{fault_text}
 use Rattle.command_feed.specs.Causes.{feed_error_text}
-use Rattle.pitch_tool.specs.Inputs.{Ends, WritesFront}
-use Rattle.pitch_tool.specs.Packs.{PackEnds}
+use Rattle.pitch_tool.specs.Inputs.{trouble_of, Ends, WritesFront}
+use Rattle.pitch_tool.specs.Packs.{text_trouble_of, PackEnds}
 use Rattle.pitch_tool.specs.declared.pack.TheConstants.{TEXT_LIMIT}
 use Rattle.pitch_tool.specs.declared.stream.TheConstants.{INPUT_LIMIT}
 use Rattle.pitch_tool.specs.declared.stream_form.StreamForm.TheVariants.{Follow, Show}
@@ -73,3 +73,19 @@ Runs words (Ok done) left left' written written' = (form : Form) × IsForm words
 Runs words (Err ending.Usage) left left' written written' = ((form : Form) → IsForm words form → ⊥) × (left' ≡ left) × (written' ≡ written)
 Runs words (Err (ending.Stopped reason)) left left' written written' = (form : Form) × IsForm words form × EndsAs form (Err reason) left left' written written'
 Runs words (Err ending.OutOfMemory) left left' written written' = written' ≡ written
+
+-- ---- Completeness
+-- there is nothing wrong with the input of a form
+abbrev pub IsSound : Form → List ℕ → Type 0
+IsSound (form.Follow hold) bytes = trouble_of INPUT_LIMIT bytes ≡ None
+IsSound form.Show bytes = trouble_of INPUT_LIMIT bytes ≡ None
+IsSound (form.Pack unit) bytes = text_trouble_of unit TEXT_LIMIT bytes ≡ None
+
+-- the program did all that it was asked for, or memory ran out
+abbrev pub IsWhole : ExitStatus → Type 0
+IsWhole Done = Unit {0}
+IsWhole OutOfMemory = Unit {0}
+IsWhole Usage = ⊥
+IsWhole BadInput = ⊥
+IsWhole ReadFault = ⊥
+IsWhole WriteFault = ⊥

@@ -1,8 +1,9 @@
-ghost use Rattle.std.specs.Prelude.{◌≡◌, ◌⊎◌, IfOk, Err, map, string_bytes};
+ghost use Rattle.std.specs.Prelude.{◌≡◌, ◌⊎◌, ℕ, List, IfOk, Some, Err, map, string_bytes};
 ghost use Rattle.pitch_io.specs.Causes.{HasCause, Rose};
 ghost use Rattle.pitch_io.specs.Putting.{Grows};
-ghost use Rattle.pitch_words.specs.Forms.{IsInRange};
-ghost use Rattle.pitch_tool.specs.Program.{memory_text, trouble_text, Closes, EndsAs, Runs};
+ghost use Rattle.pitch_words.specs.Forms.{IsForm, IsInRange};
+ghost use Rattle.pitch_words.specs.declared.form.Form.{Form};
+ghost use Rattle.pitch_tool.specs.Program.{memory_text, trouble_text, Closes, EndsAs, Runs, IsSound, IsWhole};
 
 use crate::ends::put_all;
 use crate::pack::pack;
@@ -95,17 +96,8 @@ fn trouble_line(alloc: Global, trouble: Trouble) -> Result<String, OutOfMemory>
     }
 }
 
-/// The program: does what the words ask for, and says on `err` why it ends before its whole text.
-///
-/// `words` are those after the program's name: `follow`, and perhaps `--hold H` with H from 1 to 65,536 (4,096 where it
-/// isn't given), `show`, or `pack --unit U` with U from 1 to 255. The first two read a stream of Sequenced Unit Header blocks from `input`, at most `INPUT_LIMIT` bytes. `follow` writes to
-/// `out` a line for each block, and at the stream's end the books of all units that a block named; `show` writes a line for each block and
-/// for each message. `pack` reads venue commands, a text of at most `TEXT_LIMIT` bytes, and writes their datagrams, back to back,
-/// once the venue has accepted all.
-///
-/// At `Done` the whole text was written and nothing was said. At `Usage` nothing was read or written. At `BadInput` the texts of the whole
-/// blocks before the trouble were written, and no book; by `pack` nothing was.
-pub fn pitch<I: Source, O: Sink, E: Sink>(
+// Does what the words ask for, and says why it ends before its whole text.
+fn close<I: Source, O: Sink, E: Sink>(
     alloc: Global,
     words: &[String],
     input: &mut I,
@@ -154,4 +146,33 @@ pub fn pitch<I: Source, O: Sink, E: Sink>(
             ExitStatus::OutOfMemory
         }
     }
+}
+
+/// The program: does what the words ask for, and says on `err` why it ends before its whole text.
+///
+/// `words` are those after the program's name: `follow`, and perhaps `--hold H` with H from 1 to 65,536 (4,096 where it
+/// isn't given), `show`, or `pack --unit U` with U from 1 to 255. The first two read a stream of Sequenced Unit Header blocks from `input`, at most `INPUT_LIMIT` bytes. `follow` writes to
+/// `out` a line for each block, and at the stream's end the books of all units that a block named; `show` writes a line for each block and
+/// for each message. `pack` reads venue commands, a text of at most `TEXT_LIMIT` bytes, and writes their datagrams, back to back,
+/// once the venue has accepted all.
+///
+/// At `Done` the whole text was written and nothing was said. At `Usage` nothing was read or written. At `BadInput` the texts of the whole
+/// blocks before the trouble were written, and no book; by `pack` nothing was.
+/// Where there is nothing wrong with the words and the input, and no count of faults rose, the whole text was written, or memory ran out.
+pub fn pitch<I: Source, O: Sink, E: Sink>(
+    alloc: Global,
+    words: &[String],
+    input: &mut I,
+    out: &mut O,
+    err: &mut E,
+) -> ExitStatus
+    ensures ends { Closes (map string_bytes words.now) result (I.left input.old) (I.left input.new) (O.written out.old) (O.written out.new)
+        (λ text. Rose (E.faults err.old) (E.faults err.new) ⊎ Grows (E.written err.old) (E.written err.new) text) }
+    ensures quiet { result ≡ ExitStatus.Done → E.written err.new ≡ E.written err.old }
+    ensures read_cause { HasCause (I.faults input.old) (I.faults input.new) (result ≡ ExitStatus.ReadFault) }
+    ensures write_cause { HasCause (O.faults out.old) (O.faults out.new) (result ≡ ExitStatus.WriteFault) }
+    ensures complete { (form : Form) (bytes : List ℕ) → IsForm (map string_bytes words.now) form → I.left input.old ≡ Some bytes → IsSound form bytes
+        → Rose (I.faults input.old) (I.faults input.new) ⊎ (Rose (O.faults out.old) (O.faults out.new) ⊎ IsWhole result) }
+{
+    close(alloc, words, input, out, err)
 }
