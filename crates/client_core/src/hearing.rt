@@ -72,7 +72,7 @@ impl UnitClient {
     ghost use Rattle.pitch_messages.specs.Raw.{IsRaw};
     ghost use Rattle.unit_packets.specs.Blocks.{Block, StaysWithin};
     ghost use Rattle.pitch_model.specs.History.{Entry, Raw, Message, Next, GrpUp, GrpDown, GapReply, SpinUp, SpinDown, Advertised, SpinReply, ImageMessages, SpinFinished, image_finished, bad_image, spin_of};
-    ghost use Rattle.pitch_model.specs.Heard.{heard_messages, heard_block, heard, IsItem, is_fresh, fresh_messages, overflowed_messages, block_overflows, fresh_of, overflows_of, image_end, image_end_at, change_of};
+    ghost use Rattle.pitch_model.specs.Heard.{heard_messages, heard_block, heard, IsItem, is_fresh, fresh_messages, overflowed_messages, block_fresh, block_overflows, block_change, fresh_of, overflows_of, image_end, image_end_at, change_of};
     ghost use Rattle.pitch_model.specs.Honest.{Honest, IsHonestAt, AreVenues, message_at};
     ghost use Rattle.pitch_model.specs.Reach.{is_overflow, reach};
     ghost use Rattle.hold_buffer.specs.HoldView.{IsHold};
@@ -80,7 +80,7 @@ impl UnitClient {
     ghost use Rattle.client_core.specs.Noting.{noted, with_more, CanNote};
     ghost use Rattle.client_core.specs.Spinning.{IsReady};
     ghost use Rattle.client_core.specs.Tracks.{Tracks, Keeps, IsAsBefore, held_number, spare_of};
-    ghost use Rattle.client_core.specs.Blocks.{Carries, block_change, block_fresh};
+    ghost use Rattle.client_core.specs.Blocks.{Carries};
     ghost use Rattle.client_core.specs.Items.{IsImage, NeedsNoMemory, Tells};
 
     // Hears a message for which there is room, and notes what is applied.

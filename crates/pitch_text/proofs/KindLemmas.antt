@@ -1,9 +1,13 @@
 -- What is printed of a field reads as that field.
-use Rattle.std.proofs.Common.{◌≡◌, ℕ, ◌+◌, ◌*◌, ◌-◌, ◌/◌, ◌%◌, ◌^◌, ◌<◌, ◌≤◌, true, false, eqb, ltb, leb, List, [], ◌∷◌, ◌++◌, length, drop, Some, refl, sym, ap, ◌∙◌, arith, length-append, append_assoc}
+use Rattle.std.proofs.Common.{◌≡◌, ℕ, ◌+◌, ◌*◌, ◌-◌, ◌/◌, ◌%◌, ◌^◌, ◌<◌, ◌≤◌, Bool, true, false, if◌then◌else◌, eqb, ltb, leb, List, [], ◌∷◌, ◌++◌, length, drop, Option, Some, None, refl, sym, ap, ◌∙◌, arith, length-append, append_assoc, take, get_or, ◌&&◌}
+use Rattle.std.proofs.Math.Nat.{pow-le-pow_right}
+use Rattle.std.proofs.lemmas.List.Folds.{list_all_more, list_all-append}
+use Rattle.std.proofs.lemmas.Int.Digits.{digits_value_more}
+use Rattle.std.specs.Str.Parse.{digits_value}
 use Rattle.std.specs.Prelude.{decimal, nat_eq}
 use Rattle.std.specs.Cmp.Lexicographic.{pointwise}
 use Rattle.std.specs.List.{list_all, position_or_len, before_first, after_first}
-use Rattle.std.proofs.lemmas.List.{get_or_append_left, get_or_at, take_at, drop_at}
+use Rattle.std.proofs.lemmas.List.{get_or_append_left, get_or_at, take_at, drop_at, take_all, take-append-drop}
 use Rattle.std.specs.Char.{is_ascii_digit}
 use Rattle.std.specs.Int.{IsInRange}
 use Rattle.std.specs.Char.{digit_value}
@@ -17,7 +21,7 @@ use Rattle.pitch_text.specs.Kinds.{number_of, digits_of, fraction_of, price_in, 
 abbrev AreDigits : List ℕ → Type 0
 AreDigits ds = list_all is_ascii_digit ds ≡ true
 
-in_range : (c : ℕ) → is_ascii_digit c ≡ true → IsInRange 48 57 c
+pub in_range : (c : ℕ) → is_ascii_digit c ≡ true → IsInRange 48 57 c
 in_range c h = let p = and_parts (leb 48 c) (leb c 57) h in (leb-true 48 c p.0, leb-true c 57 p.1)
 
 from_range : (c : ℕ) → IsInRange 48 57 c → is_ascii_digit c ≡ true
@@ -29,6 +33,54 @@ tells = record {
   parts = λ c cs h. let p = and_parts (is_ascii_digit c) (list_all is_ascii_digit cs) h in (in_range c p.0, p.1);
   more = λ c cs r h. and_from (is_ascii_digit c) (list_all is_ascii_digit cs) (from_range c r) h;
 }
+
+-- ---- reading digits
+
+-- a number of up to 18 digits has room for one more in 64 bits
+pub room_for_digit : (n i : ℕ) → n < 10 ^ i → i < 19 → n * 10 + 9 < 2 ^ 64
+room_for_digit n i small lt =
+    let least : 10 ^ i ≤ 10 ^ 18 = pow-le-pow_right {n = 10} (omega arith) {i = i} {j = 18} (omega arith) in
+    omega (arith, small, least)
+
+tests_twenty : (bytes : List ℕ) (d : ℕ) → 19 < length bytes → d ≡ get_or bytes 19 0 → length bytes ≤ 20 → list_all is_ascii_digit bytes ≡ (list_all is_ascii_digit (take 19 bytes) && is_ascii_digit d)
+tests_twenty bytes d has at most =
+    ap (list_all is_ascii_digit) (sym (take_all 20 bytes most))
+    ∙ list_all_more is_ascii_digit bytes 19 0 has
+    ∙ ap (λ (x : ℕ). list_all is_ascii_digit (take 19 bytes) && is_ascii_digit x) (sym at)
+
+value_twenty : (bytes : List ℕ) (d : ℕ) → 19 < length bytes → d ≡ get_or bytes 19 0 → length bytes ≤ 20 → digits_value 10 bytes ≡ digits_value 10 (take 19 bytes) * 10 + digit_value d
+value_twenty bytes d has at most =
+    ap (digits_value 10) (sym (take_all 20 bytes most))
+    ∙ digits_value_more 10 bytes 19 has
+    ∙ ap (λ (x : ℕ). digits_value 10 (take 19 bytes) * 10 + digit_value x) (sym at)
+
+some_if : (b : Bool) (v value : ℕ) → Some value ≡ (if b then Some v else None) → (b ≡ true) × (v ≡ value)
+some_if true v value h = (refl, cc)
+some_if false v value h = absurd cc
+
+none_if : (b : Bool) (v : ℕ) → None ≡ (if b then Some v else None) → b ≡ false
+none_if true v h = absurd cc
+none_if false v h = refl
+
+-- digits of which the first 19 are a number, and one byte follows
+pub twenty_digits : (most : ℕ) (bytes : List ℕ) (d value : ℕ) → 19 < length bytes → d ≡ get_or bytes 19 0 → most ≤ 20 → length bytes ≤ most
+    → Some value ≡ (if list_all is_ascii_digit (take 19 bytes) then Some (digits_value 10 (take 19 bytes)) else None)
+    → (if is_ascii_digit d then Some (value * 10 + digit_value d) else None) ≡ digits_of most bytes
+twenty_digits most bytes d value has at small short front =
+    let number = some_if (list_all is_ascii_digit (take 19 bytes)) (digits_value 10 (take 19 bytes)) value front in
+    let filled : ltb 0 (length bytes) ≡ true = lt-ltb _ _ (omega arith) in
+    let fits : leb (length bytes) most ≡ true = le-leb _ _ short in
+    rw (filled, fits, tests_twenty bytes d has at (omega arith), number.0, value_twenty bytes d has at (omega arith), number.1) refl
+
+-- digits are no number where some of the first ones are none
+pub no_digits : (most : ℕ) (bytes : List ℕ) (k : ℕ) → 0 < length bytes → length bytes ≤ most
+    → None ≡ (if list_all is_ascii_digit (take k bytes) then Some (digits_value 10 (take k bytes)) else None) → None ≡ digits_of most bytes
+no_digits most bytes k some short front =
+    let filled : ltb 0 (length bytes) ≡ true = lt-ltb _ _ some in
+    let fits : leb (length bytes) most ≡ true = le-leb _ _ short in
+    let split : list_all is_ascii_digit bytes ≡ (list_all is_ascii_digit (take k bytes) && list_all is_ascii_digit (drop k bytes))
+        = ap (list_all is_ascii_digit) (sym (take-append-drop k bytes)) ∙ list_all-append is_ascii_digit (take k bytes) (drop k bytes) in
+    rw (filled, fits, split, none_if (list_all is_ascii_digit (take k bytes)) (digits_value 10 (take k bytes)) front) refl
 
 digits_again : (most n : ℕ) → n < 2 ^ 64 → length (decimal n) ≤ most → digits_of most (decimal n) ≡ Some n
 digits_again most n small short =

@@ -4,7 +4,7 @@ ghost use Rattle.std.specs.Prelude.{◌≡◌, ◌≤◌, ◌<◌, ℕ, List, []
 ghost use Rattle.unit_packets.specs.Blocks.{Block};
 ghost use Rattle.pitch_model.specs.History.{Raw};
 ghost use Rattle.pitch_model.specs.Follow.{unit_history, AllHonest};
-ghost use Rattle.client_core.specs.Blocks.{block_change};
+ghost use Rattle.pitch_model.specs.Heard.{block_change};
 ghost use Rattle.client_core.specs.Tracks.{Tracks, Keeps};
 ghost use Rattle.pitch_io.specs.Causes.{HasCause};
 ghost use Rattle.pitch_tool.specs.Books.{PrintsUnit, PutsUnit, PrintsBooks, PutsBooks};

@@ -4,11 +4,11 @@ use Rattle.std.proofs.lemmas.Option.{slice_get_read}
 use Rattle.unit_packets.specs.Blocks.{Block}
 use Rattle.unit_packets.specs.declared.header.Header.{Header}
 use Rattle.pitch_model.specs.History.{Entry, Raw}
-use Rattle.pitch_model.specs.Heard.{heard_block}
+use Rattle.pitch_model.specs.Heard.{heard_block, block_change}
 use Rattle.pitch_model.specs.Follow.{unit_history, AllHonest}
 use Rattle.pitch_model.proofs.Following.{history_same, all_honest_before}
 use Rattle.pitch_model.specs.Honest.{Honest}
-use Rattle.client_core.specs.Blocks.{Carries, block_change}
+use Rattle.client_core.specs.Blocks.{Carries}
 use Rattle.client_core.specs.Tracks.{Tracks}
 use Rattle.pitch_tool.specs.Knowing.{HaveHeard}
 use Rattle.pitch_tool.specs.Stands.{Clients, AreUnits, AllKeep}
