@@ -1,5 +1,5 @@
 -- Messages that name an order.
-use Rattle.std.specs.Prelude.{ℕ, Bool, ◌&&◌, ◌||◌, ◌==◌, nat_le, List, length}
+use Rattle.std.specs.Prelude.{ℕ, Bool, false, ◌&&◌, ◌||◌, ◌==◌, nat_le, List, length, Option, Some, None, if◌then◌else◌}
 use Rattle.std.specs.FinMap as map
 use Rattle.pitch_fields.specs.Fields.{number_at}
 use Rattle.pitch_messages.specs.Raw.{kind_of}
@@ -9,6 +9,15 @@ use Rattle.pitch_model.specs.Book.{Book}
 abbrev pub names_order : ℕ → Bool
 names_order kind = nat_le 0x21 kind && nat_le kind 0x29 || kind == 0x2f
 
--- a message is of such a type, and the order of the id at its place 6 is open
+-- the id at place 6 of a message of such a type
+abbrev pub named_order : List ℕ → Option ℕ
+named_order raw = if nat_le 14 (length raw) && names_order (kind_of raw) then Some (number_at 8 6 raw) else None
+
+-- the order of an id is open
+abbrev pub is_open : Book → Option ℕ → Bool
+is_open book None = false
+is_open book (Some id) = map.contains_key book.orders id
+
+-- a message names an open order
 abbrev pub names_open : Book → List ℕ → Bool
-names_open book raw = nat_le 14 (length raw) && (names_order (kind_of raw) && map.contains_key book.orders (number_at 8 6 raw))
+names_open book raw = is_open book (named_order raw)

@@ -3,6 +3,7 @@
 
 mod adding;
 mod change;
+mod naming;
 mod order_list;
 #[cfg(test)]
 mod tests;

@@ -1,21 +1,26 @@
-ghost use Rattle.std.specs.Prelude.{◌≡◌, ◌≤◌, ◌<◌, ◌+◌, ◌++◌, ◌&&◌, [], count_by, IfOk, IfSome, IfNone, OnOk, OnErr, IsOk, IsSome, Some, Option};
+ghost use Rattle.std.specs.Prelude.{◌≡◌, ◌≤◌, ◌<◌, ◌+◌, ◌++◌, ◌&&◌, [], length, count_by, IfOk, IfSome, IfNone, OnOk, OnErr, IsOk, IsSome, Some, Option};
 ghost use Rattle.pitch_messages.specs.Raw.{IsRaw, kind_of};
 ghost use Rattle.std.specs.FinMap as map;
 ghost use Rattle.pitch_model.specs.Book.{IsBook, empty_book, at_second, cleared, without_order, with_order, added, changed, after_message, after_read, after};
 ghost use Rattle.pitch_model.specs.Levels.{IsBestOf, orders_of, orders_on, prices_on, shares, level, best};
 ghost use Rattle.order_book.specs.Changes.{changed_by};
-ghost use Rattle.order_book.specs.Naming.{names_open, names_order};
+ghost use Rattle.order_book.specs.Naming.{names_open};
 ghost use Rattle.order_book.specs.Standing.{most_orders};
 
 use crate::adding::{is_displayed, order_of_expanded, order_of_long, order_of_short};
 use crate::change::Change;
+use crate::naming::named_order;
 use crate::order_list::{OrderList, append_by_id};
 use crate::totals::{all_shares, best_price, shares_at};
+use arrayvec::ArrayVec;
 use indexmap::IndexMap;
-use pitch_fields::{OutOfMemory, Price, Side, Symbol, get_u64};
+use pitch_fields::{OutOfMemory, Price, Side, Symbol};
 use pitch_messages::{Message, Order, Raw, Raws, ReadError, read_as, read_bytes};
 use std::alloc::Global;
 use std::marker::Model;
+
+// Ids that are looked up together.
+type Ids = ArrayVec<u64, 64>;
 
 /// The open orders of a unit by their ids, and the second of its clock where one is known.
 #[derive(Drop)]
@@ -179,18 +184,24 @@ impl UnitBook {
     ///
     /// To ask this of a block before its messages are applied makes that faster, since all the orders are then near:
     /// these look-ups overlap, where those of `apply` wait for one another.
+    // The ids are gathered first, so that nothing but look-ups stands between two of them.
     pub fn known_orders(&self, raws: Raws<'_>) -> usize
         ensures { result ≡ count_by (names_open self.now.book) raws.entry }
     {
         // There are no more of them than messages, whose number fits.
         let _count = raws.len();
         let mut known = 0;
+        let mut ids = Ids::new();
         for raw in raws {
-            if self.names_open(raw) {
-                known += 1;
+            if ids.is_full() {
+                known += self.count_open(ids.as_slice());
+                ids.clear();
+            }
+            if let Some(id) = named_order(raw) {
+                ids.push(id);
             }
         }
-        known
+        known + self.count_open(ids.as_slice())
     }
 
     /// An equal book.
@@ -430,34 +441,18 @@ impl UnitBook {
         change.make(place);
     }
 
-    // Whether a message names an open order.
-    #[inline(always)]
-    fn names_open(&self, raw: &[u8]) -> bool
-        ensures { result ≡ names_open self.now.book raw.now }
+    // How many of the ids are those of open orders.
+    fn count_open(&self, ids: &[u64]) -> usize
+        ensures count { result ≡ count_by (map.contains_key self.now.book.orders) ids.now }
+        ensures within { result ≤ length ids.now }
     {
-        raw.len() >= 14 && self.is_named(raw[1], get_u64(raw, 6))
-    }
-
-    // Whether messages of a type name an order, and the order of this id is open. An add names one that is seldom open,
-    // and the others one that mostly is, so each kind has a look-up of its own, whose answer is easily foreseen.
-    #[inline(always)]
-    fn is_named(&self, kind: u8, id: u64) -> bool
-        ensures { result ≡ (names_order kind && map.contains_key self.now.book.orders id) }
-    {
-        match kind {
-            0x21 | 0x22 | 0x2f => self.has(id),
-            0x23..=0x29 => self.is_open(id),
-            _ => false,
+        let mut open = 0;
+        for id in ids {
+            if self.is_open(*id) {
+                open += 1;
+            }
         }
-    }
-
-    // Whether an order is open.
-    #[inline(always)]
-    #[tactic(auto, using(crate::proofs::Maps::looks))]
-    fn has(&self, id: u64) -> bool
-        ensures { result ≡ map.contains_key self.now.book.orders id }
-    {
-        self.orders.contains_key(&id)
+        open
     }
 
     // Whether an order is open. Its quantity is read, which is never 0, so that the order is near afterwards.
