@@ -1,13 +1,13 @@
 -- Going over the lines of a text.
-use Rattle.std.proofs.Common.{◌≡◌, ℕ, suc, ◌+◌, ◌<◌, ◌≤◌, Bool, eqb, ◌-◌, List, [], ◌∷◌, ◌++◌, length, take, drop, map, Option, Some, None, Result, Ok, Err, refl, sym, ap, ◌∙◌, arith, append_assoc}
-use Rattle.std.specs.List.{position_or_len}
+use Rattle.std.proofs.Common.{◌≡◌, ◌⊎◌, inl, inr, ℕ, suc, ◌+◌, ◌<◌, ◌≤◌, Bool, eqb, ◌-◌, List, [], ◌∷◌, ◌++◌, length, take, drop, map, Option, Some, None, Result, Ok, Err, refl, sym, ap, ◌∙◌, arith, append_assoc, subst}
+use Rattle.std.specs.Prelude.{option_map}
+use Rattle.std.specs.List.{position_or_len, cons_option}
 use Rattle.std.specs.Str.Lines.{strip_carriage_return}
-use Rattle.std.proofs.lemmas.List.{append-nil, take_all, map-append}
+use Rattle.std.proofs.lemmas.List.{append-nil, take_all}
 use Rattle.pitch_text.specs.declared.fault.TextError.{TextError}
 use Rattle.pitch_text.specs.declared.fault.TextError.TheVariants as errors
-use Rattle.pitch_text.specs.declared.fault.Fault.{Fault}
 use Rattle.pitch_text.specs.Reading.{Reading}
-use Rattle.pitch_text.specs.Text.{TextFault, with_front, followed, line_of, lines_of, entries_from, entries_of, AppendsEntries, IsFirstFault}
+use Rattle.pitch_text.specs.Text.{TextFault, said_on, said_from, said_of, with_front, all_of, line_of, lines_of, entries_of, item_of, items_from, items_of, IsFirstLine, AppendsEntries, IsFirstFault}
 use Rattle.pitch_text.proofs.FieldLemmas.{split_first, parts_after}
 
 abbrev pub is_feed : ℕ → Bool
@@ -27,43 +27,6 @@ lines_first bs =
     let k = position_or_len is_feed bs in
     ap (λ (parts : List (List ℕ)). map strip_carriage_return parts) (split_first is_feed bs) ∙ ap (λ (ls : List (List ℕ)). strip_carriage_return (take k bs) ∷ ls) (parts_lines (drop k bs))
 
--- what one line adds
-with_more : {X : Type 0} (front xs : List X) (read : Result (List X) TextFault) → with_front front (with_front xs read) ≡ with_front (front ++ xs) read
-with_more front xs (Ok ys) = ap (λ zs. Ok zs) (sym (append_assoc front xs ys))
-with_more front xs (Err f) = refl
-
-with_none : {X : Type 0} (read : Result (List X) TextFault) → read ≡ with_front [] read
-with_none (Ok xs) = refl
-with_none (Err f) = refl
-
-adds : {A : Type 0} (n : ℕ) (said : Result (Option A) Fault) (rest : Result (List (ℕ × A)) TextFault) (xs : List (ℕ × A)) → followed n said (Ok []) ≡ Ok xs → followed n said rest ≡ with_front xs rest
-adds n (Err f) rest xs e = absurd cc
-adds n (Ok None) rest xs e = let nil : xs ≡ [] = cc in rw nil (with_none rest)
-adds n (Ok (Some x)) rest xs e = let one : xs ≡ (n, x) ∷ [] = cc in rw one refl
-
-stops : {A : Type 0} (n : ℕ) (said : Result (Option A) Fault) (rest : Result (List (ℕ × A)) TextFault) (f : TextFault) → followed n said (Ok []) ≡ Err f → followed n said rest ≡ Err f
-stops n (Err f) rest g e = cc
-stops n (Ok None) rest g e = absurd cc
-stops n (Ok (Some x)) rest g e = absurd cc
-
--- a line was taken, and lines are left
-goes_on : {A : Type 0} (grammar : Reading A) (n : ℕ) (line : List ℕ) (lines : List (List ℕ)) (front xs : List (ℕ × A)) (total : Result (List (ℕ × A)) TextFault)
-    → followed n (line_of grammar line) (Ok []) ≡ Ok xs → with_front front (entries_from grammar n (line ∷ lines)) ≡ total → with_front (front ++ xs) (entries_from grammar (n + 1) lines) ≡ total
-goes_on grammar n line lines front xs total e so_far =
-    let rest = entries_from grammar (n + 1) lines in
-    sym (with_more front xs rest) ∙ ap (λ r. with_front front r) (sym (adds n (line_of grammar line) rest xs e)) ∙ so_far
-
--- a line has a fault
-faults : {A : Type 0} (grammar : Reading A) (n : ℕ) (line : List ℕ) (lines : List (List ℕ)) (front : List (ℕ × A)) (total : Result (List (ℕ × A)) TextFault) (f : TextFault)
-    → followed n (line_of grammar line) (Ok []) ≡ Err f → with_front front (entries_from grammar n (line ∷ lines)) ≡ total → total ≡ Err f
-faults grammar n line lines front total f e so_far =
-    sym so_far ∙ ap (λ r. with_front front r) (stops n (line_of grammar line) (entries_from grammar (n + 1) lines) f e)
-
--- before the first line
-begins : {A : Type 0} (grammar : Reading A) (text : List ℕ) → with_front [] (entries_from grammar 1 (lines_of text)) ≡ entries_of grammar text
-unfolding entries_of
-begins grammar text = sym (with_none (entries_from grammar 1 (lines_of text)))
-
 -- the line that the code cut off, and the lines behind it
 cut_lines : (rest line after said : List ℕ) (k : ℕ) → k ≡ position_or_len is_feed rest → line ≡ take k rest → after ≡ drop k rest → said ≡ strip_carriage_return line → lines_of rest ≡ said ∷ lines_after after
 cut_lines rest line after said k e l a s = rw (s, l, a, e) (lines_first rest)
@@ -72,68 +35,114 @@ next_lines : (after : List ℕ) → 1 ≤ length after → lines_after after ≡
 next_lines [] some = absurd (omega arith)
 next_lines (b ∷ bs) some = let e : suc (length bs) - 1 ≡ length bs = omega arith in rw (e, take_all (length bs) bs (omega arith)) refl
 
--- after an error
-first_fault : {A : Type 0} (grammar : Reading A) (n : ℕ) (line : List ℕ) (lines : List (List ℕ)) (front : List (ℕ × A)) (total : Result (List (ℕ × A)) TextFault) (e : TextError)
-    → with_front front (entries_from grammar n (line ∷ lines)) ≡ total → IsFirstFault (followed n (line_of grammar line) (Ok [])) e → IsFirstFault total e
-first_fault grammar n line lines front total errors.OutOfMemory so_far h = tt
-first_fault grammar n line lines front total (errors.Bad l c cause) so_far h = faults grammar n line lines front total _ h so_far
-
--- the list after one more line
-list_grows : {A Y : Type 0} (entry : A → Y) (front xs : List A) (old mid new : List Y) → mid ≡ old ++ map entry front → new ≡ mid ++ map entry xs → new ≡ old ++ map entry (front ++ xs)
-list_grows entry front xs old mid new m n = rw (n, m, map-append, append_assoc) refl
-
-no_lines : (after : List ℕ) → length after < 1 → lines_after after ≡ []
-no_lines [] few = refl
+no_lines : (after : List ℕ) → length after < 1 → (lines_after after ≡ []) × (after ≡ [])
+no_lines [] few = (refl, refl)
 no_lines (b ∷ bs) few = absurd (omega arith)
 
--- the last line was taken
-all_done : {A : Type 0} (grammar : Reading A) (n : ℕ) (line : List ℕ) (front xs : List (ℕ × A)) (total : Result (List (ℕ × A)) TextFault)
-    → followed n (line_of grammar line) (Ok []) ≡ Ok xs → with_front front (entries_from grammar n (line ∷ [])) ≡ total → total ≡ Ok (front ++ xs)
-all_done grammar n line front xs total e so_far = sym (goes_on grammar n line [] front xs total e so_far) ∙ ap (λ ys. Ok ys) (append-nil (front ++ xs))
+-- ---- the first line
 
--- the invariant, at the line that was cut off
-at_line : {A : Type 0} (grammar : Reading A) (n : ℕ) (rest said : List ℕ) (after lines : List (List ℕ)) (front : List (ℕ × A)) (total : Result (List (ℕ × A)) TextFault)
-    → lines_of rest ≡ said ∷ after → after ≡ lines → with_front front (entries_from grammar n (lines_of rest)) ≡ total → with_front front (entries_from grammar n (said ∷ lines)) ≡ total
-at_line grammar n rest said after lines front total cut e so_far = ap (λ (ls : List (List ℕ)). with_front front (entries_from grammar n ls)) (sym (cut ∙ ap (λ (ls : List (List ℕ)). said ∷ ls) e)) ∙ so_far
+-- lines are left behind it
+pub line_before : (text line after said : List ℕ) (k : ℕ) → k ≡ position_or_len is_feed text → line ≡ take k text → after ≡ drop k text → said ≡ strip_carriage_return line → 1 ≤ length after
+    → IsFirstLine text said (take (length after - 1) (drop 1 after))
+line_before text line after said k e l a s some = inl (cut_lines text line after said k e l a s ∙ ap (λ (ls : List (List ℕ)). said ∷ ls) (next_lines after some))
 
--- ---- the loop: what the lines before some bytes of a text say was appended to a list
+-- it is the last
+pub line_alone : (text line after said : List ℕ) (k : ℕ) → k ≡ position_or_len is_feed text → line ≡ take k text → after ≡ drop k text → said ≡ strip_carriage_return line → length after < 1 → IsFirstLine text said after
+line_alone text line after said k e l a s few = inr (cut_lines text line after said k e l a s ∙ ap (λ (ls : List (List ℕ)). said ∷ ls) (no_lines after few).0, (no_lines after few).1)
 
-pub record SoFar {A Y : Type 0} (grammar : Reading A) (entry : ℕ × A → Y) (text : List ℕ) (old : List Y) (n : ℕ) (rest : List ℕ) (now : List Y) : Type 0 where
-  pub front : List (ℕ × A)
-  pub appended : now ≡ old ++ map entry front
-  pub says : with_front front (entries_from grammar n (lines_of rest)) ≡ entries_of grammar text
+-- ---- the items of a text
 
--- a line without its carriage return, and what stands behind it
-pub record IsCut (rest said after : List ℕ) : Type 0 where
-  pub lines : lines_of rest ≡ said ∷ lines_after after
+map_cons : {X Y : Type 0} (h : X → Y) (o : Option X) (xs : List X) → map h (cons_option o xs) ≡ cons_option (option_map h o) (map h xs)
+map_cons h None xs = refl
+map_cons h (Some x) xs = refl
 
-pub cut_off : (rest line after said : List ℕ) (k : ℕ) → k ≡ position_or_len is_feed rest → line ≡ take k rest → after ≡ drop k rest → said ≡ strip_carriage_return line → IsCut rest said after
-cut_off rest line after said k e l a s = record { lines = cut_lines rest line after said k e l a s }
+-- the item of the first line, if it has one, and then those of the lines behind
+pub items_first : {A Y : Type 0} (grammar : Reading A) (entry : ℕ × A → Y) (n : ℕ) (text line behind : List ℕ) → IsFirstLine text line behind
+    → items_from grammar entry n text ≡ cons_option (option_map (item_of entry) (said_on n (line_of grammar line))) (items_from grammar entry (n + 1) behind)
+items_first grammar entry n text line behind (inl e) =
+    ap (λ (ls : List (List ℕ)). map (item_of entry) (said_from grammar n ls)) e ∙ map_cons (item_of entry) (said_on n (line_of grammar line)) (said_from grammar (n + 1) (lines_of behind))
+items_first grammar entry n text line behind (inr (e, z)) =
+    ap (λ (ls : List (List ℕ)). map (item_of entry) (said_from grammar n ls)) e ∙ map_cons (item_of entry) (said_on n (line_of grammar line)) []
+    ∙ ap (λ (b : List ℕ). cons_option (option_map (item_of entry) (said_on n (line_of grammar line))) (items_from grammar entry (n + 1) b)) (sym z)
 
--- before the first line
-pub first_line : {A Y : Type 0} (grammar : Reading A) (entry : ℕ × A → Y) (text : List ℕ) (old : List Y) → SoFar grammar entry text old 1 text old
-first_line grammar entry text old = record { front = []; appended = sym (append-nil old); says = begins grammar text }
+pub items_all : {A Y : Type 0} (grammar : Reading A) (entry : ℕ × A → Y) (text : List ℕ) → items_from grammar entry 1 text ≡ items_of grammar entry text
+unfolding items_of said_of
+items_all grammar entry text = refl
 
--- a line was taken, and lines are left
-pub next_line : {A Y : Type 0} (grammar : Reading A) (entry : ℕ × A → Y) (text : List ℕ) (old : List Y) (n : ℕ) (rest said after : List ℕ) (mid new : List Y)
-    → IsCut rest said after → 1 ≤ length after → SoFar grammar entry text old n rest mid → AppendsEntries entry (followed n (line_of grammar said) (Ok [])) mid new
-    → SoFar grammar entry text old (n + 1) (take (length after - 1) (drop 1 after)) new
-next_line grammar entry text old n rest said after mid new cut some so taken =
-    let more = take (length after - 1) (drop 1 after) in
-    let here = at_line grammar n rest said (lines_after after) (lines_of more) so.front (entries_of grammar text) cut.lines (next_lines after some) so.says in
-    record { front = so.front ++ taken.0; appended = list_grows entry so.front taken.0 old mid new so.appended taken.2; says = goes_on grammar n said (lines_of more) so.front taken.0 (entries_of grammar text) taken.1 here }
+-- ---- all of the items, or their first error
 
--- a line has a fault
-pub faulty_line : {A Y : Type 0} (grammar : Reading A) (entry : ℕ × A → Y) (text : List ℕ) (old : List Y) (n : ℕ) (rest said after : List ℕ) (mid : List Y) (e : TextError)
-    → IsCut rest said after → SoFar grammar entry text old n rest mid → IsFirstFault (followed n (line_of grammar said) (Ok [])) e → IsFirstFault (entries_of grammar text) e
-faulty_line grammar entry text old n rest said after mid e cut so fault =
-    let here = at_line grammar n rest said (lines_after after) (lines_after after) so.front (entries_of grammar text) cut.lines refl so.says in
-    first_fault grammar n said (lines_after after) so.front (entries_of grammar text) e here fault
+-- what a call answers of what the lines say: all their entries, or the first fault as its error
+abbrev pub answer_of : {X Y : Type 0} → (X → Y) → Result (List X) TextFault → Result (List Y) TextError
+answer_of entry (Ok xs) = Ok (map entry xs)
+answer_of entry (Err at) = Err (errors.Bad at.line at.fault.column at.fault.cause)
 
--- the last line was taken
-pub last_line : {A Y : Type 0} (grammar : Reading A) (entry : ℕ × A → Y) (text : List ℕ) (old : List Y) (n : ℕ) (rest said after : List ℕ) (mid new : List Y)
-    → IsCut rest said after → length after < 1 → SoFar grammar entry text old n rest mid → AppendsEntries entry (followed n (line_of grammar said) (Ok [])) mid new
-    → AppendsEntries entry (entries_of grammar text) old new
-last_line grammar entry text old n rest said after mid new cut few so taken =
-    let here = at_line grammar n rest said (lines_after after) [] so.front (entries_of grammar text) cut.lines (no_lines after few) so.says in
-    (so.front ++ taken.0, all_done grammar n said so.front taken.0 (entries_of grammar text) taken.1 here, list_grows entry so.front taken.0 old mid new so.appended taken.2)
+answer_more : {X Y : Type 0} (entry : X → Y) (x : X) (read : Result (List X) TextFault) → with_front (entry x) (answer_of entry read) ≡ answer_of entry (with_front x read)
+answer_more entry x (Ok xs) = refl
+answer_more entry x (Err at) = refl
+
+all_items : {X Y : Type 0} (entry : X → Y) (said : List (Result X TextFault)) → all_of (map (item_of entry) said) ≡ answer_of entry (all_of said)
+all_items entry [] = refl
+all_items entry (Ok x ∷ said) = ap (with_front (entry x)) (all_items entry said) ∙ answer_more entry x (all_of said)
+all_items entry (Err at ∷ said) = refl
+
+-- all the items of a text are its entries
+pub items_answer : {A Y : Type 0} (grammar : Reading A) (entry : ℕ × A → Y) (text : List ℕ) → all_of (items_of grammar entry text) ≡ answer_of entry (entries_of grammar text)
+unfolding items_of entries_of
+items_answer grammar entry text = all_items entry (said_of grammar text)
+
+-- ---- the loop over the items: those before some were entries, which were appended to a list
+
+-- these before them, or the fault among them
+abbrev pub with_all : {X E : Type 0} → List X → Result (List X) E → Result (List X) E
+with_all front (Ok xs) = Ok (front ++ xs)
+with_all front (Err f) = Err f
+
+pub record Taken {Y : Type 0} (items left : List (Result Y TextError)) (old now : List Y) : Type 0 where
+  pub front : List Y
+  pub appended : now ≡ old ++ front
+  pub same : all_of items ≡ with_all front (all_of left)
+
+with_none : {Y : Type 0} (read : Result (List Y) TextError) → read ≡ with_all [] read
+with_none (Ok xs) = refl
+with_none (Err f) = refl
+
+with_more : {Y : Type 0} (front : List Y) (y : Y) (read : Result (List Y) TextError) → with_all front (with_front y read) ≡ with_all (front ++ y ∷ []) read
+with_more {Y = Y} front y (Ok xs) = ap (λ (zs : List Y). Ok zs) (sym (append_assoc front (y ∷ []) xs))
+with_more front y (Err f) = refl
+
+-- before the first item
+pub takes_none : {Y : Type 0} (items : List (Result Y TextError)) (old : List Y) → Taken items items old old
+takes_none items old = record { front = []; appended = sym (append-nil old); same = with_none (all_of items) }
+
+-- an entry was appended
+pub takes_entry : {Y : Type 0} (items left more : List (Result Y TextError)) (y : Y) (old mid new : List Y) → left ≡ Ok y ∷ more → new ≡ mid ++ y ∷ [] → Taken items left old mid → Taken items more old new
+takes_entry {Y = Y} items left more y old mid new first grown taken = record {
+  front = taken.front ++ y ∷ [];
+  appended = grown ∙ ap (λ (l : List Y). l ++ y ∷ []) taken.appended ∙ append_assoc old taken.front (y ∷ []);
+  same = taken.same ∙ ap (λ (l : List (Result Y TextError)). with_all taken.front (all_of l)) first ∙ with_more taken.front y (all_of more);
+}
+
+appends : {X Y : Type 0} (entry : X → Y) (read : Result (List X) TextFault) (old now front : List Y) → now ≡ old ++ front → answer_of entry read ≡ Ok front → AppendsEntries entry read old now
+appends {Y = Y} entry (Ok xs) old now front appended e = let same : map entry xs ≡ front = cc in (xs, refl, appended ∙ ap (λ (l : List Y). old ++ l) (sym same))
+appends entry (Err at) old now front appended e = absurd cc
+
+-- no item is left
+pub takes_all : {A Y : Type 0} (grammar : Reading A) (entry : ℕ × A → Y) (text : List ℕ) (items left : List (Result Y TextError)) (old now : List Y) → items ≡ items_of grammar entry text → left ≡ [] → Taken items left old now
+    → AppendsEntries entry (entries_of grammar text) old now
+takes_all {Y = Y} grammar entry text items left old now are none taken =
+    appends entry (entries_of grammar text) old now (taken.front ++ []) (taken.appended ∙ ap (λ (l : List Y). old ++ l) (sym (append-nil taken.front)))
+    (sym (items_answer grammar entry text) ∙ ap (λ (l : List (Result Y TextError)). all_of l) (sym are) ∙ taken.same ∙ ap (λ (l : List (Result Y TextError)). with_all taken.front (all_of l)) none)
+
+first_fault : {X Y : Type 0} (entry : X → Y) (read : Result (List X) TextFault) (e : TextError) → answer_of entry read ≡ Err e → IsFirstFault read e
+first_fault entry (Ok xs) e h = absurd cc
+first_fault {X = X} entry (Err at) e h =
+    let same : errors.Bad at.line at.fault.column at.fault.cause ≡ e = cc in
+    subst (λ (x : TextError). IsFirstFault {X = X} (Err at) x) same refl
+
+-- an item is an error
+pub takes_fault : {A Y : Type 0} (grammar : Reading A) (entry : ℕ × A → Y) (text : List ℕ) (items left more : List (Result Y TextError)) (item : Result Y TextError) (old now : List Y) (e : TextError) → items ≡ items_of grammar entry text
+    → left ≡ item ∷ more → item ≡ Err e → Taken items left old now → IsFirstFault (entries_of grammar text) e
+takes_fault {Y = Y} grammar entry text items left more item old now e are first is taken =
+    first_fault entry (entries_of grammar text) e
+    (sym (items_answer grammar entry text) ∙ ap (λ (l : List (Result Y TextError)). all_of l) (sym are) ∙ taken.same ∙ ap (λ (l : List (Result Y TextError)). with_all taken.front (all_of l)) first
+    ∙ ap (λ (i : Result Y TextError). with_all taken.front (all_of (i ∷ more))) is)

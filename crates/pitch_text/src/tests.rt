@@ -1,5 +1,5 @@
 use crate::{
-    Command, CommandEntry, CommandList, ScheduleEntry, ScheduleList, Session, TextCause, TextError,
+    Command, CommandEntry, CommandList, Commands, ScheduleEntry, ScheduleList, Session, TextCause, TextError,
     Verb, print_entry, read_commands, read_schedule,
 };
 use pitch_fields::{Price, Side, Symbol};
@@ -426,4 +426,41 @@ fn commands_with_their_lines(rt: HostRuntime) -> Result<(), Fail> {
     );
     assert!(rt; out.len() == 2);
     Ok(())
+}
+
+#[test]
+fn a_text_line_by_line(rt: HostRuntime) {
+    let mut items = Commands::of_text(b"\n# none\nclear\r\n  end x\n\nend at=1\n# last\nclear 2");
+    let wants = [
+        clear_at(3),
+        bad_word_at(4, 7),
+        Ok(CommandEntry {
+            line: 6,
+            command: Command::EndSession { offset: 1 },
+        }),
+        bad_word_at(8, 7),
+    ];
+    for want in wants {
+        assert!(rt; items.next() == Some(want));
+    }
+    assert!(rt; items.next() == None);
+    assert!(rt; items.next() == None);
+    assert!(rt; Commands::of_text(b"").next() == None);
+    assert!(rt; Commands::of_text(b"\n\n").next() == None);
+    assert!(rt; Commands::of_text(b"clear\n").count() == 1);
+}
+
+fn clear_at(line: u32) -> Result<CommandEntry, TextError> {
+    Ok(CommandEntry {
+        line,
+        command: Command::Clear { offset: 0 },
+    })
+}
+
+fn bad_word_at(line: u32, column: u32) -> Result<CommandEntry, TextError> {
+    Err(TextError::Bad {
+        line,
+        column,
+        cause: TextCause::BadWord,
+    })
 }
