@@ -1,24 +1,25 @@
 -- What a venue answers, command by command.
 use Rattle.std.proofs.Common.{◌≡◌, ◌⊎◌, inl, inr, ℕ, ◌+◌, ◌<◌, List, [], ◌∷◌, ◌++◌, length, drop, refl, sym, ap, ◌∙◌, subst, Option, Some, None, Result, Ok, Err, slice_get, map, take, append_assoc}
 use Rattle.std.specs.List.{concat}
+use Rattle.std.specs.Result.{result_err}
 use Rattle.std.proofs.lemmas.List.{drop_more, take_more, append-nil}
 use Rattle.pitch_messages.specs.Room.{Roomy}
 use Rattle.unit_packets.specs.Packing.{bytes_in}
 use Rattle.std.proofs.lemmas.Option.{get_or_from_slice_get, slice_get_within}
 use Rattle.pitch_text.specs.CommandGrammar.{command, command_entry}
-use Rattle.pitch_text.specs.Text.{TextFault, entries_of, AppendsEntries, IsFirstFault}
+use Rattle.pitch_text.specs.Text.{TextFault, entries_of, items_of, all_of, with_front}
+use Rattle.pitch_text.proofs.TextLemmas.{answer_of, items_answer}
 use Rattle.pitch_text.specs.declared.command.Command.{Command}
 use Rattle.pitch_text.specs.declared.command.CommandEntry.{CommandEntry}
 use Rattle.pitch_text.specs.declared.fault.TextError.{TextError}
-use Rattle.pitch_text.specs.declared.fault.TextError.TheVariants as text
 use Rattle.venue_core.specs.Commands.{raw_of}
 use Rattle.venue_core.specs.Refusals.{refusal, IsAnswer}
 use Rattle.venue_core.specs.Standing.{VenueState}
 use Rattle.venue_core.specs.Stands.{Stands}
 use Rattle.venue_core.specs.declared.error.VenueError.{VenueError}
 use Rattle.venue_core.specs.declared.error.VenueError.TheVariants as venue
-use Rattle.command_feed.specs.Accepting.{IsAccepted, IsRefused, AcceptsAll}
-use Rattle.command_feed.specs.Faults.{of_text, of_venue}
+use Rattle.command_feed.specs.Accepting.{IsAccepted, IsRefused, AcceptsAll, accepted_in}
+use Rattle.command_feed.specs.Faults.{of_text, of_venue, cause_before}
 use Rattle.command_feed.specs.Feed.{then_accepted, accepted_after, messages_on, messages_of}
 use Rattle.command_feed.specs.declared.error.FeedError.{FeedError}
 use Rattle.command_feed.specs.declared.error.FeedError.TheVariants as errors
@@ -58,50 +59,68 @@ entry_refused accepted entry error sequence answer h is = elim (refused_by entry
 ]
 
 -- ---- All of them
--- some commands were accepted, and the others follow
-pub record TakesSome (accepted : List (List ℕ)) (entries left : List CommandEntry) (venue : VenueState) : Type 0 where
+-- some commands were accepted, and these follow
+pub record TakesSome (accepted : List (List ℕ)) (read left : Result (List CommandEntry) TextError) (venue : VenueState) : Type 0 where
   pub taken : List (List ℕ)
-  pub same : accepted_after accepted entries ≡ accepted_after taken left
+  pub same : accepted_in accepted read ≡ accepted_in taken left
   pub stands : Stands venue taken 0
 
-pub takes_none : (accepted : List (List ℕ)) (entries : List CommandEntry) (venue : VenueState) → Stands venue accepted 0 → TakesSome accepted entries entries venue
-takes_none accepted entries venue stands = record { taken = accepted; same = refl; stands = stands }
+pub takes_none : (accepted : List (List ℕ)) (read : Result (List CommandEntry) TextError) (venue : VenueState) → Stands venue accepted 0 → TakesSome accepted read read venue
+takes_none accepted read venue stands = record { taken = accepted; same = refl; stands = stands }
 
-left_first : (entries : List CommandEntry) (i : ℕ) (entry : CommandEntry) → slice_get entries i ≡ Some entry → drop i entries ≡ entry ∷ drop (i + 1) entries
-left_first entries i entry at = drop_more entries i entry (slice_get_within entries i entry at) ∙ ap (λ (e : CommandEntry). e ∷ drop (i + 1) entries) (get_or_from_slice_get entries i entry entry at)
+accepts_one : (taken : List (List ℕ)) (entry : CommandEntry) (rest : Result (List CommandEntry) TextError) → refusal taken entry.command ≡ None → accepted_in taken (with_front entry rest) ≡ accepted_in (taken ++ raw_of entry.command ∷ []) rest
+accepts_one taken entry (Ok entries) none = ap (λ (o : Option VenueError). then_accepted o entry.line (accepted_after (taken ++ raw_of entry.command ∷ []) entries)) none
+accepts_one taken entry (Err fault) none = refl
 
-pub takes_more : (accepted : List (List ℕ)) (entries : List CommandEntry) (i : ℕ) (entry : CommandEntry) (venue venue' : VenueState) → slice_get entries i ≡ Some entry → TakesSome accepted entries (drop i entries) venue
-    → ((taken : List (List ℕ)) → Stands venue taken 0 → IsAccepted taken entry venue') → TakesSome accepted entries (drop (i + 1) entries) venue'
-takes_more accepted entries i entry venue venue' at some accepts =
+pub takes_more : (accepted : List (List ℕ)) (read : Result (List CommandEntry) TextError) (left more : List (Result CommandEntry TextError)) (entry : CommandEntry) (venue venue' : VenueState) → left ≡ Ok entry ∷ more
+    → TakesSome accepted read (all_of left) venue → ((taken : List (List ℕ)) → Stands venue taken 0 → IsAccepted taken entry venue') → TakesSome accepted read (all_of more) venue'
+takes_more accepted read left more entry venue venue' first some accepts =
     let here = accepts some.taken some.stands in
     record {
       taken = some.taken ++ raw_of entry.command ∷ [];
-      same = some.same ∙ ap (accepted_after some.taken) (left_first entries i entry at)
-          ∙ ap (λ (o : Option VenueError). then_accepted o entry.line (accepted_after (some.taken ++ raw_of entry.command ∷ []) (drop (i + 1) entries))) here.none;
+      same = some.same ∙ ap (λ (items : List (Result CommandEntry TextError)). accepted_in some.taken (all_of items)) first ∙ accepts_one some.taken entry (all_of more) here.none;
       stands = here.stands;
     }
 
-pub takes_refused : (accepted : List (List ℕ)) (entries : List CommandEntry) (i : ℕ) (entry : CommandEntry) (venue : VenueState) (error : FeedError) → slice_get entries i ≡ Some entry → TakesSome accepted entries (drop i entries) venue
-    → ((taken : List (List ℕ)) → Stands venue taken 0 → (error ≡ errors.OutOfMemory) ⊎ IsRefused taken entry error) → (error ≡ errors.OutOfMemory) ⊎ (accepted_after accepted entries ≡ Err error)
-takes_refused accepted entries i entry venue error at some refuses = elim (refuses some.taken some.stands) [
-  | inl memory ↦ inl memory
-  | inr refused ↦ inr (some.same ∙ ap (accepted_after some.taken) (left_first entries i entry at)
-      ∙ ap (λ (o : Option VenueError). then_accepted o entry.line (accepted_after (some.taken ++ raw_of entry.command ∷ []) (drop (i + 1) entries))) refused.refuses
-      ∙ ap Err (sym refused.is))
+refuses_one : (taken : List (List ℕ)) (entry : CommandEntry) (rest : Result (List CommandEntry) TextError) (cause : VenueError) → refusal taken entry.command ≡ Some cause
+    → accepted_in taken (with_front entry rest) ≡ Err (cause_before rest (errors.Refused entry.line cause))
+refuses_one taken entry (Ok entries) cause some = ap (λ (o : Option VenueError). then_accepted o entry.line (accepted_after (taken ++ raw_of entry.command ∷ []) entries)) some
+refuses_one taken entry (Err fault) cause some = refl
+
+-- a command is refused
+pub takes_refused : (accepted : List (List ℕ)) (read : Result (List CommandEntry) TextError) (left more : List (Result CommandEntry TextError)) (entry : CommandEntry) (venue : VenueState) (error answer : FeedError) → left ≡ Ok entry ∷ more
+    → answer ≡ cause_before (all_of more) error → TakesSome accepted read (all_of left) venue → ((taken : List (List ℕ)) → Stands venue taken 0 → (error ≡ errors.OutOfMemory) ⊎ IsRefused taken entry error)
+    → (answer ≡ errors.OutOfMemory) ⊎ (accepted_in accepted read ≡ Err answer)
+takes_refused accepted read left more entry venue error answer first is some refuses = elim (refuses some.taken some.stands) [
+  | inl memory ↦ inl (is ∙ ap (cause_before (all_of more)) memory)
+  | inr refused ↦ inr (some.same ∙ ap (λ (items : List (Result CommandEntry TextError)). accepted_in some.taken (all_of items)) first ∙ refuses_one some.taken entry (all_of more) refused.cause refused.refuses
+      ∙ ap (λ (e : FeedError). Err (cause_before (all_of more) e)) (sym refused.is) ∙ ap Err (sym is))
 ]
 
-pub takes_all : (accepted : List (List ℕ)) (entries left : List CommandEntry) (venue : VenueState) → left ≡ [] → TakesSome accepted entries left venue → AcceptsAll accepted entries venue
-takes_all accepted entries left venue none some = record { all = some.taken; accepts = some.same ∙ ap (accepted_after some.taken) none; stands = some.stands }
+-- the text has a fault
+pub takes_fault : (accepted : List (List ℕ)) (read : Result (List CommandEntry) TextError) (left more : List (Result CommandEntry TextError)) (fault : TextError) (venue : VenueState) (answer : FeedError) → left ≡ Err fault ∷ more
+    → answer ≡ of_text fault → TakesSome accepted read (all_of left) venue → accepted_in accepted read ≡ Err answer
+takes_fault accepted read left more fault venue answer first is some = some.same ∙ ap (λ (items : List (Result CommandEntry TextError)). accepted_in some.taken (all_of items)) first ∙ ap Err (sym is)
+
+pub takes_all : (accepted : List (List ℕ)) (read : Result (List CommandEntry) TextError) (left : List (Result CommandEntry TextError)) (venue : VenueState) → left ≡ [] → TakesSome accepted read (all_of left) venue → AcceptsAll accepted read venue
+takes_all accepted read left venue none some = record { all = some.taken; accepts = some.same ∙ ap (λ (items : List (Result CommandEntry TextError)). accepted_in some.taken (all_of items)) none; stands = some.stands }
+
+-- ---- The first fault behind
+pub fault_behind : (left more : List (Result CommandEntry TextError)) (entry : CommandEntry) → left ≡ Ok entry ∷ more → result_err (all_of left) ≡ result_err (all_of more)
+fault_behind left more entry first = ap (λ (items : List (Result CommandEntry TextError)). result_err (all_of items)) first ∙ passed (all_of more)
+  where
+    passed : (read : Result (List CommandEntry) TextError) → result_err (with_front entry read) ≡ result_err read
+    passed (Ok entries) = refl
+    passed (Err fault) = refl
 
 -- ---- A text
-pub read_messages : (bytes : List ℕ) (entries : List CommandEntry) → AppendsEntries command_entry (entries_of command bytes) [] entries → messages_of bytes ≡ accepted_after [] entries
-unfolding messages_of
-read_messages bytes entries (xs, reads, are) = ap messages_on reads ∙ ap (accepted_after []) (sym are)
+messages_as : (read : Result (List (ℕ × Command)) TextFault) → messages_on read ≡ accepted_in [] (answer_of command_entry read)
+messages_as (Ok entries) = refl
+messages_as (Err at) = refl
 
-pub unread_messages : (bytes : List ℕ) (error : TextError) → IsFirstFault (entries_of command bytes) error → (of_text error ≡ errors.OutOfMemory) ⊎ (messages_of bytes ≡ Err (of_text error))
+pub text_messages : (bytes : List ℕ) (items : List (Result CommandEntry TextError)) → items ≡ items_of command command_entry bytes → messages_of bytes ≡ accepted_in [] (all_of items)
 unfolding messages_of
-unread_messages bytes text.OutOfMemory h = inl refl
-unread_messages bytes (text.Bad line column cause) h = inr (ap messages_on h)
+text_messages bytes items are = messages_as (entries_of command bytes) ∙ ap (accepted_in []) (sym (items_answer command command_entry bytes) ∙ ap (λ (l : List (Result CommandEntry TextError)). all_of l) (sym are))
 
 -- ---- Datagrams
 pub joined_more : (lists : List (Roomy ℕ)) (i : ℕ) (list : Roomy ℕ) → slice_get lists i ≡ Some list → concat (bytes_in (take (i + 1) lists)) ≡ concat (bytes_in (take i lists)) ++ list.items

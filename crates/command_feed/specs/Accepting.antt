@@ -1,11 +1,13 @@
 -- What accepting commands does.
-use Rattle.std.specs.Prelude.{◌≡◌, ℕ, List, [], ◌∷◌, ◌++◌, None, Some, Ok, Err}
+use Rattle.std.specs.Prelude.{◌≡◌, ℕ, List, [], ◌∷◌, ◌++◌, None, Some, Result, Ok, Err}
 use Rattle.pitch_text.specs.declared.command.CommandEntry.{CommandEntry}
+use Rattle.pitch_text.specs.declared.fault.TextError.{TextError}
 use Rattle.venue_core.specs.Commands.{raw_of}
 use Rattle.venue_core.specs.Refusals.{refusal}
 use Rattle.venue_core.specs.Standing.{VenueState}
 use Rattle.venue_core.specs.Stands.{Stands}
 use Rattle.venue_core.specs.declared.error.VenueError.{VenueError}
+use Rattle.command_feed.specs.Faults.{of_text}
 use Rattle.command_feed.specs.Feed.{accepted_after, messages_of}
 use Rattle.command_feed.specs.declared.error.FeedError.{FeedError}
 use Rattle.command_feed.specs.declared.error.FeedError.TheVariants.{Refused}
@@ -21,10 +23,15 @@ pub record IsRefused (accepted : List (List ℕ)) (entry : CommandEntry) (error 
   pub refuses : refusal accepted entry.command ≡ Some cause
   pub is : error ≡ Refused entry.line cause
 
--- it accepted all the commands
-pub record AcceptsAll (accepted : List (List ℕ)) (entries : List CommandEntry) (venue : VenueState) : Type 0 where
+-- what a venue that accepted some messages has accepted after the commands that were read too, or the first fault among those
+abbrev pub accepted_in : List (List ℕ) → Result (List CommandEntry) TextError → Result (List (List ℕ)) FeedError
+accepted_in accepted (Ok entries) = accepted_after accepted entries
+accepted_in accepted (Err fault) = Err (of_text fault)
+
+-- all the commands were read, and it accepted them
+pub record AcceptsAll (accepted : List (List ℕ)) (read : Result (List CommandEntry) TextError) (venue : VenueState) : Type 0 where
   pub all : List (List ℕ)
-  pub accepts : accepted_after accepted entries ≡ Ok all
+  pub accepts : accepted_in accepted read ≡ Ok all
   pub stands : Stands venue all 0
 
 -- it accepted the messages of a text

@@ -1,5 +1,6 @@
 -- An error of a part as an error of the whole.
-use Rattle.std.specs.Prelude.{ℕ}
+use Rattle.std.specs.Prelude.{ℕ, List, Result, Ok, Err}
+use Rattle.pitch_text.specs.declared.command.CommandEntry.{CommandEntry}
 use Rattle.pitch_text.specs.declared.fault.TextError.{TextError}
 use Rattle.pitch_text.specs.declared.fault.TextError.TheVariants as text
 use Rattle.venue_core.specs.declared.error.VenueError.{VenueError}
@@ -16,3 +17,10 @@ of_text text.OutOfMemory = OutOfMemory
 abbrev pub of_venue : ℕ → VenueError → FeedError
 of_venue line venue.OutOfMemory = OutOfMemory
 of_venue line error = Refused line error
+
+-- why a text makes no feed where a command has this error and so much was read behind it: a fault of the text comes before a refusal, and
+-- want of memory is the answer at once
+abbrev pub cause_before : Result (List CommandEntry) TextError → FeedError → FeedError
+cause_before read OutOfMemory = OutOfMemory
+cause_before (Ok entries) error = error
+cause_before (Err fault) error = of_text fault

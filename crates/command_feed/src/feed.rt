@@ -1,18 +1,18 @@
 ghost use Rattle.std.specs.Prelude.{◌≡◌, ◌≤◌, ◌++◌, [], ◌⊎◌, List, ℕ, Ok, Err, OnOk, OnErr, IfOk, IfErr, length, take};
 ghost use Rattle.std.specs.List.{concat};
-ghost use Rattle.pitch_text.specs.CommandGrammar.{command, command_entry};
-ghost use Rattle.pitch_text.specs.Text.{entries_of};
+ghost use Rattle.std.specs.Result.{result_err};
+ghost use Rattle.pitch_text.specs.Text.{all_of};
 ghost use Rattle.unit_packets.specs.Packing.{packed, bytes_in};
 ghost use Rattle.venue_core.specs.Stands.{Stands};
-ghost use Rattle.command_feed.specs.Accepting.{IsAccepted, IsRefused, AcceptsAll, IsVenueAfter};
-ghost use Rattle.command_feed.specs.Faults.{of_venue};
-ghost use Rattle.command_feed.specs.Feed.{accepted_after, messages_of, feed_of};
+ghost use Rattle.command_feed.specs.Accepting.{IsAccepted, IsRefused, AcceptsAll, IsVenueAfter, accepted_in};
+ghost use Rattle.command_feed.specs.Faults.{of_venue, cause_before};
+ghost use Rattle.command_feed.specs.Feed.{messages_of, feed_of};
 ghost use Rattle.command_feed.specs.declared.error.FeedError.TheVariants as errors;
 
 use crate::error::FeedError;
 use pitch_fields::OutOfMemory;
 use pitch_messages::ByteList;
-use pitch_text::{CommandEntry, CommandList, read_commands};
+use pitch_text::{CommandEntry, Commands, TextError};
 use std::alloc::Global;
 use unit_packets::DatagramList;
 use venue_core::{Venue, VenueError};
@@ -41,15 +41,47 @@ fn accept_entry(venue: &mut Venue, entry: &CommandEntry) -> Result<(), FeedError
     }
 }
 
-// The venue accepts all the commands, or refuses the first that it can't accept.
-fn accept_all(venue: &mut Venue, entries: &[CommandEntry]) -> Result<(), FeedError>
-    ensures ok { OnOk result ((accepted : List (List ℕ)) → Stands venue.old accepted 0 → AcceptsAll accepted entries.now venue.new) }
+// The first fault among the items of a text.
+fn first_fault(items: Commands<'_>) -> Option<TextError>
+    ensures { result ≡ result_err (all_of items.entry) }
+{
+    'items: for item in items {
+        if let Err(fault) = item {
+            return Some(fault);
+        }
+    }
+    None
+}
+
+// Why a text makes no feed, where a command has this error and these items follow it.
+fn first_cause(error: FeedError, rest: Commands<'_>) -> FeedError
+    ensures { result ≡ cause_before (all_of rest.entry) error }
+{
+    if let FeedError::OutOfMemory = error {
+        return FeedError::OutOfMemory;
+    }
+    match first_fault(rest) {
+        Some(fault) => FeedError::from(fault),
+        None => error,
+    }
+}
+
+// The venue accepts the commands of all items. Else the answer is the text's first fault, or the first command that is refused;
+// from that on no command goes to the venue.
+fn accept_all(venue: &mut Venue, mut items: Commands<'_>) -> Result<(), FeedError>
+    ensures ok { OnOk result ((accepted : List (List ℕ)) → Stands venue.old accepted 0 → AcceptsAll accepted (all_of items.entry) venue.new) }
     ensures err { IfErr result (λ error. (accepted : List (List ℕ)) → Stands venue.old accepted 0
-        → (error ≡ errors.OutOfMemory) ⊎ (accepted_after accepted entries.now ≡ Err error)) }
+        → (error ≡ errors.OutOfMemory) ⊎ (accepted_in accepted (all_of items.entry) ≡ Err error)) }
     ensures unit { venue.new.unit ≡ venue.old.unit }
 {
-    'commands: for entry in entries {
-        accept_entry(venue, entry)?;
+    'commands: while let Some(item) = items.next() {
+        let entry = match item {
+            Ok(entry) => entry,
+            Err(fault) => return Err(FeedError::from(fault)),
+        };
+        if let Err(error) = accept_entry(venue, &entry) {
+            return Err(first_cause(error, items));
+        }
     }
     Ok(())
 }
@@ -61,12 +93,8 @@ fn venue_after(alloc: Global, unit: u8, text: &[u8]) -> Result<Venue, FeedError>
     ensures unit { IfOk result (λ venue. venue.unit ≡ unit) }
     ensures err { IfErr result (λ error. (error ≡ errors.OutOfMemory) ⊎ (messages_of text.now ≡ Err error)) }
 {
-    let mut commands = CommandList::make(alloc);
-    if let Err(error) = read_commands(text, &mut commands) {
-        return Err(FeedError::from(error));
-    }
     let mut venue = Venue::make(alloc, unit);
-    match accept_all(&mut venue, commands.as_slice()) {
+    match accept_all(&mut venue, Commands::of_text(text)) {
         Ok(()) => Ok(venue),
         Err(error) => Err(error),
     }
@@ -101,8 +129,8 @@ fn append_datagrams(venue: &mut Venue, alloc: Global, out: &mut Vec<u8>) -> Resu
 
 /// Appends the feed of a unit that a text of commands makes: its datagrams, end to end, from sequence 1 on.
 ///
-/// The whole text is read before the first command goes to the venue. It has at most 67,108,864 bytes. Bad is its first fault,
-/// and Refused the first command that the venue refuses. After an error `out` is as before.
+/// The text is read once, and has at most 67,108,864 bytes. Bad is its first fault, also where that stands behind a command that
+/// is refused; Refused is the first command that the venue refuses of a text without a fault. After an error `out` is as before.
 pub fn append_feed(alloc: Global, unit: u8, text: &[u8], out: &mut Vec<u8>) -> Result<(), FeedError>
     requires { length text.now ≤ 67108864 }
     ensures feed { OnOk result ((feed : List ℕ) × (feed_of unit text.now ≡ Ok feed) × (out.new.items ≡ out.old.items ++ feed)) }

@@ -25,7 +25,7 @@ use Rattle.pitch_fields.specs.Name.{is_printing}
 use Rattle.pitch_text.specs.CommandGrammar.{no_participant}
 use Rattle.pitch_text.specs.Kinds.{padded_of, symbol_of, participant_of}
 use Rattle.pitch_text.specs.ScheduleGrammar.{entry}
-use Rattle.pitch_text.specs.Text.{line_of, lines_of, entries_of}
+use Rattle.pitch_text.specs.Text.{line_of, lines_of, said_of, entries_of}
 use Rattle.pitch_text.specs.WellFormed.{IsVerb, IsCommand, IsOrder, IsOffset, IsWellFormed}
 use Rattle.pitch_text.specs.Printing.{verb_words, command_words, number_words, at_words, hidden_words, mpid_words, order_words, name_of, count_word, line_word, session_word, spaced, entry_text}
 use Rattle.pitch_text.proofs.WordLemmas.{is_dark, IsWord, AreWords, fields_words, spaced_length, one_line}
@@ -239,7 +239,7 @@ one_entry unit v h = let u = h.in_range in one_line (decimal unit) (verb_words v
 
 -- the whole text of one line
 pub text_again : (unit : ℕ) (v : Verb) → IsWellFormed unit v → entries_of entry (entry_text unit v) ≡ Ok ((1, (unit, v)) ∷ [])
-unfolding entries_of
+unfolding entries_of said_of
 text_again unit v h =
     let one : lines_of (entry_text unit v) ≡ entry_text unit v ∷ [] = one_entry unit v h in
     rw (one, line_again unit v h) refl

@@ -1,6 +1,6 @@
--- A text as lines, and its first fault.
-use Rattle.std.specs.Prelude.{◌≡◌, ℕ, ◌+◌, ◌==◌, Bool, true, nat_eq, nat_lt, List, [], ◌∷◌, ◌++◌, length, map, Option, Some, None, Result, Ok, Err, codes, if◌then◌else◌}
-use Rattle.std.specs.List.{slice_split, starts_with}
+-- A text as lines, what they say one after another, and its first fault.
+use Rattle.std.specs.Prelude.{◌≡◌, ◌⊎◌, ℕ, ◌+◌, ◌==◌, Bool, true, nat_eq, nat_lt, List, [], ◌∷◌, ◌++◌, length, map, Option, Some, None, Result, Ok, Err, codes, if◌then◌else◌}
+use Rattle.std.specs.List.{slice_split, starts_with, cons_option}
 use Rattle.std.specs.Str.Lines.{strip_carriage_return}
 use Rattle.pitch_text.specs.declared.fault.Fault.{Fault}
 use Rattle.pitch_text.specs.declared.fault.TextCause.TheVariants.{LongLine}
@@ -50,25 +50,39 @@ pub record TextFault : Type 0 where
   pub line : ℕ
   pub fault : Fault
 
--- what the lines behind say, with these entries in front
-abbrev pub with_front : {X : Type 0} → List X → Result (List X) TextFault → Result (List X) TextFault
-with_front front (Ok xs) = Ok (front ++ xs)
-with_front front (Err f) = Err f
+-- what a line with this number says: its entry, or the fault in it; nothing where it is skipped
+abbrev pub said_on : {A : Type 0} → ℕ → Result (Option A) Fault → Option (Result (ℕ × A) TextFault)
+said_on n (Err f) = Some (Err (record { line = n; fault = f }))
+said_on n (Ok None) = None
+said_on n (Ok (Some x)) = Some (Ok (n, x))
 
--- what a line with this number says, and then the lines behind it
-abbrev pub followed : {A : Type 0} → ℕ → Result (Option A) Fault → Result (List (ℕ × A)) TextFault → Result (List (ℕ × A)) TextFault
-followed n (Err f) rest = Err (record { line = n; fault = f })
-followed n (Ok None) rest = rest
-followed n (Ok (Some x)) rest = with_front ((n, x) ∷ []) rest
+-- what the lines from a number on say, one after another; those that are skipped are left out
+abbrev pub said_from : {A : Type 0} → Reading A → ℕ → List (List ℕ) → List (Result (ℕ × A) TextFault)
+said_from grammar n [] = []
+said_from grammar n (line ∷ lines) = cons_option (said_on n (line_of grammar line)) (said_from grammar (n + 1) lines)
 
--- what the lines from a number on say, each with its number, or the first fault
-abbrev pub entries_from : {A : Type 0} → Reading A → ℕ → List (List ℕ) → Result (List (ℕ × A)) TextFault
-entries_from grammar n [] = Ok []
-entries_from grammar n (line ∷ lines) = followed n (line_of grammar line) (entries_from grammar (n + 1) lines)
+-- what the lines of a text say, each with its number: its entry, or the fault in it. A fault does not end the list.
+unfoldable pub said_of : {A : Type 0} → Reading A → List ℕ → List (Result (ℕ × A) TextFault)
+said_of grammar text = said_from grammar 1 (lines_of text)
+
+-- one more in front of them, or the fault among them
+abbrev pub with_front : {X E : Type 0} → X → Result (List X) E → Result (List X) E
+with_front x (Ok xs) = Ok (x ∷ xs)
+with_front x (Err f) = Err f
+
+-- all of them, or the first fault among them
+abbrev pub all_of : {X E : Type 0} → List (Result X E) → Result (List X) E
+all_of [] = Ok []
+all_of (Ok x ∷ rest) = with_front x (all_of rest)
+all_of (Err f ∷ rest) = Err f
 
 -- what the lines of a text say, each with its number, or the text's first fault
 unfoldable pub entries_of : {A : Type 0} → Reading A → List ℕ → Result (List (ℕ × A)) TextFault
-entries_of grammar text = entries_from grammar 1 (lines_of text)
+entries_of grammar text = all_of (said_of grammar text)
+
+-- a first line without its line end, and the bytes behind that: none where the text has no more lines
+abbrev pub IsFirstLine : List ℕ → List ℕ → List ℕ → Type 0
+IsFirstLine text line behind = (lines_of text ≡ line ∷ lines_of behind) ⊎ ((lines_of text ≡ line ∷ []) × (behind ≡ []))
 
 -- ---- what a call answers
 
@@ -80,3 +94,16 @@ AppendsEntries {X} entry read old new = (xs : List X) × (read ≡ Ok xs) × (ne
 abbrev pub IsFirstFault : {X : Type 0} → Result (List X) TextFault → TextError → Type 0
 IsFirstFault read errors.OutOfMemory = Unit {0}
 IsFirstFault read (errors.Bad line column cause) = read ≡ Err (record { line = line; fault = fault_at column cause })
+
+-- what a line says as a caller sees it: its entry, or the error
+abbrev pub item_of : {X Y : Type 0} → (X → Y) → Result X TextFault → Result Y TextError
+item_of entry (Ok x) = Ok (entry x)
+item_of entry (Err at) = Err (errors.Bad at.line at.fault.column at.fault.cause)
+
+-- what the lines from a number on say, as a caller sees it
+abbrev pub items_from : {A Y : Type 0} → Reading A → (ℕ × A → Y) → ℕ → List ℕ → List (Result Y TextError)
+items_from grammar entry n text = map (item_of entry) (said_from grammar n (lines_of text))
+
+-- what the lines of a text say, as a caller sees it: an item for each line that is not skipped
+unfoldable pub items_of : {A Y : Type 0} → Reading A → (ℕ × A → Y) → List ℕ → List (Result Y TextError)
+items_of grammar entry text = map (item_of entry) (said_of grammar text)

@@ -1,0 +1,7 @@
+use Rattle.std.proofs.Common.{◌≡◌}
+use Rattle.std.specs.Result.{result_err}
+use Rattle.pitch_text.specs.Text.{all_of}
+use Rattle.command_feed.proofs.feed.first_fault.Given as goal
+
+abbrev pub invariant-items : goal.invariant-items
+invariant-items l = result_err (all_of l.fn.items) ≡ result_err (all_of l.item-iterator)
