@@ -20,7 +20,8 @@ pub const DATAGRAM_SIZE: usize = 1400;
 /// Packs messages in their order into datagrams of one block each.
 ///
 /// A message goes into the block that was begun, unless that would then pass 1,400 bytes or 255 messages; then the
-/// block is given out and a new one begun. A datagram's bytes are written once, where they stay.
+/// block is given out and a new one begun. A datagram's bytes are written once, where they stay. What is given out goes
+/// to the end of a `Vec`, which a `DatagramList` appends as it is.
 #[derive(Drop)]
 pub struct Packer {
     unit: u8,
@@ -43,6 +44,7 @@ impl Model for Packer {
 }
 
 // A block of some messages takes one more, which brings it to this size.
+#[inline]
 fn is_taken(count: u8, size: usize) -> bool
     ensures { IsTrue result ↔ ((0 < count) × ((count < 255) × (size ≤ 1400))) }
 {
@@ -101,6 +103,7 @@ impl Packer {
     }
 
     // The block that was begun has room for the message.
+    #[inline]
     fn takes(&self, raw: &Raw) -> bool
         ensures { IsTrue result ↔ (0 < length self.now.begun) × IsTrue (fits_datagram (self.now.begun ++ raw.now ∷ [])) }
     {
@@ -108,7 +111,8 @@ impl Packer {
     }
 
     /// Packs a message. Packer and list are as before after OutOfMemory.
-    pub fn push(&mut self, raw: &Raw, out: &mut DatagramList) -> Result<(), OutOfMemory>
+    #[inline]
+    pub fn push(&mut self, raw: &Raw, out: &mut Vec<ByteList>) -> Result<(), OutOfMemory>
         requires { next_sequence self.old ≤ 4294967294 }
         ensures ok { OnOk result (Pushes self.old raw.now self.new out.old.items out.new.items) }
         ensures err { OnErr result ((self.new ≡ self.old) × (out.new.items ≡ out.old.items)) }
@@ -126,7 +130,7 @@ impl Packer {
     }
 
     /// Gives out the block that was begun, if any. Packer and list are as before after OutOfMemory.
-    pub fn finish(&mut self, out: &mut DatagramList) -> Result<(), OutOfMemory>
+    pub fn finish(&mut self, out: &mut Vec<ByteList>) -> Result<(), OutOfMemory>
         ensures ok { OnOk result (Finishes self.old self.new out.old.items out.new.items) }
         ensures after { OnOk result (self.new ≡ unpacked self.old.unit (next_sequence self.old)) }
         ensures err { OnErr result ((self.new ≡ self.old) × (out.new.items ≡ out.old.items)) }

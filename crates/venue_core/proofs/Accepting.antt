@@ -1,10 +1,10 @@
 -- What a venue stands for once it has taken in the message of a command.
-use Rattle.std.proofs.Common.{◌≡◌, ℕ, ◌+◌, ◌-◌, Bool, true, false, ◌||◌, nat_le, List, [], ◌∷◌, ◌++◌, length, Option, None, Some, Ok, refl, sym, ap, ◌∙◌, arith, length-append}
+use Rattle.std.proofs.Common.{◌≡◌, ℕ, ◌+◌, ◌-◌, Bool, true, false, ◌||◌, nat_le, List, [], ◌∷◌, ◌++◌, length, Option, None, Some, Ok, refl, sym, ap, ◌∙◌, arith, subst, length-append, length-drop, drop}
 use Rattle.std.specs.List.{slice_get}
 use Rattle.std.specs.FinMap as map
 use Rattle.std.specs.Ordering.{nat_cmp}
 use Rattle.std.proofs.lemmas.Bool.{cond_both}
-use Rattle.std.proofs.lemmas.List.{drop-append-le}
+use Rattle.std.proofs.lemmas.List.{drop-append-le, drop_all}
 use Rattle.std.proofs.lemmas.List.Folds.{list_any-append}
 use Rattle.pitch_messages.specs.declared.order.Order.{Order}
 use Rattle.pitch_messages.specs.declared.message.Message.{Message}
@@ -19,8 +19,9 @@ use Rattle.pitch_text.specs.declared.command.Command.{Command}
 use Rattle.pitch_text.specs.declared.command.Command.TheVariants as commands
 use Rattle.venue_core.specs.Commands.{message_of, raw_of, ends_session}
 use Rattle.venue_core.specs.Refusals.{is_end, reads_end, is_ended}
-use Rattle.venue_core.specs.Standing.{VenueState, IsPossible, advanced}
+use Rattle.venue_core.specs.Standing.{VenueState, IsPossible, Advances}
 use Rattle.venue_core.specs.Stands.{Stands, last_of}
+use Rattle.venue_core.specs.Waiting.{Waiting, Waits}
 
 -- ---- Which commands end the session
 add_goes_on : (six : Option (List ℕ)) (cents : Option ℕ) (order : Order) (offset : ℕ) → is_end (add_form six cents order offset) ≡ false
@@ -76,33 +77,47 @@ last_more accepted raw =
     sym (ap (slice_get (accepted ++ raw ∷ [])) l ∙ last_there accepted raw)
 
 -- ---- The whole venue
-pub stands_on : (venue : VenueState) (accepted : List (List ℕ)) (sent : ℕ) (command : Command) → Stands venue accepted sent → venue.ended ≡ false → reads (raw_of command) ≡ Ok (message_of command)
-    → Stands (advanced venue command) (accepted ++ raw_of command ∷ []) sent
-stands_on venue accepted sent command stands goes_on known = record {
-  book = ap (λ (b : Book). after b (raw_of command)) stands.book ∙ sym (book_after-append accepted (raw_of command ∷ []));
-  next = ap (λ (n : ℕ). n + 1) (stands.next ∙ sym (length-append accepted (raw_of command ∷ [])));
-  ended = ended_more accepted command (sym stands.ended ∙ goes_on) known;
-  last = last_more accepted (raw_of command);
-  pending = ap (λ (p : List (List ℕ)). p ++ raw_of command ∷ []) stands.pending ∙ sym (drop-append-le sent accepted (raw_of command ∷ []) stands.within);
+pub stands_on : (old new : VenueState) (accepted : List (List ℕ)) (sent : ℕ) (command : Command) → Stands old accepted sent → Advances old command new → old.ended ≡ false → reads (raw_of command) ≡ Ok (message_of command)
+    → Stands new (accepted ++ raw_of command ∷ []) sent
+stands_on old new accepted sent command stands advances goes_on known = record {
+  book = advances.book ∙ ap (λ (b : Book). after b (raw_of command)) stands.book ∙ sym (book_after-append accepted (raw_of command ∷ []));
+  next = advances.next ∙ ap (λ (n : ℕ). n + 1) (stands.next ∙ sym (length-append accepted (raw_of command ∷ [])));
+  ended = advances.ended ∙ ended_more accepted command (sym stands.ended ∙ goes_on) known;
+  last = advances.last ∙ last_more accepted (raw_of command);
+  pending =
+      let waits : Waits new.pending old.unit (sent + 1) (drop sent accepted ++ raw_of command ∷ []) = advances.waits old.unit (sent + 1) (drop sent accepted) stands.pending in
+      let same : Waits new.pending new.unit (sent + 1) (drop sent accepted ++ raw_of command ∷ []) = subst (λ (u : ℕ). Waits new.pending u (sent + 1) (drop sent accepted ++ raw_of command ∷ [])) (sym advances.unit) waits in
+      subst (Waits new.pending new.unit (sent + 1)) (sym (drop-append-le sent accepted (raw_of command ∷ []) stands.within)) same;
   within = let w = stands.within in omega (arith, w, length-append accepted (raw_of command ∷ []));
 }
 
--- ---- What is possible
-pub none_possible : (book : Book) (pending : List (List ℕ)) → book ≡ empty_book → pending ≡ [] → IsPossible book 1 pending
-none_possible book pending empty none = record {
-  orders = let l : map.len book.orders ≡ 0 = ap (λ (b : Book). map.len b.orders) empty ∙ map.len-empty nat_cmp Order in omega arith;
-  unsent = let l : length pending ≡ 0 = ap (λ (p : List (List ℕ)). length p) none in omega arith;
+-- all that was accepted is sent
+pub stands_sent : (venue : VenueState) (pending : Waiting) (accepted : List (List ℕ)) (sent : ℕ) → Stands venue accepted sent → pending.next ≡ venue.pending.next
+    → ((unit first : ℕ) (messages : List (List ℕ)) → Waits venue.pending unit first messages → Waits pending unit (first + length messages) [])
+    → Stands (record { unit = venue.unit; book = venue.book; ended = venue.ended; last = venue.last; pending = pending }) accepted (length accepted)
+stands_sent venue pending accepted sent stands next sends = record {
+  book = stands.book;
+  next = next ∙ stands.next;
+  ended = stands.ended;
+  last = stands.last;
+  pending =
+      let waits : Waits pending venue.unit ((sent + 1) + length (drop sent accepted)) [] = sends venue.unit (sent + 1) (drop sent accepted) stands.pending in
+      let within = stands.within in
+      let at : (sent + 1) + length (drop sent accepted) ≡ length accepted + 1 = omega (arith, within, length-drop sent accepted) in
+      let none : drop (length accepted) accepted ≡ [] = drop_all (length accepted) accepted (omega arith) in
+      subst (Waits pending venue.unit (length accepted + 1)) (sym none) (subst (λ (n : ℕ). Waits pending venue.unit n []) at waits);
+  within = omega arith;
 }
 
-pub one_more_possible : (book new : Book) (next : ℕ) (pending waiting : List (List ℕ)) (raw : List ℕ) → IsPossible book next pending → new ≡ after book raw → waiting ≡ pending ++ raw ∷ [] → IsPossible new (next + 1) waiting
-one_more_possible book new next pending waiting raw possible applied pushed = record {
-  orders =
-      let l : map.len new.orders ≡ map.len (after book raw).orders = ap (λ (b : Book). map.len b.orders) applied in
-      let m = after_len book raw in
-      let o = possible.orders in
-      omega (arith, l, m, o);
-  unsent =
-      let l : length waiting ≡ length pending + 1 = ap (λ (p : List (List ℕ)). length p) pushed ∙ length-append pending (raw ∷ []) in
-      let o = possible.unsent in
-      omega (arith, l, o);
-}
+-- ---- What is possible
+pub none_possible : (book : Book) (pending : Waiting) (unit : ℕ) → book ≡ empty_book → Waits pending unit 1 [] → IsPossible book pending
+none_possible book pending unit empty waits =
+    let l : map.len book.orders ≡ 0 = ap (λ (b : Book). map.len b.orders) empty ∙ map.len-empty nat_cmp Order in
+    let n = waits.next_is in
+    omega (arith, l, n)
+
+pub one_more_possible : (book new : Book) (pending waiting : Waiting) (raw : List ℕ) → IsPossible book pending → new ≡ after book raw → waiting.next ≡ pending.next + 1 → IsPossible new waiting
+one_more_possible book new pending waiting raw possible applied next =
+    let l : map.len new.orders ≡ map.len (after book raw).orders = ap (λ (b : Book). map.len b.orders) applied in
+    let m = after_len book raw in
+    omega (arith, l, m, possible, next)

@@ -3,3 +3,4 @@ pub mod Commands
 pub mod Refusals
 pub mod Standing
 pub mod Stands
+pub mod Waiting

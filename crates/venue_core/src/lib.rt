@@ -3,7 +3,7 @@
 
 mod error;
 mod message;
-mod packing;
+mod outbox;
 mod refusal;
 #[cfg(test)]
 mod tests;

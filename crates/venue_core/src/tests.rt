@@ -157,3 +157,41 @@ fn datagrams(rt: HostRuntime) -> Result<(), Fail> {
     }
     Ok(())
 }
+
+#[test]
+fn sent_in_turns(rt: HostRuntime) -> Result<(), Fail> {
+    let mut venue = Venue::make(rt.alloc(), 1);
+    let mut out = DatagramList::make(rt.alloc());
+    accept_all(&rt, rt.alloc(), &mut venue, "time 34200\nbreak 7")?;
+    assert!(rt; venue.flush(&mut out) == Ok(1));
+    assert!(rt; venue.beat() == *b"\x08\0\0\x01\x03\0\0\0");
+    accept_all(&rt, rt.alloc(), &mut venue, "time 34201")?;
+    assert!(rt; venue.beat() == *b"\x08\0\0\x01\x03\0\0\0");
+    assert!(rt; venue.flush(&mut out) == Ok(1));
+    assert!(rt; venue.beat() == *b"\x08\0\0\x01\x04\0\0\0");
+    let sent: [&[u8]; 2] = [
+        b"\x1c\0\x02\x01\x01\0\0\0\x06\x20\x98\x85\0\0\x0e\x2c\0\0\0\0\x07\0\0\0\0\0\0\0",
+        b"\x0e\0\x01\x01\x03\0\0\0\x06\x20\x99\x85\0\0",
+    ];
+    assert!(rt; out.len() == 2);
+    for (datagram, expected) in out.as_slice().iter().zip(sent) {
+        assert!(rt; datagram.bytes() == expected);
+    }
+    Ok(())
+}
+
+#[test]
+fn full_datagrams(rt: HostRuntime) -> Result<(), Fail> {
+    let mut venue = Venue::make(rt.alloc(), 1);
+    let mut out = DatagramList::make(rt.alloc());
+    // 232 messages of 6 bytes fill a datagram of 1,400 bytes.
+    for second in 0..465 {
+        assert!(rt; venue.accept(&Command::Time { second }) == Ok(second + 1));
+    }
+    assert!(rt; venue.flush(&mut out) == Ok(3));
+    for (datagram, size) in out.as_slice().iter().zip([1400, 1400, 14]) {
+        assert!(rt; datagram.len() == size);
+    }
+    assert!(rt; venue.beat() == *b"\x08\0\0\x01\xd2\x01\0\0");
+    Ok(())
+}

@@ -1,0 +1,26 @@
+use Rattle.std.proofs.Common.{◌≡◌, ◌≤◌, ◌∙◌, length, ap, refl, arith, Vec, Global, ℕ}
+use Rattle.pitch_messages.specs.Room.{Roomy}
+use Rattle.unit_packets.specs.Packing.{bytes_in}
+use Rattle.venue_core.proofs.Sending.{few_given, none_is_some}
+use Rattle.venue_core.proofs.outbox.Outbox.flush.Goals as goal
+
+pub overflow_cast-count : goal.overflow_cast-count
+overflow_cast-count c =
+    let few : length c.finish.new.out.items ≤ c.self.inside.next =
+    few_given (record { first = c.self.inside.first; next = c.self.inside.next; packing = c.self.inside.packer; full = bytes_in c.self.inside.full.items }) c.finish.new.self c.self.inside.full.items c.finish.new.out.items c.self.invariant refl c.in_ok-finish.ensures.ok in
+    let was : c.replace-datagrams.result.items ≡ c.finish.new.out.items = ap (λ (v : Vec (Roomy ℕ) Global). v.items) c.replace-datagrams.ensures.value in
+    omega (arith, few, ap length was, c.self.ranges)
+
+pub invariant_of-self-2 : goal.invariant_of-self-2
+invariant_of-self-2 c =
+    none_is_some (record { first = c.self.inside.first; next = c.self.inside.next; packing = c.self.inside.packer; full = bytes_in c.self.inside.full.items }) _
+    (record {
+      before = c.self.inside.full.items;
+      after = c.finish.new.out.items;
+      finishes = c.in_ok-finish.ensures.ok;
+      was = refl;
+      full = ap (λ (v : Vec (Roomy ℕ) Global). bytes_in v.items) c.replace-datagrams.ensures.after ∙ ap bytes_in c.new-none.ensures.items;
+      first = refl;
+      next = refl;
+    })
+    c.self.invariant
