@@ -37,6 +37,13 @@ impl<T: Drop> List<T> {
         List { items }
     }
 
+    /// The items, with the memory that they stand in.
+    pub fn into_vec(self) -> Vec<T>
+        ensures { result.items ≡ self.items }
+    {
+        self.items
+    }
+
     /// How many items the list has.
     pub fn len(&self) -> usize
         ensures { result ≡ length self.now.items }

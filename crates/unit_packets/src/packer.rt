@@ -20,8 +20,7 @@ pub const DATAGRAM_SIZE: usize = 1400;
 /// Packs messages in their order into datagrams of one block each.
 ///
 /// A message goes into the block that was begun, unless that would then pass 1,400 bytes or 255 messages; then the
-/// block is given out and a new one begun. A datagram's bytes are written once, where they stay. What is given out goes
-/// to the end of a `Vec`, which a `DatagramList` appends as it is.
+/// block is given out and a new one begun. A datagram's bytes are written once, where they stay.
 #[derive(Drop)]
 pub struct Packer {
     unit: u8,
@@ -112,7 +111,7 @@ impl Packer {
 
     /// Packs a message. Packer and list are as before after OutOfMemory.
     #[inline]
-    pub fn push(&mut self, raw: &Raw, out: &mut Vec<ByteList>) -> Result<(), OutOfMemory>
+    pub fn push(&mut self, raw: &Raw, out: &mut DatagramList) -> Result<(), OutOfMemory>
         requires { next_sequence self.old ≤ 4294967294 }
         ensures ok { OnOk result (Pushes self.old raw.now self.new out.old.items out.new.items) }
         ensures err { OnErr result ((self.new ≡ self.old) × (out.new.items ≡ out.old.items)) }
@@ -130,7 +129,7 @@ impl Packer {
     }
 
     /// Gives out the block that was begun, if any. Packer and list are as before after OutOfMemory.
-    pub fn finish(&mut self, out: &mut Vec<ByteList>) -> Result<(), OutOfMemory>
+    pub fn finish(&mut self, out: &mut DatagramList) -> Result<(), OutOfMemory>
         ensures ok { OnOk result (Finishes self.old self.new out.old.items out.new.items) }
         ensures after { OnOk result (self.new ≡ unpacked self.old.unit (next_sequence self.old)) }
         ensures err { OnErr result ((self.new ≡ self.old) × (out.new.items ≡ out.old.items)) }

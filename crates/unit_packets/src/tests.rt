@@ -1,6 +1,6 @@
 use crate::{
-    BlockError, BlockFault, BlockList, BlockReader, FeedError, Header, LAST_SEQUENCE, Packer,
-    heartbeat, put_session, read_block,
+    BlockError, BlockFault, BlockList, BlockReader, DatagramList, FeedError, Header, LAST_SEQUENCE,
+    Packer, heartbeat, put_session, read_block,
 };
 use pitch_messages::Raw;
 use std::alloc::Global;
@@ -118,7 +118,7 @@ fn pack(rt: &impl Abort, alloc: Global, length: u8, count: usize, first: u32) ->
     bytes[0] = length;
     let raw = Raw::from_bytes(&bytes[..length as usize]).expect(rt, "a raw");
     let mut packer = Packer::make(alloc, 9, first);
-    let mut out = Vec::new(alloc);
+    let mut out = DatagramList::make(alloc);
     for _ in 0..count {
         assert!(rt; packer.next_sequence() <= LAST_SEQUENCE);
         packer.push(&raw, &mut out).expect(rt, "memory");

@@ -21,5 +21,5 @@ returns-then-self-eq0-clause-ok c =
 pub returns-clause-ok : goal.returns-clause-ok
 returns-clause-ok c =
     let some : 0 < length c.args.self.now.begun = subst (λ (rs : List (List ℕ)). 0 < length rs) (ap (λ (p : Packing). p.begun) c.self.view_is) (omega (arith, c.self.invariant.chain.many)) in
-    finishes _ _ _ _ (c.of_vec.result ∷ []) (c.in_ok-push.ensures.items ∙ ap (λ (l : List (Roomy ℕ)). l ++ c.of_vec.result ∷ []) c.in_ok-reserve.ensures.items)
+    finishes _ _ _ _ (c.of_vec.result ∷ []) (c.in_ok-push.ensures.ok ∙ ap (λ (l : List (Roomy ℕ)). l ++ c.of_vec.result ∷ []) c.in_ok-reserve.ensures.items)
     (one_given _ _ _ c.of_vec.result some (c.of_vec.ensures ∙ c.close-datagram.ensures.bytes)) c.close-datagram.ensures.after

@@ -1,4 +1,4 @@
-use Rattle.std.proofs.Common.{◌≡◌, ◌≤◌, ◌∙◌, length, ap, refl, arith, Vec, Global, ℕ}
+use Rattle.std.proofs.Common.{◌≡◌, ◌≤◌, ◌∙◌, length, ap, refl, arith, ℕ}
 use Rattle.pitch_messages.specs.Room.{Roomy}
 use Rattle.unit_packets.specs.Packing.{bytes_in}
 use Rattle.venue_core.proofs.Sending.{few_given, none_is_some}
@@ -8,7 +8,7 @@ pub overflow_cast-count : goal.overflow_cast-count
 overflow_cast-count c =
     let few : length c.finish.new.out.items ≤ c.self.inside.next =
     few_given (record { first = c.self.inside.first; next = c.self.inside.next; packing = c.self.inside.packer; full = bytes_in c.self.inside.full.items }) c.finish.new.self c.self.inside.full.items c.finish.new.out.items c.self.invariant refl c.in_ok-finish.ensures.ok in
-    let was : c.replace-datagrams.result.items ≡ c.finish.new.out.items = ap (λ (v : Vec (Roomy ℕ) Global). v.items) c.replace-datagrams.ensures.value in
+    let was : c.replace-datagrams.result.items ≡ c.finish.new.out.items = ap (λ (l : Roomy (Roomy ℕ)). l.items) c.replace-datagrams.ensures.value in
     omega (arith, few, ap length was, c.self.ranges)
 
 pub invariant_of-self-2 : goal.invariant_of-self-2
@@ -19,7 +19,7 @@ invariant_of-self-2 c =
       after = c.finish.new.out.items;
       finishes = c.in_ok-finish.ensures.ok;
       was = refl;
-      full = ap (λ (v : Vec (Roomy ℕ) Global). bytes_in v.items) c.replace-datagrams.ensures.after ∙ ap bytes_in c.new-none.ensures.items;
+      full = ap (λ (l : Roomy (Roomy ℕ)). bytes_in l.items) c.replace-datagrams.ensures.after ∙ ap bytes_in c.make-none.ensures;
       first = refl;
       next = refl;
     })
