@@ -1,8 +1,8 @@
 -- What a venue answers, command by command.
-use Rattle.std.proofs.Common.{◌≡◌, ◌⊎◌, inl, inr, ℕ, ◌+◌, ◌<◌, List, [], ◌∷◌, ◌++◌, length, drop, refl, sym, ap, ◌∙◌, subst, Option, Some, None, Result, Ok, Err, slice_get, map, take, append_assoc}
+use Rattle.std.proofs.Common.{◌≡◌, ◌⊎◌, inl, inr, ℕ, ◌+◌, List, [], ◌∷◌, ◌++◌, refl, sym, ap, ◌∙◌, Option, Some, None, Result, Ok, Err, slice_get, take, append_assoc}
 use Rattle.std.specs.List.{concat}
 use Rattle.std.specs.Result.{result_err}
-use Rattle.std.proofs.lemmas.List.{drop_more, take_more, append-nil}
+use Rattle.std.proofs.lemmas.List.{take_more, append-nil}
 use Rattle.pitch_messages.specs.Room.{Roomy}
 use Rattle.unit_packets.specs.Packing.{bytes_in}
 use Rattle.std.proofs.lemmas.Option.{get_or_from_slice_get, slice_get_within}

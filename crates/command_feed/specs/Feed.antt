@@ -1,5 +1,5 @@
 -- The feed that a text of commands makes.
-use Rattle.std.specs.Prelude.{ℕ, ◌+◌, List, [], ◌∷◌, ◌++◌, map, Option, None, Some, Result, Ok, Err}
+use Rattle.std.specs.Prelude.{ℕ, List, [], ◌∷◌, ◌++◌, map, Option, None, Some, Result, Ok, Err}
 use Rattle.std.specs.List.{concat}
 use Rattle.pitch_text.specs.CommandGrammar.{command, command_entry}
 use Rattle.pitch_text.specs.Text.{TextFault, entries_of}

@@ -47,11 +47,23 @@ fn a_text_becomes_its_feed(rt: HostRuntime) -> Result<(), Fail> {
 
 // Texts that make no feed, and why: a fault comes before any refusal, wherever it stands.
 const CAUSES: [(&str, &str); 5] = [
-    ("delete 1\n\nclear x\n", "bad input at line 3 column 7: bad-word"),
-    ("clear x\ndelete 1\nclear y\n", "bad input at line 1 column 7: bad-word"),
+    (
+        "delete 1\n\nclear x\n",
+        "bad input at line 3 column 7: bad-word",
+    ),
+    (
+        "clear x\ndelete 1\nclear y\n",
+        "bad input at line 1 column 7: bad-word",
+    ),
     ("end\nclear\n# clear x\nclear", "refused at line 2: ended"),
-    ("delete 1\nclear\ndelete 2\nend\n", "refused at line 1: unknown-id"),
-    ("clear\n\nadd 1 B 1 IBM 1\nadd 1 B 1 IBM 1", "refused at line 4: known-id"),
+    (
+        "delete 1\nclear\ndelete 2\nend\n",
+        "refused at line 1: unknown-id",
+    ),
+    (
+        "clear\n\nadd 1 B 1 IBM 1\nadd 1 B 1 IBM 1",
+        "refused at line 4: known-id",
+    ),
 ];
 
 // What a text answers: `fed`, or the cause in words.

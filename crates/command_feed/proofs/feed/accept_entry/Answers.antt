@@ -1,4 +1,3 @@
-use Rattle.std.proofs.Common.{ℕ, List}
 use Rattle.command_feed.proofs.Accepted.{none_where_ok, entry_refused}
 use Rattle.command_feed.proofs.feed.accept_entry.Goals as goal
 
