@@ -292,7 +292,7 @@ impl UnitBook {
                 flags,
                 ..
             } => {
-                return self.add_apart(order_of_long(id, side, quantity, symbol, price, flags));
+                return self.add(order_of_long(id, side, quantity, symbol, price, flags));
             }
             Message::AddShort {
                 id,
@@ -303,7 +303,7 @@ impl UnitBook {
                 flags,
                 ..
             } => {
-                return self.add_apart(order_of_short(id, side, quantity, symbol, price, flags));
+                return self.add(order_of_short(id, side, quantity, symbol, price, flags));
             }
             Message::AddExpanded {
                 id,
@@ -315,7 +315,7 @@ impl UnitBook {
                 participant,
                 ..
             } => {
-                return self.add_apart(order_of_expanded(
+                return self.add(order_of_expanded(
                     id,
                     side,
                     quantity,
@@ -388,21 +388,7 @@ impl UnitBook {
         self.orders.clear();
     }
 
-    // Adds an order, as `add` does, by a call of its own: only the short form, which most adds have, is worth the room of one
-    // that is inlined.
-    #[inline(never)]
-    fn add_apart(&mut self, order: Order) -> Result<(), OutOfMemory>
-        requires few { map.len self.old.book.orders < 4294967295 }
-        ensures ok { OnOk result (self.new.book ≡ added self.old.book order) }
-        ensures err { OnErr result (self.new.book ≡ self.old.book) }
-        ensures succeeds { 1 ≤ self.old.spare → IsOk result }
-        ensures spare { self.old.spare ≤ self.new.spare + 1 }
-    {
-        self.add(order)
-    }
-
     // Adds an order, unless it has no shares.
-    #[inline(always)]
     fn add(&mut self, order: Order) -> Result<(), OutOfMemory>
         requires few { map.len self.old.book.orders < 4294967295 }
         ensures ok { OnOk result (self.new.book ≡ added self.old.book order) }
@@ -417,7 +403,6 @@ impl UnitBook {
     }
 
     // Puts an order under its id.
-    #[inline(always)]
     #[tactic(auto, using(crate::proofs::Maps::inserts))]
     fn insert(&mut self, order: Order) -> Result<(), OutOfMemory>
         requires filled { 0 < order.quantity }
