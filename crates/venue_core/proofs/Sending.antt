@@ -126,3 +126,14 @@ few_given waiting new before after some was finishes =
     let few : length (packed some.unit waiting.first some.messages) ≤ 0 + length some.messages = few_on some.unit waiting.first [] some.messages in
     let n = some.waits.next_is in
     omega (arith, all, few, n)
+
+-- so are the full ones
+pub full_few : (waiting : Waiting) (full : List (Roomy ℕ)) → AreSome waiting → waiting.full ≡ bytes_in full → length full ≤ waiting.next
+full_few waiting full some was =
+    let rest = packed_on waiting.packing.unit waiting.packing.sequence waiting.packing.begun [] in
+    let split : length (packed some.unit waiting.first (some.messages ++ [])) ≡ length waiting.full + length rest =
+        ap (λ (l : List (List ℕ)). length l) (some.waits.packs.goes_on []) ∙ length-append waiting.full rest in
+    let few : length (packed some.unit waiting.first (some.messages ++ [])) ≤ 0 + length (some.messages ++ []) = few_on some.unit waiting.first [] (some.messages ++ []) in
+    let all : length (some.messages ++ []) ≡ length some.messages + 0 = length-append some.messages [] in
+    let same : length waiting.full ≡ length full = ap (λ (l : List (List ℕ)). length l) was ∙ length_bytes full in
+    omega (arith, split, few, all, same, some.waits.next_is)
