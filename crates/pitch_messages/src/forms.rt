@@ -128,6 +128,7 @@ fn trade_message(order: &Order, execution: u64, offset: u32) -> Message
 /// It is expanded where the last two symbol bytes are not both spaces or the participant is not four spaces. Else it
 /// is short where the quantity is at most 65,535 and the price is a whole number of cents of at most 655.35 dollars.
 /// Else it is long. This choice is the project's own.
+#[inline]
 pub fn add_raw(order: &Order, offset: u32) -> Raw
     ensures written { result ≡ written (add_message order.now offset) }
     ensures reads_back { reads result ≡ Ok (add_message order.now offset) }
@@ -136,6 +137,7 @@ pub fn add_raw(order: &Order, offset: u32) -> Raw
 }
 
 /// The trade of an order, at an offset in nanoseconds. Its form is chosen as for an add that names no participant.
+#[inline]
 pub fn trade_raw(order: &Order, execution: u64, offset: u32) -> Raw
     ensures written { result ≡ written (trade_message order.now execution offset) }
     ensures reads_back { reads result ≡ Ok (trade_message order.now execution offset) }
@@ -144,6 +146,7 @@ pub fn trade_raw(order: &Order, execution: u64, offset: u32) -> Raw
 }
 
 /// The reduction of an order by a quantity: short where that is at most 65,535, else long.
+#[inline]
 #[tactic(auto, unfolding(crate::specs::Forms::reduce_message))]
 pub fn reduce_raw(id: u64, quantity: u32, offset: u32) -> Raw
     ensures written { result ≡ written (reduce_message id quantity offset) }
@@ -167,6 +170,7 @@ pub fn reduce_raw(id: u64, quantity: u32, offset: u32) -> Raw
 ///
 /// It is short where the quantity is at most 65,535 and the price is a whole number of cents of at most 655.35
 /// dollars, else long.
+#[inline]
 #[tactic(auto, unfolding(crate::specs::Forms::modify_message))]
 pub fn modify_raw(id: u64, quantity: u32, price: Price, display: bool, offset: u32) -> Raw
     ensures written { result ≡ written (modify_message id quantity price display offset) }
