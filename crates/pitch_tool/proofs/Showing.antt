@@ -1,12 +1,12 @@
 -- The lines of a block's messages, one after another.
-use Rattle.std.proofs.Common.{◌≡◌, ◌⊎◌, inl, inr, ℕ, zero, suc, ◌+◌, ◌≤◌, ◌<◌, eqb, List, [], ◌∷◌, ◌++◌, length, refl, sym, ap, ◌∙◌, subst, arith, append_assoc, Option}
+use Rattle.std.proofs.Common.{◌≡◌, inl, inr, ℕ, zero, suc, ◌+◌, ◌<◌, eqb, List, [], ◌∷◌, ◌++◌, refl, sym, ap, ◌∙◌, subst, arith, append_assoc, Option}
 use Rattle.std.proofs.lemmas.List.{append-nil}
 use Rattle.std.proofs.lemmas.Bool.{cond-false, ne_eqb}
 use Rattle.unit_packets.specs.Blocks.{StaysWithin}
 use Rattle.pitch_model.specs.Show.{message_line, message_lines, next_after}
 use Rattle.pitch_tool.specs.Page.{Prints}
 use Rattle.pitch_tool.specs.Putting.{PutsSome}
-use Rattle.pitch_tool.proofs.Printing.{prints_none, prints_more, puts_then, puts_longer, puts_after}
+use Rattle.pitch_tool.proofs.Printing.{prints_none, prints_more, puts_longer, puts_after}
 
 pub lines_none : (s : ℕ) → message_lines s [] ≡ []
 unfolding message_lines

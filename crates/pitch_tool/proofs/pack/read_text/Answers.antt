@@ -1,4 +1,4 @@
-use Rattle.std.proofs.Common.{rules, ◌<◌, ◌≤◌, ◌-◌, ◌++◌, ℕ, List, take, length, arith, length-append}
+use Rattle.std.proofs.Common.{rules, ◌<◌, ◌-◌, ◌++◌, ℕ, List, take, length, arith, length-append}
 use Rattle.std.proofs.lemmas.List.{length-take-le}
 use Rattle.pitch_tool.proofs.Feeding.{consumes_more, has_more}
 use Rattle.pitch_tool.proofs.pack.read_text.Goals as goal

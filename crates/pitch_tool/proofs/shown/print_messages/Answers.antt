@@ -1,10 +1,10 @@
-use Rattle.std.proofs.Common.{◌++◌, List, ℕ, length, ap, sym, ◌∙◌, arith}
+use Rattle.std.proofs.Common.{◌++◌, length, ap, ◌∙◌, arith}
 use Rattle.pitch_model.specs.Show.{message_line, message_lines}
 use Rattle.pitch_tool.specs.Page.{Page}
 use Rattle.pitch_tool.specs.Putting.{PutsSome}
 use Rattle.pitch_tool.proofs.Hearing.{on_err}
 use Rattle.pitch_tool.proofs.Printing.{prints_line}
-use Rattle.pitch_tool.proofs.Showing.{shown_none, shown_more, shown_all, shown_fails, within_next, sequence_fits}
+use Rattle.pitch_tool.proofs.Showing.{shown_more, shown_all, shown_fails, within_next}
 use Rattle.pitch_tool.proofs.shown.print_messages.Goals as goal
 
 pub returns-in_err-make_place-clause-err : goal.returns-in_err-make_place-clause-err

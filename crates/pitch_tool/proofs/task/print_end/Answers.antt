@@ -1,12 +1,11 @@
-use Rattle.std.proofs.Common.{List, ℕ, Option, sym, ◌∙◌, subst}
+use Rattle.std.proofs.Common.{List, Option, sym, subst}
 use Rattle.client_core.specs.declared.client.UnitClient.{UnitClient}
 use Rattle.unit_packets.specs.Blocks.{Block}
 use Rattle.pitch_tool.specs.Books.{PrintsBooks, PutsBooks}
 use Rattle.pitch_tool.specs.Ending.{PrintsEnd, PutsEnd}
 use Rattle.pitch_tool.specs.Knowing.{Knows, form_of}
-use Rattle.pitch_tool.specs.Stands.{Clients, AreUnits}
+use Rattle.pitch_tool.specs.Stands.{Clients}
 use Rattle.pitch_tool.specs.declared.task.Task.{Task}
-use Rattle.pitch_tool.specs.declared.task.Task.TheVariants.{Follow}
 use Rattle.pitch_tool.proofs.Hearing.{on_ok_map, on_err_map}
 use Rattle.pitch_tool.proofs.Uniting.{end_of_books, front_of_books}
 use Rattle.pitch_tool.proofs.task.print_end.Goals as goal

@@ -1,4 +1,4 @@
-use Rattle.std.proofs.Common.{◌≡◌, ◌++◌, List, ℕ, length, ap, ap₂, sym, ◌∙◌, subst}
+use Rattle.std.proofs.Common.{◌++◌, List, ℕ, length, ap, ap₂, subst}
 use Rattle.unit_packets.specs.declared.header.Header.{Header}
 use Rattle.pitch_model.specs.Show.{shown_head, message_lines}
 use Rattle.pitch_tool.specs.Page.{Page, Prints}

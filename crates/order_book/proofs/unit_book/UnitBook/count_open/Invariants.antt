@@ -1,4 +1,4 @@
-use Rattle.std.proofs.Common.{◌≡◌, ◌+◌, ◌≤◌, length, count_by, drop, take}
+use Rattle.std.proofs.Common.{◌≡◌, ◌+◌, ◌≤◌, count_by, drop}
 use Rattle.std.specs.FinMap as map
 use Rattle.order_book.proofs.unit_book.UnitBook.count_open.Given as goal
 
