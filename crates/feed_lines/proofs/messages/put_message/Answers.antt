@@ -1,4 +1,4 @@
-use Rattle.std.proofs.Common.{◌≡◌, ◌++◌, ℕ, List, take, codes, sym, ap, ◌∙◌, refl}
+use Rattle.std.proofs.Common.{◌≡◌, ◌++◌, ℕ, List, codes, sym, ap, ◌∙◌, refl}
 use Rattle.pitch_fields.specs.Name.{name_shown}
 use Rattle.pitch_messages.specs.declared.message.Message.{Message}
 use Rattle.pitch_model.specs.Show.{message_text, add_text, trade_text}
