@@ -7,9 +7,9 @@ use Rattle.pitch_model.specs.History.{Entry, Raw}
 use Rattle.pitch_model.specs.Heard.{heard_block}
 use Rattle.pitch_model.specs.Follow.{unit_history}
 use Rattle.pitch_model.proofs.Following.{history_same, history_other}
-use Rattle.client_core.specs.Tracks.{Tracks, Keeps}
+use Rattle.client_core.specs.Tracks.{Tracks}
 use Rattle.client_core.specs.declared.client.UnitClient.{UnitClient}
-use Rattle.pitch_tool.specs.Stands.{is_named, IsClient, Clients, KeepsTo, AllKeep}
+use Rattle.pitch_tool.specs.Stands.{is_named, IsClient, TracksAt, Clients, KeepsTo, AllKeep}
 
 pub if_ok_map : {A E : Type 0} (P Q : A → Type 0) (r : Result A E) → IfOk r P → ((x : A) → P x → Q x) → IfOk r Q
 if_ok_map P Q (Ok x) p f = f x p
@@ -40,6 +40,12 @@ get_set (x ∷ xs) (suc i) zero y r e = inr ((λ same. omega arith), e)
 get_set (x ∷ xs) (suc i) (suc q) y r e = elim (get_set xs i q y r e) [
   | inl here ↦ inl (omega (arith, here.0), here.1)
   | inr other ↦ inr ((λ same. other.0 (omega arith)), other.1)
+]
+
+pub set_there : {X : Type 0} (xs : List X) (i : ℕ) (y r : X) → slice_get (set xs i y) i ≡ Some r → r ≡ y
+set_there xs i y r e = elim (get_set xs i i y r e) [
+  | inl here ↦ here.1
+  | inr other ↦ absurd (other.0 refl)
 ]
 
 -- one more None
@@ -89,31 +95,35 @@ other_client H block before unit (Some client) other stands = (
   subst (λ (E : List Entry). Tracks client H E) (sym (history_other unit block before (λ same. other (sym same)))) stands.1,
 )
 
-pub clients_hear : (H u : ℕ) (old : List (Option UnitClient)) (gone : Option UnitClient) (client : UnitClient) (block : Block) (before : List Block) → Clients H old before → u ≡ block.unit
-    → Tracks client H (heard_block block (unit_history u before)) → Clients H (set (set old u gone) u (Some client)) (block ∷ before)
-clients_hear H u old gone client block before stands same heard = record {
-  many = length-set (set old u gone) u (Some client) ∙ length-set old u gone ∙ stands.many;
-  each = λ unit slot at. elim (get_set (set old u gone) u unit (Some client) slot at) [
+client_hears : (H : ℕ) (before : List Block) (unit : ℕ) (slot : Option UnitClient) → is_named before unit ≡ true → TracksAt H (unit_history unit before) slot → IsClient H before unit slot
+client_hears H before unit None named stands = absurd stands
+client_hears H before unit (Some client) named stands = (named, stands)
+
+pub clients_hear : (H u : ℕ) (old : List (Option UnitClient)) (gone slot : Option UnitClient) (block : Block) (before : List Block) → Clients H old before → u ≡ block.unit
+    → TracksAt H (heard_block block (unit_history u before)) slot → Clients H (set (set old u gone) u slot) (block ∷ before)
+clients_hear H u old gone slot block before stands same heard = record {
+  many = length-set (set old u gone) u slot ∙ length-set old u gone ∙ stands.many;
+  each = λ unit s at. elim (get_set (set old u gone) u unit slot s at) [
     | inl here ↦
         let there : unit ≡ block.unit = here.0 ∙ same in
         subst (IsClient H (block ∷ before) unit) (sym here.1) (
-          named_first block before unit there,
-          subst (λ (n : ℕ). Tracks client H (unit_history n (block ∷ before))) (sym there)
-              (subst (λ (E : List Entry). Tracks client H E) (sym (history_same block before))
-              (subst (λ (n : ℕ). Tracks client H (heard_block block (unit_history n before))) same heard)),
+        client_hears H (block ∷ before) unit slot (named_first block before unit there)
+        (subst (λ (n : ℕ). TracksAt H (unit_history n (block ∷ before)) slot) (sym there)
+        (subst (λ (E : List Entry). TracksAt H E slot) (sym (history_same block before))
+        (subst (λ (n : ℕ). TracksAt H (heard_block block (unit_history n before)) slot) same heard)))
         )
-    | inr other ↦ elim (get_set old u unit gone slot other.1) [
+    | inr other ↦ elim (get_set old u unit gone s other.1) [
       | inl here ↦ absurd (other.0 here.0)
-      | inr kept ↦ other_client H block before unit slot (λ e. other.0 (e ∙ sym same)) (stands.each unit slot kept.1)
+      | inr kept ↦ other_client H block before unit s (λ e. other.0 (e ∙ sym same)) (stands.each unit s kept.1)
     ]
   ];
 }
 
-pub clients_keep : (Vs : ℕ → List Raw) (u : ℕ) (old : List (Option UnitClient)) (gone : Option UnitClient) (client : UnitClient) → AllKeep Vs old → Keeps client (Vs u) → AllKeep Vs (set (set old u gone) u (Some client))
-clients_keep Vs u old gone client keeps kept unit slot at = elim (get_set (set old u gone) u unit (Some client) slot at) [
-  | inl here ↦ subst (KeepsTo (Vs unit)) (sym here.1) (subst (λ (n : ℕ). Keeps client (Vs n)) (sym here.0) kept)
-  | inr other ↦ elim (get_set old u unit gone slot other.1) [
+pub clients_keep : (Vs : ℕ → List Raw) (u : ℕ) (old : List (Option UnitClient)) (gone slot : Option UnitClient) → AllKeep Vs old → KeepsTo (Vs u) slot → AllKeep Vs (set (set old u gone) u slot)
+clients_keep Vs u old gone slot keeps kept unit s at = elim (get_set (set old u gone) u unit slot s at) [
+  | inl here ↦ subst (KeepsTo (Vs unit)) (sym here.1) (subst (λ (n : ℕ). KeepsTo (Vs n) slot) (sym here.0) kept)
+  | inr other ↦ elim (get_set old u unit gone s other.1) [
     | inl here ↦ absurd (other.0 here.0)
-    | inr there ↦ keeps unit slot there.1
+    | inr there ↦ keeps unit s there.1
   ]
 ]

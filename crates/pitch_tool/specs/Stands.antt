@@ -2,7 +2,7 @@
 use Rattle.std.specs.Prelude.{◌≡◌, ℕ, ◌<◌, Bool, true, false, ◌==◌, List, length, Option, Some, None, slice_get}
 use Rattle.std.specs.List.{list_any}
 use Rattle.unit_packets.specs.Blocks.{Block}
-use Rattle.pitch_model.specs.History.{Raw}
+use Rattle.pitch_model.specs.History.{Raw, Entry}
 use Rattle.pitch_model.specs.Follow.{unit_history}
 use Rattle.client_core.specs.Tracks.{Tracks, Keeps}
 use Rattle.client_core.specs.declared.client.UnitClient.{UnitClient}
@@ -19,6 +19,11 @@ AreUnits before = (unit : ℕ) → is_named before unit ≡ true → unit < 256
 abbrev pub IsClient : ℕ → List Block → ℕ → Option UnitClient → Type 0
 IsClient H before unit None = is_named before unit ≡ false
 IsClient H before unit (Some client) = (is_named before unit ≡ true) × Tracks client H (unit_history unit before)
+
+-- there is a client, and it stands for this history
+abbrev pub TracksAt : ℕ → List Entry → Option UnitClient → Type 0
+TracksAt H E None = ⊥
+TracksAt H E (Some client) = Tracks client H E
 
 -- each of the 256 units has its place
 pub record Clients (H : ℕ) (clients : List (Option UnitClient)) (before : List Block) : Type 0 where

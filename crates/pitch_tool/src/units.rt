@@ -1,15 +1,15 @@
 //! The clients of all units.
 
-ghost use Rattle.std.specs.Prelude.{◌≡◌, ◌≤◌, ◌<◌, ℕ, List, [], ◌∷◌, OnOk, OnErr, IfOk, Err, Option, Some, slice_get, length};
+ghost use Rattle.std.specs.Prelude.{◌≡◌, ◌≤◌, ◌<◌, ℕ, List, [], ◌∷◌, OnOk, OnErr, IfOk, IsSome, Err, Option, Some, slice_get, length};
 ghost use Rattle.unit_packets.specs.Blocks.{Block};
-ghost use Rattle.pitch_model.specs.History.{Raw};
+ghost use Rattle.pitch_model.specs.History.{Raw, Entry};
 ghost use Rattle.pitch_model.specs.Follow.{unit_history, AllHonest};
-ghost use Rattle.pitch_model.specs.Heard.{block_change};
-ghost use Rattle.client_core.specs.Tracks.{Tracks, Keeps};
+ghost use Rattle.pitch_model.specs.Heard.{heard_block, block_change};
+ghost use Rattle.pitch_model.specs.Honest.{Honest};
 ghost use Rattle.pitch_io.specs.Causes.{HasCause};
 ghost use Rattle.pitch_tool.specs.Books.{PrintsUnit, PutsUnit, PrintsBooks, PutsBooks};
 ghost use Rattle.pitch_tool.specs.Knowing.{HaveHeard, CanHear};
-ghost use Rattle.pitch_tool.specs.Stands.{AreUnits, IsClient, Clients, KeepsTo, AllKeep};
+ghost use Rattle.pitch_tool.specs.Stands.{AreUnits, IsClient, TracksAt, Clients, KeepsTo, AllKeep};
 
 use crate::books::print_book;
 use crate::page::Page;
@@ -18,7 +18,6 @@ use client_core::{Change, UnitClient};
 use pitch_fields::OutOfMemory;
 use pitch_io::Sink;
 use std::alloc::Global;
-use std::mem::replace;
 use unit_packets::BlockView;
 
 /// The number of units that a header can name.
@@ -54,19 +53,34 @@ pub fn make_units(alloc: Global, limit: u32) -> Result<Units, OutOfMemory>
     Ok(Units { limit, clients })
 }
 
-// The unit's client, or a new one where it has none.
-fn known_or_new(
-    alloc: Global,
-    limit: u32,
-    slot: Option<UnitClient>,
-) -> Result<UnitClient, OutOfMemory>
+// Makes the client of a unit that has none.
+#[inline]
+fn make_known(alloc: Global, limit: u32, slot: &mut Option<UnitClient>) -> Result<(), OutOfMemory>
     requires { (1 ≤ limit) × (limit ≤ 65536) }
-    ensures client { IfOk result (λ client. (before : List Block) (unit : ℕ) → IsClient limit before unit slot → Tracks client limit (unit_history unit before)) }
-    ensures keeps { IfOk result (λ client. (V : List Raw) → KeepsTo V slot → Keeps client V) }
+    ensures tracks { OnOk result ((before : List Block) (unit : ℕ) → IsClient limit before unit slot.old → TracksAt limit (unit_history unit before) slot.new) }
+    ensures keeps { OnOk result ((V : List Raw) → KeepsTo V slot.old → KeepsTo V slot.new) }
+    ensures some { OnOk result (IsSome slot.new) }
 {
     match slot {
-        Some(client) => Ok(client),
-        None => UnitClient::make(alloc, limit),
+        Some(_) => Ok(()),
+        None => {
+            *slot = Some(UnitClient::make(alloc, limit)?);
+            Ok(())
+        }
+    }
+}
+
+// A unit's client hears a block, in its place.
+#[inline]
+fn hear_at(slot: &mut Option<UnitClient>, block: &BlockView<'_>) -> Result<Change, OutOfMemory>
+    requires { IsSome slot.old }
+    ensures tracks { OnOk result ((H : ℕ) (E : List Entry) → TracksAt H E slot.old → TracksAt H (heard_block block.now E) slot.new) }
+    ensures keeps { OnOk result ((Image : List Raw → ℕ → List Raw) (V : List Raw) (E : List Entry) → Honest Image V (heard_block block.now E) → KeepsTo V slot.old → KeepsTo V slot.new) }
+    ensures change { IfOk result (λ change. (H : ℕ) (E : List Entry) → TracksAt H E slot.old → change ≡ block_change H E block.now) }
+{
+    match slot {
+        Some(client) => client.hear_block(block.header().sequence, block.raws()),
+        None => unreachable!(),
     }
 }
 
@@ -83,12 +97,9 @@ pub fn hear_block(
     ensures change { IfOk result (λ change. (before : List Block) → HaveHeard units.old before
         → change ≡ block_change units.old.limit (unit_history block.now.unit before) block.now) }
 {
-    let header = block.header();
-    let unit = header.unit as usize;
-    let slot = replace(&mut units.clients[unit], None);
-    let mut client = known_or_new(alloc, units.limit, slot)?;
-    let change = client.hear_block(header.sequence, block.raws())?;
-    units.clients[unit] = Some(client);
+    let unit = block.header().unit as usize;
+    make_known(alloc, units.limit, &mut units.clients[unit])?;
+    let change = hear_at(&mut units.clients[unit], block)?;
     Ok(change)
 }
 
