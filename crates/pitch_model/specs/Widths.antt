@@ -9,13 +9,15 @@ use Rattle.pitch_model.specs.Book.{Book}
 abbrev pub AreBytes : List ℕ → Type 0
 AreBytes bytes = AllByRecursion (λ byte. byte < 256) bytes
 
--- an id and a price of eight bytes, a quantity of four, a symbol of eight and a participant of four
+-- an id and a price of eight bytes, a quantity of four, a symbol of eight bytes and a participant of four
 pub record FitsWire (order : Order) : Type 0 where
   pub id : order.id < 256 ^ 8
   pub quantity : order.quantity < 256 ^ 4
   pub symbol : length order.symbol ≡ 8
   pub price : order.price < 256 ^ 8
   pub participant : length order.participant ≡ 4
+  pub symbol_bytes : AreBytes order.symbol
+  pub participant_bytes : AreBytes order.participant
 
 -- a second of four bytes, where one is known, and open orders of these widths
 pub record IsWireBook (book : Book) : Type 0 where

@@ -1,20 +1,26 @@
 //! Laws of the definitions. These functions do nothing: what they ensure is proved of the definitions alone.
 
-ghost use Rattle.std.specs.Prelude.{◌≡◌, ℕ, ◌+◌, ◌<◌, ◌≤◌, Bool, true, false, ◌||◌, ◌==◌, List, [], ◌∷◌, length, take, nat_eq, unwrap_or};
-ghost use Rattle.std.specs.List.{list_any, AllByRecursion};
+ghost use Rattle.std.specs.Prelude.{◌≡◌, ℕ, ◌+◌, ◌<◌, ◌≤◌, Bool, true, false, ◌||◌, ◌==◌, List, [], ◌∷◌, ◌++◌, length, take, nat_eq, unwrap_or};
+ghost use Rattle.std.specs.List.{list_any, sum_by, AllByRecursion};
 ghost use Rattle.std.specs.List.Sorted.{IsStrictlyIncreasing};
 ghost use Rattle.std.specs.Set.{is_member};
 ghost use Rattle.std.specs.FinMap as map;
 ghost use Rattle.pitch_fields.specs.declared.side.Side.{Side};
+ghost use Rattle.pitch_messages.specs.Raw.{IsRaw};
 ghost use Rattle.unit_packets.specs.Blocks.{Block, StaysWithin};
+ghost use Rattle.unit_packets.specs.BlockBytes.{block_bytes, heartbeat_block};
+ghost use Rattle.unit_packets.specs.Cutting.{blocks_of};
+ghost use Rattle.unit_packets.specs.Packing.{IsPacking};
 ghost use Rattle.pitch_model.specs.declared.item.Item.{Item};
 ghost use Rattle.pitch_model.specs.Book.{Book, IsBook, book_after};
-ghost use Rattle.pitch_model.specs.Image.{image};
+ghost use Rattle.pitch_model.specs.Image.{image_of, image};
+ghost use Rattle.pitch_model.specs.Datagrams.{heard_blocks, fresh_in, overflows_in, changes_in, IsPiece};
+ghost use Rattle.pitch_model.specs.Advertising.{Operation, Accept, Advertise, accepted_at, accepted_by, with_sequence, advertised_by, last_ten};
 ghost use Rattle.pitch_model.specs.Widths.{AreBytes, IsWireBook};
 ghost use Rattle.pitch_model.specs.Levels.{IsBestOf, best, level, orders_on, prices_on};
-ghost use Rattle.pitch_model.specs.History.{Entry, Raw, Message, SpinFinished, spin_of, images_at, image_finished, messages_at};
+ghost use Rattle.pitch_model.specs.History.{Entry, Raw, Message, SpinFinished, spin_of, images_at, image_finished, messages_at, adds, can_promise};
 ghost use Rattle.pitch_model.specs.Heard.{IsItem, IsItemOf, heard, heard_block, change_of, block_change};
-ghost use Rattle.pitch_model.specs.Honest.{Honest};
+ghost use Rattle.pitch_model.specs.Honest.{AreVenues, Honest};
 ghost use Rattle.pitch_model.specs.Units.{units_of};
 ghost use Rattle.pitch_model.specs.Reach.{Part, IsReach, is_anchor, is_seen, reach_of, held_count, part_of, reach, is_held};
 ghost use Rattle.pitch_model.specs.Status.{top_of};
@@ -109,7 +115,61 @@ pub fn best_price_is_the_best()
     ensures none { (book : Book) (symbol : List ℕ) (side : Side) → best book symbol side ≡ None → orders_on book symbol side ≡ [] }
 {}
 
-/// The image through a sequence leaves the book that the messages up to it leave.
+/// The image of a wire book is raws of bytes, one add for each open order among them, and leaves the book that it is of.
+pub fn images_make_their_books_anew()
+    ensures raws { (book : Book) → IsWireBook book → AllByRecursion IsRaw (image_of book) }
+    ensures bytes { (book : Book) → IsWireBook book → AllByRecursion AreBytes (image_of book) }
+    ensures adds { (book : Book) → adds (image_of book) ≡ map.len book.orders }
+    ensures leaves { (book : Book) → IsBook book → IsWireBook book → book_after (image_of book) ≡ book }
+{}
+
+/// The image through a sequence is that of the book which the messages up to it leave. Where these are bytes, it leaves
+/// that book; and its number of orders can be promised.
 pub fn images_leave_their_books()
-    ensures { (V : List Raw) (s : ℕ) → AllByRecursion AreBytes V → book_after (image V s) ≡ book_after (take s V) }
+    ensures of_book { (V : List Raw) (s : ℕ) → image V s ≡ image_of (book_after (take s V)) }
+    ensures leaves { (V : List Raw) (s : ℕ) → AllByRecursion AreBytes V → book_after (image V s) ≡ book_after (take s V) }
+    ensures promise { (V : List Raw) (s : ℕ) → s ≤ 4294967294 → can_promise s (adds (image V s)) ≡ true }
+{}
+
+/// Where a venue accepts more messages, the books and images of those before stay as they are, and an honest history stays
+/// honest.
+pub fn venues_only_grow()
+    ensures book { (V more : List Raw) (n : ℕ) → n ≤ length V → book_after (take n (V ++ more)) ≡ book_after (take n V) }
+    ensures image { (V more : List Raw) (s : ℕ) → s ≤ length V → image (V ++ more) s ≡ image V s }
+    ensures honest { (V more : List Raw) (E : List Entry) → Honest image V E → Honest image (V ++ more) E }
+{}
+
+/// The sums over blocks that are heard one after another are the sums of what each block changes.
+pub fn blocks_add_up()
+    ensures heard { (E : List Entry) (xs ys : List Block) → heard_blocks (xs ++ ys) E ≡ heard_blocks ys (heard_blocks xs E) }
+    ensures fresh { (H : ℕ) (E : List Entry) (blocks : List Block) → fresh_in H E blocks ≡ sum_by (λ change. change.fresh) (changes_in H E blocks) }
+    ensures overflows { (H : ℕ) (E : List Entry) (blocks : List Block) → overflows_in H E blocks ≡ sum_by (λ change. change.overflows) (changes_in H E blocks) }
+{}
+
+/// What is heard of a piece of a venue's feed after an honest history leaves it honest; and a piece stays one where the venue
+/// accepts more.
+pub fn pieces_are_honest()
+    ensures honest { (Image : List Raw → ℕ → List Raw) (V : List Raw) (unit : ℕ) (datagram : List ℕ) (E : List Entry) → IsPiece V unit datagram → Honest Image V E → Honest Image V (heard_blocks (blocks_of datagram) E) }
+    ensures more { (V more : List Raw) (unit : ℕ) (datagram : List ℕ) → IsPiece V unit datagram → IsPiece (V ++ more) unit datagram }
+{}
+
+/// The datagrams into which some of a venue's messages are packed are pieces of its feed, and so is a heartbeat.
+pub fn packed_messages_are_pieces()
+    ensures packed { (V : List Raw) (unit first : ℕ) (raws : List Raw) (datagrams : List (List ℕ)) → 0 < first → first + length raws ≤ length V + 1 → AreVenues V first raws → IsPacking unit first raws datagrams → AllByRecursion (IsPiece V unit) datagrams }
+    ensures heartbeat { (V : List Raw) (unit next : ℕ) → unit < 256 → 0 < next → next ≤ length V + 1 → next ≤ 4294967295 → IsPiece V unit (block_bytes (heartbeat_block unit next)) }
+{}
+
+/// An accept adds its message and advertises nothing. An advertise stands for all that was accepted before it, and a repeat
+/// adds nothing.
+pub fn operations_add_up()
+    ensures accepted { (operations : List Operation) (operation : Operation) → accepted_by (operations ++ operation ∷ []) ≡ accepted_by operations ++ accepted_at operation }
+    ensures accept { (operations : List Operation) (raw : Raw) → advertised_by (operations ++ Accept raw ∷ []) ≡ advertised_by operations }
+    ensures advertise { (operations : List Operation) → advertised_by (operations ++ Advertise ∷ []) ≡ with_sequence (advertised_by operations) (length (accepted_by operations)) }
+{}
+
+/// The sequences that are advertised rise, and each is one of a message that was accepted, or 0. At most ten are served.
+pub fn advertised_sequences_rise()
+    ensures rise { (operations : List Operation) → IsStrictlyIncreasing (advertised_by operations) }
+    ensures within { (operations : List Operation) → AllByRecursion (λ sequence. sequence ≤ length (accepted_by operations)) (advertised_by operations) }
+    ensures ten { (advertised : List ℕ) → length (last_ten advertised) ≤ 10 }
 {}
