@@ -7,6 +7,7 @@ use Rattle.std.proofs.Math.Nat.{mod-lt}
 use Rattle.std.proofs.lemmas.List.{map-append}
 use Rattle.std.proofs.lemmas.List.Sums.{sum_by-cons, sum_by-append}
 use Rattle.std.proofs.lemmas.Bool.Decides.{nat_tests}
+use Rattle.pitch_fields.specs.Fields.{AreBytes}
 use Rattle.pitch_fields.specs.Side.{byte_of}
 use Rattle.pitch_fields.specs.declared.side.Side.{Side}
 use Rattle.pitch_fields.specs.declared.side.Side.TheVariants.{Buy, Sell}
@@ -19,7 +20,7 @@ use Rattle.pitch_model.specs.Book.{Book, book_after}
 use Rattle.pitch_model.specs.History.{Raw, is_add, adds, can_promise}
 use Rattle.pitch_model.specs.Image.{clock_of, image_of, image}
 use Rattle.pitch_model.specs.Levels.{orders_of}
-use Rattle.pitch_model.specs.Widths.{AreBytes, FitsWire, IsWireBook}
+use Rattle.pitch_model.specs.Widths.{FitsWire, IsWireBook}
 use Rattle.pitch_model.proofs.Books.{book_after_len}
 use Rattle.pitch_model.proofs.Images.{all_found, plain_is, sorted_entries}
 use Rattle.pitch_model.proofs.Widths.{bytes_append}

@@ -19,10 +19,12 @@ use Rattle.pitch_fields.specs.Price.{short_of}
 use Rattle.pitch_messages.specs.Forms.{add_message, add_form, plain_symbol, short_price, flags_of}
 use Rattle.pitch_messages.proofs.RoundTrip.{time_back, add_long_back, add_short_back, add_expanded_back}
 use Rattle.pitch_messages.specs.Writing.{written}
-use Rattle.pitch_model.specs.Book.{Book, IsBook, empty_book, with_order, added, long_symbol, long_price, no_participant, is_displayed, order_of_long, order_of_expanded, after_message, after_read, after, book_after}
+use Rattle.pitch_model.specs.Book.{Book, IsBook, empty_book, with_order, added, long_symbol, long_price, is_displayed, order_of_long, order_of_expanded, after_message, after_read, after, book_after}
+use Rattle.pitch_fields.specs.Fields.{AreBytes}
+use Rattle.pitch_fields.specs.Name.{no_participant}
 use Rattle.pitch_model.specs.Levels.{orders_of}
 use Rattle.pitch_model.specs.Image.{clock_of, messages_of, image_of, image}
-use Rattle.pitch_model.specs.Widths.{AreBytes, FitsWire, IsWireBook}
+use Rattle.pitch_model.specs.Widths.{FitsWire, IsWireBook}
 use Rattle.pitch_model.proofs.Books.{book_after_book}
 use Rattle.pitch_model.proofs.Widths.{book_after_fits}
 

@@ -5,7 +5,8 @@ use Rattle.std.specs.List.{AllByRecursion}
 use Rattle.std.specs.FinMap as map
 use Rattle.std.proofs.lemmas.Bool.{cond_both}
 use Rattle.std.proofs.lemmas.Bool.Decides.{nat_tests}
-use Rattle.pitch_fields.specs.Fields.{number_at}
+use Rattle.pitch_fields.specs.Fields.{AreBytes, number_at}
+use Rattle.pitch_fields.proofs.Bytes.{byte_at, bytes_drop}
 use Rattle.pitch_fields.specs.Side.{side_of}
 use Rattle.pitch_fields.specs.declared.side.Side.{Side}
 use Rattle.pitch_messages.specs.Raw.{kind_of}
@@ -19,19 +20,9 @@ use Rattle.pitch_messages.specs.Reading.{MessageRow, plain, sided, with_side, ro
 use Rattle.pitch_messages.specs.Reading as rows
 use Rattle.pitch_model.specs.Book.{Book, added, reformed, changed, with_order, without_order, empty_book, reduced_by, left_with, modified, is_displayed, long_price, order_of_long, after_message, after_read, after, book_after}
 use Rattle.pitch_model.proofs.Books.{AllOrders, none_all, added_all, changed_all, without_order_all}
-use Rattle.pitch_model.specs.Widths.{AreBytes, FitsWire, IsWireBook}
+use Rattle.pitch_model.specs.Widths.{FitsWire, IsWireBook}
 
 -- ---- Bytes
-byte_at : (raw : List ℕ) → AreBytes raw → (k : ℕ) → slice_index raw k < 256
-byte_at [] all k = omega arith
-byte_at (x ∷ xs) all zero = all.0
-byte_at (x ∷ xs) all (suc k) = byte_at xs all.1 k
-
-bytes_drop : (at : ℕ) (raw : List ℕ) → AreBytes raw → AreBytes (drop at raw)
-bytes_drop zero raw all = all
-bytes_drop (suc at) [] all = tt
-bytes_drop (suc at) (x ∷ xs) all = bytes_drop at xs all.1
-
 pub bytes_take : (n : ℕ) (raw : List ℕ) → AreBytes raw → AreBytes (take n raw)
 bytes_take zero raw all = tt
 bytes_take (suc n) [] all = tt
