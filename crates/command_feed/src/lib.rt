@@ -7,5 +7,5 @@ mod feed;
 #[cfg(test)]
 mod tests;
 
-pub use crate::error::FeedError;
+pub use crate::error::CommandError;
 pub use crate::feed::append_feed;

@@ -3,7 +3,7 @@ use Rattle.std.specs.Prelude.{◌≡◌, ℕ, ◌≤◌, ◌<◌, List, length, 
 use Rattle.std.specs.Io.KnownBytes.{Consumes}
 use Rattle.pitch_io.specs.Putting.{Grows}
 use Rattle.command_feed.specs.Feed.{feed_of}
-use Rattle.command_feed.specs.declared.error.FeedError.{FeedError}
+use Rattle.command_feed.specs.declared.error.CommandError.{CommandError}
 use Rattle.pitch_tool.specs.Inputs.{ReadsAll, Has}
 use Rattle.pitch_tool.specs.Putting.{PutsSome}
 use Rattle.pitch_tool.specs.declared.stop.PrintError.TheVariants.{PutFailed, OutOfMemory}
@@ -13,7 +13,7 @@ use Rattle.pitch_tool.specs.declared.stop.Trouble.{Trouble}
 use Rattle.pitch_tool.specs.declared.stop.Trouble.TheVariants.{Faulty, TooLong, LongText, Unfed}
 
 -- why a text makes no feed
-abbrev pub unfed : Result (List ℕ) FeedError → Option Trouble
+abbrev pub unfed : Result (List ℕ) CommandError → Option Trouble
 unfed (Ok feed) = None
 unfed (Err error) = Some (Unfed error)
 

@@ -6,7 +6,7 @@ ghost use Rattle.pitch_tool.specs.Packs.{Unread, PackEnds};
 
 use crate::ends::{PIECE, piece_buffer, put_all};
 use crate::stop::{PrintError, Stop, Trouble};
-use command_feed::{FeedError, append_feed};
+use command_feed::{CommandError, append_feed};
 use pitch_io::{Sink, Source, Taken};
 use std::alloc::Global;
 
@@ -58,7 +58,7 @@ pub fn pack<I: Source, O: Sink>(
     let mut feed = Vec::new(alloc);
     match append_feed(alloc, unit, &text, &mut feed) {
         Ok(()) => {}
-        Err(FeedError::OutOfMemory) => return Err(Stop::Unprinted(PrintError::OutOfMemory)),
+        Err(CommandError::OutOfMemory) => return Err(Stop::Unprinted(PrintError::OutOfMemory)),
         Err(error) => return Err(Stop::BadInput(Trouble::Unfed(error))),
     }
     match put_all(out, &feed) {

@@ -1,5 +1,5 @@
 use crate::ends::PutFailed;
-use command_feed::FeedError;
+use command_feed::CommandError;
 use pitch_fields::OutOfMemory;
 use unit_packets::BlockFault;
 
@@ -13,7 +13,7 @@ pub enum Trouble {
     /// A text of commands has more bytes than are read.
     LongText,
     /// A text of commands has a fault, or the venue refuses one of them.
-    Unfed(FeedError),
+    Unfed(CommandError),
 }
 
 /// Why lines could not be printed.
