@@ -105,7 +105,7 @@ takes_fault accepted read left more fault venue answer first is some = some.same
 pub takes_all : (accepted : List (List ℕ)) (read : Result (List CommandEntry) TextError) (left : List (Result CommandEntry TextError)) (venue : VenueState) → left ≡ [] → TakesSome accepted read (all_of left) venue → AcceptsAll accepted read venue
 takes_all accepted read left venue none some = record { all = some.taken; accepts = some.same ∙ ap (λ (items : List (Result CommandEntry TextError)). accepted_in some.taken (all_of items)) none; stands = some.stands }
 
--- ---- The first fault behind
+-- ---- The first fault that follows
 pub fault_behind : (left more : List (Result CommandEntry TextError)) (entry : CommandEntry) → left ≡ Ok entry ∷ more → result_err (all_of left) ≡ result_err (all_of more)
 fault_behind left more entry first = ap (λ (items : List (Result CommandEntry TextError)). result_err (all_of items)) first ∙ passed (all_of more)
   where

@@ -18,8 +18,8 @@ abbrev pub of_venue : ℕ → VenueError → CommandError
 of_venue line venue.OutOfMemory = OutOfMemory
 of_venue line error = Refused line error
 
--- why a text makes no feed where a command has this error and so much was read behind it: a fault of the text comes before a refusal, and
--- want of memory is the answer at once
+-- why a text makes no feed where a command has this error and so much was read after it: a fault
+-- of the text comes before a refusal, and want of memory is the answer at once
 abbrev pub cause_before : Result (List CommandEntry) TextError → CommandError → CommandError
 cause_before read OutOfMemory = OutOfMemory
 cause_before (Ok entries) error = error

@@ -17,7 +17,8 @@ abbrev pub then_accepted : Option VenueError → ℕ → Result (List (List ℕ)
 then_accepted (Some error) line others = Err (Refused line error)
 then_accepted None line others = others
 
--- what a venue that accepted some messages has accepted after these commands too, or the first that it refuses, with its line
+-- what a venue that accepted some messages has accepted after these commands too, or the first that
+-- it refuses, with its line
 abbrev pub accepted_after : List (List ℕ) → List CommandEntry → Result (List (List ℕ)) CommandError
 accepted_after accepted [] = Ok accepted
 accepted_after accepted (entry ∷ entries) = then_accepted (refusal accepted entry.command) entry.line (accepted_after (accepted ++ raw_of entry.command ∷ []) entries)
@@ -27,7 +28,8 @@ abbrev pub messages_on : Result (List (ℕ × Command)) TextFault → Result (Li
 messages_on (Ok entries) = accepted_after [] (map command_entry entries)
 messages_on (Err at) = Err (Bad at.line at.fault.column at.fault.cause)
 
--- the messages of a text of commands: the whole text is read before the first command goes to the venue
+-- the messages of a text of commands: the whole text is read before the first command goes to the
+-- venue
 unfoldable pub messages_of : List ℕ → Result (List (List ℕ)) CommandError
 messages_of text = messages_on (entries_of command text)
 
@@ -40,7 +42,8 @@ feed_on unit (Err error) = Err error
 abbrev pub feed_of : ℕ → List ℕ → Result (List ℕ) CommandError
 feed_of unit text = feed_on unit (messages_of text)
 
--- the messages of the text were packed for a unit, from sequence 1 on, and their datagrams appended end to end
+-- the messages of the text were packed for a unit, from sequence 1 on, and their datagrams appended
+-- end to end
 pub record AppendsPacking (unit : ℕ) (text before after : List ℕ) : Type 0 where
   pub messages : List (List ℕ)
   pub datagrams : List (List ℕ)

@@ -66,8 +66,8 @@ fn first_cause(error: CommandError, rest: Commands<'_>) -> CommandError
     }
 }
 
-// The venue accepts the commands of all items. Else the answer is the text's first fault, or the first command that is refused;
-// from that on no command goes to the venue.
+// The venue accepts the commands of all items. Else the answer is the text's first fault, or the
+// first command that is refused; from that on no command goes to the venue.
 fn accept_all(venue: &mut Venue, mut items: Commands<'_>) -> Result<(), CommandError>
     ensures ok { OnOk result ((accepted : List (List ℕ)) → Stands venue.old accepted 0 → AcceptsAll accepted (all_of items.entry) venue.new) }
     ensures err { IfErr result (λ error. (accepted : List (List ℕ)) → Stands venue.old accepted 0
@@ -129,10 +129,12 @@ fn append_datagrams(venue: &mut Venue, alloc: Global, out: &mut Vec<u8>) -> Resu
     Ok(())
 }
 
-/// Appends the feed of a unit that a text of commands makes: its datagrams, end to end, from sequence 1 on.
+/// Appends the feed of a unit that a text of commands makes: its datagrams, end to end, from
+/// sequence 1 on.
 ///
-/// The text is read once, and has at most 67,108,864 bytes. Bad is its first fault, also where that stands behind a command that
-/// is refused; Refused is the first command that the venue refuses of a text without a fault. After an error `out` is as before.
+/// The text is read once, and has at most 67,108,864 bytes. Bad is its first fault, even where that
+/// comes after a command that is refused; Refused is the first command that the venue refuses of
+/// a text without a fault. After an error `out` is as before.
 pub fn append_feed(
     alloc: Global,
     unit: u8,

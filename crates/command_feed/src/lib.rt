@@ -1,5 +1,5 @@
-//! The feed of one unit that a text of venue commands makes: the text is read, the venue accepts its commands one
-//! after another, and all messages are packed into datagrams.
+//! The feed of one unit that a text of venue commands makes: the text is read, the venue accepts
+//! its commands one after another, and all messages are packed into datagrams.
 #![tactic(auto)]
 
 mod error;

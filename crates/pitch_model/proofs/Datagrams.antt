@@ -1,8 +1,9 @@
 -- What is heard of datagrams, and which datagrams are a venue's.
-use Rattle.std.proofs.Common.{◌≡◌, ◌≢◌, ℕ, suc, ◌+◌, ◌≤◌, ◌<◌, eqb, List, [], ◌∷◌, ◌++◌, length, take, drop, refl, sym, ap, ◌∙◌, subst, arith, Some, Ok, length-append, inl, inr}
+use Rattle.std.proofs.Common.{◌≡◌, ◌≢◌, ℕ, zero, suc, ◌+◌, ◌≤◌, ◌<◌, eqb, Bool, true, false, cond, List, [], ◌∷◌, ◌++◌, length, take, drop, filter, reverse, append_assoc, refl, sym, ap, ◌∙◌, subst, arith, Some, Ok, length-append, inl, inr}
 use Rattle.std.specs.List.{AllByRecursion, slice_get, sum_by}
 use Rattle.std.proofs.lemmas.Bool.{cond-false, ne_eqb}
-use Rattle.std.proofs.lemmas.List.{append-nil, drop_all}
+use Rattle.std.proofs.lemmas.List.{append-nil, drop_all, take-append-drop}
+use Rattle.std.proofs.lemmas.Grind.{reverse_onto}
 use Rattle.std.proofs.lemmas.List.Sums.{sum_by-cons}
 use Rattle.std.proofs.lemmas.Option.{slice_get_past}
 use Rattle.pitch_messages.specs.Raw.{raws_of}
@@ -16,12 +17,14 @@ use Rattle.unit_packets.proofs.Cuts.{first_of}
 use Rattle.unit_packets.proofs.Judged.{front_stands, front_judged}
 use Rattle.unit_packets.proofs.Packs.{after_known}
 use Rattle.unit_packets.proofs.Written.{written_is}
-use Rattle.pitch_model.specs.Datagrams.{heard_blocks, fresh_in, overflows_in, changes_in, IsVenueBlock, IsPiece}
-use Rattle.pitch_model.specs.Heard.{heard_block, heard_messages, heard_sequenced, block_change, block_fresh, block_overflows}
+use Rattle.pitch_model.specs.Datagrams.{heard_blocks, block_messages, messages_in, fresh_in, overflows_in, changes_in, IsVenueBlock, IsPiece}
+use Rattle.pitch_model.specs.Heard.{heard_block, heard_messages, heard_sequenced, block_change, block_fresh, block_overflows, fresh_messages, overflowed_messages}
 use Rattle.pitch_model.specs.History.{Entry, Raw, Message}
 use Rattle.pitch_model.specs.Honest.{message_at, AreVenues, Honest}
 use Rattle.pitch_model.specs.declared.change.Change.{Change}
 use Rattle.pitch_model.proofs.Growing.{none_some, slice_more, venues_more}
+use Rattle.pitch_model.specs.Units.{unit_history}
+use Rattle.pitch_model.proofs.Hearing.{fresh_messages-le, overflowed_messages-le}
 use Rattle.pitch_model.proofs.Honesty.{venues_first, venues_rest}
 
 -- ---- Blocks one after another
@@ -41,10 +44,67 @@ overflows_sum H E (block ∷ blocks) =
     ap (λ (n : ℕ). block_overflows H E block + n) (overflows_sum H (heard_block block E) blocks)
     ∙ sym (sum_by-cons (λ (change : Change). change.overflows) (block_change H E block) (changes_in H (heard_block block E) blocks))
 
+fresh_one : (H : ℕ) (E : List Entry) (block : Block) → block_fresh H E block ≤ block_messages block
+fresh_one H E block = by (eqb block.sequence 0)
+  where
+    by : (b : Bool) → cond b 0 (fresh_messages H block.sequence block.raws E) ≤ cond b 0 (length block.raws)
+    by true = omega arith
+    by false = fresh_messages-le H block.sequence block.raws E
+
+overflows_one : (H : ℕ) (E : List Entry) (block : Block) → block_overflows H E block ≤ block_messages block
+overflows_one H E block = by (eqb block.sequence 0)
+  where
+    by : (b : Bool) → cond b 0 (overflowed_messages H block.sequence block.raws E) ≤ cond b 0 (length block.raws)
+    by true = omega arith
+    by false = overflowed_messages-le H block.sequence block.raws E
+
+pub fresh_few : (H : ℕ) (E : List Entry) (blocks : List Block) → fresh_in H E blocks ≤ messages_in blocks
+fresh_few H E [] = omega arith
+fresh_few H E (block ∷ blocks) = let one = fresh_one H E block in let rest = fresh_few H (heard_block block E) blocks in omega arith
+
+pub overflows_few : (H : ℕ) (E : List Entry) (blocks : List Block) → overflows_in H E blocks ≤ messages_in blocks
+overflows_few H E [] = omega arith
+overflows_few H E (block ∷ blocks) = let one = overflows_one H E block in let rest = overflows_few H (heard_block block E) blocks in omega arith
+
+-- ---- What a unit's client heard of a stream
+abbrev of_unit : ℕ → Block → Bool
+of_unit unit block = eqb block.unit unit
+
+heard_of : (unit : ℕ) (blocks before : List Block) → unit_history unit (reverse blocks ++ before) ≡ heard_blocks (filter (of_unit unit) blocks) (unit_history unit before)
+heard_of unit [] before = refl
+heard_of unit (block ∷ blocks) before =
+    ap (unit_history unit) (ap (λ (bs : List Block). bs ++ before) (reverse_onto blocks block []) ∙ append_assoc (reverse blocks) (block ∷ []) before)
+    ∙ heard_of unit blocks (block ∷ before) ∙ by (eqb block.unit unit)
+  where
+    by : (b : Bool) → heard_blocks (filter (of_unit unit) blocks) (cond b (heard_block block (unit_history unit before)) (unit_history unit before))
+        ≡ heard_blocks (cond b (block ∷ filter (of_unit unit) blocks) (filter (of_unit unit) blocks)) (unit_history unit before)
+    by true = refl
+    by false = refl
+
+pub unit_heard : (unit : ℕ) (blocks : List Block) → unit_history unit (reverse blocks) ≡ heard_blocks (filter (of_unit unit) blocks) []
+unit_heard unit blocks = ap (unit_history unit) (sym (append-nil (reverse blocks))) ∙ heard_of unit blocks []
+
 -- ---- Places of lists
 slice_later : (xs ys : List Raw) (i : ℕ) → slice_get (xs ++ ys) (length xs + i) ≡ slice_get ys i
 slice_later [] ys i = let e : 0 + i ≡ i = omega arith in ap (slice_get ys) e
 slice_later (x ∷ xs) ys i = let e : length (x ∷ xs) + i ≡ suc (length xs + i) = omega arith in ap (slice_get (x ∷ (xs ++ ys))) e ∙ slice_later xs ys i
+
+slice_drop : (n : ℕ) (xs : List Raw) (i : ℕ) → slice_get (drop n xs) i ≡ slice_get xs (n + i)
+slice_drop zero xs i = let e : i ≡ 0 + i = omega arith in ap (slice_get xs) e
+slice_drop (suc n) [] i = slice_get_past [] i (omega arith) ∙ sym (slice_get_past [] (suc n + i) (omega arith))
+slice_drop (suc n) (x ∷ xs) i = let e : suc (n + i) ≡ suc n + i = omega arith in slice_drop n xs i ∙ ap (slice_get (x ∷ xs)) e
+
+slice_front : (n : ℕ) (xs : List Raw) (i : ℕ) (x : Raw) → slice_get (take n xs) i ≡ Some x → slice_get xs i ≡ Some x
+slice_front n xs i x at = subst (λ (ys : List Raw). slice_get ys i ≡ Some x) (take-append-drop n xs) (slice_more (take n xs) (drop n xs) i x at)
+
+-- the messages after the first n, and some of the first of these
+pub venues_slice : (V : List Raw) (n count : ℕ) → AreVenues V (n + 1) (take count (drop n V))
+venues_slice V n count i raw at =
+    let e : suc (n + i) ≡ (n + 1) + i = omega arith in
+    subst (λ (k : ℕ). message_at V k ≡ Some raw) e (sym (slice_drop n V i) ∙ slice_front count (drop n V) i raw at)
+
+pub venues_after : (V : List Raw) (n : ℕ) → AreVenues V (n + 1) (drop n V)
+venues_after V n i raw at = let e : suc (n + i) ≡ (n + 1) + i = omega arith in subst (λ (k : ℕ). message_at V k ≡ Some raw) e (sym (slice_drop n V i) ∙ at)
 
 venues_front : (V : List Raw) (first : ℕ) (front back : List Raw) → AreVenues V first (front ++ back) → AreVenues V first front
 venues_front V first front back are i raw at = are i raw (slice_more front back i raw at)

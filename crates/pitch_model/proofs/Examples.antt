@@ -99,7 +99,8 @@ stream = block 1 (clock ∷ []) ∷ block 2 (order ∷ []) ∷ block 4 [] ∷ bl
 abbrev pub venue : ℕ → List (List ℕ)
 venue unit = clock ∷ order ∷ deletion ∷ []
 
--- blocks of unit 1 alone tell the others nothing, so they are honest where unit 1 hears the venue's messages
+-- blocks of unit 1 alone tell the others nothing, so they are honest where unit 1 hears the venue's
+-- messages
 others_hear_nothing : (unit : ℕ) (before : List Block) → 1 ≢ unit → AllByRecursion (λ block. block.unit ≡ 1) before → unit_history unit before ≡ []
 others_hear_nothing unit [] other all = refl
 others_hear_nothing unit (block ∷ before) other all = history_other unit block before (λ e. other (sym all.0 ∙ e)) ∙ others_hear_nothing unit before other all.1

@@ -133,7 +133,8 @@ fold_written book [] all = refl
 fold_written book (m ∷ messages) all =
     ap (λ (r : Result Message ReadError). fold after (after_read book r) (map written messages)) all.0 ∙ fold_written (after_message book m) messages all.1
 
--- the raws of a book's image leave the book, where they are read as its messages, which add its orders
+-- the raws of a book's image leave the book, where they are read as its messages, which add its
+-- orders
 image_leaves : (book : Book) → IsBook book → ((id : ℕ) (order : Order) → finite.get book.orders id ≡ Some order → Adds order)
     → AllByRecursion (λ m. reads (written m) ≡ Ok m) (messages_of book) → book_after (image_of book) ≡ book
 unfolding image_of

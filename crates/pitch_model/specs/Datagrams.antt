@@ -39,8 +39,8 @@ changes_in H E [] = []
 changes_in H E (block ∷ blocks) = block_change H E block ∷ changes_in H (heard_block block E) blocks
 
 -- ---- Datagrams of a venue
--- a block of a unit that has some of the venue's messages `V`, from its sequence on; or a heartbeat, which tells at most of the
--- message after the last of `V`
+-- a block of a unit that has some of the venue's messages `V`, from its sequence on; or a
+-- heartbeat, which tells at most of the message after the last of `V`
 pub record IsVenueBlock (V : List Raw) (unit : ℕ) (block : Block) : Type 0 where
   pub unit_is : block.unit ≡ unit
   pub sequenced : 0 < block.sequence

@@ -5,7 +5,8 @@ use Rattle.pitch_fields.specs.Fields.{AreBytes}
 use Rattle.pitch_messages.specs.declared.order.Order.{Order}
 use Rattle.pitch_model.specs.Book.{Book}
 
--- an id and a price of eight bytes, a quantity of four, a symbol of eight bytes and a participant of four
+-- an id and a price of eight bytes, a quantity of four, a symbol of eight bytes and a participant
+-- of four
 pub record FitsWire (order : Order) : Type 0 where
   pub id : order.id < 256 ^ 8
   pub quantity : order.quantity < 256 ^ 4

@@ -52,8 +52,8 @@ pub enum Item {
 }
 
 impl Item {
-    /// The item of a block: its messages, which are moved; where it has none, what a heartbeat tells; nothing, where it is
-    /// unsequenced.
+    /// The item of a block: its messages, which are moved; where it has none, what a heartbeat
+    /// tells; nothing, where it is unsequenced.
     ///
     /// Standard: "Sequenced Unit Header", "Heartbeat Messages".
     pub fn of_block(block: Block) -> Item

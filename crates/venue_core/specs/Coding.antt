@@ -1,4 +1,5 @@
--- Venues and what they keep as pairs, lists and numbers. The prover asks for this of each model; no caller needs it.
+-- Venues and what they keep as pairs, lists and numbers. The prover asks for this of each model; no
+-- caller needs it.
 use Rattle.std.specs.Prelude.{ℕ, Bool, List, Option, refl}
 use Rattle.std.specs.Ordering.{nat_cmp}
 use Rattle.std.specs.FinMap as map
