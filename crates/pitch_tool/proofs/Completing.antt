@@ -7,8 +7,8 @@ use Rattle.pitch_words.proofs.Exact.{at_most_one}
 use Rattle.pitch_tool.specs.Inputs.{Has, trouble_of}
 use Rattle.pitch_tool.specs.Packs.{text_trouble_of}
 use Rattle.pitch_tool.specs.Program.{Closes, EndsAs, IsSound, IsWhole}
-use Rattle.pitch_tool.specs.declared.pack.TheConstants.{TEXT_LIMIT}
-use Rattle.pitch_tool.specs.declared.stream.TheConstants.{INPUT_LIMIT}
+use Rattle.pitch_tool.specs.Packs.{text_limit}
+use Rattle.pitch_tool.specs.Inputs.{stream_limit}
 use Rattle.pitch_tool.specs.declared.status.ExitStatus.{ExitStatus}
 use Rattle.pitch_tool.specs.declared.status.ExitStatus.TheVariants.{Done, Usage, BadInput, ReadFault, WriteFault, OutOfMemory}
 use Rattle.pitch_tool.specs.declared.stop.Stop.TheVariants as stop
@@ -28,11 +28,11 @@ no_trouble o trouble none some = clash (sym none ∙ some)
 not_refused : (f : Form) (trouble : Trouble) (left left' written written' : Option (List ℕ)) (bytes : List ℕ) → left ≡ Some bytes → IsSound f bytes
     → EndsAs f (Err (stop.BadInput trouble)) left left' written written' → ⊥
 not_refused (form.Follow hold) trouble left left' written written' bytes is sound r =
-    no_trouble (trouble_of INPUT_LIMIT r.bytes) trouble (ap (trouble_of INPUT_LIMIT) (sym (same_bytes left bytes r.bytes is r.has)) ∙ sound) r.trouble_is
+    no_trouble (trouble_of stream_limit r.bytes) trouble (ap (trouble_of stream_limit) (sym (same_bytes left bytes r.bytes is r.has)) ∙ sound) r.trouble_is
 not_refused form.Show trouble left left' written written' bytes is sound r =
-    no_trouble (trouble_of INPUT_LIMIT r.bytes) trouble (ap (trouble_of INPUT_LIMIT) (sym (same_bytes left bytes r.bytes is r.has)) ∙ sound) r.trouble_is
+    no_trouble (trouble_of stream_limit r.bytes) trouble (ap (trouble_of stream_limit) (sym (same_bytes left bytes r.bytes is r.has)) ∙ sound) r.trouble_is
 not_refused (form.Pack unit) trouble left left' written written' bytes is sound r =
-    no_trouble (text_trouble_of unit TEXT_LIMIT r.text) trouble (ap (text_trouble_of unit TEXT_LIMIT) (sym (same_bytes left bytes r.text is r.has)) ∙ sound) r.trouble_is
+    no_trouble (text_trouble_of unit text_limit r.text) trouble (ap (text_trouble_of unit text_limit) (sym (same_bytes left bytes r.text is r.has)) ∙ sound) r.trouble_is
 
 pub closes_whole : (words : List (List ℕ)) (status : ExitStatus) (left left' written written' : Option (List ℕ)) (says : List ℕ → Type 0) (f : Form) (bytes : List ℕ) (read write : Type 0)
     → Closes words status left left' written written' says → (status ≡ ReadFault → read) → (status ≡ WriteFault → write) → IsForm words f → left ≡ Some bytes → IsSound f bytes → read ⊎ (write ⊎ IsWhole status)

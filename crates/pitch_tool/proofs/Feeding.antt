@@ -47,10 +47,42 @@ texts_split form bytes piece =
 pub puts_texts : (form : StreamForm) (a b : Option (List ℕ)) (bytes piece : List ℕ) → PutsSome a b (texts_for form bytes) → PutsSome a b (texts_for form (bytes ++ piece))
 puts_texts form a b bytes piece p = subst (PutsSome a b) (sym (texts_split form bytes piece)) (puts_longer a b (texts_for form bytes) (more_texts form bytes piece) p)
 
--- a piece more
-pub fed_piece : (form : StreamForm) (start u v : Option (List ℕ)) (f g : Printer) (r s : Reading) (d e : BlockError) (bytes piece : List ℕ) → Fed form start u f r d bytes → length (bytes ++ piece) ≤ 1073741824
-    → PrintsAll f g (loaded r piece) s u v e → Fed form start v g s e (bytes ++ piece)
-fed_piece form start u v f g r s d e bytes piece fed small all =
+-- what was printed, once the page is written out
+pub prints_out : (a b c : Option (List ℕ)) (t x : List ℕ) → Prints a [] b t x → Grows b c t → Grows a c x
+prints_out a b c t x p g = prints_whole a c [] x (subst (Prints a [] c []) (append-nil x) (prints_more a b c [] t [] x [] p (record {
+  count = length t;
+  within = omega (arith, length-append t []);
+  written = subst (Grows b c) (sym (take-append-le (length t) t [] (omega arith) ∙ take-length t)) g;
+  rest = sym (ap (drop (length t)) (append-nil t) ∙ drop-length t);
+})))
+
+-- what was written leaves nothing on an empty page
+prints_written : (a b : Option (List ℕ)) (x : List ℕ) → Grows a b x → Prints a [] b [] x
+prints_written a b x g = record {
+  count = length x;
+  within = omega arith;
+  written = subst (Grows a b) (sym (take-length x)) g;
+  rest = sym (drop-length x);
+}
+
+-- all that was printed was written, since nothing stands on the page
+pub fed_printed : (form : StreamForm) (start u : Option (List ℕ)) (f : Printer) (r : Reading) (d : BlockError) (bytes : List ℕ) → Fed form start u f r d bytes → Prints start [] u f.page.text (texts_for form bytes)
+fed_printed form start u f r d bytes fed = subst (λ (t : List ℕ). Prints start [] u t (texts_for form bytes)) (sym fed.empty) (prints_written start u (texts_for form bytes) fed.wrote)
+
+-- the texts of the blocks that a piece more completes
+printed_more : (form : StreamForm) (start u v : Option (List ℕ)) (f g : Printer) (r s : Reading) (d e : BlockError) (bytes piece : List ℕ) → Fed form start u f r d bytes → PrintsAll f g (loaded r piece) s u v e
+    → Prints start [] v g.page.text (texts_for form (bytes ++ piece))
+printed_more form start u v f g r s d e bytes piece fed all =
+    let more : List Block = blocks_of (rest_of bytes ++ piece) in
+    let prints : PrintsBlocks f g u v more = subst (λ (l : List ℕ). PrintsBlocks f g u v (blocks_of l)) (ap (λ (l : List ℕ). l ++ piece) fed.rest) all.prints in
+    subst (Prints start [] v g.page.text) (sym (texts_split form bytes piece))
+    (prints_more start u v [] f.page.text g.page.text (texts_for form bytes) (more_texts form bytes piece) (fed_printed form start u f r d bytes fed)
+    (subst (λ (k : StreamForm). Prints u f.page.text v g.page.text (texts_after (block_text k) (reverse (blocks_of bytes)) more)) fed.form_is (prints.printed (reverse (blocks_of bytes)) fed.known)))
+
+-- a piece more, after which the page was written out
+pub fed_piece : (form : StreamForm) (start u v w : Option (List ℕ)) (f g h : Printer) (r s : Reading) (d e : BlockError) (bytes piece : List ℕ) → Fed form start u f r d bytes → length (bytes ++ piece) ≤ 1073741824
+    → PrintsAll f g (loaded r piece) s u v e → Grows v w g.page.text → h ≡ record g { page = record g.page { text = [] } } → Fed form start w h s e (bytes ++ piece)
+fed_piece form start u v w f g h r s d e bytes piece fed small all grows emptied =
     let more : List Block = blocks_of (rest_of bytes ++ piece) in
     let same : r.rest ++ piece ≡ rest_of bytes ++ piece = ap (λ (l : List ℕ). l ++ piece) fed.rest in
     let prints : PrintsBlocks f g u v more = subst (λ (l : List ℕ). PrintsBlocks f g u v (blocks_of l)) same all.prints in
@@ -67,18 +99,24 @@ fed_piece form start u v f g r s d e bytes piece fed small all =
     let joined' = length-append bytes piece in
     let size = ap length fed.rest in
     let size' : length (rest_of (r.rest ++ piece)) ≡ length (rest_of (bytes ++ piece)) = ap length (ap rest_of same ∙ sym cut.rest) in
-    record {
-      ready = prints.ready;
+    let known : HasPrinted g (reverse (blocks_of (bytes ++ piece))) = subst (HasPrinted g) (sym (reverse_split bytes piece)) (prints.known (reverse (blocks_of bytes)) fed.known) in
+    subst (λ (p : Printer). Fed form start w p s e (bytes ++ piece)) (sym emptied) (record {
+      ready = record { task = prints.ready.task; place = prints.ready.place };
       form_is = prints.form_is ∙ fed.form_is;
       rest = left;
       place = omega (arith, place, place', short, short', within, joined, joined', size, size', small);
       judged = all.judged;
-      known = subst (HasPrinted g) (sym (reverse_split bytes piece)) (prints.known (reverse (blocks_of bytes)) fed.known);
-      printed = subst (Prints start [] v g.page.text) (sym (texts_split form bytes piece))
-          (prints_more start u v [] f.page.text g.page.text (texts_for form bytes) (more_texts form bytes piece) fed.printed
-          (subst (λ (k : StreamForm). Prints u f.page.text v g.page.text (texts_after (block_text k) (reverse (blocks_of bytes)) more)) fed.form_is (prints.printed (reverse (blocks_of bytes)) fed.known)));
+      known = record { number_is = known.number_is; knows = known.knows };
+      empty = refl;
+      wrote = prints_out start v w g.page.text (texts_for form (bytes ++ piece)) (printed_more form start u v f g r s d e bytes piece fed all) grows;
       few = omega (arith, few, few', joined, joined');
-    }
+    })
+
+-- a sink that fails when the page is written out after a piece
+pub fed_unflushed : (form : StreamForm) (start u v w : Option (List ℕ)) (f g : Printer) (r s : Reading) (d e : BlockError) (bytes piece : List ℕ) → Fed form start u f r d bytes → PrintsAll f g (loaded r piece) s u v e
+    → PutsSome v w g.page.text → PutsSome start w (texts_for form (bytes ++ piece))
+fed_unflushed form start u v w f g r s d e bytes piece fed all puts =
+    puts_after start v w [] g.page.text (texts_for form (bytes ++ piece)) (printed_more form start u v f g r s d e bytes piece fed all) puts
 
 -- a sink that fails at a piece
 pub fed_fails : (form : StreamForm) (start u v : Option (List ℕ)) (f : Printer) (r : Reading) (d : BlockError) (bytes piece : List ℕ) → Fed form start u f r d bytes
@@ -88,24 +126,7 @@ fed_fails form start u v f r d bytes piece fed fails =
     let there : PutsSome u v (f.page.text ++ more_texts form bytes piece) =
     subst (λ (l : List ℕ). PutsSome u v (f.page.text ++ texts_after (block_text form) (reverse (blocks_of bytes)) (blocks_of (l ++ piece)))) fed.rest
     (subst (λ (k : StreamForm). PutsSome u v (f.page.text ++ texts_after (block_text k) (reverse (blocks_of bytes)) (blocks_of (r.rest ++ piece)))) fed.form_is here) in
-    subst (PutsSome start v) (sym (texts_split form bytes piece)) (puts_then start u v [] f.page.text (texts_for form bytes) (more_texts form bytes piece) fed.printed there)
-
--- what was printed, once the page is written out
-pub prints_out : (a b c : Option (List ℕ)) (t x : List ℕ) → Prints a [] b t x → Grows b c t → Grows a c x
-prints_out a b c t x p g = prints_whole a c [] x (subst (Prints a [] c []) (append-nil x) (prints_more a b c [] t [] x [] p (record {
-  count = length t;
-  within = omega (arith, length-append t []);
-  written = subst (Grows b c) (sym (take-append-le (length t) t [] (omega arith) ∙ take-length t)) g;
-  rest = sym (ap (drop (length t)) (append-nil t) ∙ drop-length t);
-})))
-
--- the page was written out
-pub fed_flushed : (form : StreamForm) (start u v : Option (List ℕ)) (f : Printer) (r : Reading) (d : BlockError) (bytes : List ℕ) → Fed form start u f r d bytes → Grows u v f.page.text → Grows start v (texts_for form bytes)
-fed_flushed form start u v f r d bytes fed grows = prints_out start u v f.page.text (texts_for form bytes) fed.printed grows
-
--- or failed to be
-pub fed_unflushed : (form : StreamForm) (start u v : Option (List ℕ)) (f : Printer) (r : Reading) (d : BlockError) (bytes : List ℕ) → Fed form start u f r d bytes → PutsSome u v f.page.text → PutsSome start v (texts_for form bytes)
-fed_unflushed form start u v f r d bytes fed puts = puts_after start u v [] f.page.text (texts_for form bytes) fed.printed puts
+    subst (PutsSome start v) (sym (texts_split form bytes piece)) (puts_then start u v [] f.page.text (texts_for form bytes) (more_texts form bytes piece) (fed_printed form start u f r d bytes fed) there)
 
 -- ---- How it ends
 pub take_front : (most : ℕ) (bytes more : List ℕ) → length bytes ≤ most → take most (bytes ++ more) ≡ bytes ++ take (most - length bytes) more

@@ -1,6 +1,7 @@
 -- The end of a stream.
-use Rattle.std.proofs.Common.{◌≡◌, ◌≤◌, ◌<◌, ℕ, zero, suc, true, false, true≢false, List, [], ◌++◌, length, reverse, sym, arith, Option}
+use Rattle.std.proofs.Common.{◌≡◌, ◌≤◌, ◌<◌, ℕ, zero, suc, true, false, true≢false, List, [], ◌++◌, length, reverse, sym, ◌∙◌, subst, arith, Option, Result, Ok, Err}
 use Rattle.std.specs.Bool.{◌==◌}
+use Rattle.std.specs.Result.{IsErr, IsErrAnd}
 use Rattle.std.specs.Io.KnownBytes.{Consumes, Keeps, IsAtEnd}
 use Rattle.std.proofs.lemmas.Bool.{eqb-true}
 use Rattle.pitch_io.specs.Putting.{Grows}
@@ -10,12 +11,13 @@ use Rattle.unit_packets.specs.Reading.{Reading}
 use Rattle.unit_packets.specs.declared.header.BlockError.{BlockError}
 use Rattle.pitch_tool.specs.Ending.{PrintsEnd, PutsEnd}
 use Rattle.pitch_tool.specs.Feeding.{Fed}
-use Rattle.pitch_tool.specs.Inputs.{WritesAll, WritesSome}
+use Rattle.pitch_tool.specs.Inputs.{Ends, WritesAll, WritesSome}
 use Rattle.pitch_tool.specs.Page.{Prints}
 use Rattle.pitch_tool.specs.Putting.{PutsSome}
 use Rattle.pitch_tool.specs.Texts.{texts_for}
 use Rattle.pitch_tool.specs.declared.printer.Printer.{Printer}
-use Rattle.pitch_tool.proofs.Feeding.{prints_out, writes_whole, writes_front, whole_front}
+use Rattle.pitch_tool.specs.declared.stop.Stop.{Stop}
+use Rattle.pitch_tool.proofs.Feeding.{fed_printed, prints_out, writes_whole, writes_front, whole_front}
 use Rattle.pitch_tool.proofs.Printing.{prints_more, puts_after, puts_then}
 
 pub some_left : (n : ℕ) → false ≡ (n == 0) → 0 < n
@@ -28,7 +30,7 @@ none_left n e = eqb-true n 0 (sym e)
 -- the end was printed behind the texts of the blocks
 end_printed : (form : StreamForm) (p : Printer) (start u v : Option (List ℕ)) (t : List ℕ) (r : Reading) (e : BlockError) (bytes : List ℕ) → Fed form start u p r e bytes
     → (q : PrintsEnd form (reverse (blocks_of bytes)) u p.page.text v t) → Prints start [] v t (texts_for form bytes ++ q.end)
-end_printed form p start u v t r e bytes fed q = prints_more start u v [] p.page.text t (texts_for form bytes) q.end fed.printed q.printed
+end_printed form p start u v t r e bytes fed q = prints_more start u v [] p.page.text t (texts_for form bytes) q.end (fed_printed form start u p r e bytes fed) q.printed
 
 -- all was written
 pub ends_whole : (form : StreamForm) (most : ℕ) (first before now start u v w : Option (List ℕ)) (p : Printer) (t : List ℕ) (r : Reading) (e : BlockError) (bytes : List ℕ) → length bytes ≤ most
@@ -52,4 +54,17 @@ pub ends_unprinted : (form : StreamForm) (first before now start u v : Option (L
     → PutsEnd form (reverse (blocks_of bytes)) u p.page.text v → WritesSome form first now start v
 ends_unprinted form first before now start u v p r e bytes fed all read end q =
     writes_front form first before now start v bytes q.end all read end q.is_front
-    (puts_then start u v [] p.page.text (texts_for form bytes) q.end fed.printed q.puts)
+    (puts_then start u v [] p.page.text (texts_for form bytes) q.end (fed_printed form start u p r e bytes fed) q.puts)
+
+-- the answer of a `?` is its error
+pub ends_same : (form : StreamForm) (most : ℕ) (answer : Result (Unit {0}) Stop) (stop : Stop) (first now start written : Option (List ℕ)) → IsErr answer × IsErrAnd answer (λ s. s ≡ stop)
+    → Ends form most (Err stop) first now start written → Ends form most answer first now start written
+ends_same form most (Ok done) stop first now start written is ends = absurd (true≢false (sym is.0))
+ends_same form most (Err s) stop first now start written is ends = subst (λ (x : Stop). Ends form most (Err x) first now start written) (sym is.1) ends
+
+pub same_stop : (answer : Result (Unit {0}) Stop) (stop other : Stop) → IsErr answer × IsErrAnd answer (λ s. s ≡ stop) → answer ≡ Err other → stop ≡ other
+same_stop (Ok done) stop other is e = absurd (true≢false (sym is.0))
+same_stop (Err s) stop other is e = sym is.1 ∙ same s other e
+  where
+    same : (x y : Stop) → ◌≡◌ {A = Result (Unit {0}) Stop} (Err x) (Err y) → x ≡ y
+    same x y e = cc

@@ -5,7 +5,7 @@ use Rattle.std.proofs.Math.Seq.{take-length}
 use Rattle.pitch_words.specs.declared.form.Form.{Form}
 use Rattle.pitch_words.specs.declared.form.Form.TheVariants as words
 use Rattle.pitch_tool.specs.Program.{EndsAs, HasFront}
-use Rattle.pitch_tool.specs.declared.stream.TheConstants.{INPUT_LIMIT}
+use Rattle.pitch_tool.specs.Inputs.{stream_limit}
 use Rattle.pitch_tool.specs.declared.stream_form.StreamForm.TheVariants.{Follow, Show}
 use Rattle.pitch_tool.specs.declared.stop.PrintError.TheVariants.{OutOfMemory}
 use Rattle.pitch_tool.specs.declared.stop.Stop.TheVariants.{BadInput, Unprinted}
@@ -45,8 +45,8 @@ front_written form left left' written written' s = record {
 
 -- ---- By the form of the words
 pub front_of_refused : (form : Form) (trouble : Trouble) (left left' written written' : Option (List ℕ)) → EndsAs form (Err (BadInput trouble)) left left' written written' → HasFront form left written written'
-front_of_refused (words.Follow hold) trouble left left' written written' r = front_refused (Follow hold) INPUT_LIMIT trouble left written written' r
-front_of_refused words.Show trouble left left' written written' r = front_refused Show INPUT_LIMIT trouble left written written' r
+front_of_refused (words.Follow hold) trouble left left' written written' r = front_refused (Follow hold) stream_limit trouble left written written' r
+front_of_refused words.Show trouble left left' written written' r = front_refused Show stream_limit trouble left written written' r
 front_of_refused (words.Pack unit) trouble left left' written written' r = r.wrote
 
 pub front_of_unprinted : (form : Form) (left left' written written' : Option (List ℕ)) → EndsAs form (Err (Unprinted OutOfMemory)) left left' written written' → HasFront form left written written'

@@ -1,7 +1,6 @@
 -- A stream that is taken piece by piece.
 use Rattle.std.proofs.Common.{◌≡◌, ℕ, ◌+◌, ◌≤◌, true, true≢false, List, [], ◌++◌, length, take, drop, ◌-◌, reverse, refl, sym, ap, ◌∙◌, subst, arith, length-append, Option, Some, None, Result, Ok, Err}
 use Rattle.std.specs.Io.KnownBytes.{Consumes}
-use Rattle.std.specs.Result.{IsErr, IsErrAnd}
 use Rattle.std.proofs.lemmas.List.{append-nil, take-append-le}
 use Rattle.pitch_io.specs.Causes.{HasCause}
 use Rattle.pitch_io.specs.Putting.{Grows}
@@ -17,7 +16,6 @@ use Rattle.pitch_tool.specs.declared.stream_form.StreamForm.{StreamForm}
 use Rattle.pitch_tool.specs.Feeding.{Fed}
 use Rattle.pitch_tool.specs.Inputs.{WritesSome, Ends}
 use Rattle.pitch_tool.specs.Knowing.{form_of}
-use Rattle.pitch_tool.specs.Page.{Prints}
 use Rattle.pitch_tool.specs.Standing.{HasPrinted, IsReady}
 use Rattle.pitch_tool.specs.Texts.{block_text, texts_for}
 use Rattle.pitch_tool.specs.declared.printer.Printer.{Printer}
@@ -25,7 +23,7 @@ use Rattle.pitch_tool.specs.declared.stop.PrintError.{PrintError}
 use Rattle.pitch_tool.specs.declared.stop.Stop.{Stop}
 use Rattle.pitch_tool.specs.declared.stop.Stop.TheVariants.{Unprinted}
 use Rattle.pitch_tool.proofs.Feeding.{take_front, consumes_more, consumes_none, writes_texts}
-use Rattle.pitch_tool.proofs.Printing.{prints_none}
+use Rattle.pitch_tool.proofs.Flow.{grows_none}
 
 -- the bytes that were taken so far were fed
 pub record Taken (form : StreamForm) (f : Printer) (r : Reading) (e : BlockError) (count : ℕ) (first left start written : Option (List ℕ)) : Type 0 where
@@ -67,7 +65,8 @@ taken_none form f r first start ready is known page reader =
         place = ap (λ (s : Reading). s.place) reader ∙ omega (arith, ap length no_rest);
         judged = ap judge rest ∙ judge_nothing;
         known = subst (HasPrinted f) (sym (ap reverse no_blocks)) known;
-        printed = subst (Prints start [] start f.page.text) (sym (no_texts form)) (subst (λ (t : List ℕ). Prints start [] start t []) (sym page) (prints_none start []));
+        empty = page;
+        wrote = subst (Grows start start) (sym (no_texts form)) (grows_none start);
         few = omega (arith, number, ap length rest);
       };
       unended = refl;
@@ -88,22 +87,6 @@ taken_more form f g r s d e count more first left left' start u v piece t size r
 -- nothing was read and nothing written
 pub writes_none : (form : StreamForm) (first start : Option (List ℕ)) → WritesSome form first first start start
 writes_none form first start = writes_texts form first first start start [] (consumes_none first) (record { count = 0; within = omega arith; grows = grows_none start })
-  where
-    grows_none : (o : Option (List ℕ)) → Grows o o (take 0 (texts_for form []))
-    grows_none None = tt
-    grows_none (Some xs) = sym (append-nil xs)
-
--- memory ran out before anything was read
-pub ends_early : (form : StreamForm) (most : ℕ) (r : Result (Unit {0}) Stop) (first start : Option (List ℕ)) (e : PrintError) → IsErr r × IsErrAnd r (λ stop. stop ≡ Unprinted e) → Ends form most r first first start start
-ends_early form most (Ok done) first start e is = absurd (true≢false (sym is.0))
-ends_early form most (Err stop) first start e is = subst (λ (s : Stop). Ends form most (Err s) first first start start) (sym is.1) (writes_none form first start)
-
--- an error is that error whatever the other answer is
-pub same_err : (x y : Stop) → ◌≡◌ {A = Result (Unit {0}) Stop} (Err x) (Err y) → ◌≡◌ {A = Result BlockError Stop} (Err x) (Err y)
-same_err x y e = ap Err (same x y e)
-  where
-    same : (x y : Stop) → ◌≡◌ {A = Result (Unit {0}) Stop} (Err x) (Err y) → x ≡ y
-    same x y e = cc
 
 -- a later cause is one
 pub later_cause : (a b c : ℕ) (failed wanted : Type 0) → a ≤ b → HasCause b c failed → (wanted → failed) → HasCause a c wanted

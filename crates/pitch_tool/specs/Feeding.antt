@@ -1,5 +1,6 @@
 -- What is known of the bytes of a stream that were fed so far.
 use Rattle.std.specs.Prelude.{◌≡◌, ℕ, ◌+◌, ◌*◌, ◌≤◌, List, [], length, reverse, Option, Result, Ok, Err, true}
+use Rattle.pitch_io.specs.Putting.{Grows}
 use Rattle.unit_packets.specs.Cutting.{blocks_of, rest_of, place_of, is_truncated}
 use Rattle.unit_packets.specs.Judging.{judge}
 use Rattle.unit_packets.specs.Reading.{Reading}
@@ -7,13 +8,12 @@ use Rattle.unit_packets.specs.declared.header.BlockError.{BlockError}
 use Rattle.pitch_tool.specs.declared.stream_form.StreamForm.{StreamForm}
 use Rattle.pitch_tool.specs.Inputs.{Ends}
 use Rattle.pitch_tool.specs.Knowing.{form_of}
-use Rattle.pitch_tool.specs.Page.{Prints}
 use Rattle.pitch_tool.specs.Standing.{HasPrinted, IsReady}
 use Rattle.pitch_tool.specs.Texts.{texts_for}
 use Rattle.pitch_tool.specs.declared.printer.Printer.{Printer}
 use Rattle.pitch_tool.specs.declared.stop.Stop.{Stop}
 
--- the blocks that are whole were printed, and no block stands in what is left
+-- the texts of the whole blocks were written, nothing of them waits on the page, and no block stands in what is left
 pub record Fed (form : StreamForm) (start written : Option (List ℕ)) (p : Printer) (r : Reading) (error : BlockError) (bytes : List ℕ) : Type 0 where
   pub ready : IsReady p
   pub form_is : form_of p.task ≡ form
@@ -21,7 +21,8 @@ pub record Fed (form : StreamForm) (start written : Option (List ℕ)) (p : Prin
   pub place : r.place ≡ place_of bytes
   pub judged : judge r.rest ≡ Err error
   pub known : HasPrinted p (reverse (blocks_of bytes))
-  pub printed : Prints start [] written p.page.text (texts_for form bytes)
+  pub empty : p.page.text ≡ []
+  pub wrote : Grows start written (texts_for form bytes)
   pub few : 8 * p.number + length r.rest ≤ length bytes
 
 -- a piece more was fed, and bytes are still missing, or the stream ends here

@@ -12,6 +12,10 @@ use Rattle.pitch_tool.specs.declared.stop.Stop.TheVariants.{BadInput, ReadFailed
 use Rattle.pitch_tool.specs.declared.stop.Trouble.{Trouble}
 use Rattle.pitch_tool.specs.declared.stop.Trouble.TheVariants.{Faulty, TooLong}
 
+-- how many bytes of a stream of blocks are read at most: 2^30
+abbrev pub stream_limit : ℕ
+stream_limit = 1073741824
+
 -- a fault, or else something else
 abbrev pub faulty : Option BlockFault → Option Trouble → Option Trouble
 faulty (Some fault) other = Some (Faulty fault)

@@ -12,6 +12,10 @@ use Rattle.pitch_tool.specs.declared.stop.Stop.TheVariants.{BadInput, ReadFailed
 use Rattle.pitch_tool.specs.declared.stop.Trouble.{Trouble}
 use Rattle.pitch_tool.specs.declared.stop.Trouble.TheVariants.{Faulty, TooLong, LongText, Unfed}
 
+-- how many bytes a text of commands has at most: 2^26
+abbrev pub text_limit : ℕ
+text_limit = 67108864
+
 -- why a text makes no feed
 abbrev pub unfed : Result (List ℕ) FeedError → Option Trouble
 unfed (Ok feed) = None

@@ -5,10 +5,8 @@ use Rattle.pitch_words.specs.declared.form.Form.{Form}
 use Rattle.pitch_words.specs.declared.form.Form.TheVariants as form
 use Rattle.unit_packets.specs.Causes.{fault_text}
 use Rattle.command_feed.specs.Causes.{feed_error_text}
-use Rattle.pitch_tool.specs.Inputs.{trouble_of, Ends, WritesFront}
-use Rattle.pitch_tool.specs.Packs.{text_trouble_of, PackEnds}
-use Rattle.pitch_tool.specs.declared.pack.TheConstants.{TEXT_LIMIT}
-use Rattle.pitch_tool.specs.declared.stream.TheConstants.{INPUT_LIMIT}
+use Rattle.pitch_tool.specs.Inputs.{stream_limit, trouble_of, Ends, WritesFront}
+use Rattle.pitch_tool.specs.Packs.{text_limit, text_trouble_of, PackEnds}
 use Rattle.pitch_tool.specs.declared.stream_form.StreamForm.TheVariants.{Follow, Show}
 use Rattle.pitch_tool.specs.declared.stop.PrintError.TheVariants.{PutFailed}
 use Rattle.pitch_tool.specs.declared.stop.Stop.{Stop}
@@ -42,9 +40,9 @@ memory_text = codes "pitch: out of memory\n"
 -- ---- How the program ends
 -- how doing what a form asks for ends: what was read of the source, and written to the sink
 abbrev pub EndsAs : Form → Result (Unit {0}) Stop → (left left' written written' : Option (List ℕ)) → Type 0
-EndsAs (form.Follow hold) result left left' written written' = Ends (Follow hold) INPUT_LIMIT result left left' written written'
-EndsAs form.Show result left left' written written' = Ends Show INPUT_LIMIT result left left' written written'
-EndsAs (form.Pack unit) result left left' written written' = PackEnds unit TEXT_LIMIT result left left' written written'
+EndsAs (form.Follow hold) result left left' written written' = Ends (Follow hold) stream_limit result left left' written written'
+EndsAs form.Show result left left' written written' = Ends Show stream_limit result left left' written written'
+EndsAs (form.Pack unit) result left left' written written' = PackEnds unit text_limit result left left' written written'
 
 -- some front of what a form asks for was written; of `pack`, which writes nothing before it has all, nothing
 abbrev pub HasFront : Form → (left written written' : Option (List ℕ)) → Type 0
@@ -77,9 +75,9 @@ Runs words (Err ending.OutOfMemory) left left' written written' = written' ≡ w
 -- ---- Completeness
 -- there is nothing wrong with the input of a form
 abbrev pub IsSound : Form → List ℕ → Type 0
-IsSound (form.Follow hold) bytes = trouble_of INPUT_LIMIT bytes ≡ None
-IsSound form.Show bytes = trouble_of INPUT_LIMIT bytes ≡ None
-IsSound (form.Pack unit) bytes = text_trouble_of unit TEXT_LIMIT bytes ≡ None
+IsSound (form.Follow hold) bytes = trouble_of stream_limit bytes ≡ None
+IsSound form.Show bytes = trouble_of stream_limit bytes ≡ None
+IsSound (form.Pack unit) bytes = text_trouble_of unit text_limit bytes ≡ None
 
 -- the program did all that it was asked for, or memory ran out
 abbrev pub IsWhole : ExitStatus → Type 0

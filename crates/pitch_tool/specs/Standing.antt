@@ -1,5 +1,6 @@
 -- What is known once some blocks were printed. Blocks stand newest first.
 use Rattle.std.specs.Prelude.{◌≡◌, ◌≤◌, List, length}
+use Rattle.feed_lines.specs.declared.lines.TheConstants.{LINE}
 use Rattle.unit_packets.specs.Blocks.{Block}
 use Rattle.pitch_tool.specs.Knowing.{Knows, IsAble}
 use Rattle.pitch_tool.specs.declared.printer.Printer.{Printer}
@@ -12,4 +13,4 @@ pub record HasPrinted (p : Printer) (before : List Block) : Type 0 where
 -- it can print a block
 pub record IsReady (p : Printer) : Type 0 where
   pub task : IsAble p.task
-  pub place : 512 ≤ p.page.size
+  pub place : LINE ≤ p.page.size

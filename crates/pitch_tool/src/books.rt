@@ -15,7 +15,7 @@ use std::alloc::Global;
 
 // Prints the lines of orders.
 fn print_orders<O: Sink>(page: &mut Page, out: &mut O, orders: &[Order]) -> Result<(), PrintError>
-    requires { 512 ≤ page.old.size }
+    requires { LINE ≤ page.old.size }
     ensures printed { OnOk result (Prints (O.written out.old) page.old.text (O.written out.new) page.new.text (flat_map (λ o. order_line o.id o) orders.now)) }
     ensures err { OnErr result (PutsSome (O.written out.old) (O.written out.new) (page.old.text ++ flat_map (λ o. order_line o.id o) orders.now)) }
     ensures size { OnOk result (page.new.size ≡ page.old.size) }
@@ -37,7 +37,7 @@ pub fn print_book<O: Sink>(
     reach: u32,
     book: &UnitBook,
 ) -> Result<(), PrintError>
-    requires { 512 ≤ page.old.size }
+    requires { LINE ≤ page.old.size }
     ensures printed { OnOk result (Prints (O.written out.old) page.old.text (O.written out.new) page.new.text (book_text unit reach book.now.book)) }
     ensures err { OnErr result (PutsSome (O.written out.old) (O.written out.new) (page.old.text ++ book_text unit reach book.now.book)) }
     ensures size { OnOk result (page.new.size ≡ page.old.size) }

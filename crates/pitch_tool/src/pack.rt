@@ -2,7 +2,7 @@ ghost use Rattle.std.specs.Prelude.{◌≡◌, ◌≢◌, ◌≤◌, ◌<◌, If
 ghost use Rattle.std.specs.Io.KnownBytes.{Consumes};
 ghost use Rattle.pitch_io.specs.Causes.{HasCause};
 ghost use Rattle.pitch_tool.specs.Inputs.{ReadsAll};
-ghost use Rattle.pitch_tool.specs.Packs.{Unread, PackEnds};
+ghost use Rattle.pitch_tool.specs.Packs.{text_limit, Unread, PackEnds};
 
 use crate::ends::{PIECE, piece_buffer, put_all};
 use crate::stop::{PrintError, Stop, Trouble};
@@ -16,8 +16,8 @@ pub const TEXT_LIMIT: usize = 67108864;
 // Reads the whole text of a source.
 fn read_text<I: Source>(alloc: Global, input: &mut I) -> Result<Vec<u8>, Stop>
     ensures read { IfOk result (λ text. ReadsAll (I.left input.old) (I.left input.new) text.items) }
-    ensures small { IfOk result (λ text. length text.items ≤ TEXT_LIMIT) }
-    ensures unread { IfErr result (λ stop. Unread TEXT_LIMIT stop (I.left input.old) (I.left input.new)) }
+    ensures small { IfOk result (λ text. length text.items ≤ text_limit) }
+    ensures unread { IfErr result (λ stop. Unread text_limit stop (I.left input.old) (I.left input.new)) }
     ensures cause { HasCause (I.faults input.old) (I.faults input.new) (result ≡ Err Stop.ReadFailed) }
 {
     let mut text = Vec::new(alloc);
@@ -47,22 +47,17 @@ pub fn pack<I: Source, O: Sink>(
     input: &mut I,
     out: &mut O,
 ) -> Result<(), Stop>
-    ensures ends { PackEnds unit TEXT_LIMIT result (I.left input.old) (I.left input.new) (O.written out.old) (O.written out.new) }
+    ensures ends { PackEnds unit text_limit result (I.left input.old) (I.left input.new) (O.written out.old) (O.written out.new) }
     ensures read_cause { HasCause (I.faults input.old) (I.faults input.new) (result ≡ Err Stop.ReadFailed) }
     ensures write_cause { HasCause (O.faults out.old) (O.faults out.new) (result ≡ Err (Stop.Unprinted PrintError.PutFailed)) }
 {
-    let text = match read_text(alloc, input) {
-        Ok(text) => text,
-        Err(stop) => return Err(stop),
-    };
+    let text = read_text(alloc, input)?;
     let mut feed = Vec::new(alloc);
     match append_feed(alloc, unit, &text, &mut feed) {
         Ok(()) => {}
         Err(FeedError::OutOfMemory) => return Err(Stop::Unprinted(PrintError::OutOfMemory)),
         Err(error) => return Err(Stop::BadInput(Trouble::Unfed(error))),
     }
-    match put_all(out, &feed) {
-        Ok(()) => Ok(()),
-        Err(_) => Err(Stop::Unprinted(PrintError::PutFailed)),
-    }
+    put_all(out, &feed)?;
+    Ok(())
 }

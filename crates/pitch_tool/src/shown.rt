@@ -7,7 +7,7 @@ ghost use Rattle.pitch_tool.specs.Putting.{PutsSome};
 
 use crate::ends::PutFailed;
 use crate::page::Page;
-use feed_lines::next_after;
+use feed_lines::{LINE, next_after};
 use pitch_io::Sink;
 use pitch_messages::Raws;
 
@@ -18,7 +18,7 @@ pub fn print_messages<O: Sink>(
     first: u32,
     raws: Raws<'_>,
 ) -> Result<(), PutFailed>
-    requires place { 512 ≤ page.old.size }
+    requires place { LINE ≤ page.old.size }
     requires within { StaysWithin first (length raws) }
     ensures printed { OnOk result (Prints (O.written out.old) page.old.text (O.written out.new) page.new.text (message_lines first raws.entry)) }
     ensures err { OnErr result (PutsSome (O.written out.old) (O.written out.new) (page.old.text ++ message_lines first raws.entry)) }

@@ -7,7 +7,7 @@ ghost use Rattle.unit_packets.specs.Reading.{Reading, loaded};
 ghost use Rattle.pitch_model.specs.Texts.{texts_after};
 ghost use Rattle.pitch_io.specs.Causes.{HasCause};
 ghost use Rattle.pitch_tool.specs.Feeding.{Fed, Feeds};
-ghost use Rattle.pitch_tool.specs.Inputs.{Ends};
+ghost use Rattle.pitch_tool.specs.Inputs.{stream_limit, Ends};
 ghost use Rattle.pitch_tool.specs.Knowing.{IsPossible, form_of};
 ghost use Rattle.pitch_tool.specs.Printing.{PrintsAll};
 ghost use Rattle.pitch_tool.specs.Putting.{PutsSome};
@@ -89,30 +89,22 @@ fn feed<O: Sink>(
     requires place { reader.old.place ≤ fed }
     ensures feeds { (first now start : Option (List ℕ)) (bytes : List ℕ) (error : BlockError) → length bytes ≡ fed
         → Fed (form_of printer.old.task) start (O.written out.old) printer.old reader.old error bytes → Consumes first now (bytes ++ piece.now)
-        → Feeds (form_of printer.old.task) INPUT_LIMIT result first now start (O.written out.new) printer.new reader.new (bytes ++ piece.now) }
+        → Feeds (form_of printer.old.task) stream_limit result first now start (O.written out.new) printer.new reader.new (bytes ++ piece.now) }
     ensures cause { HasCause (O.faults out.old) (O.faults out.new) (result ≡ Err (Stop.Unprinted PrintError.PutFailed)) }
     ensures not_read { result ≢ Err Stop.ReadFailed }
 {
     let kept = piece.len().min(INPUT_LIMIT - fed);
-    let stopped = match print_piece(alloc, reader, printer, &piece[..kept], out) {
-        Ok(stopped) => stopped,
-        Err(error) => return Err(Stop::Unprinted(error)),
-    };
+    let stopped = print_piece(alloc, reader, printer, &piece[..kept], out)?;
+    printer.page.flush(out)?;
     if !stopped.is_truncated() {
         let place = reader.place();
-        return match printer.page.flush(out) {
-            Ok(()) => Err(Stop::BadInput(Trouble::Faulty(BlockFault {
-                place,
-                error: stopped,
-            }))),
-            Err(_) => Err(Stop::Unprinted(PrintError::PutFailed)),
-        };
+        return Err(Stop::BadInput(Trouble::Faulty(BlockFault {
+            place,
+            error: stopped,
+        })));
     }
     if kept < piece.len() {
-        return match printer.page.flush(out) {
-            Ok(()) => Err(Stop::BadInput(Trouble::TooLong)),
-            Err(_) => Err(Stop::Unprinted(PrintError::PutFailed)),
-        };
+        return Err(Stop::BadInput(Trouble::TooLong));
     }
     Ok(stopped)
 }
@@ -126,41 +118,22 @@ fn finish<O: Sink>(
     out: &mut O,
 ) -> Result<(), Stop>
     requires { IsReady printer.old }
-    ensures finishes { (first before now start : Option (List ℕ)) (bytes : List ℕ) → length bytes ≤ INPUT_LIMIT
+    ensures finishes { (first before now start : Option (List ℕ)) (bytes : List ℕ) → length bytes ≤ stream_limit
         → Fed (form_of printer.old.task) start (O.written out.old) printer.old reader.now stopped bytes → is_truncated stopped ≡ true
-        → Consumes first before bytes → IsAtEnd before × Keeps before now → Ends (form_of printer.old.task) INPUT_LIMIT result first now start (O.written out.new) }
+        → Consumes first before bytes → IsAtEnd before × Keeps before now → Ends (form_of printer.old.task) stream_limit result first now start (O.written out.new) }
     ensures cause { HasCause (O.faults out.old) (O.faults out.new) (result ≡ Err (Stop.Unprinted PrintError.PutFailed)) }
     ensures not_read { result ≢ Err Stop.ReadFailed }
 {
     if !reader.rest().is_empty() {
         let place = reader.place();
-        return match printer.page.flush(out) {
-            Ok(()) => Err(Stop::BadInput(Trouble::Faulty(BlockFault {
-                place,
-                error: stopped,
-            }))),
-            Err(_) => Err(Stop::Unprinted(PrintError::PutFailed)),
-        };
+        return Err(Stop::BadInput(Trouble::Faulty(BlockFault {
+            place,
+            error: stopped,
+        })));
     }
-    if let Err(error) = printer.print_end(alloc, out) {
-        return Err(Stop::Unprinted(error));
-    }
-    match printer.page.flush(out) {
-        Ok(()) => Ok(()),
-        Err(_) => Err(Stop::Unprinted(PrintError::PutFailed)),
-    }
-}
-
-// Stops where the source has failed.
-fn stop_unread<O: Sink>(printer: &mut Printer, out: &mut O) -> Result<(), Stop>
-    ensures stops { (form : StreamForm) (most : ℕ) (first now start : Option (List ℕ)) (reader : Reading) (error : BlockError) (bytes : List ℕ) → Consumes first now bytes
-        → Fed form start (O.written out.old) printer.old reader error bytes → Ends form most result first now start (O.written out.new) }
-    ensures cause { HasCause (O.faults out.old) (O.faults out.new) (result ≡ Err (Stop.Unprinted PrintError.PutFailed)) }
-{
-    match printer.page.flush(out) {
-        Ok(()) => Err(Stop::ReadFailed),
-        Err(_) => Err(Stop::Unprinted(PrintError::PutFailed)),
-    }
+    printer.print_end(alloc, out)?;
+    printer.page.flush(out)?;
+    Ok(())
 }
 
 /// Prints what the form asks for of the stream of blocks that a source gives: a text for each block, and one at the
@@ -172,7 +145,7 @@ pub fn print_stream<I: Source, O: Sink>(
     out: &mut O,
 ) -> Result<(), Stop>
     requires { IsPossible form }
-    ensures ends { Ends form INPUT_LIMIT result (I.left input.old) (I.left input.new) (O.written out.old) (O.written out.new) }
+    ensures ends { Ends form stream_limit result (I.left input.old) (I.left input.new) (O.written out.old) (O.written out.new) }
     ensures read_cause { HasCause (I.faults input.old) (I.faults input.new) (result ≡ Err Stop.ReadFailed) }
     ensures write_cause { HasCause (O.faults out.old) (O.faults out.new) (result ≡ Err (Stop.Unprinted PrintError.PutFailed)) }
 {
@@ -184,14 +157,11 @@ pub fn print_stream<I: Source, O: Sink>(
     'takes: for turn in 0..INPUT_LIMIT + 1 {
         match input.take(&mut piece) {
             Taken::Got(count) => {
-                match feed(alloc, &mut printer, &mut reader, fed, &piece[..count], out) {
-                    Ok(error) => stopped = error,
-                    Err(stop) => return Err(stop),
-                }
+                stopped = feed(alloc, &mut printer, &mut reader, fed, &piece[..count], out)?;
                 fed += count;
             }
             Taken::End => return finish(alloc, &mut printer, &reader, stopped, out),
-            Taken::Failed => return stop_unread(&mut printer, out),
+            Taken::Failed => return Err(Stop::ReadFailed),
         }
     }
     unreachable!()

@@ -14,6 +14,7 @@ use crate::shown::print_messages;
 use crate::stop::PrintError;
 use crate::stream_form::StreamForm;
 use crate::units::{Units, hear_block, make_units, print_books};
+use feed_lines::LINE;
 use pitch_fields::OutOfMemory;
 use pitch_io::Sink;
 use std::alloc::Global;
@@ -51,7 +52,7 @@ fn print_heard<O: Sink>(
     out: &mut O,
 ) -> Result<(), PrintError>
     requires able { CanHear units.old }
-    requires place { 512 ≤ page.old.size }
+    requires place { LINE ≤ page.old.size }
     ensures able { OnOk result (CanHear units.new) }
     ensures limit { OnOk result (units.new.limit ≡ units.old.limit) }
     ensures heard { OnOk result ((before : List Block) → HaveHeard units.old before → HaveHeard units.new (block.now ∷ before)) }
@@ -75,7 +76,7 @@ fn print_shown<O: Sink>(
     page: &mut Page,
     out: &mut O,
 ) -> Result<(), PrintError>
-    requires place { 512 ≤ page.old.size }
+    requires place { LINE ≤ page.old.size }
     ensures printed { OnOk result (Prints (O.written out.old) page.old.text (O.written out.new) page.new.text
         (shown_head number block.now.unit block.now.sequence (length block.now.raws) ++ message_lines block.now.sequence block.now.raws)) }
     ensures err { OnErr result (PutsSome (O.written out.old) (O.written out.new)
@@ -100,7 +101,7 @@ pub fn print_block<O: Sink>(
     out: &mut O,
 ) -> Result<(), PrintError>
     requires able { IsAble task.old }
-    requires place { 512 ≤ page.old.size }
+    requires place { LINE ≤ page.old.size }
     ensures able { OnOk result (IsAble task.new) }
     ensures form { OnOk result (form_of task.new ≡ form_of task.old) }
     ensures knows { OnOk result ((before : List Block) → Knows task.old before → Knows task.new (block.now ∷ before)) }
@@ -125,7 +126,7 @@ pub fn print_end<O: Sink>(
     out: &mut O,
 ) -> Result<(), PrintError>
     requires able { IsAble task.now }
-    requires place { 512 ≤ page.old.size }
+    requires place { LINE ≤ page.old.size }
     ensures printed { OnOk result ((before : List Block) → Knows task.now before
         → PrintsEnd (form_of task.now) before (O.written out.old) page.old.text (O.written out.new) page.new.text) }
     ensures err { OnErr result ((before : List Block) → Knows task.now before → PutsEnd (form_of task.now) before (O.written out.old) page.old.text (O.written out.new)) }

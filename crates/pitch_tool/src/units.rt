@@ -15,6 +15,7 @@ use crate::books::print_book;
 use crate::page::Page;
 use crate::stop::PrintError;
 use client_core::{Change, UnitClient};
+use feed_lines::LINE;
 use pitch_fields::OutOfMemory;
 use pitch_io::Sink;
 use std::alloc::Global;
@@ -111,7 +112,7 @@ fn print_unit<O: Sink>(
     page: &mut Page,
     out: &mut O,
 ) -> Result<(), PrintError>
-    requires { 512 ≤ page.old.size }
+    requires { LINE ≤ page.old.size }
     ensures printed { OnOk result ((H : ℕ) (before : List Block) → IsClient H before unit slot.now
         → PrintsUnit H slot.now before unit (O.written out.old) page.old.text (O.written out.new) page.new.text) }
     ensures err { OnErr result ((H : ℕ) (before : List Block) → IsClient H before unit slot.now
@@ -133,7 +134,7 @@ pub fn print_books<O: Sink>(
     out: &mut O,
 ) -> Result<(), PrintError>
     requires many { length clients.now ≡ 256 }
-    requires size { 512 ≤ page.old.size }
+    requires size { LINE ≤ page.old.size }
     ensures printed { OnOk result ((H : ℕ) (before : List Block) → Clients H clients.now before
         → PrintsBooks H clients.now before 256 (O.written out.old) page.old.text (O.written out.new) page.new.text) }
     ensures err { OnErr result ((H : ℕ) (before : List Block) → Clients H clients.now before → AreUnits before

@@ -4,20 +4,23 @@ use Rattle.std.proofs.lemmas.List.{length-take-le}
 use Rattle.pitch_tool.specs.declared.stream_form.StreamForm.{StreamForm}
 use Rattle.pitch_tool.specs.Feeding.{Feeds}
 use Rattle.pitch_tool.specs.Inputs.{Ends}
-use Rattle.pitch_tool.specs.declared.stream.TheConstants.{INPUT_LIMIT}
-use Rattle.pitch_tool.specs.declared.stop.PrintError.TheVariants.{OutOfMemory, PutFailed}
+use Rattle.pitch_tool.specs.Inputs.{stream_limit}
+use Rattle.pitch_tool.specs.declared.stop.PrintError.TheVariants.{PutFailed}
 use Rattle.pitch_tool.specs.declared.stop.Stop.TheVariants.{ReadFailed, Unprinted}
 use Rattle.pitch_tool.proofs.Feeding.{consumes_more, consumes_kept}
-use Rattle.pitch_tool.proofs.Taking.{given_bytes, taken_none, taken_more, ends_early, same_err, later_cause, own_form}
+use Rattle.pitch_tool.proofs.Taking.{given_bytes, taken_none, taken_more, writes_none, later_cause, own_form}
+use Rattle.pitch_tool.proofs.Finishing.{ends_same, same_stop}
 use Rattle.pitch_tool.proofs.stream.print_stream.Goals as goal
 
 pub returns-in_err-printer-clause-ends : goal.returns-in_err-printer-clause-ends
 returns-in_err-printer-clause-ends g c =
-    ends_early c.args.form INPUT_LIMIT c.from_residual.result (g.I.Source.left c.args.input.now) (g.O.Sink.written c.args.out.now) OutOfMemory c.from_residual.ensures
+    ends_same c.args.form stream_limit c.from_residual.result _ (g.I.Source.left c.args.input.now) (g.I.Source.left c.args.input.now) (g.O.Sink.written c.args.out.now) (g.O.Sink.written c.args.out.now) c.from_residual.ensures
+    (writes_none c.args.form (g.I.Source.left c.args.input.now) (g.O.Sink.written c.args.out.now))
 
 pub returns-in_err-piece-clause-ends : goal.returns-in_err-piece-clause-ends
 returns-in_err-piece-clause-ends g c =
-    ends_early c.args.form INPUT_LIMIT c.from_residual-in_err-piece.result (g.I.Source.left c.args.input.now) (g.O.Sink.written c.args.out.now) OutOfMemory c.from_residual-in_err-piece.ensures
+    ends_same c.args.form stream_limit c.from_residual-in_err-piece.result _ (g.I.Source.left c.args.input.now) (g.I.Source.left c.args.input.now) (g.O.Sink.written c.args.out.now) (g.O.Sink.written c.args.out.now)
+    c.from_residual-in_err-piece.ensures (writes_none c.args.form (g.I.Source.left c.args.input.now) (g.O.Sink.written c.args.out.now))
 
 pub takes-init : goal.takes-init
 takes-init g c = record {
@@ -41,8 +44,8 @@ feed-requires-clause-few g c = omega (arith, c.takes.invariant.taken.size, c.tak
 pub feed-requires-clause-place : goal.feed-requires-clause-place
 feed-requires-clause-place g c = omega (arith, c.takes.invariant.taken.size, c.takes.invariant.taken.fed.place)
 
-pub returns-in-Err-clause-ends : goal.returns-in-Err-clause-ends
-returns-in-Err-clause-ends g c =
+pub returns-in_err-stopped-in-Got-clause-ends : goal.returns-in_err-stopped-in-Got-clause-ends
+returns-in_err-stopped-in-Got-clause-ends g c =
     let t = c.takes.invariant.taken in
     let first = g.I.Source.left c.args.input.now in
     let start = g.O.Sink.written c.args.out.now in
@@ -51,19 +54,20 @@ returns-in-Err-clause-ends g c =
     let given = given_bytes c.in-Got.count c.takes.piece.len c.take.new.into c.takes.piece.items c.deref.result.now c.in-Got.ensures.count.1 fits c.deref.ensures.value in
     let took = subst (Consumes (g.I.Source.left c.takes.input) (g.I.Source.left c.take.new.self)) (sym given) c.in-Got.ensures.bytes in
     let read = consumes_more first (g.I.Source.left c.takes.input) (g.I.Source.left c.take.new.self) t.bytes piece t.read took in
-    subst (λ (n : StreamForm). Ends n INPUT_LIMIT (Err c.in-Err.stop) first (g.I.Source.left c.take.new.self) start (g.O.Sink.written c.feed.new.out)) t.fed.form_is
-    (c.in-Err.ensures.feeds first (g.I.Source.left c.take.new.self) start t.bytes c.takes.stopped t.size
-    (own_form c.args.form start (g.O.Sink.written c.takes.out) c.takes.printer c.takes.reader c.takes.stopped t.bytes t.fed) read)
+    ends_same c.args.form stream_limit c.from_residual-in_err-stopped-in-Got.result c.in_err-stopped-in-Got.field-0.0 first (g.I.Source.left c.take.new.self) start (g.O.Sink.written c.feed.new.out) c.from_residual-in_err-stopped-in-Got.ensures
+    (subst (λ (n : StreamForm). Ends n stream_limit (Err c.in_err-stopped-in-Got.field-0.0) first (g.I.Source.left c.take.new.self) start (g.O.Sink.written c.feed.new.out)) t.fed.form_is
+    (c.in_err-stopped-in-Got.ensures.feeds first (g.I.Source.left c.take.new.self) start t.bytes c.takes.stopped t.size
+    (own_form c.args.form start (g.O.Sink.written c.takes.out) c.takes.printer c.takes.reader c.takes.stopped t.bytes t.fed) read))
 
-pub returns-in-Err-clause-read_cause : goal.returns-in-Err-clause-read_cause
-returns-in-Err-clause-read_cause g c =
+pub returns-in_err-stopped-in-Got-clause-read_cause : goal.returns-in_err-stopped-in-Got-clause-read_cause
+returns-in_err-stopped-in-Got-clause-read_cause g c =
     later_cause (g.I.Source.faults c.args.input.now) (g.I.Source.faults c.takes.input) (g.I.Source.faults c.take.new.self) _ _ c.takes.invariant.read_later c.take.ensures.cause
-    (λ e. absurd (c.feed.ensures.not_read (c.in-Err.is ∙ same_err c.in-Err.stop ReadFailed e)))
+    (λ e. absurd (c.in_err-stopped-in-Got.ensures.not_read (ap Err (same_stop c.from_residual-in_err-stopped-in-Got.result c.in_err-stopped-in-Got.field-0.0 ReadFailed c.from_residual-in_err-stopped-in-Got.ensures e))))
 
-pub returns-in-Err-clause-write_cause : goal.returns-in-Err-clause-write_cause
-returns-in-Err-clause-write_cause g c =
-    later_cause (g.O.Sink.faults c.args.out.now) (g.O.Sink.faults c.takes.out) (g.O.Sink.faults c.feed.new.out) _ _ c.takes.invariant.write_later c.feed.ensures.cause
-    (λ e. c.in-Err.is ∙ same_err c.in-Err.stop (Unprinted PutFailed) e)
+pub returns-in_err-stopped-in-Got-clause-write_cause : goal.returns-in_err-stopped-in-Got-clause-write_cause
+returns-in_err-stopped-in-Got-clause-write_cause g c =
+    later_cause (g.O.Sink.faults c.args.out.now) (g.O.Sink.faults c.takes.out) (g.O.Sink.faults c.feed.new.out) _ _ c.takes.invariant.write_later c.in_err-stopped-in-Got.ensures.cause
+    (λ e. ap Err (same_stop c.from_residual-in_err-stopped-in-Got.result c.in_err-stopped-in-Got.field-0.0 (Unprinted PutFailed) c.from_residual-in_err-stopped-in-Got.ensures e))
 
 pub overflow_add-fed : goal.overflow_add-fed
 overflow_add-fed g c =
@@ -79,7 +83,7 @@ returns-in-End-clause-ends g c =
     let t = c.takes.invariant.taken in
     let first = g.I.Source.left c.args.input.now in
     let start = g.O.Sink.written c.args.out.now in
-    subst (λ (n : StreamForm). Ends n INPUT_LIMIT c.finish.result first (g.I.Source.left c.take.new.self) start (g.O.Sink.written c.finish.new.out)) t.fed.form_is
+    subst (λ (n : StreamForm). Ends n stream_limit c.finish.result first (g.I.Source.left c.take.new.self) start (g.O.Sink.written c.finish.new.out)) t.fed.form_is
     (c.finish.ensures.finishes first (g.I.Source.left c.takes.input) (g.I.Source.left c.take.new.self) start t.bytes t.within
     (own_form c.args.form start (g.O.Sink.written c.takes.out) c.takes.printer c.takes.reader c.takes.stopped t.bytes t.fed) t.unended t.read c.in-End.ensures.bytes)
 
@@ -95,17 +99,16 @@ returns-in-End-clause-write_cause g c =
 pub returns-in-Failed-clause-ends : goal.returns-in-Failed-clause-ends
 returns-in-Failed-clause-ends g c =
     let t = c.takes.invariant.taken in
-    c.stop_unread.ensures.stops c.args.form INPUT_LIMIT (g.I.Source.left c.args.input.now) (g.I.Source.left c.take.new.self) (g.O.Sink.written c.args.out.now) c.takes.reader c.takes.stopped t.bytes
-    (consumes_kept (g.I.Source.left c.args.input.now) (g.I.Source.left c.takes.input) (g.I.Source.left c.take.new.self) t.bytes t.read c.in-Failed.ensures.bytes) t.fed
+    record {
+      bytes = t.bytes;
+      read = consumes_kept (g.I.Source.left c.args.input.now) (g.I.Source.left c.takes.input) (g.I.Source.left c.take.new.self) t.bytes t.read c.in-Failed.ensures.bytes;
+      wrote = t.fed.wrote;
+    }
 
 pub returns-in-Failed-clause-read_cause : goal.returns-in-Failed-clause-read_cause
 returns-in-Failed-clause-read_cause g c =
     later_cause (g.I.Source.faults c.args.input.now) (g.I.Source.faults c.takes.input) (g.I.Source.faults c.take.new.self) _ _ c.takes.invariant.read_later c.in-Failed.ensures.cause
     (λ e. tt)
-
-pub returns-in-Failed-clause-write_cause : goal.returns-in-Failed-clause-write_cause
-returns-in-Failed-clause-write_cause g c =
-    later_cause (g.O.Sink.faults c.args.out.now) (g.O.Sink.faults c.takes.out) (g.O.Sink.faults c.stop_unread.new.out) _ _ c.takes.invariant.write_later c.stop_unread.ensures.cause (λ e. e)
 
 pub takes-preserved : goal.takes-preserved
 takes-preserved g c =
@@ -117,8 +120,8 @@ takes-preserved g c =
     let given = given_bytes c.in-Got.count c.takes.piece.len c.take.new.into c.takes.piece.items c.deref.result.now c.in-Got.ensures.count.1 fits c.deref.ensures.value in
     let took = subst (Consumes (g.I.Source.left c.takes.input) (g.I.Source.left c.take.new.self)) (sym given) c.in-Got.ensures.bytes in
     let read = consumes_more first (g.I.Source.left c.takes.input) (g.I.Source.left c.take.new.self) t.bytes piece t.read took in
-    let fed = subst (λ (n : StreamForm). Feeds n INPUT_LIMIT (Ok c.in-Ok.error) first (g.I.Source.left c.take.new.self) start (g.O.Sink.written c.feed.new.out) c.feed.new.printer c.feed.new.reader (t.bytes ++ piece)) t.fed.form_is
-    (c.in-Ok.ensures.feeds first (g.I.Source.left c.take.new.self) start t.bytes c.takes.stopped t.size
+    let fed = subst (λ (n : StreamForm). Feeds n stream_limit (Ok c.in_ok-stopped-in-Got.stopped) first (g.I.Source.left c.take.new.self) start (g.O.Sink.written c.feed.new.out) c.feed.new.printer c.feed.new.reader (t.bytes ++ piece)) t.fed.form_is
+    (c.in_ok-stopped-in-Got.ensures.feeds first (g.I.Source.left c.take.new.self) start t.bytes c.takes.stopped t.size
     (own_form c.args.form start (g.O.Sink.written c.takes.out) c.takes.printer c.takes.reader c.takes.stopped t.bytes t.fed) read) in
     let some = c.in-Got.ensures.count.0 in
     let turns = c.takes.invariant.turns in
@@ -127,7 +130,7 @@ takes-preserved g c =
     let write_before = c.takes.invariant.write_later in
     let write_cause = c.feed.ensures.cause.later in
     record {
-      taken = taken_more c.args.form c.takes.printer c.feed.new.printer c.takes.reader c.feed.new.reader c.takes.stopped c.in-Ok.error c.takes.fed c.in-Got.count
+      taken = taken_more c.args.form c.takes.printer c.feed.new.printer c.takes.reader c.feed.new.reader c.takes.stopped c.in_ok-stopped-in-Got.stopped c.takes.fed c.in-Got.count
           first (g.I.Source.left c.takes.input) (g.I.Source.left c.take.new.self) start (g.O.Sink.written c.takes.out) (g.O.Sink.written c.feed.new.out) piece t
           (ap length given ∙ length-take-le c.in-Got.count c.take.new.into c.in-Got.ensures.count.1) took fed;
       turns = omega arith;
