@@ -5,6 +5,7 @@
 #![tactic(auto)]
 
 mod fields;
+pub mod laws;
 mod lines;
 mod messages;
 mod terms;

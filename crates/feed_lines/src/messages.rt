@@ -4,7 +4,7 @@ ghost use Rattle.std.specs.Prelude.{◌≡◌, ◌≤◌, ◌<◌, ◌+◌, ◌+
 ghost use Rattle.pitch_fields.specs.Name.{name_shown};
 ghost use Rattle.pitch_messages.specs.Raw.{IsRaw, kind_of};
 ghost use Rattle.pitch_messages.specs.Reading.{reads};
-ghost use Rattle.pitch_model.specs.Show.{number_field, kind_text, price_text, flags_text, add_text, trade_text, reduce_text, modify_text, executed_text, message_text, short_text, bad_side_text, said_text, message_line, next_after};
+ghost use Rattle.feed_lines.specs.Show.{number_field, kind_text, price_text, flags_text, add_text, trade_text, reduce_text, modify_text, executed_text, message_text, short_text, bad_side_text, said_text, message_line, next_after};
 ghost use Rattle.feed_lines.specs.Terms.{shown};
 
 use crate::fields::{
@@ -147,7 +147,7 @@ fn put_other(out: &mut [u8], at: usize, raw: &[u8]) -> usize
 
 // Writes the name of a message and its fields, in the order of the table.
 #[inline(always)]
-#[tactic(auto, unfolding(pitch_model::specs::Show::message_text))]
+#[tactic(auto, unfolding(crate::specs::Show::message_text))]
 fn put_message(out: &mut [u8], at: usize, message: &Message) -> usize
     requires { at + 300 ≤ length out.old }
     ensures end { result ≤ at + 300 }
@@ -317,7 +317,7 @@ fn put_bad_side(out: &mut [u8], at: usize, raw: &[u8], byte: u8) -> usize
 }
 
 // Writes why a raw of a known type says nothing.
-#[tactic(auto, unfolding(pitch_model::specs::Show::said_text))]
+#[tactic(auto, unfolding(crate::specs::Show::said_text))]
 fn put_unread(out: &mut [u8], at: usize, raw: &[u8], error: ReadError) -> usize
     requires place { at + 90 ≤ length out.old }
     requires raw { IsRaw raw.now }
@@ -333,7 +333,7 @@ fn put_unread(out: &mut [u8], at: usize, raw: &[u8], error: ReadError) -> usize
 
 // Writes what was read of a raw.
 #[inline(always)]
-#[tactic(auto, unfolding(pitch_model::specs::Show::said_text))]
+#[tactic(auto, unfolding(crate::specs::Show::said_text))]
 fn put_read(out: &mut [u8], at: usize, raw: &[u8], read: Result<Message, ReadError>) -> usize
     requires place { at + 400 ≤ length out.old }
     requires raw { IsRaw raw.now }
@@ -391,7 +391,7 @@ fn put_any(out: &mut [u8], at: usize, raw: &[u8], kind: u8) -> usize
 }
 
 /// Writes the line of a message: its sequence, where it has one, then its name and its fields, or why it can't be read.
-#[tactic(auto, unfolding(pitch_model::specs::Show::message_line))]
+#[tactic(auto, unfolding(crate::specs::Show::message_line))]
 pub fn put_message_line(out: &mut [u8], at: usize, sequence: u32, raw: &[u8]) -> usize
     requires place { at + LINE ≤ length out.old }
     requires raw { IsRaw raw.now }

@@ -77,7 +77,7 @@ long_symbol symbol = symbol ++ 32 ∷ 32 ∷ []
 
 -- a short price counts hundredths, and a long one ten-thousandths
 abbrev pub long_price : ℕ → ℕ
-long_price price = price * 100
+long_price price = 100 * price
 
 -- the participant of an order that names none is four spaces
 abbrev pub no_participant : List ℕ

@@ -10,8 +10,4 @@ pub mod Status
 pub mod Heard
 pub mod Honest
 pub mod Asking
-pub mod StatusText
-pub mod BookText
-pub mod Follow
-pub mod Show
-pub mod Texts
+pub mod Units

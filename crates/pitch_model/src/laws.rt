@@ -1,6 +1,6 @@
 //! Laws of the definitions. These functions do nothing: what they ensure is proved of the definitions alone.
 
-ghost use Rattle.std.specs.Prelude.{◌≡◌, ℕ, ◌+◌, ◌<◌, ◌≤◌, Bool, true, false, ◌||◌, ◌==◌, List, [], ◌∷◌, ◌++◌, length, reverse, take, nat_eq, unwrap_or};
+ghost use Rattle.std.specs.Prelude.{◌≡◌, ℕ, ◌+◌, ◌<◌, ◌≤◌, Bool, true, false, ◌||◌, ◌==◌, List, [], ◌∷◌, length, take, nat_eq, unwrap_or};
 ghost use Rattle.std.specs.List.{list_any, AllByRecursion};
 ghost use Rattle.std.specs.List.Sorted.{IsStrictlyIncreasing};
 ghost use Rattle.std.specs.Set.{is_member};
@@ -15,8 +15,7 @@ ghost use Rattle.pitch_model.specs.Levels.{IsBestOf, best, level, orders_on, pri
 ghost use Rattle.pitch_model.specs.History.{Entry, Raw, Message, SpinFinished, spin_of, images_at, image_finished, messages_at};
 ghost use Rattle.pitch_model.specs.Heard.{IsItem, IsItemOf, heard, heard_block, change_of, block_change};
 ghost use Rattle.pitch_model.specs.Honest.{Honest};
-ghost use Rattle.pitch_model.specs.Follow.{units_of};
-ghost use Rattle.pitch_model.specs.Texts.{texts_after};
+ghost use Rattle.pitch_model.specs.Units.{units_of};
 ghost use Rattle.pitch_model.specs.Reach.{Part, IsReach, is_anchor, is_seen, reach_of, held_count, part_of, reach, is_held};
 ghost use Rattle.pitch_model.specs.Status.{top_of};
 ghost use Rattle.pitch_model.specs.Steps.{SameReach, Leaves, Drains};
@@ -95,12 +94,6 @@ pub fn items_say_what_their_blocks_say()
     ensures heard { (block : Block) (item : Item) (E : List Entry) → IsItemOf block item → heard item E ≡ heard_block block E }
     ensures change { (H : ℕ) (block : Block) (item : Item) (E : List Entry) → IsItemOf block item → change_of H E item ≡ block_change H E block }
     ensures fits { (block : Block) (item : Item) → StaysWithin block.sequence (length block.raws) → IsItemOf block item → IsItem item }
-{}
-
-/// The texts of a stream with a block more are the texts before it, and the text of that block.
-pub fn texts_grow_by_the_block()
-    ensures none { (text : List Block → Block → List ℕ) → texts_after text [] [] ≡ [] }
-    ensures more { (text : List Block → Block → List ℕ) (blocks : List Block) (block : Block) → texts_after text [] (blocks ++ block ∷ []) ≡ texts_after text [] blocks ++ text (reverse blocks) block }
 {}
 
 /// Each unit that a block names is listed once, by rising number, and no other unit is.

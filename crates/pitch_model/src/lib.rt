@@ -1,4 +1,4 @@
-//! What a client of the feed hears, knows, asks and prints, as definitions, with the types that they speak of.
+//! What a client of the feed hears, knows and asks, as definitions, with the types that they speak of.
 #![tactic(auto)]
 
 mod ask;
@@ -6,8 +6,6 @@ mod change;
 mod item;
 pub mod laws;
 mod status;
-#[cfg(test)]
-mod tests;
 
 pub use crate::ask::Ask;
 pub use crate::change::{Change, ImageEnd};

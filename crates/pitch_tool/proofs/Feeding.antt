@@ -14,7 +14,7 @@ use Rattle.unit_packets.specs.declared.header.BlockError.{BlockError}
 use Rattle.unit_packets.specs.declared.header.BlockFault.{BlockFault}
 use Rattle.unit_packets.proofs.Cuts.{appends, rest_short}
 use Rattle.unit_packets.proofs.Streams.{fault_open, fault_rest, fault_no_rest, fault_stays}
-use Rattle.pitch_model.specs.Texts.{texts_after}
+use Rattle.feed_lines.specs.Texts.{texts_after}
 use Rattle.pitch_tool.specs.declared.stream_form.StreamForm.{StreamForm}
 use Rattle.pitch_tool.specs.declared.stream_form.StreamForm.TheVariants.{Follow, Show}
 use Rattle.pitch_tool.specs.Feeding.{Fed}

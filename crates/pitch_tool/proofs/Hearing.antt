@@ -5,8 +5,8 @@ use Rattle.std.proofs.lemmas.Bool.{eq-eqb, ne_eqb}
 use Rattle.unit_packets.specs.Blocks.{Block}
 use Rattle.pitch_model.specs.History.{Entry, Raw}
 use Rattle.pitch_model.specs.Heard.{heard_block}
-use Rattle.pitch_model.specs.Follow.{unit_history}
-use Rattle.pitch_model.proofs.Following.{history_same, history_other}
+use Rattle.pitch_model.specs.Units.{unit_history}
+use Rattle.pitch_model.proofs.Units.{history_same, history_other}
 use Rattle.client_core.specs.Tracks.{Tracks}
 use Rattle.client_core.specs.declared.client.UnitClient.{UnitClient}
 use Rattle.pitch_tool.specs.Stands.{is_named, IsClient, TracksAt, Clients, KeepsTo, AllKeep}

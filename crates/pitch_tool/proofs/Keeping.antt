@@ -9,7 +9,7 @@ use Rattle.unit_packets.specs.Blocks.{Block}
 use Rattle.unit_packets.specs.Cutting.{blocks_of, is_truncated}
 use Rattle.unit_packets.specs.Reading.{Reading, loaded}
 use Rattle.unit_packets.specs.declared.header.BlockError.{BlockError}
-use Rattle.pitch_model.specs.Texts.{texts_after}
+use Rattle.feed_lines.specs.Texts.{texts_after}
 use Rattle.pitch_tool.specs.declared.stream_form.StreamForm.{StreamForm}
 use Rattle.pitch_tool.specs.Feeding.{Fed, Feeds}
 use Rattle.pitch_tool.specs.Inputs.{Ends, Refuses, WritesSome}

@@ -3,7 +3,7 @@ use Rattle.std.proofs.Common.{◌≡◌, inl, inr, ℕ, zero, suc, ◌+◌, ◌<
 use Rattle.std.proofs.lemmas.List.{append-nil}
 use Rattle.std.proofs.lemmas.Bool.{cond-false, ne_eqb}
 use Rattle.unit_packets.specs.Blocks.{StaysWithin}
-use Rattle.pitch_model.specs.Show.{message_line, message_lines, next_after}
+use Rattle.feed_lines.specs.Show.{message_line, message_lines, next_after}
 use Rattle.pitch_tool.specs.Page.{Prints}
 use Rattle.pitch_tool.specs.Putting.{PutsSome}
 use Rattle.pitch_tool.proofs.Printing.{prints_none, prints_more, puts_longer, puts_after}

@@ -11,8 +11,8 @@ use Rattle.unit_packets.specs.declared.header.BlockError.{BlockError}
 use Rattle.unit_packets.proofs.Streams.{leads}
 use Rattle.unit_packets.proofs.Cuts.{none_of}
 use Rattle.pitch_tool.specs.declared.stream_form.StreamForm.{StreamForm}
-use Rattle.pitch_model.specs.Texts.{texts_after}
-use Rattle.pitch_model.proofs.Following.{texts_none, texts_first, texts_more, reverse_more}
+use Rattle.feed_lines.specs.Texts.{texts_after}
+use Rattle.feed_lines.proofs.Texts.{texts_none, texts_first, texts_more, reverse_more}
 use Rattle.pitch_tool.specs.Knowing.{form_of}
 use Rattle.pitch_tool.specs.Printing.{PrintsBlock, PrintsBlocks, PrintsAll}
 use Rattle.pitch_tool.specs.Page.{Prints}

@@ -10,8 +10,8 @@ use Rattle.unit_packets.specs.Reading.{Reading}
 use Rattle.unit_packets.specs.declared.header.BlockError.{BlockError}
 use Rattle.unit_packets.specs.declared.header.BlockError.TheVariants.{Truncated}
 use Rattle.unit_packets.proofs.Cuts.{none_of}
-use Rattle.pitch_model.specs.Texts.{texts_after}
-use Rattle.pitch_model.proofs.Following.{texts_none}
+use Rattle.feed_lines.specs.Texts.{texts_after}
+use Rattle.feed_lines.proofs.Texts.{texts_none}
 use Rattle.pitch_tool.specs.declared.stream_form.StreamForm.{StreamForm}
 use Rattle.pitch_tool.specs.Feeding.{Fed}
 use Rattle.pitch_tool.specs.Inputs.{WritesSome, Ends}

@@ -4,10 +4,11 @@ use Rattle.std.specs.List.{flat_map}
 use Rattle.std.proofs.lemmas.List.{append-nil}
 use Rattle.unit_packets.specs.Blocks.{Block}
 use Rattle.pitch_model.specs.Book.{Book, book_after}
-use Rattle.pitch_model.specs.BookText.{book_text}
+use Rattle.feed_lines.specs.BookText.{book_text}
 use Rattle.pitch_model.specs.History.{Entry, Raw}
 use Rattle.pitch_model.specs.Reach.{reach}
-use Rattle.pitch_model.specs.Follow.{unit_history, unit_text, books_of}
+use Rattle.pitch_model.specs.Units.{unit_history}
+use Rattle.feed_lines.specs.Follow.{unit_text, books_of}
 use Rattle.client_core.specs.Tracks.{Tracks, Keeps}
 use Rattle.client_core.specs.declared.client.UnitClient.{UnitClient}
 use Rattle.pitch_tool.specs.Books.{named_text, PrintsUnit, PutsUnit, PrintsBooks, PutsBooks}

@@ -3,7 +3,7 @@ use Rattle.std.specs.Prelude.{◌≡◌, ℕ, List, [], ◌++◌, cond, Option}
 use Rattle.std.specs.List.{flat_map}
 use Rattle.unit_packets.specs.Blocks.{Block}
 use Rattle.pitch_model.specs.History.{Raw}
-use Rattle.pitch_model.specs.Follow.{unit_text, books_of}
+use Rattle.feed_lines.specs.Follow.{unit_text, books_of}
 use Rattle.client_core.specs.declared.client.UnitClient.{UnitClient}
 use Rattle.pitch_tool.specs.Page.{Prints}
 use Rattle.pitch_tool.specs.Putting.{PutsSome}

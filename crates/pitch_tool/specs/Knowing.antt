@@ -2,7 +2,7 @@
 use Rattle.std.specs.Prelude.{◌≡◌, ◌≤◌, ℕ, List, length}
 use Rattle.unit_packets.specs.Blocks.{Block}
 use Rattle.pitch_model.specs.History.{Raw}
-use Rattle.pitch_model.specs.Follow.{AllHonest}
+use Rattle.pitch_model.specs.Units.{AllHonest}
 use Rattle.pitch_tool.specs.declared.stream_form.StreamForm.{StreamForm}
 use Rattle.pitch_tool.specs.declared.stream_form.StreamForm.TheVariants as form
 use Rattle.pitch_tool.specs.Stands.{Clients, AreUnits, AllKeep}

@@ -6,7 +6,7 @@ use Rattle.unit_packets.specs.Cutting.{blocks_of, rest_of}
 use Rattle.unit_packets.specs.Judging.{judge}
 use Rattle.unit_packets.specs.Reading.{Reading}
 use Rattle.unit_packets.specs.declared.header.BlockError.{BlockError}
-use Rattle.pitch_model.specs.Texts.{texts_after}
+use Rattle.feed_lines.specs.Texts.{texts_after}
 use Rattle.pitch_tool.specs.Knowing.{form_of}
 use Rattle.pitch_tool.specs.Page.{Prints}
 use Rattle.pitch_tool.specs.Standing.{HasPrinted, IsReady}

@@ -3,9 +3,10 @@ use Rattle.std.specs.Prelude.{◌≡◌, ℕ, List, [], ◌++◌, reverse}
 use Rattle.unit_packets.specs.Blocks.{Block}
 use Rattle.unit_packets.specs.Cutting.{blocks_of}
 use Rattle.pitch_model.specs.History.{Raw}
-use Rattle.pitch_model.specs.Follow.{line_after, books_of, follow_text, AllHonest}
-use Rattle.pitch_model.specs.Show.{shown_after, show_text}
-use Rattle.pitch_model.specs.Texts.{texts_after}
+use Rattle.pitch_model.specs.Units.{AllHonest}
+use Rattle.feed_lines.specs.Follow.{line_after, books_of, follow_text}
+use Rattle.feed_lines.specs.Show.{shown_after, show_text}
+use Rattle.feed_lines.specs.Texts.{texts_after}
 use Rattle.pitch_tool.specs.declared.stream_form.StreamForm.{StreamForm}
 use Rattle.pitch_tool.specs.declared.stream_form.StreamForm.TheVariants.{Follow, Show}
 

@@ -1,7 +1,7 @@
 ghost use Rattle.std.specs.Prelude.{◌≡◌, ◌≤◌, ◌++◌, [], List, ℕ, OnOk, OnErr, Err, length};
 ghost use Rattle.std.specs.List.{flat_map};
 ghost use Rattle.pitch_io.specs.Causes.{HasCause};
-ghost use Rattle.pitch_model.specs.BookText.{order_line, book_text};
+ghost use Rattle.feed_lines.specs.BookText.{order_line, book_text};
 ghost use Rattle.pitch_tool.specs.Page.{Prints};
 ghost use Rattle.pitch_tool.specs.Putting.{PutsSome};
 

@@ -1,11 +1,10 @@
 ghost use Rattle.std.specs.Prelude.{◌≡◌, ◌≤◌, ◌<◌, ◌+◌, ◌++◌, [], ◌∷◌, length, OnOk, OnErr, IfOk, IsErr};
 ghost use Rattle.pitch_io.specs.Causes.{HasCause};
 ghost use Rattle.pitch_io.specs.Putting.{Grows};
-ghost use Rattle.pitch_model.specs.BookText.{order_line};
-ghost use Rattle.pitch_model.specs.Follow.{block_line};
-ghost use Rattle.pitch_model.specs.Show.{shown_head, message_line};
+ghost use Rattle.feed_lines.specs.BookText.{book_head, order_line};
+ghost use Rattle.feed_lines.specs.Follow.{block_line};
+ghost use Rattle.feed_lines.specs.Show.{shown_head, message_line};
 ghost use Rattle.pitch_messages.specs.Raw.{IsRaw};
-ghost use Rattle.feed_lines.specs.Lines.{book_head};
 ghost use Rattle.pitch_tool.specs.Page.{Prints};
 ghost use Rattle.pitch_tool.specs.Putting.{PutsSome};
 

@@ -4,7 +4,7 @@ ghost use Rattle.unit_packets.specs.Blocks.{Block};
 ghost use Rattle.unit_packets.specs.Cutting.{blocks_of, rest_of, is_truncated};
 ghost use Rattle.unit_packets.specs.Judging.{judge};
 ghost use Rattle.unit_packets.specs.Reading.{Reading, loaded};
-ghost use Rattle.pitch_model.specs.Texts.{texts_after};
+ghost use Rattle.feed_lines.specs.Texts.{texts_after};
 ghost use Rattle.pitch_io.specs.Causes.{HasCause};
 ghost use Rattle.pitch_tool.specs.Feeding.{Fed, Feeds};
 ghost use Rattle.pitch_tool.specs.Inputs.{stream_limit, Ends};

@@ -1,8 +1,8 @@
 ghost use Rattle.std.specs.Prelude.{◌≡◌, ◌≤◌, ◌<◌, ◌+◌, ◌++◌, [], ◌∷◌, List, length, OnOk, OnErr, IfOk, Err, ◌^◌};
 ghost use Rattle.unit_packets.specs.Blocks.{Block};
 ghost use Rattle.pitch_io.specs.Causes.{HasCause};
-ghost use Rattle.pitch_model.specs.Follow.{line_after};
-ghost use Rattle.pitch_model.specs.Show.{shown_head, message_lines};
+ghost use Rattle.feed_lines.specs.Follow.{line_after};
+ghost use Rattle.feed_lines.specs.Show.{shown_head, message_lines};
 ghost use Rattle.pitch_tool.specs.Ending.{PrintsEnd, PutsEnd};
 ghost use Rattle.pitch_tool.specs.Knowing.{IsPossible, form_of, HaveHeard, CanHear, Knows, IsAble};
 ghost use Rattle.pitch_tool.specs.Page.{Prints};

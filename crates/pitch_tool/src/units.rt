@@ -3,7 +3,7 @@
 ghost use Rattle.std.specs.Prelude.{◌≡◌, ◌≤◌, ◌<◌, ℕ, List, [], ◌∷◌, OnOk, OnErr, IfOk, IsSome, Err, Option, Some, slice_get, length};
 ghost use Rattle.unit_packets.specs.Blocks.{Block};
 ghost use Rattle.pitch_model.specs.History.{Raw, Entry};
-ghost use Rattle.pitch_model.specs.Follow.{unit_history, AllHonest};
+ghost use Rattle.pitch_model.specs.Units.{unit_history, AllHonest};
 ghost use Rattle.pitch_model.specs.Heard.{heard_block, block_change};
 ghost use Rattle.pitch_model.specs.Honest.{Honest};
 ghost use Rattle.pitch_io.specs.Causes.{HasCause};

@@ -3,8 +3,7 @@ use Rattle.std.specs.FinMap as fin
 use Rattle.pitch_messages.specs.declared.order.Order.{Order}
 use Rattle.pitch_model.specs.Book.{Book, IsBook}
 use Rattle.pitch_model.specs.Levels.{orders_of}
-use Rattle.pitch_model.specs.BookText.{book_text}
-use Rattle.feed_lines.specs.Lines.{book_head}
+use Rattle.feed_lines.specs.BookText.{book_head, book_text}
 use Rattle.pitch_tool.specs.Page.{Page, Prints}
 use Rattle.pitch_tool.specs.Putting.{PutsSome}
 use Rattle.pitch_tool.proofs.Booking.{lines_of, book_text_is}

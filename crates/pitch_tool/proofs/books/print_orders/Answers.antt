@@ -2,7 +2,7 @@ use Rattle.std.proofs.lemmas.Option.{slice_get_read}
 use Rattle.std.proofs.Common.{refl, rules, ◌++◌, ℕ, List, take, drop, length, sym, ap, ◌∙◌, subst, arith, append_assoc}
 use Rattle.std.proofs.lemmas.List.{take-append-drop}
 use Rattle.pitch_messages.specs.declared.order.Order.{Order}
-use Rattle.pitch_model.specs.BookText.{order_line}
+use Rattle.feed_lines.specs.BookText.{order_line}
 use Rattle.pitch_tool.specs.Page.{Page, Prints}
 use Rattle.pitch_tool.specs.Putting.{PutsSome}
 use Rattle.pitch_tool.proofs.Booking.{lines_of, lines_append, lines_take}

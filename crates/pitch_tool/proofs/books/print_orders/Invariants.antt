@@ -1,6 +1,6 @@
 use Rattle.std.proofs.Common.{◌≡◌, ◌≤◌, take}
 use Rattle.std.specs.List.{flat_map}
-use Rattle.pitch_model.specs.BookText.{order_line}
+use Rattle.feed_lines.specs.BookText.{order_line}
 use Rattle.pitch_tool.specs.Page.{Prints}
 use Rattle.pitch_tool.proofs.books.print_orders.Given as goal
 

@@ -1,5 +1,5 @@
 use Rattle.std.proofs.Common.{◌++◌, length, ap, ◌∙◌, arith}
-use Rattle.pitch_model.specs.Show.{message_line, message_lines}
+use Rattle.feed_lines.specs.Show.{message_line, message_lines}
 use Rattle.pitch_tool.specs.Page.{Page}
 use Rattle.pitch_tool.specs.Putting.{PutsSome}
 use Rattle.pitch_tool.proofs.Hearing.{on_err}

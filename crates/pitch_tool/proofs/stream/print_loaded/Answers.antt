@@ -4,7 +4,7 @@ use Rattle.unit_packets.specs.Cutting.{blocks_of}
 use Rattle.unit_packets.specs.Judging.{judge}
 use Rattle.unit_packets.specs.Lending.{StandsAtFront}
 use Rattle.unit_packets.specs.declared.header.Header.{Header}
-use Rattle.pitch_model.specs.Texts.{texts_after}
+use Rattle.feed_lines.specs.Texts.{texts_after}
 use Rattle.pitch_tool.specs.Knowing.{form_of}
 use Rattle.pitch_tool.specs.Putting.{PutsSome}
 use Rattle.pitch_tool.specs.Standing.{HasPrinted}

@@ -1,6 +1,6 @@
 use Rattle.std.proofs.Common.{◌++◌, List, ℕ, length, ap, ap₂, subst}
 use Rattle.unit_packets.specs.declared.header.Header.{Header}
-use Rattle.pitch_model.specs.Show.{shown_head, message_lines}
+use Rattle.feed_lines.specs.Show.{shown_head, message_lines}
 use Rattle.pitch_tool.specs.Page.{Page, Prints}
 use Rattle.pitch_tool.specs.Putting.{PutsSome}
 use Rattle.pitch_tool.proofs.Hearing.{on_err}

@@ -5,8 +5,8 @@ use Rattle.unit_packets.specs.Blocks.{Block}
 use Rattle.unit_packets.specs.declared.header.Header.{Header}
 use Rattle.pitch_model.specs.History.{Entry, Raw}
 use Rattle.pitch_model.specs.Heard.{heard_block, block_change}
-use Rattle.pitch_model.specs.Follow.{unit_history, AllHonest}
-use Rattle.pitch_model.proofs.Following.{history_same, all_honest_before}
+use Rattle.pitch_model.specs.Units.{unit_history, AllHonest}
+use Rattle.pitch_model.proofs.Units.{history_same, all_honest_before}
 use Rattle.pitch_model.specs.Honest.{Honest}
 use Rattle.client_core.specs.declared.client.UnitClient.{UnitClient}
 use Rattle.pitch_tool.specs.Knowing.{HaveHeard}

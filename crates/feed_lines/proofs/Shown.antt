@@ -4,8 +4,8 @@ use Rattle.std.specs.Fmt.{digits}
 use Rattle.unit_packets.specs.Blocks.{Block}
 use Rattle.pitch_fields.specs.Name.{name_shown}
 use Rattle.pitch_messages.specs.Reading.{reads}
-use Rattle.pitch_model.specs.Show.{message_line, message_lines, message_text, said_text, show_text, shown_head}
-use Rattle.pitch_model.specs.Texts.{texts_after}
+use Rattle.feed_lines.specs.Show.{message_line, message_lines, message_text, said_text, show_text, shown_head}
+use Rattle.feed_lines.specs.Texts.{texts_after}
 
 abbrev block : ℕ → List (List ℕ) → Block
 block sequence raws = record { unit = 1; sequence = sequence; raws = raws }

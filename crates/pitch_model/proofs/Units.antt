@@ -1,50 +1,19 @@
--- The text of a stream, one block after another.
-use Rattle.std.proofs.Common.{◌≡◌, ◌≢◌, ℕ, Bool, true, false, ◌||◌, ◌==◌, cond, List, [], ◌∷◌, ◌++◌, reverse, eqb, ltb, refl, sym, ap, ◌∙◌, subst, inl, inr, arith, append_assoc}
+-- The units that blocks name, and what their clients heard.
+use Rattle.std.proofs.Common.{◌≡◌, ◌≢◌, ℕ, Bool, true, false, ◌||◌, ◌==◌, cond, List, [], ◌∷◌, eqb, ltb, refl, sym, ap, ◌∙◌, subst, inl, inr, arith}
 use Rattle.std.specs.List.{list_any, AllByRecursion}
 use Rattle.std.specs.List.Sorted.{IsStrictlyIncreasing, IsStrictlySortedBy}
 use Rattle.std.proofs.lemmas.Map.Keys.{IsStrictlyIncreasing-from_sorted}
 use Rattle.std.specs.Ordering.{nat_cmp}
 use Rattle.std.specs.declared.cmp.Ordering.TheVariants.{Less}
 use Rattle.std.specs.Set.{is_member}
-use Rattle.std.proofs.lemmas.List.{append-nil, reverse-append}
-use Rattle.std.proofs.lemmas.Grind.{reverse_onto}
 use Rattle.std.proofs.lemmas.Bool.{cond_both, cond-true, cond-false, eqb-true, eq-eqb, ne_eqb, lt-ltb, le-ltb, cases_lt, cases_eq}
 use Rattle.std.proofs.lemmas.Bool.Decides.{nat_tests}
 use Rattle.unit_packets.specs.Blocks.{Block}
 use Rattle.pitch_model.specs.History.{Entry, Raw}
 use Rattle.pitch_model.specs.Heard.{heard_block, heard_sequenced}
 use Rattle.pitch_model.specs.Honest.{Honest}
-use Rattle.pitch_model.specs.Follow.{unit_history, with_number, units_of, AllHonest}
-use Rattle.pitch_model.specs.Texts.{texts_after}
+use Rattle.pitch_model.specs.Units.{unit_history, with_number, units_of, AllHonest}
 use Rattle.pitch_model.proofs.Honesty.{honest_before}
-
--- ---- Texts
-pub texts_none : (text : List Block → Block → List ℕ) (before : List Block) → texts_after text before [] ≡ []
-unfolding texts_after
-texts_none text before = refl
-
-pub texts_first : (text : List Block → Block → List ℕ) (before : List Block) (block : Block) (blocks : List Block) → texts_after text before (block ∷ blocks) ≡ text before block ++ texts_after text (block ∷ before) blocks
-unfolding texts_after
-texts_first text before block blocks = refl
-
-reverse_cons : (block : Block) (blocks before : List Block) → reverse (block ∷ blocks) ++ before ≡ reverse blocks ++ (block ∷ before)
-reverse_cons block blocks before = ap (λ (bs : List Block). bs ++ before) (reverse_onto blocks block []) ∙ append_assoc (reverse blocks) (block ∷ []) before
-
--- a block more
-pub texts_more : (text : List Block → Block → List ℕ) (before blocks : List Block) (block : Block) → texts_after text before (blocks ++ block ∷ []) ≡ texts_after text before blocks ++ text (reverse blocks ++ before) block
-unfolding texts_after
-texts_more text before [] block = append-nil (text before block)
-texts_more text before (b ∷ blocks) block =
-    ap (λ (t : List ℕ). text before b ++ t) (texts_more text (b ∷ before) blocks block)
-    ∙ sym (append_assoc (text before b) (texts_after text (b ∷ before) blocks) (text (reverse blocks ++ (b ∷ before)) block))
-    ∙ ap (λ (bs : List Block). (text before b ++ texts_after text (b ∷ before) blocks) ++ text bs block) (sym (reverse_cons b blocks before))
-
--- the texts from the start on, with a block more
-pub texts_grown : (text : List Block → Block → List ℕ) (blocks : List Block) (block : Block) → texts_after text [] (blocks ++ block ∷ []) ≡ texts_after text [] blocks ++ text (reverse blocks) block
-texts_grown text blocks block = texts_more text [] blocks block ∙ ap (λ (bs : List Block). texts_after text [] blocks ++ text bs block) (append-nil (reverse blocks))
-
-pub reverse_more : (blocks : List Block) (block : Block) → reverse (blocks ++ block ∷ []) ≡ block ∷ reverse blocks
-reverse_more blocks block = reverse-append blocks (block ∷ [])
 
 -- ---- Units
 -- a number stands among the others or is the new one

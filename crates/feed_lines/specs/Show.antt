@@ -1,5 +1,5 @@
 -- What `show` writes for the blocks of a stream: a line for each block, and one for each of its messages.
-use Rattle.std.specs.Prelude.{ℕ, ◌+◌, ◌*◌, ◌==◌, List, [], ◌∷◌, ◌++◌, length, Result, Ok, Err, codes, decimal, if◌then◌else◌}
+use Rattle.std.specs.Prelude.{ℕ, ◌+◌, ◌==◌, List, [], ◌∷◌, ◌++◌, length, Result, Ok, Err, codes, decimal, if◌then◌else◌}
 use Rattle.pitch_fields.specs.Name.{hex_text, name_shown}
 use Rattle.pitch_fields.specs.Price.{price_digits}
 use Rattle.pitch_fields.specs.Side.{byte_of}
@@ -11,7 +11,8 @@ use Rattle.pitch_messages.specs.declared.message.Message.TheVariants.{Time, AddL
 use Rattle.pitch_messages.specs.declared.message.ReadError.{ReadError}
 use Rattle.pitch_messages.specs.declared.message.ReadError.TheVariants.{Short, BadSide}
 use Rattle.unit_packets.specs.Blocks.{Block}
-use Rattle.pitch_model.specs.Texts.{block_head, texts_after}
+use Rattle.pitch_model.specs.Book.{long_price, long_symbol}
+use Rattle.feed_lines.specs.Texts.{block_head, texts_after}
 
 -- ---- Fields
 -- a number after its name
@@ -41,10 +42,6 @@ symbol_text symbol = codes " symbol=" ++ name_shown symbol
 abbrev pub terms_text : Side → ℕ → List ℕ → ℕ → List ℕ
 terms_text side quantity symbol price = side_text side ++ (number_field (codes " quantity=") quantity ++ (symbol_text symbol ++ price_text price))
 
--- a symbol of six bytes has two spaces behind it
-abbrev pub widened : List ℕ → List ℕ
-widened symbol = symbol ++ 32 ∷ 32 ∷ []
-
 -- ---- Messages
 abbrev pub add_text : List ℕ → ℕ → ℕ → List ℕ → ℕ → List ℕ
 add_text name offset id terms flags = head_text name offset id ++ (terms ++ flags_text flags)
@@ -64,18 +61,18 @@ executed_text name offset id executed = head_text name offset id ++ number_field
 -- the name of a message, and its fields in the order of the table
 unfoldable pub message_text : Message → List ℕ
 message_text (Time second) = number_field (codes "time second=") second
-message_text (AddLong offset id side quantity symbol price flags) = add_text (codes "add-long") offset id (terms_text side quantity (widened symbol) price) flags
-message_text (AddShort offset id side quantity symbol price flags) = add_text (codes "add-short") offset id (terms_text side quantity (widened symbol) (100 * price)) flags
+message_text (AddLong offset id side quantity symbol price flags) = add_text (codes "add-long") offset id (terms_text side quantity (long_symbol symbol) price) flags
+message_text (AddShort offset id side quantity symbol price flags) = add_text (codes "add-short") offset id (terms_text side quantity (long_symbol symbol) (long_price price)) flags
 message_text (Executed offset id executed execution) = executed_text (codes "executed") offset id executed ++ number_field (codes " execution=") execution
 message_text (ExecutedAt offset id executed remaining execution price) =
     executed_text (codes "executed-at") offset id executed ++ (number_field (codes " remaining=") remaining ++ (number_field (codes " execution=") execution ++ price_text price))
 message_text (ReduceLong offset id quantity) = reduce_text (codes "reduce-long") offset id quantity
 message_text (ReduceShort offset id quantity) = reduce_text (codes "reduce-short") offset id quantity
 message_text (ModifyLong offset id quantity price flags) = modify_text (codes "modify-long") offset id quantity price flags
-message_text (ModifyShort offset id quantity price flags) = modify_text (codes "modify-short") offset id quantity (100 * price) flags
+message_text (ModifyShort offset id quantity price flags) = modify_text (codes "modify-short") offset id quantity (long_price price) flags
 message_text (Delete offset id) = head_text (codes "delete") offset id
-message_text (TradeLong offset id side quantity symbol price execution) = trade_text (codes "trade-long") offset id (terms_text side quantity (widened symbol) price) execution
-message_text (TradeShort offset id side quantity symbol price execution) = trade_text (codes "trade-short") offset id (terms_text side quantity (widened symbol) (100 * price)) execution
+message_text (TradeLong offset id side quantity symbol price execution) = trade_text (codes "trade-long") offset id (terms_text side quantity (long_symbol symbol) price) execution
+message_text (TradeShort offset id side quantity symbol price execution) = trade_text (codes "trade-short") offset id (terms_text side quantity (long_symbol symbol) (long_price price)) execution
 message_text (TradeBreak offset execution) = number_field (codes "trade-break offset=") offset ++ number_field (codes " execution=") execution
 message_text (EndOfSession offset) = number_field (codes "end offset=") offset
 message_text (AddExpanded offset id side quantity symbol price flags participant) =
