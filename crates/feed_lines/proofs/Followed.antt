@@ -1,5 +1,5 @@
 -- Worked examples of `follow`, computed by the definitions.
-use Rattle.std.proofs.Common.{◌≡◌, ℕ, ◌++◌, true, false, List, [], ◌∷◌, refl, ap, ◌∙◌, ◌-◌, cond, codes, Option, Some}
+use Rattle.std.proofs.Common.{◌≡◌, ℕ, ◌++◌, true, false, List, [], ◌∷◌, reverse, refl, ap, ◌∙◌, ◌-◌, cond, codes, Option, Some}
 use Rattle.std.specs.Option.{is_some}
 use Rattle.std.specs.List.{flat_map}
 use Rattle.std.specs.Ordering.{nat_cmp}
@@ -12,17 +12,20 @@ use Rattle.pitch_messages.specs.declared.order.Order.{Order}
 use Rattle.pitch_messages.specs.Reading.{reads}
 use Rattle.pitch_model.specs.Book.{Book, after, book_after}
 use Rattle.pitch_model.specs.Reach.{reach_of, held_count}
-use Rattle.pitch_model.proofs.Examples.{block, stream, clock, order, deletion, unknown, grown, sold, no_orders, one_sold, one_order, no_entries, book_of_a_grown_add}
+use Rattle.pitch_model.proofs.Examples.{block, stream, venue, clock, order, deletion, unknown, grown, sold, no_orders, one_sold, one_order, no_entries, book_of_a_grown_add}
 use Rattle.feed_lines.specs.BookText.{book_head, book_text, order_line}
-use Rattle.feed_lines.specs.Follow.{block_line, lines_after, follow_text}
+use Rattle.feed_lines.specs.Follow.{block_line, lines_after, books_of, follow_text}
 use Rattle.feed_lines.specs.Texts.{texts_after}
 
 -- ---- The lines of a stream
-lines_of_a_stream : lines_after 4096 [] stream
-    ≡ codes "block 1 unit 1 first 1 count 1; current 1\n"
+abbrev text_of_lines : List ℕ
+text_of_lines =
+    codes "block 1 unit 1 first 1 count 1; current 1\n"
     ++ codes "block 2 unit 1 first 2 count 1; current 2\n"
     ++ codes "block 3 unit 1 first 4 count 0; behind 2 of 3\n"
     ++ codes "block 4 unit 1 first 3 count 1; current 3\n"
+
+lines_of_a_stream : lines_after 4096 [] stream ≡ text_of_lines
 unfolding reach_of held_count texts_after block_line digits
 lines_of_a_stream = refl
 
@@ -78,3 +81,11 @@ text_of_an_empty_book = shown 1 3 34200 0 [] (book_after (clock ∷ order ∷ de
     none = map.len-remove nat_cmp_total one_sold 5
         ∙ ap (λ (o : Option Order). cond (is_some o) (map.len one_sold - 1) (map.len one_sold)) (map.get-insert nat_cmp_total no_orders 5 sold 5)
         ∙ ap (λ (k : ℕ). k - 1) one_order
+
+-- ---- The whole text of a stream, which is honest (`stream_is_honest`)
+text_of_a_stream : follow_text 4096 venue stream
+    ≡ text_of_lines ++ codes "book unit 1 at 3 second 34200 orders 0\n"
+unfolding reach_of held_count
+text_of_a_stream =
+    ap (λ (t : List ℕ). t ++ books_of 4096 venue (reverse stream)) lines_of_a_stream
+    ∙ ap (λ (t : List ℕ). text_of_lines ++ (t ++ [])) text_of_an_empty_book

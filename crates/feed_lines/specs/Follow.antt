@@ -1,5 +1,5 @@
--- What `follow` writes for the blocks of a stream: a line for each block, and then the book of each unit. Blocks that came before
--- stand newest first, as the entries of a history do.
+-- What `follow` writes for the blocks of a stream: a line for each block, and then the book of each
+-- unit. Blocks that came before stand newest first, as the entries of a history do.
 use Rattle.std.specs.Prelude.{ℕ, ◌+◌, Bool, List, [], ◌∷◌, ◌++◌, nat_lt, length, take, reverse, codes, if◌then◌else◌}
 use Rattle.std.specs.List.{flat_map}
 use Rattle.unit_packets.specs.Blocks.{Block}
@@ -23,7 +23,8 @@ unfoldable pub block_line : ℕ → ℕ → ℕ → ℕ → Bool → Status → 
 block_line k unit first count overflow status =
     block_head k unit first count ++ (overflow_text overflow ++ (codes "; " ++ (status_text status ++ 10 ∷ [])))
 
--- the line of a block that is heard after a history of its unit: whether the hold overflowed with one of its messages, and the status then
+-- the line of a block that is heard after a history of its unit: whether the hold overflowed with
+-- one of its messages, and the status then
 abbrev pub line_at : ℕ → ℕ → Block → List Entry → List ℕ
 line_at H k block E =
     block_line k block.unit block.sequence (length block.raws) (nat_lt 0 (block_overflows H E block)) (status_of H (heard_block block E))

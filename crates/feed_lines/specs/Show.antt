@@ -1,4 +1,5 @@
--- What `show` writes for the blocks of a stream: a line for each block, and one for each of its messages.
+-- What `show` writes for the blocks of a stream: a line for each block, and one for each of its
+-- messages.
 use Rattle.std.specs.Prelude.{ℕ, ◌+◌, ◌==◌, List, [], ◌∷◌, ◌++◌, length, Result, Ok, Err, codes, decimal, if◌then◌else◌}
 use Rattle.pitch_fields.specs.Name.{hex_text, name_shown}
 use Rattle.pitch_fields.specs.Price.{price_digits}

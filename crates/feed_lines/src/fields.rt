@@ -1,4 +1,4 @@
-//! Fields of messages, each with its name, written at a place of a buffer.
+//! Fields of messages, each with its name, written into a buffer at an index.
 
 ghost use Rattle.std.specs.Prelude.{◌≡◌, ◌≤◌, ◌+◌, ◌++◌, [], ◌∷◌, take, length};
 ghost use Rattle.pitch_messages.specs.Raw.{IsRaw};

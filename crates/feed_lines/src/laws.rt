@@ -1,4 +1,5 @@
-//! Laws of the texts. These functions do nothing: what they ensure is proved of the definitions alone.
+//! Laws of the texts. These functions do nothing: what they ensure is proved of the definitions
+//! alone.
 
 ghost use Rattle.std.specs.Prelude.{◌≡◌, ℕ, List, [], ◌∷◌, ◌++◌, reverse};
 ghost use Rattle.feed_lines.specs.Texts.{texts_after};

@@ -1,4 +1,4 @@
-//! Lines written at a place of a buffer. Each function answers where the line ends.
+//! Lines written into a buffer at an index. Each function answers where the line ends.
 
 ghost use Rattle.std.specs.Prelude.{◌≡◌, ◌≤◌, ◌+◌, ◌++◌, [], ◌∷◌, take, length};
 ghost use Rattle.feed_lines.specs.BookText.{hidden_text, participant_text, second_text, order_head, order_tail, order_line, book_place, book_head};
@@ -7,7 +7,7 @@ ghost use Rattle.feed_lines.specs.Show.{shown_head};
 ghost use Rattle.feed_lines.specs.StatusText.{status_text};
 ghost use Rattle.feed_lines.specs.Texts.{block_head};
 
-use pitch_fields::{put_byte, put_name, put_number, put_price, put_text};
+use pitch_fields::{is_blank, put_byte, put_name, put_number, put_price, put_text};
 use pitch_messages::Order;
 use pitch_model::Status;
 use unit_packets::Header;
@@ -169,7 +169,7 @@ fn put_participant(out: &mut [u8], at: usize, participant: [u8; 4]) -> usize
     ensures text { take result out.new ≡ take at out.old ++ participant_text participant }
     ensures kept { length out.new ≡ length out.old }
 {
-    if participant.iter().all(|byte| *byte == b' ') {
+    if is_blank(&participant) {
         return at;
     }
     let named = put_text(out, at, b" mpid=");

@@ -67,7 +67,7 @@ fn put_reduce(out: &mut [u8], at: usize, name: &[u8], offset: u32, id: u64, quan
     put_count_field(out, head, b" quantity=", quantity)
 }
 
-// Writes what an order is modified to, behind its quantity.
+// Writes what an order is modified to, after its quantity.
 #[inline(always)]
 fn put_modified(out: &mut [u8], at: usize, price: Price, flags: u8) -> usize
     requires { at + 40 ≤ length out.old }
@@ -350,8 +350,8 @@ fn put_read(out: &mut [u8], at: usize, raw: &[u8], read: Result<Message, ReadErr
     }
 }
 
-// Writes what a raw says. At each literal one form alone is read and written, with no other in sight; the types that few messages
-// have share one place.
+// Writes what a raw says. At each literal one form alone is read and written, with no other in
+// sight; the types that few messages have share one place.
 #[inline(always)]
 fn put_said(out: &mut [u8], at: usize, raw: &[u8]) -> usize
     requires place { at + 400 ≤ length out.old }
@@ -390,7 +390,8 @@ fn put_any(out: &mut [u8], at: usize, raw: &[u8], kind: u8) -> usize
     put_read(out, at, raw, read_as(kind, raw))
 }
 
-/// Writes the line of a message: its sequence, where it has one, then its name and its fields, or why it can't be read.
+/// Writes the line of a message: its sequence, where it has one, then its name and its fields, or
+/// why it can't be read.
 #[tactic(auto, unfolding(crate::specs::Show::message_line))]
 pub fn put_message_line(out: &mut [u8], at: usize, sequence: u32, raw: &[u8]) -> usize
     requires place { at + LINE ≤ length out.old }
@@ -405,7 +406,8 @@ pub fn put_message_line(out: &mut [u8], at: usize, sequence: u32, raw: &[u8]) ->
     put_byte(out, said, b'\n')
 }
 
-/// The sequence after that of a message; a message of an unsequenced block has none, and neither has the next one.
+/// The sequence after that of a message; a message of an unsequenced block has none, and neither
+/// has the next one.
 #[inline]
 pub fn next_after(sequence: u32) -> u32
     requires { sequence < 4294967295 }

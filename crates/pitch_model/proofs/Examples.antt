@@ -1,16 +1,25 @@
 -- Worked examples, computed by the definitions.
-use Rattle.std.proofs.Common.{◌≡◌, ℕ, true, false, List, [], ◌∷◌, refl, sym, ap, ◌∙◌, ◌+◌, cond, codes, Option, Some, None}
+use Rattle.std.proofs.Common.{◌≡◌, ◌≢◌, ℕ, true, false, List, [], ◌∷◌, reverse, map as mapped, inl, inr, refl, sym, ap, ◌∙◌, subst, arith, ◌+◌, cond, codes, Option, Some, None}
+use Rattle.std.specs.List.{AllByRecursion}
 use Rattle.std.specs.Option.{is_some, option_map}
 use Rattle.std.specs.Ordering.{nat_cmp}
 use Rattle.std.specs.FinMap as map
+use Rattle.std.proofs.lemmas.Bool.{cases_eq}
 use Rattle.std.proofs.lemmas.Cmp.{nat_cmp_total}
 use Rattle.std.proofs.lemmas.List.{nil_from_length}
 use Rattle.unit_packets.specs.Blocks.{Block}
 use Rattle.pitch_messages.specs.declared.order.Order.{Order}
+use Rattle.pitch_messages.specs.declared.message.Message.TheVariants.{Time}
+use Rattle.pitch_messages.specs.Forms.{add_message}
 use Rattle.pitch_messages.specs.Reading.{reads}
+use Rattle.pitch_messages.specs.Writing.{written}
 use Rattle.pitch_model.specs.Book.{Book, with_order, without_order, reformed, reduced_by, modified, after, book_after}
-use Rattle.pitch_model.specs.History.{Entry, Message, Next, GrpUp, SpinUp, Advertised, SpinReply, SpinFinished, Ticked}
+use Rattle.pitch_model.specs.History.{Entry, Message, Next, GrpUp, SpinUp, Advertised, SpinReply, ImageMessages, SpinFinished, Ticked}
 use Rattle.pitch_model.specs.Asking.{ask_of}
+use Rattle.pitch_model.specs.Honest.{Honest}
+use Rattle.pitch_model.specs.Image.{image_of, image}
+use Rattle.pitch_model.specs.Units.{unit_history, AllHonest}
+use Rattle.pitch_model.proofs.Units.{history_other}
 use Rattle.pitch_model.specs.declared.ask.Ask.TheVariants.{Gap, Spin}
 use Rattle.pitch_model.specs.Reach.{is_overflow, is_held, reach_of, held_count}
 use Rattle.pitch_model.specs.Status.{status_of}
@@ -90,6 +99,33 @@ stream = block 1 (clock ∷ []) ∷ block 2 (order ∷ []) ∷ block 4 [] ∷ bl
 abbrev pub venue : ℕ → List (List ℕ)
 venue unit = clock ∷ order ∷ deletion ∷ []
 
+-- blocks of unit 1 alone tell the others nothing, so they are honest where unit 1 hears the venue's
+-- messages
+others_hear_nothing : (unit : ℕ) (before : List Block) → 1 ≢ unit → AllByRecursion (λ block. block.unit ≡ 1) before → unit_history unit before ≡ []
+others_hear_nothing unit [] other all = refl
+others_hear_nothing unit (block ∷ before) other all = history_other unit block before (λ e. other (sym all.0 ∙ e)) ∙ others_hear_nothing unit before other all.1
+
+all_honest : (before : List Block) → AllByRecursion (λ block. block.unit ≡ 1) before → Honest image (venue 1) (unit_history 1 before) → AllHonest image venue before
+all_honest before all honest unit = elim (cases_eq 1 unit) [
+  | inl one ↦ subst (λ (u : ℕ). Honest image (venue u) (unit_history u before)) one honest
+  | inr other ↦ subst (Honest image (venue unit)) (sym (others_hear_nothing unit before other all)) tt
+]
+
+-- the messages in their order, and a heartbeat that tells of the last one before it comes
+pub stream_is_honest : AllHonest image venue (reverse stream)
+stream_is_honest = all_honest (reverse stream) (refl, (refl, (refl, (refl, tt)))) (refl, (omega arith, (refl, (refl, tt))))
+
+-- the second message comes last, and fills the gap
+abbrev late : List Block
+late = block 1 (clock ∷ []) ∷ block 3 (deletion ∷ []) ∷ block 2 (order ∷ []) ∷ []
+
+late_is_honest : AllHonest image venue (reverse late)
+late_is_honest = all_honest (reverse late) (refl, (refl, (refl, tt))) (refl, (refl, (refl, tt)))
+
+late_is_current : status_of 4096 (unit_history 1 (reverse late)) ≡ Current 3
+unfolding reach_of held_count
+late_is_current = refl
+
 -- ---- Books
 pub no_entries : (m : map.FinMap nat_cmp Order) → map.len m ≡ 0 → map.entries m ≡ []
 no_entries m e = nil_from_length (map.entries m) (sym (map.len-entries m) ∙ e)
@@ -119,6 +155,30 @@ book_of_a_grown_add = refl
 
 pub one_order : map.len one_sold ≡ 1
 one_order = map.len-insert nat_cmp_total no_orders 5 sold ∙ ap (λ (o : Option Order). cond (is_some o) (map.len no_orders) (map.len no_orders + 1)) (map.get-empty nat_cmp 5) ∙ ap (λ (k : ℕ). k + 1) (map.len-empty nat_cmp Order)
+
+-- ---- An image
+-- the add of that order in a short form, and then the image through it
+abbrev short_add : List ℕ
+short_add =
+    0x1a ∷ 0x22 ∷ 0 ∷ 0 ∷ 0 ∷ 0 ∷ 5 ∷ 0 ∷ 0 ∷ 0 ∷ 0 ∷ 0 ∷ 0 ∷ 0 ∷ 0x42 ∷ 0x64 ∷ 0 ∷ 0x49 ∷ 0x42 ∷ 0x4d ∷ 0x20 ∷ 0x20 ∷ 0x20 ∷ 0xe8 ∷ 3 ∷ 1 ∷ []
+
+entries_of_one : map.entries one_sold ≡ (5, sold) ∷ []
+entries_of_one = map.entries-insert nat_cmp_total no_orders 5 sold ∙ ap (map.put nat_cmp 5 sold) (no_entries no_orders (map.len-empty nat_cmp Order))
+
+image_of_one_order : clock ∷ short_add ∷ [] ≡ image (clock ∷ order ∷ []) 2
+unfolding after reads image image_of written add_message
+image_of_one_order = sym (ap (λ (es : List (ℕ × Order)). mapped written (Time 34200 ∷ mapped (λ (o : Order). add_message o 0) (mapped (λ (e : ℕ × Order). e.1) es))) entries_of_one)
+
+-- an image is advertised, asked for, promised, sent and finished
+abbrev spun : List Entry
+spun = SpinFinished 2 ∷ ImageMessages (clock ∷ short_add ∷ []) ∷ SpinReply 2 1 true ∷ Ticked (Some (Spin 2)) ∷ Advertised 2 ∷ SpinUp ∷ []
+
+spun_is_honest : Honest image (clock ∷ order ∷ []) spun
+spun_is_honest = ((omega arith, image_of_one_order), (tt, (tt, (tt, (omega arith, (tt, tt))))))
+
+spun_is_current : status_of 4096 spun ≡ Current 2
+unfolding reach_of held_count
+spun_is_current = refl
 
 -- ---- Changes of an open order
 -- to 7 shares at 11.0000, hidden; and then 3 shares fewer, and 4 more

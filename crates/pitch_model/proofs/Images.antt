@@ -19,10 +19,12 @@ use Rattle.pitch_fields.specs.Price.{short_of}
 use Rattle.pitch_messages.specs.Forms.{add_message, add_form, plain_symbol, short_price, flags_of}
 use Rattle.pitch_messages.proofs.RoundTrip.{time_back, add_long_back, add_short_back, add_expanded_back}
 use Rattle.pitch_messages.specs.Writing.{written}
-use Rattle.pitch_model.specs.Book.{Book, IsBook, empty_book, with_order, added, long_symbol, long_price, no_participant, is_displayed, order_of_long, order_of_expanded, after_message, after_read, after, book_after}
+use Rattle.pitch_model.specs.Book.{Book, IsBook, empty_book, with_order, added, long_symbol, long_price, is_displayed, order_of_long, order_of_expanded, after_message, after_read, after, book_after}
+use Rattle.pitch_fields.specs.Fields.{AreBytes}
+use Rattle.pitch_fields.specs.Name.{no_participant}
 use Rattle.pitch_model.specs.Levels.{orders_of}
-use Rattle.pitch_model.specs.Image.{clock_of, messages_of, image}
-use Rattle.pitch_model.specs.Widths.{AreBytes, FitsWire}
+use Rattle.pitch_model.specs.Image.{clock_of, messages_of, image_of, image}
+use Rattle.pitch_model.specs.Widths.{FitsWire, IsWireBook}
 use Rattle.pitch_model.proofs.Books.{book_after_book}
 use Rattle.pitch_model.proofs.Widths.{book_after_fits}
 
@@ -73,7 +75,7 @@ get_put_all m (e ∷ es) q sorted none =
         (ap (λ (k : ℕ). find nat_cmp k es) (tied q e.0 t) ∙ none_below e.0 es below)
     by below false t rec = rec (finite.get-insert nat_cmp_total m e.0 e.1 q ∙ cond-false (eq_by_cmp nat_cmp q e.0) (Some e.1) (finite.get m q) t ∙ none)
 
-sorted_entries : (m : finite.FinMap nat_cmp Order) → is_sorted nat_cmp (finite.entries m) ≡ true
+pub sorted_entries : (m : finite.FinMap nat_cmp Order) → is_sorted nat_cmp (finite.entries m) ≡ true
 sorted_entries m = true_from_T (is_sorted nat_cmp (finite.entries m)) (finite.entries_sorted m)
 
 -- the entries of a map make it anew
@@ -82,7 +84,7 @@ put_entries m = finite.same_map nat_cmp_total finite.nat_cmp-IsAntisymmetric (pu
     (λ q. get_put_all finite.empty (finite.entries m) q (sorted_entries m) (finite.get-empty nat_cmp q) ∙ sym (finite.get-entries m q))
 
 -- what holds where an entry is found holds of each
-all_found : (C : ℕ → Order → Type 0) (es : List (ℕ × Order)) → is_sorted nat_cmp es ≡ true → ((q : ℕ) (v : Order) → find nat_cmp q es ≡ Some v → C q v) → AllByRecursion (λ e. C e.0 e.1) es
+pub all_found : (C : ℕ → Order → Type 0) (es : List (ℕ × Order)) → is_sorted nat_cmp es ≡ true → ((q : ℕ) (v : Order) → find nat_cmp q es ≡ Some v → C q v) → AllByRecursion (λ e. C e.0 e.1) es
 all_found C [] sorted found = tt
 all_found C (e ∷ es) sorted found =
     let parts = and_parts (below_all nat_cmp e.0 es) (is_sorted nat_cmp es) sorted in
@@ -131,12 +133,12 @@ fold_written book [] all = refl
 fold_written book (m ∷ messages) all =
     ap (λ (r : Result Message ReadError). fold after (after_read book r) (map written messages)) all.0 ∙ fold_written (after_message book m) messages all.1
 
--- the image through a sequence leaves the book that the messages up to it leave
-pub image_leaves : (V : List (List ℕ)) (s : ℕ) → ((id : ℕ) (order : Order) → finite.get (book_after (take s V)).orders id ≡ Some order → Adds order)
-    → AllByRecursion (λ m. reads (written m) ≡ Ok m) (messages_of (book_after (take s V))) → book_after (image V s) ≡ book_after (take s V)
-unfolding image
-image_leaves V s adds read =
-    fold_written empty_book (messages_of (book_after (take s V))) read ∙ made_anew (book_after (take s V)) (book_after_book (take s V)) adds
+-- the raws of a book's image leave the book, where they are read as its messages, which add its
+-- orders
+image_leaves : (book : Book) → IsBook book → ((id : ℕ) (order : Order) → finite.get book.orders id ≡ Some order → Adds order)
+    → AllByRecursion (λ m. reads (written m) ≡ Ok m) (messages_of book) → book_after (image_of book) ≡ book
+unfolding image_of
+image_leaves book is adds read = fold_written empty_book (messages_of book) read ∙ made_anew book is adds
 
 -- ---- The form of an add
 spaces : ℕ → List ℕ
@@ -178,7 +180,7 @@ six_is symbol six size e = by (is_blank (drop 6 symbol)) refl e
     by false blank f = absurd (none_list six f)
 
 -- what the plain symbol says of the order
-plain_is : (order : Order) (six : List ℕ) → FitsWire order → plain_symbol order ≡ Some six → SixOf order.symbol six × (no_participant ≡ order.participant)
+pub plain_is : (order : Order) (six : List ℕ) → FitsWire order → plain_symbol order ≡ Some six → SixOf order.symbol six × (no_participant ≡ order.participant)
 unfolding spaces
 plain_is order six fits e = by (is_blank order.participant) refl e
   where
@@ -198,7 +200,7 @@ pub record ShortOf (quantity price cents : ℕ) : Type 0 where
   pub low : cents < 256 ^ 2
   pub whole : long_price cents ≡ price
 
-short_is : (quantity price cents : ℕ) → short_price quantity price ≡ Some cents → ShortOf quantity price cents
+pub short_is : (quantity price cents : ℕ) → short_price quantity price ≡ Some cents → ShortOf quantity price cents
 short_is quantity price cents e = by (nat_le quantity 65535) refl e
   where
     inner : quantity ≤ 65535 → (b : Bool) → (price % 100 == 0 && nat_le price 6553500) ≡ b → cond b (Some (price / 100)) None ≡ Some cents → ShortOf quantity price cents
@@ -267,16 +269,23 @@ image_reads : (second : Option ℕ) (messages : List Message) → ((n : ℕ) →
 image_reads None messages fits all = all
 image_reads (Some second) messages fits all = (time_back second (fits second refl), all)
 
-all_take : (s : ℕ) (V : List (List ℕ)) → AllByRecursion AreBytes V → AllByRecursion AreBytes (take s V)
+pub all_take : (s : ℕ) (V : List (List ℕ)) → AllByRecursion AreBytes V → AllByRecursion AreBytes (take s V)
 all_take zero V all = tt
 all_take (suc s) [] all = tt
 all_take (suc s) (raw ∷ V) all = (all.0, all_take s V all.1)
 
--- the image through a sequence leaves the book that the messages up to it leave
-pub image_book : (V : List (List ℕ)) (s : ℕ) → AllByRecursion AreBytes V → book_after (image V s) ≡ book_after (take s V)
-image_book V s all =
-    let wire = book_after_fits (take s V) (all_take s V all) in
-    let book = book_after (take s V) in
-    image_leaves V s (λ id order g. add_message_adds order (wire.orders id order g))
+-- the image of a book leaves that book
+pub image_of_leaves : (book : Book) → IsBook book → IsWireBook book → book_after (image_of book) ≡ book
+image_of_leaves book is wire =
+    image_leaves book is (λ id order g. add_message_adds order (wire.orders id order g))
     (image_reads book.second (map (λ order. add_message order 0) (orders_of book)) wire.clock
     (adds_read (finite.entries book.orders) (all_found (λ id order. FitsWire order) (finite.entries book.orders) (sorted_entries book.orders) (λ id order f. wire.orders id order (finite.get-entries book.orders id ∙ f)))))
+
+-- the image through a sequence leaves the book that the messages up to it leave
+pub image_book : (V : List (List ℕ)) (s : ℕ) → AllByRecursion AreBytes V → book_after (image V s) ≡ book_after (take s V)
+unfolding image
+image_book V s all = image_of_leaves (book_after (take s V)) (book_after_book (take s V)) (book_after_fits (take s V) (all_take s V all))
+
+pub image_is : (V : List (List ℕ)) (s : ℕ) → image V s ≡ image_of (book_after (take s V))
+unfolding image
+image_is V s = refl

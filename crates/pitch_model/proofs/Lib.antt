@@ -16,3 +16,7 @@ pub mod Units
 pub mod Prices
 pub mod Images
 pub mod Widths
+pub mod ImageRaws
+pub mod Growing
+pub mod Datagrams
+pub mod Advertising

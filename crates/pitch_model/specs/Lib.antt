@@ -11,3 +11,5 @@ pub mod Heard
 pub mod Honest
 pub mod Asking
 pub mod Units
+pub mod Datagrams
+pub mod Advertising

@@ -1,5 +1,5 @@
--- The units that the blocks of a stream name, and what each unit's client heard. Blocks that came before stand newest first, as
--- the entries of a history do.
+-- The units that the blocks of a stream name, and what each unit's client heard. Blocks that came
+-- before stand newest first, as the entries of a history do.
 use Rattle.std.specs.Prelude.{ℕ, List, [], ◌∷◌, ◌==◌, nat_lt, if◌then◌else◌}
 use Rattle.unit_packets.specs.Blocks.{Block}
 use Rattle.pitch_model.specs.History.{Entry, Raw}

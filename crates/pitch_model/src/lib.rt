@@ -1,4 +1,5 @@
-//! What a client of the feed hears, knows and asks, as definitions, with the types that they speak of.
+//! What a client of the feed hears, knows and asks, as definitions, with the types that they speak
+//! of.
 #![tactic(auto)]
 
 mod ask;
@@ -6,6 +7,8 @@ mod change;
 mod item;
 pub mod laws;
 mod status;
+#[cfg(test)]
+mod tests;
 
 pub use crate::ask::Ask;
 pub use crate::change::{Change, ImageEnd};

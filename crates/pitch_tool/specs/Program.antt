@@ -4,7 +4,7 @@ use Rattle.pitch_io.specs.Causes.{HasCause}
 use Rattle.pitch_words.specs.Forms.{IsForm}
 use Rattle.pitch_words.specs.declared.form.Form.{Form}
 use Rattle.unit_packets.specs.Causes.{fault_text}
-use Rattle.command_feed.specs.Causes.{feed_error_text}
+use Rattle.command_feed.specs.Causes.{command_error_text}
 use Rattle.stream_print.specs.Told.{Told, IsUntouched}
 use Rattle.stream_print.specs.declared.failure.StreamTrouble.TheVariants.{Faulty, TooLong}
 use Rattle.pitch_tool.specs.Devices.{Run, Says}
@@ -24,7 +24,7 @@ abbrev pub trouble_text : Trouble → List ℕ
 trouble_text (Blocks (Faulty fault)) = codes "pitch: bad input at " ++ (fault_text fault ++ codes "\n")
 trouble_text (Blocks TooLong) = codes "pitch: input is longer than 1073741824 bytes\n"
 trouble_text LongText = codes "pitch: input is longer than 67108864 bytes\n"
-trouble_text (Commands error) = codes "pitch: " ++ (feed_error_text error ++ codes "\n")
+trouble_text (Commands error) = codes "pitch: " ++ (command_error_text error ++ codes "\n")
 
 abbrev pub read_text : List ℕ
 read_text = codes "pitch: read fault\n"

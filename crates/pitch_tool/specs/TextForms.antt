@@ -1,10 +1,10 @@
 -- A text form: what it makes of a whole text, and how it ends.
-use Rattle.std.specs.Prelude.{◌≡◌, ℕ, ◌≤◌, ◌<◌, List, length, nat_lt, cond, Option, Some, None, Result, Ok, Err}
+use Rattle.std.specs.Prelude.{◌≡◌, ℕ, ◌≤◌, ◌<◌, List, [], length, nat_lt, cond, Option, Some, None, Result, Ok, Err}
 use Rattle.std.specs.Result.{result_err}
 use Rattle.std.specs.Io.KnownBytes.{Consumes}
 use Rattle.pitch_io.specs.Putting.{Grows}
-use Rattle.command_feed.specs.Feed.{feed_of}
-use Rattle.command_feed.specs.declared.error.FeedError.{FeedError}
+use Rattle.command_feed.specs.Feed.{feed_of, AppendsPacking}
+use Rattle.command_feed.specs.declared.error.CommandError.{CommandError}
 use Rattle.stream_print.specs.Inputs.{ReadsAll, Has}
 use Rattle.stream_print.specs.Putting.{PutsSome}
 use Rattle.stream_print.specs.Told.{Told, IsUntouched}
@@ -20,13 +20,17 @@ abbrev pub text_limit : ℕ
 text_limit = 67108864
 
 -- the feed that some commands make, or what is wrong with them
-abbrev pub feed_or_trouble : Result (List ℕ) FeedError → Result (List ℕ) Trouble
+abbrev pub feed_or_trouble : Result (List ℕ) CommandError → Result (List ℕ) Trouble
 feed_or_trouble (Ok feed) = Ok feed
 feed_or_trouble (Err error) = Err (Commands error)
 
 -- what a form makes of a text, or what is wrong with the text
 abbrev pub made : TextForm → List ℕ → Result (List ℕ) Trouble
 made (Pack unit) text = feed_or_trouble (feed_of unit text)
+
+-- the same by a relation: what is packed of a text is a packing of the messages that a venue accepts of it
+abbrev pub IsMadeOf : TextForm → (text bytes : List ℕ) → Type 0
+IsMadeOf (Pack unit) text bytes = AppendsPacking unit text [] bytes
 
 -- what is wrong with a text of which at most `most` bytes are read: that it has more, or else what the form finds
 abbrev pub text_trouble : TextForm → ℕ → List ℕ → Option Trouble
@@ -39,6 +43,7 @@ pub record ReadsText (form : TextForm) (most : ℕ) (input : Told) (bytes : List
   pub read : ReadsAll input text
   pub small : length text ≤ most
   pub made_is : made form text ≡ Ok bytes
+  pub made_of : IsMadeOf form text bytes
 
 -- the whole text was read, and what it makes was written
 pub record WritesMade (form : TextForm) (most : ℕ) (input out : Told) : Type 0 where

@@ -1,4 +1,4 @@
-use command_feed::FeedError;
+use command_feed::CommandError;
 use pitch_fields::OutOfMemory;
 use stream_print::{PutFailed, StreamFailure, StreamTrouble};
 
@@ -10,7 +10,7 @@ pub enum Trouble {
     /// A text has more bytes than are read.
     LongText,
     /// A text of commands has a fault, or the venue refuses one of them.
-    Commands(FeedError),
+    Commands(CommandError),
 }
 
 /// Why the program ends before its whole text.

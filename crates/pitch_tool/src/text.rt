@@ -3,7 +3,7 @@ ghost use Rattle.std.specs.Io.KnownBytes.{Consumes};
 ghost use Rattle.pitch_io.specs.Causes.{HasCause};
 ghost use Rattle.stream_print.specs.Inputs.{ReadsAll};
 ghost use Rattle.stream_print.specs.Told.{told, TakesAtMost};
-ghost use Rattle.pitch_tool.specs.TextForms.{text_limit, made, IsUnmade, IsUnread, TextEnds};
+ghost use Rattle.pitch_tool.specs.TextForms.{text_limit, made, IsMadeOf, IsUnmade, IsUnread, TextEnds};
 
 use crate::commands::pack::pack;
 use crate::failure::{Failure, Trouble};
@@ -46,6 +46,7 @@ fn read_text<I: Source>(alloc: Global, input: &mut I) -> Result<Vec<u8>, Failure
 fn make(alloc: Global, form: TextForm, text: &[u8]) -> Result<Vec<u8>, Failure>
     requires { length text.now ≤ 67108864 }
     ensures made { IfOk result (λ bytes. made form text.now ≡ Ok bytes.items) }
+    ensures made_of { IfOk result (λ bytes. IsMadeOf form text.now bytes.items) }
     ensures unmade { IfErr result (IsUnmade (made form text.now)) }
 {
     match form {
