@@ -24,7 +24,7 @@ use Rattle.pitch_model.specs.Book.{Book, IsBook, empty_book, with_order, added, 
 use Rattle.pitch_fields.specs.Fields.{AreBytes}
 use Rattle.pitch_fields.specs.Name.{no_participant}
 use Rattle.pitch_model.specs.Levels.{orders_of}
-use Rattle.pitch_model.specs.Image.{clock_of, messages_of, image_of, image}
+use Rattle.pitch_model.specs.Image.{clock_of, image_messages, image_of, image}
 use Rattle.pitch_model.specs.Widths.{FitsWire, IsWireBook}
 use Rattle.pitch_model.proofs.Books.{book_after_book}
 use Rattle.pitch_model.proofs.Widths.{book_after_fits}
@@ -115,7 +115,7 @@ after_clock None = refl
 after_clock (Some second) = refl
 
 -- the messages of a book's image make the book anew
-pub made_anew : (book : Book) → IsBook book → ((id : ℕ) (order : Order) → finite.get book.orders id ≡ Some order → Adds order) → fold after_message empty_book (messages_of book) ≡ book
+pub made_anew : (book : Book) → IsBook book → ((id : ℕ) (order : Order) → finite.get book.orders id ≡ Some order → Adds order) → fold after_message empty_book (image_messages book) ≡ book
 made_anew book is adds =
     fold-append after_message empty_book (clock_of book.second) (map (λ order. add_message order 0) (orders_of book))
     ∙ ap (λ (b : Book). fold after_message b (map (λ order. add_message order 0) (orders_of book))) (after_clock book.second)
@@ -134,9 +134,9 @@ fold_written book (m ∷ messages) all =
 -- the raws of a book's image leave the book, where they are read as its messages, which add its
 -- orders
 image_leaves : (book : Book) → IsBook book → ((id : ℕ) (order : Order) → finite.get book.orders id ≡ Some order → Adds order)
-    → AllByRecursion (λ m. reads (written m) ≡ Ok m) (messages_of book) → book_after (image_of book) ≡ book
+    → AllByRecursion (λ m. reads (written m) ≡ Ok m) (image_messages book) → book_after (image_of book) ≡ book
 unfolding image_of
-image_leaves book is adds read = fold_written empty_book (messages_of book) read ∙ made_anew book is adds
+image_leaves book is adds read = fold_written empty_book (image_messages book) read ∙ made_anew book is adds
 
 -- ---- The form of an add
 spaces : ℕ → List ℕ
