@@ -118,7 +118,7 @@ chain_of rs count bytes many whole all =
       };
     }
 
-all_append : (rs : List (List ℕ)) (raw : List ℕ) → AllByRecursion IsRaw rs → IsRaw raw → AllByRecursion IsRaw (rs ++ raw ∷ [])
+pub all_append : (rs : List (List ℕ)) (raw : List ℕ) → AllByRecursion IsRaw rs → IsRaw raw → AllByRecursion IsRaw (rs ++ raw ∷ [])
 all_append [] raw all is = (is, tt)
 all_append (r ∷ rs) raw all is = (all.0, all_append rs raw all.1 is)
 

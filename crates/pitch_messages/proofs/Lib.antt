@@ -1,4 +1,5 @@
 pub mod Chains
+pub mod LongestChain
 pub mod Rows
 pub mod Fields
 pub mod RoundTrip

@@ -1,16 +1,16 @@
 -- A well-formed name, and the field that it is printed as.
-use Rattle.std.proofs.Common.{◌≡◌, ℕ, zero, suc, ◌+◌, ◌-◌, ◌<◌, ◌≤◌, Bool, true, false, not, eqb, ltb, leb, cond, List, [], ◌∷◌, ◌++◌, ◌&&◌, ◌||◌, length, Option, Some, None, refl, sym, ap, subst, ◌∙◌, arith, inl, inr, length-append}
+use Rattle.std.proofs.Common.{◌≡◌, ℕ, zero, suc, ◌+◌, ◌-◌, ◌<◌, ◌≤◌, Bool, true, false, not, eqb, ltb, leb, cond, List, [], ◌∷◌, ◌++◌, ◌&&◌, ◌||◌, length, Some, None, refl, sym, ap, subst, ◌∙◌, arith, inl, inr, length-append}
 use Rattle.std.specs.Prelude.{MatchBool, nat_eq, replicate}
 use Rattle.std.specs.List.{list_all, position_or_len}
 use Rattle.std.specs.Cmp.Lexicographic.{pointwise}
 use Rattle.std.proofs.lemmas.Bool.{and_parts, and_from, leb-true, lt-ltb, le-leb, ne_eqb, eqb-true, cases_Bool, cond-true, cond-false}
 use Rattle.std.proofs.lemmas.List.{length-replicate}
 use Rattle.std.proofs.lemmas.Slice.Eq.{bytes_eq-Decides}
-use Rattle.pitch_fields.specs.Name.{is_blank, is_participant, is_printing, is_well_formed, no_participant, without_spaces}
+use Rattle.pitch_fields.specs.Name.{is_blank, is_printing, is_well_formed, no_participant, without_spaces}
 use Rattle.pitch_fields.proofs.Names.{none_blank}
-use Rattle.pitch_text.specs.Kinds.{padded_of, participant_of, symbol_of}
+use Rattle.pitch_text.specs.Kinds.{padded_of, participant_of}
 use Rattle.pitch_text.specs.Printing.{name_of}
-use Rattle.pitch_text.specs.WellFormed.{IsParticipant, IsSymbol}
+use Rattle.pitch_text.specs.WellFormed.{IsParticipant}
 
 -- ---- a name, and the spaces behind it
 

@@ -47,11 +47,6 @@ whole_by (suc n) bytes le small = elim (cases_Result (judge bytes)) [
 pub cuts_are_computed : CutsAreComputed
 cuts_are_computed bytes all = whole_by (length bytes) bytes (omega arith) (byte_at bytes all)
 
--- the cutting that is computed
-record Computed (bytes : List ℕ) (blocks : List Block) (rest : List ℕ) : Type 0 where
-  pub blocks_are : blocks ≡ blocks_of bytes
-  pub rest_is : rest ≡ rest_of bytes
-
 abbrev made : ℕ → ℕ → List (List ℕ) → Block
 made u s rs = record { unit = u; sequence = s; raws = rs }
 
@@ -67,30 +62,24 @@ one_block front back block is =
     ∙ ap (λ (r : List ℕ). raws_of (length block.raws) (drop 8 r)) s.cut ∙ s.raws_are in
     same_block _ _ _ block s.unit_is s.sequence_is raws
 
-computed_by : (bytes : List ℕ) (blocks : List Block) (rest : List ℕ) → AreSmall bytes → AreBlocks bytes blocks rest → BeginsNoBlock rest → Computed bytes blocks rest
-computed_by bytes [] rest small same none = elim (cases_Result (judge bytes)) [
-  | inl found ↦
-      let f = judged_front bytes found.0 small found.1 in
-      absurd (none (take found.0.length bytes) (drop found.0.length bytes) (block_at found.0 bytes) (sym same ∙ sym (take-append-drop found.0.length bytes)) f.block)
-  | inr fault ↦ let n = none_of bytes fault.0 fault.1 in record { blocks_are = sym n.blocks; rest_is = sym same ∙ sym n.rest }
-]
-computed_by bytes (block ∷ blocks) rest small (front, back, split, is, more) none =
-    let h : Header = header_of (front ++ back) in
-    let s = front_stands front back block is in
-    let first = first_of (front ++ back) h (front_judged front back block is) in
-    let left : drop h.length (front ++ back) ≡ back = ap (λ (k : ℕ). drop k (front ++ back)) s.length_is ∙ drop_at front back (length front) refl in
-    let again = computed_by back blocks rest (subst AreSmall left (drop_small h.length (front ++ back) (subst AreSmall split small))) more none in
-    record {
-      blocks_are = ap (λ (bs : List Block). block ∷ bs) again.blocks_are
-          ∙ ap (λ (b : Block). b ∷ blocks_of back) (sym (one_block front back block is))
-          ∙ ap (λ (r : List ℕ). block_at h (front ++ back) ∷ blocks_of r) (sym left)
-          ∙ sym first.blocks ∙ ap blocks_of (sym split);
-      rest_is = again.rest_is ∙ ap rest_of (sym left) ∙ sym first.rest ∙ ap rest_of (sym split);
-    }
+-- blocks that stand at the front of the same bytes are one
+same_front : (front back fore after : List ℕ) (block other : Block) → IsBlock front block → IsBlock fore other → front ++ back ≡ fore ++ after → (block ≡ other) × (back ≡ after)
+same_front front back fore after block other is also same =
+    let behind : (front back : List ℕ) (block : Block) → IsBlock front block → drop (header_of (front ++ back)).length (front ++ back) ≡ back =
+    λ front back block is. ap (λ (k : ℕ). drop k (front ++ back)) (front_stands front back block is).length_is ∙ drop_at front back (length front) refl in (
+      sym (one_block front back block is) ∙ ap (λ (bytes : List ℕ). block_at (header_of bytes) bytes) same ∙ one_block fore after other also,
+      sym (behind front back block is) ∙ ap (λ (bytes : List ℕ). drop (header_of bytes).length bytes) same ∙ behind fore after other also,
+    )
 
--- two cuttings of the same bytes are both the computed one
+one_by : (bytes : List ℕ) (blocks others : List Block) (rest left : List ℕ) → AreBlocks bytes blocks rest → AreBlocks bytes others left → BeginsNoBlock rest → BeginsNoBlock left → (blocks ≡ others) × (rest ≡ left)
+one_by bytes [] [] rest left one other none no_more = (refl, sym one ∙ other)
+one_by bytes [] (o ∷ others) rest left one (fore, after, cut, also, more) none no_more = absurd (none fore after o (sym one ∙ cut) also)
+one_by bytes (b ∷ blocks) [] rest left (front, back, split, is, more) other none no_more = absurd (no_more front back b (sym other ∙ split) is)
+one_by bytes (b ∷ blocks) (o ∷ others) rest left (front, back, split, is, more) (fore, after, cut, also, also_more) none no_more =
+    let first = same_front front back fore after b o is also (sym split ∙ cut) in
+    let again = one_by back blocks others rest left more (subst (λ (r : List ℕ). AreBlocks r others left) (sym first.1) also_more) none no_more in
+    (ap (λ (x : Block). x ∷ blocks) first.0 ∙ ap (λ (xs : List Block). o ∷ xs) again.0, again.1)
+
+-- no cutting is another
 pub cuts_are_one : CutsAreOne
-cuts_are_one bytes blocks others rest left all one other =
-    let a = computed_by bytes blocks rest (byte_at bytes all) one.whole one.longest in
-    let b = computed_by bytes others left (byte_at bytes all) other.whole other.longest in
-    (a.blocks_are ∙ sym b.blocks_are, a.rest_is ∙ sym b.rest_is)
+cuts_are_one bytes blocks others rest left one other = one_by bytes blocks others rest left one.whole other.whole one.longest other.longest

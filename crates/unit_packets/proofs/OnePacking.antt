@@ -2,18 +2,19 @@
 use Rattle.std.proofs.Common.{◌≡◌, ℕ, suc, ◌+◌, ◌<◌, ◌≤◌, ◌≢◌, ◌⊎◌, true, false, List, [], ◌∷◌, ◌++◌, length, drop, refl, sym, ap, ◌∙◌, arith, subst, length-append, append_assoc, inl, inr}
 use Rattle.std.specs.List.{concat, AllByRecursion}
 use Rattle.std.proofs.lemmas.Bool.{cases_Bool, cases_eq, cond-false, false≢true}
-use Rattle.std.proofs.lemmas.List.{append-nil}
+use Rattle.std.proofs.lemmas.List.{append-nil, append_cancel_left}
 use Rattle.std.proofs.lemmas.List.Folds.{concat-append}
 use Rattle.byteorder.specs.Endian.{little_bytes}
 use Rattle.pitch_fields.specs.Fields.{AreBytes, number_at}
 use Rattle.pitch_fields.proofs.LittleEndian.{bytes_of_number}
 use Rattle.pitch_messages.specs.Raw.{IsRaw}
+use Rattle.pitch_messages.specs.Room.{Roomy}
 use Rattle.unit_packets.specs.Blocks.{Block, IsBlock, StaysWithin}
 use Rattle.unit_packets.specs.BlockBytes.{block_bytes}
-use Rattle.unit_packets.specs.Packing.{FitsDatagram, sequence_after, IsDatagram, IsFull, IsPacking, fits_datagram, begun_datagrams, packed_on, packed, PackingIsComputed, PackingIsOne}
+use Rattle.unit_packets.specs.Packing.{FitsDatagram, sequence_after, IsDatagram, IsFull, IsPacking, fits_datagram, begun_datagrams, packed_on, packed, Packing, Finishes, GivesPacking, bytes_in, PackingIsComputed, PackingIsOne}
 use Rattle.unit_packets.proofs.OneCutting.{AreSmall, drop_small}
 use Rattle.pitch_fields.proofs.Bytes.{byte_at}
-use Rattle.unit_packets.proofs.Packs.{fits_true, fits_of, one_fits, after_known, packed_takes}
+use Rattle.unit_packets.proofs.Packs.{bytes_append, fits_true, fits_of, one_fits, after_known, packed_takes}
 use Rattle.unit_packets.proofs.Written.{written_is}
 
 -- ---- The computed packing is one
@@ -52,6 +53,7 @@ datagram_is unit sequence raws small are reach some fits =
         unit = small;
         sequence = reach_small sequence (length raws) reach;
         size = omega (arith, size);
+        few = fits.count;
         raws = are;
         within = reach_stays sequence (length raws) reach;
       });
@@ -133,6 +135,13 @@ reach_of first n (inr (inr le)) = inr le
 pub packing_is_computed : PackingIsComputed
 packing_is_computed unit first [] small are within = subst (λ (ds : List (List ℕ)). IsPacking unit first [] ds) (sym (no_messages unit first)) refl
 packing_is_computed unit first (raw ∷ raws) small are within = is_packing (raw ∷ raws) unit first [] small are (reach_of first (length raws) within) none_fit
+
+-- what a packer gives out at the end is the rest of the packing
+pub gives_packing : (old new : Packing) (before after : List (Roomy ℕ)) → old.unit < 256 → Finishes old new before after → GivesPacking old before after
+gives_packing old new before after small done unit first raws datagrams given has is are within =
+    let same : bytes_in done.added ≡ given = append_cancel_left (bytes_in before) (bytes_in done.added) given (sym (bytes_append before done.added) ∙ ap (λ (l : List (Roomy ℕ)). bytes_in l) (sym done.given) ∙ is) in
+    let whole : datagrams ++ given ≡ packed unit first raws = ap (λ (ds : List (List ℕ)). datagrams ++ ds) (sym same) ∙ done.whole unit first raws datagrams has in
+    subst (λ (ds : List (List ℕ)). IsPacking unit first raws ds) (sym whole) (packing_is_computed unit first raws (subst (λ (u : ℕ). u < 256) has.unit_is small) are within)
 
 -- ---- There is no other
 fits_less : (front : List (List ℕ)) (raw : List ℕ) (more : List (List ℕ)) → FitsDatagram (front ++ raw ∷ more) → FitsDatagram (front ++ raw ∷ [])

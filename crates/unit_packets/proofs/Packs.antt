@@ -2,14 +2,14 @@
 use Rattle.std.proofs.Common.{◌≡◌, ℕ, ◌+◌, ◌<◌, ◌≢◌, Bool, true, false, ◌&&◌, List, [], ◌∷◌, ◌++◌, length, refl, sym, ap, ◌∙◌, arith, nat_eq, nat_le, length-append, append_assoc, inl, inr}
 use Rattle.std.specs.List.{concat}
 use Rattle.std.proofs.lemmas.Bool.{cases_Bool, cases_eq, cond-true, cond-false, le-leb, leb-true, ne_eqb}
-use Rattle.std.proofs.lemmas.List.{append-nil}
+use Rattle.std.proofs.lemmas.List.{append-nil, map-append}
 use Rattle.pitch_messages.specs.Raw.{IsRaw}
 use Rattle.pitch_messages.specs.Room.{Roomy}
 use Rattle.unit_packets.specs.BlockBytes.{block_bytes}
 use Rattle.unit_packets.specs.Packing.{FitsDatagram, sequence_after, fits_datagram, begun_datagrams, packed_on, packed, Packing, unpacked, next_sequence, HasPacked, bytes_in, Pushes, Finishes}
 
 -- ---- Sequences
-after_zero : (first count : ℕ) → first ≡ 0 → sequence_after first count ≡ 0
+pub after_zero : (first count : ℕ) → first ≡ 0 → sequence_after first count ≡ 0
 after_zero first count none = ap (λ (f : ℕ). sequence_after f count) none
 
 pub after_known : (first count : ℕ) → first ≢ 0 → sequence_after first count ≡ first + count
@@ -44,6 +44,10 @@ after_after a n k = elim (cases_eq a 0) [
       let l : (a + n) + k ≡ a + (n + k) = omega arith in
       ap (λ (s : ℕ). sequence_after s k) (after_known a n some) ∙ after_known (a + n) k some_on ∙ l ∙ sym (after_known a (n + k) some)
 ]
+
+-- ---- Lists of datagrams
+pub bytes_append : (before added : List (Roomy ℕ)) → bytes_in (before ++ added) ≡ bytes_in before ++ bytes_in added
+bytes_append before added = map-append (λ (list : Roomy ℕ). list.items) before added
 
 -- ---- Whether messages go into one datagram
 both_true : (a b : Bool) → (a && b) ≡ true → (a ≡ true) × (b ≡ true)

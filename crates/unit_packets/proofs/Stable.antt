@@ -8,7 +8,8 @@ use Rattle.unit_packets.specs.declared.header.BlockError.{BlockError}
 use Rattle.unit_packets.specs.declared.header.BlockError.TheVariants.{Truncated, LengthBelowHeader, SequencePast, Spare}
 use Rattle.unit_packets.specs.Judging.{header_of, messages_end, judge, judge_end, passes_last}
 use Rattle.pitch_messages.specs.Raw.{raws_of}
-use Rattle.unit_packets.proofs.Judged.{number_front, end_ok, raws_front}
+use Rattle.pitch_messages.proofs.LongestChain.{raws_front}
+use Rattle.unit_packets.proofs.Judged.{guard_ok, number_front, end_ok}
 use Rattle.pitch_fields.specs.Fields.{number_at}
 use Rattle.unit_packets.specs.Cutting.{is_truncated}
 
@@ -83,10 +84,6 @@ judge_more bytes more final = elim (cases_Bool (nat_lt (length bytes) 8)) [
       ∙ by_more (header_of bytes) bytes more (subst IsFinal e final)
       ∙ sym e
 ]
-
-guard_ok : {A E : Type 0} (b : Bool) (d : E) (r : Result A E) (y : A) → cond b (Err d) r ≡ Ok y → (b ≡ false) × (r ≡ Ok y)
-guard_ok true d r y e = cc
-guard_ok false d r y e = (refl, e)
 
 end_header : (h k : Header) (r : Result ℕ BlockError) → judge_end h r ≡ Ok k → h ≡ k
 end_header h k (Err e) is = cc

@@ -35,7 +35,7 @@ leads rest block stands =
 
 -- ---- A fault
 -- a rest of no bytes is no block yet
-judge_nothing : judge [] ≡ Err (Truncated 0 8)
+pub judge_nothing : judge [] ≡ Err (Truncated 0 8)
 unfolding judge
 judge_nothing = refl
 

@@ -1,5 +1,5 @@
 -- What is written as a block is one.
-use Rattle.std.proofs.Common.{◌≡◌, ℕ, ◌+◌, ◌<◌, List, [], ◌∷◌, ◌++◌, length, refl, sym, ap, ◌∙◌, arith, length-append, inl, append_assoc}
+use Rattle.std.proofs.Common.{◌≡◌, ℕ, ◌+◌, ◌<◌, ◌≤◌, List, [], ◌∷◌, ◌++◌, length, refl, sym, ap, ◌∙◌, arith, length-append, inl, append_assoc}
 use Rattle.std.proofs.lemmas.List.{append-nil}
 use Rattle.std.specs.List.{concat, AllByRecursion}
 use Rattle.byteorder.specs.Endian.{little_bytes}
@@ -14,6 +14,7 @@ pub record Fits (block : Block) : Type 0 where
   pub unit : block.unit < 256
   pub sequence : block.sequence < 4294967296
   pub size : 8 + length (concat block.raws) < 65536
+  pub few : length block.raws ≤ 255
   pub raws : AllByRecursion IsRaw block.raws
   pub within : StaysWithin block.sequence (length block.raws)
 
@@ -24,6 +25,8 @@ written_is block fits =
     let long : length (header_bytes (header_for block) ++ concat block.raws) ≡ size = length-append (header_bytes (header_for block)) (concat block.raws) in
     record {
       header = omega (arith, long);
+      small = omega (arith, long, fits.size);
+      few = fits.few;
       size = little_number-reads_back 2 size (length block.raws ∷ block.unit ∷ little_bytes 4 block.sequence ++ concat block.raws) fits.size ∙ sym long;
       count = refl;
       unit = refl;
@@ -36,7 +39,7 @@ written_is block fits =
 pub session_is : (unit : ℕ) (raw : List ℕ) → unit < 256 → IsRaw raw → IsBlock (block_bytes (session_block unit raw)) (session_block unit raw)
 session_is unit raw small is =
     let most = is.most in
-    written_is (session_block unit raw) (record { unit = small; sequence = omega arith; size = omega (arith, most, length-append raw []); raws = (is, tt); within = inl refl })
+    written_is (session_block unit raw) (record { unit = small; sequence = omega arith; size = omega (arith, most, length-append raw []); few = omega arith; raws = (is, tt); within = inl refl })
 
 pub session_bytes : (unit : ℕ) (raw bytes before reserved header middle after : List ℕ) → bytes ≡ raw → header ≡ header_bytes (record { length = 8 + length bytes; count = 1; unit = unit; sequence = 0 })
     → reserved ≡ before → middle ≡ reserved ++ header → after ≡ middle ++ bytes → after ≡ before ++ block_bytes (session_block unit raw)

@@ -3,6 +3,8 @@ use Rattle.std.specs.Prelude.{ℕ, ◌+◌, ◌-◌, ◌^◌, min, List, ◌++�
 use Rattle.unit_packets.specs.declared.header.BlockError.{BlockError}
 use Rattle.unit_packets.specs.declared.header.BlockError.TheVariants.{Truncated, LengthBelowHeader, SequencePast, TinyMessage, MessageOverrun, Spare}
 use Rattle.unit_packets.specs.declared.header.BlockFault.{BlockFault}
+use Rattle.unit_packets.specs.declared.block.FeedError.{FeedError}
+use Rattle.unit_packets.specs.declared.block.FeedError.TheVariants.{Fault, OutOfMemory}
 
 -- the cause of a fault
 abbrev pub cause_text : BlockError → List ℕ
@@ -29,3 +31,8 @@ counted n = min n (2 ^ 64 - 1)
 -- the place of a fault in the stream, and its cause
 abbrev pub fault_text : BlockFault → List ℕ
 fault_text fault = codes "byte " ++ (decimal (counted (fault.place + inner_place fault.error)) ++ (codes ": " ++ cause_text fault.error))
+
+-- why feeding did not go on
+abbrev pub feed_text : FeedError → List ℕ
+feed_text (Fault fault) = fault_text fault
+feed_text OutOfMemory = codes "out of memory"

@@ -92,6 +92,12 @@ pub record Finishes (old new : Packing) (before after : List (Roomy ℕ)) : Type
   pub whole : (unit first : ℕ) (raws datagrams : List (List ℕ)) → HasPacked old unit first raws datagrams → datagrams ++ bytes_in added ≡ packed unit first raws
   pub stands : (unit first : ℕ) (raws datagrams : List (List ℕ)) → HasPacked old unit first raws datagrams → HasPacked new unit (sequence_after first (length raws)) [] []
 
+-- what was given out before and what is given out now are the packing of all that was pushed, where these are raws
+-- whose sequences messages can have
+abbrev pub GivesPacking : Packing → List (Roomy ℕ) → List (Roomy ℕ) → Type 0
+GivesPacking old before after = (unit first : ℕ) (raws datagrams given : List (List ℕ)) → HasPacked old unit first raws datagrams → bytes_in after ≡ bytes_in before ++ given
+    → AllByRecursion IsRaw raws → StaysWithin first (length raws) → IsPacking unit first raws (datagrams ++ given)
+
 -- ---- Laws
 -- the computed packing is one
 abbrev pub PackingIsComputed : Type 0

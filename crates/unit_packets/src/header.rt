@@ -2,6 +2,7 @@ ghost use Rattle.std.specs.Prelude.{◌≡◌};
 ghost use Rattle.unit_packets.specs.Causes.{inner_place};
 ghost use Rattle.unit_packets.specs.Cutting.{is_truncated};
 
+use std::error::Error;
 use std::fmt;
 
 /// The header of a block: its length in bytes with the header, the number of its messages, its unit, and the
@@ -77,6 +78,8 @@ impl fmt::Display for BlockError {
     }
 }
 
+impl Error for BlockError {}
+
 /// A fault in a stream of blocks: the place of the faulty block in the stream, and what is wrong with it.
 #[derive(Clone, Copy, Debug, PartialEq, Eq)]
 pub struct BlockFault {
@@ -99,3 +102,5 @@ impl fmt::Display for BlockFault {
         write!(f, "byte {place}: {error}")
     }
 }
+
+impl Error for BlockFault {}

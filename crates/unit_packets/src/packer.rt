@@ -1,7 +1,8 @@
 ghost use Rattle.std.specs.Prelude.{◌≡◌, ◌+◌, ◌≤◌, ◌<◌, ◌++◌, [], ◌∷◌, length, drop, IfOk, OnOk, OnErr, IsTrue, ◌↔◌};
+ghost use Rattle.pitch_messages.specs.Raw.{IsRaw};
 ghost use Rattle.unit_packets.specs.BlockBytes.{header_bytes, block_bytes};
 ghost use Rattle.unit_packets.specs.Blocks.{StaysWithin};
-ghost use Rattle.unit_packets.specs.Packing.{unpacked, next_sequence, sequence_after, fits_datagram, HasPacked, Pushes, Finishes};
+ghost use Rattle.unit_packets.specs.Packing.{unpacked, next_sequence, sequence_after, fits_datagram, HasPacked, Pushes, Finishes, GivesPacking};
 
 use crate::header::Header;
 use crate::writing::header_bytes;
@@ -103,10 +104,10 @@ impl Packer {
 
     // The block that was begun has room for the message.
     #[inline]
-    fn takes(&self, raw: &Raw) -> bool
+    fn takes(&self, raw: &[u8]) -> bool
         ensures { IsTrue result ↔ (0 < length self.now.begun) × IsTrue (fits_datagram (self.now.begun ++ raw.now ∷ [])) }
     {
-        is_taken(self.count, self.bytes.len() + raw.bytes().len())
+        is_taken(self.count, self.bytes.len() + raw.len())
     }
 
     /// Packs a message. Packer and list are as before after OutOfMemory.
@@ -116,12 +117,23 @@ impl Packer {
         ensures ok { OnOk result (Pushes self.old raw.now self.new out.old.items out.new.items) }
         ensures err { OnErr result ((self.new ≡ self.old) × (out.new.items ≡ out.old.items)) }
     {
+        self.push_bytes(raw.bytes(), out)
+    }
+
+    /// Packs a message by its bytes, as `push` does.
+    #[inline]
+    pub fn push_bytes(&mut self, raw: &[u8], out: &mut DatagramList) -> Result<(), OutOfMemory>
+        requires raw { IsRaw raw.now }
+        requires next { next_sequence self.old ≤ 4294967294 }
+        ensures ok { OnOk result (Pushes self.old raw.now self.new out.old.items out.new.items) }
+        ensures err { OnErr result ((self.new ≡ self.old) × (out.new.items ≡ out.old.items)) }
+    {
         if self.takes(raw) {
-            self.bytes.extend_from_slice(raw.bytes())?;
+            self.bytes.extend_from_slice(raw)?;
             self.count += 1;
             return Ok(());
         }
-        let begun = begun_with(*self.bytes.allocator(), raw.bytes())?;
+        let begun = begun_with(*self.bytes.allocator(), raw)?;
         self.finish(out)?;
         self.bytes = begun;
         self.count = 1;
@@ -132,6 +144,8 @@ impl Packer {
     pub fn finish(&mut self, out: &mut DatagramList) -> Result<(), OutOfMemory>
         ensures ok { OnOk result (Finishes self.old self.new out.old.items out.new.items) }
         ensures after { OnOk result (self.new ≡ unpacked self.old.unit (next_sequence self.old)) }
+        // With what was given out before it is the packing of all messages that were pushed.
+        ensures packing { OnOk result (GivesPacking self.old out.old.items out.new.items) }
         ensures err { OnErr result ((self.new ≡ self.old) × (out.new.items ≡ out.old.items)) }
     {
         if self.count == 0 {

@@ -92,8 +92,8 @@ fn cut_blocks(
     unreachable!()
 }
 
-/// The rest of a stream that comes in pieces: what was loaded and is not yet behind, and its place in the stream.
-/// Its memory grows with the longest rest alone.
+/// The rest of a stream that comes in pieces: the bytes that were loaded and not yet passed, and their place in the
+/// stream.
 #[derive(Drop)]
 pub struct BlockReader {
     buffer: Vec<u8>,
@@ -183,10 +183,7 @@ impl BlockReader {
             None => {}
         }
         let before = self.rest().len();
-        match self.load(piece) {
-            Ok(()) => {}
-            Err(_) => return Err(FeedError::OutOfMemory),
-        }
+        self.load(piece)?;
         let alloc = *self.buffer.allocator();
         match cut_blocks(alloc, self.rest(), out) {
             Ok((passed, error)) => {
@@ -200,7 +197,8 @@ impl BlockReader {
         }
     }
 
-    /// Ends the stream. Where bytes are kept, they are a fault: the one that was kept, or that the block is cut off.
+    /// Ends the stream. Where the rest has bytes and no whole block stands at its front, it is a fault: the one that
+    /// was kept, or that the block is cut off.
     pub fn finish(&self) -> Result<(), BlockFault>
         ensures kept { result ≡ ended_answer (fault_in true self.now.place self.now.rest) }
         ensures fed { (fed : List ℕ) → StandsFor self.now fed → result ≡ ended_answer (ended_fault fed) }

@@ -1,8 +1,8 @@
 use crate::{
     BlockError, BlockFault, BlockList, BlockReader, DatagramList, FeedError, Header, LAST_SEQUENCE,
-    Packer, heartbeat, put_session, read_block,
+    Packer, heartbeat, pack, put_session, read_block,
 };
-use pitch_messages::Raw;
+use pitch_messages::{Raw, RawList};
 use std::alloc::Global;
 use std::process::Abort;
 
@@ -113,7 +113,7 @@ fn streams_in_pieces(rt: HostRuntime) {
 }
 
 // Packs so many messages of this length, and answers the headers of their datagrams.
-fn pack(rt: &impl Abort, alloc: Global, length: u8, count: usize, first: u32) -> Vec<Header> {
+fn headers_of(rt: &impl Abort, alloc: Global, length: u8, count: usize, first: u32) -> Vec<Header> {
     let mut bytes = [0; 255];
     bytes[0] = length;
     let raw = Raw::from_bytes(&bytes[..length as usize]).expect(rt, "a raw");
@@ -144,16 +144,33 @@ fn header(length: u16, count: u8, sequence: u32) -> Header {
 #[test]
 fn messages_are_packed(rt: HostRuntime) {
     // 1,400 bytes are not passed, and may be reached; nor are 255 messages.
-    let large = pack(&rt, rt.alloc(), 255, 11, 7);
+    let large = headers_of(&rt, rt.alloc(), 255, 11, 7);
     assert!(rt;
         large.as_slice() == [header(1283, 5, 7), header(1283, 5, 12), header(263, 1, 17)].as_slice()
     );
-    let even = pack(&rt, rt.alloc(), 232, 7, 1);
+    let even = headers_of(&rt, rt.alloc(), 232, 7, 1);
     assert!(rt; even.as_slice() == [header(1400, 6, 1), header(240, 1, 7)].as_slice());
-    let small = pack(&rt, rt.alloc(), 2, 256, 1);
+    let small = headers_of(&rt, rt.alloc(), 2, 256, 1);
     assert!(rt; small.as_slice() == [header(518, 255, 1), header(10, 1, 256)].as_slice());
-    let unsequenced = pack(&rt, rt.alloc(), 255, 6, 0);
+    let unsequenced = headers_of(&rt, rt.alloc(), 255, 6, 0);
     assert!(rt; unsequenced.as_slice() == [header(1283, 5, 0), header(263, 1, 0)].as_slice());
+}
+
+#[test]
+fn lists_are_packed(rt: HostRuntime) {
+    let mut raws = RawList::make(rt.alloc());
+    for bytes in [b"\x02\x2d".as_slice(), b"\x03\x2d\x07".as_slice()] {
+        let raw = Raw::from_bytes(bytes).expect(&rt, "a raw");
+        raws.push(&raw).expect(&rt, "memory");
+    }
+    let mut out = DatagramList::make(rt.alloc());
+    pack(rt.alloc(), 9, 7, raws.raws(), &mut out).expect(&rt, "memory");
+    let bytes = out.get(0).expect(&rt, "a datagram").bytes();
+    assert_eq!(rt;
+        bytes,
+        b"\x0d\0\x02\x09\x07\0\0\0\x02\x2d\x03\x2d\x07".as_slice()
+    );
+    assert_eq!(rt; out.len(), 1);
 }
 
 #[test]

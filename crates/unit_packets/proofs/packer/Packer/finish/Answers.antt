@@ -4,6 +4,7 @@ use Rattle.pitch_messages.specs.Raw.{raws_of}
 use Rattle.pitch_messages.proofs.Chains.{no_raws}
 use Rattle.pitch_messages.specs.Room.{Roomy}
 use Rattle.unit_packets.specs.Packing.{Packing}
+use Rattle.unit_packets.proofs.OnePacking.{gives_packing}
 use Rattle.unit_packets.proofs.Packs.{finishes, nothing_begun, none_given, one_given}
 use Rattle.unit_packets.proofs.packer.Packer.finish.Goals as goal
 
@@ -23,3 +24,9 @@ returns-clause-ok c =
     let some : 0 < length c.args.self.now.begun = subst (λ (rs : List (List ℕ)). 0 < length rs) (ap (λ (p : Packing). p.begun) c.self.view_is) (omega (arith, c.self.invariant.chain.many)) in
     finishes _ _ _ _ (c.of_vec.result ∷ []) (c.in_ok-push.ensures.ok ∙ ap (λ (l : List (Roomy ℕ)). l ++ c.of_vec.result ∷ []) c.in_ok-reserve.ensures.items)
     (one_given _ _ _ c.of_vec.result some (c.of_vec.ensures ∙ c.close-datagram.ensures.bytes)) c.close-datagram.ensures.after
+
+pub returns-then-self-eq0-clause-packing : goal.returns-then-self-eq0-clause-packing
+returns-then-self-eq0-clause-packing c = gives_packing _ _ _ _ (subst (λ (p : Packing). p.unit < 256) c.self.view_is (omega arith)) (returns-then-self-eq0-clause-ok c)
+
+pub returns-clause-packing : goal.returns-clause-packing
+returns-clause-packing c = gives_packing _ _ _ _ (subst (λ (p : Packing). p.unit < 256) c.self.view_is (omega arith)) (returns-clause-ok c)

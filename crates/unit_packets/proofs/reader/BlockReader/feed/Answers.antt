@@ -12,17 +12,17 @@ returns-in-Some-clause-fed c = λ fed stands.
     sym (ap (λ (p : ℕ). fault_in false p c.rest.result.now) c.place.ensures ∙ ap (fault_in false c.args.self.now.place) c.rest.ensures) ∙ sym c.fault_in.ensures ∙ c.in-Some.is in
     fed_past fed c.args.piece.now c.args.self.now c.in-Some.fault c.args.out.now.items stands some
 
-pub returns-in-Ok-cut_blocks-clause-fed : goal.returns-in-Ok-cut_blocks-clause-fed
-returns-in-Ok-cut_blocks-clause-fed c = with_memory c.answer.result _ (λ fed stands.
+pub returns-in-Ok-clause-fed : goal.returns-in-Ok-clause-fed
+returns-in-Ok-clause-fed c = with_memory c.answer.result _ (λ fed stands.
     let none : kept_fault c.args.self.now ≡ None =
     sym (ap (λ (p : ℕ). fault_in false p c.rest.result.now) c.place.ensures ∙ ap (fault_in false c.args.self.now.place) c.rest.ensures) ∙ sym c.fault_in.ensures ∙ c.in-None.is in
     let all : List ℕ = c.rest-2.result.now in
-    let are : all ≡ c.args.self.now.rest ++ c.args.piece.now = c.rest-2.ensures ∙ ap (λ (r : Reading). r.rest) c.in-Ok.ensures.ok in
-    let place : c.pass.new.self.place ≡ counted (c.args.self.now.place + c.in-Ok-cut_blocks.passed) =
-    ap (λ (r : Reading). r.place) c.pass.ensures ∙ ap (λ (r : Reading). counted (r.place + c.in-Ok-cut_blocks.passed)) c.in-Ok.ensures.ok in
-    let rest : c.pass.new.self.rest ≡ drop c.in-Ok-cut_blocks.passed all =
-    ap (λ (r : Reading). r.rest) c.pass.ensures ∙ ap (drop c.in-Ok-cut_blocks.passed) (sym c.rest-2.ensures) in
-    let gives : c.answer.result ≡ fed_answer (fault_from false c.pass.new.self.place (Err c.in-Ok-cut_blocks.error)) =
-    c.answer.ensures ∙ ap fed_answer (c.fault_from.ensures ∙ ap (λ (p : ℕ). fault_from false p (Err c.in-Ok-cut_blocks.error)) c.place-in-Ok-cut_blocks.ensures) in
-    fed_on fed c.args.piece.now all c.in-Ok-cut_blocks.passed c.in-Ok-cut_blocks.error c.args.self.now c.pass.new.self c.args.out.now.items c.cut_blocks.new.out.items c.answer.result
-    stands none are c.in-Ok-cut_blocks.ensures.ok place rest gives)
+    let are : all ≡ c.args.self.now.rest ++ c.args.piece.now = c.rest-2.ensures ∙ ap (λ (r : Reading). r.rest) c.in_ok-load.ensures.ok in
+    let place : c.pass.new.self.place ≡ counted (c.args.self.now.place + c.in-Ok.passed) =
+    ap (λ (r : Reading). r.place) c.pass.ensures ∙ ap (λ (r : Reading). counted (r.place + c.in-Ok.passed)) c.in_ok-load.ensures.ok in
+    let rest : c.pass.new.self.rest ≡ drop c.in-Ok.passed all =
+    ap (λ (r : Reading). r.rest) c.pass.ensures ∙ ap (drop c.in-Ok.passed) (sym c.rest-2.ensures) in
+    let gives : c.answer.result ≡ fed_answer (fault_from false c.pass.new.self.place (Err c.in-Ok.error)) =
+    c.answer.ensures ∙ ap fed_answer (c.fault_from.ensures ∙ ap (λ (p : ℕ). fault_from false p (Err c.in-Ok.error)) c.place-in-Ok.ensures) in
+    fed_on fed c.args.piece.now all c.in-Ok.passed c.in-Ok.error c.args.self.now c.pass.new.self c.args.out.now.items c.cut_blocks.new.out.items c.answer.result
+    stands none are c.in-Ok.ensures.ok place rest gives)
