@@ -22,15 +22,18 @@ use Rattle.client_core.specs.declared.spinning.SpinState.TheVariants.{NoSpin, As
 use Rattle.client_core.specs.declared.taking.Taken.{Taken}
 
 -- ---- Room in a book
--- the book has room for so many messages and for what is held, or for all that can still be applied: sequences end at 4,294,967,294
+-- the book has room for so many messages and for what is held, or for all that can still be
+-- applied: sequences end at 4,294,967,294
 abbrev pub HasRoom : ℕ → HoldView → ℕ → Type 0
 HasRoom left h spare = min (left + len h.held) (4294967294 - h.floor) ≤ spare
 
--- a book of an image through a sequence has room for so many messages that are held, or for all that can follow
+-- a book of an image through a sequence has room for so many messages that are held, or for all
+-- that can follow
 abbrev pub HasRoomAfter : ℕ → ℕ → ℕ → Type 0
 HasRoomAfter held through spare = min held (4294967294 - through) ≤ spare
 
--- the image that a Spin Finished for a sequence would finish has room for so many messages that are held
+-- the image that a Spin Finished for a sequence would finish has room for so many messages that are
+-- held
 abbrev pub IsReady : ℕ → ℕ → SpinState → Type 0
 IsReady held sequence (Running image) = image.sequence ≡ sequence → image.got ≡ image.promised → HasRoomAfter held sequence image.book.spare
 IsReady held sequence NoSpin = Unit {0}
@@ -69,8 +72,8 @@ pub record NotesApplied (n n' : ℕ) (book book' : Standing) (log log' : Applied
   pub noted_is : noted log' ≡ with_more applied (noted log)
 
 -- ---- Answers
--- a message was taken in where what came so far was P: the hold then stands at the reach and holds what is held, and the
--- answer says whether the message was fresh and whether the hold overflowed
+-- a message was taken in where what came so far was P: the hold then stands at the reach and holds
+-- what is held, and the answer says whether the message was fresh and whether the hold overflowed
 pub record TakesIn (P : Part) (h : HoldView) (sequence : ℕ) (h' : HoldView) (taken : Taken) : Type 0 where
   pub settled_then : Settled (settled h.limit (grown P [] (sequence ∷ [])) (sequence ∷ [])) h'.floor (has h')
   pub overflow_is : taken.overflow ≡ overflows h.limit (grown P [] (sequence ∷ [])) (sequence ∷ [])
