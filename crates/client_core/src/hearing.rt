@@ -104,7 +104,7 @@ impl UnitClient {
     ghost use Rattle.client_core.specs.Tracks.{Tracks, Keeps, IsAsBefore, IsStill, Applied, KeepsRoom, held_number, reached, spare_of};
     ghost use Rattle.client_core.specs.Blocks.{Carries};
     ghost use Rattle.client_core.specs.Items.{IsImage, NeedsNoMemory, message_count};
-    ghost use Rattle.client_core.specs.Bookkeeping.{HasRoom, IsReady, noted, with_more, CanNote, CanNoteItem, NotesApplied, Tells};
+    ghost use Rattle.client_core.specs.Bookkeeping.{HasRoom, IsImageReady, noted, with_more, CanNote, CanNoteItem, NotesApplied, Tells};
 
     // What changed since the client had a status, as something was heard.
     fn changed_since(&self, before: Status, heard: Heard) -> Change
@@ -339,7 +339,7 @@ impl UnitClient {
 
     // Hears the end of a spin, whose image has room for what is held.
     fn end_spin(&mut self, sequence: u32) -> ImageEnd
-        requires { IsReady (held_number self.old) sequence self.old.spin }
+        requires { IsImageReady (held_number self.old) sequence self.old.spin }
         ensures tracks { (H : ℕ) (E : List Entry) → Tracks self.old H E → Tracks self.new H (SpinFinished sequence ∷ E) }
         ensures keeps { (Image : List Raw → ℕ → List Raw) (V : List Raw) → IsImage Image V → (H : ℕ) (E : List Entry) → Tracks self.old H E → IsHonestAt Image V E (SpinFinished sequence) → Keeps self.old V → Keeps self.new V }
         ensures image { (H : ℕ) (E : List Entry) → Tracks self.old H E → result ≡ image_end_at (reach H E) (image_finished (spin_of E) sequence) (bad_image (spin_of E) sequence) }
