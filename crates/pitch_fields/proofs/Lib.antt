@@ -1,3 +1,4 @@
+pub mod Bytes
 pub mod Decimals
 mod Examples
 pub mod LittleEndian

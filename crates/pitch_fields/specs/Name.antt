@@ -1,6 +1,6 @@
 -- Symbols and participants: bytes of a fixed number, with spaces at their end.
 -- Standard: "Cboe US Equities Multicast PITCH specification", "Data Types".
-use Rattle.std.specs.Prelude.{ℕ, ◌+◌, ◌/◌, ◌%◌, Bool, not, ◌==◌, ◌&&◌, nat_lt, nat_le, List, [], ◌∷◌, take, drop, Option, None, Some, codes, if◌then◌else◌}
+use Rattle.std.specs.Prelude.{ℕ, ◌+◌, ◌/◌, ◌%◌, Bool, not, ◌==◌, ◌&&◌, ◌||◌, nat_lt, nat_le, List, [], ◌∷◌, take, drop, Option, None, Some, codes, if◌then◌else◌}
 use Rattle.std.specs.List.{flat_map, list_all}
 
 -- the code of a hexadecimal digit, in lower case
@@ -31,6 +31,14 @@ without_spaces (b ∷ bs) = if is_blank (b ∷ bs) then [] else b ∷ without_sp
 -- some printing bytes, and then spaces alone
 abbrev pub is_well_formed : List ℕ → Bool
 is_well_formed bytes = not (is_blank bytes) && list_all is_printing (without_spaces bytes)
+
+-- four spaces, which name no participant
+abbrev pub no_participant : List ℕ
+no_participant = 32 ∷ 32 ∷ 32 ∷ 32 ∷ []
+
+-- spaces alone, or well formed as a symbol is
+abbrev pub is_participant : List ℕ → Bool
+is_participant name = is_blank name || is_well_formed name
 
 -- the first six of eight bytes, where the last two are spaces
 abbrev pub six_of : List ℕ → Option (List ℕ)

@@ -1,4 +1,4 @@
-ghost use Rattle.std.specs.Prelude.{◌≡◌, ◌≤◌, ◌<◌, ◌+◌, ◌++◌, [], ◌∷◌, take, length, decimal};
+ghost use Rattle.std.specs.Prelude.{◌≡◌, ◌≤◌, ◌<◌, ◌+◌, ◌++◌, [], ◌∷◌, take, drop, length, decimal};
 ghost use Rattle.pitch_fields.specs.Fields.{Begins};
 ghost use Rattle.pitch_fields.specs.Name.{hex_digit, hex_text, name_shown, shown_byte};
 ghost use Rattle.pitch_fields.specs.Price.{price_digits};
@@ -15,6 +15,7 @@ pub fn put_byte(out: &mut [u8], at: usize, byte: u8) -> usize
     requires { at < length out.old }
     ensures end { result ≡ at + 1 }
     ensures text { take result out.new ≡ take at out.old ++ byte ∷ [] }
+    ensures rest { drop result out.new ≡ drop result out.old }
     ensures kept { length out.new ≡ length out.old }
 {
     put_text(out, at, &[byte])
@@ -27,6 +28,7 @@ pub fn put_text(out: &mut [u8], at: usize, text: &[u8]) -> usize
     requires { at + length text.now ≤ length out.old }
     ensures end { result ≡ at + length text.now }
     ensures text { take result out.new ≡ take at out.old ++ text.now }
+    ensures rest { drop result out.new ≡ drop result out.old }
     ensures kept { length out.new ≡ length out.old }
 {
     let end = at + text.len();
@@ -42,6 +44,7 @@ pub fn put_number(out: &mut [u8], at: usize, value: u64) -> usize
     ensures end { result ≤ at + 20 }
     ensures size { result ≡ at + length (decimal value) }
     ensures text { take result out.new ≡ take at out.old ++ decimal value }
+    ensures rest { drop result out.new ≡ drop result out.old }
     ensures kept { length out.new ≡ length out.old }
 {
     let end = at + digits(value);
@@ -55,6 +58,7 @@ pub fn put_price(out: &mut [u8], at: usize, price: Price) -> usize
     requires { at + 24 ≤ length out.old }
     ensures end { result ≤ at + 21 }
     ensures text { take result out.new ≡ take at out.old ++ price_digits price }
+    ensures rest { drop result out.new ≡ drop result out.old }
     ensures kept { length out.new ≡ length out.old }
 {
     let all = price.ten_thousandths();
@@ -90,6 +94,7 @@ pub fn put_hex(out: &mut [u8], at: usize, byte: u8) -> usize
     requires { at + 2 ≤ length out.old }
     ensures end { result ≡ at + 2 }
     ensures text { take result out.new ≡ take at out.old ++ hex_text byte }
+    ensures rest { drop result out.new ≡ drop result out.old }
     ensures kept { length out.new ≡ length out.old }
 {
     put_text(out, at, &[hex(byte / 16), hex(byte % 16)])
@@ -102,6 +107,7 @@ pub fn put_shown_byte(out: &mut [u8], at: usize, byte: u8) -> usize
     requires { at + 4 ≤ length out.old }
     ensures end { result ≤ at + 4 }
     ensures text { take result out.new ≡ take at out.old ++ shown_byte byte }
+    ensures rest { drop result out.new ≡ drop result out.old }
     ensures kept { length out.new ≡ length out.old }
 {
     if is_printing(byte) {
@@ -118,6 +124,7 @@ pub fn put_name(out: &mut [u8], at: usize, name: &[u8]) -> usize
     requires short { length name.now ≤ 8 }
     ensures end { result ≤ at + 32 }
     ensures text { take result out.new ≡ take at out.old ++ name_shown name.now }
+    ensures rest { drop result out.new ≡ drop result out.old }
     ensures kept { length out.new ≡ length out.old }
 {
     let shown = without_spaces(name);
@@ -133,14 +140,16 @@ pub fn put_name(out: &mut [u8], at: usize, name: &[u8]) -> usize
 
 /// Writes a number in decimal at the front, and answers how many bytes it took.
 pub fn number_text(value: u64, into: &mut [u8; 24]) -> usize
-    ensures { Begins into.new result (decimal value) }
+    ensures text { Begins into.new result (decimal value) }
+    ensures rest { drop result into.new ≡ drop result into.old }
 {
     put_number(into, 0, value)
 }
 
 /// Writes a price in dollars with four decimals at the front, and answers how many bytes it took.
 pub fn price_text(price: Price, into: &mut [u8; 24]) -> usize
-    ensures { Begins into.new result (price_digits price) }
+    ensures text { Begins into.new result (price_digits price) }
+    ensures rest { drop result into.new ≡ drop result into.old }
 {
     put_price(into, 0, price)
 }
@@ -148,7 +157,8 @@ pub fn price_text(price: Price, into: &mut [u8; 24]) -> usize
 /// Writes a symbol or a participant of at most 8 bytes at the front, and answers how many bytes it took.
 pub fn name_text(bytes: &[u8], into: &mut [u8; 32]) -> usize
     requires { length bytes.now ≤ 8 }
-    ensures { Begins into.new result (name_shown bytes.now) }
+    ensures text { Begins into.new result (name_shown bytes.now) }
+    ensures rest { drop result into.new ≡ drop result into.old }
 {
     put_name(into, 0, bytes)
 }

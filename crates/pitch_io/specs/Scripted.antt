@@ -2,8 +2,6 @@
 use Rattle.std.specs.Prelude.{◌≡◌, ℕ, ◌+◌, ◌-◌, ◌^◌, List, length, min}
 use Rattle.pitch_io.specs.declared.sink.Put.{Put}
 use Rattle.pitch_io.specs.declared.sink.Put.TheVariants.{Wrote}
-use Rattle.pitch_io.specs.declared.source.Taken.{Taken}
-use Rattle.pitch_io.specs.declared.source.Taken.TheVariants.{Got}
 
 -- such an end: the bytes left in a source or written to a sink, the most of one call, the numbers of the calls
 -- that fail, and how many calls and faults there were
@@ -19,11 +17,6 @@ pub record IsNextCall (old new : Scripted) : Type 0 where
   pub counted : new.calls ≡ min (old.calls + 1) (2 ^ 64 - 1)
   pub same_piece : new.piece ≡ old.piece
   pub same_failing : new.failing ≡ old.failing
-
--- a take gives as many of the bytes as the piece and the slice allow
-abbrev pub TakesMost : Scripted → Taken → List ℕ → Type 0
-TakesMost source (Got n) into = n ≡ min (min (length source.bytes) source.piece) (length into)
-TakesMost source _ into = Unit {0}
 
 -- a put writes as many bytes as the piece of one call allows
 abbrev pub PutsMost : Scripted → Put → List ℕ → Type 0

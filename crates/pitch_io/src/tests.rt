@@ -54,10 +54,10 @@ fn sources_in_memory_give_pieces_and_fail_where_listed(rt: HostRuntime) {
         assert_eq!(rt; letters.as_str(), answers, "piece {piece}");
     }
     let bytes = Vec::from_slice(rt.alloc(), b"abcdef").expect(&rt, "memory");
-    let mut source = SteadySource::make(bytes, 3);
+    let mut source = SteadySource::make(bytes, 2);
     let (taken, letters) = five_takes(&rt, &mut source);
     assert_eq!(rt; taken.as_slice(), b"abcdef".as_slice());
-    assert_eq!(rt; letters.as_str(), "ggeee");
+    assert_eq!(rt; letters.as_str(), "gggee");
 }
 
 #[test]
@@ -71,16 +71,15 @@ fn sinks_in_memory_keep_what_fits(rt: HostRuntime) {
         [Put::Wrote(2), Put::Failed, Put::Wrote(1)].as_slice(),
     );
     assert_eq!(rt; sink.written(), b"abf".as_slice());
-    for room in [6, 5, 0] {
+    let rooms: [(usize, &[u8]); 3] = [(6, b"abcdef"), (4, b"abcf"), (0, b"")];
+    for (room, want) in rooms {
         let mut sink = SteadySink::make(rt.alloc(), room).expect(&rt, "memory");
         let answers = answers_of_puts(&rt, &mut sink, &pieces);
         assert_eq!(rt;
             answers.as_slice(),
             [Put::Wrote(3), Put::Wrote(2), Put::Wrote(1)].as_slice(),
         );
-        if room == 6 {
-            assert_eq!(rt; sink.written(), b"abcdef".as_slice());
-        }
+        assert_eq!(rt; sink.written(), want);
     }
 }
 

@@ -1,5 +1,4 @@
 ghost use Rattle.std.specs.Prelude.{◌≡◌, ◌≤◌, Ok, IfSome};
-ghost use Rattle.pitch_fields.specs.Name.{is_blank};
 ghost use Rattle.pitch_messages.specs.Reading.{reads};
 ghost use Rattle.pitch_messages.specs.Writing.{written, HasItsVariant};
 ghost use Rattle.pitch_messages.specs.Forms.{flags_of, short_price, plain_symbol, add_message, trade_message, reduce_message, modify_message};
@@ -8,7 +7,7 @@ use crate::message::Message;
 use crate::order::Order;
 use crate::raw::Raw;
 use crate::writing::write;
-use pitch_fields::Price;
+use pitch_fields::{Price, is_blank};
 
 // The flags byte of an order: bit 0 says that it is displayed.
 fn flags_of(display: bool) -> u8
@@ -26,13 +25,6 @@ fn short_price(quantity: u32, price: Price) -> Option<u16>
         return None;
     }
     price.short()
-}
-
-// Whether all of the bytes are spaces.
-fn is_blank(bytes: &[u8]) -> bool
-    ensures { result ≡ is_blank bytes.now }
-{
-    bytes.iter().all(|byte| *byte == b' ')
 }
 
 // The six bytes of the symbol, where neither the symbol nor the participant asks for the expanded form.

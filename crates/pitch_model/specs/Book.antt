@@ -2,6 +2,7 @@
 use Rattle.std.specs.Prelude.{◌≡◌, ℕ, ◌-◌, ◌<◌, Bool, ◌==◌, List, [], ◌∷◌, ◌++◌, fold, ◌*◌, Option, None, Some, Result, Ok, Err, if◌then◌else◌, bit_and, option_map}
 use Rattle.std.specs.Ordering.{nat_cmp}
 use Rattle.std.specs.FinMap as map
+use Rattle.pitch_fields.specs.Name.{no_participant}
 use Rattle.pitch_fields.specs.declared.side.Side.{Side}
 use Rattle.pitch_messages.specs.declared.order.Order.{Order}
 use Rattle.pitch_messages.specs.declared.message.Message.{Message}
@@ -77,11 +78,7 @@ long_symbol symbol = symbol ++ 32 ∷ 32 ∷ []
 
 -- a short price counts hundredths, and a long one ten-thousandths
 abbrev pub long_price : ℕ → ℕ
-long_price price = price * 100
-
--- the participant of an order that names none is four spaces
-abbrev pub no_participant : List ℕ
-no_participant = 32 ∷ 32 ∷ 32 ∷ 32 ∷ []
+long_price price = 100 * price
 
 -- the orders of the three forms of an add
 abbrev pub order_of_long : ℕ → Side → ℕ → List ℕ → ℕ → ℕ → Order

@@ -22,14 +22,15 @@ use Rattle.pitch_text.specs.declared.verb.Verb.{Verb}
 use Rattle.pitch_text.specs.declared.verb.Verb.TheVariants as verbs
 use Rattle.pitch_text.specs.Fields.{Field, Rest, placed, fields_of}
 use Rattle.pitch_fields.specs.Name.{is_printing}
-use Rattle.pitch_text.specs.CommandGrammar.{no_participant}
-use Rattle.pitch_text.specs.Kinds.{padded_of, symbol_of, participant_of}
+use Rattle.pitch_fields.specs.Name.{no_participant}
+use Rattle.pitch_text.specs.Kinds.{padded_of, participant_of}
 use Rattle.pitch_text.specs.ScheduleGrammar.{entry}
 use Rattle.pitch_text.specs.Text.{line_of, lines_of, said_of, entries_of}
-use Rattle.pitch_text.specs.WellFormed.{IsVerb, IsCommand, IsOrder, IsOffset, IsWellFormed}
+use Rattle.pitch_text.specs.WellFormed.{IsVerb, IsCommand, IsOrder, IsOffset, IsSymbol, IsWellFormed}
 use Rattle.pitch_text.specs.Printing.{verb_words, command_words, number_words, at_words, hidden_words, mpid_words, order_words, name_of, count_word, line_word, session_word, spaced, entry_text}
 use Rattle.pitch_text.proofs.WordLemmas.{is_dark, IsWord, AreWords, fields_words, spaced_length, one_line}
 use Rattle.pitch_text.proofs.KindLemmas.{decimal_digits}
+use Rattle.pitch_text.proofs.NameLemmas.{guard_is, name_again, participant_again}
 use Rattle.pitch_text.proofs.VerbLemmas.{left, entry_again}
 
 -- ---- each word is one
@@ -62,11 +63,6 @@ count_is_word n h = id_is_word n (omega (arith, h))
 named_word : (name text : List ℕ) → list_all is_dark name ≡ true → list_all is_dark text ≡ true → 0 < length name → length name + length text ≤ 20 → IsWord (name ++ text)
 named_word name text d e some le = record { filled = omega (arith, length-append name text); dark = list_all-append is_dark name text ∙ and_from (list_all is_dark name) (list_all is_dark text) d e; short = omega (arith, length-append name text) }
 
--- a value under a test: the test held, and it is that value
-pub guard_is : {A : Type 0} (b : Bool) (x y : A) → cond b (Some x) None ≡ Some y → (b ≡ true) × (x ≡ y)
-guard_is true x y e = (refl, cc)
-guard_is false x y e = absurd cc
-
 name_word : (width : ℕ) (x s : List ℕ) → padded_of width x ≡ Some s → (0 < length x) × (length x ≤ width) × (list_all is_dark x ≡ true)
 name_word width x s e =
     let g = guard_is (ltb 0 (length x) && leb (length x) width && list_all is_printing x) _ s e in
@@ -74,8 +70,8 @@ name_word width x s e =
     let q = and_parts (ltb 0 (length x)) (leb (length x) width) p.0 in
     (ltb-true _ _ q.0, leb-true _ _ q.1, printing_dark x p.1)
 
-symbol_word : (s : List ℕ) → symbol_of (name_of s) ≡ Some s → IsWord (name_of s)
-symbol_word s e = let n = name_word 8 (name_of s) s e in record { filled = n.0; dark = n.2; short = omega (arith, n.1) }
+symbol_word : (s : List ℕ) → IsSymbol s → IsWord (name_of s)
+symbol_word s ok = let n = name_word 8 (name_of s) s (name_again 8 s ok.0 ok.1) in record { filled = n.0; dark = n.2; short = omega (arith, n.1) }
 
 price_word : (p : ℕ) → p < 2 ^ 64 → IsWord (price_digits p)
 price_word p small =
@@ -126,7 +122,7 @@ literal w a b c = record { filled = ltb-true _ _ a; dark = b; short = leb-true _
 add_ok : (o : Order) (offset : ℕ) → IsOrder o → IsOffset offset → AreFew (command_words (commands.Add o offset))
 add_ok o offset ok off =
     let h = hidden_ok o.display in
-    let m = mpid_ok o.participant (pointwise nat_eq o.participant no_participant) ok.participant in
+    let m = mpid_ok o.participant (pointwise nat_eq o.participant no_participant) (participant_again o.participant ok.participant) in
     let t = at_ok offset off in
     let order : AreWords (order_words (codes "add") o) = (literal (codes "add") refl refl refl, (id_is_word o.id ok.id, (side_word o.side, (count_is_word o.quantity ok.quantity, (symbol_word o.symbol ok.symbol, (price_word o.price ok.price, tt)))))) in
     record {

@@ -13,7 +13,7 @@ use Rattle.pitch_text.specs.declared.verb.Session.{Session}
 use Rattle.pitch_text.specs.declared.verb.Session.TheVariants.{Grp, Spin}
 use Rattle.pitch_text.specs.declared.verb.Verb.{Verb}
 use Rattle.pitch_text.specs.declared.verb.Verb.TheVariants as verbs
-use Rattle.pitch_text.specs.CommandGrammar.{no_participant}
+use Rattle.pitch_fields.specs.Name.{no_participant}
 
 -- ---- the words of a line
 

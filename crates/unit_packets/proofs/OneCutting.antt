@@ -1,16 +1,14 @@
 -- The computed cutting is the longest list of blocks, and there is no other.
 use Rattle.std.proofs.Common.{◌≡◌, ℕ, zero, suc, ◌+◌, ◌<◌, ◌≤◌, ◌^◌, List, [], ◌∷◌, ◌++◌, length, take, drop, get_or, refl, sym, ap, ◌∙◌, arith, Err, subst, inl, inr}
 use Rattle.std.proofs.lemmas.List.{length-drop, get_or-drop, take-append-drop, drop_at}
-use Rattle.std.proofs.lemmas.Bool.{cases_lt}
-use Rattle.std.proofs.lemmas.List.Elements.{All-get_or}
-use Rattle.std.proofs.Math.ListN.{get_or-eq_default}
+use Rattle.pitch_fields.proofs.Bytes.{byte_at}
 use Rattle.pitch_messages.specs.Raw.{raws_of}
 use Rattle.unit_packets.specs.Blocks.{Block, IsBlock, AreBlocks, BeginsNoBlock, Cuts}
 use Rattle.unit_packets.specs.declared.header.Header.{Header}
 use Rattle.unit_packets.specs.declared.header.BlockError.{BlockError}
 use Rattle.unit_packets.specs.Judging.{judge, block_at, header_of}
 use Rattle.unit_packets.specs.Cutting.{blocks_of, rest_of}
-use Rattle.unit_packets.specs.CuttingLaws.{IsBytes, CutsAreComputed, CutsAreOne}
+use Rattle.unit_packets.specs.CuttingLaws.{CutsAreComputed, CutsAreOne}
 use Rattle.unit_packets.proofs.Judged.{judged_front, fault_none, front_judged, front_stands}
 use Rattle.unit_packets.proofs.Stable.{judge_found}
 use Rattle.unit_packets.proofs.Cuts.{first_of, none_of, cases_Result}
@@ -18,12 +16,6 @@ use Rattle.unit_packets.proofs.Cuts.{first_of, none_of, cases_Result}
 -- each is a byte, by its place
 abbrev pub AreSmall : List ℕ → Type 0
 AreSmall bytes = (i : ℕ) → get_or bytes i 0 < 256
-
-pub small_bytes : (bytes : List ℕ) → IsBytes bytes → AreSmall bytes
-small_bytes bytes all i = elim (cases_lt i (length bytes)) [
-  | inl lt ↦ All-get_or (λ (b : ℕ). b < 2 ^ 8) bytes i 0 lt all
-  | inr le ↦ subst (λ (v : ℕ). v < 256) (sym (get_or-eq_default bytes 0 le)) (omega arith)
-]
 
 pub drop_small : (n : ℕ) (bytes : List ℕ) → AreSmall bytes → AreSmall (drop n bytes)
 drop_small n bytes small i = subst (λ (v : ℕ). v < 256) (sym (get_or-drop n bytes i 0)) (small (n + i))
@@ -53,7 +45,7 @@ whole_by (suc n) bytes le small = elim (cases_Result (judge bytes)) [
 
 -- for bytes, the computed cutting is one
 pub cuts_are_computed : CutsAreComputed
-cuts_are_computed bytes all = whole_by (length bytes) bytes (omega arith) (small_bytes bytes all)
+cuts_are_computed bytes all = whole_by (length bytes) bytes (omega arith) (byte_at bytes all)
 
 -- the cutting that is computed
 record Computed (bytes : List ℕ) (blocks : List Block) (rest : List ℕ) : Type 0 where
@@ -99,6 +91,6 @@ computed_by bytes (block ∷ blocks) rest small (front, back, split, is, more) n
 -- two cuttings of the same bytes are both the computed one
 pub cuts_are_one : CutsAreOne
 cuts_are_one bytes blocks others rest left all one other =
-    let a = computed_by bytes blocks rest (small_bytes bytes all) one.whole one.longest in
-    let b = computed_by bytes others left (small_bytes bytes all) other.whole other.longest in
+    let a = computed_by bytes blocks rest (byte_at bytes all) one.whole one.longest in
+    let b = computed_by bytes others left (byte_at bytes all) other.whole other.longest in
     (a.blocks_are ∙ sym b.blocks_are, a.rest_is ∙ sym b.rest_is)

@@ -5,14 +5,14 @@ use Rattle.std.proofs.lemmas.Bool.{cases_Bool, cases_eq, cond-false, false≢tru
 use Rattle.std.proofs.lemmas.List.{append-nil}
 use Rattle.std.proofs.lemmas.List.Folds.{concat-append}
 use Rattle.byteorder.specs.Endian.{little_bytes}
-use Rattle.pitch_fields.specs.Fields.{number_at}
+use Rattle.pitch_fields.specs.Fields.{AreBytes, number_at}
 use Rattle.pitch_fields.proofs.LittleEndian.{bytes_of_number}
 use Rattle.pitch_messages.specs.Raw.{IsRaw}
 use Rattle.unit_packets.specs.Blocks.{Block, IsBlock, StaysWithin}
 use Rattle.unit_packets.specs.BlockBytes.{block_bytes}
-use Rattle.unit_packets.specs.CuttingLaws.{IsBytes}
 use Rattle.unit_packets.specs.Packing.{FitsDatagram, sequence_after, IsDatagram, IsFull, IsPacking, fits_datagram, begun_datagrams, packed_on, packed, PackingIsComputed, PackingIsOne}
-use Rattle.unit_packets.proofs.OneCutting.{AreSmall, small_bytes, drop_small}
+use Rattle.unit_packets.proofs.OneCutting.{AreSmall, drop_small}
+use Rattle.pitch_fields.proofs.Bytes.{byte_at}
 use Rattle.unit_packets.proofs.Packs.{fits_true, fits_of, one_fits, after_known, packed_takes}
 use Rattle.unit_packets.proofs.Written.{written_is}
 
@@ -193,13 +193,13 @@ bytes_are (a ∷ b ∷ c ∷ d ∷ e ∷ f ∷ g ∷ h ∷ body) block small is 
     ∙ ap (λ (r : List ℕ). ((a ∷ b ∷ []) ++ length block.raws ∷ block.unit ∷ r) ++ concat block.raws) (sym last)
     ∙ ap (λ (r : List ℕ). (r ++ length block.raws ∷ block.unit ∷ little_bytes 4 block.sequence) ++ concat block.raws) (sym first)
 
-pub same_block_bytes : (one other : List ℕ) (block : Block) → IsBytes one → IsBytes other → IsBlock one block → IsBlock other block → one ≡ other
-same_block_bytes one other block a b is also = bytes_are one block (small_bytes one a) is ∙ sym (bytes_are other block (small_bytes other b) also)
+pub same_block_bytes : (one other : List ℕ) (block : Block) → AreBytes one → AreBytes other → IsBlock one block → IsBlock other block → one ≡ other
+same_block_bytes one other block a b is also = bytes_are one block (byte_at one a) is ∙ sym (bytes_are other block (byte_at other b) also)
 
 none_and_some : (raws front back : List (List ℕ)) → raws ≡ [] → raws ≡ front ++ back → 0 < length front → ⊥
 none_and_some raws front back none split some = omega (arith, some, length-append front back, ap length none, ap length split)
 
-one_by : (datagrams others : List (List ℕ)) (unit first : ℕ) (raws : List (List ℕ)) → AllByRecursion IsBytes datagrams → AllByRecursion IsBytes others → IsPacking unit first raws datagrams → IsPacking unit first raws others → datagrams ≡ others
+one_by : (datagrams others : List (List ℕ)) (unit first : ℕ) (raws : List (List ℕ)) → AllByRecursion AreBytes datagrams → AllByRecursion AreBytes others → IsPacking unit first raws datagrams → IsPacking unit first raws others → datagrams ≡ others
 one_by [] [] unit first raws bytes more one other = refl
 one_by [] (o ∷ others) unit first raws bytes more none (front, back, split, is, full, rest) = absurd (none_and_some raws front back none split is.some)
 one_by (d ∷ datagrams) [] unit first raws bytes more (front, back, split, is, full, rest) none = absurd (none_and_some raws front back none split is.some)

@@ -5,7 +5,7 @@ use Rattle.pitch_messages.specs.Raw.{IsRaw}
 use Rattle.pitch_messages.specs.Room.{Roomy}
 use Rattle.unit_packets.specs.Blocks.{IsBlock, StaysWithin}
 use Rattle.unit_packets.specs.BlockBytes.{block_bytes}
-use Rattle.unit_packets.specs.CuttingLaws.{IsBytes}
+use Rattle.pitch_fields.specs.Fields.{AreBytes}
 
 -- the messages go into one datagram: 1,400 bytes with the header, and 255 messages, at most
 pub record FitsDatagram (raws : List (List ℕ)) : Type 0 where
@@ -99,5 +99,5 @@ PackingIsComputed = (unit first : ℕ) (raws : List (List ℕ)) → unit < 256 �
 
 -- two packings of the same messages, in bytes, are one
 abbrev pub PackingIsOne : Type 0
-PackingIsOne = (unit first : ℕ) (raws datagrams others : List (List ℕ)) → AllByRecursion IsBytes datagrams → AllByRecursion IsBytes others
+PackingIsOne = (unit first : ℕ) (raws datagrams others : List (List ℕ)) → AllByRecursion AreBytes datagrams → AllByRecursion AreBytes others
     → IsPacking unit first raws datagrams → IsPacking unit first raws others → datagrams ≡ others
