@@ -9,7 +9,7 @@ use Rattle.pitch_model.specs.Reach.{Part, grown, settled, overflows, reach_of, i
 use Rattle.pitch_model.specs.Settling.{Settled}
 use Rattle.pitch_model.specs.Heard.{fresh_of, overflows_of, image_end}
 use Rattle.pitch_model.specs.declared.item.Item.{Item}
-use Rattle.client_core.specs.Keeping.{has, order_count}
+use Rattle.client_core.specs.Keeping.{holds, order_count}
 use Rattle.client_core.specs.Applying.{Applies}
 use Rattle.client_core.specs.Items.{NeedsNoMemory}
 use Rattle.client_core.specs.declared.applied_log.AppliedLog.{AppliedLog}
@@ -22,19 +22,22 @@ use Rattle.client_core.specs.declared.spinning.SpinState.TheVariants.{NoSpin, As
 use Rattle.client_core.specs.declared.taking.Taken.{Taken}
 
 -- ---- Room in a book
--- the book has room for so many messages and for what is held, or for all that can still be applied: sequences end at 4,294,967,294
+-- the book has room for so many messages and for what is held, or for all that can still be
+-- applied: sequences end at 4,294,967,294
 abbrev pub HasRoom : ℕ → HoldView → ℕ → Type 0
 HasRoom left h spare = min (left + len h.held) (4294967294 - h.floor) ≤ spare
 
--- a book of an image through a sequence has room for so many messages that are held, or for all that can follow
+-- a book of an image through a sequence has room for so many messages that are held, or for all
+-- that can follow
 abbrev pub HasRoomAfter : ℕ → ℕ → ℕ → Type 0
 HasRoomAfter held through spare = min held (4294967294 - through) ≤ spare
 
--- the image that a Spin Finished for a sequence would finish has room for so many messages that are held
-abbrev pub IsReady : ℕ → ℕ → SpinState → Type 0
-IsReady held sequence (Running image) = image.sequence ≡ sequence → image.got ≡ image.promised → HasRoomAfter held sequence image.book.spare
-IsReady held sequence NoSpin = Unit {0}
-IsReady held sequence (Asked asked) = Unit {0}
+-- the image that a Spin Finished for a sequence would finish has room for so many messages that are
+-- held
+abbrev pub IsImageReady : ℕ → ℕ → SpinState → Type 0
+IsImageReady held sequence (Running image) = image.sequence ≡ sequence → image.got ≡ image.promised → HasRoomAfter held sequence image.book.spare
+IsImageReady held sequence NoSpin = Unit {0}
+IsImageReady held sequence (Asked asked) = Unit {0}
 
 -- the book of a finished image has such room, and no more orders than messages
 abbrev pub FitsHeld : ℕ → Finish → Type 0
@@ -69,21 +72,21 @@ pub record NotesApplied (n n' : ℕ) (book book' : Standing) (log log' : Applied
   pub noted_is : noted log' ≡ with_more applied (noted log)
 
 -- ---- Answers
--- a message was taken in where what came so far was P: the hold then stands at the reach and holds what is held, and the
--- answer says whether the message was fresh and whether the hold overflowed
+-- a message was taken in where what came so far was P: the hold then stands at the reach and holds
+-- what is held, and the answer says whether the message was fresh and whether the hold overflowed
 pub record TakesIn (P : Part) (h : HoldView) (sequence : ℕ) (h' : HoldView) (taken : Taken) : Type 0 where
-  pub settled_then : Settled (settled h.limit (grown P [] (sequence ∷ [])) (sequence ∷ [])) h'.floor (has h')
+  pub settled_then : Settled (settled h.limit (grown P [] (sequence ∷ [])) (sequence ∷ [])) h'.floor (holds h')
   pub overflow_is : taken.overflow ≡ overflows h.limit (grown P [] (sequence ∷ [])) (sequence ∷ [])
   pub fresh_is : taken.fresh ≡ (nat_lt (reach_of P) sequence && not (is_seen P sequence))
 
 -- how a Spin Finished for a sequence ends the spin
-abbrev pub Ends : Finish → Spinning → ℕ → Type 0
+abbrev pub EndsSpin : Finish → Spinning → ℕ → Type 0
 -- no image ends
-Ends Nothing S sequence = (image_finished S sequence ≡ []) × (bad_image S sequence ≡ [])
+EndsSpin Nothing S sequence = (image_finished S sequence ≡ []) × (bad_image S sequence ≡ [])
 -- one is finished, and this is its book
-Ends (Image through book) S sequence = (raws : List Raw) × (image_finished S sequence ≡ (through, raws) ∷ []) × (book.book ≡ book_after raws)
+EndsSpin (Image through book) S sequence = (raws : List Raw) × (image_finished S sequence ≡ (through, raws) ∷ []) × (book.book ≡ book_after raws)
 -- one is bad
-Ends (BadCount promised got) S sequence = (image_finished S sequence ≡ []) × (raws : List Raw) × (bad_image S sequence ≡ (promised, raws) ∷ []) × (got ≡ min (adds raws) (2 ^ 64 - 1))
+EndsSpin (BadCount promised got) S sequence = (image_finished S sequence ≡ []) × (raws : List Raw) × (bad_image S sequence ≡ (promised, raws) ∷ []) × (got ≡ min (adds raws) (2 ^ 64 - 1))
 
 -- the counts and the image of an item that is heard after a history
 pub record Tells (H : ℕ) (E : List Entry) (it : Item) (heard : Heard) : Type 0 where

@@ -7,7 +7,7 @@ use crate::spinning::{Finish, SpinState};
 use crate::taking::{Taken, take_image, take_in};
 use pitch_fields::OutOfMemory;
 use pitch_messages::{RawList, Raws};
-use pitch_model::{Change, ImageEnd, Item};
+use pitch_model::{Change, ImageEnd, Item, Status};
 use std::mem::replace;
 
 // How messages were classified.
@@ -21,6 +21,19 @@ const NO_MESSAGES: Counts = Counts {
     fresh: 0,
     overflows: 0,
 };
+
+impl Counts {
+    // What is heard where nothing but messages is.
+    fn heard(self) -> Heard
+        ensures { result ≡ record { fresh = self.fresh; overflows = self.overflows; image = ImageEnd.NoImage } }
+    {
+        Heard {
+            fresh: self.fresh,
+            overflows: self.overflows,
+            image: ImageEnd::NoImage,
+        }
+    }
+}
 
 // How an item was classified.
 #[derive(Clone, Copy, Debug, PartialEq, Eq)]
@@ -86,11 +99,27 @@ impl UnitClient {
     ghost use Rattle.pitch_model.specs.Heard.{heard_messages, heard_block, heard, IsItem, is_fresh, fresh_messages, overflowed_messages, block_fresh, block_overflows, block_change, image_end_at, change_of};
     ghost use Rattle.pitch_model.specs.Honest.{Honest, IsHonestAt, AreVenues, message_at};
     ghost use Rattle.pitch_model.specs.Reach.{is_overflow, reach};
+    ghost use Rattle.pitch_model.specs.Status.{status_of};
     ghost use Rattle.hold_buffer.specs.HoldView.{IsHold};
     ghost use Rattle.client_core.specs.Tracks.{Tracks, Keeps, IsAsBefore, IsStill, Applied, KeepsRoom, held_number, reached, spare_of};
     ghost use Rattle.client_core.specs.Blocks.{Carries};
     ghost use Rattle.client_core.specs.Items.{IsImage, NeedsNoMemory, message_count};
-    ghost use Rattle.client_core.specs.Bookkeeping.{HasRoom, IsReady, noted, with_more, CanNote, CanNoteItem, NotesApplied, Tells};
+    ghost use Rattle.client_core.specs.Bookkeeping.{HasRoom, IsImageReady, noted, with_more, CanNote, CanNoteItem, NotesApplied, Tells};
+
+    // What changed since the client had a status, as something was heard.
+    fn changed_since(&self, before: Status, heard: Heard) -> Change
+        ensures change { (H : ℕ) (E : List Entry) → Tracks self.now H E
+            → result ≡ record { before = before; after = status_of H E; fresh = heard.fresh; overflows = heard.overflows; image = heard.image } }
+        ensures image { result.image ≡ heard.image }
+    {
+        Change {
+            before,
+            after: self.status(),
+            fresh: heard.fresh,
+            overflows: heard.overflows,
+            image: heard.image,
+        }
+    }
 
     // Hears a message for which there is room, and notes what is applied.
     fn hear_message(&mut self, log: &mut AppliedLog, sequence: u32, raw: &[u8]) -> Taken
@@ -140,7 +169,8 @@ impl UnitClient {
         Counts { fresh, overflows }
     }
 
-    // Hears messages with rising sequence, and notes what is applied. After OutOfMemory no more is noted.
+    // Hears messages with rising sequence, and notes what is applied. After OutOfMemory no more is
+    // noted.
     fn hear_messages(
         &mut self,
         log: &mut AppliedLog,
@@ -168,7 +198,8 @@ impl UnitClient {
         Ok(self.hear_raws(log, first, raws))
     }
 
-    // Passes over messages with rising sequence that are all old: they change nothing, as the top is never below the floor.
+    // Passes over messages with rising sequence that are all old. They change nothing, not even the
+    // top, which is never below the floor.
     fn pass_over(&self, first: u32, raws: &Raws<'_>) -> Counts
         requires some { (1 ≤ first) × (1 ≤ length raws.now) }
         requires old { first + length raws.now ≤ self.now.hold.floor + 1 }
@@ -212,23 +243,27 @@ impl UnitClient {
         self.hear_messages(&mut AppliedLog::Off, sequence, raws)
     }
 
-    /// Hears a block with this sequence and these messages: nothing of an unsequenced one, a heartbeat where it has no
-    /// messages, else its messages with rising sequence ("Sequenced Unit Header", "Heartbeat Messages").
+    /// Hears a block with this sequence and these messages: nothing of an unsequenced one, a
+    /// heartbeat where it has no messages, else its messages with rising sequence ("Sequenced Unit
+    /// Header", "Heartbeat Messages").
     ///
-    /// After OutOfMemory the client is as before the block. It never runs out of memory where the spare is at least the
-    /// number of the block's messages and of those held, nor for a block with no messages or no sequence. The spare falls
-    /// by at most the number of messages that are applied.
+    /// After OutOfMemory the client is as before the block. That never comes where the spare is at
+    /// least the number of the block's messages and of those held, nor for a block with no messages
+    /// or no sequence. The spare falls by at most the number of messages that are applied.
     pub fn hear_block(&mut self, sequence: u32, raws: Raws<'_>) -> Result<Change, OutOfMemory>
         requires { StaysWithin sequence (length raws) }
-        // The client is where the block brings it, whatever it heard before.
+        // Whatever history the client stood for, it now stands for that history and this block.
         ensures tracks { OnOk result ((block : Block) → Carries block sequence raws.entry → (H : ℕ) (E : List Entry) → Tracks self.old H E → Tracks self.new H (heard_block block E)) }
-        // If what it heard is what the venue sent, its book and what it holds stay the venue's.
+        // In an honest history, where all that is heard comes from one venue, the book stays the
+        // one that the venue's messages up to the reach leave, and what is held stays the venue's.
         ensures keeps { OnOk result ((block : Block) → Carries block sequence raws.entry → (Image : List Raw → ℕ → List Raw) (V : List Raw) (E : List Entry) → Honest Image V (heard_block block E) → Keeps self.old V → Keeps self.new V) }
-        // The answer says what the block changed: the status before and after, and its fresh messages and overflows.
+        // Whatever was heard before, the answer is what the block changes: the status before and
+        // after it, and how many messages were fresh and overflowed the hold.
         ensures change { IfOk result (λ change. (block : Block) → Carries block sequence raws.entry → (H : ℕ) (E : List Entry) → Tracks self.old H E → change ≡ block_change H E block) }
-        // Honest or not: the book is what the messages that were applied leave of the one before, and no room is lost but theirs.
+        // Honest or not, the book is what the applied messages make of the one before, and only
+        // their room is used up.
         ensures applies { OnOk result ((applied : List Raw) × Applied self.old self.new applied) }
-        // Room that was made for this block and for more still serves those more.
+        // Where there was room for this block and for more messages, there is still room for those.
         ensures room { OnOk result (KeepsRoom self.old self.new (length raws.entry)) }
         ensures err { OnErr result (IsAsBefore self.old self.new) }
         ensures memory { length raws.entry + held_number self.old ≤ spare_of self.old → IsOk result }
@@ -237,13 +272,7 @@ impl UnitClient {
     {
         let before = self.status();
         let counts = self.take_block(sequence, raws)?;
-        Ok(Change {
-            before,
-            after: self.status(),
-            fresh: counts.fresh,
-            overflows: counts.overflows,
-            image: ImageEnd::NoImage,
-        })
+        Ok(self.changed_since(before, counts.heard()))
     }
 
     fn hear_grp_up(&mut self)
@@ -310,7 +339,7 @@ impl UnitClient {
 
     // Hears the end of a spin, whose image has room for what is held.
     fn end_spin(&mut self, sequence: u32) -> ImageEnd
-        requires { IsReady (held_number self.old) sequence self.old.spin }
+        requires { IsImageReady (held_number self.old) sequence self.old.spin }
         ensures tracks { (H : ℕ) (E : List Entry) → Tracks self.old H E → Tracks self.new H (SpinFinished sequence ∷ E) }
         ensures keeps { (Image : List Raw → ℕ → List Raw) (V : List Raw) → IsImage Image V → (H : ℕ) (E : List Entry) → Tracks self.old H E → IsHonestAt Image V E (SpinFinished sequence) → Keeps self.old V → Keeps self.new V }
         ensures image { (H : ℕ) (E : List Entry) → Tracks self.old H E → result ≡ image_end_at (reach H E) (image_finished (spin_of E) sequence) (bad_image (spin_of E) sequence) }
@@ -362,11 +391,7 @@ impl UnitClient {
         match item {
             Item::Messages { first, raws } => {
                 let counts = self.hear_messages(log, *first, raws.raws())?;
-                return Ok(Heard {
-                    fresh: counts.fresh,
-                    overflows: counts.overflows,
-                    image: ImageEnd::NoImage,
-                });
+                return Ok(counts.heard());
             }
             Item::Next { next } => self.hear_next(*next),
             Item::Nothing => {}
@@ -385,9 +410,8 @@ impl UnitClient {
             Item::SpinFinished { sequence } => {
                 let image = self.hear_spin_finished(*sequence)?;
                 return Ok(Heard {
-                    fresh: 0,
-                    overflows: 0,
                     image,
+                    ..NOTHING_NEW
                 });
             }
         }
@@ -396,53 +420,57 @@ impl UnitClient {
 
     /// Hears an item. After OutOfMemory the client is as before the item.
     ///
-    /// It never runs out of memory for messages where the spare is at least their number and the number of those held, nor
-    /// for any item but messages, messages of an image and the end of a spin. Unless an image replaces the book, the spare
-    /// falls by at most the number of messages that are applied.
+    /// That never comes for messages where the spare is at least their number and that of those
+    /// held, nor for any item but messages, messages of an image and the end of a spin. Unless an
+    /// image replaces the book, the spare falls by at most the number of messages that are applied.
     pub fn hear(&mut self, item: &Item) -> Result<Change, OutOfMemory>
         requires { IsItem item.now }
-        // The client is where the item brings it, whatever it heard before.
+        // Whatever history the client stood for, it now stands for that history and this item.
         ensures tracks { OnOk result ((H : ℕ) (E : List Entry) → Tracks self.old H E → Tracks self.new H (heard item.now E)) }
-        // If what it heard is what the venue sent, its book and what it holds stay the venue's; images need only leave the book for which they stand.
+        // In an honest history, where all that is heard comes from one venue, the book stays the
+        // one that the venue's messages up to the reach leave, and what is held stays the venue's.
+        // An image may be any messages that leave the book for which it stands.
         ensures keeps { OnOk result ((Image : List Raw → ℕ → List Raw) (V : List Raw) → IsImage Image V → (H : ℕ) (E : List Entry) → Tracks self.old H E → Honest Image V (heard item.now E) → Keeps self.old V → Keeps self.new V) }
-        // The answer says what the item changed: the status before and after, its fresh messages and overflows, and what became of an image.
+        // Whatever was heard before, the answer is what the item changes: the status before and
+        // after it, how many messages were fresh and overflowed the hold, and an image's end.
         ensures change { IfOk result (λ change. (H : ℕ) (E : List Entry) → Tracks self.old H E → change ≡ change_of H E item.now) }
-        // Honest or not: the book is what the messages that were applied leave of the one before, and no room is lost but theirs.
+        // Honest or not, the book is what the applied messages make of the one before, and only
+        // their room is used up.
         ensures applies { IfOk result (λ change. change.image ≢ ImageEnd.Taken → (applied : List Raw) × Applied self.old self.new applied) }
-        // Room that was made for this item and for more still serves those more.
+        // Where there was room for this item and for more messages, there is still room for those.
         ensures room { IfOk result (λ change. change.image ≢ ImageEnd.Taken → KeepsRoom self.old self.new (message_count item.now)) }
         ensures err { OnErr result (IsAsBefore self.old self.new) }
         ensures memory { NeedsNoMemory item.now (held_number self.old) (spare_of self.old) → IsOk result }
     {
         let before = self.status();
         let heard = self.hear_item(&mut AppliedLog::Off, item)?;
-        Ok(Change {
-            before,
-            after: self.status(),
-            fresh: heard.fresh,
-            overflows: heard.overflows,
-            image: heard.image,
-        })
+        Ok(self.changed_since(before, heard))
     }
 
-    /// Hears an item as `hear` does, and appends to `applied` the messages that it applied to the book, in their order. Where
-    /// an image replaced the book, nothing is appended. After OutOfMemory both are as before the item. It never runs out of
-    /// memory where `hear` wouldn't, and `applied` too has room for the item's messages and those held.
+    /// Hears an item as `hear` does, and appends to `applied` the messages that it applied to the
+    /// book, in their order. Where an image replaced the book, nothing is appended.
+    ///
+    /// After OutOfMemory both are as before the item. That never comes where it wouldn't in `hear`
+    /// and `applied` too has room for the item's messages and those held.
     pub fn hear_into(&mut self, item: &Item, applied: &mut RawList) -> Result<Change, OutOfMemory>
         requires { IsItem item.now }
-        // The client is where the item brings it, whatever it heard before.
+        // Whatever history the client stood for, it now stands for that history and this item.
         ensures tracks { OnOk result ((H : ℕ) (E : List Entry) → Tracks self.old H E → Tracks self.new H (heard item.now E)) }
-        // If what it heard is what the venue sent, its book and what it holds stay the venue's; images need only leave the book for which they stand.
+        // In an honest history, where all that is heard comes from one venue, the book stays the
+        // one that the venue's messages up to the reach leave, and what is held stays the venue's.
+        // An image may be any messages that leave the book for which it stands.
         ensures keeps { OnOk result ((Image : List Raw → ℕ → List Raw) (V : List Raw) → IsImage Image V → (H : ℕ) (E : List Entry) → Tracks self.old H E → Honest Image V (heard item.now E) → Keeps self.old V → Keeps self.new V) }
-        // The answer says what the item changed: the status before and after, its fresh messages and overflows, and what became of an image.
+        // Whatever was heard before, the answer is what the item changes: the status before and
+        // after it, how many messages were fresh and overflowed the hold, and an image's end.
         ensures change { IfOk result (λ change. (H : ℕ) (E : List Entry) → Tracks self.old H E → change ≡ change_of H E item.now) }
-        // Honest or not: what is appended was applied, so many messages as the reach rose by.
+        // Honest or not, what is appended are the applied messages, by which the reach rose.
         ensures applies { IfOk result (λ change. change.image ≢ ImageEnd.Taken → (more : List Raw) × (applied.new.items ≡ applied.old.items ++ more) × Applied self.old self.new more) }
-        // If what it heard is what the venue sent, what is appended are the venue's messages by which the reach rose.
+        // In an honest history these are the venue's messages after the old reach, up to the new
+        // one.
         ensures venues { IfOk result (λ change. change.image ≢ ImageEnd.Taken → (Image : List Raw → ℕ → List Raw) (V : List Raw) (H : ℕ) (E : List Entry) → Tracks self.old H E → Honest Image V (heard item.now E) → Keeps self.old V
             → applied.new.items ≡ applied.old.items ++ drop (reach H E) (take (reach H (heard item.now E)) V)) }
         ensures taken { IfOk result (λ change. change.image ≡ ImageEnd.Taken → applied.new.items ≡ applied.old.items) }
-        // Room that was made for this item and for more still serves those more.
+        // Where there was room for this item and for more messages, there is still room for those.
         ensures room { IfOk result (λ change. change.image ≢ ImageEnd.Taken → KeepsRoom self.old self.new (message_count item.now)) }
         ensures err { OnErr result (IsAsBefore self.old self.new) }
         ensures err_applied { OnErr result (applied.new.items ≡ applied.old.items) }
@@ -452,13 +480,6 @@ impl UnitClient {
         let mut log = AppliedLog::On(replace(applied, RawList::make(self.alloc)));
         let heard = self.hear_item(&mut log, item);
         *applied = log.into_list(self.alloc);
-        let heard = heard?;
-        Ok(Change {
-            before,
-            after: self.status(),
-            fresh: heard.fresh,
-            overflows: heard.overflows,
-            image: heard.image,
-        })
+        Ok(self.changed_since(before, heard?))
     }
 }

@@ -11,7 +11,7 @@ pub returns-clause-venues : goal.returns-clause-venues
 returns-clause-venues c = λ other Image V H E T honest K.
     let from = T.floor_is in
     let to = (c.in_ok-heard.ensures.tracks H E T).floor_is in
-    let is = c.in_ok-heard.ensures.venues other Image V E honest K in
+    let is = c.in_ok-heard.ensures.venues (λ e. other (c.changed_since.ensures.image ∙ e)) Image V E honest K in
     let before = ap (λ (list : _). list.items) c.replace.ensures.value in
     listed _ c.replace.result.items _ c.into_list.result.items is c.into_list.ensures
     ∙ ap (λ items. items ++ drop (reached c.args.self.now) (take (reached c.hear_item-heard.new.self) V)) before

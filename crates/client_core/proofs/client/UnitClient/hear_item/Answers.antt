@@ -5,7 +5,7 @@ use Rattle.pitch_model.specs.Heard.{heard}
 use Rattle.pitch_model.proofs.Honesty.{honest_messages}
 use Rattle.client_core.proofs.client.UnitClient.hear_item.Goals as goal
 
-are : (c : goal.In_ok-counts-in-Messages) (Image : List (List ℕ) → ℕ → List (List ℕ)) (V : List (List ℕ)) (E : List Entry) → Honest Image V (heard c.args.item.now E) → AreVenues V c.in-Messages.first c.raws.result
+are : (c : goal.After-heard) (Image : List (List ℕ) → ℕ → List (List ℕ)) (V : List (List ℕ)) (E : List Entry) → Honest Image V (heard c.args.item.now E) → AreVenues V c.in-Messages.first c.raws.result
 are c Image V E honest =
     subst (AreVenues V c.in-Messages.first) (sym c.raws.ensures) (honest_messages Image V c.in-Messages.first c.in-Messages.raws.items E (subst (λ item. Honest Image V (heard item E)) c.in-Messages.is honest))
 
