@@ -169,7 +169,7 @@ packing_pieces V unit first raws (d ∷ datagrams) known within are (front, back
 pub heartbeat_piece : (V : List Raw) (unit next : ℕ) → unit < 256 → 0 < next → next ≤ length V + 1 → next ≤ 4294967295 → IsPiece V unit (block_bytes (heartbeat_block unit next))
 heartbeat_piece V unit next small some within few =
     let block : Block = heartbeat_block unit next in
-    block_piece V unit (block_bytes block) block (written_is block (record { unit = small; sequence = omega arith; size = omega arith; raws = tt; within = inr (inl refl) }))
+    block_piece V unit (block_bytes block) block (written_is block (record { unit = small; sequence = omega arith; size = omega arith; few = omega arith; raws = tt; within = inr (inl refl) }))
     (record { unit_is = refl; sequenced = some; messages = λ i raw at. absurd (none-some raw (sym (slice_get_past [] i (omega arith)) ∙ at)); within = omega arith })
 
 -- ---- More messages

@@ -1,8 +1,9 @@
 -- The messages of an image: raws of bytes, one add for each open order.
-use Rattle.std.proofs.Common.{◌≡◌, ℕ, zero, suc, ◌≤◌, ◌<◌, Bool, true, false, ◌&&◌, cond, List, [], ◌∷◌, ◌++◌, length, take, map, slice_index, nat_le, refl, sym, ap, ◌∙◌, subst, arith, length-append, length-take, Option, Some, None}
+use Rattle.std.proofs.Common.{◌≡◌, ℕ, zero, suc, ◌≤◌, ◌<◌, Bool, true, false, ◌&&◌, ◌||◌, ◌==◌, cond, List, [], ◌∷◌, ◌++◌, length, take, map, slice_index, nat_le, refl, sym, ap, ◌∙◌, subst, arith, length-append, length-take, Option, Some, None}
 use Rattle.std.specs.List.{AllByRecursion}
 use Rattle.std.specs.Int.{byte_at, bytes_low_first}
 use Rattle.std.specs.FinMap as finite
+use Rattle.std.proofs.Math.Bool.{or-true}
 use Rattle.std.proofs.Math.Nat.{mod-lt}
 use Rattle.std.proofs.lemmas.List.{map-append}
 use Rattle.std.proofs.lemmas.List.Sums.{sum_by-cons, sum_by-append}
@@ -14,7 +15,7 @@ use Rattle.pitch_fields.specs.declared.side.Side.TheVariants.{Buy, Sell}
 use Rattle.pitch_messages.specs.declared.order.Order.{Order}
 use Rattle.pitch_messages.specs.declared.message.Message.TheVariants.{Time}
 use Rattle.pitch_messages.specs.Forms.{add_message, add_form, plain_symbol, short_price, flags_of}
-use Rattle.pitch_messages.specs.Raw.{IsRaw}
+use Rattle.pitch_messages.specs.Raw.{IsRaw, kind_of}
 use Rattle.pitch_messages.specs.Writing.{written}
 use Rattle.pitch_model.specs.Book.{Book, book_after}
 use Rattle.pitch_model.specs.History.{Raw, is_add, adds, can_promise}
@@ -61,6 +62,20 @@ adds_image book =
     ∙ sum_by-append (λ raw. cond (is_add raw) 1 0) (map written (clock_of book.second)) (adds_of (orders_of book))
     ∙ omega (arith, adds_clock book.second, adds_orders (orders_of book))
     ∙ map_len (finite.entries book.orders) ∙ sym (finite.len-entries book.orders)
+
+-- the others are of the time
+pub time_or_add : (book : Book) → AllByRecursion (λ raw. (kind_of raw == 0x20 || is_add raw) ≡ true) (image_of book)
+unfolding image_of written
+time_or_add book = by book.second
+  where
+    adds_only : (orders : List Order) → AllByRecursion (λ raw. (kind_of raw == 0x20 || is_add raw) ≡ true) (adds_of orders)
+    adds_only [] = tt
+    adds_only (order ∷ orders) =
+        (ap (λ (b : Bool). kind_of (written (add_message order 0)) == 0x20 || b) (is_add_of order) ∙ or-true (kind_of (written (add_message order 0)) == 0x20), adds_only orders)
+
+    by : (second : Option ℕ) → AllByRecursion (λ raw. (kind_of raw == 0x20 || is_add raw) ≡ true) (map written (clock_of second ++ map (λ (order : Order). add_message order 0) (orders_of book)))
+    by None = adds_only (orders_of book)
+    by (Some second) = (refl, adds_only (orders_of book))
 
 -- so it can be promised
 pub image_promised : (V : List Raw) (s : ℕ) → s ≤ 4294967294 → can_promise s (adds (image V s)) ≡ true

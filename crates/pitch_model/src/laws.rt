@@ -7,7 +7,7 @@ ghost use Rattle.std.specs.List.Sorted.{IsStrictlyIncreasing};
 ghost use Rattle.std.specs.Set.{is_member};
 ghost use Rattle.std.specs.FinMap as map;
 ghost use Rattle.pitch_fields.specs.declared.side.Side.{Side};
-ghost use Rattle.pitch_messages.specs.Raw.{IsRaw};
+ghost use Rattle.pitch_messages.specs.Raw.{IsRaw, kind_of};
 ghost use Rattle.unit_packets.specs.Blocks.{Block, StaysWithin};
 ghost use Rattle.unit_packets.specs.BlockBytes.{block_bytes, heartbeat_block};
 ghost use Rattle.unit_packets.specs.Cutting.{blocks_of};
@@ -20,7 +20,7 @@ ghost use Rattle.pitch_model.specs.Advertising.{Operation, Accept, Advertise, ac
 ghost use Rattle.pitch_model.specs.Widths.{IsWireBook};
 ghost use Rattle.pitch_fields.specs.Fields.{AreBytes};
 ghost use Rattle.pitch_model.specs.Levels.{IsBestOf, best, level, orders_on, prices_on};
-ghost use Rattle.pitch_model.specs.History.{Entry, Raw, Message, SpinFinished, spin_of, images_at, image_finished, messages_at, adds, can_promise};
+ghost use Rattle.pitch_model.specs.History.{Entry, Raw, Message, SpinFinished, spin_of, images_at, image_finished, messages_at, is_add, adds, can_promise};
 ghost use Rattle.pitch_model.specs.Heard.{IsItem, IsItemOf, heard, heard_block, change_of, block_change};
 ghost use Rattle.pitch_model.specs.Honest.{AreVenues, Honest};
 ghost use Rattle.pitch_model.specs.Units.{unit_history, units_of};
@@ -120,11 +120,12 @@ pub fn best_price_is_the_best()
     ensures none { (book : Book) (symbol : List ℕ) (side : Side) → best book symbol side ≡ None → orders_on book symbol side ≡ [] }
 {}
 
-/// The image of a wire book is raws of bytes, one add for each open order among them, and leaves
-/// the book that it is of.
+/// The image of a book is adds, one for each open order, and else Time messages. That of a wire book
+/// is raws of bytes, and leaves the book that it is of.
 pub fn images_make_their_books_anew()
     ensures raws { (book : Book) → IsWireBook book → AllByRecursion IsRaw (image_of book) }
     ensures bytes { (book : Book) → IsWireBook book → AllByRecursion AreBytes (image_of book) }
+    ensures kinds { (book : Book) → AllByRecursion (λ raw. (kind_of raw == 0x20 || is_add raw) ≡ true) (image_of book) }
     ensures adds { (book : Book) → adds (image_of book) ≡ map.len book.orders }
     ensures leaves { (book : Book) → IsBook book → IsWireBook book → book_after (image_of book) ≡ book }
 {}
