@@ -95,6 +95,17 @@ impl UnitBook {
         self.apply_bytes(raw.bytes())
     }
 
+    /// Does what a raw message says, given its bytes, where the spare is at least 1: it takes no memory.
+    pub fn apply_reserved(&mut self, raw: &[u8])
+        requires raw { IsRaw raw.now }
+        requires room { 1 ≤ self.old.spare }
+        requires few { map.len self.old.book.orders < 4294967295 }
+        ensures book { self.new.book ≡ after self.old.book raw.now }
+        ensures spare { self.old.spare ≤ self.new.spare + 1 }
+    {
+        self.apply_bytes(raw).unwrap();
+    }
+
     /// Makes room for more orders: the spare is then at least so many. The book is the same in either case.
     pub fn reserve(&mut self, more: u32) -> Result<(), OutOfMemory>
         requires { map.len self.old.book.orders + more ≤ 4294967295 }

@@ -1,5 +1,5 @@
 -- The sequences that are advertised.
-use Rattle.std.proofs.Common.{◌≡◌, ℕ, suc, ◌+◌, ◌≤◌, Bool, true, false, ◌||◌, cond, eqb, List, [], ◌∷◌, ◌++◌, length, fold, refl, ap, ◌∙◌, subst, arith, length-drop, zero, ◌-◌, Option, Some, sym}
+use Rattle.std.proofs.Common.{◌≡◌, ℕ, suc, ◌+◌, ◌≤◌, Bool, true, false, ◌||◌, cond, eqb, List, [], ◌∷◌, ◌++◌, length, fold, refl, ap, ◌∙◌, subst, arith, length-drop, zero, ◌-◌, Some, sym}
 use Rattle.std.specs.List.{AllByRecursion}
 use Rattle.std.specs.List.Sorted.{IsStrictlyIncreasing, IsStrictlySortedBy}
 use Rattle.std.specs.Ordering.{nat_cmp}
@@ -10,9 +10,9 @@ use Rattle.std.proofs.lemmas.List.Sums.{fold-append}
 use Rattle.std.proofs.lemmas.List.{append-nil}
 use Rattle.std.proofs.lemmas.Map.Keys.{IsStrictlyIncreasing-from_sorted}
 use Rattle.std.specs.List.{slice_get}
-use Rattle.std.proofs.lemmas.Bool.{eqb-true, eq-eqb}
-use Rattle.std.proofs.lemmas.Option.{slice_get_past}
-use Rattle.pitch_model.proofs.Growing.{none_some}
+use Rattle.std.proofs.lemmas.Bool.{eqb-true, eq-eqb, false≢true}
+use Rattle.std.proofs.lemmas.Option.{slice_get_past, none-some, same_Some}
+use Rattle.std.proofs.Math.Bool.{or-true}
 use Rattle.pitch_model.specs.Advertising.{Operation, Accept, Advertise, accepted_at, accepted_by, told_by, with_sequence, advertised_by, last_ten, newest_of}
 use Rattle.pitch_model.specs.History.{Raw}
 
@@ -46,12 +46,9 @@ absent_below : (n : ℕ) (ns : List ℕ) → is_member eqb ns n ≡ false → Al
 absent_below n [] absent all = tt
 absent_below n (m ∷ ns) absent all = by (eqb n m) refl absent (absent_below n ns)
   where
-    apart : true ≡ false → ⊥
-    apart e = cc
-
     by : (b : Bool) → eqb n m ≡ b → (b || is_member eqb ns n) ≡ false → (is_member eqb ns n ≡ false → AllByRecursion (λ m. m ≤ n) ns → AllByRecursion (λ m. nat_cmp m n ≡ Less) ns)
         → AllByRecursion (λ m. nat_cmp m n ≡ Less) (m ∷ ns)
-    by true same e rest = absurd (apart e)
+    by true same e rest = absurd (false≢true (sym e))
     by false other e rest = (let low = all.0 in grind (arith, nat_tests, low, other), rest e all.1)
 
 less_last : (m n : ℕ) (ns : List ℕ) → nat_cmp m n ≡ Less → AllByRecursion (λ y. nat_cmp m y ≡ Less) ns → AllByRecursion (λ y. nat_cmp m y ≡ Less) (ns ++ n ∷ [])
@@ -99,17 +96,14 @@ pub ten_at_most : (advertised : List ℕ) → length (last_ten advertised) ≤ 1
 ten_at_most advertised = omega (arith, length-drop {A = ℕ})
 
 -- ---- A repeat is one of the newest
-untrue : false ≡ true → ⊥
-untrue e = cc
-
 newest_from : (n : ℕ) (ns : List ℕ) → UpTo n ns → is_member eqb ns n ≡ true → newest_of ns ≡ Some n
 unfolding IsStrictlySortedBy
-newest_from n [] up there = absurd (untrue there)
+newest_from n [] up there = absurd (false≢true there)
 newest_from n (x ∷ []) up there = by (eqb n x) refl there
   where
     by : (b : Bool) → eqb n x ≡ b → (b || false) ≡ true → Some x ≡ Some n
     by true same e = ap (λ (m : ℕ). Some m) (sym (eqb-true n x same))
-    by false other e = absurd (untrue e)
+    by false other e = absurd (false≢true e)
 newest_from n (x ∷ y ∷ ys) up there =
     let less = up.0.0.0 in
     let most = up.1.1.0 in
@@ -121,17 +115,10 @@ newest_from n (x ∷ y ∷ ys) up there =
 pub newest_repeats : (operations : List Operation) → is_member eqb (advertised_by operations) (length (accepted_by operations)) ≡ true → newest_of (advertised_by operations) ≡ Some (length (accepted_by operations))
 newest_repeats operations there = newest_from (length (accepted_by operations)) (advertised_by operations) (advertised_up_to operations) there
 
-some_some : (a b : ℕ) → ◌≡◌ {A = Option ℕ} (Some a) (Some b) → a ≡ b
-some_some a b e = cc
-
-or_true : (b : Bool) → (b || true) ≡ true
-or_true true = refl
-or_true false = refl
-
 member_at : (ns : List ℕ) (i n : ℕ) → slice_get ns i ≡ Some n → is_member eqb ns n ≡ true
-member_at [] i n at = absurd (none_some (sym (slice_get_past [] i (omega arith)) ∙ at))
-member_at (x ∷ ns) zero n at = ap (λ (b : Bool). b || is_member eqb ns n) (eq-eqb n x (sym (some_some x n at)))
-member_at (x ∷ ns) (suc i) n at = ap (λ (b : Bool). eqb n x || b) (member_at ns i n at) ∙ or_true (eqb n x)
+member_at [] i n at = absurd (none-some n (sym (slice_get_past [] i (omega arith)) ∙ at))
+member_at (x ∷ ns) zero n at = ap (λ (b : Bool). b || is_member eqb ns n) (eq-eqb n x (sym (same_Some x n at)))
+member_at (x ∷ ns) (suc i) n at = ap (λ (b : Bool). eqb n x || b) (member_at ns i n at) ∙ or-true (eqb n x)
 
 pub newest_is_advertised : (advertised : List ℕ) (n : ℕ) → newest_of advertised ≡ Some n → is_member eqb advertised n ≡ true
 newest_is_advertised advertised n at = member_at advertised (length advertised - 1) n at

@@ -5,7 +5,7 @@ use Rattle.std.proofs.lemmas.Bool.{cond-false, ne_eqb}
 use Rattle.std.proofs.lemmas.List.{append-nil, drop_all, take-append-drop}
 use Rattle.std.proofs.lemmas.Grind.{reverse_onto}
 use Rattle.std.proofs.lemmas.List.Sums.{sum_by-cons}
-use Rattle.std.proofs.lemmas.Option.{slice_get_past}
+use Rattle.std.proofs.lemmas.Option.{slice_get_past, none-some}
 use Rattle.pitch_messages.specs.Raw.{raws_of}
 use Rattle.unit_packets.specs.Blocks.{Block, IsBlock}
 use Rattle.unit_packets.specs.BlockBytes.{block_bytes, heartbeat_block}
@@ -22,7 +22,7 @@ use Rattle.pitch_model.specs.Heard.{heard_block, heard_messages, heard_sequenced
 use Rattle.pitch_model.specs.History.{Entry, Raw, Message}
 use Rattle.pitch_model.specs.Honest.{message_at, AreVenues, Honest}
 use Rattle.pitch_model.specs.declared.change.Change.{Change}
-use Rattle.pitch_model.proofs.Growing.{none_some, slice_more, venues_more}
+use Rattle.pitch_model.proofs.Growing.{slice_more, venues_more}
 use Rattle.pitch_model.specs.Units.{unit_history}
 use Rattle.pitch_model.proofs.Hearing.{fresh_messages-le, overflowed_messages-le}
 use Rattle.pitch_model.proofs.Honesty.{venues_first, venues_rest}
@@ -170,7 +170,7 @@ pub heartbeat_piece : (V : List Raw) (unit next : ℕ) → unit < 256 → 0 < ne
 heartbeat_piece V unit next small some within few =
     let block : Block = heartbeat_block unit next in
     block_piece V unit (block_bytes block) block (written_is block (record { unit = small; sequence = omega arith; size = omega arith; raws = tt; within = inr (inl refl) }))
-    (record { unit_is = refl; sequenced = some; messages = λ i raw at. absurd (none_some (sym (slice_get_past [] i (omega arith)) ∙ at)); within = omega arith })
+    (record { unit_is = refl; sequenced = some; messages = λ i raw at. absurd (none-some raw (sym (slice_get_past [] i (omega arith)) ∙ at)); within = omega arith })
 
 -- ---- More messages
 block_more : (V more : List Raw) (unit : ℕ) (block : Block) → IsVenueBlock V unit block → IsVenueBlock (V ++ more) unit block

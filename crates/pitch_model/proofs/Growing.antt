@@ -1,24 +1,21 @@
 -- What a venue's first messages say stays so where it accepts more.
-use Rattle.std.proofs.Common.{◌≡◌, ℕ, zero, suc, ◌+◌, ◌≤◌, List, [], ◌∷◌, ◌++◌, length, take, sym, ap, ◌∙◌, arith, Option, Some, None, length-append}
+use Rattle.std.proofs.Common.{◌≡◌, ℕ, zero, suc, ◌+◌, ◌≤◌, List, [], ◌∷◌, ◌++◌, length, take, sym, ap, ◌∙◌, arith, Some, length-append}
 use Rattle.std.specs.List.{slice_get}
 use Rattle.std.proofs.lemmas.List.{take-append-le}
-use Rattle.std.proofs.lemmas.Option.{slice_get_past}
+use Rattle.std.proofs.lemmas.Option.{slice_get_past, none-some}
 use Rattle.pitch_model.specs.Book.{book_after}
 use Rattle.pitch_model.specs.History.{Entry, Raw, Message, Next, GrpUp, GrpDown, GapReply, SpinUp, SpinDown, Advertised, SpinReply, ImageMessages, SpinFinished, Ticked, spin_of, image_finished}
 use Rattle.pitch_model.specs.Honest.{message_at, AreVenues, AreImages, Honest}
 use Rattle.pitch_model.specs.Image.{image_of, image}
 
 -- ---- Messages by their sequence
-pub none_some : {X : Type 0} {x : X} → ◌≡◌ {A = Option X} None (Some x) → ⊥
-none_some e = cc
-
 pub slice_more : (xs ys : List Raw) (k : ℕ) (x : Raw) → slice_get xs k ≡ Some x → slice_get (xs ++ ys) k ≡ Some x
-slice_more [] ys k x e = absurd (none_some (sym (slice_get_past [] k (omega arith)) ∙ e))
+slice_more [] ys k x e = absurd (none-some _ (sym (slice_get_past [] k (omega arith)) ∙ e))
 slice_more (y ∷ xs) ys zero x e = e
 slice_more (y ∷ xs) ys (suc k) x e = slice_more xs ys k x e
 
 message_more : (V more : List Raw) (k : ℕ) (raw : Raw) → message_at V k ≡ Some raw → message_at (V ++ more) k ≡ Some raw
-message_more V more zero raw e = absurd (none_some e)
+message_more V more zero raw e = absurd (none-some raw e)
 message_more V more (suc k) raw e = slice_more V more k raw e
 
 pub venues_more : (V more : List Raw) (first : ℕ) (raws : List Raw) → AreVenues V first raws → AreVenues (V ++ more) first raws

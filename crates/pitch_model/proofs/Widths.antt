@@ -1,5 +1,6 @@
 -- The orders of a book that messages of bytes leave have the widths of the wire.
 use Rattle.std.proofs.Common.{◌≡◌, ℕ, zero, suc, ◌+◌, ◌^◌, ◌≤◌, ◌<◌, Bool, true, false, cond, ◌==◌, List, [], ◌∷◌, ◌++◌, length, take, drop, fold, refl, ap, ◌∙◌, subst, arith, Option, Some, None, Result, Ok, Err, slice_index, nat_lt, ◌==◌, length-take, length-drop, length-append}
+use Rattle.std.proofs.lemmas.Option.{none-some, same_Some}
 use Rattle.std.specs.Option.{option_map}
 use Rattle.std.specs.List.{AllByRecursion}
 use Rattle.std.specs.FinMap as map
@@ -189,12 +190,6 @@ after_message_fits book (Other raw) fits B = B
 abbrev ClockFits : Option ℕ → Type 0
 ClockFits clock = (second : ℕ) → clock ≡ Some second → second < 256 ^ 4
 
-number_some : (m n : ℕ) → Some m ≡ Some n → m ≡ n
-number_some m n e = cc
-
-number_none : (n : ℕ) → ◌≡◌ {A = Option ℕ} None (Some n) → ⊥
-number_none n e = cc
-
 added_clock : (book : Book) (order : Order) → ClockFits book.second → ClockFits (added book order).second
 added_clock book order fits = cond_both (order.quantity == 0) book (with_order book order.id order) (λ (b : Book). ClockFits b.second) (λ t. fits) (λ f. fits)
 
@@ -206,7 +201,7 @@ changed_clock : (book : Book) (id : ℕ) (change : Order → Order) → ClockFit
 changed_clock book id change fits = reformed_clock book id (option_map change (map.get book.orders id)) fits
 
 after_message_clock : (book : Book) (message : Message) → FitsMessage message → ClockFits book.second → ClockFits (after_message book message).second
-after_message_clock book (Time second) fits C = λ n e. subst (λ (k : ℕ). k < 256 ^ 4) (number_some second n e) fits
+after_message_clock book (Time second) fits C = λ n e. subst (λ (k : ℕ). k < 256 ^ 4) (same_Some second n e) fits
 after_message_clock book (UnitClear offset) fits C = C
 after_message_clock book (AddLong offset id side quantity symbol price flags) fits C = added_clock book _ C
 after_message_clock book (AddShort offset id side quantity symbol price flags) fits C = added_clock book _ C
@@ -240,4 +235,4 @@ folded_fits [] book all B = B
 folded_fits (raw ∷ raws) book all B = folded_fits raws (after book raw) all.1 (after_fits book raw all.0 B)
 
 pub book_after_fits : (raws : List (List ℕ)) → AllByRecursion AreBytes raws → IsWireBook (book_after raws)
-book_after_fits raws all = folded_fits raws empty_book all (record { clock = λ n e. absurd (number_none n e); orders = none_all Fits None })
+book_after_fits raws all = folded_fits raws empty_book all (record { clock = λ n e. absurd (none-some n e); orders = none_all Fits None })

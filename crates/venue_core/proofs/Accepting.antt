@@ -21,7 +21,7 @@ use Rattle.pitch_text.specs.declared.command.Command.{Command}
 use Rattle.pitch_text.specs.declared.command.Command.TheVariants as commands
 use Rattle.venue_core.specs.Commands.{message_of, raw_of, ends_session}
 use Rattle.venue_core.specs.Refusals.{is_end, reads_end, is_ended}
-use Rattle.venue_core.specs.Standing.{VenueState, IsPossible, Advances}
+use Rattle.venue_core.specs.Standing.{VenueState, HaveMessages, Advances}
 use Rattle.venue_core.specs.Stands.{Stands, last_of}
 use Rattle.venue_core.specs.Waiting.{Waiting, Waits}
 
@@ -123,13 +123,13 @@ stands_sent venue pending accepted sent stands next sends = record {
 }
 
 -- ---- What is possible
-pub none_possible : (book : Book) (pending : Waiting) (unit : ℕ) → book ≡ empty_book → Waits pending unit 1 [] → IsPossible book pending
+pub none_possible : (book : Book) (pending : Waiting) (unit : ℕ) → book ≡ empty_book → Waits pending unit 1 [] → HaveMessages book pending
 none_possible book pending unit empty waits =
     let l : map.len book.orders ≡ 0 = ap (λ (b : Book). map.len b.orders) empty ∙ map.len-empty nat_cmp Order in
     let n = waits.next_is in
     omega (arith, l, n)
 
-pub one_more_possible : (book new : Book) (pending waiting : Waiting) (raw : List ℕ) → IsPossible book pending → new ≡ after book raw → waiting.next ≡ pending.next + 1 → IsPossible new waiting
+pub one_more_possible : (book new : Book) (pending waiting : Waiting) (raw : List ℕ) → HaveMessages book pending → new ≡ after book raw → waiting.next ≡ pending.next + 1 → HaveMessages new waiting
 one_more_possible book new pending waiting raw possible applied next =
     let l : map.len new.orders ≡ map.len (after book raw).orders = ap (λ (b : Book). map.len b.orders) applied in
     let m = after_len book raw in
