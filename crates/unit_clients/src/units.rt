@@ -15,7 +15,8 @@ use unit_packets::BlockView;
 /// The number of units that a header can name.
 pub const UNITS: usize = 256;
 
-/// The client of each unit that a block named. Each holds at most so many messages that came too early.
+/// The client of each unit that a block named. Each holds at most so many messages that came too
+/// early.
 #[derive(Drop)]
 pub struct Units {
     limit: u32,
@@ -93,7 +94,8 @@ impl Units {
 
     /// Hands a block to the client of its unit, and answers what it changed there.
     ///
-    /// After an error, which comes only where memory runs out, nothing is known of the unit's client.
+    /// After an error, which comes only where memory runs out, nothing is known of the unit's
+    /// client.
     // Whatever blocks came before, the clients then stand for these with the block after them.
     pub fn hear_block(
         &mut self,
