@@ -1,23 +1,41 @@
 ghost use Rattle.std.specs.Prelude.{◌≡◌, ◌+◌, ◌^◌, ◌<◌, ◌≤◌, ◌||◌, [], ◌∷◌, false, IsTrue, if◌then◌else◌};
 ghost use Rattle.pitch_model.specs.Status.{raised};
 
+use crate::applied_log::AppliedLog;
 use crate::client::UnitClient;
-use crate::noting::Tape;
 use crate::spinning::{Finish, SpinState};
 use crate::taking::{Taken, take_image, take_in};
 use pitch_fields::OutOfMemory;
 use pitch_messages::{RawList, Raws};
-use pitch_model::{Change, ImageEnd, Item};
+use pitch_model::{Change, ImageEnd, Item, Status};
 use std::mem::replace;
 
-/// What messages were.
+// How messages were classified.
 #[derive(Clone, Copy, Debug, PartialEq, Eq)]
 struct Counts {
     fresh: u32,
     overflows: u32,
 }
 
-/// What an item was.
+const NO_MESSAGES: Counts = Counts {
+    fresh: 0,
+    overflows: 0,
+};
+
+impl Counts {
+    // What is heard where nothing but messages is.
+    fn heard(self) -> Heard
+        ensures { result ≡ record { fresh = self.fresh; overflows = self.overflows; image = ImageEnd.NoImage } }
+    {
+        Heard {
+            fresh: self.fresh,
+            overflows: self.overflows,
+            image: ImageEnd::NoImage,
+        }
+    }
+}
+
+// How an item was classified.
 #[derive(Clone, Copy, Debug, PartialEq, Eq)]
 struct Heard {
     fresh: u32,
@@ -25,7 +43,13 @@ struct Heard {
     image: ImageEnd,
 }
 
-/// The greater of the two.
+const NOTHING_NEW: Heard = Heard {
+    fresh: 0,
+    overflows: 0,
+    image: ImageEnd::NoImage,
+};
+
+// The greater of the two.
 fn raised_by(top: Option<u32>, sequence: u32) -> Option<u32>
     ensures { result ≡ raised (sequence ∷ []) top }
 {
@@ -35,7 +59,7 @@ fn raised_by(top: Option<u32>, sequence: u32) -> Option<u32>
     }
 }
 
-/// Whether there are messages with rising sequence, and the last of them is at or below the floor.
+// Whether there are messages with rising sequence, and the last of them is at or below the floor.
 fn is_old(first: u32, count: usize, floor: u32) -> bool
     requires { count < 2 ^ 32 }
     ensures { IsTrue result → (1 ≤ count) × (first + count ≤ floor + 1) }
@@ -50,7 +74,7 @@ fn counted(n: u32, one: bool) -> u32
     if one { n + 1 } else { n }
 }
 
-/// Whether there is trouble since the floor last rose.
+// Whether there is trouble since the floor last rose.
 fn troubled_by(rose: bool, trouble: bool, troubled: bool) -> bool
     ensures { result ≡ (if rose then false else (trouble || troubled)) }
 {
@@ -68,60 +92,76 @@ fn image_end_of(taken: bool) -> ImageEnd
 }
 
 impl UnitClient {
-    ghost use Rattle.std.specs.Prelude.{◌≡◌, ◌≢◌, ℕ, ◌+◌, ◌≤◌, List, OnOk, OnErr, IfOk, IsOk, None, Some, ◌∷◌, [], ◌++◌, length, take, drop};
+    ghost use Rattle.std.specs.Prelude.{◌≡◌, ◌≢◌, ℕ, ◌+◌, ◌≤◌, List, OnOk, OnErr, IfOk, IsOk, Some, ◌∷◌, [], ◌++◌, length, take, drop};
     ghost use Rattle.pitch_messages.specs.Raw.{IsRaw};
     ghost use Rattle.unit_packets.specs.Blocks.{Block, StaysWithin};
     ghost use Rattle.pitch_model.specs.History.{Entry, Raw, Message, Next, GrpUp, GrpDown, GapReply, SpinUp, SpinDown, Advertised, SpinReply, ImageMessages, SpinFinished, image_finished, bad_image, spin_of};
-    ghost use Rattle.pitch_model.specs.Heard.{heard_messages, heard_block, heard, IsItem, is_fresh, fresh_messages, overflowed_messages, block_fresh, block_overflows, block_change, fresh_of, overflows_of, image_end, image_end_at, change_of};
+    ghost use Rattle.pitch_model.specs.Heard.{heard_messages, heard_block, heard, IsItem, is_fresh, fresh_messages, overflowed_messages, block_fresh, block_overflows, block_change, image_end_at, change_of};
     ghost use Rattle.pitch_model.specs.Honest.{Honest, IsHonestAt, AreVenues, message_at};
     ghost use Rattle.pitch_model.specs.Reach.{is_overflow, reach};
+    ghost use Rattle.pitch_model.specs.Status.{status_of};
     ghost use Rattle.hold_buffer.specs.HoldView.{IsHold};
-    ghost use Rattle.client_core.specs.Keeping.{HasRoom};
-    ghost use Rattle.client_core.specs.Noting.{noted, with_more, CanNote};
-    ghost use Rattle.client_core.specs.Spinning.{IsReady};
-    ghost use Rattle.client_core.specs.Tracks.{Tracks, Keeps, IsAsBefore, held_number, spare_of};
+    ghost use Rattle.client_core.specs.Tracks.{Tracks, Keeps, IsAsBefore, IsStill, Applied, KeepsRoom, held_number, reached, spare_of};
     ghost use Rattle.client_core.specs.Blocks.{Carries};
-    ghost use Rattle.client_core.specs.Items.{IsImage, NeedsNoMemory, Tells};
+    ghost use Rattle.client_core.specs.Items.{IsImage, NeedsNoMemory, message_count};
+    ghost use Rattle.client_core.specs.Bookkeeping.{HasRoom, IsImageReady, noted, with_more, CanNote, CanNoteItem, NotesApplied, Tells};
+
+    // What changed since the client had a status, as something was heard.
+    fn changed_since(&self, before: Status, heard: Heard) -> Change
+        ensures change { (H : ℕ) (E : List Entry) → Tracks self.now H E
+            → result ≡ record { before = before; after = status_of H E; fresh = heard.fresh; overflows = heard.overflows; image = heard.image } }
+        ensures image { result.image ≡ heard.image }
+    {
+        Change {
+            before,
+            after: self.status(),
+            fresh: heard.fresh,
+            overflows: heard.overflows,
+            image: heard.image,
+        }
+    }
 
     // Hears a message for which there is room, and notes what is applied.
-    fn hear_message(&mut self, tape: &mut Tape, sequence: u32, raw: &[u8]) -> Taken
+    fn hear_message(&mut self, log: &mut AppliedLog, sequence: u32, raw: &[u8]) -> Taken
         requires sequence { sequence ≤ 4294967294 }
         requires raw { IsRaw raw.now }
         requires room { HasRoom 1 self.old.hold self.old.book.spare }
-        requires tape { CanNote (1 + held_number self.old) tape.old }
+        requires log { CanNote (1 + held_number self.old) log.old }
         ensures tracks { (H : ℕ) (E : List Entry) → Tracks self.old H E → Tracks self.new H (Message sequence raw.now ∷ E) }
         ensures keeps { (V : List Raw) → message_at V sequence ≡ Some raw.now → Keeps self.old V → Keeps self.new V }
         ensures fresh { (H : ℕ) (E : List Entry) → Tracks self.old H E → result.fresh ≡ is_fresh H E sequence }
         ensures overflow { (H : ℕ) (E : List Entry) → Tracks self.old H E → result.overflow ≡ is_overflow H E (Message sequence raw.now) }
-        ensures room { (left : ℕ) → HasRoom (left + 1) self.old.hold self.old.book.spare → HasRoom left self.new.hold self.new.book.spare }
-        ensures rises { self.old.hold.floor ≤ self.new.hold.floor }
-        ensures noted { (V : List Raw) → message_at V sequence ≡ Some raw.now → Keeps self.old V → noted tape.new ≡ with_more (drop self.old.hold.floor (take self.new.hold.floor V)) (noted tape.old) }
-        ensures tape { (left : ℕ) → CanNote ((left + 1) + held_number self.old) tape.old → CanNote (left + held_number self.new) tape.new }
+        ensures notes { NotesApplied (reached self.old) (reached self.new) self.old.book self.new.book log.old log.new }
+        ensures held { reached self.new + held_number self.new ≤ (reached self.old + held_number self.old) + 1 }
+        ensures venues { (V : List Raw) → message_at V sequence ≡ Some raw.now → Keeps self.old V → noted log.new ≡ with_more (drop (reached self.old) (take (reached self.new) V)) (noted log.old) }
+        ensures log { (left : ℕ) → CanNote ((left + 1) + held_number self.old) log.old → CanNote (left + held_number self.new) log.new }
     {
         let before = self.hold.floor();
-        let taken = take_in(&mut self.hold, &mut self.book, tape, sequence, raw);
+        let taken = take_in(&mut self.hold, &mut self.book, log, sequence, raw);
         self.top = raised_by(self.top, sequence);
         self.troubled = troubled_by(before < self.hold.floor(), taken.overflow, self.troubled);
         taken
     }
 
     // Hears messages with rising sequence, for which there is room, and notes what is applied.
-    fn hear_raws(&mut self, tape: &mut Tape, first: u32, raws: Raws<'_>) -> Counts
+    fn hear_raws(&mut self, log: &mut AppliedLog, first: u32, raws: Raws<'_>) -> Counts
         requires first { (1 ≤ first) × (first + length raws ≤ 4294967295) }
         requires room { HasRoom (length raws) self.old.hold self.old.book.spare }
-        requires tape { CanNote (length raws + held_number self.old) tape.old }
+        requires log { CanNote (length raws + held_number self.old) log.old }
         ensures tracks { (H : ℕ) (E : List Entry) → Tracks self.old H E → Tracks self.new H (heard_messages first raws.entry E) }
         ensures keeps { (V : List Raw) → AreVenues V first raws.entry → Keeps self.old V → Keeps self.new V }
         ensures fresh { (H : ℕ) (E : List Entry) → Tracks self.old H E → result.fresh ≡ fresh_messages H first raws.entry E }
         ensures overflows { (H : ℕ) (E : List Entry) → Tracks self.old H E → result.overflows ≡ overflowed_messages H first raws.entry E }
-        ensures noted { (V : List Raw) → AreVenues V first raws.entry → Keeps self.old V → noted tape.new ≡ with_more (drop self.old.hold.floor (take self.new.hold.floor V)) (noted tape.old) }
+        ensures notes { NotesApplied (reached self.old) (reached self.new) self.old.book self.new.book log.old log.new }
+        ensures held { reached self.new + held_number self.new ≤ (reached self.old + held_number self.old) + length raws.entry }
+        ensures venues { (V : List Raw) → AreVenues V first raws.entry → Keeps self.old V → noted log.new ≡ with_more (drop (reached self.old) (take (reached self.new) V)) (noted log.old) }
     {
         let mut raws = raws;
         let mut sequence = first;
         let mut fresh = 0;
         let mut overflows = 0;
         'messages: while let Some(raw) = raws.next_raw() {
-            let taken = self.hear_message(tape, sequence, raw);
+            let taken = self.hear_message(log, sequence, raw);
             fresh = counted(fresh, taken.fresh);
             overflows = counted(overflows, taken.overflow);
             sequence += 1;
@@ -129,10 +169,11 @@ impl UnitClient {
         Counts { fresh, overflows }
     }
 
-    // Hears messages with rising sequence, and notes what is applied. After OutOfMemory no more is noted.
+    // Hears messages with rising sequence, and notes what is applied. After OutOfMemory no more is
+    // noted.
     fn hear_messages(
         &mut self,
-        tape: &mut Tape,
+        log: &mut AppliedLog,
         first: u32,
         raws: Raws<'_>,
     ) -> Result<Counts, OutOfMemory>
@@ -141,44 +182,39 @@ impl UnitClient {
         ensures keeps { OnOk result ((V : List Raw) → AreVenues V first raws.entry → Keeps self.old V → Keeps self.new V) }
         ensures fresh { IfOk result (λ counts. (H : ℕ) (E : List Entry) → Tracks self.old H E → counts.fresh ≡ fresh_messages H first raws.entry E) }
         ensures overflows { IfOk result (λ counts. (H : ℕ) (E : List Entry) → Tracks self.old H E → counts.overflows ≡ overflowed_messages H first raws.entry E) }
-        ensures noted { OnOk result ((V : List Raw) → AreVenues V first raws.entry → Keeps self.old V → noted tape.new ≡ with_more (drop self.old.hold.floor (take self.new.hold.floor V)) (noted tape.old)) }
+        ensures notes { OnOk result (NotesApplied (reached self.old) (reached self.new) self.old.book self.new.book log.old log.new) }
+        ensures held { OnOk result (reached self.new + held_number self.new ≤ (reached self.old + held_number self.old) + length raws.entry) }
+        ensures venues { OnOk result ((V : List Raw) → AreVenues V first raws.entry → Keeps self.old V → noted log.new ≡ with_more (drop (reached self.old) (take (reached self.new) V)) (noted log.old)) }
         ensures err { OnErr result (IsAsBefore self.old self.new) }
-        ensures err_noted { OnErr result (noted tape.new ≡ noted tape.old) }
-        ensures memory { noted tape.old ≡ None → length raws.entry + held_number self.old ≤ spare_of self.old → IsOk result }
+        ensures err_noted { OnErr result (noted log.new ≡ noted log.old) }
+        ensures memory { CanNote (length raws.entry + held_number self.old) log.old → length raws.entry + held_number self.old ≤ spare_of self.old → IsOk result }
     {
         if is_old(first, raws.len(), self.hold.floor()) {
             return Ok(self.pass_over(first, &raws));
         }
-        tape.reserve(raws.len() + self.hold.len() as usize)?;
+        log.reserve(raws.len() + self.hold.len() as usize)?;
         self.make_room(raws.len() as u32)?;
         self.look_up(raws.copy());
-        Ok(self.hear_raws(tape, first, raws))
+        Ok(self.hear_raws(log, first, raws))
     }
 
-    // Passes over messages with rising sequence that are all old: the top alone may rise.
-    fn pass_over(&mut self, first: u32, raws: &Raws<'_>) -> Counts
-        requires some { 1 ≤ length raws.now }
-        requires within { first + length raws.now ≤ 4294967295 }
-        requires old { first + length raws.now ≤ self.old.hold.floor + 1 }
-        requires hold { IsHold self.old.hold }
-        ensures tracks { (H : ℕ) (E : List Entry) → Tracks self.old H E → Tracks self.new H (heard_messages first raws.now E) }
-        ensures keeps { (V : List Raw) → Keeps self.old V → Keeps self.new V }
-        ensures fresh { (H : ℕ) (E : List Entry) → Tracks self.old H E → result.fresh ≡ fresh_messages H first raws.now E }
-        ensures overflows { (H : ℕ) (E : List Entry) → Tracks self.old H E → result.overflows ≡ overflowed_messages H first raws.now E }
-        ensures floor { self.new.hold.floor ≡ self.old.hold.floor }
+    // Passes over messages with rising sequence that are all old. They change nothing, not even the
+    // top, which is never below the floor.
+    fn pass_over(&self, first: u32, raws: &Raws<'_>) -> Counts
+        requires some { (1 ≤ first) × (1 ≤ length raws.now) }
+        requires old { first + length raws.now ≤ self.now.hold.floor + 1 }
+        requires hold { IsHold self.now.hold }
+        ensures tracks { (H : ℕ) (E : List Entry) → Tracks self.now H E → Tracks self.now H (heard_messages first raws.now E) }
+        ensures fresh { (H : ℕ) (E : List Entry) → Tracks self.now H E → result.fresh ≡ fresh_messages H first raws.now E }
+        ensures overflows { (H : ℕ) (E : List Entry) → Tracks self.now H E → result.overflows ≡ overflowed_messages H first raws.now E }
     {
-        let last = first + (raws.len() as u32 - 1);
-        self.top = raised_by(self.top, last);
-        Counts {
-            fresh: 0,
-            overflows: 0,
-        }
+        NO_MESSAGES
     }
 
     fn hear_next(&mut self, next: u32)
         requires { 1 ≤ next }
         ensures tracks { (H : ℕ) (E : List Entry) → Tracks self.old H E → Tracks self.new H (Next next ∷ E) }
-        ensures keeps { (V : List Raw) → Keeps self.old V → Keeps self.new V }
+        ensures still { IsStill self.old self.new }
     {
         self.top = raised_by(self.top, next - 1);
     }
@@ -190,37 +226,45 @@ impl UnitClient {
         ensures keeps { OnOk result ((block : Block) → Carries block sequence raws.entry → (Image : List Raw → ℕ → List Raw) (V : List Raw) (E : List Entry) → Honest Image V (heard_block block E) → Keeps self.old V → Keeps self.new V) }
         ensures fresh { IfOk result (λ counts. (block : Block) → Carries block sequence raws.entry → (H : ℕ) (E : List Entry) → Tracks self.old H E → counts.fresh ≡ block_fresh H E block) }
         ensures overflows { IfOk result (λ counts. (block : Block) → Carries block sequence raws.entry → (H : ℕ) (E : List Entry) → Tracks self.old H E → counts.overflows ≡ block_overflows H E block) }
+        ensures applies { OnOk result ((applied : List Raw) × Applied self.old self.new applied) }
+        ensures room { OnOk result (KeepsRoom self.old self.new (length raws.entry)) }
         ensures err { OnErr result (IsAsBefore self.old self.new) }
         ensures memory { length raws.entry + held_number self.old ≤ spare_of self.old → IsOk result }
         ensures heartbeat { raws.entry ≡ [] → IsOk result }
         ensures unsequenced { sequence ≡ 0 → IsOk result }
     {
         if sequence == 0 {
-            return Ok(Counts {
-                fresh: 0,
-                overflows: 0,
-            });
+            return Ok(NO_MESSAGES);
         }
         if raws.len() == 0 {
             self.hear_next(sequence);
-            return Ok(Counts {
-                fresh: 0,
-                overflows: 0,
-            });
+            return Ok(NO_MESSAGES);
         }
-        self.hear_messages(&mut Tape::Off, sequence, raws)
+        self.hear_messages(&mut AppliedLog::Off, sequence, raws)
     }
 
-    /// Hears a block with this sequence and these messages: nothing of an unsequenced one, a heartbeat where it has no
-    /// messages, else its messages with rising sequence ("Sequenced Unit Header", "Heartbeat Messages").
+    /// Hears a block with this sequence and these messages: nothing of an unsequenced one, a
+    /// heartbeat where it has no messages, else its messages with rising sequence ("Sequenced Unit
+    /// Header", "Heartbeat Messages").
     ///
-    /// After OutOfMemory the client is as before the block. It never runs out of memory where the spare is at least the
-    /// number of the block's messages and of those held, nor for a block with no messages or no sequence.
+    /// After OutOfMemory the client is as before the block. That never comes where the spare is at
+    /// least the number of the block's messages and of those held, nor for a block with no messages
+    /// or no sequence. The spare falls by at most the number of messages that are applied.
     pub fn hear_block(&mut self, sequence: u32, raws: Raws<'_>) -> Result<Change, OutOfMemory>
         requires { StaysWithin sequence (length raws) }
+        // Whatever history the client stood for, it now stands for that history and this block.
         ensures tracks { OnOk result ((block : Block) → Carries block sequence raws.entry → (H : ℕ) (E : List Entry) → Tracks self.old H E → Tracks self.new H (heard_block block E)) }
+        // In an honest history, where all that is heard comes from one venue, the book stays the
+        // one that the venue's messages up to the reach leave, and what is held stays the venue's.
         ensures keeps { OnOk result ((block : Block) → Carries block sequence raws.entry → (Image : List Raw → ℕ → List Raw) (V : List Raw) (E : List Entry) → Honest Image V (heard_block block E) → Keeps self.old V → Keeps self.new V) }
+        // Whatever was heard before, the answer is what the block changes: the status before and
+        // after it, and how many messages were fresh and overflowed the hold.
         ensures change { IfOk result (λ change. (block : Block) → Carries block sequence raws.entry → (H : ℕ) (E : List Entry) → Tracks self.old H E → change ≡ block_change H E block) }
+        // Honest or not, the book is what the applied messages make of the one before, and only
+        // their room is used up.
+        ensures applies { OnOk result ((applied : List Raw) × Applied self.old self.new applied) }
+        // Where there was room for this block and for more messages, there is still room for those.
+        ensures room { OnOk result (KeepsRoom self.old self.new (length raws.entry)) }
         ensures err { OnErr result (IsAsBefore self.old self.new) }
         ensures memory { length raws.entry + held_number self.old ≤ spare_of self.old → IsOk result }
         ensures heartbeat { raws.entry ≡ [] → IsOk result }
@@ -228,25 +272,19 @@ impl UnitClient {
     {
         let before = self.status();
         let counts = self.take_block(sequence, raws)?;
-        Ok(Change {
-            before,
-            after: self.status(),
-            fresh: counts.fresh,
-            overflows: counts.overflows,
-            image: ImageEnd::NoImage,
-        })
+        Ok(self.changed_since(before, counts.heard()))
     }
 
     fn hear_grp_up(&mut self)
         ensures tracks { (H : ℕ) (E : List Entry) → Tracks self.old H E → Tracks self.new H (GrpUp ∷ E) }
-        ensures keeps { (V : List Raw) → Keeps self.old V → Keeps self.new V }
+        ensures still { IsStill self.old self.new }
     {
         self.grp_up = true;
     }
 
     fn hear_grp_down(&mut self)
         ensures tracks { (H : ℕ) (E : List Entry) → Tracks self.old H E → Tracks self.new H (GrpDown ∷ E) }
-        ensures keeps { (V : List Raw) → Keeps self.old V → Keeps self.new V }
+        ensures still { IsStill self.old self.new }
     {
         self.grp_up = false;
         self.grp_owes = false;
@@ -254,7 +292,7 @@ impl UnitClient {
 
     fn hear_gap_reply(&mut self, accepted: bool)
         ensures tracks { (H : ℕ) (E : List Entry) → Tracks self.old H E → Tracks self.new H (GapReply accepted ∷ E) }
-        ensures keeps { (V : List Raw) → Keeps self.old V → Keeps self.new V }
+        ensures still { IsStill self.old self.new }
     {
         self.grp_owes = false;
         self.troubled = !accepted || self.troubled;
@@ -262,14 +300,14 @@ impl UnitClient {
 
     fn hear_spin_up(&mut self)
         ensures tracks { (H : ℕ) (E : List Entry) → Tracks self.old H E → Tracks self.new H (SpinUp ∷ E) }
-        ensures keeps { (V : List Raw) → Keeps self.old V → Keeps self.new V }
+        ensures still { IsStill self.old self.new }
     {
         self.spin_up = true;
     }
 
     fn hear_spin_down(&mut self)
         ensures tracks { (H : ℕ) (E : List Entry) → Tracks self.old H E → Tracks self.new H (SpinDown ∷ E) }
-        ensures keeps { (V : List Raw) → Keeps self.old V → Keeps self.new V }
+        ensures still { IsStill self.old self.new }
     {
         self.spin_up = false;
         self.advertised = None;
@@ -278,7 +316,7 @@ impl UnitClient {
 
     fn hear_advertised(&mut self, sequence: u32)
         ensures tracks { (H : ℕ) (E : List Entry) → Tracks self.old H E → Tracks self.new H (Advertised sequence ∷ E) }
-        ensures keeps { (V : List Raw) → Keeps self.old V → Keeps self.new V }
+        ensures still { IsStill self.old self.new }
     {
         self.top = raised_by(self.top, sequence);
         self.advertised = raised_by(self.advertised, sequence);
@@ -286,14 +324,14 @@ impl UnitClient {
 
     fn hear_spin_reply(&mut self, sequence: u32, orders: u32, accepted: bool)
         ensures tracks { (H : ℕ) (E : List Entry) → Tracks self.old H E → Tracks self.new H (SpinReply sequence orders accepted ∷ E) }
-        ensures keeps { (V : List Raw) → Keeps self.old V → Keeps self.new V }
+        ensures still { IsStill self.old self.new }
     {
         self.spin.reply(self.alloc, sequence, orders, accepted);
     }
 
     fn hear_image_messages(&mut self, raws: Raws<'_>) -> Result<(), OutOfMemory>
         ensures tracks { OnOk result ((H : ℕ) (E : List Entry) → Tracks self.old H E → Tracks self.new H (ImageMessages raws.entry ∷ E)) }
-        ensures keeps { OnOk result ((V : List Raw) → Keeps self.old V → Keeps self.new V) }
+        ensures still { IsStill self.old self.new }
         ensures err { OnErr result (IsAsBefore self.old self.new) }
     {
         self.spin.take_more(raws)
@@ -301,10 +339,11 @@ impl UnitClient {
 
     // Hears the end of a spin, whose image has room for what is held.
     fn end_spin(&mut self, sequence: u32) -> ImageEnd
-        requires { IsReady (held_number self.old) sequence self.old.spin }
+        requires { IsImageReady (held_number self.old) sequence self.old.spin }
         ensures tracks { (H : ℕ) (E : List Entry) → Tracks self.old H E → Tracks self.new H (SpinFinished sequence ∷ E) }
-        ensures keeps { (Image : List Raw → ℕ → List Raw) → IsImage Image → (V : List Raw) (H : ℕ) (E : List Entry) → Tracks self.old H E → IsHonestAt Image V E (SpinFinished sequence) → Keeps self.old V → Keeps self.new V }
+        ensures keeps { (Image : List Raw → ℕ → List Raw) (V : List Raw) → IsImage Image V → (H : ℕ) (E : List Entry) → Tracks self.old H E → IsHonestAt Image V E (SpinFinished sequence) → Keeps self.old V → Keeps self.new V }
         ensures image { (H : ℕ) (E : List Entry) → Tracks self.old H E → result ≡ image_end_at (reach H E) (image_finished (spin_of E) sequence) (bad_image (spin_of E) sequence) }
+        ensures still { result ≢ ImageEnd.Taken → IsStill self.old self.new }
     {
         match self.spin.finish(sequence) {
             Finish::Nothing => ImageEnd::NoImage,
@@ -323,8 +362,9 @@ impl UnitClient {
 
     fn hear_spin_finished(&mut self, sequence: u32) -> Result<ImageEnd, OutOfMemory>
         ensures tracks { OnOk result ((H : ℕ) (E : List Entry) → Tracks self.old H E → Tracks self.new H (SpinFinished sequence ∷ E)) }
-        ensures keeps { OnOk result ((Image : List Raw → ℕ → List Raw) → IsImage Image → (V : List Raw) (H : ℕ) (E : List Entry) → Tracks self.old H E → IsHonestAt Image V E (SpinFinished sequence) → Keeps self.old V → Keeps self.new V) }
+        ensures keeps { OnOk result ((Image : List Raw → ℕ → List Raw) (V : List Raw) → IsImage Image V → (H : ℕ) (E : List Entry) → Tracks self.old H E → IsHonestAt Image V E (SpinFinished sequence) → Keeps self.old V → Keeps self.new V) }
         ensures image { IfOk result (λ image. (H : ℕ) (E : List Entry) → Tracks self.old H E → image ≡ image_end_at (reach H E) (image_finished (spin_of E) sequence) (bad_image (spin_of E) sequence)) }
+        ensures still { IfOk result (λ image. image ≢ ImageEnd.Taken → IsStill self.old self.new) }
         ensures err { OnErr result (IsAsBefore self.old self.new) }
     {
         let held = self.hold.len();
@@ -332,22 +372,26 @@ impl UnitClient {
         Ok(self.end_spin(sequence))
     }
 
-    fn hear_item(&mut self, item: &Item) -> Result<Heard, OutOfMemory>
+    // Hears an item, and notes what is applied. After OutOfMemory no more is noted.
+    #[tactic(auto, using(crate::proofs::Applying::still_keeps, crate::proofs::Applying::still_notes, crate::proofs::Applying::still_held, crate::proofs::Applying::still_venues))]
+    fn hear_item(&mut self, log: &mut AppliedLog, item: &Item) -> Result<Heard, OutOfMemory>
         requires { IsItem item.now }
         ensures tracks { OnOk result ((H : ℕ) (E : List Entry) → Tracks self.old H E → Tracks self.new H (heard item.now E)) }
-        ensures keeps { OnOk result ((Image : List Raw → ℕ → List Raw) → IsImage Image → (V : List Raw) (H : ℕ) (E : List Entry) → Tracks self.old H E → Honest Image V (heard item.now E) → Keeps self.old V → Keeps self.new V) }
-        ensures heard { IfOk result (λ heard. (H : ℕ) (E : List Entry) → Tracks self.old H E → Tells H E item.now heard) }
+        ensures keeps { OnOk result ((Image : List Raw → ℕ → List Raw) (V : List Raw) → IsImage Image V → (H : ℕ) (E : List Entry) → Tracks self.old H E → Honest Image V (heard item.now E) → Keeps self.old V → Keeps self.new V) }
+        ensures heard { IfOk result (λ told. (H : ℕ) (E : List Entry) → Tracks self.old H E → Tells H E item.now told) }
+        ensures notes { IfOk result (λ told. told.image ≢ ImageEnd.Taken → NotesApplied (reached self.old) (reached self.new) self.old.book self.new.book log.old log.new) }
+        ensures held { IfOk result (λ told. told.image ≢ ImageEnd.Taken → reached self.new + held_number self.new ≤ (reached self.old + held_number self.old) + message_count item.now) }
+        ensures venues { IfOk result (λ told. told.image ≢ ImageEnd.Taken → (Image : List Raw → ℕ → List Raw) (V : List Raw) (E : List Entry) → Honest Image V (heard item.now E) → Keeps self.old V
+            → noted log.new ≡ with_more (drop (reached self.old) (take (reached self.new) V)) (noted log.old)) }
+        ensures taken { IfOk result (λ told. told.image ≡ ImageEnd.Taken → noted log.new ≡ noted log.old) }
         ensures err { OnErr result (IsAsBefore self.old self.new) }
-        ensures memory { NeedsNoMemory item.now (held_number self.old) (spare_of self.old) → IsOk result }
+        ensures err_noted { OnErr result (noted log.new ≡ noted log.old) }
+        ensures memory { NeedsNoMemory item.now (held_number self.old) (spare_of self.old) → CanNoteItem item.now (held_number self.old) log.old → IsOk result }
     {
         match item {
             Item::Messages { first, raws } => {
-                let counts = self.hear_messages(&mut Tape::Off, *first, raws.raws())?;
-                return Ok(Heard {
-                    fresh: counts.fresh,
-                    overflows: counts.overflows,
-                    image: ImageEnd::NoImage,
-                });
+                let counts = self.hear_messages(log, *first, raws.raws())?;
+                return Ok(counts.heard());
             }
             Item::Next { next } => self.hear_next(*next),
             Item::Nothing => {}
@@ -366,88 +410,76 @@ impl UnitClient {
             Item::SpinFinished { sequence } => {
                 let image = self.hear_spin_finished(*sequence)?;
                 return Ok(Heard {
-                    fresh: 0,
-                    overflows: 0,
                     image,
+                    ..NOTHING_NEW
                 });
             }
         }
-        Ok(Heard {
-            fresh: 0,
-            overflows: 0,
-            image: ImageEnd::NoImage,
-        })
+        Ok(NOTHING_NEW)
     }
 
     /// Hears an item. After OutOfMemory the client is as before the item.
     ///
-    /// It never runs out of memory for messages where the spare is at least their number and the number of those held, nor
-    /// for any item but messages, messages of an image and the end of a spin.
+    /// That never comes for messages where the spare is at least their number and that of those
+    /// held, nor for any item but messages, messages of an image and the end of a spin. Unless an
+    /// image replaces the book, the spare falls by at most the number of messages that are applied.
     pub fn hear(&mut self, item: &Item) -> Result<Change, OutOfMemory>
         requires { IsItem item.now }
+        // Whatever history the client stood for, it now stands for that history and this item.
         ensures tracks { OnOk result ((H : ℕ) (E : List Entry) → Tracks self.old H E → Tracks self.new H (heard item.now E)) }
-        ensures keeps { OnOk result ((Image : List Raw → ℕ → List Raw) → IsImage Image → (V : List Raw) (H : ℕ) (E : List Entry) → Tracks self.old H E → Honest Image V (heard item.now E) → Keeps self.old V → Keeps self.new V) }
+        // In an honest history, where all that is heard comes from one venue, the book stays the
+        // one that the venue's messages up to the reach leave, and what is held stays the venue's.
+        // An image may be any messages that leave the book for which it stands.
+        ensures keeps { OnOk result ((Image : List Raw → ℕ → List Raw) (V : List Raw) → IsImage Image V → (H : ℕ) (E : List Entry) → Tracks self.old H E → Honest Image V (heard item.now E) → Keeps self.old V → Keeps self.new V) }
+        // Whatever was heard before, the answer is what the item changes: the status before and
+        // after it, how many messages were fresh and overflowed the hold, and an image's end.
         ensures change { IfOk result (λ change. (H : ℕ) (E : List Entry) → Tracks self.old H E → change ≡ change_of H E item.now) }
+        // Honest or not, the book is what the applied messages make of the one before, and only
+        // their room is used up.
+        ensures applies { IfOk result (λ change. change.image ≢ ImageEnd.Taken → (applied : List Raw) × Applied self.old self.new applied) }
+        // Where there was room for this item and for more messages, there is still room for those.
+        ensures room { IfOk result (λ change. change.image ≢ ImageEnd.Taken → KeepsRoom self.old self.new (message_count item.now)) }
         ensures err { OnErr result (IsAsBefore self.old self.new) }
         ensures memory { NeedsNoMemory item.now (held_number self.old) (spare_of self.old) → IsOk result }
     {
         let before = self.status();
-        let heard = self.hear_item(item)?;
-        Ok(Change {
-            before,
-            after: self.status(),
-            fresh: heard.fresh,
-            overflows: heard.overflows,
-            image: heard.image,
-        })
+        let heard = self.hear_item(&mut AppliedLog::Off, item)?;
+        Ok(self.changed_since(before, heard))
     }
 
-    // Hears messages with rising sequence, and appends what is applied.
-    fn hear_messages_into(
-        &mut self,
-        first: u32,
-        raws: Raws<'_>,
-        applied: &mut RawList,
-    ) -> Result<Counts, OutOfMemory>
-        requires first { (1 ≤ first) × (first + length raws ≤ 4294967295) }
-        ensures tracks { OnOk result ((H : ℕ) (E : List Entry) → Tracks self.old H E → Tracks self.new H (heard_messages first raws.entry E)) }
-        ensures keeps { OnOk result ((V : List Raw) → AreVenues V first raws.entry → Keeps self.old V → Keeps self.new V) }
-        ensures fresh { IfOk result (λ counts. (H : ℕ) (E : List Entry) → Tracks self.old H E → counts.fresh ≡ fresh_messages H first raws.entry E) }
-        ensures overflows { IfOk result (λ counts. (H : ℕ) (E : List Entry) → Tracks self.old H E → counts.overflows ≡ overflowed_messages H first raws.entry E) }
-        ensures applied { OnOk result ((V : List Raw) → AreVenues V first raws.entry → Keeps self.old V → applied.new.items ≡ applied.old.items ++ drop self.old.hold.floor (take self.new.hold.floor V)) }
-        ensures err { OnErr result (IsAsBefore self.old self.new) }
-        ensures err_applied { OnErr result (applied.new.items ≡ applied.old.items) }
-    {
-        let mut tape = Tape::On(replace(applied, RawList::make(self.alloc)));
-        let counts = self.hear_messages(&mut tape, first, raws);
-        *applied = tape.into_list(self.alloc);
-        counts
-    }
-
-    /// Hears an item as `hear` does, and appends to `applied` the messages that it applied to the book, in their order. Where
-    /// an image replaced the book, nothing is appended. After OutOfMemory both are as before the item.
+    /// Hears an item as `hear` does, and appends to `applied` the messages that it applied to the
+    /// book, in their order. Where an image replaced the book, nothing is appended.
+    ///
+    /// After OutOfMemory both are as before the item. That never comes where it wouldn't in `hear`
+    /// and `applied` too has room for the item's messages and those held.
     pub fn hear_into(&mut self, item: &Item, applied: &mut RawList) -> Result<Change, OutOfMemory>
         requires { IsItem item.now }
+        // Whatever history the client stood for, it now stands for that history and this item.
         ensures tracks { OnOk result ((H : ℕ) (E : List Entry) → Tracks self.old H E → Tracks self.new H (heard item.now E)) }
-        ensures keeps { OnOk result ((Image : List Raw → ℕ → List Raw) → IsImage Image → (V : List Raw) (H : ℕ) (E : List Entry) → Tracks self.old H E → Honest Image V (heard item.now E) → Keeps self.old V → Keeps self.new V) }
+        // In an honest history, where all that is heard comes from one venue, the book stays the
+        // one that the venue's messages up to the reach leave, and what is held stays the venue's.
+        // An image may be any messages that leave the book for which it stands.
+        ensures keeps { OnOk result ((Image : List Raw → ℕ → List Raw) (V : List Raw) → IsImage Image V → (H : ℕ) (E : List Entry) → Tracks self.old H E → Honest Image V (heard item.now E) → Keeps self.old V → Keeps self.new V) }
+        // Whatever was heard before, the answer is what the item changes: the status before and
+        // after it, how many messages were fresh and overflowed the hold, and an image's end.
         ensures change { IfOk result (λ change. (H : ℕ) (E : List Entry) → Tracks self.old H E → change ≡ change_of H E item.now) }
-        ensures applied { IfOk result (λ change. change.image ≢ ImageEnd.Taken → (Image : List Raw → ℕ → List Raw) (V : List Raw) (H : ℕ) (E : List Entry) → Tracks self.old H E → Honest Image V (heard item.now E) → Keeps self.old V
+        // Honest or not, what is appended are the applied messages, by which the reach rose.
+        ensures applies { IfOk result (λ change. change.image ≢ ImageEnd.Taken → (more : List Raw) × (applied.new.items ≡ applied.old.items ++ more) × Applied self.old self.new more) }
+        // In an honest history these are the venue's messages after the old reach, up to the new
+        // one.
+        ensures venues { IfOk result (λ change. change.image ≢ ImageEnd.Taken → (Image : List Raw → ℕ → List Raw) (V : List Raw) (H : ℕ) (E : List Entry) → Tracks self.old H E → Honest Image V (heard item.now E) → Keeps self.old V
             → applied.new.items ≡ applied.old.items ++ drop (reach H E) (take (reach H (heard item.now E)) V)) }
         ensures taken { IfOk result (λ change. change.image ≡ ImageEnd.Taken → applied.new.items ≡ applied.old.items) }
+        // Where there was room for this item and for more messages, there is still room for those.
+        ensures room { IfOk result (λ change. change.image ≢ ImageEnd.Taken → KeepsRoom self.old self.new (message_count item.now)) }
         ensures err { OnErr result (IsAsBefore self.old self.new) }
         ensures err_applied { OnErr result (applied.new.items ≡ applied.old.items) }
+        ensures memory { NeedsNoMemory item.now (held_number self.old) (spare_of self.old) → NeedsNoMemory item.now (held_number self.old) applied.old.spare → IsOk result }
     {
-        let Item::Messages { first, raws } = item else {
-            return self.hear(item);
-        };
         let before = self.status();
-        let counts = self.hear_messages_into(*first, raws.raws(), applied)?;
-        Ok(Change {
-            before,
-            after: self.status(),
-            fresh: counts.fresh,
-            overflows: counts.overflows,
-            image: ImageEnd::NoImage,
-        })
+        let mut log = AppliedLog::On(replace(applied, RawList::make(self.alloc)));
+        let heard = self.hear_item(&mut log, item);
+        *applied = log.into_list(self.alloc);
+        Ok(self.changed_since(before, heard?))
     }
 }

@@ -21,8 +21,8 @@ use Rattle.venue_core.specs.declared.error.VenueError.TheVariants as venue
 use Rattle.command_feed.specs.Accepting.{IsAccepted, IsRefused, AcceptsAll, accepted_in}
 use Rattle.command_feed.specs.Faults.{of_text, of_venue, cause_before}
 use Rattle.command_feed.specs.Feed.{then_accepted, accepted_after, messages_on, messages_of}
-use Rattle.command_feed.specs.declared.error.FeedError.{FeedError}
-use Rattle.command_feed.specs.declared.error.FeedError.TheVariants as errors
+use Rattle.command_feed.specs.declared.error.CommandError.{CommandError}
+use Rattle.command_feed.specs.declared.error.CommandError.TheVariants as errors
 
 -- ---- One command
 pub none_where_ok : (o : Option VenueError) (sequence n : ℕ) → IsAnswer o sequence (Ok n) → o ≡ None
@@ -51,7 +51,7 @@ refused_by line sequence (Some cause) error h = elim (either line error) [
   | inr is ↦ inr (ap Some (sym (same_error sequence error cause h)), is)
 ]
 
-pub entry_refused : (accepted : List (List ℕ)) (entry : CommandEntry) (error : VenueError) (sequence : ℕ) (answer : FeedError) → IsAnswer (refusal accepted entry.command) sequence (Err error)
+pub entry_refused : (accepted : List (List ℕ)) (entry : CommandEntry) (error : VenueError) (sequence : ℕ) (answer : CommandError) → IsAnswer (refusal accepted entry.command) sequence (Err error)
     → answer ≡ of_venue entry.line error → (answer ≡ errors.OutOfMemory) ⊎ IsRefused accepted entry answer
 entry_refused accepted entry error sequence answer h is = elim (refused_by entry.line sequence (refusal accepted entry.command) error h) [
   | inl memory ↦ inl (is ∙ memory)
@@ -88,24 +88,24 @@ refuses_one taken entry (Ok entries) cause some = ap (λ (o : Option VenueError)
 refuses_one taken entry (Err fault) cause some = refl
 
 -- a command is refused
-pub takes_refused : (accepted : List (List ℕ)) (read : Result (List CommandEntry) TextError) (left more : List (Result CommandEntry TextError)) (entry : CommandEntry) (venue : VenueState) (error answer : FeedError) → left ≡ Ok entry ∷ more
+pub takes_refused : (accepted : List (List ℕ)) (read : Result (List CommandEntry) TextError) (left more : List (Result CommandEntry TextError)) (entry : CommandEntry) (venue : VenueState) (error answer : CommandError) → left ≡ Ok entry ∷ more
     → answer ≡ cause_before (all_of more) error → TakesSome accepted read (all_of left) venue → ((taken : List (List ℕ)) → Stands venue taken 0 → (error ≡ errors.OutOfMemory) ⊎ IsRefused taken entry error)
     → (answer ≡ errors.OutOfMemory) ⊎ (accepted_in accepted read ≡ Err answer)
 takes_refused accepted read left more entry venue error answer first is some refuses = elim (refuses some.taken some.stands) [
   | inl memory ↦ inl (is ∙ ap (cause_before (all_of more)) memory)
   | inr refused ↦ inr (some.same ∙ ap (λ (items : List (Result CommandEntry TextError)). accepted_in some.taken (all_of items)) first ∙ refuses_one some.taken entry (all_of more) refused.cause refused.refuses
-      ∙ ap (λ (e : FeedError). Err (cause_before (all_of more) e)) (sym refused.is) ∙ ap Err (sym is))
+      ∙ ap (λ (e : CommandError). Err (cause_before (all_of more) e)) (sym refused.is) ∙ ap Err (sym is))
 ]
 
 -- the text has a fault
-pub takes_fault : (accepted : List (List ℕ)) (read : Result (List CommandEntry) TextError) (left more : List (Result CommandEntry TextError)) (fault : TextError) (venue : VenueState) (answer : FeedError) → left ≡ Err fault ∷ more
+pub takes_fault : (accepted : List (List ℕ)) (read : Result (List CommandEntry) TextError) (left more : List (Result CommandEntry TextError)) (fault : TextError) (venue : VenueState) (answer : CommandError) → left ≡ Err fault ∷ more
     → answer ≡ of_text fault → TakesSome accepted read (all_of left) venue → accepted_in accepted read ≡ Err answer
 takes_fault accepted read left more fault venue answer first is some = some.same ∙ ap (λ (items : List (Result CommandEntry TextError)). accepted_in some.taken (all_of items)) first ∙ ap Err (sym is)
 
 pub takes_all : (accepted : List (List ℕ)) (read : Result (List CommandEntry) TextError) (left : List (Result CommandEntry TextError)) (venue : VenueState) → left ≡ [] → TakesSome accepted read (all_of left) venue → AcceptsAll accepted read venue
 takes_all accepted read left venue none some = record { all = some.taken; accepts = some.same ∙ ap (λ (items : List (Result CommandEntry TextError)). accepted_in some.taken (all_of items)) none; stands = some.stands }
 
--- ---- The first fault behind
+-- ---- The first fault that follows
 pub fault_behind : (left more : List (Result CommandEntry TextError)) (entry : CommandEntry) → left ≡ Ok entry ∷ more → result_err (all_of left) ≡ result_err (all_of more)
 fault_behind left more entry first = ap (λ (items : List (Result CommandEntry TextError)). result_err (all_of items)) first ∙ passed (all_of more)
   where

@@ -9,22 +9,24 @@ use Rattle.venue_core.specs.Stands.{Stands}
 use Rattle.venue_core.specs.declared.error.VenueError.{VenueError}
 use Rattle.command_feed.specs.Faults.{of_text}
 use Rattle.command_feed.specs.Feed.{accepted_after, messages_of}
-use Rattle.command_feed.specs.declared.error.FeedError.{FeedError}
-use Rattle.command_feed.specs.declared.error.FeedError.TheVariants.{Refused}
+use Rattle.command_feed.specs.declared.error.CommandError.{CommandError}
+use Rattle.command_feed.specs.declared.error.CommandError.TheVariants.{Refused}
 
--- a venue that accepted some messages refuses nothing of the command, and stands for its message too
+-- a venue that accepted some messages refuses nothing of the command, and stands for its message
+-- too
 pub record IsAccepted (accepted : List (List ℕ)) (entry : CommandEntry) (venue : VenueState) : Type 0 where
   pub none : refusal accepted entry.command ≡ None
   pub stands : Stands venue (accepted ++ raw_of entry.command ∷ []) 0
 
 -- it refuses the command, which is the error of the line
-pub record IsRefused (accepted : List (List ℕ)) (entry : CommandEntry) (error : FeedError) : Type 0 where
+pub record IsRefused (accepted : List (List ℕ)) (entry : CommandEntry) (error : CommandError) : Type 0 where
   pub cause : VenueError
   pub refuses : refusal accepted entry.command ≡ Some cause
   pub is : error ≡ Refused entry.line cause
 
--- what a venue that accepted some messages has accepted after the commands that were read too, or the first fault among those
-abbrev pub accepted_in : List (List ℕ) → Result (List CommandEntry) TextError → Result (List (List ℕ)) FeedError
+-- what a venue that accepted some messages has accepted after the commands that were read too, or
+-- the first fault among those
+abbrev pub accepted_in : List (List ℕ) → Result (List CommandEntry) TextError → Result (List (List ℕ)) CommandError
 accepted_in accepted (Ok entries) = accepted_after accepted entries
 accepted_in accepted (Err fault) = Err (of_text fault)
 

@@ -2,14 +2,14 @@ ghost use Rattle.std.specs.Prelude.{◌≡◌, ◌≤◌, ◌++◌, [], ◌⊎�
 ghost use Rattle.std.specs.List.{concat};
 ghost use Rattle.std.specs.Result.{result_err};
 ghost use Rattle.pitch_text.specs.Text.{all_of};
-ghost use Rattle.unit_packets.specs.Packing.{packed, bytes_in};
+ghost use Rattle.unit_packets.specs.Packing.{IsPacking, packed, bytes_in};
 ghost use Rattle.venue_core.specs.Stands.{Stands};
 ghost use Rattle.command_feed.specs.Accepting.{IsAccepted, IsRefused, AcceptsAll, IsVenueAfter, accepted_in};
 ghost use Rattle.command_feed.specs.Faults.{of_venue, cause_before};
-ghost use Rattle.command_feed.specs.Feed.{messages_of, feed_of};
-ghost use Rattle.command_feed.specs.declared.error.FeedError.TheVariants as errors;
+ghost use Rattle.command_feed.specs.Feed.{messages_of, feed_of, AppendsPacking};
+ghost use Rattle.command_feed.specs.declared.error.CommandError.TheVariants as errors;
 
-use crate::error::FeedError;
+use crate::error::CommandError;
 use pitch_fields::OutOfMemory;
 use pitch_messages::ByteList;
 use pitch_text::{CommandEntry, Commands, TextError};
@@ -18,17 +18,17 @@ use unit_packets::DatagramList;
 use venue_core::{Venue, VenueError};
 
 // The error of the command of a line.
-fn refused(line: u32, error: VenueError) -> FeedError
+fn refused(line: u32, error: VenueError) -> CommandError
     ensures { result ≡ of_venue line error }
 {
     match error {
-        VenueError::OutOfMemory => FeedError::OutOfMemory,
-        error => FeedError::Refused { line, error },
+        VenueError::OutOfMemory => CommandError::OutOfMemory,
+        error => CommandError::Refused { line, error },
     }
 }
 
 // The venue accepts the command of a line.
-fn accept_entry(venue: &mut Venue, entry: &CommandEntry) -> Result<(), FeedError>
+fn accept_entry(venue: &mut Venue, entry: &CommandEntry) -> Result<(), CommandError>
     ensures ok { OnOk result ((accepted : List (List ℕ)) → Stands venue.old accepted 0
         → IsAccepted accepted entry.now venue.new) }
     ensures err { IfErr result (λ error. (accepted : List (List ℕ)) → Stands venue.old accepted 0
@@ -54,21 +54,21 @@ fn first_fault(items: Commands<'_>) -> Option<TextError>
 }
 
 // Why a text makes no feed, where a command has this error and these items follow it.
-fn first_cause(error: FeedError, rest: Commands<'_>) -> FeedError
+fn first_cause(error: CommandError, rest: Commands<'_>) -> CommandError
     ensures { result ≡ cause_before (all_of rest.entry) error }
 {
-    if let FeedError::OutOfMemory = error {
-        return FeedError::OutOfMemory;
+    if let CommandError::OutOfMemory = error {
+        return CommandError::OutOfMemory;
     }
     match first_fault(rest) {
-        Some(fault) => FeedError::from(fault),
+        Some(fault) => CommandError::from(fault),
         None => error,
     }
 }
 
-// The venue accepts the commands of all items. Else the answer is the text's first fault, or the first command that is refused;
-// from that on no command goes to the venue.
-fn accept_all(venue: &mut Venue, mut items: Commands<'_>) -> Result<(), FeedError>
+// The venue accepts the commands of all items. Else the answer is the text's first fault, or the
+// first command that is refused; from that on no command goes to the venue.
+fn accept_all(venue: &mut Venue, mut items: Commands<'_>) -> Result<(), CommandError>
     ensures ok { OnOk result ((accepted : List (List ℕ)) → Stands venue.old accepted 0 → AcceptsAll accepted (all_of items.entry) venue.new) }
     ensures err { IfErr result (λ error. (accepted : List (List ℕ)) → Stands venue.old accepted 0
         → (error ≡ errors.OutOfMemory) ⊎ (accepted_in accepted (all_of items.entry) ≡ Err error)) }
@@ -77,7 +77,7 @@ fn accept_all(venue: &mut Venue, mut items: Commands<'_>) -> Result<(), FeedErro
     'commands: while let Some(item) = items.next() {
         let entry = match item {
             Ok(entry) => entry,
-            Err(fault) => return Err(FeedError::from(fault)),
+            Err(fault) => return Err(CommandError::from(fault)),
         };
         if let Err(error) = accept_entry(venue, &entry) {
             return Err(first_cause(error, items));
@@ -87,7 +87,7 @@ fn accept_all(venue: &mut Venue, mut items: Commands<'_>) -> Result<(), FeedErro
 }
 
 // The venue after the commands of a text.
-fn venue_after(alloc: Global, unit: u8, text: &[u8]) -> Result<Venue, FeedError>
+fn venue_after(alloc: Global, unit: u8, text: &[u8]) -> Result<Venue, CommandError>
     requires { length text.now ≤ 67108864 }
     ensures ok { IfOk result (λ venue. IsVenueAfter text.now venue) }
     ensures unit { IfOk result (λ venue. venue.unit ≡ unit) }
@@ -115,6 +115,8 @@ fn append_all(datagrams: &[ByteList], out: &mut Vec<u8>) -> Result<(), OutOfMemo
 fn append_datagrams(venue: &mut Venue, alloc: Global, out: &mut Vec<u8>) -> Result<(), OutOfMemory>
     ensures ok { OnOk result ((accepted : List (List ℕ)) → Stands venue.old accepted 0
         → out.new.items ≡ out.old.items ++ concat (packed venue.old.unit 1 accepted)) }
+    ensures packing { OnOk result ((accepted : List (List ℕ)) → Stands venue.old accepted 0
+        → IsPacking venue.old.unit 1 accepted (packed venue.old.unit 1 accepted)) }
     ensures err { OnErr result (out.new.items ≡ out.old.items) }
 {
     let mut datagrams = DatagramList::make(alloc);
@@ -127,13 +129,21 @@ fn append_datagrams(venue: &mut Venue, alloc: Global, out: &mut Vec<u8>) -> Resu
     Ok(())
 }
 
-/// Appends the feed of a unit that a text of commands makes: its datagrams, end to end, from sequence 1 on.
+/// Appends the feed of a unit that a text of commands makes: its datagrams, end to end, from
+/// sequence 1 on.
 ///
-/// The text is read once, and has at most 67,108,864 bytes. Bad is its first fault, also where that stands behind a command that
-/// is refused; Refused is the first command that the venue refuses of a text without a fault. After an error `out` is as before.
-pub fn append_feed(alloc: Global, unit: u8, text: &[u8], out: &mut Vec<u8>) -> Result<(), FeedError>
+/// The text is read once, and has at most 67,108,864 bytes. Bad is its first fault, even where that
+/// comes after a command that is refused; Refused is the first command that the venue refuses of
+/// a text without a fault. After an error `out` is as before.
+pub fn append_feed(
+    alloc: Global,
+    unit: u8,
+    text: &[u8],
+    out: &mut Vec<u8>,
+) -> Result<(), CommandError>
     requires { length text.now ≤ 67108864 }
     ensures feed { OnOk result ((feed : List ℕ) × (feed_of unit text.now ≡ Ok feed) × (out.new.items ≡ out.old.items ++ feed)) }
+    ensures packing { OnOk result (AppendsPacking unit text.now out.old.items out.new.items) }
     ensures cause { IfErr result (λ error. (error ≡ errors.OutOfMemory) ⊎ (feed_of unit text.now ≡ Err error)) }
     ensures kept { OnErr result (out.new.items ≡ out.old.items) }
 {

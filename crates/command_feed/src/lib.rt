@@ -1,5 +1,5 @@
-//! The feed of one unit that a text of venue commands makes: the text is read, the venue accepts its commands one
-//! after another, and all messages are packed into datagrams.
+//! The feed of one unit that a text of venue commands makes: the text is read, the venue accepts
+//! its commands one after another, and all messages are packed into datagrams.
 #![tactic(auto)]
 
 mod error;
@@ -7,5 +7,5 @@ mod feed;
 #[cfg(test)]
 mod tests;
 
-pub use crate::error::FeedError;
+pub use crate::error::CommandError;
 pub use crate::feed::append_feed;

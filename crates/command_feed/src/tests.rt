@@ -1,4 +1,4 @@
-use crate::{FeedError, append_feed};
+use crate::{CommandError, append_feed};
 use pitch_text::TextCause;
 use std::alloc::{AllocError, Global};
 use std::test::*;
@@ -29,13 +29,13 @@ fn a_text_becomes_its_feed(rt: HostRuntime) -> Result<(), Fail> {
         b"add 1 B 100 IBM 10.00\nadd 1 B 1 IBM 1\n",
         &mut feed,
     );
-    let known = FeedError::Refused {
+    let known = CommandError::Refused {
         line: 2,
         error: VenueError::KnownId,
     };
     assert!(rt; refused == Err(known));
     let bad = append_feed(alloc, 1, b"add 1 B 100 IBM 10.00\n\nclear x\n", &mut feed);
-    let extra = FeedError::Bad {
+    let extra = CommandError::Bad {
         line: 3,
         column: 7,
         cause: TextCause::BadWord,

@@ -1,1 +1,4 @@
 mod Pieces
+pub mod Texts
+mod Shown
+mod Followed

@@ -1,12 +1,5 @@
 -- Pieces of text, one after another.
-use Rattle.std.proofs.Common.{◌≡◌, ℕ, Bool, List, [], ◌∷◌, ◌++◌, ap, ◌∙◌, refl, codes, append_assoc}
-use Rattle.pitch_messages.specs.declared.order.Order.{Order}
-use Rattle.pitch_model.specs.declared.status.Status.{Status}
-use Rattle.pitch_model.specs.BookText.{order_line}
-use Rattle.pitch_model.specs.Follow.{block_line}
-use Rattle.pitch_model.specs.StatusText.{status_text}
-use Rattle.pitch_model.specs.Texts.{block_head}
-use Rattle.feed_lines.specs.Lines.{overflow_text, order_head, order_tail}
+use Rattle.std.proofs.Common.{◌≡◌, ℕ, List, ◌++◌, ap, ◌∙◌, append_assoc}
 
 pub two : (s t u a b : List ℕ) → t ≡ s ++ a → u ≡ t ++ b → u ≡ s ++ (a ++ b)
 two s t u a b h1 h2 = h2 ∙ ap (λ (l : List ℕ). l ++ b) h1 ∙ append_assoc s a b
@@ -22,12 +15,3 @@ five s t u v w x a b c d e h1 h2 h3 h4 h5 = two s t x a (b ++ (c ++ (d ++ e))) h
 
 pub six : (s t u v w x y a b c d e f : List ℕ) → t ≡ s ++ a → u ≡ t ++ b → v ≡ u ++ c → w ≡ v ++ d → x ≡ w ++ e → y ≡ x ++ f → y ≡ s ++ (a ++ (b ++ (c ++ (d ++ (e ++ f)))))
 six s t u v w x y a b c d e f h1 h2 h3 h4 h5 h6 = two s t y a (b ++ (c ++ (d ++ (e ++ f)))) h1 (five t u v w x y b c d e f h2 h3 h4 h5 h6)
-
-pub block_line_is : (k unit first count : ℕ) (overflow : Bool) (status : Status)
-    → block_line k unit first count overflow status ≡ block_head k unit first count ++ (overflow_text overflow ++ (codes "; " ++ (status_text status ++ 10 ∷ [])))
-unfolding block_line
-block_line_is k unit first count overflow status = simp append_assoc
-
-pub order_line_is : (id : ℕ) (order : Order) → order_line id order ≡ order_head id order ++ order_tail order
-unfolding order_line
-order_line_is id order = refl

@@ -1,2 +1,6 @@
-pub mod Lines
+pub mod Texts
+pub mod StatusText
+pub mod BookText
+pub mod Follow
+pub mod Show
 pub mod Terms

@@ -1,8 +1,8 @@
-//! Fields of messages, each with its name, written at a place of a buffer.
+//! Fields of messages, each with its name, written into a buffer at an index.
 
 ghost use Rattle.std.specs.Prelude.{◌≡◌, ◌≤◌, ◌+◌, ◌++◌, [], ◌∷◌, take, length};
 ghost use Rattle.pitch_messages.specs.Raw.{IsRaw};
-ghost use Rattle.pitch_model.specs.Show.{number_field, head_text, price_text, flags_text, side_text, symbol_text, kind_text, extra_text, sequence_text};
+ghost use Rattle.feed_lines.specs.Show.{number_field, head_text, price_text, flags_text, side_text, symbol_text, kind_text, extra_text, sequence_text};
 ghost use Rattle.feed_lines.specs.Terms.{shown};
 
 use crate::terms::Terms;

@@ -1,10 +1,11 @@
-//! The lines that the program prints, each written at a place of a lent buffer.
+//! The lines that the program prints, each written into a lent buffer at an index.
 //!
-//! Each function answers where its line ends, and its contract says which bytes stand there afterwards: those of the
-//! definition. Nothing here takes memory, and nothing can fail.
+//! Each function answers where its line ends, and its contract says which bytes stand there
+//! afterwards: those of the definition. Nothing here takes memory, and nothing can fail.
 #![tactic(auto)]
 
 mod fields;
+pub mod laws;
 mod lines;
 mod messages;
 mod terms;

@@ -1,14 +1,13 @@
-//! Lines written at a place of a buffer. Each function answers where the line ends.
+//! Lines written into a buffer at an index. Each function answers where the line ends.
 
 ghost use Rattle.std.specs.Prelude.{◌≡◌, ◌≤◌, ◌+◌, ◌++◌, [], ◌∷◌, take, length};
-ghost use Rattle.pitch_model.specs.BookText.{hidden_text, participant_text, second_text, order_line};
-ghost use Rattle.pitch_model.specs.Follow.{block_line};
-ghost use Rattle.pitch_model.specs.Show.{shown_head};
-ghost use Rattle.pitch_model.specs.StatusText.{status_text};
-ghost use Rattle.pitch_model.specs.Texts.{block_head};
-ghost use Rattle.feed_lines.specs.Lines.{overflow_text, book_place, book_head, order_head, order_tail};
+ghost use Rattle.feed_lines.specs.BookText.{hidden_text, participant_text, second_text, order_head, order_tail, order_line, book_place, book_head};
+ghost use Rattle.feed_lines.specs.Follow.{block_line, overflow_text};
+ghost use Rattle.feed_lines.specs.Show.{shown_head};
+ghost use Rattle.feed_lines.specs.StatusText.{status_text};
+ghost use Rattle.feed_lines.specs.Texts.{block_head};
 
-use pitch_fields::{put_byte, put_name, put_number, put_price, put_text};
+use pitch_fields::{is_blank, put_byte, put_name, put_number, put_price, put_text};
 use pitch_messages::Order;
 use pitch_model::Status;
 use unit_packets::Header;
@@ -70,6 +69,7 @@ fn put_overflow(out: &mut [u8], at: usize, overflow: bool) -> usize
 }
 
 /// Writes the line of a block.
+#[tactic(auto, unfolding(crate::specs::Follow::block_line))]
 pub fn put_block_line(
     out: &mut [u8],
     at: usize,
@@ -91,7 +91,7 @@ pub fn put_block_line(
 }
 
 /// Writes the line of a block whose messages follow, each on a line of its own.
-#[tactic(auto, unfolding(pitch_model::specs::Show::shown_head))]
+#[tactic(auto, unfolding(crate::specs::Show::shown_head))]
 pub fn put_shown_head(out: &mut [u8], at: usize, number: u64, header: Header) -> usize
     requires { at + LINE ≤ length out.old }
     ensures end { result ≤ at + LINE }
@@ -169,7 +169,7 @@ fn put_participant(out: &mut [u8], at: usize, participant: [u8; 4]) -> usize
     ensures text { take result out.new ≡ take at out.old ++ participant_text participant }
     ensures kept { length out.new ≡ length out.old }
 {
-    if participant.iter().all(|byte| *byte == b' ') {
+    if is_blank(&participant) {
         return at;
     }
     let named = put_text(out, at, b" mpid=");
@@ -207,6 +207,7 @@ fn put_order_tail(out: &mut [u8], at: usize, order: &Order) -> usize
 }
 
 /// Writes the line of an open order.
+#[tactic(auto, unfolding(crate::specs::BookText::order_line))]
 pub fn put_order_line(out: &mut [u8], at: usize, order: &Order) -> usize
     requires { at + LINE ≤ length out.old }
     ensures end { result ≤ at + LINE }

@@ -4,7 +4,7 @@ ghost use Rattle.std.specs.Prelude.{◌≡◌, ◌≤◌, ◌<◌, ◌+◌, ◌+
 ghost use Rattle.pitch_fields.specs.Name.{name_shown};
 ghost use Rattle.pitch_messages.specs.Raw.{IsRaw, kind_of};
 ghost use Rattle.pitch_messages.specs.Reading.{reads};
-ghost use Rattle.pitch_model.specs.Show.{number_field, kind_text, price_text, flags_text, add_text, trade_text, reduce_text, modify_text, executed_text, message_text, short_text, bad_side_text, said_text, message_line, next_after};
+ghost use Rattle.feed_lines.specs.Show.{number_field, kind_text, price_text, flags_text, add_text, trade_text, reduce_text, modify_text, executed_text, message_text, short_text, bad_side_text, said_text, message_line, next_after};
 ghost use Rattle.feed_lines.specs.Terms.{shown};
 
 use crate::fields::{
@@ -67,7 +67,7 @@ fn put_reduce(out: &mut [u8], at: usize, name: &[u8], offset: u32, id: u64, quan
     put_count_field(out, head, b" quantity=", quantity)
 }
 
-// Writes what an order is modified to, behind its quantity.
+// Writes what an order is modified to, after its quantity.
 #[inline(always)]
 fn put_modified(out: &mut [u8], at: usize, price: Price, flags: u8) -> usize
     requires { at + 40 ≤ length out.old }
@@ -147,7 +147,7 @@ fn put_other(out: &mut [u8], at: usize, raw: &[u8]) -> usize
 
 // Writes the name of a message and its fields, in the order of the table.
 #[inline(always)]
-#[tactic(auto, unfolding(pitch_model::specs::Show::message_text))]
+#[tactic(auto, unfolding(crate::specs::Show::message_text))]
 fn put_message(out: &mut [u8], at: usize, message: &Message) -> usize
     requires { at + 300 ≤ length out.old }
     ensures end { result ≤ at + 300 }
@@ -317,7 +317,7 @@ fn put_bad_side(out: &mut [u8], at: usize, raw: &[u8], byte: u8) -> usize
 }
 
 // Writes why a raw of a known type says nothing.
-#[tactic(auto, unfolding(pitch_model::specs::Show::said_text))]
+#[tactic(auto, unfolding(crate::specs::Show::said_text))]
 fn put_unread(out: &mut [u8], at: usize, raw: &[u8], error: ReadError) -> usize
     requires place { at + 90 ≤ length out.old }
     requires raw { IsRaw raw.now }
@@ -333,7 +333,7 @@ fn put_unread(out: &mut [u8], at: usize, raw: &[u8], error: ReadError) -> usize
 
 // Writes what was read of a raw.
 #[inline(always)]
-#[tactic(auto, unfolding(pitch_model::specs::Show::said_text))]
+#[tactic(auto, unfolding(crate::specs::Show::said_text))]
 fn put_read(out: &mut [u8], at: usize, raw: &[u8], read: Result<Message, ReadError>) -> usize
     requires place { at + 400 ≤ length out.old }
     requires raw { IsRaw raw.now }
@@ -350,8 +350,8 @@ fn put_read(out: &mut [u8], at: usize, raw: &[u8], read: Result<Message, ReadErr
     }
 }
 
-// Writes what a raw says. At each literal one form alone is read and written, with no other in sight; the types that few messages
-// have share one place.
+// Writes what a raw says. At each literal one form alone is read and written, with no other in
+// sight; the types that few messages have share one place.
 #[inline(always)]
 fn put_said(out: &mut [u8], at: usize, raw: &[u8]) -> usize
     requires place { at + 400 ≤ length out.old }
@@ -390,8 +390,9 @@ fn put_any(out: &mut [u8], at: usize, raw: &[u8], kind: u8) -> usize
     put_read(out, at, raw, read_as(kind, raw))
 }
 
-/// Writes the line of a message: its sequence, where it has one, then its name and its fields, or why it can't be read.
-#[tactic(auto, unfolding(pitch_model::specs::Show::message_line))]
+/// Writes the line of a message: its sequence, where it has one, then its name and its fields, or
+/// why it can't be read.
+#[tactic(auto, unfolding(crate::specs::Show::message_line))]
 pub fn put_message_line(out: &mut [u8], at: usize, sequence: u32, raw: &[u8]) -> usize
     requires place { at + LINE ≤ length out.old }
     requires raw { IsRaw raw.now }
@@ -405,7 +406,8 @@ pub fn put_message_line(out: &mut [u8], at: usize, sequence: u32, raw: &[u8]) ->
     put_byte(out, said, b'\n')
 }
 
-/// The sequence after that of a message; a message of an unsequenced block has none, and neither has the next one.
+/// The sequence after that of a message; a message of an unsequenced block has none, and neither
+/// has the next one.
 #[inline]
 pub fn next_after(sequence: u32) -> u32
     requires { sequence < 4294967295 }

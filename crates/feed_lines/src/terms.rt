@@ -1,5 +1,5 @@
-ghost use Rattle.std.specs.Prelude.{◌≡◌, ◌*◌};
-ghost use Rattle.pitch_model.specs.Show.{widened};
+ghost use Rattle.std.specs.Prelude.{◌≡◌};
+ghost use Rattle.pitch_model.specs.Book.{long_price, long_symbol};
 
 use pitch_fields::{Price, Side, Symbol};
 
@@ -16,7 +16,7 @@ impl Terms {
     /// The terms in a long form.
     #[inline(always)]
     pub fn of_long(side: Side, quantity: u32, symbol: [u8; 6], price: u64) -> Terms
-        ensures { result ≡ record { side = side; quantity = quantity; symbol = widened symbol; price = price } }
+        ensures { result ≡ record { side = side; quantity = quantity; symbol = long_symbol symbol; price = price } }
     {
         Terms {
             side,
@@ -29,7 +29,7 @@ impl Terms {
     /// The terms in a short form.
     #[inline(always)]
     pub fn of_short(side: Side, quantity: u16, symbol: [u8; 6], price: u16) -> Terms
-        ensures { result ≡ record { side = side; quantity = quantity; symbol = widened symbol; price = 100 * price } }
+        ensures { result ≡ record { side = side; quantity = quantity; symbol = long_symbol symbol; price = long_price price } }
     {
         Terms {
             side,

@@ -9,7 +9,7 @@ use Rattle.std.proofs.lemmas.Bool.Decides.{nat_tests}
 use Rattle.circular_buffer.specs.Buffer.{Buffer, buffer}
 use Rattle.hold_buffer.specs.HoldView.{IsHold}
 use Rattle.hold_buffer.specs.Offered.{Answers}
-use Rattle.hold_buffer.specs.Places.{IsGap, IsRising, hold_of, IsKept}
+use Rattle.hold_buffer.specs.Places.{IsGap, IsRising, hold_of, IsHoldRing}
 use Rattle.hold_buffer.specs.declared.hold.Offer.TheVariants.{Overflowed, Kept}
 use Rattle.hold_buffer.proofs.Viewed.{len_view}
 use Rattle.hold_buffer.proofs.Holds.{hold_next, hold_kept, hold_alone, hold_popped, hold_jumped, contains_empty, get_none}
@@ -34,8 +34,8 @@ no_front None is = refl
 no_front (Some e) is = absurd (cc)
 
 -- an empty ring is a hold with nothing held
-pub kept_empty : (limit : ℕ) (ring : Buffer (ℕ × List ℕ)) → ring ≡ buffer [] limit → 0 < limit → limit ≤ 65536 → IsKept 0 ring
-kept_empty limit ring is least most = subst (IsKept 0) (sym is) (record {
+pub kept_empty : (limit : ℕ) (ring : Buffer (ℕ × List ℕ)) → ring ≡ buffer [] limit → 0 < limit → limit ≤ 65536 → IsHoldRing 0 ring
+kept_empty limit ring is least most = subst (IsHoldRing 0) (sym is) (record {
   hold = record {
     limited = (least, most);
     few = let z = map.len-empty nat_cmp (List ℕ) in omega arith;
@@ -45,7 +45,7 @@ kept_empty limit ring is least most = subst (IsKept 0) (sym is) (record {
   rising = none_sorted {X = List ℕ} [] refl;
 })
 
-module _ (floor : ℕ) (ring : Buffer (ℕ × List ℕ)) (K : IsKept floor ring) where
+module _ (floor : ℕ) (ring : Buffer (ℕ × List ℕ)) (K : IsHoldRing floor ring) where
   pub len_held : map.len (hold_of floor ring).held ≡ length ring.items
   len_held = len_view ring.items K.rising
 
@@ -63,7 +63,7 @@ module _ (floor : ℕ) (ring : Buffer (ℕ × List ℕ)) (K : IsKept floor ring)
   pub next_unheld : (k : ℕ) → option_eq eqb (option_map (λ e. e.0) (slice_get ring.items 0)) (Some k) ≡ false → k ≡ floor + 1 → map.contains_key (hold_of floor ring).held k ≡ false
   next_unheld k test follows = below_front k (λ e at. let apart = first_is_not (slice_get ring.items 0) k test e at in let high = front_above e at in omega arith)
 
-  pub kept_next : (k : ℕ) → k ≡ floor + 1 → map.contains_key (hold_of floor ring).held k ≡ false → IsKept k ring
+  pub kept_next : (k : ℕ) → k ≡ floor + 1 → map.contains_key (hold_of floor ring).held k ≡ false → IsHoldRing k ring
   kept_next k follows none = record { hold = hold_next (hold_of floor ring) K.hold k follows none; rising = K.rising }
 
   -- with one more in its place
@@ -71,7 +71,7 @@ module _ (floor : ℕ) (ring : Buffer (ℕ × List ℕ)) (K : IsKept floor ring)
     inserted_is : hold_of floor after ≡ record (hold_of floor ring) { held = map.insert (hold_of floor ring).held k raw }
     inserted_is = ap (hold_of floor) is ∙ ap (λ m. record (hold_of floor ring) { held = m }) (insert_gap ring.items at k raw K.rising gap)
 
-    pub kept_inserted : k ≤ 4294967294 → floor < k → length ring.items < ring.capacity → IsKept floor after
+    pub kept_inserted : k ≤ 4294967294 → floor < k → length ring.items < ring.capacity → IsHoldRing floor after
     kept_inserted fit high room = record {
       hold = subst IsHold (sym inserted_is) (hold_kept (hold_of floor ring) K.hold k raw fit high (gap_unheld ring.items at k K.rising gap) (let l = len_held in omega arith));
       rising = subst (λ (b : Buffer (ℕ × List ℕ)). IsRising b.items) (sym is) (sorted_insert ring.items at k raw K.rising gap);
@@ -85,7 +85,7 @@ module _ (floor : ℕ) (ring : Buffer (ℕ × List ℕ)) (K : IsKept floor ring)
     alone_is : hold_of floor after ≡ record (hold_of floor ring) { held = map.insert map.empty k raw }
     alone_is = ap (hold_of floor) is
 
-    pub kept_alone : k ≤ 4294967294 → floor < k → IsKept floor after
+    pub kept_alone : k ≤ 4294967294 → floor < k → IsHoldRing floor after
     kept_alone fit high = record {
       hold = subst IsHold (sym alone_is) (hold_alone (hold_of floor ring) K.hold k raw fit high);
       rising = subst (λ (b : Buffer (ℕ × List ℕ)). IsRising b.items) (sym is) (one_sorted k raw);
@@ -99,7 +99,7 @@ module _ (floor : ℕ) (ring : Buffer (ℕ × List ℕ)) (K : IsKept floor ring)
     pub jumped_is : hold_of next after ≡ record { floor = next; limit = ring.capacity; held = map.retain_keys (hold_of floor ring).held (λ k. ltb next k) }
     jumped_is = ap (hold_of next) is ∙ ap (λ m. record { floor = next; limit = ring.capacity; held = m }) (filter_retained ring.items next)
 
-    pub kept_jumped : IsKept next after
+    pub kept_jumped : IsHoldRing next after
     kept_jumped = record {
       hold = subst IsHold (sym jumped_is) (hold_jumped (hold_of floor ring) K.hold next);
       rising = subst (λ (b : Buffer (ℕ × List ℕ)). IsRising b.items) (sym is) (sorted_filter (λ k. ltb next k) ring.items K.rising);
@@ -111,7 +111,7 @@ module _ (floor : ℕ) (ring : Buffer (ℕ × List ℕ)) (K : IsKept floor ring)
     popped_is = ap (hold_of k) is ∙ ap (λ m. record { floor = k; limit = ring.capacity; held = m }) (tail_removed ring.items k raw K.rising at)
         ∙ ap (λ n. record { floor = n; limit = ring.capacity; held = map.remove (hold_of floor ring).held n }) follows
 
-    pub kept_popped : IsKept k after
+    pub kept_popped : IsHoldRing k after
     kept_popped = record {
       hold = subst IsHold (sym popped_is) (hold_popped (hold_of floor ring) K.hold);
       rising = subst (λ (b : Buffer (ℕ × List ℕ)). IsRising b.items) (sym is) (sorted_tail ring.items K.rising);

@@ -27,6 +27,6 @@ abbrev pub hold_of : ℕ → Buffer (ℕ × List ℕ) → HoldView
 hold_of floor ring = record { floor = floor; limit = ring.capacity; held = map.from_entries ring.items }
 
 -- they stand for a hold, and the ring has its messages by rising sequence
-pub record IsKept (floor : ℕ) (ring : Buffer (ℕ × List ℕ)) : Type 0 where
+pub record IsHoldRing (floor : ℕ) (ring : Buffer (ℕ × List ℕ)) : Type 0 where
   pub hold : IsHold (hold_of floor ring)
   pub rising : IsRising ring.items

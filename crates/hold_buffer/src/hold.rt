@@ -4,7 +4,7 @@ ghost use Rattle.std.specs.FinMap as map;
 ghost use Rattle.pitch_messages.specs.Raw.{IsRaw};
 ghost use Rattle.hold_buffer.specs.HoldView.{IsHold};
 ghost use Rattle.hold_buffer.specs.Offered.{Answers};
-ghost use Rattle.hold_buffer.specs.Places.{IsRising, hold_of, IsKept};
+ghost use Rattle.hold_buffer.specs.Places.{IsRising, hold_of, IsHoldRing};
 
 use crate::ring::{Ring, drop_through, first_sequence, insert_at, place};
 use circular_buffer::HeapCircularBuffer;
@@ -28,10 +28,12 @@ pub enum Offer {
     Overflowed,
 }
 
-/// The messages that came too early: above a floor, each sequence once, at most as many as the limit.
+/// The messages that came too early: above a floor, each sequence once, at most as many as the
+/// limit.
 ///
 /// The message that follows the floor is the one that is awaited. Sequences are those that the
-/// Sequenced Unit Header counts, from 1 to 4,294,967,294. All memory is taken when the hold is made.
+/// Sequenced Unit Header counts, from 1 to 4,294,967,294. All memory is taken when the hold is
+/// made.
 #[derive(Drop)]
 pub struct Hold {
     floor: u32,
@@ -40,7 +42,7 @@ pub struct Hold {
 
 impl Model for Hold {
     ghost use Rattle.hold_buffer.specs.HoldView.{HoldView, coded_hold};
-    ghost use Rattle.hold_buffer.specs.Places.{hold_of, IsKept};
+    ghost use Rattle.hold_buffer.specs.Places.{hold_of, IsHoldRing};
 
     ghost Value = { HoldView };
 
@@ -48,7 +50,7 @@ impl Model for Hold {
 
     ghost view = { λ a. hold_of a.floor a.ring };
 
-    ghost invariant = { λ a. IsKept a.floor a.ring };
+    ghost invariant = { λ a. IsHoldRing a.floor a.ring };
 }
 
 impl Hold {
@@ -63,8 +65,8 @@ impl Hold {
         })
     }
 
-    /// Offers the message of a sequence, at most 4,294,967,294. One that is next is compared with the
-    /// floor and the first held one alone.
+    /// Offers the message of a sequence, at most 4,294,967,294. One that is next is compared with
+    /// the floor and the first held one alone.
     #[inline]
     pub fn offer(&mut self, sequence: u32, raw: &Raw) -> Offer
         requires { sequence ≤ 4294967294 }
@@ -74,7 +76,8 @@ impl Hold {
         self.offer_bytes(sequence, raw.bytes())
     }
 
-    /// Offers the message of these bytes as `offer` does. They are copied only where it is to be held.
+    /// Offers the message of these bytes as `offer` does. They are copied only where it is to be
+    /// held.
     #[inline(always)]
     pub fn offer_bytes(&mut self, sequence: u32, bytes: &[u8]) -> Offer
         requires fits { sequence ≤ 4294967294 }
@@ -95,8 +98,8 @@ impl Hold {
         store(&mut self.ring, sequence, bytes)
     }
 
-    /// Takes out the message that follows the floor, and raises the floor to it. Where that one is not
-    /// held, the hold is as before.
+    /// Takes out the message that follows the floor, and raises the floor to it. Where that one is
+    /// not held, the hold is as before.
     pub fn pop_next(&mut self) -> Option<Raw>
         ensures answer { result ≡ map.get self.old.held (self.old.floor + 1) }
         ensures none { MatchOption result (self.new ≡ self.old)
@@ -144,8 +147,8 @@ impl Hold {
         let _ = self.pop_next();
     }
 
-    /// Raises the floor, as after an image through it, and drops the messages at or below it. The new
-    /// floor is not below the old one.
+    /// Raises the floor, as after an image through it, and drops the messages at or below it. The
+    /// new floor is not below the old one.
     pub fn jump(&mut self, floor: u32)
         requires { self.old.floor ≤ floor }
         ensures jumped { self.new ≡
@@ -181,6 +184,7 @@ impl Hold {
         self.ring.len() as u32
     }
 
+    /// Whether nothing is held.
     pub fn is_empty(&self) -> bool
         ensures { IsTrue result ↔ (map.len self.now.held ≡ 0) }
     {
@@ -195,14 +199,14 @@ impl Hold {
     }
 }
 
-/// Holds a message in its place unless its sequence is held, alone where the ring is full.
+// Holds a message in its place unless its sequence is held, alone where the ring is full.
 fn store(ring: &mut Ring, sequence: u32, bytes: &[u8]) -> Offer
     requires fits { sequence ≤ 4294967294 }
     requires raw { IsRaw bytes.now }
     requires rising { IsRising ring.old.items }
-    ensures answer { (floor : ℕ) → floor + 1 < sequence → IsKept floor ring.old
+    ensures answer { (floor : ℕ) → floor + 1 < sequence → IsHoldRing floor ring.old
         → Answers result (hold_of floor ring.old) sequence bytes.now (hold_of floor ring.new) }
-    ensures kept { (floor : ℕ) → floor + 1 < sequence → IsKept floor ring.old → IsKept floor ring.new }
+    ensures kept { (floor : ℕ) → floor + 1 < sequence → IsHoldRing floor ring.old → IsHoldRing floor ring.new }
 {
     let Err(at) = place(ring, sequence) else {
         return Offer::Repeat;
@@ -225,7 +229,7 @@ mod tests {
     use super::*;
     use std::test::Fail;
 
-    /// A call, and what it is to answer; a message's second byte is its sequence.
+    // A call, and what it is to answer; a message's second byte is its sequence.
     #[derive(Clone, Copy)]
     enum Step {
         Offers(u8, Offer),

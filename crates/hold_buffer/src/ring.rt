@@ -7,17 +7,17 @@ use circular_buffer::HeapCircularBuffer;
 use pitch_messages::Raw;
 use std::cmp::Ordering;
 
-/// Messages with their sequences, in a block of memory that never grows.
+// Messages with their sequences, in a block of memory that never grows.
 pub(crate) type Ring = HeapCircularBuffer<(u32, Raw)>;
 
-/// The sequence of the message at the front.
+// The sequence of the message at the front.
 pub(crate) fn first_sequence(ring: &Ring) -> Option<u32>
     ensures { result ≡ option_map (λ e. e.0) (slice_get ring.now.items 0) }
 {
     ring.front().map(|message| message.0)
 }
 
-/// Puts a message at the back, and moves it forward to its place.
+// Puts a message at the back, and moves it forward to its place.
 pub(crate) fn insert_at(ring: &mut Ring, at: usize, message: (u32, Raw))
     requires within { at ≤ length ring.old.items }
     requires room { length ring.old.items < ring.old.capacity }
@@ -31,7 +31,7 @@ pub(crate) fn insert_at(ring: &mut Ring, at: usize, message: (u32, Raw))
     }
 }
 
-/// Drops the messages at or below a sequence.
+// Drops the messages at or below a sequence.
 pub(crate) fn drop_through(ring: &mut Ring, sequence: u32)
     requires { IsRising ring.old.items }
     ensures { ring.new ≡ buffer (filter (λ e. nat_lt sequence e.0) ring.old.items) ring.old.capacity }
@@ -40,7 +40,7 @@ pub(crate) fn drop_through(ring: &mut Ring, sequence: u32)
     ring.truncate_front(above);
 }
 
-/// How many messages are above a sequence; they are the last ones.
+// How many messages are above a sequence; they are the last ones.
 fn count_above(ring: &Ring, sequence: u32) -> usize
     requires { IsRising ring.now.items }
     ensures { keep_last result ring.now.items ≡ filter (λ e. nat_lt sequence e.0) ring.now.items }
@@ -51,7 +51,7 @@ fn count_above(ring: &Ring, sequence: u32) -> usize
     }
 }
 
-/// Where a sequence is, or else where it would go.
+// Where a sequence is, or else where it would go.
 pub(crate) fn place(ring: &Ring, sequence: u32) -> Result<usize, usize>
     requires { IsRising ring.now.items }
     ensures found { IfOk result (λ at. IsKeyAt ring.now.items at sequence) }

@@ -23,7 +23,8 @@ pub record Standing : Type 0 where
 abbrev pub book_of : Option ℕ → List (ℕ × Order) → Book
 book_of second entries = record { second = second; orders = map.from_entries entries }
 
--- what holds of every book that is kept: its orders stand under their ids and have shares, no id stands twice, and there are not too many
+-- what holds of every book that is kept: its orders stand under their ids and have shares, no id
+-- stands twice, and there are not too many
 pub record IsKept (second : Option ℕ) (entries : List (ℕ × Order)) : Type 0 where
   pub book : IsBook (book_of second entries)
   pub unique : IsDistinct nat_eq (keys_of entries)

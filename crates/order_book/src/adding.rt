@@ -4,14 +4,14 @@ ghost use Rattle.pitch_model.specs.Book.{is_displayed, order_of_long, order_of_s
 use pitch_fields::{Price, Side, Symbol};
 use pitch_messages::Order;
 
-/// Whether the flags of an add or a modify say that the order is displayed.
+// Whether the flags of an add or a modify say that the order is displayed.
 pub(crate) fn is_displayed(flags: u8) -> bool
     ensures { result ≡ is_displayed flags }
 {
     flags & 1 == 1
 }
 
-/// The order of an add in the long form.
+// The order of an add in the long form.
 pub(crate) fn order_of_long(
     id: u64,
     side: Side,
@@ -33,7 +33,7 @@ pub(crate) fn order_of_long(
     }
 }
 
-/// The order of an add in the short form.
+// The order of an add in the short form.
 pub(crate) fn order_of_short(
     id: u64,
     side: Side,
@@ -55,7 +55,7 @@ pub(crate) fn order_of_short(
     }
 }
 
-/// The order of an add in the expanded form.
+// The order of an add in the expanded form.
 pub(crate) fn order_of_expanded(
     id: u64,
     side: Side,

@@ -4,14 +4,14 @@ ghost use Rattle.order_book.specs.Changes.{changed_by};
 use pitch_fields::Price;
 use pitch_messages::Order;
 
-/// What a message changes of an open order.
+// What a message changes of an open order.
 #[derive(Clone, Copy)]
 pub(crate) enum Change {
-    /// So many shares fewer, or none where it has no more than these.
+    // So many shares fewer, or none where it has no more than these.
     Reduced(u32),
-    /// So many shares are left.
+    // So many shares are left.
     Left(u32),
-    /// Another quantity, price and display. Side, symbol and participant stay.
+    // Another quantity, price and display. Side, symbol and participant stay.
     Modified {
         quantity: u32,
         price: Price,
@@ -20,7 +20,7 @@ pub(crate) enum Change {
 }
 
 impl Change {
-    /// How many shares the change leaves of an order.
+    // How many shares the change leaves of an order.
     #[inline(always)]
     pub(crate) fn shares_left(&self, order: &Order) -> u32
         ensures { result ≡ (changed_by self.now order.now).quantity }
@@ -32,7 +32,7 @@ impl Change {
         }
     }
 
-    /// Changes an order in its place; only the fields that change are written.
+    // Changes an order in its place; only the fields that change are written.
     #[inline(always)]
     pub(crate) fn make(&self, order: &mut Order)
         ensures { order.new ≡ changed_by self.now order.old }

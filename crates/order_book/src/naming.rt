@@ -3,7 +3,7 @@ ghost use Rattle.order_book.specs.Naming.{names_order, named_order};
 
 use pitch_fields::get_u64;
 
-/// The id of the order that a message names, or None where it names none.
+// The id of the order that a message names, or None where it names none.
 #[inline(always)]
 pub(crate) fn named_order(raw: &[u8]) -> Option<u64>
     ensures { result ≡ named_order raw.now }

@@ -9,7 +9,7 @@ use pitch_messages::{List, Order};
 /// A list of orders.
 pub type OrderList = List<Order>;
 
-/// Appends the orders of a map by rising id. The list is as before after OutOfMemory.
+// Appends the orders of a map by rising id. The list is as before after OutOfMemory.
 pub(crate) fn append_by_id(
     list: &mut OrderList,
     orders: &IndexMap<u64, Order>,

@@ -23,7 +23,7 @@ fn quantity_of(order: &Order) -> u64
     u64::from(order.quantity)
 }
 
-/// The shares of all orders.
+// The shares of all orders.
 pub(crate) fn all_shares(orders: &IndexMap<u64, Order>) -> u64
     requires { index_map_len orders.now ≤ most_orders }
     ensures { result ≡ quantities (values orders.now) }
@@ -35,7 +35,7 @@ pub(crate) fn all_shares(orders: &IndexMap<u64, Order>) -> u64
     total
 }
 
-/// The shares of the orders for a symbol on a side at a price.
+// The shares of the orders for a symbol on a side at a price.
 pub(crate) fn shares_at(
     orders: &IndexMap<u64, Order>,
     symbol: Symbol,
@@ -65,7 +65,7 @@ fn better(side: Side, price: Price, other: Price) -> Price
     })
 }
 
-/// The best price for a symbol on a side.
+// The best price for a symbol on a side.
 pub(crate) fn best_price(orders: &IndexMap<u64, Order>, symbol: Symbol, side: Side) -> Option<Price>
     ensures { result ≡ best_of side (map (λ order. order.price) (filter (is_on symbol side) (values orders.now))) }
 {

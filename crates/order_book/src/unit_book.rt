@@ -54,11 +54,12 @@ impl UnitBook {
         }
     }
 
-    /// Does what a raw message says, given its bytes. A known type that is too short or names no side, and a type
-    /// that is no book message, change nothing.
+    /// Does what a raw message says, given its bytes. A known type that is too short or names no
+    /// side, and a type that is no book message, change nothing.
     ///
     /// The book is as before after OutOfMemory, which never comes where the spare is at least 1.
-    // Each type that changes a book is read by a literal, so that its fields go straight to what is done with them.
+    // Each type that changes a book is read by a literal, so that its fields go straight to what is
+    // done with them.
     #[tactic(auto, unfolding(pitch_model::specs::Book::after))]
     pub fn apply_bytes(&mut self, raw: &[u8]) -> Result<(), OutOfMemory>
         requires raw { IsRaw raw.now }
@@ -95,7 +96,20 @@ impl UnitBook {
         self.apply_bytes(raw.bytes())
     }
 
-    /// Makes room for more orders: the spare is then at least so many. The book is the same in either case.
+    /// Does what a raw message says, given its bytes, where the spare is at least 1: it takes no
+    /// memory.
+    pub fn apply_reserved(&mut self, raw: &[u8])
+        requires raw { IsRaw raw.now }
+        requires room { 1 ≤ self.old.spare }
+        requires few { map.len self.old.book.orders < 4294967295 }
+        ensures book { self.new.book ≡ after self.old.book raw.now }
+        ensures spare { self.old.spare ≤ self.new.spare + 1 }
+    {
+        self.apply_bytes(raw).unwrap();
+    }
+
+    /// Makes room for more orders: the spare is then at least so many. The book is the same in
+    /// either case.
     pub fn reserve(&mut self, more: u32) -> Result<(), OutOfMemory>
         requires { map.len self.old.book.orders + more ≤ 4294967295 }
         ensures same { self.new.book ≡ self.old.book }
@@ -157,8 +171,8 @@ impl UnitBook {
         shares_at(&self.orders, symbol, side, price)
     }
 
-    /// The highest price to buy, or the lowest to sell, of the open orders for a symbol, with its level. None exactly
-    /// where that side of the symbol has no order.
+    /// The highest price to buy, or the lowest to sell, of the open orders for a symbol, with its
+    /// level. None exactly where that side of the symbol has no order.
     pub fn best(&self, symbol: Symbol, side: Side) -> Option<(Price, u64)>
         ensures best { result ≡ best self.now.book symbol side }
         ensures price { IfSome result (λ best. IsBestOf side (prices_on self.now.book symbol side) best.0) }
@@ -182,8 +196,8 @@ impl UnitBook {
 
     /// How many of the messages name an order that is open.
     ///
-    /// To ask this of a block before its messages are applied makes that faster, since all the orders are then near:
-    /// these look-ups overlap, where those of `apply` wait for one another.
+    /// To ask this of a block before its messages are applied makes that faster, since all the
+    /// orders are then near: these look-ups overlap, where those of `apply` wait for one another.
     // The ids are gathered first, so that nothing but look-ups stands between two of them.
     pub fn known_orders(&self, raws: Raws<'_>) -> usize
         ensures { result ≡ count_by (names_open self.now.book) raws.entry }
@@ -230,8 +244,8 @@ impl UnitBook {
         self.apply_read(read_bytes(raw))
     }
 
-    // Does what an add in the short form says. Most adds are in it, and no other form is in sight here, so that its fields
-    // stay in registers.
+    // Does what an add in the short form says. Most adds are in it, and no other form is in sight
+    // here, so that its fields stay in registers.
     #[tactic(auto, unfolding(pitch_model::specs::Book::after))]
     fn apply_add_short(&mut self, raw: &[u8]) -> Result<(), OutOfMemory>
         requires raw { IsRaw raw.now }
@@ -455,7 +469,8 @@ impl UnitBook {
         open
     }
 
-    // Whether an order is open. Its quantity is read, which is never 0, so that the order is near afterwards.
+    // Whether an order is open. Its quantity is read, which is never 0, so that the order is near
+    // afterwards.
     #[inline(always)]
     fn is_open(&self, id: u64) -> bool
         ensures { result ≡ map.contains_key self.now.book.orders id }

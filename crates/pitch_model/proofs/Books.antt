@@ -1,5 +1,7 @@
--- Every book has orders with shares, each under its id, and no more of them than there were messages.
+-- Every book has orders with shares, each under its id, and no more of them than there were
+-- messages.
 use Rattle.std.proofs.Common.{◌≡◌, ℕ, ◌+◌, ◌-◌, ◌≤◌, ◌<◌, Bool, true, false, cond, List, [], ◌∷◌, length, eqb, fold, refl, sym, ap, ◌∙◌, subst, arith, Option, Some, None, Result, Ok, Err, ◌==◌}
+use Rattle.std.proofs.lemmas.Option.{none-some, same_Some}
 use Rattle.std.specs.Option.{option_map, is_some}
 use Rattle.std.specs.Ordering.{nat_cmp, eq_by_cmp, is_eq}
 use Rattle.std.specs.FinMap as map
@@ -17,12 +19,6 @@ use Rattle.pitch_model.specs.Book.{Book, IsBook, empty_book, at_second, cleared,
 same_test : (q x : ℕ) → is_eq (nat_cmp q x) ≡ eqb q x
 same_test q x = grind (arith, nat_tests)
 
-none_some : (order : Order) → ◌≡◌ {A = Option Order} None (Some order) → ⊥
-none_some order e = cc
-
-some_some : (x y : Order) → Some x ≡ Some y → x ≡ y
-some_some x y e = cc
-
 -- what a quantity of 0 does not lead to
 open_from_test : (n : ℕ) → (n == 0) ≡ false → 0 < n
 open_from_test n f = grind (arith, nat_tests, f)
@@ -38,18 +34,18 @@ module _ (C : ℕ → Order → Type 0) where
       by : (b : Bool) → eq_by_cmp nat_cmp q id ≡ b → cond b (Some order) (map.get book.orders q) ≡ Some other → C q other
       by true t e =
           let same : id ≡ q = sym (eqb-true q id (sym (same_test q id) ∙ t)) in
-          subst (λ (j : ℕ). C j other) same (subst (C id) (some_some order other e) here)
+          subst (λ (j : ℕ). C j other) same (subst (C id) (same_Some order other e) here)
       by false t e = all q other e
 
   pub without_order_all : (book : Book) (id : ℕ) → AllOrders C book → AllOrders C (without_order book id)
   without_order_all book id all q other g = by (eq_by_cmp nat_cmp q id) (sym (map.get-remove nat_cmp_total book.orders id q) ∙ g)
     where
       by : (b : Bool) → cond b None (map.get book.orders q) ≡ Some other → C q other
-      by true e = absurd (none_some other e)
+      by true e = absurd (none-some other e)
       by false e = all q other e
 
   pub none_all : (second : Option ℕ) → AllOrders C (record { second = second; orders = map.empty })
-  none_all second q other g = absurd (none_some other (sym (map.get-empty nat_cmp q) ∙ g))
+  none_all second q other g = absurd (none-some other (sym (map.get-empty nat_cmp q) ∙ g))
 
   pub added_all : (book : Book) (order : Order) → AllOrders C book → (0 < order.quantity → C order.id order) → AllOrders C (added book order)
   added_all book order all here =

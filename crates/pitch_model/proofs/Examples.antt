@@ -1,26 +1,29 @@
 -- Worked examples, computed by the definitions.
-use Rattle.std.proofs.Common.{◌≡◌, ℕ, ◌++◌, true, false, List, [], ◌∷◌, refl, sym, ap, ◌∙◌, ◌+◌, ◌-◌, cond, codes, decimal, Option, Some, None}
+use Rattle.std.proofs.Common.{◌≡◌, ◌≢◌, ℕ, true, false, List, [], ◌∷◌, reverse, map as mapped, inl, inr, refl, sym, ap, ◌∙◌, subst, arith, ◌+◌, cond, codes, Option, Some, None}
+use Rattle.std.specs.List.{AllByRecursion}
 use Rattle.std.specs.Option.{is_some, option_map}
-use Rattle.std.specs.List.{flat_map}
 use Rattle.std.specs.Ordering.{nat_cmp}
 use Rattle.std.specs.FinMap as map
+use Rattle.std.proofs.lemmas.Bool.{cases_eq}
 use Rattle.std.proofs.lemmas.Cmp.{nat_cmp_total}
 use Rattle.std.proofs.lemmas.List.{nil_from_length}
-use Rattle.std.specs.Fmt.{digits}
 use Rattle.unit_packets.specs.Blocks.{Block}
-use Rattle.pitch_fields.specs.Name.{name_shown}
 use Rattle.pitch_messages.specs.declared.order.Order.{Order}
+use Rattle.pitch_messages.specs.declared.message.Message.TheVariants.{Time}
+use Rattle.pitch_messages.specs.Forms.{add_message}
 use Rattle.pitch_messages.specs.Reading.{reads}
+use Rattle.pitch_messages.specs.Writing.{written}
 use Rattle.pitch_model.specs.Book.{Book, with_order, without_order, reformed, reduced_by, modified, after, book_after}
-use Rattle.pitch_model.specs.BookText.{book_text, order_line, second_text}
-use Rattle.pitch_model.specs.History.{Entry, Message, Next, GrpUp, SpinUp, Advertised, SpinReply, SpinFinished, Ticked}
+use Rattle.pitch_model.specs.History.{Entry, Message, Next, GrpUp, SpinUp, Advertised, SpinReply, ImageMessages, SpinFinished, Ticked}
 use Rattle.pitch_model.specs.Asking.{ask_of}
+use Rattle.pitch_model.specs.Honest.{Honest}
+use Rattle.pitch_model.specs.Image.{image_of, image}
+use Rattle.pitch_model.specs.Units.{unit_history, AllHonest}
+use Rattle.pitch_model.proofs.Units.{history_other}
 use Rattle.pitch_model.specs.declared.ask.Ask.TheVariants.{Gap, Spin}
 use Rattle.pitch_model.specs.Reach.{is_overflow, is_held, reach_of, held_count}
 use Rattle.pitch_model.specs.Status.{status_of}
-use Rattle.pitch_model.specs.Follow.{block_line, lines_after, follow_text}
-use Rattle.pitch_model.specs.Texts.{texts_after}
-use Rattle.pitch_fields.specs.declared.side.Side.TheVariants.{Buy, Sell}
+use Rattle.pitch_fields.specs.declared.side.Side.TheVariants.{Buy}
 use Rattle.pitch_model.specs.declared.status.Status.TheVariants.{Silent, Current, Behind}
 
 -- a message, whose bytes do not matter
@@ -74,117 +77,108 @@ behind_what_a_heartbeat_tells : status_of 4096 (Next 4 ∷ message 2 ∷ message
 unfolding reach_of held_count
 behind_what_a_heartbeat_tells = refl
 
--- ---- The text of a stream
+-- ---- A stream
 -- a clock, an order, a heartbeat that tells of 3, and 3, which deletes the order
-abbrev clock : List ℕ
+abbrev pub clock : List ℕ
 clock = 0x06 ∷ 0x20 ∷ 0x98 ∷ 0x85 ∷ 0 ∷ 0 ∷ []
 
-abbrev order : List ℕ
+abbrev pub order : List ℕ
 order =
     0x22 ∷ 0x21 ∷ 0 ∷ 0 ∷ 0 ∷ 0 ∷ 5 ∷ 0 ∷ 0 ∷ 0 ∷ 0 ∷ 0 ∷ 0 ∷ 0 ∷ 0x42 ∷ 0x64 ∷ 0 ∷ 0 ∷ 0
     ∷ 0x49 ∷ 0x42 ∷ 0x4d ∷ 0x20 ∷ 0x20 ∷ 0x20 ∷ 0xa0 ∷ 0x86 ∷ 1 ∷ 0 ∷ 0 ∷ 0 ∷ 0 ∷ 0 ∷ 1 ∷ []
 
-abbrev deletion : List ℕ
+abbrev pub deletion : List ℕ
 deletion = 0x0e ∷ 0x29 ∷ 0 ∷ 0 ∷ 0 ∷ 0 ∷ 5 ∷ 0 ∷ 0 ∷ 0 ∷ 0 ∷ 0 ∷ 0 ∷ 0 ∷ []
 
-abbrev block : ℕ → List (List ℕ) → Block
+abbrev pub block : ℕ → List (List ℕ) → Block
 block sequence raws = record { unit = 1; sequence = sequence; raws = raws }
 
-abbrev stream : List Block
+abbrev pub stream : List Block
 stream = block 1 (clock ∷ []) ∷ block 2 (order ∷ []) ∷ block 4 [] ∷ block 3 (deletion ∷ []) ∷ []
 
-abbrev venue : ℕ → List (List ℕ)
+abbrev pub venue : ℕ → List (List ℕ)
 venue unit = clock ∷ order ∷ deletion ∷ []
 
-lines_of_a_stream : lines_after 4096 [] stream
-    ≡ codes "block 1 unit 1 first 1 count 1; current 1\n"
-    ++ codes "block 2 unit 1 first 2 count 1; current 2\n"
-    ++ codes "block 3 unit 1 first 4 count 0; behind 2 of 3\n"
-    ++ codes "block 4 unit 1 first 3 count 1; current 3\n"
-unfolding reach_of held_count texts_after block_line digits
-lines_of_a_stream = refl
+-- blocks of unit 1 alone tell the others nothing, so they are honest where unit 1 hears the venue's
+-- messages
+others_hear_nothing : (unit : ℕ) (before : List Block) → 1 ≢ unit → AllByRecursion (λ block. block.unit ≡ 1) before → unit_history unit before ≡ []
+others_hear_nothing unit [] other all = refl
+others_hear_nothing unit (block ∷ before) other all = history_other unit block before (λ e. other (sym all.0 ∙ e)) ∙ others_hear_nothing unit before other all.1
 
-mark_of_an_overflow : lines_after 2 [] (block 3 (clock ∷ clock ∷ clock ∷ []) ∷ []) ≡ codes "block 1 unit 1 first 3 count 3 overflow; behind 0 of 5\n"
-unfolding reach_of held_count texts_after block_line digits
-mark_of_an_overflow = refl
+all_honest : (before : List Block) → AllByRecursion (λ block. block.unit ≡ 1) before → Honest image (venue 1) (unit_history 1 before) → AllHonest image venue before
+all_honest before all honest unit = elim (cases_eq 1 unit) [
+  | inl one ↦ subst (λ (u : ℕ). Honest image (venue u) (unit_history u before)) one honest
+  | inr other ↦ subst (Honest image (venue unit)) (sym (others_hear_nothing unit before other all)) tt
+]
 
--- a heartbeat alone, and an unsequenced block
-line_of_a_heartbeat : lines_after 4096 [] (block 1 [] ∷ []) ≡ codes "block 1 unit 1 first 1 count 0; current 0\n"
-unfolding reach_of held_count texts_after block_line digits
-line_of_a_heartbeat = refl
+-- the messages in their order, and a heartbeat that tells of the last one before it comes
+pub stream_is_honest : AllHonest image venue (reverse stream)
+stream_is_honest = all_honest (reverse stream) (refl, (refl, (refl, (refl, tt)))) (refl, (omega arith, (refl, (refl, tt))))
 
-line_of_an_unsequenced_block : lines_after 4096 [] (block 0 [] ∷ []) ≡ codes "block 1 unit 1 first 0 count 0; silent\n"
-unfolding reach_of held_count texts_after block_line digits
-line_of_an_unsequenced_block = refl
+-- the second message comes last, and fills the gap
+abbrev late : List Block
+late = block 1 (clock ∷ []) ∷ block 3 (deletion ∷ []) ∷ block 2 (order ∷ []) ∷ []
 
-text_of_nothing : follow_text 4096 (λ unit. []) [] ≡ []
-unfolding texts_after
-text_of_nothing = refl
+late_is_honest : AllHonest image venue (reverse late)
+late_is_honest = all_honest (reverse late) (refl, (refl, (refl, tt))) (refl, (refl, (refl, tt)))
 
--- ---- The text of a book
-line_of_an_order : order_line 5 (record { id = 5; side = Buy; quantity = 100; symbol = codes "IBM     "; price = 100000; display = true; participant = codes "    " })
-    ≡ codes "order 5 B 100 IBM 10.0000\n"
-unfolding order_line name_shown digits
-line_of_an_order = refl
+late_is_current : status_of 4096 (unit_history 1 (reverse late)) ≡ Current 3
+unfolding reach_of held_count
+late_is_current = refl
 
-line_of_a_hidden_order : order_line 7 (record { id = 7; side = Sell; quantity = 1; symbol = codes "A.B     "; price = 5; display = false; participant = codes "MM  " })
-    ≡ codes "order 7 S 1 A.B 0.0005 hidden mpid=MM\n"
-unfolding order_line name_shown digits
-line_of_a_hidden_order = refl
-
--- a book with so many orders and these entries
-shown : (unit n second count : ℕ) (es : List (ℕ × Order)) (book : Book) → book.second ≡ Some second → map.len book.orders ≡ count → map.entries book.orders ≡ es
-    → book_text unit n book ≡ codes "book unit " ++ (decimal unit ++ (codes " at " ++ (decimal n ++ codes " second "))) ++ (decimal second ++ ((codes " orders " ++ (decimal count ++ 10 ∷ [])) ++ flat_map (λ e. order_line e.0 e.1) es))
-unfolding book_text
-shown unit n second count es book s l e =
-    ap (λ (o : Option ℕ). codes "book unit " ++ (decimal unit ++ (codes " at " ++ (decimal n ++ codes " second "))) ++ (second_text o ++ ((codes " orders " ++ (decimal (map.len book.orders) ++ 10 ∷ [])) ++ flat_map (λ e. order_line e.0 e.1) (map.entries book.orders)))) s
-    ∙ ap (λ (k : ℕ). codes "book unit " ++ (decimal unit ++ (codes " at " ++ (decimal n ++ codes " second "))) ++ (decimal second ++ ((codes " orders " ++ (decimal k ++ 10 ∷ [])) ++ flat_map (λ e. order_line e.0 e.1) (map.entries book.orders)))) l
-    ∙ ap (λ (xs : List (ℕ × Order)). codes "book unit " ++ (decimal unit ++ (codes " at " ++ (decimal n ++ codes " second "))) ++ (decimal second ++ ((codes " orders " ++ (decimal count ++ 10 ∷ [])) ++ flat_map (λ e. order_line e.0 e.1) xs))) e
-
-no_entries : (m : map.FinMap nat_cmp Order) → map.len m ≡ 0 → map.entries m ≡ []
+-- ---- Books
+pub no_entries : (m : map.FinMap nat_cmp Order) → map.len m ≡ 0 → map.entries m ≡ []
 no_entries m e = nil_from_length (map.entries m) (sym (map.len-entries m) ∙ e)
 
 -- the order of the long add above
-abbrev sold : Order
+abbrev pub sold : Order
 sold = record { id = 5; side = Buy; quantity = 100; symbol = codes "IBM     "; price = 100000; display = true; participant = codes "    " }
 
-abbrev no_orders : map.FinMap nat_cmp Order
+abbrev pub no_orders : map.FinMap nat_cmp Order
 no_orders = map.empty
 
-abbrev one_sold : map.FinMap nat_cmp Order
+abbrev pub one_sold : map.FinMap nat_cmp Order
 one_sold = map.insert no_orders 5 sold
 
 -- a message of an unknown type does nothing, and what an add has past its length is ignored
-abbrev unknown : List ℕ
+abbrev pub unknown : List ℕ
 unknown = 0x03 ∷ 0x99 ∷ 0x07 ∷ []
 
-abbrev grown : List ℕ
+abbrev pub grown : List ℕ
 grown =
     0x24 ∷ 0x21 ∷ 0 ∷ 0 ∷ 0 ∷ 0 ∷ 5 ∷ 0 ∷ 0 ∷ 0 ∷ 0 ∷ 0 ∷ 0 ∷ 0 ∷ 0x42 ∷ 0x64 ∷ 0 ∷ 0 ∷ 0
     ∷ 0x49 ∷ 0x42 ∷ 0x4d ∷ 0x20 ∷ 0x20 ∷ 0x20 ∷ 0xa0 ∷ 0x86 ∷ 1 ∷ 0 ∷ 0 ∷ 0 ∷ 0 ∷ 0 ∷ 1 ∷ 0xaa ∷ 0xbb ∷ []
 
-book_of_a_grown_add : book_after (clock ∷ unknown ∷ grown ∷ []) ≡ record { second = Some 34200; orders = one_sold }
+pub book_of_a_grown_add : book_after (clock ∷ unknown ∷ grown ∷ []) ≡ record { second = Some 34200; orders = one_sold }
 unfolding after reads
 book_of_a_grown_add = refl
 
-one_order : map.len one_sold ≡ 1
+pub one_order : map.len one_sold ≡ 1
 one_order = map.len-insert nat_cmp_total no_orders 5 sold ∙ ap (λ (o : Option Order). cond (is_some o) (map.len no_orders) (map.len no_orders + 1)) (map.get-empty nat_cmp 5) ∙ ap (λ (k : ℕ). k + 1) (map.len-empty nat_cmp Order)
 
-text_of_an_open_order : book_text 1 3 (book_after (clock ∷ unknown ∷ grown ∷ [])) ≡ codes "book unit 1 at 3 second 34200 orders 1\norder 5 B 100 IBM 10.0000\n"
-unfolding order_line name_shown digits
-text_of_an_open_order =
-    ap (book_text 1 3) book_of_a_grown_add
-    ∙ shown 1 3 34200 1 ((5, sold) ∷ []) _ refl one_order (map.entries-insert nat_cmp_total no_orders 5 sold ∙ ap (map.put nat_cmp 5 sold) (no_entries no_orders (map.len-empty nat_cmp Order)))
+-- ---- An image
+-- the add of that order in a short form, and then the image through it
+abbrev short_add : List ℕ
+short_add =
+    0x1a ∷ 0x22 ∷ 0 ∷ 0 ∷ 0 ∷ 0 ∷ 5 ∷ 0 ∷ 0 ∷ 0 ∷ 0 ∷ 0 ∷ 0 ∷ 0 ∷ 0x42 ∷ 0x64 ∷ 0 ∷ 0x49 ∷ 0x42 ∷ 0x4d ∷ 0x20 ∷ 0x20 ∷ 0x20 ∷ 0xe8 ∷ 3 ∷ 1 ∷ []
 
--- an order that is deleted is gone
-text_of_an_empty_book : book_text 1 3 (book_after (clock ∷ order ∷ deletion ∷ [])) ≡ codes "book unit 1 at 3 second 34200 orders 0\n"
-unfolding after reads digits
-text_of_an_empty_book = shown 1 3 34200 0 [] (book_after (clock ∷ order ∷ deletion ∷ [])) refl none (no_entries (map.remove one_sold 5) none)
-  where
-    none : map.len (map.remove one_sold 5) ≡ 0
-    none = map.len-remove nat_cmp_total one_sold 5
-        ∙ ap (λ (o : Option Order). cond (is_some o) (map.len one_sold - 1) (map.len one_sold)) (map.get-insert nat_cmp_total no_orders 5 sold 5)
-        ∙ ap (λ (k : ℕ). k - 1) one_order
+entries_of_one : map.entries one_sold ≡ (5, sold) ∷ []
+entries_of_one = map.entries-insert nat_cmp_total no_orders 5 sold ∙ ap (map.put nat_cmp 5 sold) (no_entries no_orders (map.len-empty nat_cmp Order))
+
+image_of_one_order : clock ∷ short_add ∷ [] ≡ image (clock ∷ order ∷ []) 2
+unfolding after reads image image_of written add_message
+image_of_one_order = sym (ap (λ (es : List (ℕ × Order)). mapped written (Time 34200 ∷ mapped (λ (o : Order). add_message o 0) (mapped (λ (e : ℕ × Order). e.1) es))) entries_of_one)
+
+-- an image is advertised, asked for, promised, sent and finished
+abbrev spun : List Entry
+spun = SpinFinished 2 ∷ ImageMessages (clock ∷ short_add ∷ []) ∷ SpinReply 2 1 true ∷ Ticked (Some (Spin 2)) ∷ Advertised 2 ∷ SpinUp ∷ []
+
+spun_is_honest : Honest image (clock ∷ order ∷ []) spun
+spun_is_honest = ((omega arith, image_of_one_order), (tt, (tt, (tt, (omega arith, (tt, tt))))))
+
+spun_is_current : status_of 4096 spun ≡ Current 2
+unfolding reach_of held_count
+spun_is_current = refl
 
 -- ---- Changes of an open order
 -- to 7 shares at 11.0000, hidden; and then 3 shares fewer, and 4 more

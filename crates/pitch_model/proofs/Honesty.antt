@@ -1,5 +1,6 @@
 -- What an honest history says of what was heard last.
-use Rattle.std.proofs.Common.{◌≡◌, ℕ, zero, suc, ◌+◌, List, [], ◌∷◌, Option, Some, None, ◌∙◌, subst, arith, ◌-◌, ◌≤◌, length, unwrap_or}
+use Rattle.std.proofs.Common.{◌≡◌, ℕ, zero, suc, ◌+◌, List, [], ◌∷◌, Option, Some, None, ◌∙◌, ap, subst, arith, ◌-◌, ◌≤◌, length, unwrap_or}
+use Rattle.std.specs.List.{slice_get}
 use Rattle.std.proofs.lemmas.Option.{slice_get_within}
 use Rattle.pitch_model.specs.History.{Entry, Raw, Message, Next, GrpUp, GrpDown, GapReply, SpinUp, SpinDown, Advertised, SpinReply, ImageMessages, SpinFinished, Ticked, spin_of, image_finished}
 use Rattle.pitch_model.specs.Reach.{sequences}
@@ -69,3 +70,13 @@ module _ (Image : List Raw → ℕ → List Raw) (V : List Raw) where
   honest_top (SpinReply s orders accepted ∷ E) h = honest_top E h.1
   honest_top (ImageMessages raws ∷ E) h = honest_top E h.1
   honest_top (Ticked ask ∷ E) h = honest_top E h.1
+
+-- ---- Messages one after another
+module _ (V : List Raw) (sequence : ℕ) (rest rest' : List Raw) (raw : Raw) (split : rest ≡ raw ∷ rest') (are : AreVenues V sequence rest) where
+  pub venues_first : message_at V sequence ≡ Some raw
+  venues_first = subst (λ n. message_at V n ≡ Some raw) (omega arith) (are 0 raw (ap (λ rs. slice_get rs 0) split))
+
+  pub venues_rest : AreVenues V (sequence + 1) rest'
+  venues_rest i r at =
+      let e : sequence + suc i ≡ (sequence + 1) + i = omega arith in
+      subst (λ n. message_at V n ≡ Some r) e (are (suc i) r (ap (λ rs. slice_get rs (suc i)) split ∙ at))

@@ -1,5 +1,6 @@
 -- The messages of an image make its book anew.
 use Rattle.std.proofs.Common.{Bool, List, None, Ok, Option, Result, Some, [], ap, arith, cond, drop, eqb, false, fold, length, length-drop, length-take, map, nat_le, refl, suc, sym, take, true, zero, ℕ, ◌%◌, ◌&&◌, ◌++◌, ◌/◌, ◌<◌, ◌==◌, ◌^◌, ◌∙◌, ◌∷◌, ◌≡◌, ◌≤◌}
+use Rattle.std.proofs.lemmas.Option.{none-some, same_Some}
 use Rattle.std.proofs.lemmas.List.{take-append-drop}
 use Rattle.std.proofs.Math.Dec.{T}
 use Rattle.std.specs.List.{AllByRecursion}
@@ -23,17 +24,14 @@ use Rattle.pitch_model.specs.Book.{Book, IsBook, empty_book, with_order, added, 
 use Rattle.pitch_fields.specs.Fields.{AreBytes}
 use Rattle.pitch_fields.specs.Name.{no_participant}
 use Rattle.pitch_model.specs.Levels.{orders_of}
-use Rattle.pitch_model.specs.Image.{clock_of, messages_of, image}
-use Rattle.pitch_model.specs.Widths.{FitsWire}
+use Rattle.pitch_model.specs.Image.{clock_of, image_messages, image_of, image}
+use Rattle.pitch_model.specs.Widths.{FitsWire, IsWireBook}
 use Rattle.pitch_model.proofs.Books.{book_after_book}
 use Rattle.pitch_model.proofs.Widths.{book_after_fits}
 
 true_from_T : (b : Bool) → T b → b ≡ true
 true_from_T true h = refl
 true_from_T false h = absurd h
-
-none_some : (order : Order) → ◌≡◌ {A = Option Order} None (Some order) → ⊥
-none_some order e = cc
 
 -- ---- Entries put one after another
 abbrev put_all : finite.FinMap nat_cmp Order → List (ℕ × Order) → finite.FinMap nat_cmp Order
@@ -59,7 +57,7 @@ get_put_some m [] q v g none = g
 get_put_some m (e ∷ es) q v g none = by (eq_by_cmp nat_cmp q e.0) refl none (get_put_some (finite.insert m e.0 e.1) es q v)
   where
     by : (b : Bool) → eq_by_cmp nat_cmp q e.0 ≡ b → cond b (Some e.1) (find nat_cmp q es) ≡ None → (finite.get (finite.insert m e.0 e.1) q ≡ Some v → find nat_cmp q es ≡ None → finite.get (put_all (finite.insert m e.0 e.1) es) q ≡ Some v) → finite.get (put_all (finite.insert m e.0 e.1) es) q ≡ Some v
-    by true t n rec = absurd (none_some e.1 (sym n))
+    by true t n rec = absurd (none-some e.1 (sym n))
     by false t n rec = rec (finite.get-insert nat_cmp_total m e.0 e.1 q ∙ cond-false (eq_by_cmp nat_cmp q e.0) (Some e.1) (finite.get m q) t ∙ g) n
 
 get_put_all : (m : finite.FinMap nat_cmp Order) (es : List (ℕ × Order)) (q : ℕ) → is_sorted nat_cmp es ≡ true → finite.get m q ≡ None → finite.get (put_all m es) q ≡ find nat_cmp q es
@@ -75,7 +73,7 @@ get_put_all m (e ∷ es) q sorted none =
         (ap (λ (k : ℕ). find nat_cmp k es) (tied q e.0 t) ∙ none_below e.0 es below)
     by below false t rec = rec (finite.get-insert nat_cmp_total m e.0 e.1 q ∙ cond-false (eq_by_cmp nat_cmp q e.0) (Some e.1) (finite.get m q) t ∙ none)
 
-sorted_entries : (m : finite.FinMap nat_cmp Order) → is_sorted nat_cmp (finite.entries m) ≡ true
+pub sorted_entries : (m : finite.FinMap nat_cmp Order) → is_sorted nat_cmp (finite.entries m) ≡ true
 sorted_entries m = true_from_T (is_sorted nat_cmp (finite.entries m)) (finite.entries_sorted m)
 
 -- the entries of a map make it anew
@@ -84,7 +82,7 @@ put_entries m = finite.same_map nat_cmp_total finite.nat_cmp-IsAntisymmetric (pu
     (λ q. get_put_all finite.empty (finite.entries m) q (sorted_entries m) (finite.get-empty nat_cmp q) ∙ sym (finite.get-entries m q))
 
 -- what holds where an entry is found holds of each
-all_found : (C : ℕ → Order → Type 0) (es : List (ℕ × Order)) → is_sorted nat_cmp es ≡ true → ((q : ℕ) (v : Order) → find nat_cmp q es ≡ Some v → C q v) → AllByRecursion (λ e. C e.0 e.1) es
+pub all_found : (C : ℕ → Order → Type 0) (es : List (ℕ × Order)) → is_sorted nat_cmp es ≡ true → ((q : ℕ) (v : Order) → find nat_cmp q es ≡ Some v → C q v) → AllByRecursion (λ e. C e.0 e.1) es
 all_found C [] sorted found = tt
 all_found C (e ∷ es) sorted found =
     let parts = and_parts (below_all nat_cmp e.0 es) (is_sorted nat_cmp es) sorted in
@@ -94,7 +92,7 @@ all_found C (e ∷ es) sorted found =
     )
   where
     by : below_all nat_cmp e.0 es ≡ true → (q : ℕ) (v : Order) → find nat_cmp q es ≡ Some v → (b : Bool) → eq_by_cmp nat_cmp q e.0 ≡ b → cond b (Some e.1) (find nat_cmp q es) ≡ Some v
-    by below q v f true t = absurd (none_some v (sym (ap (λ (k : ℕ). find nat_cmp k es) (tied q e.0 t) ∙ none_below e.0 es below) ∙ f))
+    by below q v f true t = absurd (none-some v (sym (ap (λ (k : ℕ). find nat_cmp k es) (tied q e.0 t) ∙ none_below e.0 es below) ∙ f))
     by below q v f false t = f
 
 -- ---- The messages of an image
@@ -117,7 +115,7 @@ after_clock None = refl
 after_clock (Some second) = refl
 
 -- the messages of a book's image make the book anew
-pub made_anew : (book : Book) → IsBook book → ((id : ℕ) (order : Order) → finite.get book.orders id ≡ Some order → Adds order) → fold after_message empty_book (messages_of book) ≡ book
+pub made_anew : (book : Book) → IsBook book → ((id : ℕ) (order : Order) → finite.get book.orders id ≡ Some order → Adds order) → fold after_message empty_book (image_messages book) ≡ book
 made_anew book is adds =
     fold-append after_message empty_book (clock_of book.second) (map (λ order. add_message order 0) (orders_of book))
     ∙ ap (λ (b : Book). fold after_message b (map (λ order. add_message order 0) (orders_of book))) (after_clock book.second)
@@ -133,12 +131,12 @@ fold_written book [] all = refl
 fold_written book (m ∷ messages) all =
     ap (λ (r : Result Message ReadError). fold after (after_read book r) (map written messages)) all.0 ∙ fold_written (after_message book m) messages all.1
 
--- the image through a sequence leaves the book that the messages up to it leave
-pub image_leaves : (V : List (List ℕ)) (s : ℕ) → ((id : ℕ) (order : Order) → finite.get (book_after (take s V)).orders id ≡ Some order → Adds order)
-    → AllByRecursion (λ m. reads (written m) ≡ Ok m) (messages_of (book_after (take s V))) → book_after (image V s) ≡ book_after (take s V)
-unfolding image
-image_leaves V s adds read =
-    fold_written empty_book (messages_of (book_after (take s V))) read ∙ made_anew (book_after (take s V)) (book_after_book (take s V)) adds
+-- the raws of a book's image leave the book, where they are read as its messages, which add its
+-- orders
+image_leaves : (book : Book) → IsBook book → ((id : ℕ) (order : Order) → finite.get book.orders id ≡ Some order → Adds order)
+    → AllByRecursion (λ m. reads (written m) ≡ Ok m) (image_messages book) → book_after (image_of book) ≡ book
+unfolding image_of
+image_leaves book is adds read = fold_written empty_book (image_messages book) read ∙ made_anew book is adds
 
 -- ---- The form of an add
 spaces : ℕ → List ℕ
@@ -159,40 +157,28 @@ pub record SixOf (symbol six : List ℕ) : Type 0 where
   pub size : length six ≡ 6
   pub padded : long_symbol six ≡ symbol
 
-some_list : (xs ys : List ℕ) → Some xs ≡ Some ys → xs ≡ ys
-some_list xs ys e = cc
-
-none_list : (xs : List ℕ) → ◌≡◌ {A = Option (List ℕ)} None (Some xs) → ⊥
-none_list xs e = cc
-
 six_is : (symbol six : List ℕ) → length symbol ≡ 8 → six_of symbol ≡ Some six → SixOf symbol six
 unfolding spaces
 six_is symbol six size e = by (is_blank (drop 6 symbol)) refl e
   where
     by : (b : Bool) → is_blank (drop 6 symbol) ≡ b → cond b (Some (take 6 symbol)) None ≡ Some six → SixOf symbol six
     by true blank f =
-        let same = some_list (take 6 symbol) six f in
+        let same = same_Some (take 6 symbol) six f in
         let rest : drop 6 symbol ≡ 32 ∷ 32 ∷ [] = blank_spaces 2 (drop 6 symbol) (omega (arith, length-drop {A = ℕ}, size)) blank in
         record {
           size = ap (λ (xs : List ℕ). length xs) (sym same) ∙ omega (arith, length-take {A = ℕ}, size);
           padded = ap (λ (xs : List ℕ). xs ++ 32 ∷ 32 ∷ []) (sym same) ∙ ap (λ (ys : List ℕ). take 6 symbol ++ ys) (sym rest) ∙ take-append-drop 6 symbol;
         }
-    by false blank f = absurd (none_list six f)
+    by false blank f = absurd (none-some six f)
 
 -- what the plain symbol says of the order
-plain_is : (order : Order) (six : List ℕ) → FitsWire order → plain_symbol order ≡ Some six → SixOf order.symbol six × (no_participant ≡ order.participant)
+pub plain_is : (order : Order) (six : List ℕ) → FitsWire order → plain_symbol order ≡ Some six → SixOf order.symbol six × (no_participant ≡ order.participant)
 unfolding spaces
 plain_is order six fits e = by (is_blank order.participant) refl e
   where
     by : (b : Bool) → is_blank order.participant ≡ b → cond b (six_of order.symbol) None ≡ Some six → SixOf order.symbol six × (no_participant ≡ order.participant)
     by true blank f = (six_is order.symbol six fits.symbol f, sym (blank_spaces 4 order.participant fits.participant blank))
-    by false blank f = absurd (none_list six f)
-
-number_some : (m n : ℕ) → Some m ≡ Some n → m ≡ n
-number_some m n e = cc
-
-number_none : (n : ℕ) → ◌≡◌ {A = Option ℕ} None (Some n) → ⊥
-number_none n e = cc
+    by false blank f = absurd (none-some six f)
 
 -- what the short price says of quantity and price
 pub record ShortOf (quantity price cents : ℕ) : Type 0 where
@@ -200,7 +186,7 @@ pub record ShortOf (quantity price cents : ℕ) : Type 0 where
   pub low : cents < 256 ^ 2
   pub whole : long_price cents ≡ price
 
-short_is : (quantity price cents : ℕ) → short_price quantity price ≡ Some cents → ShortOf quantity price cents
+pub short_is : (quantity price cents : ℕ) → short_price quantity price ≡ Some cents → ShortOf quantity price cents
 short_is quantity price cents e = by (nat_le quantity 65535) refl e
   where
     inner : quantity ≤ 65535 → (b : Bool) → (price % 100 == 0 && nat_le price 6553500) ≡ b → cond b (Some (price / 100)) None ≡ Some cents → ShortOf quantity price cents
@@ -208,13 +194,13 @@ short_is quantity price cents e = by (nat_le quantity 65535) refl e
         let parts = and_parts (price % 100 == 0) (nat_le price 6553500) t in
         let even = eqb-true (price % 100) 0 parts.0 in
         let low : price ≤ 6553500 = grind (arith, nat_tests, parts.1) in
-        let same = number_some (price / 100) cents f in
+        let same = same_Some (price / 100) cents f in
         record { few = omega arith; low = omega arith; whole = omega arith }
-    inner few false t f = absurd (number_none cents f)
+    inner few false t f = absurd (none-some cents f)
 
     by : (b : Bool) → nat_le quantity 65535 ≡ b → cond b (short_of price) None ≡ Some cents → ShortOf quantity price cents
     by true t f = inner (grind (arith, nat_tests, t)) (price % 100 == 0 && nat_le price 6553500) refl f
-    by false t f = absurd (number_none cents f)
+    by false t f = absurd (none-some cents f)
 
 shown_again : (display : Bool) → is_displayed (flags_of display) ≡ display
 shown_again true = refl
@@ -269,16 +255,23 @@ image_reads : (second : Option ℕ) (messages : List Message) → ((n : ℕ) →
 image_reads None messages fits all = all
 image_reads (Some second) messages fits all = (time_back second (fits second refl), all)
 
-all_take : (s : ℕ) (V : List (List ℕ)) → AllByRecursion AreBytes V → AllByRecursion AreBytes (take s V)
+pub all_take : (s : ℕ) (V : List (List ℕ)) → AllByRecursion AreBytes V → AllByRecursion AreBytes (take s V)
 all_take zero V all = tt
 all_take (suc s) [] all = tt
 all_take (suc s) (raw ∷ V) all = (all.0, all_take s V all.1)
 
--- the image through a sequence leaves the book that the messages up to it leave
-pub image_book : (V : List (List ℕ)) (s : ℕ) → AllByRecursion AreBytes V → book_after (image V s) ≡ book_after (take s V)
-image_book V s all =
-    let wire = book_after_fits (take s V) (all_take s V all) in
-    let book = book_after (take s V) in
-    image_leaves V s (λ id order g. add_message_adds order (wire.orders id order g))
+-- the image of a book leaves that book
+pub image_of_leaves : (book : Book) → IsBook book → IsWireBook book → book_after (image_of book) ≡ book
+image_of_leaves book is wire =
+    image_leaves book is (λ id order g. add_message_adds order (wire.orders id order g))
     (image_reads book.second (map (λ order. add_message order 0) (orders_of book)) wire.clock
     (adds_read (finite.entries book.orders) (all_found (λ id order. FitsWire order) (finite.entries book.orders) (sorted_entries book.orders) (λ id order f. wire.orders id order (finite.get-entries book.orders id ∙ f)))))
+
+-- the image through a sequence leaves the book that the messages up to it leave
+pub image_book : (V : List (List ℕ)) (s : ℕ) → AllByRecursion AreBytes V → book_after (image V s) ≡ book_after (take s V)
+unfolding image
+image_book V s all = image_of_leaves (book_after (take s V)) (book_after_book (take s V)) (book_after_fits (take s V) (all_take s V all))
+
+pub image_is : (V : List (List ℕ)) (s : ℕ) → image V s ≡ image_of (book_after (take s V))
+unfolding image
+image_is V s = refl

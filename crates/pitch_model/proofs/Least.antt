@@ -5,15 +5,13 @@ use Rattle.std.specs.Set.{is_member}
 use Rattle.std.specs.Cmp.{nat_eq_equiv}
 use Rattle.std.proofs.lemmas.Map.Made.{is_member-filter}
 use Rattle.std.proofs.lemmas.Bool.{or_cases, or_left, or_right, false≢true, both_ways, eqb-true, eq-eqb, cases_lt}
+use Rattle.std.proofs.lemmas.Option.{none-some, same_Some}
 use Rattle.pitch_model.specs.Reach.{Part, is_seen, reach_of, held_of}
 use Rattle.pitch_model.specs.Asking.{least_of}
 
 -- what least_of gives is a member
 least_member : (ks : List ℕ) (m : ℕ) → least_of ks ≡ Some m → is_member eqb ks m ≡ true
-least_member [] m e = absurd (none_some m e)
-  where
-    none_some : (m : ℕ) → ◌≡◌ {A = Option ℕ} None (Some m) → ⊥
-    none_some m e = cc
+least_member [] m e = absurd (none-some m e)
 least_member (k ∷ ks) m e = by (λ l f. least_member ks l f) (least_of ks) refl e
   where
     by : ((l : ℕ) → least_of ks ≡ Some l → is_member eqb ks l ≡ true) → (o : Option ℕ) → least_of ks ≡ o → Some (option_map_or (min k) o k) ≡ Some m → (eqb m k || is_member eqb ks m) ≡ true
@@ -37,23 +35,17 @@ least_there (x ∷ ks) k t = by (λ u. least_there ks k u) (least_of ks) refl
       refl,
       elim (or_cases (eqb k x) (is_member eqb ks k) t) [
         | inl here ↦ let e = eqb-true k x here in omega arith
-        | inr there ↦ let r = rec there in absurd (none_some r.0 (sym f ∙ r.1))
+        | inr there ↦ let r = rec there in absurd (none-some r.0 (sym f ∙ r.1))
       ],
     )
-      where
-        none_some : (m : ℕ) → ◌≡◌ {A = Option ℕ} None (Some m) → ⊥
-        none_some m e = cc
     by rec (Some l) f = (
       min x l,
       refl,
       elim (or_cases (eqb k x) (is_member eqb ks k) t) [
         | inl here ↦ let e = eqb-true k x here in omega arith
-        | inr there ↦ let r = rec there in let same : l ≡ r.0 = some_some l r.0 (sym f ∙ r.1) in let le = r.2 in omega arith
+        | inr there ↦ let r = rec there in let same : l ≡ r.0 = same_Some l r.0 (sym f ∙ r.1) in let le = r.2 in omega arith
       ],
     )
-      where
-        some_some : (a b : ℕ) → Some a ≡ Some b → a ≡ b
-        some_some a b e = cc
 
 pub least_some : (ks : List ℕ) (m : ℕ) → is_member eqb ks m ≡ true → ((k : ℕ) → is_member eqb ks k ≡ true → m ≤ k) → least_of ks ≡ Some m
 least_some ks m t h =

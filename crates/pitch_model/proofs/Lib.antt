@@ -12,8 +12,11 @@ pub mod Honesty
 pub mod Asking
 pub mod Folding
 pub mod Books
-pub mod Following
+pub mod Units
 pub mod Prices
 pub mod Images
 pub mod Widths
-mod Shown
+pub mod ImageRaws
+pub mod Growing
+pub mod Datagrams
+pub mod Advertising

@@ -1,5 +1,6 @@
 -- The best of some prices is one of them, and no other is better.
 use Rattle.std.proofs.Common.{◌≡◌, ℕ, true, ◌⊎◌, List, [], ◌∷◌, map, eqb, refl, sym, ap, ◌∙◌, subst, inl, inr, arith, Option, Some, None}
+use Rattle.std.proofs.lemmas.Option.{none-some, same_Some}
 use Rattle.std.specs.Option.{option_map, option_map_or}
 use Rattle.std.specs.Set.{is_member}
 use Rattle.std.proofs.lemmas.Bool.{or_cases, or_left, or_right, false≢true, eqb-true, eq-eqb, cases_lt}
@@ -8,12 +9,6 @@ use Rattle.pitch_fields.specs.declared.side.Side.TheVariants.{Buy, Sell}
 use Rattle.pitch_messages.specs.declared.order.Order.{Order}
 use Rattle.pitch_model.specs.Book.{Book}
 use Rattle.pitch_model.specs.Levels.{better, best_of, IsBestOf, best, level, with_level, orders_on, prices_on}
-
-none_some : (p : ℕ) → ◌≡◌ {A = Option ℕ} None (Some p) → ⊥
-none_some p e = cc
-
-some_some : (p q : ℕ) → Some p ≡ Some q → p ≡ q
-some_some p q e = cc
 
 either : (side : Side) (p q : ℕ) → (better side p q ≡ p) ⊎ (better side p q ≡ q)
 either Buy p q = elim (cases_lt p q) [ inl below ↦ inr (omega arith) | inr above ↦ inl (omega arith) ]
@@ -33,10 +28,10 @@ over_itself Sell p = omega arith
 
 pub best_of-none : (side : Side) (ps : List ℕ) → best_of side ps ≡ None → ps ≡ []
 best_of-none side [] e = refl
-best_of-none side (p ∷ ps) e = absurd (none_some (option_map_or (better side p) (best_of side ps) p) (sym e))
+best_of-none side (p ∷ ps) e = absurd (none-some (option_map_or (better side p) (best_of side ps) p) (sym e))
 
 pub best_of-some : (side : Side) (ps : List ℕ) (p : ℕ) → best_of side ps ≡ Some p → IsBestOf side ps p
-best_of-some side [] p e = absurd (none_some p e)
+best_of-some side [] p e = absurd (none-some p e)
 best_of-some side (x ∷ xs) p e = by (best_of side xs) refl e (λ b. best_of-some side xs b)
   where
     alone : (q : ℕ) → xs ≡ [] → is_member eqb (x ∷ xs) q ≡ true → q ≡ x
@@ -60,11 +55,11 @@ best_of-some side (x ∷ xs) p e = by (best_of side xs) refl e (λ b. best_of-so
     by : (o : Option ℕ) → best_of side xs ≡ o → Some (option_map_or (better side x) o x) ≡ Some p → ((b : ℕ) → best_of side xs ≡ Some b → IsBestOf side xs b) → IsBestOf side (x ∷ xs) p
     by None f g rec =
         let none = best_of-none side xs f in
-        subst (IsBestOf side (x ∷ xs)) (some_some x p g) (record {
+        subst (IsBestOf side (x ∷ xs)) (same_Some x p g) (record {
           stands = or_left (eqb x x) (is_member eqb xs x) (eq-eqb x x refl);
           none_better = λ q m. ap (better side x) (alone q none m) ∙ over_itself side x;
         })
-    by (Some b) f g rec = subst (IsBestOf side (x ∷ xs)) (some_some (better side x b) p g) (of_two b (rec b f))
+    by (Some b) f g rec = subst (IsBestOf side (x ∷ xs)) (same_Some (better side x b) p g) (of_two b (rec b f))
 
 no_prices : (orders : List Order) → map (λ order. order.price) orders ≡ [] → orders ≡ []
 no_prices [] e = refl

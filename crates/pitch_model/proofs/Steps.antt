@@ -1,4 +1,5 @@
--- What each kind of entry does to a part, against a floor n and a hold of which `has` says what sequences it has.
+-- What each kind of entry does to a part, against a floor n and a hold of which `has` says what
+-- sequences it has.
 use Rattle.std.proofs.Common.{◌≡◌, ◌≢◌, ℕ, suc, ◌≤◌, ◌<◌, Bool, true, false, ◌&&◌, ◌||◌, not, List, [], ◌∷◌, length, eqb, ltb, refl, sym, ap, ◌∙◌, subst, inl, inr, ◌⊎◌, arith}
 use Rattle.std.specs.Set.{is_member}
 use Rattle.std.specs.Cmp.{nat_eq_equiv}

@@ -1,5 +1,6 @@
 -- The orders of a book that messages of bytes leave have the widths of the wire.
-use Rattle.std.proofs.Common.{◌≡◌, ℕ, zero, suc, ◌+◌, ◌^◌, ◌≤◌, ◌<◌, Bool, true, false, cond, ◌==◌, List, [], ◌∷◌, length, drop, fold, refl, ap, ◌∙◌, subst, arith, Option, Some, None, Result, Ok, Err, slice_index, nat_lt, ◌==◌, length-take, length-drop, length-append}
+use Rattle.std.proofs.Common.{◌≡◌, ℕ, zero, suc, ◌+◌, ◌^◌, ◌≤◌, ◌<◌, Bool, true, false, cond, ◌==◌, List, [], ◌∷◌, ◌++◌, length, take, drop, fold, refl, ap, ◌∙◌, subst, arith, Option, Some, None, Result, Ok, Err, slice_index, nat_lt, ◌==◌, length-take, length-drop, length-append}
+use Rattle.std.proofs.lemmas.Option.{none-some, same_Some}
 use Rattle.std.specs.Option.{option_map}
 use Rattle.std.specs.List.{AllByRecursion}
 use Rattle.std.specs.FinMap as map
@@ -23,6 +24,15 @@ use Rattle.pitch_model.proofs.Books.{AllOrders, none_all, added_all, changed_all
 use Rattle.pitch_model.specs.Widths.{FitsWire, IsWireBook}
 
 -- ---- Bytes
+pub bytes_take : (n : ℕ) (raw : List ℕ) → AreBytes raw → AreBytes (take n raw)
+bytes_take zero raw all = tt
+bytes_take (suc n) [] all = tt
+bytes_take (suc n) (x ∷ xs) all = (all.0, bytes_take n xs all.1)
+
+pub bytes_append : (xs ys : List ℕ) → AreBytes xs → AreBytes ys → AreBytes (xs ++ ys)
+bytes_append [] ys all more = more
+bytes_append (x ∷ xs) ys all more = (all.0, bytes_append xs ys all.1 more)
+
 two_lt : (at : ℕ) (raw : List ℕ) → AreBytes raw → number_at 2 at raw < 256 ^ 2
 two_lt at raw all = let b = byte_at (drop at raw) (bytes_drop at raw all) in let b0 = b 0 in let b1 = b 1 in omega arith
 
@@ -38,14 +48,18 @@ eight_lt at raw all =
     let b0 = b 0 in let b1 = b 1 in let b2 = b 2 in let b3 = b 3 in let b4 = b 4 in let b5 = b 5 in let b6 = b 6 in let b7 = b 7 in
     omega arith
 
-length-bytes_at : (n at : ℕ) (raw : List ℕ) → at + n ≤ length raw → length (bytes_at n at raw) ≡ n
-length-bytes_at n at raw fits = omega (arith, length-take {A = ℕ}, length-drop {A = ℕ})
+-- so many bytes
+abbrev HasBytes : ℕ → List ℕ → Type 0
+HasBytes n bytes = (length bytes ≡ n) × AreBytes bytes
+
+field_at : (n at : ℕ) (raw : List ℕ) → AreBytes raw → at + n ≤ length raw → HasBytes n (bytes_at n at raw)
+field_at n at raw all fits = (omega (arith, length-take {A = ℕ}, length-drop {A = ℕ}), bytes_take n (drop at raw) (bytes_drop at raw all))
 
 -- ---- What a message says fits
 abbrev FitsMessage : Message → Type 0
-FitsMessage (AddLong offset id side quantity symbol price flags) = (id < 256 ^ 8) × (quantity < 256 ^ 4) × (length symbol ≡ 6) × (price < 256 ^ 8)
-FitsMessage (AddShort offset id side quantity symbol price flags) = (id < 256 ^ 8) × (quantity < 256 ^ 2) × (length symbol ≡ 6) × (price < 256 ^ 2)
-FitsMessage (AddExpanded offset id side quantity symbol price flags participant) = (id < 256 ^ 8) × (quantity < 256 ^ 4) × (length symbol ≡ 8) × (price < 256 ^ 8) × (length participant ≡ 4)
+FitsMessage (AddLong offset id side quantity symbol price flags) = (id < 256 ^ 8) × (quantity < 256 ^ 4) × HasBytes 6 symbol × (price < 256 ^ 8)
+FitsMessage (AddShort offset id side quantity symbol price flags) = (id < 256 ^ 8) × (quantity < 256 ^ 2) × HasBytes 6 symbol × (price < 256 ^ 2)
+FitsMessage (AddExpanded offset id side quantity symbol price flags participant) = (id < 256 ^ 8) × (quantity < 256 ^ 4) × HasBytes 8 symbol × (price < 256 ^ 8) × HasBytes 4 participant
 FitsMessage (Time second) = second < 256 ^ 4
 FitsMessage (ExecutedAt offset id executed remaining execution price) = remaining < 256 ^ 4
 FitsMessage (ModifyLong offset id quantity price flags) = (quantity < 256 ^ 4) × (price < 256 ^ 8)
@@ -77,13 +91,13 @@ sided_fits size message fits raw all long m e = by (side_of (slice_index raw 14)
     by (Some side) f = subst FitsMessage (ok_ok (message raw side) m f) (fits raw side all long)
 
 add_long_fits : RowFits rows.add_long_row
-add_long_fits = sided_fits 34 _ (λ raw side all long. (eight_lt 6 raw all, four_lt 15 raw all, length-bytes_at 6 19 raw (omega arith), eight_lt 25 raw all))
+add_long_fits = sided_fits 34 _ (λ raw side all long. (eight_lt 6 raw all, four_lt 15 raw all, field_at 6 19 raw all (omega arith), eight_lt 25 raw all))
 
 add_short_fits : RowFits rows.add_short_row
-add_short_fits = sided_fits 26 _ (λ raw side all long. (eight_lt 6 raw all, two_lt 15 raw all, length-bytes_at 6 17 raw (omega arith), two_lt 23 raw all))
+add_short_fits = sided_fits 26 _ (λ raw side all long. (eight_lt 6 raw all, two_lt 15 raw all, field_at 6 17 raw all (omega arith), two_lt 23 raw all))
 
 add_expanded_fits : RowFits rows.add_expanded_row
-add_expanded_fits = sided_fits 40 _ (λ raw side all long. (eight_lt 6 raw all, four_lt 15 raw all, length-bytes_at 8 19 raw (omega arith), eight_lt 27 raw all, length-bytes_at 4 36 raw (omega arith)))
+add_expanded_fits = sided_fits 40 _ (λ raw side all long. (eight_lt 6 raw all, four_lt 15 raw all, field_at 8 19 raw all (omega arith), eight_lt 27 raw all, field_at 4 36 raw all (omega arith)))
 
 executed_at_fits : RowFits rows.executed_at_row
 executed_at_fits = plain_fits 38 _ (λ raw all long. four_lt 18 raw all)
@@ -136,16 +150,16 @@ abbrev Fits : ℕ → Order → Type 0
 Fits id order = FitsWire order
 
 reduced_fits : (n : ℕ) (order : Order) → FitsWire order → FitsWire (reduced_by n order)
-reduced_fits n order fits = let q = fits.quantity in record { id = fits.id; quantity = omega arith; symbol = fits.symbol; price = fits.price; participant = fits.participant }
+reduced_fits n order fits = let q = fits.quantity in record { id = fits.id; quantity = omega arith; symbol = fits.symbol; price = fits.price; participant = fits.participant; symbol_bytes = fits.symbol_bytes; participant_bytes = fits.participant_bytes }
 
 left_fits : (n : ℕ) (order : Order) → n < 256 ^ 4 → FitsWire order → FitsWire (left_with n order)
-left_fits n order few fits = record { id = fits.id; quantity = few; symbol = fits.symbol; price = fits.price; participant = fits.participant }
+left_fits n order few fits = record { id = fits.id; quantity = few; symbol = fits.symbol; price = fits.price; participant = fits.participant; symbol_bytes = fits.symbol_bytes; participant_bytes = fits.participant_bytes }
 
 modified_fits : (n p : ℕ) (display : Bool) (order : Order) → n < 256 ^ 4 → p < 256 ^ 8 → FitsWire order → FitsWire (modified n p display order)
-modified_fits n p display order few low fits = record { id = fits.id; quantity = few; symbol = fits.symbol; price = low; participant = fits.participant }
+modified_fits n p display order few low fits = record { id = fits.id; quantity = few; symbol = fits.symbol; price = low; participant = fits.participant; symbol_bytes = fits.symbol_bytes; participant_bytes = fits.participant_bytes }
 
-long_fits : (id : ℕ) (side : Side) (quantity : ℕ) (symbol : List ℕ) (price flags : ℕ) → id < 256 ^ 8 → quantity < 256 ^ 4 → length symbol ≡ 6 → price < 256 ^ 8 → FitsWire (order_of_long id side quantity symbol price flags)
-long_fits id side quantity symbol price flags i q s p = record { id = i; quantity = q; symbol = length-append symbol (32 ∷ 32 ∷ []) ∙ ap (λ (n : ℕ). n + 2) s; price = p; participant = refl }
+long_fits : (id : ℕ) (side : Side) (quantity : ℕ) (symbol : List ℕ) (price flags : ℕ) → id < 256 ^ 8 → quantity < 256 ^ 4 → HasBytes 6 symbol → price < 256 ^ 8 → FitsWire (order_of_long id side quantity symbol price flags)
+long_fits id side quantity symbol price flags i q s p = record { id = i; quantity = q; symbol = length-append symbol (32 ∷ 32 ∷ []) ∙ ap (λ (n : ℕ). n + 2) s.0; price = p; participant = refl; symbol_bytes = bytes_append symbol (32 ∷ 32 ∷ []) s.1 (omega arith, (omega arith, tt)); participant_bytes = (omega arith, (omega arith, (omega arith, (omega arith, tt)))) }
 
 after_message_fits : (book : Book) (message : Message) → FitsMessage message → AllOrders Fits book → AllOrders Fits (after_message book message)
 after_message_fits book (Time second) fits B = B
@@ -154,7 +168,7 @@ after_message_fits book (AddLong offset id side quantity symbol price flags) fit
 after_message_fits book (AddShort offset id side quantity symbol price flags) fits B =
     added_all Fits book _ B (λ some. let q = fits.1 in let p = fits.3 in long_fits id side quantity symbol (long_price price) flags fits.0 (omega arith) fits.2 (omega arith))
 after_message_fits book (AddExpanded offset id side quantity symbol price flags participant) fits B =
-    added_all Fits book _ B (λ some. record { id = fits.0; quantity = fits.1; symbol = fits.2; price = fits.3; participant = fits.4 })
+    added_all Fits book _ B (λ some. record { id = fits.0; quantity = fits.1; symbol = fits.2.0; price = fits.3; participant = fits.4.0; symbol_bytes = fits.2.1; participant_bytes = fits.4.1 })
 after_message_fits book (Executed offset id executed execution) fits B = changed_all Fits book id (reduced_by executed) B (λ order here some. reduced_fits executed order here)
 after_message_fits book (ExecutedAt offset id executed remaining execution price) fits B = changed_all Fits book id (left_with remaining) B (λ order here some. left_fits remaining order fits here)
 after_message_fits book (ReduceLong offset id quantity) fits B = changed_all Fits book id (reduced_by quantity) B (λ order here some. reduced_fits quantity order here)
@@ -176,12 +190,6 @@ after_message_fits book (Other raw) fits B = B
 abbrev ClockFits : Option ℕ → Type 0
 ClockFits clock = (second : ℕ) → clock ≡ Some second → second < 256 ^ 4
 
-number_some : (m n : ℕ) → Some m ≡ Some n → m ≡ n
-number_some m n e = cc
-
-number_none : (n : ℕ) → ◌≡◌ {A = Option ℕ} None (Some n) → ⊥
-number_none n e = cc
-
 added_clock : (book : Book) (order : Order) → ClockFits book.second → ClockFits (added book order).second
 added_clock book order fits = cond_both (order.quantity == 0) book (with_order book order.id order) (λ (b : Book). ClockFits b.second) (λ t. fits) (λ f. fits)
 
@@ -193,7 +201,7 @@ changed_clock : (book : Book) (id : ℕ) (change : Order → Order) → ClockFit
 changed_clock book id change fits = reformed_clock book id (option_map change (map.get book.orders id)) fits
 
 after_message_clock : (book : Book) (message : Message) → FitsMessage message → ClockFits book.second → ClockFits (after_message book message).second
-after_message_clock book (Time second) fits C = λ n e. subst (λ (k : ℕ). k < 256 ^ 4) (number_some second n e) fits
+after_message_clock book (Time second) fits C = λ n e. subst (λ (k : ℕ). k < 256 ^ 4) (same_Some second n e) fits
 after_message_clock book (UnitClear offset) fits C = C
 after_message_clock book (AddLong offset id side quantity symbol price flags) fits C = added_clock book _ C
 after_message_clock book (AddShort offset id side quantity symbol price flags) fits C = added_clock book _ C
@@ -227,4 +235,4 @@ folded_fits [] book all B = B
 folded_fits (raw ∷ raws) book all B = folded_fits raws (after book raw) all.1 (after_fits book raw all.0 B)
 
 pub book_after_fits : (raws : List (List ℕ)) → AllByRecursion AreBytes raws → IsWireBook (book_after raws)
-book_after_fits raws all = folded_fits raws empty_book all (record { clock = λ n e. absurd (number_none n e); orders = none_all Fits None })
+book_after_fits raws all = folded_fits raws empty_book all (record { clock = λ n e. absurd (none-some n e); orders = none_all Fits None })

@@ -28,7 +28,8 @@ abbrev pub is_spin_up : List Entry → Bool
 is_spin_up [] = false
 is_spin_up (entry ∷ E) = spin_end_at entry (is_spin_up E)
 
--- the Gap Request Proxy owes a reply: the last of the gap asks, the gap replies and its falls is an ask
+-- the Gap Request Proxy owes a reply: the last of the gap asks, the gap replies and its falls is an
+-- ask
 abbrev pub asked_at : Option Ask → Bool → Bool
 asked_at (Some (Gap first count)) owes = true
 asked_at ask owes = owes
@@ -83,12 +84,13 @@ abbrev pub is_idle : Spinning → Bool
 is_idle NoSpin = true
 is_idle spin = false
 
--- the messages from n + 1 to the one before the first that is held, or to the top where none is, but at most 100
+-- the messages from n + 1 to the one before the first that is held, or to the top where none is,
+-- but at most 100
 abbrev pub gap_ask : ℕ → Option ℕ → ℕ → Ask
 gap_ask n first top = Gap (n + 1) (min 100 (unwrap_or (option_map (λ k. k - 1) first) top - n))
 
--- an image through the advertised sequence is asked for: one is wanted or the Gap Request Proxy is not up, the Spin Server is
--- up and no spin is under way, and the image is above the reach
+-- an image through the advertised sequence is asked for: one is wanted or the Gap Request Proxy is
+-- not up, the Spin Server is up and no spin is under way, and the image is above the reach
 abbrev pub asks_spin : ℕ → List Entry → ℕ → ℕ → Bool
 asks_spin H E top advertised = (wants H E top || not (is_grp_up E)) && (is_spin_up E && (is_idle (spin_of E) && nat_lt (reach H E) advertised))
 

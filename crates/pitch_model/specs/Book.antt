@@ -78,7 +78,7 @@ long_symbol symbol = symbol ++ 32 ∷ 32 ∷ []
 
 -- a short price counts hundredths, and a long one ten-thousandths
 abbrev pub long_price : ℕ → ℕ
-long_price price = price * 100
+long_price price = 100 * price
 
 -- the orders of the three forms of an add
 abbrev pub order_of_long : ℕ → Side → ℕ → List ℕ → ℕ → ℕ → Order

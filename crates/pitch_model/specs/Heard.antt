@@ -12,8 +12,8 @@ use Rattle.pitch_model.specs.declared.item.Item.{Item}
 use Rattle.pitch_model.specs.declared.item.Item.TheVariants as item
 
 -- ---- Items
--- the item of a block: its messages, or what a heartbeat tells ("Heartbeat Messages"); sequence 0 means unsequenced
--- ("Sequenced Unit Header")
+-- the item of a block: its messages, or what a heartbeat tells ("Heartbeat Messages"); sequence 0
+-- means unsequenced ("Sequenced Unit Header")
 abbrev pub IsItemOf : Block → Item → Type 0
 IsItemOf block (item.Messages first raws) = (0 < block.sequence) × (0 < length block.raws) × (first ≡ block.sequence) × (raws.items ≡ block.raws)
 IsItemOf block (item.Next next) = (0 < block.sequence) × (block.raws ≡ []) × (next ≡ block.sequence)
@@ -107,8 +107,8 @@ abbrev pub overflows_of : ℕ → List Entry → Item → ℕ
 overflows_of H E (item.Messages first raws) = overflowed_messages H first raws.items E
 overflows_of H E item = 0
 
--- what becomes of an image where the reach is n: a finished one above n is taken, another is stale; the count of a bad one
--- stops at the greatest number of 64 bits
+-- what becomes of an image where the reach is n: a finished one above n is taken, another is stale;
+-- the count of a bad one stops at the greatest number of 64 bits
 abbrev pub image_end_at : ℕ → List (ℕ × List Raw) → List (ℕ × List Raw) → ImageEnd
 image_end_at n (image ∷ images) bad = cond (nat_lt n image.0) end.Taken end.Stale
 image_end_at n [] (image ∷ bad) = end.Bad image.0 (min (adds image.1) (2 ^ 64 - 1))

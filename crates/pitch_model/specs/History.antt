@@ -33,7 +33,8 @@ pub data Entry : Type 0 where
   Ticked : (ask : Option Ask) → Entry
 
 -- ---- The spin
--- no spin is under way, one was asked for, or one runs: through which sequence, how many orders it promised, and what came of it
+-- no spin is under way, one was asked for, or one runs: through which sequence, how many orders it
+-- promised, and what came of it
 pub data Spinning : Type 0 where
   NoSpin : Spinning
   Asked : (sequence : ℕ) → Spinning
@@ -52,7 +53,8 @@ abbrev pub spin_asked : Option Ask → Spinning → Spinning
 spin_asked (Some (Spin sequence)) spin = Asked sequence
 spin_asked ask spin = spin
 
--- a promise that can be kept: messages up to a sequence leave at most as many orders, and the last sequence is 4,294,967,294
+-- a promise that can be kept: messages up to a sequence leave at most as many orders, and the last
+-- sequence is 4,294,967,294
 abbrev pub can_promise : ℕ → ℕ → Bool
 can_promise sequence orders = nat_le orders sequence && nat_le orders 4294967294
 

@@ -11,7 +11,8 @@ message_at V (suc k) = slice_get V k
 abbrev pub AreVenues : List Raw → ℕ → List Raw → Type 0
 AreVenues V first raws = (i : ℕ) (raw : Raw) → slice_get raws i ≡ Some raw → message_at V (first + i) ≡ Some raw
 
--- `Image V s` are the raws of the image through s, and V are the messages that the venue has accepted
+-- `Image V s` are the raws of the image through s, and V are the messages that the venue has
+-- accepted
 module _ (Image : List Raw → ℕ → List Raw) (V : List Raw) where
   -- an image that is finished is the venue's
   abbrev pub AreImages : List (ℕ × List Raw) → Type 0

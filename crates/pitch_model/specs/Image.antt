@@ -13,9 +13,13 @@ clock_of None = []
 clock_of (Some second) = Time second ∷ []
 
 -- the clock, and then the add of each open order with offset 0, by rising id
-abbrev pub messages_of : Book → List Message
-messages_of book = clock_of book.second ++ map (λ order. add_message order 0) (orders_of book)
+abbrev pub image_messages : Book → List Message
+image_messages book = clock_of book.second ++ map (λ order. add_message order 0) (orders_of book)
+
+-- the image of a book: the bytes of these messages
+unfoldable pub image_of : Book → List (List ℕ)
+image_of book = map written (image_messages book)
 
 -- the image through a sequence: that of the book which the messages up to it leave
 unfoldable pub image : List (List ℕ) → ℕ → List (List ℕ)
-image V sequence = map written (messages_of (book_after (take sequence V)))
+image V sequence = image_of (book_after (take sequence V))

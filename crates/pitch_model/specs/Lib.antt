@@ -10,8 +10,6 @@ pub mod Status
 pub mod Heard
 pub mod Honest
 pub mod Asking
-pub mod StatusText
-pub mod BookText
-pub mod Follow
-pub mod Show
-pub mod Texts
+pub mod Units
+pub mod Datagrams
+pub mod Advertising

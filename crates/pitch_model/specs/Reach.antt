@@ -3,8 +3,9 @@ use Rattle.std.specs.Prelude.{◌≡◌, ℕ, zero, suc, ◌≤◌, ◌<◌, Boo
 use Rattle.std.specs.Set.{is_member, distinct_count}
 use Rattle.pitch_model.specs.History.{Entry, images_at, messages_at, spin_of}
 
--- what was heard since the hold last overflowed: where the reach stood then, the sequences of the images that
--- were finished since, and those of the messages that came since, the one that overflowed included
+-- what was heard since the hold last overflowed: where the reach stood then, the sequences of the
+-- images that were finished since, and those of the messages that came since, the one that
+-- overflowed included
 pub record Part : Type 0 where
   pub base : ℕ
   pub images : List ℕ

@@ -5,8 +5,8 @@ use Rattle.pitch_model.specs.Reach.{reach, sequences}
 use Rattle.pitch_model.specs.declared.status.Status.{Status}
 use Rattle.pitch_model.specs.declared.status.Status.TheVariants.{Silent, Current, Behind}
 
--- the sequence that an entry tells of, as a list of one or none: a message's, the one before a heartbeat's next,
--- an advertised one, a finished image's
+-- the sequence that an entry tells of, as a list of one or none: a message's, the one before a
+-- heartbeat's next, an advertised one, a finished image's
 abbrev pub told_at : List Entry → Entry → List ℕ
 told_at E (Message sequence raw) = sequence ∷ []
 told_at E (Next next) = (next - 1) ∷ []

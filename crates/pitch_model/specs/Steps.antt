@@ -14,14 +14,16 @@ pub record Leaves (H : ℕ) (E : List Entry) (entry : Entry) (overflow : Bool) (
   pub reach_is : reach H (entry ∷ E) ≡ n
   pub held_are : (k : ℕ) → is_held H (entry ∷ E) k ≡ held k
 
--- the reach of a part is at least `from`; all that is between was held, and what follows was not; those beyond are still held
+-- the reach of a part is at least `from`; all that is between was held, and what follows was not;
+-- those beyond are still held
 pub record RunsOn (P : Part) (from : ℕ) (held : ℕ → Bool) : Type 0 where
   pub up : from ≤ reach_of P
   pub run : (j : ℕ) → from < j → j ≤ reach_of P → held j ≡ true
   pub stop : held (reach_of P + 1) ≡ false
   pub rest : (k : ℕ) → (nat_lt (reach_of P) k && is_seen P k) ≡ (nat_lt (reach_of P) k && held k)
 
--- the hold does not overflow with the entry; the reach rises to `from`, and on through the messages that were held behind it without a break
+-- the hold does not overflow with the entry; the reach rises to `from`, and on through the messages
+-- held that follow it without a break
 pub record Drains (H : ℕ) (E : List Entry) (entry : Entry) (from : ℕ) : Type 0 where
   pub calm : is_overflow H E entry ≡ false
   pub runs : RunsOn (part_of H (entry ∷ E)) from (is_held H E)

@@ -1,16 +1,20 @@
 -- Orders whose fields have the widths of the wire.
 use Rattle.std.specs.Prelude.{◌≡◌, ℕ, ◌<◌, ◌^◌, length, Some}
 use Rattle.std.specs.FinMap as map
+use Rattle.pitch_fields.specs.Fields.{AreBytes}
 use Rattle.pitch_messages.specs.declared.order.Order.{Order}
 use Rattle.pitch_model.specs.Book.{Book}
 
--- an id and a price of eight bytes, a quantity of four, a symbol of eight and a participant of four
+-- an id and a price of eight bytes, a quantity of four, a symbol of eight bytes and a participant
+-- of four
 pub record FitsWire (order : Order) : Type 0 where
   pub id : order.id < 256 ^ 8
   pub quantity : order.quantity < 256 ^ 4
   pub symbol : length order.symbol ≡ 8
   pub price : order.price < 256 ^ 8
   pub participant : length order.participant ≡ 4
+  pub symbol_bytes : AreBytes order.symbol
+  pub participant_bytes : AreBytes order.participant
 
 -- a second of four bytes, where one is known, and open orders of these widths
 pub record IsWireBook (book : Book) : Type 0 where

@@ -1,4 +1,7 @@
+ghost use Rattle.pitch_model.specs.Heard.{IsItem, IsItemOf};
+
 use pitch_messages::RawList;
+use unit_packets::Block;
 
 /// What one unit's client hears.
 #[derive(Drop)]
@@ -46,4 +49,29 @@ pub enum Item {
     SpinFinished {
         sequence: u32,
     },
+}
+
+impl Item {
+    /// The item of a block: its messages, which are moved; where it has none, what a heartbeat
+    /// tells; nothing, where it is unsequenced.
+    ///
+    /// Standard: "Sequenced Unit Header", "Heartbeat Messages".
+    pub fn of_block(block: Block) -> Item
+        ensures item { IsItemOf block result }
+        ensures fits { IsItem result }
+    {
+        let Block { header, raws } = block;
+        if header.sequence == 0 {
+            return Item::Nothing;
+        }
+        if header.count == 0 {
+            return Item::Next {
+                next: header.sequence,
+            };
+        }
+        Item::Messages {
+            first: header.sequence,
+            raws,
+        }
+    }
 }

@@ -1,4 +1,5 @@
-//! What a client of the feed hears, knows, asks and prints, as definitions, with the types that they speak of.
+//! What a client of the feed hears, knows and asks, as definitions, with the types that they speak
+//! of.
 #![tactic(auto)]
 
 mod ask;

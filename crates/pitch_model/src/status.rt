@@ -1,5 +1,3 @@
-ghost use Rattle.std.specs.Prelude.{Some};
-
 /// How far a client is.
 #[derive(Clone, Copy, Debug, PartialEq, Eq)]
 pub enum Status {
@@ -9,18 +7,4 @@ pub enum Status {
     Current { n: u32 },
     /// It has every message up to `n`, and was told of `top`.
     Behind { n: u32, top: u32 },
-}
-
-impl std::fmt::Display for Status {
-    ghost use Rattle.pitch_model.specs.StatusText.{status_text};
-
-    ghost output = { λ s. Some (status_text s) };
-
-    fn fmt<W: std::fmt::Write>(&self, f: &mut std::fmt::Formatter<W>) -> std::fmt::Result {
-        match self {
-            Status::Silent => write!(f, "silent"),
-            Status::Current { n } => write!(f, "current {n}"),
-            Status::Behind { n, top } => write!(f, "behind {n} of {top}"),
-        }
-    }
 }

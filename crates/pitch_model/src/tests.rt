@@ -1,22 +1,40 @@
-use crate::Status;
-use std::fmt::Write;
+use crate::Item;
+use pitch_messages::{Raw, RawList};
+use unit_packets::{Block, Header};
 
 #[test]
-fn each_status_is_printed(rt: HostRuntime) {
-    let cases = [
-        (Status::Silent, "silent"),
-        (Status::Current { n: 0 }, "current 0"),
-        (
-            Status::Behind {
-                n: 1,
-                top: 4294967294,
-            },
-            "behind 1 of 4294967294",
-        ),
-    ];
-    for (status, wanted) in cases {
-        let mut text = String::new(rt.alloc());
-        write!(text, "{status}").expect(&rt, "memory");
-        assert_eq!(rt; text.as_str(), wanted);
-    }
+fn each_kind_of_block_has_its_item(rt: HostRuntime) {
+    let mut raws = RawList::make(rt.alloc());
+    let raw = Raw::from_bytes(b"\x03\x99\x07").expect(&rt, "a raw");
+    raws.push(&raw).expect(&rt, "memory");
+    let header = Header {
+        length: 11,
+        count: 1,
+        unit: 1,
+        sequence: 7,
+    };
+    let item = Item::of_block(Block { header, raws });
+    assert!(rt; matches!(item, Item::Messages { first: 7, ref raws } if raws.len() == 1));
+
+    let heartbeat = Header {
+        length: 8,
+        count: 0,
+        unit: 1,
+        sequence: 8,
+    };
+    let item = Item::of_block(Block {
+        header: heartbeat,
+        raws: RawList::make(rt.alloc()),
+    });
+    assert!(rt; matches!(item, Item::Next { next: 8 }));
+
+    let unsequenced = Header {
+        sequence: 0,
+        ..heartbeat
+    };
+    let item = Item::of_block(Block {
+        header: unsequenced,
+        raws: RawList::make(rt.alloc()),
+    });
+    assert!(rt; matches!(item, Item::Nothing));
 }

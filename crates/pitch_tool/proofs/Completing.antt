@@ -1,46 +1,77 @@
--- A sound input is done whole.
-use Rattle.std.proofs.Common.{◌≡◌, ◌⊎◌, inl, inr, ℕ, List, refl, sym, ap, ◌∙◌, subst, Option, None, Some, Err}
+-- A sound input is done whole, and a faulty one is refused.
+use Rattle.std.proofs.Common.{◌≡◌, ◌⊎◌, inl, inr, ℕ, List, refl, sym, ap, ◌∙◌, subst, Option, None, Some, Ok, Err, Result, length, nat_lt, cond, ◌≤◌}
+use Rattle.std.proofs.lemmas.Bool.{le-ltb}
+use Rattle.std.specs.Result.{result_err}
 use Rattle.pitch_words.specs.Forms.{IsForm}
 use Rattle.pitch_words.specs.declared.form.Form.{Form}
-use Rattle.pitch_words.specs.declared.form.Form.TheVariants as form
 use Rattle.pitch_words.proofs.Exact.{at_most_one}
-use Rattle.pitch_tool.specs.Inputs.{Has, trouble_of}
-use Rattle.pitch_tool.specs.Packs.{text_trouble_of}
-use Rattle.pitch_tool.specs.Program.{Closes, EndsAs, IsSound, IsWhole}
-use Rattle.pitch_tool.specs.declared.pack.TheConstants.{TEXT_LIMIT}
-use Rattle.pitch_tool.specs.declared.stream.TheConstants.{INPUT_LIMIT}
+use Rattle.stream_print.specs.Inputs.{Has, AreAll, stream_limit, trouble_of}
+use Rattle.pitch_tool.specs.Devices.{Run, HasFaulted}
+use Rattle.pitch_tool.specs.Jobs.{job_of, JobEnds, Judges, blocks_trouble}
+use Rattle.pitch_tool.specs.Program.{Closes, Does, HasCauses, IsWhole, IsRefusal}
+use Rattle.pitch_tool.specs.TextForms.{text_limit, text_trouble, made}
+use Rattle.pitch_tool.specs.declared.failure.Failure.TheVariants as ending
+use Rattle.pitch_tool.specs.declared.failure.Trouble.{Trouble}
+use Rattle.pitch_tool.specs.declared.failure.Trouble.TheVariants.{Blocks, LongText, Commands}
+use Rattle.pitch_tool.specs.declared.job.Job.{Job}
+use Rattle.pitch_tool.specs.declared.job.Job.TheVariants.{Stream, Text}
 use Rattle.pitch_tool.specs.declared.status.ExitStatus.{ExitStatus}
 use Rattle.pitch_tool.specs.declared.status.ExitStatus.TheVariants.{Done, Usage, BadInput, ReadFault, WriteFault, OutOfMemory}
-use Rattle.pitch_tool.specs.declared.stop.Stop.TheVariants as stop
-use Rattle.pitch_tool.specs.declared.stop.Trouble.{Trouble}
+use Rattle.stream_print.specs.Told.{Told}
 
--- what a source told is what it has
-same_bytes : (left : Option (List ℕ)) (bytes others : List ℕ) → left ≡ Some bytes → Has left others → bytes ≡ others
-same_bytes left bytes others is has = subst (λ (o : Option (List ℕ)). Has o others) is has
+-- what a source told is what it has, and what was read whole
+same_bytes : (left : Option (List ℕ)) (bytes others : List ℕ) → left ≡ Some bytes → Has left others → others ≡ bytes
+same_bytes left bytes others is has = sym (subst (λ (o : Option (List ℕ)). Has o others) is has)
 
-no_trouble : (o : Option Trouble) (trouble : Trouble) → o ≡ None → o ≡ Some trouble → ⊥
-no_trouble o trouble none some = clash (sym none ∙ some)
+all_bytes : (left left' : Option (List ℕ)) (bytes others : List ℕ) → left ≡ Some bytes → AreAll left left' others → others ≡ bytes
+all_bytes left left' bytes others is read = sym ((subst (λ (o : Option (List ℕ)). AreAll o left' others) is read).0)
+
+clash : (o : Option Trouble) (trouble : Trouble) → o ≡ None → o ≡ Some trouble → ⊥
+clash o trouble none some = no (sym none ∙ some)
   where
-    clash : ◌≡◌ {A = Option Trouble} None (Some trouble) → ⊥
-    clash e = cc
+    no : ◌≡◌ {A = Option Trouble} None (Some trouble) → ⊥
+    no e = cc
 
--- a sound input is not refused
-not_refused : (f : Form) (trouble : Trouble) (left left' written written' : Option (List ℕ)) (bytes : List ℕ) → left ≡ Some bytes → IsSound f bytes
-    → EndsAs f (Err (stop.BadInput trouble)) left left' written written' → ⊥
-not_refused (form.Follow hold) trouble left left' written written' bytes is sound r =
-    no_trouble (trouble_of INPUT_LIMIT r.bytes) trouble (ap (trouble_of INPUT_LIMIT) (sym (same_bytes left bytes r.bytes is r.has)) ∙ sound) r.trouble_is
-not_refused form.Show trouble left left' written written' bytes is sound r =
-    no_trouble (trouble_of INPUT_LIMIT r.bytes) trouble (ap (trouble_of INPUT_LIMIT) (sym (same_bytes left bytes r.bytes is r.has)) ∙ sound) r.trouble_is
-not_refused (form.Pack unit) trouble left left' written written' bytes is sound r =
-    no_trouble (text_trouble_of unit TEXT_LIMIT r.text) trouble (ap (text_trouble_of unit TEXT_LIMIT) (sym (same_bytes left bytes r.text is r.has)) ∙ sound) r.trouble_is
+-- ---- A sound input is not refused
+not_refused : (job : Job) (trouble : Trouble) (input out : Told) → Judges job input.old None → JobEnds job (Err (ending.BadInput trouble)) input out → ⊥
+not_refused (Stream form) (Blocks trouble) input out sound r =
+    clash (blocks_trouble (trouble_of stream_limit r.bytes)) (Blocks trouble)
+    (ap (λ (l : List ℕ). blocks_trouble (trouble_of stream_limit l)) (same_bytes input.old sound.0 r.bytes sound.1 r.has) ∙ sound.2) (ap blocks_trouble r.trouble_is)
+not_refused (Stream form) LongText input out sound r = r
+not_refused (Stream form) (Commands error) input out sound r = r
+not_refused (Text form) trouble input out sound r =
+    clash (text_trouble form text_limit r.text) trouble (ap (text_trouble form text_limit) (same_bytes input.old sound.0 r.text sound.1 r.has) ∙ sound.2) r.trouble_is
 
-pub closes_whole : (words : List (List ℕ)) (status : ExitStatus) (left left' written written' : Option (List ℕ)) (says : List ℕ → Type 0) (f : Form) (bytes : List ℕ) (read write : Type 0)
-    → Closes words status left left' written written' says → (status ≡ ReadFault → read) → (status ≡ WriteFault → write) → IsForm words f → left ≡ Some bytes → IsSound f bytes → read ⊎ (write ⊎ IsWhole status)
-closes_whole words Done left left' written written' says f bytes read write closes reads writes is told sound = inr (inr tt)
-closes_whole words OutOfMemory left left' written written' says f bytes read write closes reads writes is told sound = inr (inr tt)
-closes_whole words ReadFault left left' written written' says f bytes read write closes reads writes is told sound = inl (reads refl)
-closes_whole words WriteFault left left' written written' says f bytes read write closes reads writes is told sound = inr (inl (writes refl))
-closes_whole words Usage left left' written written' says f bytes read write closes reads writes is told sound = absurd (closes.0 f is)
-closes_whole words BadInput left left' written written' says f bytes read write (trouble, g, is_g, ends, said) reads writes is told sound =
-    absurd (not_refused f trouble left left' written written' bytes told sound
-    (subst (λ (h : Form). EndsAs h (Err (stop.BadInput trouble)) left left' written written') (at_most_one words g f is_g is) ends))
+pub closes_whole : (words : List (List ℕ)) (status : ExitStatus) (run : Run) (form : Form) → Closes words status run → HasCauses status run → IsForm words form → Judges (job_of form) run.input.bytes.old None
+    → HasFaulted run.input ⊎ (HasFaulted run.out ⊎ IsWhole status)
+closes_whole words Done run form closes causes is sound = inr (inr (inl refl))
+closes_whole words OutOfMemory run form closes causes is sound = inr (inr (inr refl))
+closes_whole words ReadFault run form closes causes is sound = inl (causes.read.rose refl)
+closes_whole words WriteFault run form closes causes is sound = inr (inl (causes.write.rose refl))
+closes_whole words Usage run form closes causes is sound = absurd (closes.0 form is)
+closes_whole words BadInput run form (trouble, does, said) causes is sound =
+    absurd (not_refused (job_of form) trouble run.input.bytes run.out.bytes sound
+    (subst (λ (f : Form). JobEnds (job_of f) (Err (ending.BadInput trouble)) run.input.bytes run.out.bytes) (at_most_one words does.0 form does.1 is) does.2))
+
+-- ---- A faulty input is not done
+not_done : (job : Job) (trouble : Trouble) (input out : Told) → Judges job input.old (Some trouble) → JobEnds job (Ok tt) input out → ⊥
+not_done (Stream form) trouble input out wrong r =
+    clash (blocks_trouble (trouble_of stream_limit r.bytes)) trouble (ap blocks_trouble r.sound)
+    (ap (λ (l : List ℕ). blocks_trouble (trouble_of stream_limit l)) (all_bytes input.old input.new wrong.0 r.bytes wrong.1 r.read) ∙ wrong.2)
+not_done (Text form) trouble input out wrong r =
+    let text : List ℕ = r.makes.text in
+    let none : text_trouble form text_limit text ≡ None =
+    ap (λ b. cond b (Some LongText) (result_err (made form text))) (le-ltb text_limit (length text) r.makes.small) ∙ ap result_err r.makes.made_is in
+    clash (text_trouble form text_limit text) trouble none
+    (ap (text_trouble form text_limit) (all_bytes input.old input.new wrong.0 text wrong.1 r.makes.read) ∙ wrong.2)
+
+pub closes_refused : (words : List (List ℕ)) (status : ExitStatus) (run : Run) (form : Form) (trouble : Trouble) → Closes words status run → HasCauses status run → IsForm words form
+    → Judges (job_of form) run.input.bytes.old (Some trouble) → HasFaulted run.input ⊎ (HasFaulted run.out ⊎ IsRefusal status)
+closes_refused words BadInput run form trouble closes causes is wrong = inr (inr (inl refl))
+closes_refused words OutOfMemory run form trouble closes causes is wrong = inr (inr (inr refl))
+closes_refused words ReadFault run form trouble closes causes is wrong = inl (causes.read.rose refl)
+closes_refused words WriteFault run form trouble closes causes is wrong = inr (inl (causes.write.rose refl))
+closes_refused words Usage run form trouble closes causes is wrong = absurd (closes.0 form is)
+closes_refused words Done run form trouble (f, is_f, ends) causes is wrong =
+    absurd (not_done (job_of form) trouble run.input.bytes run.out.bytes wrong
+    (subst (λ (g : Form). JobEnds (job_of g) (Ok tt) run.input.bytes run.out.bytes) (at_most_one words f form is_f is) ends))

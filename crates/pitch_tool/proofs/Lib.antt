@@ -1,14 +1,2 @@
-pub mod Booking
-pub mod Feeding
-pub mod Finishing
-pub mod Flow
-pub mod Fronts
-pub mod Hearing
-pub mod Keeping
-pub mod Naming
-pub mod Printing
-pub mod Streaming
-pub mod Taking
-pub mod Uniting
-pub mod Showing
 pub mod Completing
+pub mod Jobs

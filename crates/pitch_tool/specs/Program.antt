@@ -1,34 +1,30 @@
--- The program: what it writes, and how it ends.
+-- The program: what it says, and how it ends.
 use Rattle.std.specs.Prelude.{◌≡◌, ℕ, List, ◌++◌, codes, Option, None, Result, Ok, Err, ◌⊎◌}
+use Rattle.pitch_io.specs.Causes.{HasCause}
 use Rattle.pitch_words.specs.Forms.{IsForm}
 use Rattle.pitch_words.specs.declared.form.Form.{Form}
-use Rattle.pitch_words.specs.declared.form.Form.TheVariants as form
 use Rattle.unit_packets.specs.Causes.{fault_text}
-use Rattle.command_feed.specs.Causes.{feed_error_text}
-use Rattle.pitch_tool.specs.Inputs.{trouble_of, Ends, WritesFront}
-use Rattle.pitch_tool.specs.Packs.{text_trouble_of, PackEnds}
-use Rattle.pitch_tool.specs.declared.pack.TheConstants.{TEXT_LIMIT}
-use Rattle.pitch_tool.specs.declared.stream.TheConstants.{INPUT_LIMIT}
-use Rattle.pitch_tool.specs.declared.stream_form.StreamForm.TheVariants.{Follow, Show}
-use Rattle.pitch_tool.specs.declared.stop.PrintError.TheVariants.{PutFailed}
-use Rattle.pitch_tool.specs.declared.stop.Stop.{Stop}
-use Rattle.pitch_tool.specs.declared.stop.Stop.TheVariants as stop
-use Rattle.pitch_tool.specs.declared.program.Ending.{Ending}
-use Rattle.pitch_tool.specs.declared.program.Ending.TheVariants as ending
+use Rattle.command_feed.specs.Causes.{command_error_text}
+use Rattle.stream_print.specs.Told.{Told, IsUntouched}
+use Rattle.stream_print.specs.declared.failure.StreamTrouble.TheVariants.{Faulty, TooLong}
+use Rattle.pitch_tool.specs.Devices.{Run, Says}
+use Rattle.pitch_tool.specs.Jobs.{job_of, JobEnds}
+use Rattle.pitch_tool.specs.declared.failure.Failure.{Failure}
+use Rattle.pitch_tool.specs.declared.failure.Failure.TheVariants as ending
+use Rattle.pitch_tool.specs.declared.failure.Trouble.{Trouble}
+use Rattle.pitch_tool.specs.declared.failure.Trouble.TheVariants.{Blocks, LongText, Commands}
 use Rattle.pitch_tool.specs.declared.status.ExitStatus.{ExitStatus}
 use Rattle.pitch_tool.specs.declared.status.ExitStatus.TheVariants.{Done, Usage, BadInput, ReadFault, WriteFault, OutOfMemory}
-use Rattle.pitch_tool.specs.declared.stop.Trouble.{Trouble}
-use Rattle.pitch_tool.specs.declared.stop.Trouble.TheVariants.{Faulty, TooLong, LongText, Unfed}
 
--- ---- What stands on the error line
+-- ---- What is said on the error line
 abbrev pub usage_text : List ℕ
 usage_text = codes "pitch: usage: follow | show | pack | replay | storm | drill | demo\n"
 
 abbrev pub trouble_text : Trouble → List ℕ
-trouble_text (Faulty fault) = codes "pitch: bad input at " ++ (fault_text fault ++ codes "\n")
-trouble_text TooLong = codes "pitch: input is longer than 1073741824 bytes\n"
+trouble_text (Blocks (Faulty fault)) = codes "pitch: bad input at " ++ (fault_text fault ++ codes "\n")
+trouble_text (Blocks TooLong) = codes "pitch: input is longer than 1073741824 bytes\n"
 trouble_text LongText = codes "pitch: input is longer than 67108864 bytes\n"
-trouble_text (Unfed error) = codes "pitch: " ++ (feed_error_text error ++ codes "\n")
+trouble_text (Commands error) = codes "pitch: " ++ (command_error_text error ++ codes "\n")
 
 abbrev pub read_text : List ℕ
 read_text = codes "pitch: read fault\n"
@@ -40,52 +36,44 @@ abbrev pub memory_text : List ℕ
 memory_text = codes "pitch: out of memory\n"
 
 -- ---- How the program ends
--- how doing what a form asks for ends: what was read of the source, and written to the sink
-abbrev pub EndsAs : Form → Result (Unit {0}) Stop → (left left' written written' : Option (List ℕ)) → Type 0
-EndsAs (form.Follow hold) result left left' written written' = Ends (Follow hold) INPUT_LIMIT result left left' written written'
-EndsAs form.Show result left left' written written' = Ends Show INPUT_LIMIT result left left' written written'
-EndsAs (form.Pack unit) result left left' written written' = PackEnds unit TEXT_LIMIT result left left' written written'
+-- the words are no form
+abbrev pub IsNoForm : List (List ℕ) → Type 0
+IsNoForm words = (form : Form) → IsForm words form → ⊥
 
--- some front of what a form asks for was written; of `pack`, which writes nothing before it has all, nothing
-abbrev pub HasFront : Form → (left written written' : Option (List ℕ)) → Type 0
-HasFront (form.Follow hold) left written written' = WritesFront (Follow hold) left written written'
-HasFront form.Show left written written' = WritesFront Show left written written'
-HasFront (form.Pack unit) left written written' = written' ≡ written
+-- the words are a form, and its job ended so
+abbrev pub Does : List (List ℕ) → Result (Unit {0}) Failure → (input out : Told) → Type 0
+Does words result input out = (form : Form) × IsForm words form × JobEnds (job_of form) result input out
 
--- memory ran out: nothing was written, or a front of what the words ask for
-abbrev pub RunsOut : List (List ℕ) → (left written written' : Option (List ℕ)) → Type 0
-RunsOut words left written written' = (written' ≡ written) ⊎ ((form : Form) × IsForm words form × HasFront form left written written')
+-- memory ran out: before anything was read, during the job, or where an input was refused and the line that says so was made
+abbrev pub RunsOut : List (List ℕ) → (input out : Told) → Type 0
+RunsOut words input out = (IsUntouched input × IsUntouched out)
+    ⊎ (Does words (Err ending.OutOfMemory) input out ⊎ ((trouble : Trouble) × Does words (Err (ending.BadInput trouble)) input out))
 
--- how the program ends: what the words are, what was read of the source and written to the sink, and what was said on the
--- error line
-abbrev pub Closes : List (List ℕ) → ExitStatus → (left left' written written' : Option (List ℕ)) → (List ℕ → Type 0) → Type 0
-Closes words Done left left' written written' says = (form : Form) × IsForm words form × EndsAs form (Ok tt) left left' written written'
-Closes words Usage left left' written written' says = ((form : Form) → IsForm words form → ⊥) × (left' ≡ left) × (written' ≡ written) × says usage_text
-Closes words BadInput left left' written written' says =
-    (trouble : Trouble) × (form : Form) × IsForm words form × EndsAs form (Err (stop.BadInput trouble)) left left' written written' × says (trouble_text trouble)
-Closes words ReadFault left left' written written' says = (form : Form) × IsForm words form × EndsAs form (Err stop.ReadFailed) left left' written written' × says read_text
-Closes words WriteFault left left' written written' says = (form : Form) × IsForm words form × EndsAs form (Err (stop.Unprinted PutFailed)) left left' written written' × says write_text
-Closes words OutOfMemory left left' written written' says = RunsOut words left written written' × says memory_text
+-- how the program ends: what the words are, what was read and written, and what was said
+abbrev pub Closes : List (List ℕ) → ExitStatus → Run → Type 0
+Closes words Done run = Does words (Ok tt) run.input.bytes run.out.bytes
+Closes words Usage run = IsNoForm words × IsUntouched run.input.bytes × IsUntouched run.out.bytes × Says run.err usage_text
+Closes words BadInput run = (trouble : Trouble) × Does words (Err (ending.BadInput trouble)) run.input.bytes run.out.bytes × Says run.err (trouble_text trouble)
+Closes words ReadFault run = Does words (Err ending.Read) run.input.bytes run.out.bytes × Says run.err read_text
+Closes words WriteFault run = Does words (Err ending.Write) run.input.bytes run.out.bytes × Says run.err write_text
+Closes words OutOfMemory run = RunsOut words run.input.bytes run.out.bytes × Says run.err memory_text
+
+-- a status that tells of a device's failure has its cause in that device's count, and no count falls
+pub record HasCauses (status : ExitStatus) (run : Run) : Type 0 where
+  pub read : HasCause run.input.faults run.input.faults' (status ≡ ReadFault)
+  pub write : HasCause run.out.faults run.out.faults' (status ≡ WriteFault)
 
 -- how it ends before anything is said
-abbrev pub Runs : List (List ℕ) → Result (Unit {0}) Ending → (left left' written written' : Option (List ℕ)) → Type 0
-Runs words (Ok done) left left' written written' = (form : Form) × IsForm words form × EndsAs form (Ok tt) left left' written written'
-Runs words (Err ending.Usage) left left' written written' = ((form : Form) → IsForm words form → ⊥) × (left' ≡ left) × (written' ≡ written)
-Runs words (Err (ending.Stopped reason)) left left' written written' = (form : Form) × IsForm words form × EndsAs form (Err reason) left left' written written'
-Runs words (Err ending.OutOfMemory) left left' written written' = written' ≡ written
+abbrev pub RunEnds : List (List ℕ) → Result (Unit {0}) Failure → (input out : Told) → Type 0
+RunEnds words (Err ending.Usage) input out = IsNoForm words × IsUntouched input × IsUntouched out
+RunEnds words (Err ending.OutOfMemory) input out = (IsUntouched input × IsUntouched out) ⊎ Does words (Err ending.OutOfMemory) input out
+RunEnds words result input out = Does words result input out
 
 -- ---- Completeness
--- there is nothing wrong with the input of a form
-abbrev pub IsSound : Form → List ℕ → Type 0
-IsSound (form.Follow hold) bytes = trouble_of INPUT_LIMIT bytes ≡ None
-IsSound form.Show bytes = trouble_of INPUT_LIMIT bytes ≡ None
-IsSound (form.Pack unit) bytes = text_trouble_of unit TEXT_LIMIT bytes ≡ None
-
--- the program did all that it was asked for, or memory ran out
+-- the job was done whole, or memory ran out
 abbrev pub IsWhole : ExitStatus → Type 0
-IsWhole Done = Unit {0}
-IsWhole OutOfMemory = Unit {0}
-IsWhole Usage = ⊥
-IsWhole BadInput = ⊥
-IsWhole ReadFault = ⊥
-IsWhole WriteFault = ⊥
+IsWhole status = (status ≡ Done) ⊎ (status ≡ OutOfMemory)
+
+-- the input was refused, or memory ran out
+abbrev pub IsRefusal : ExitStatus → Type 0
+IsRefusal status = (status ≡ BadInput) ⊎ (status ≡ OutOfMemory)

@@ -1,21 +1,18 @@
-//! The program `pitch` as one call over words, a source and sinks.
+//! The program `pitch` as one call over words, a source and two sinks.
+//!
+//! `pitch` finds the form that the words are, does its job and answers the exit status. Each status has one sentence, `Closes`,
+//! on the words, on what was read and written, and on what was said. A job reads a stream of blocks or a text; a new command is
+//! a form of one of these, or a new job.
 #![tactic(auto)]
 
-mod books;
-mod ends;
-mod pack;
-mod page;
-mod printer;
+mod commands;
+mod failure;
+mod job;
 mod program;
-mod shown;
 mod status;
-mod stop;
-mod stream;
-mod stream_form;
-mod task;
 #[cfg(test)]
 mod tests;
-mod units;
+mod text;
 
 pub use crate::program::{pitch, say_out_of_memory};
 pub use crate::status::ExitStatus;

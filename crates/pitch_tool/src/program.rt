@@ -1,45 +1,42 @@
-ghost use Rattle.std.specs.Prelude.{◌≡◌, ◌⊎◌, ℕ, List, IfOk, Some, Err, map, string_bytes};
+ghost use Rattle.std.specs.Prelude.{◌≡◌, ◌⊎◌, List, ℕ, IfOk, Some, None, Err, map, string_bytes};
 ghost use Rattle.pitch_io.specs.Causes.{HasCause, Rose};
 ghost use Rattle.pitch_io.specs.Putting.{Grows};
-ghost use Rattle.pitch_words.specs.Forms.{IsForm, IsInRange};
+ghost use Rattle.pitch_words.specs.Forms.{IsForm};
 ghost use Rattle.pitch_words.specs.declared.form.Form.{Form};
-ghost use Rattle.pitch_tool.specs.Program.{memory_text, trouble_text, Closes, EndsAs, Runs, IsSound, IsWhole};
+ghost use Rattle.stream_print.specs.Told.{told, TakesAtMost};
+ghost use Rattle.pitch_tool.specs.Devices.{device};
+ghost use Rattle.pitch_tool.specs.Jobs.{CanDo, JobEnds, Judges, most_taken, job_of as the_job};
+ghost use Rattle.pitch_tool.specs.Program.{memory_text, trouble_text, RunEnds, Closes, HasCauses, IsWhole, IsRefusal};
 
-use crate::ends::put_all;
-use crate::pack::pack;
+use crate::failure::{Failure, Trouble};
+use crate::job::{Job, job_of};
 use crate::status::ExitStatus;
-use crate::stop::{PrintError, Stop, Trouble};
-use crate::stream::print_stream;
-use crate::stream_form::StreamForm;
+use crate::text::print_text;
 use pitch_fields::OutOfMemory;
 use pitch_io::{Sink, Source};
-use pitch_words::{Form, read};
+use pitch_words::read;
 use std::alloc::Global;
+use stream_print::{StreamTrouble, print_stream, put_all};
 
-/// Why the program ends before its whole text.
-#[derive(Clone, Copy, Debug, PartialEq, Eq)]
-pub enum Ending {
-    Usage,
-    Stopped(Stop),
-    OutOfMemory,
-}
-
-// Does what a form asks for.
-fn do_form<I: Source, O: Sink>(
+// Does a job.
+fn do_job<I: Source, O: Sink>(
     alloc: Global,
-    form: Form,
+    job: Job,
     input: &mut I,
     out: &mut O,
-) -> Result<(), Stop>
-    requires { IsInRange form }
-    ensures ends { EndsAs form result (I.left input.old) (I.left input.new) (O.written out.old) (O.written out.new) }
-    ensures read_cause { HasCause (I.faults input.old) (I.faults input.new) (result ≡ Err Stop.ReadFailed) }
-    ensures write_cause { HasCause (O.faults out.old) (O.faults out.new) (result ≡ Err (Stop.Unprinted PrintError.PutFailed)) }
+) -> Result<(), Failure>
+    requires { CanDo job }
+    ensures ends { JobEnds job result (told I.left input.old input.new) (told O.written out.old out.new) }
+    ensures reads { TakesAtMost (most_taken job) (told I.left input.old input.new) }
+    ensures read_cause { HasCause (I.faults input.old) (I.faults input.new) (result ≡ Err Failure.Read) }
+    ensures write_cause { HasCause (O.faults out.old) (O.faults out.new) (result ≡ Err Failure.Write) }
 {
-    match form {
-        Form::Follow { hold } => print_stream(alloc, StreamForm::Follow { hold }, input, out),
-        Form::Show => print_stream(alloc, StreamForm::Show, input, out),
-        Form::Pack { unit } => pack(alloc, unit, input, out),
+    match job {
+        Job::Stream(form) => {
+            print_stream(alloc, form, input, out)?;
+            Ok(())
+        }
+        Job::Text(form) => print_text(alloc, form, input, out),
     }
 }
 
@@ -49,18 +46,15 @@ fn run<I: Source, O: Sink>(
     words: &[String],
     input: &mut I,
     out: &mut O,
-) -> Result<(), Ending>
-    ensures runs { Runs (map string_bytes words.now) result (I.left input.old) (I.left input.new) (O.written out.old) (O.written out.new) }
-    ensures read_cause { HasCause (I.faults input.old) (I.faults input.new) (result ≡ Err (Ending.Stopped Stop.ReadFailed)) }
-    ensures write_cause { HasCause (O.faults out.old) (O.faults out.new) (result ≡ Err (Ending.Stopped (Stop.Unprinted PrintError.PutFailed))) }
+) -> Result<(), Failure>
+    ensures runs { RunEnds (map string_bytes words.now) result (told I.left input.old input.new) (told O.written out.old out.new) }
+    ensures reads { (form : Form) → IsForm (map string_bytes words.now) form → TakesAtMost (most_taken (the_job form)) (told I.left input.old input.new) }
+    ensures read_cause { HasCause (I.faults input.old) (I.faults input.new) (result ≡ Err Failure.Read) }
+    ensures write_cause { HasCause (O.faults out.old) (O.faults out.new) (result ≡ Err Failure.Write) }
 {
-    match read(alloc, words) {
-        Ok(Some(form)) => match do_form(alloc, form, input, out) {
-            Ok(()) => Ok(()),
-            Err(stop) => Err(Ending::Stopped(stop)),
-        },
-        Ok(None) => Err(Ending::Usage),
-        Err(_) => Err(Ending::OutOfMemory),
+    match read(alloc, words)? {
+        Some(form) => do_job(alloc, job_of(form), input, out),
+        None => Err(Failure::Usage),
     }
 }
 
@@ -83,8 +77,10 @@ fn trouble_line(alloc: Global, trouble: Trouble) -> Result<String, OutOfMemory>
     ensures { IfOk result (λ line. string_bytes line ≡ trouble_text trouble) }
 {
     match trouble {
-        Trouble::Faulty(fault) => Ok(format!(in alloc; "pitch: bad input at {fault}\n")?),
-        Trouble::TooLong => Ok(String::from_str(
+        Trouble::Blocks(StreamTrouble::Faulty(fault)) => {
+            Ok(format!(in alloc; "pitch: bad input at {fault}\n")?)
+        }
+        Trouble::Blocks(StreamTrouble::TooLong) => Ok(String::from_str(
             alloc,
             "pitch: input is longer than 1073741824 bytes\n",
         )?),
@@ -92,7 +88,7 @@ fn trouble_line(alloc: Global, trouble: Trouble) -> Result<String, OutOfMemory>
             alloc,
             "pitch: input is longer than 67108864 bytes\n",
         )?),
-        Trouble::Unfed(error) => Ok(format!(in alloc; "pitch: {error}\n")?),
+        Trouble::Commands(error) => Ok(format!(in alloc; "pitch: {error}\n")?),
     }
 }
 
@@ -104,22 +100,23 @@ fn close<I: Source, O: Sink, E: Sink>(
     out: &mut O,
     err: &mut E,
 ) -> ExitStatus
-    ensures ends { Closes (map string_bytes words.now) result (I.left input.old) (I.left input.new) (O.written out.old) (O.written out.new)
-        (λ text. Rose (E.faults err.old) (E.faults err.new) ⊎ Grows (E.written err.old) (E.written err.new) text) }
+    ensures ends { Closes (map string_bytes words.now) result
+        (record { input = device I.left I.faults input.old input.new; out = device O.written O.faults out.old out.new; err = device E.written E.faults err.old err.new }) }
     ensures quiet { result ≡ ExitStatus.Done → E.written err.new ≡ E.written err.old }
+    ensures reads { (form : Form) → IsForm (map string_bytes words.now) form → TakesAtMost (most_taken (the_job form)) (told I.left input.old input.new) }
     ensures read_cause { HasCause (I.faults input.old) (I.faults input.new) (result ≡ ExitStatus.ReadFault) }
     ensures write_cause { HasCause (O.faults out.old) (O.faults out.new) (result ≡ ExitStatus.WriteFault) }
 {
     match run(alloc, words, input, out) {
         Ok(()) => ExitStatus::Done,
-        Err(Ending::Usage) => {
+        Err(Failure::Usage) => {
             say(
                 err,
                 b"pitch: usage: follow | show | pack | replay | storm | drill | demo\n",
             );
             ExitStatus::Usage
         }
-        Err(Ending::Stopped(Stop::BadInput(trouble))) => match trouble_line(alloc, trouble) {
+        Err(Failure::BadInput(trouble)) => match trouble_line(alloc, trouble) {
             Ok(line) => {
                 say(err, line.as_bytes());
                 ExitStatus::BadInput
@@ -129,19 +126,15 @@ fn close<I: Source, O: Sink, E: Sink>(
                 ExitStatus::OutOfMemory
             }
         },
-        Err(Ending::Stopped(Stop::ReadFailed)) => {
+        Err(Failure::Read) => {
             say(err, b"pitch: read fault\n");
             ExitStatus::ReadFault
         }
-        Err(Ending::Stopped(Stop::Unprinted(PrintError::PutFailed))) => {
+        Err(Failure::Write) => {
             say(err, b"pitch: write fault\n");
             ExitStatus::WriteFault
         }
-        Err(Ending::Stopped(Stop::Unprinted(PrintError::OutOfMemory))) => {
-            say_out_of_memory(err);
-            ExitStatus::OutOfMemory
-        }
-        Err(Ending::OutOfMemory) => {
+        Err(Failure::OutOfMemory) => {
             say_out_of_memory(err);
             ExitStatus::OutOfMemory
         }
@@ -151,14 +144,14 @@ fn close<I: Source, O: Sink, E: Sink>(
 /// The program: does what the words ask for, and says on `err` why it ends before its whole text.
 ///
 /// `words` are those after the program's name: `follow`, and perhaps `--hold H` with H from 1 to 65,536 (4,096 where it
-/// isn't given), `show`, or `pack --unit U` with U from 1 to 255. The first two read a stream of Sequenced Unit Header blocks from `input`, at most `INPUT_LIMIT` bytes. `follow` writes to
-/// `out` a line for each block, and at the stream's end the books of all units that a block named; `show` writes a line for each block and
-/// for each message. `pack` reads venue commands, a text of at most `TEXT_LIMIT` bytes, and writes their datagrams, back to back,
-/// once the venue has accepted all.
+/// isn't given), `show`, or `pack --unit U` with U from 1 to 255. The first two read a stream of Sequenced Unit Header blocks
+/// from `input`, of at most 1,073,741,824 bytes. `follow` writes to `out` a line for each block, and at the stream's end the
+/// books of all units that a block named; `show` writes a line for each block and for each message. `pack` reads venue commands,
+/// a text of at most 67,108,864 bytes, and writes their datagrams, back to back, once the venue has accepted all.
 ///
-/// At `Done` the whole text was written and nothing was said. At `Usage` nothing was read or written. At `BadInput` the texts of the whole
-/// blocks before the trouble were written, and no book; by `pack` nothing was.
-/// Where there is nothing wrong with the words and the input, and no count of faults rose, the whole text was written, or memory ran out.
+/// At `Done` the whole text was written and nothing was said. At `Usage` nothing was read or written. At `BadInput` the texts of
+/// the whole blocks before the trouble were written, and no book; by `pack` nothing was. At `ReadFault` the source had failed,
+/// and at `WriteFault` the sink.
 pub fn pitch<I: Source, O: Sink, E: Sink>(
     alloc: Global,
     words: &[String],
@@ -166,13 +159,22 @@ pub fn pitch<I: Source, O: Sink, E: Sink>(
     out: &mut O,
     err: &mut E,
 ) -> ExitStatus
-    ensures ends { Closes (map string_bytes words.now) result (I.left input.old) (I.left input.new) (O.written out.old) (O.written out.new)
-        (λ text. Rose (E.faults err.old) (E.faults err.new) ⊎ Grows (E.written err.old) (E.written err.new) text) }
+    // What each status says of the words, of what was read and written, and of what was said.
+    ensures ends { Closes (map string_bytes words.now) result
+        (record { input = device I.left I.faults input.old input.new; out = device O.written O.faults out.old out.new; err = device E.written E.faults err.old err.new }) }
+    // Where all was done, nothing is said.
     ensures quiet { result ≡ ExitStatus.Done → E.written err.new ≡ E.written err.old }
-    ensures read_cause { HasCause (I.faults input.old) (I.faults input.new) (result ≡ ExitStatus.ReadFault) }
-    ensures write_cause { HasCause (O.faults out.old) (O.faults out.new) (result ≡ ExitStatus.WriteFault) }
-    ensures complete { (form : Form) (bytes : List ℕ) → IsForm (map string_bytes words.now) form → I.left input.old ≡ Some bytes → IsSound form bytes
+    // A read or a write fault was counted by its device.
+    ensures causes { HasCauses result
+        (record { input = device I.left I.faults input.old input.new; out = device O.written O.faults out.old out.new; err = device E.written E.faults err.old err.new }) }
+    // Whatever the status, the source was asked for no more than one byte past the limit of the form.
+    ensures reads { (form : Form) → IsForm (map string_bytes words.now) form → TakesAtMost (most_taken (the_job form)) (told I.left input.old input.new) }
+    // Where nothing is wrong with the words and the input and no device failed, the job was done whole, or memory ran out.
+    ensures complete { (form : Form) → IsForm (map string_bytes words.now) form → Judges (the_job form) (I.left input.old) None
         → Rose (I.faults input.old) (I.faults input.new) ⊎ (Rose (O.faults out.old) (O.faults out.new) ⊎ IsWhole result) }
+    // Where something is wrong with the input and no device failed, the input was refused, or memory ran out.
+    ensures refused { (form : Form) (trouble : Trouble) → IsForm (map string_bytes words.now) form → Judges (the_job form) (I.left input.old) (Some trouble)
+        → Rose (I.faults input.old) (I.faults input.new) ⊎ (Rose (O.faults out.old) (O.faults out.new) ⊎ IsRefusal result) }
 {
     close(alloc, words, input, out, err)
 }

@@ -1,6 +1,6 @@
 -- What a venue stands for once it has taken in the message of a command.
-use Rattle.std.proofs.Common.{◌≡◌, ℕ, ◌+◌, ◌-◌, Bool, true, false, ◌||◌, nat_le, List, [], ◌∷◌, ◌++◌, length, Option, None, Some, Ok, refl, sym, ap, ◌∙◌, arith, subst, length-append, length-drop, drop}
-use Rattle.std.specs.List.{slice_get}
+use Rattle.std.proofs.Common.{◌≡◌, ℕ, ◌+◌, ◌-◌, ◌≤◌, Bool, true, false, ◌||◌, nat_le, List, [], ◌∷◌, ◌++◌, length, Option, None, Some, Ok, refl, sym, ap, ◌∙◌, arith, subst, length-append, length-drop, drop}
+use Rattle.std.specs.List.{slice_get, AllByRecursion}
 use Rattle.std.specs.FinMap as map
 use Rattle.std.specs.Ordering.{nat_cmp}
 use Rattle.std.proofs.lemmas.Bool.{cond_both}
@@ -10,7 +10,9 @@ use Rattle.pitch_messages.specs.declared.order.Order.{Order}
 use Rattle.pitch_messages.specs.declared.message.Message.{Message}
 use Rattle.pitch_messages.specs.declared.message.Message.TheVariants.{ReduceLong, ReduceShort}
 use Rattle.pitch_messages.specs.Forms.{add_form, add_message, plain_symbol, short_price, trade_form, trade_message, reduce_message, modify_form, modify_message}
+use Rattle.pitch_fields.specs.Fields.{AreBytes}
 use Rattle.pitch_fields.specs.Name.{six_of}
+use Rattle.pitch_messages.specs.Raw.{IsRaw}
 use Rattle.pitch_messages.specs.Reading.{reads}
 use Rattle.pitch_model.specs.Book.{Book, empty_book, after}
 use Rattle.pitch_model.proofs.Books.{after_len}
@@ -19,7 +21,7 @@ use Rattle.pitch_text.specs.declared.command.Command.{Command}
 use Rattle.pitch_text.specs.declared.command.Command.TheVariants as commands
 use Rattle.venue_core.specs.Commands.{message_of, raw_of, ends_session}
 use Rattle.venue_core.specs.Refusals.{is_end, reads_end, is_ended}
-use Rattle.venue_core.specs.Standing.{VenueState, IsPossible, Advances}
+use Rattle.venue_core.specs.Standing.{VenueState, HaveMessages, Advances}
 use Rattle.venue_core.specs.Stands.{Stands, last_of}
 use Rattle.venue_core.specs.Waiting.{Waiting, Waits}
 
@@ -76,10 +78,15 @@ last_more accepted raw =
     let l : length (accepted ++ raw ∷ []) - 1 ≡ length accepted = omega (arith, length-append accepted (raw ∷ [])) in
     sym (ap (slice_get (accepted ++ raw ∷ [])) l ∙ last_there accepted raw)
 
+-- ---- All messages
+pub all_more : (P : List ℕ → Type 0) (messages : List (List ℕ)) (raw : List ℕ) → AllByRecursion P messages → P raw → AllByRecursion P (messages ++ raw ∷ [])
+all_more P [] raw all is = (is, tt)
+all_more P (m ∷ messages) raw all is = (all.0, all_more P messages raw all.1 is)
+
 -- ---- The whole venue
-pub stands_on : (old new : VenueState) (accepted : List (List ℕ)) (sent : ℕ) (command : Command) → Stands old accepted sent → Advances old command new → old.ended ≡ false → reads (raw_of command) ≡ Ok (message_of command)
+pub stands_on : (old new : VenueState) (accepted : List (List ℕ)) (sent : ℕ) (command : Command) → Stands old accepted sent → Advances old command new → old.ended ≡ false → old.pending.next ≤ 4294967294 → reads (raw_of command) ≡ Ok (message_of command)
     → Stands new (accepted ++ raw_of command ∷ []) sent
-stands_on old new accepted sent command stands advances goes_on known = record {
+stands_on old new accepted sent command stands advances goes_on room known = record {
   book = advances.book ∙ ap (λ (b : Book). after b (raw_of command)) stands.book ∙ sym (book_after-append accepted (raw_of command ∷ []));
   next = advances.next ∙ ap (λ (n : ℕ). n + 1) (stands.next ∙ sym (length-append accepted (raw_of command ∷ [])));
   ended = advances.ended ∙ ended_more accepted command (sym stands.ended ∙ goes_on) known;
@@ -89,6 +96,9 @@ stands_on old new accepted sent command stands advances goes_on known = record {
       let same : Waits new.pending new.unit (sent + 1) (drop sent accepted ++ raw_of command ∷ []) = subst (λ (u : ℕ). Waits new.pending u (sent + 1) (drop sent accepted ++ raw_of command ∷ [])) (sym advances.unit) waits in
       subst (Waits new.pending new.unit (sent + 1)) (sym (drop-append-le sent accepted (raw_of command ∷ []) stands.within)) same;
   within = let w = stands.within in omega (arith, w, length-append accepted (raw_of command ∷ []));
+  raws = all_more IsRaw accepted (raw_of command) stands.raws advances.raw;
+  bytes = all_more AreBytes accepted (raw_of command) stands.bytes advances.bytes;
+  few = let n = stands.next in omega (arith, n, room, length-append accepted (raw_of command ∷ []));
 }
 
 -- all that was accepted is sent
@@ -107,16 +117,19 @@ stands_sent venue pending accepted sent stands next sends = record {
       let none : drop (length accepted) accepted ≡ [] = drop_all (length accepted) accepted (omega arith) in
       subst (Waits pending venue.unit (length accepted + 1)) (sym none) (subst (λ (n : ℕ). Waits pending venue.unit n []) at waits);
   within = omega arith;
+  raws = stands.raws;
+  bytes = stands.bytes;
+  few = stands.few;
 }
 
 -- ---- What is possible
-pub none_possible : (book : Book) (pending : Waiting) (unit : ℕ) → book ≡ empty_book → Waits pending unit 1 [] → IsPossible book pending
+pub none_possible : (book : Book) (pending : Waiting) (unit : ℕ) → book ≡ empty_book → Waits pending unit 1 [] → HaveMessages book pending
 none_possible book pending unit empty waits =
     let l : map.len book.orders ≡ 0 = ap (λ (b : Book). map.len b.orders) empty ∙ map.len-empty nat_cmp Order in
     let n = waits.next_is in
     omega (arith, l, n)
 
-pub one_more_possible : (book new : Book) (pending waiting : Waiting) (raw : List ℕ) → IsPossible book pending → new ≡ after book raw → waiting.next ≡ pending.next + 1 → IsPossible new waiting
+pub one_more_possible : (book new : Book) (pending waiting : Waiting) (raw : List ℕ) → HaveMessages book pending → new ≡ after book raw → waiting.next ≡ pending.next + 1 → HaveMessages new waiting
 one_more_possible book new pending waiting raw possible applied next =
     let l : map.len new.orders ≡ map.len (after book raw).orders = ap (λ (b : Book). map.len b.orders) applied in
     let m = after_len book raw in

@@ -1,4 +1,5 @@
 pub mod Causes
+pub mod Coding
 pub mod Commands
 pub mod Refusals
 pub mod Standing

@@ -1,4 +1,5 @@
-//! The venue of one unit: which commands it accepts, which message each makes, and the datagrams that it sends.
+//! The venue of one unit: which commands it accepts, which message each makes, and the datagrams
+//! that it sends.
 #![tactic(auto)]
 
 mod error;

@@ -70,7 +70,7 @@ fn accept_all(
 }
 
 #[test]
-fn a_session(rt: HostRuntime) -> Result<(), Fail> {
+fn each_command_of_a_session_is_answered(rt: HostRuntime) -> Result<(), Fail> {
     let mut venue = Venue::make(rt.alloc(), 1);
     assert!(rt; venue.last_raw().is_none());
     for (text, expected) in SESSION {
@@ -98,7 +98,7 @@ const NAMES: [(&[u8; 8], &[u8; 4], bool); 9] = [
 ];
 
 #[test]
-fn names_of_adds(rt: HostRuntime) {
+fn an_add_needs_well_formed_names(rt: HostRuntime) {
     for (symbol, participant, allowed) in NAMES {
         let mut venue = Venue::make(rt.alloc(), 1);
         let order = Order {
@@ -123,20 +123,7 @@ fn names_of_adds(rt: HostRuntime) {
 }
 
 #[test]
-fn heartbeats(rt: HostRuntime) -> Result<(), Fail> {
-    let mut venue = Venue::make(rt.alloc(), 1);
-    let mut out = DatagramList::make(rt.alloc());
-    accept_all(&rt, rt.alloc(), &mut venue, "time 34200")?;
-    assert!(rt; venue.beat() == *b"\x08\0\0\x01\x01\0\0\0");
-    assert!(rt; venue.flush(&mut out) == Ok(1));
-    assert!(rt; venue.beat() == *b"\x08\0\0\x01\x02\0\0\0");
-    assert!(rt; venue.flush(&mut out) == Ok(0));
-    assert!(rt; out.len() == 1);
-    Ok(())
-}
-
-#[test]
-fn datagrams(rt: HostRuntime) -> Result<(), Fail> {
+fn adds_of_two_forms_share_a_datagram(rt: HostRuntime) -> Result<(), Fail> {
     let mut venue = Venue::make(rt.alloc(), 1);
     let mut out = DatagramList::make(rt.alloc());
     accept_all(
@@ -159,7 +146,7 @@ fn datagrams(rt: HostRuntime) -> Result<(), Fail> {
 }
 
 #[test]
-fn sent_in_turns(rt: HostRuntime) -> Result<(), Fail> {
+fn each_flush_sends_what_is_new(rt: HostRuntime) -> Result<(), Fail> {
     let mut venue = Venue::make(rt.alloc(), 1);
     let mut out = DatagramList::make(rt.alloc());
     accept_all(&rt, rt.alloc(), &mut venue, "time 34200\nbreak 7")?;
@@ -181,7 +168,7 @@ fn sent_in_turns(rt: HostRuntime) -> Result<(), Fail> {
 }
 
 #[test]
-fn full_datagrams(rt: HostRuntime) -> Result<(), Fail> {
+fn a_full_datagram_is_followed_by_another(rt: HostRuntime) -> Result<(), Fail> {
     let mut venue = Venue::make(rt.alloc(), 1);
     let mut out = DatagramList::make(rt.alloc());
     // 232 messages of 6 bytes fill a datagram of 1,400 bytes.

@@ -1,7 +1,7 @@
 use Rattle.std.proofs.Common.{◌≡◌, ◌++◌, ℕ, List, codes, sym, ap, ◌∙◌, refl}
 use Rattle.pitch_fields.specs.Name.{name_shown}
 use Rattle.pitch_messages.specs.declared.message.Message.{Message}
-use Rattle.pitch_model.specs.Show.{message_text, add_text, trade_text}
+use Rattle.feed_lines.specs.Show.{message_text, add_text, trade_text}
 use Rattle.feed_lines.specs.Terms.{shown}
 use Rattle.feed_lines.specs.declared.terms.Terms.{Terms}
 use Rattle.feed_lines.proofs.Pieces.{two}

@@ -1,4 +1,4 @@
-use Rattle.pitch_model.specs.Show.{message_line}
+use Rattle.feed_lines.specs.Show.{message_line}
 use Rattle.feed_lines.proofs.Pieces.{four}
 use Rattle.feed_lines.proofs.messages.put_message_line.Goals as goal
 

@@ -1,4 +1,4 @@
-use Rattle.pitch_model.proofs.Following.{units_rise, member-units_of}
+use Rattle.pitch_model.proofs.Units.{units_rise, member-units_of}
 use Rattle.pitch_model.proofs.laws.units_are_those_named.Goals as goal
 
 pub returns-clause-rise : goal.returns-clause-rise

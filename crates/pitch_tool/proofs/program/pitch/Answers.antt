@@ -1,7 +1,14 @@
 use Rattle.std.proofs.Common.{map, string_bytes}
-use Rattle.pitch_tool.proofs.Completing.{closes_whole}
+use Rattle.pitch_tool.proofs.Completing.{closes_whole, closes_refused}
 use Rattle.pitch_tool.proofs.program.pitch.Goals as goal
 
+pub returns-clause-causes : goal.returns-clause-causes
+returns-clause-causes g c = record { read = c.close.ensures.read_cause; write = c.close.ensures.write_cause }
+
 pub returns-clause-complete : goal.returns-clause-complete
-returns-clause-complete g c = λ form bytes is told sound.
-    closes_whole (map string_bytes c.args.words.now) c.close.result _ _ _ _ _ form bytes _ _ c.close.ensures.ends c.close.ensures.read_cause.rose c.close.ensures.write_cause.rose is told sound
+returns-clause-complete g c = λ form is sound.
+    closes_whole (map string_bytes c.args.words.now) c.close.result _ form c.close.ensures.ends (record { read = c.close.ensures.read_cause; write = c.close.ensures.write_cause }) is sound
+
+pub returns-clause-refused : goal.returns-clause-refused
+returns-clause-refused g c = λ form trouble is wrong.
+    closes_refused (map string_bytes c.args.words.now) c.close.result _ form trouble c.close.ensures.ends (record { read = c.close.ensures.read_cause; write = c.close.ensures.write_cause }) is wrong

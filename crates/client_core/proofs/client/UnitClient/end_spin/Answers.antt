@@ -2,7 +2,7 @@ use Rattle.std.proofs.Common.{List, [], ◌∷◌, refl, ap, ◌∙◌, subst, c
 use Rattle.pitch_model.specs.Book.{book_after}
 use Rattle.pitch_model.specs.History.{Entry, spin_of}
 use Rattle.pitch_model.specs.Honest.{AreImages}
-use Rattle.client_core.specs.Spinning.{Ends, FitsHeld}
+use Rattle.client_core.specs.Bookkeeping.{EndsSpin, FitsHeld}
 use Rattle.client_core.specs.Tracks.{Tracks, held_number}
 use Rattle.client_core.specs.declared.spinning.Finish.{Finish}
 use Rattle.client_core.specs.declared.spinning.Finish.TheVariants.{Image}
@@ -12,8 +12,8 @@ use Rattle.client_core.proofs.client.UnitClient.end_spin.Goals as goal
 pub take_image-taken-requires-clause-image : goal.take_image-taken-requires-clause-image
 take_image-taken-requires-clause-image c = (subst (λ (f : Finish). FitsHeld (held_number c.args.self.now) f) c.in-Image.is (c.finish.ensures.ready (held_number c.args.self.now) c.requires)).0
 
-ended : (c : goal.After-image_end_of) (H : ℕ) (E : List Entry) → Tracks c.args.self.now H E → Ends (Image c.in-Image.through c.in-Image.book) (spin_of E) c.args.sequence
-ended c H E T = subst (λ f. Ends f (spin_of E) c.args.sequence) c.in-Image.is (c.finish.ensures.ends (spin_of E) T.spin_is)
+ended : (c : goal.After-image_end_of) (H : ℕ) (E : List Entry) → Tracks c.args.self.now H E → EndsSpin (Image c.in-Image.through c.in-Image.book) (spin_of E) c.args.sequence
+ended c H E T = subst (λ f. EndsSpin f (spin_of E) c.args.sequence) c.in-Image.is (c.finish.ensures.ends (spin_of E) T.spin_is)
 
 pub returns-in-Image-clause-tracks : goal.returns-in-Image-clause-tracks
 returns-in-Image-clause-tracks c = λ H E T.
@@ -23,7 +23,7 @@ returns-in-Image-clause-tracks c = λ H E T.
     (c.finish.ensures.spin (spin_of E) T.spin_is) refl
 
 pub returns-in-Image-clause-keeps : goal.returns-in-Image-clause-keeps
-returns-in-Image-clause-keeps c = λ Image law V H E T honest K.
+returns-in-Image-clause-keeps c = λ Image V law H E T honest K.
     let end = ended c H E T in
     let is : AreImages Image V ((c.in-Image.through, end.0) ∷ []) = subst (AreImages Image V) end.1 honest in
-    c.take_image-taken.ensures.keeps V (end.2 ∙ ap book_after is.1 ∙ law V c.in-Image.through) K
+    c.take_image-taken.ensures.keeps V (end.2 ∙ ap book_after is.1 ∙ law c.in-Image.through) K

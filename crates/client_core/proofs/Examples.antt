@@ -1,0 +1,60 @@
+-- What `hear` promises of a book, at an image of this feed that is taken.
+use Rattle.std.proofs.Common.{◌≡◌, ℕ, List, [], ◌∷◌, Some, map, refl, sym, ap, ◌∙◌, arith, true}
+use Rattle.std.specs.List.{AllByRecursion}
+use Rattle.std.specs.Ordering.{nat_cmp}
+use Rattle.std.specs.FinMap as finite
+use Rattle.std.proofs.lemmas.List.{nil_from_length}
+use Rattle.pitch_messages.specs.declared.order.Order.{Order}
+use Rattle.pitch_messages.specs.declared.message.Message.TheVariants.{Time}
+use Rattle.pitch_messages.specs.Forms.{add_message}
+use Rattle.pitch_messages.specs.Writing.{written}
+use Rattle.pitch_messages.specs.Reading.{reads}
+use Rattle.pitch_model.specs.Book.{after}
+use Rattle.pitch_model.specs.History.{Entry, Raw, SpinUp, Advertised, Ticked, SpinReply, ImageMessages, SpinFinished}
+use Rattle.pitch_model.specs.Honest.{Honest}
+use Rattle.pitch_model.specs.Heard.{heard, image_end}
+use Rattle.pitch_model.specs.Image.{image}
+use Rattle.pitch_model.specs.Reach.{reach_of}
+use Rattle.pitch_model.specs.Widths.{AreBytes}
+use Rattle.pitch_model.specs.declared.ask.Ask.TheVariants.{Spin}
+use Rattle.pitch_model.specs.declared.change.ImageEnd.TheVariants.{Taken}
+use Rattle.pitch_model.specs.declared.item.Item.TheVariants as item
+use Rattle.pitch_model.proofs.Images.{image_book}
+use Rattle.client_core.specs.Items.{IsImage}
+use Rattle.client_core.specs.Tracks.{Tracks, Keeps}
+use Rattle.client_core.specs.declared.client.UnitClient.{UnitClient}
+
+-- a venue that has accepted one Time message, of 9:30
+abbrev opening : List (List ℕ)
+opening = (0x06 ∷ 0x20 ∷ 0x98 ∷ 0x85 ∷ 0 ∷ 0 ∷ []) ∷ []
+
+-- its image was advertised, asked for, promised with no orders, and received
+abbrev image_heard : List Entry
+image_heard = ImageMessages opening ∷ SpinReply 1 0 true ∷ Ticked (Some (Spin 1)) ∷ Advertised 1 ∷ SpinUp ∷ []
+
+bytes : AllByRecursion AreBytes opening
+bytes = ((omega arith, (omega arith, (omega arith, (omega arith, (omega arith, (omega arith, tt)))))), tt)
+
+abbrev nothing_open : finite.FinMap nat_cmp Order
+nothing_open = finite.empty
+
+no_orders : finite.values nothing_open ≡ []
+no_orders = ap (map (λ (e : ℕ × Order). e.1)) (nil_from_length (finite.entries nothing_open) (sym (finite.len-entries nothing_open) ∙ finite.len-empty nat_cmp Order))
+
+image_is : opening ≡ image opening 1
+unfolding after reads image written add_message
+image_is = ap (λ (orders : List Order). map written (Time 34200 ∷ map (λ order. add_message order 0) orders)) (sym no_orders)
+
+-- its end is honest, and the image is taken
+honest : Honest image opening (SpinFinished 1 ∷ image_heard)
+honest = ((omega arith, image_is), (tt, (tt, (tt, (omega arith, (tt, tt))))))
+
+taken : image_end 4 image_heard (item.SpinFinished 1) ≡ Taken
+unfolding reach_of
+taken = refl
+
+-- so the book that a client has after it is the venue's
+kept : (c c' : UnitClient) → Tracks c 4 image_heard → Keeps c opening
+    → ((Image : List Raw → ℕ → List Raw) (V : List Raw) → IsImage Image V → (H : ℕ) (E : List Entry) → Tracks c H E → Honest Image V (heard (item.SpinFinished 1) E) → Keeps c V → Keeps c' V)
+    → Keeps c' opening
+kept c c' T K hears = hears image opening (λ s. image_book opening s bytes) 4 image_heard T honest K

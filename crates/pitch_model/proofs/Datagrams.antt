@@ -1,0 +1,215 @@
+-- What is heard of datagrams, and which datagrams are a venue's.
+use Rattle.std.proofs.Common.{◌≡◌, ◌≢◌, ℕ, zero, suc, ◌+◌, ◌≤◌, ◌<◌, eqb, Bool, true, false, cond, List, [], ◌∷◌, ◌++◌, length, take, drop, filter, reverse, append_assoc, refl, sym, ap, ◌∙◌, subst, arith, Some, Ok, length-append, inl, inr}
+use Rattle.std.specs.List.{AllByRecursion, slice_get, sum_by}
+use Rattle.std.proofs.lemmas.Bool.{cond-false, ne_eqb}
+use Rattle.std.proofs.lemmas.List.{append-nil, drop_all, take-append-drop}
+use Rattle.std.proofs.lemmas.Grind.{reverse_onto}
+use Rattle.std.proofs.lemmas.List.Sums.{sum_by-cons}
+use Rattle.std.proofs.lemmas.Option.{slice_get_past, none-some}
+use Rattle.pitch_messages.specs.Raw.{raws_of}
+use Rattle.unit_packets.specs.Blocks.{Block, IsBlock}
+use Rattle.unit_packets.specs.BlockBytes.{block_bytes, heartbeat_block}
+use Rattle.unit_packets.specs.Cutting.{blocks_of, blocks_by, rest_of, rest_by}
+use Rattle.unit_packets.specs.Judging.{judge, header_of, block_at}
+use Rattle.unit_packets.specs.Packing.{IsPacking, sequence_after}
+use Rattle.unit_packets.specs.declared.header.Header.{Header}
+use Rattle.unit_packets.proofs.Cuts.{first_of}
+use Rattle.unit_packets.proofs.Judged.{front_stands, front_judged}
+use Rattle.unit_packets.proofs.Packs.{after_known}
+use Rattle.unit_packets.proofs.Written.{written_is}
+use Rattle.pitch_model.specs.Datagrams.{heard_blocks, block_messages, messages_in, fresh_in, overflows_in, changes_in, IsVenueBlock, IsPiece}
+use Rattle.pitch_model.specs.Heard.{heard_block, heard_messages, heard_sequenced, block_change, block_fresh, block_overflows, fresh_messages, overflowed_messages}
+use Rattle.pitch_model.specs.History.{Entry, Raw, Message}
+use Rattle.pitch_model.specs.Honest.{message_at, AreVenues, Honest}
+use Rattle.pitch_model.specs.declared.change.Change.{Change}
+use Rattle.pitch_model.proofs.Growing.{slice_more, venues_more}
+use Rattle.pitch_model.specs.Units.{unit_history}
+use Rattle.pitch_model.proofs.Hearing.{fresh_messages-le, overflowed_messages-le}
+use Rattle.pitch_model.proofs.Honesty.{venues_first, venues_rest}
+
+-- ---- Blocks one after another
+pub heard_both : (E : List Entry) (xs ys : List Block) → heard_blocks (xs ++ ys) E ≡ heard_blocks ys (heard_blocks xs E)
+heard_both E [] ys = refl
+heard_both E (x ∷ xs) ys = heard_both (heard_block x E) xs ys
+
+pub fresh_sum : (H : ℕ) (E : List Entry) (blocks : List Block) → fresh_in H E blocks ≡ sum_by (λ change. change.fresh) (changes_in H E blocks)
+fresh_sum H E [] = refl
+fresh_sum H E (block ∷ blocks) =
+    ap (λ (n : ℕ). block_fresh H E block + n) (fresh_sum H (heard_block block E) blocks)
+    ∙ sym (sum_by-cons (λ (change : Change). change.fresh) (block_change H E block) (changes_in H (heard_block block E) blocks))
+
+pub overflows_sum : (H : ℕ) (E : List Entry) (blocks : List Block) → overflows_in H E blocks ≡ sum_by (λ change. change.overflows) (changes_in H E blocks)
+overflows_sum H E [] = refl
+overflows_sum H E (block ∷ blocks) =
+    ap (λ (n : ℕ). block_overflows H E block + n) (overflows_sum H (heard_block block E) blocks)
+    ∙ sym (sum_by-cons (λ (change : Change). change.overflows) (block_change H E block) (changes_in H (heard_block block E) blocks))
+
+fresh_one : (H : ℕ) (E : List Entry) (block : Block) → block_fresh H E block ≤ block_messages block
+fresh_one H E block = by (eqb block.sequence 0)
+  where
+    by : (b : Bool) → cond b 0 (fresh_messages H block.sequence block.raws E) ≤ cond b 0 (length block.raws)
+    by true = omega arith
+    by false = fresh_messages-le H block.sequence block.raws E
+
+overflows_one : (H : ℕ) (E : List Entry) (block : Block) → block_overflows H E block ≤ block_messages block
+overflows_one H E block = by (eqb block.sequence 0)
+  where
+    by : (b : Bool) → cond b 0 (overflowed_messages H block.sequence block.raws E) ≤ cond b 0 (length block.raws)
+    by true = omega arith
+    by false = overflowed_messages-le H block.sequence block.raws E
+
+pub fresh_few : (H : ℕ) (E : List Entry) (blocks : List Block) → fresh_in H E blocks ≤ messages_in blocks
+fresh_few H E [] = omega arith
+fresh_few H E (block ∷ blocks) = let one = fresh_one H E block in let rest = fresh_few H (heard_block block E) blocks in omega arith
+
+pub overflows_few : (H : ℕ) (E : List Entry) (blocks : List Block) → overflows_in H E blocks ≤ messages_in blocks
+overflows_few H E [] = omega arith
+overflows_few H E (block ∷ blocks) = let one = overflows_one H E block in let rest = overflows_few H (heard_block block E) blocks in omega arith
+
+-- ---- What a unit's client heard of a stream
+abbrev of_unit : ℕ → Block → Bool
+of_unit unit block = eqb block.unit unit
+
+heard_of : (unit : ℕ) (blocks before : List Block) → unit_history unit (reverse blocks ++ before) ≡ heard_blocks (filter (of_unit unit) blocks) (unit_history unit before)
+heard_of unit [] before = refl
+heard_of unit (block ∷ blocks) before =
+    ap (unit_history unit) (ap (λ (bs : List Block). bs ++ before) (reverse_onto blocks block []) ∙ append_assoc (reverse blocks) (block ∷ []) before)
+    ∙ heard_of unit blocks (block ∷ before) ∙ by (eqb block.unit unit)
+  where
+    by : (b : Bool) → heard_blocks (filter (of_unit unit) blocks) (cond b (heard_block block (unit_history unit before)) (unit_history unit before))
+        ≡ heard_blocks (cond b (block ∷ filter (of_unit unit) blocks) (filter (of_unit unit) blocks)) (unit_history unit before)
+    by true = refl
+    by false = refl
+
+pub unit_heard : (unit : ℕ) (blocks : List Block) → unit_history unit (reverse blocks) ≡ heard_blocks (filter (of_unit unit) blocks) []
+unit_heard unit blocks = ap (unit_history unit) (sym (append-nil (reverse blocks))) ∙ heard_of unit blocks []
+
+-- ---- Places of lists
+slice_later : (xs ys : List Raw) (i : ℕ) → slice_get (xs ++ ys) (length xs + i) ≡ slice_get ys i
+slice_later [] ys i = let e : 0 + i ≡ i = omega arith in ap (slice_get ys) e
+slice_later (x ∷ xs) ys i = let e : length (x ∷ xs) + i ≡ suc (length xs + i) = omega arith in ap (slice_get (x ∷ (xs ++ ys))) e ∙ slice_later xs ys i
+
+slice_drop : (n : ℕ) (xs : List Raw) (i : ℕ) → slice_get (drop n xs) i ≡ slice_get xs (n + i)
+slice_drop zero xs i = let e : i ≡ 0 + i = omega arith in ap (slice_get xs) e
+slice_drop (suc n) [] i = slice_get_past [] i (omega arith) ∙ sym (slice_get_past [] (suc n + i) (omega arith))
+slice_drop (suc n) (x ∷ xs) i = let e : suc (n + i) ≡ suc n + i = omega arith in slice_drop n xs i ∙ ap (slice_get (x ∷ xs)) e
+
+slice_front : (n : ℕ) (xs : List Raw) (i : ℕ) (x : Raw) → slice_get (take n xs) i ≡ Some x → slice_get xs i ≡ Some x
+slice_front n xs i x at = subst (λ (ys : List Raw). slice_get ys i ≡ Some x) (take-append-drop n xs) (slice_more (take n xs) (drop n xs) i x at)
+
+-- the messages after the first n, and some of the first of these
+pub venues_slice : (V : List Raw) (n count : ℕ) → AreVenues V (n + 1) (take count (drop n V))
+venues_slice V n count i raw at =
+    let e : suc (n + i) ≡ (n + 1) + i = omega arith in
+    subst (λ (k : ℕ). message_at V k ≡ Some raw) e (sym (slice_drop n V i) ∙ slice_front count (drop n V) i raw at)
+
+pub venues_after : (V : List Raw) (n : ℕ) → AreVenues V (n + 1) (drop n V)
+venues_after V n i raw at = let e : suc (n + i) ≡ (n + 1) + i = omega arith in subst (λ (k : ℕ). message_at V k ≡ Some raw) e (sym (slice_drop n V i) ∙ at)
+
+venues_front : (V : List Raw) (first : ℕ) (front back : List Raw) → AreVenues V first (front ++ back) → AreVenues V first front
+venues_front V first front back are i raw at = are i raw (slice_more front back i raw at)
+
+venues_back : (V : List Raw) (first : ℕ) (front back : List Raw) → AreVenues V first (front ++ back) → AreVenues V (first + length front) back
+venues_back V first front back are i raw at =
+    let e : first + (length front + i) ≡ (first + length front) + i = omega arith in
+    subst (λ (k : ℕ). message_at V k ≡ Some raw) e (are (length front + i) raw (slice_later front back i ∙ at))
+
+-- ---- A datagram that is one block
+no_blocks : blocks_of [] ≡ []
+unfolding blocks_of blocks_by
+no_blocks = refl
+
+no_rest : rest_of [] ≡ []
+unfolding rest_of rest_by
+no_rest = refl
+
+abbrev made : ℕ → ℕ → List Raw → Block
+made u s rs = record { unit = u; sequence = s; raws = rs }
+
+-- it has no other
+one_block : (datagram : List ℕ) (block : Block) → IsBlock datagram block → (blocks_of datagram ≡ block ∷ []) × (rest_of datagram ≡ [])
+one_block datagram block is =
+    let all : datagram ++ [] ≡ datagram = append-nil datagram in
+    let h : Header = header_of datagram in
+    let s = front_stands datagram [] block is in
+    let judged : judge datagram ≡ Ok h = subst (λ (d : List ℕ). judge d ≡ Ok (header_of d)) all (front_judged datagram [] block is) in
+    let first = first_of datagram h judged in
+    let behind : drop h.length datagram ≡ [] = drop_all h.length datagram (let size = is.size in omega arith) in
+    let raws : raws_of h.count (drop 8 (take h.length datagram)) ≡ block.raws =
+    subst (λ (d : List ℕ). raws_of (header_of d).count (drop 8 (take (header_of d).length d)) ≡ block.raws) all
+    (ap (λ (n : ℕ). raws_of n (drop 8 (take (header_of (datagram ++ [])).length (datagram ++ [])))) s.count_is ∙ ap (λ (r : List ℕ). raws_of (length block.raws) (drop 8 r)) s.cut ∙ s.raws_are) in
+    let same : block_at h datagram ≡ block =
+    ap (λ (v : ℕ). made v h.sequence (raws_of h.count (drop 8 (take h.length datagram)))) is.unit
+    ∙ ap (λ (v : ℕ). made block.unit v (raws_of h.count (drop 8 (take h.length datagram)))) is.sequence
+    ∙ ap (λ (v : List Raw). made block.unit block.sequence v) raws in (
+      first.blocks ∙ ap (λ (b : Block). b ∷ blocks_of (drop h.length datagram)) same ∙ ap (λ (r : List ℕ). block ∷ blocks_of r) behind ∙ ap (λ (bs : List Block). block ∷ bs) no_blocks,
+      first.rest ∙ ap rest_of behind ∙ no_rest,
+    )
+
+block_piece : (V : List Raw) (unit : ℕ) (datagram : List ℕ) (block : Block) → IsBlock datagram block → IsVenueBlock V unit block → IsPiece V unit datagram
+block_piece V unit datagram block is of =
+    let one = one_block datagram block is in
+    record { whole = one.1; blocks = subst (AllByRecursion (IsVenueBlock V unit)) (sym one.0) (of, tt) }
+
+-- what is packed is pieces
+pub packing_pieces : (V : List Raw) (unit first : ℕ) (raws : List Raw) (datagrams : List (List ℕ)) → 0 < first → first + length raws ≤ length V + 1 → AreVenues V first raws → IsPacking unit first raws datagrams
+    → AllByRecursion (IsPiece V unit) datagrams
+packing_pieces V unit first raws [] known within are packing = tt
+packing_pieces V unit first raws (d ∷ datagrams) known within are (front, back, split, is, full, rest) =
+    let all : AreVenues V first (front ++ back) = subst (AreVenues V first) split are in
+    let count : length raws ≡ length front + length back = ap (λ (rs : List Raw). length rs) split ∙ length-append front back in
+    let some : first ≢ 0 = λ e. omega (arith, e, known) in
+    let next : sequence_after first (length front) ≡ first + length front = after_known first (length front) some in (
+      block_piece V unit d (made unit first front) is.block (record { unit_is = refl; sequenced = known; messages = venues_front V first front back all; within = omega (arith, within, count) }),
+      packing_pieces V unit (first + length front) back datagrams (omega (arith, known)) (omega (arith, within, count)) (venues_back V first front back all)
+          (subst (λ (n : ℕ). IsPacking unit n back datagrams) next rest),
+    )
+
+-- so is a heartbeat
+pub heartbeat_piece : (V : List Raw) (unit next : ℕ) → unit < 256 → 0 < next → next ≤ length V + 1 → next ≤ 4294967295 → IsPiece V unit (block_bytes (heartbeat_block unit next))
+heartbeat_piece V unit next small some within few =
+    let block : Block = heartbeat_block unit next in
+    block_piece V unit (block_bytes block) block (written_is block (record { unit = small; sequence = omega arith; size = omega arith; few = omega arith; raws = tt; within = inr (inl refl) }))
+    (record { unit_is = refl; sequenced = some; messages = λ i raw at. absurd (none-some raw (sym (slice_get_past [] i (omega arith)) ∙ at)); within = omega arith })
+
+-- ---- More messages
+block_more : (V more : List Raw) (unit : ℕ) (block : Block) → IsVenueBlock V unit block → IsVenueBlock (V ++ more) unit block
+block_more V more unit block of = record {
+  unit_is = of.unit_is;
+  sequenced = of.sequenced;
+  messages = venues_more V more block.sequence block.raws of.messages;
+  within = omega (arith, of.within, length-append V more);
+}
+
+blocks_more : (V more : List Raw) (unit : ℕ) (blocks : List Block) → AllByRecursion (IsVenueBlock V unit) blocks → AllByRecursion (IsVenueBlock (V ++ more) unit) blocks
+blocks_more V more unit [] all = tt
+blocks_more V more unit (block ∷ blocks) all = (block_more V more unit block all.0, blocks_more V more unit blocks all.1)
+
+pub piece_more : (V more : List Raw) (unit : ℕ) (datagram : List ℕ) → IsPiece V unit datagram → IsPiece (V ++ more) unit datagram
+piece_more V more unit datagram piece = record { whole = piece.whole; blocks = blocks_more V more unit (blocks_of datagram) piece.blocks }
+
+-- ---- What is heard of them is honest
+module _ (Image : List Raw → ℕ → List Raw) (V : List Raw) where
+  honest_messages_more : (first : ℕ) (raws : List Raw) (E : List Entry) → AreVenues V first raws → Honest Image V E → Honest Image V (heard_messages first raws E)
+  honest_messages_more first [] E are h = h
+  honest_messages_more first (raw ∷ raws) E are h =
+      honest_messages_more (first + 1) raws (Message first raw ∷ E) (venues_rest V first (raw ∷ raws) raws raw refl are) (venues_first V first (raw ∷ raws) raws raw refl are, h)
+
+  honest_sequenced_more : (sequence : ℕ) (raws : List Raw) (E : List Entry) → AreVenues V sequence raws → sequence ≤ length V + 1 → Honest Image V E → Honest Image V (heard_sequenced sequence raws E)
+  honest_sequenced_more sequence [] E are within h = (within, h)
+  honest_sequenced_more sequence (raw ∷ raws) E are within h = honest_messages_more sequence (raw ∷ raws) E are h
+
+  honest_block_more : (unit : ℕ) (block : Block) (E : List Entry) → IsVenueBlock V unit block → Honest Image V E → Honest Image V (heard_block block E)
+  honest_block_more unit block E of h =
+      let known = of.sequenced in
+      let within = of.within in
+      let sequenced = ne_eqb block.sequence 0 (λ e. omega (arith, e, known)) in
+      subst (Honest Image V) (sym (cond-false (eqb block.sequence 0) E (heard_sequenced block.sequence block.raws E) sequenced))
+      (honest_sequenced_more block.sequence block.raws E of.messages (omega (arith, within)) h)
+
+  honest_blocks_more : (unit : ℕ) (blocks : List Block) (E : List Entry) → AllByRecursion (IsVenueBlock V unit) blocks → Honest Image V E → Honest Image V (heard_blocks blocks E)
+  honest_blocks_more unit [] E all h = h
+  honest_blocks_more unit (block ∷ blocks) E all h = honest_blocks_more unit blocks (heard_block block E) all.1 (honest_block_more unit block E all.0 h)
+
+  pub honest_piece : (unit : ℕ) (datagram : List ℕ) (E : List Entry) → IsPiece V unit datagram → Honest Image V E → Honest Image V (heard_blocks (blocks_of datagram) E)
+  honest_piece unit datagram E piece h = honest_blocks_more unit (blocks_of datagram) E piece.blocks h

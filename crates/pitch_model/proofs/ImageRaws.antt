@@ -1,0 +1,191 @@
+-- The messages of an image: raws of bytes, one add for each open order.
+use Rattle.std.proofs.Common.{◌≡◌, ℕ, zero, suc, ◌≤◌, ◌<◌, Bool, true, false, ◌&&◌, ◌||◌, ◌==◌, cond, List, [], ◌∷◌, ◌++◌, length, take, map, slice_index, nat_le, refl, sym, ap, ◌∙◌, subst, arith, length-append, length-take, Option, Some, None}
+use Rattle.std.specs.List.{AllByRecursion}
+use Rattle.std.specs.Int.{byte_at, bytes_low_first}
+use Rattle.std.specs.FinMap as finite
+use Rattle.std.proofs.Math.Bool.{or-true}
+use Rattle.std.proofs.Math.Nat.{mod-lt}
+use Rattle.std.proofs.lemmas.List.{map-append}
+use Rattle.std.proofs.lemmas.List.Sums.{sum_by-cons, sum_by-append}
+use Rattle.std.proofs.lemmas.Bool.Decides.{nat_tests}
+use Rattle.pitch_fields.specs.Fields.{AreBytes}
+use Rattle.pitch_fields.specs.Side.{byte_of}
+use Rattle.pitch_fields.specs.declared.side.Side.{Side}
+use Rattle.pitch_fields.specs.declared.side.Side.TheVariants.{Buy, Sell}
+use Rattle.pitch_messages.specs.declared.order.Order.{Order}
+use Rattle.pitch_messages.specs.declared.message.Message.TheVariants.{Time}
+use Rattle.pitch_messages.specs.Forms.{add_message, add_form, plain_symbol, short_price, flags_of}
+use Rattle.pitch_messages.specs.Raw.{IsRaw, kind_of}
+use Rattle.pitch_messages.specs.Writing.{written}
+use Rattle.pitch_model.specs.Book.{Book, book_after}
+use Rattle.pitch_model.specs.History.{Raw, is_add, adds, can_promise}
+use Rattle.pitch_model.specs.Image.{clock_of, image_of, image}
+use Rattle.pitch_model.specs.Levels.{orders_of}
+use Rattle.pitch_model.specs.Widths.{FitsWire, IsWireBook}
+use Rattle.pitch_model.proofs.Books.{book_after_len}
+use Rattle.pitch_model.proofs.Images.{all_found, plain_is, sorted_entries}
+use Rattle.pitch_model.proofs.Widths.{bytes_append}
+
+-- ---- How many orders an image adds
+abbrev adds_of : List Order → List Raw
+adds_of orders = map written (map (λ (order : Order). add_message order 0) orders)
+
+is_add_of : (order : Order) → is_add (written (add_message order 0)) ≡ true
+unfolding written add_message
+is_add_of order = by (plain_symbol order) (short_price order.quantity order.price)
+  where
+    by : (six : Option (List ℕ)) (cents : Option ℕ) → is_add (written (add_form six cents order 0)) ≡ true
+    by None cents = refl
+    by (Some six) None = refl
+    by (Some six) (Some cents) = refl
+
+adds_orders : (orders : List Order) → adds (adds_of orders) ≡ length orders
+adds_orders [] = refl
+adds_orders (order ∷ orders) =
+    let one : ◌≡◌ {A = ℕ} (cond (is_add (written (add_message order 0))) 1 0) 1 = ap (λ (b : Bool). cond b 1 0) (is_add_of order) in
+    sum_by-cons (λ raw. cond (is_add raw) 1 0) (written (add_message order 0)) (adds_of orders) ∙ omega (arith, one, adds_orders orders)
+
+adds_clock : (second : Option ℕ) → adds (map written (clock_of second)) ≡ 0
+unfolding written
+adds_clock None = refl
+adds_clock (Some second) = refl
+
+map_len : (es : List (ℕ × Order)) → length (map (λ (e : ℕ × Order). e.1) es) ≡ length es
+map_len [] = refl
+map_len (e ∷ es) = ap suc (map_len es)
+
+-- one for each open order
+pub adds_image : (book : Book) → adds (image_of book) ≡ finite.len book.orders
+unfolding image_of
+adds_image book =
+    ap adds (map-append written (clock_of book.second) (map (λ (order : Order). add_message order 0) (orders_of book)))
+    ∙ sum_by-append (λ raw. cond (is_add raw) 1 0) (map written (clock_of book.second)) (adds_of (orders_of book))
+    ∙ omega (arith, adds_clock book.second, adds_orders (orders_of book))
+    ∙ map_len (finite.entries book.orders) ∙ sym (finite.len-entries book.orders)
+
+-- the others are of the time
+pub time_or_add : (book : Book) → AllByRecursion (λ raw. (kind_of raw == 0x20 || is_add raw) ≡ true) (image_of book)
+unfolding image_of written
+time_or_add book = by book.second
+  where
+    adds_only : (orders : List Order) → AllByRecursion (λ raw. (kind_of raw == 0x20 || is_add raw) ≡ true) (adds_of orders)
+    adds_only [] = tt
+    adds_only (order ∷ orders) =
+        (ap (λ (b : Bool). kind_of (written (add_message order 0)) == 0x20 || b) (is_add_of order) ∙ or-true (kind_of (written (add_message order 0)) == 0x20), adds_only orders)
+
+    by : (second : Option ℕ) → AllByRecursion (λ raw. (kind_of raw == 0x20 || is_add raw) ≡ true) (map written (clock_of second ++ map (λ (order : Order). add_message order 0) (orders_of book)))
+    by None = adds_only (orders_of book)
+    by (Some second) = (refl, adds_only (orders_of book))
+
+-- so it can be promised
+pub image_promised : (V : List Raw) (s : ℕ) → s ≤ 4294967294 → can_promise s (adds (image V s)) ≡ true
+unfolding image
+image_promised V s low =
+    let some = adds_image (book_after (take s V)) in
+    let few = book_after_len (take s V) in
+    let size = length-take {A = Raw} s V in
+    let within : adds (image_of (book_after (take s V))) ≤ s = omega (arith, some, few, size) in
+    both (adds (image_of (book_after (take s V)))) within
+  where
+    both : (n : ℕ) → n ≤ s → (nat_le n s && nat_le n 4294967294) ≡ true
+    both n within = grind (arith, nat_tests, within, low)
+
+-- ---- Bytes
+-- the lowest n bytes of a number, the lowest of them first
+abbrev little : ℕ → ℕ → List ℕ
+little n x = bytes_low_first 0 n x
+
+number_bytes : (i k n : ℕ) → AreBytes (bytes_low_first i k n)
+number_bytes i zero n = tt
+number_bytes i (suc k) n = (byte i, number_bytes (suc i) k n)
+  where
+    byte : (i : ℕ) → byte_at i n < 256
+    byte zero = mod-lt n (omega arith)
+    byte (suc i) = mod-lt _ (omega arith)
+
+bytes_front : (xs ys : List ℕ) → AreBytes (xs ++ ys) → AreBytes xs
+bytes_front [] ys all = tt
+bytes_front (x ∷ xs) ys all = (all.0, bytes_front xs ys all.1)
+
+side_byte : (side : Side) → byte_of side < 256
+side_byte Buy = omega arith
+side_byte Sell = omega arith
+
+flags_byte : (display : Bool) → flags_of display < 256
+flags_byte true = omega arith
+flags_byte false = omega arith
+
+abbrev IsByteRaw : List ℕ → Type 0
+IsByteRaw raw = IsRaw raw × AreBytes raw
+
+raw_by : (raw : List ℕ) (n : ℕ) → length raw ≡ n → slice_index raw 0 ≡ n → 2 ≤ n → n ≤ 255 → AreBytes raw → IsByteRaw raw
+raw_by raw n size first least most bytes = (record { least = omega (arith, size, least); most = omega (arith, size, most); first = first ∙ sym size }, bytes)
+
+-- an add's type, id and side, quantity, symbol and price, and what follows
+add_bytes : (size kind id : ℕ) (side : Side) (n quantity : ℕ) (symbol : List ℕ) (m price : ℕ) (last : List ℕ) → size < 256 → kind < 256 → AreBytes symbol → AreBytes last
+    → AreBytes (size ∷ kind ∷ (little 4 0 ++ (little 8 id ++ byte_of side ∷ (little n quantity ++ (symbol ++ (little m price ++ last))))))
+add_bytes size kind id side n quantity symbol m price last s k all more =
+    let ends : AreBytes (little n quantity ++ (symbol ++ (little m price ++ last))) =
+    bytes_append (little n quantity) (symbol ++ (little m price ++ last)) (number_bytes 0 n quantity)
+    (bytes_append symbol (little m price ++ last) all (bytes_append (little m price) last (number_bytes 0 m price) more)) in
+    let rest : List ℕ = byte_of side ∷ (little n quantity ++ (symbol ++ (little m price ++ last))) in
+    (s, (k, bytes_append (little 4 0) (little 8 id ++ rest) (number_bytes 0 4 0) (bytes_append (little 8 id) rest (number_bytes 0 8 id) (side_byte side, ends))))
+
+add_raw : (order : Order) → FitsWire order → IsByteRaw (written (add_message order 0))
+unfolding written add_message
+add_raw order fits = by (plain_symbol order) (short_price order.quantity order.price) refl
+  where
+    one : AreBytes (flags_of order.display ∷ [])
+    one = (flags_byte order.display, tt)
+
+    by : (six : Option (List ℕ)) (cents : Option ℕ) → plain_symbol order ≡ six → IsByteRaw (written (add_form six cents order 0))
+    by None cents s =
+        let symbol = fits.symbol in
+        let participant = fits.participant in
+        raw_by (written (add_form None cents order 0)) 40
+        (omega (arith, length-append order.symbol (little 8 order.price ++ flags_of order.display ∷ order.participant), symbol, participant)) refl (omega arith) (omega arith)
+        (add_bytes 40 0x2f order.id order.side 4 order.quantity order.symbol 8 order.price (flags_of order.display ∷ order.participant) (omega arith) (omega arith) fits.symbol_bytes (flags_byte order.display, fits.participant_bytes))
+    by (Some six) None s =
+        let plain = (plain_is order six fits s).0 in
+        let size = plain.size in
+        raw_by (written (add_form (Some six) None order 0)) 34 (omega (arith, length-append six (little 8 order.price ++ flags_of order.display ∷ []), size)) refl (omega arith) (omega arith)
+        (add_bytes 34 0x21 order.id order.side 4 order.quantity six 8 order.price (flags_of order.display ∷ []) (omega arith) (omega arith) (bytes_front six (32 ∷ 32 ∷ []) (subst AreBytes (sym plain.padded) fits.symbol_bytes)) one)
+    by (Some six) (Some cents) s =
+        let plain = (plain_is order six fits s).0 in
+        let size = plain.size in
+        raw_by (written (add_form (Some six) (Some cents) order 0)) 26 (omega (arith, length-append six (little 2 cents ++ flags_of order.display ∷ []), size)) refl (omega arith) (omega arith)
+        (add_bytes 26 0x22 order.id order.side 2 order.quantity six 2 cents (flags_of order.display ∷ []) (omega arith) (omega arith) (bytes_front six (32 ∷ 32 ∷ []) (subst AreBytes (sym plain.padded) fits.symbol_bytes)) one)
+
+time_raw : (second : ℕ) → IsByteRaw (written (Time second))
+unfolding written
+time_raw second = raw_by (written (Time second)) 6 refl refl (omega arith) (omega arith) (omega arith, (omega arith, number_bytes 0 4 second))
+
+adds_raw : (es : List (ℕ × Order)) → AllByRecursion (λ e. FitsWire e.1) es → AllByRecursion IsByteRaw (adds_of (map (λ (e : ℕ × Order). e.1) es))
+adds_raw [] all = tt
+adds_raw (e ∷ es) all = (add_raw e.1 all.0, adds_raw es all.1)
+
+image_byte_raws : (book : Book) → IsWireBook book → AllByRecursion IsByteRaw (image_of book)
+unfolding image_of
+image_byte_raws book wire = by book.second
+  where
+    all : AllByRecursion IsByteRaw (adds_of (orders_of book))
+    all = adds_raw (finite.entries book.orders)
+        (all_found (λ id order. FitsWire order) (finite.entries book.orders) (sorted_entries book.orders) (λ id order f. wire.orders id order (finite.get-entries book.orders id ∙ f)))
+
+    by : (second : Option ℕ) → AllByRecursion IsByteRaw (map written (clock_of second ++ map (λ (order : Order). add_message order 0) (orders_of book)))
+    by None = all
+    by (Some second) = (time_raw second, all)
+
+all_raws : (raws : List Raw) → AllByRecursion IsByteRaw raws → AllByRecursion IsRaw raws
+all_raws [] all = tt
+all_raws (raw ∷ raws) all = (all.0.0, all_raws raws all.1)
+
+all_bytes : (raws : List Raw) → AllByRecursion IsByteRaw raws → AllByRecursion AreBytes raws
+all_bytes [] all = tt
+all_bytes (raw ∷ raws) all = (all.0.1, all_bytes raws all.1)
+
+pub image_raws : (book : Book) → IsWireBook book → AllByRecursion IsRaw (image_of book)
+image_raws book wire = all_raws (image_of book) (image_byte_raws book wire)
+
+pub image_bytes : (book : Book) → IsWireBook book → AllByRecursion AreBytes (image_of book)
+image_bytes book wire = all_bytes (image_of book) (image_byte_raws book wire)

@@ -1,0 +1,8 @@
+use Rattle.pitch_model.proofs.Datagrams.{packing_pieces, heartbeat_piece}
+use Rattle.pitch_model.proofs.laws.packed_messages_are_pieces.Goals as goal
+
+pub returns-clause-packed : goal.returns-clause-packed
+returns-clause-packed c = packing_pieces
+
+pub returns-clause-heartbeat : goal.returns-clause-heartbeat
+returns-clause-heartbeat c = heartbeat_piece

@@ -1,0 +1,8 @@
+use Rattle.pitch_model.proofs.Datagrams.{venues_after, venues_slice}
+use Rattle.pitch_model.proofs.laws.slices_are_the_venues.Goals as goal
+
+pub returns-clause-rest : goal.returns-clause-rest
+returns-clause-rest c = venues_after
+
+pub returns-clause-slice : goal.returns-clause-slice
+returns-clause-slice c = venues_slice

@@ -1,0 +1,53 @@
+-- What the blocks of a datagram add to a history, and the datagrams of a venue.
+use Rattle.std.specs.Prelude.{◌≡◌, ℕ, ◌+◌, ◌≤◌, ◌<◌, cond, List, [], ◌∷◌, length, ◌==◌}
+use Rattle.std.specs.List.{AllByRecursion}
+use Rattle.unit_packets.specs.Blocks.{Block}
+use Rattle.unit_packets.specs.Cutting.{blocks_of, rest_of}
+use Rattle.pitch_model.specs.History.{Entry, Raw}
+use Rattle.pitch_model.specs.Heard.{heard_block, block_fresh, block_overflows, block_change}
+use Rattle.pitch_model.specs.Honest.{AreVenues}
+use Rattle.pitch_model.specs.declared.change.Change.{Change}
+
+-- ---- Blocks that are heard one after another
+-- a history with blocks that are heard after it
+abbrev pub heard_blocks : List Block → List Entry → List Entry
+heard_blocks [] E = E
+heard_blocks (block ∷ blocks) E = heard_blocks blocks (heard_block block E)
+
+-- how many of a block's messages are heard: none of an unsequenced block
+abbrev pub block_messages : Block → ℕ
+block_messages block = cond (block.sequence == 0) 0 (length block.raws)
+
+-- how many messages of the blocks are heard
+abbrev pub messages_in : List Block → ℕ
+messages_in [] = 0
+messages_in (block ∷ blocks) = block_messages block + messages_in blocks
+
+-- how many of them are fresh, each after those before it
+abbrev pub fresh_in : ℕ → List Entry → List Block → ℕ
+fresh_in H E [] = 0
+fresh_in H E (block ∷ blocks) = block_fresh H E block + fresh_in H (heard_block block E) blocks
+
+-- with how many of them the hold overflows
+abbrev pub overflows_in : ℕ → List Entry → List Block → ℕ
+overflows_in H E [] = 0
+overflows_in H E (block ∷ blocks) = block_overflows H E block + overflows_in H (heard_block block E) blocks
+
+-- what each block changes
+abbrev pub changes_in : ℕ → List Entry → List Block → List Change
+changes_in H E [] = []
+changes_in H E (block ∷ blocks) = block_change H E block ∷ changes_in H (heard_block block E) blocks
+
+-- ---- Datagrams of a venue
+-- a block of a unit that has some of the venue's messages `V`, from its sequence on; or a
+-- heartbeat, which tells at most of the message after the last of `V`
+pub record IsVenueBlock (V : List Raw) (unit : ℕ) (block : Block) : Type 0 where
+  pub unit_is : block.unit ≡ unit
+  pub sequenced : 0 < block.sequence
+  pub messages : AreVenues V block.sequence block.raws
+  pub within : block.sequence + length block.raws ≤ length V + 1
+
+-- a datagram is whole blocks of that kind
+pub record IsPiece (V : List Raw) (unit : ℕ) (datagram : List ℕ) : Type 0 where
+  pub whole : rest_of datagram ≡ []
+  pub blocks : AllByRecursion (IsVenueBlock V unit) (blocks_of datagram)

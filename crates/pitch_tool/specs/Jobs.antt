@@ -1,0 +1,68 @@
+-- The job of a form, what is wrong with its input, and how it ends.
+use Rattle.std.specs.Prelude.{◌≡◌, ◌≤◌, ◌+◌, ℕ, List, Option, None, Some, Result, Ok, Err}
+use Rattle.pitch_words.specs.declared.form.Form.{Form}
+use Rattle.pitch_words.specs.declared.form.Form.TheVariants as form
+use Rattle.stream_print.specs.Inputs.{stream_limit, trouble_of, StreamEnds}
+use Rattle.stream_print.specs.Knowing.{IsPossible}
+use Rattle.stream_print.specs.Told.{Told}
+use Rattle.stream_print.specs.declared.failure.StreamFailure.{StreamFailure}
+use Rattle.stream_print.specs.declared.failure.StreamFailure.TheVariants as stream
+use Rattle.stream_print.specs.declared.failure.StreamTrouble.{StreamTrouble}
+use Rattle.stream_print.specs.declared.stream_form.StreamForm.TheVariants.{Follow, Show}
+use Rattle.pitch_tool.specs.TextForms.{text_limit, text_trouble, TextEnds}
+use Rattle.pitch_tool.specs.declared.failure.Failure.{Failure}
+use Rattle.pitch_tool.specs.declared.failure.Failure.TheVariants.{BadInput, Read, Write, OutOfMemory}
+use Rattle.pitch_tool.specs.declared.failure.Trouble.{Trouble}
+use Rattle.pitch_tool.specs.declared.failure.Trouble.TheVariants.{Blocks}
+use Rattle.pitch_tool.specs.declared.job.Job.{Job}
+use Rattle.pitch_tool.specs.declared.job.Job.TheVariants.{Stream, Text}
+use Rattle.pitch_tool.specs.declared.job.TextForm.TheVariants.{Pack}
+
+-- the job of a form
+abbrev pub job_of : Form → Job
+job_of (form.Follow hold) = Stream (Follow hold)
+job_of form.Show = Stream Show
+job_of (form.Pack unit) = Text (Pack unit)
+
+-- the numbers of a job lie in their ranges
+abbrev pub CanDo : Job → Type 0
+CanDo (Stream form) = IsPossible form
+CanDo (Text form) = Unit {0}
+
+-- how many bytes of the source a job takes at most: one more than it reads
+abbrev pub most_taken : Job → ℕ
+most_taken (Stream form) = stream_limit + 1
+most_taken (Text form) = text_limit + 1
+
+-- what is wrong with a stream, as the trouble of a job
+abbrev pub blocks_trouble : Option StreamTrouble → Option Trouble
+blocks_trouble None = None
+blocks_trouble (Some trouble) = Some (Blocks trouble)
+
+-- what is wrong with the input of a job
+abbrev pub trouble_in : Job → List ℕ → Option Trouble
+trouble_in (Stream form) bytes = blocks_trouble (trouble_of stream_limit bytes)
+trouble_in (Text form) bytes = text_trouble form text_limit bytes
+
+-- a source tells its bytes, and a job has this to say of them; of a job that reads nothing it would be a unit type, whatever
+-- the source tells
+abbrev pub Judges : Job → Option (List ℕ) → Option Trouble → Type 0
+Judges (Stream form) left trouble = (bytes : List ℕ) × (left ≡ Some bytes) × (trouble_in (Stream form) bytes ≡ trouble)
+Judges (Text form) left trouble = (bytes : List ℕ) × (left ≡ Some bytes) × (trouble_in (Text form) bytes ≡ trouble)
+
+-- why a stream ended, as why the program ends
+abbrev pub of_stream : StreamFailure → Failure
+of_stream (stream.BadInput trouble) = BadInput (Blocks trouble)
+of_stream stream.Read = Read
+of_stream stream.Write = Write
+of_stream stream.OutOfMemory = OutOfMemory
+
+-- how a job ends: what was read of the source and written to the sink
+abbrev pub JobEnds : Job → Result (Unit {0}) Failure → (input out : Told) → Type 0
+JobEnds (Stream form) (Ok done) input out = StreamEnds form stream_limit (Ok done) input out
+JobEnds (Stream form) (Err (BadInput (Blocks trouble))) input out = StreamEnds form stream_limit (Err (stream.BadInput trouble)) input out
+JobEnds (Stream form) (Err Read) input out = StreamEnds form stream_limit (Err stream.Read) input out
+JobEnds (Stream form) (Err Write) input out = StreamEnds form stream_limit (Err stream.Write) input out
+JobEnds (Stream form) (Err OutOfMemory) input out = StreamEnds form stream_limit (Err stream.OutOfMemory) input out
+JobEnds (Stream form) (Err _) input out = ⊥
+JobEnds (Text form) result input out = TextEnds form text_limit result input out

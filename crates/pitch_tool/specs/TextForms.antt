@@ -1,0 +1,94 @@
+-- A text form: what it makes of a whole text, and how it ends.
+use Rattle.std.specs.Prelude.{◌≡◌, ℕ, ◌≤◌, ◌<◌, List, [], length, nat_lt, cond, Option, Some, None, Result, Ok, Err}
+use Rattle.std.specs.Result.{result_err}
+use Rattle.std.specs.Io.KnownBytes.{Consumes}
+use Rattle.pitch_io.specs.Putting.{Grows}
+use Rattle.command_feed.specs.Feed.{feed_of, AppendsPacking}
+use Rattle.command_feed.specs.declared.error.CommandError.{CommandError}
+use Rattle.stream_print.specs.Inputs.{ReadsAll, Has}
+use Rattle.stream_print.specs.Putting.{PutsSome}
+use Rattle.stream_print.specs.Told.{Told, IsUntouched}
+use Rattle.pitch_tool.specs.declared.failure.Failure.{Failure}
+use Rattle.pitch_tool.specs.declared.failure.Failure.TheVariants.{Usage, BadInput, Read, Write, OutOfMemory}
+use Rattle.pitch_tool.specs.declared.failure.Trouble.{Trouble}
+use Rattle.pitch_tool.specs.declared.failure.Trouble.TheVariants.{LongText, Commands}
+use Rattle.pitch_tool.specs.declared.job.TextForm.{TextForm}
+use Rattle.pitch_tool.specs.declared.job.TextForm.TheVariants.{Pack}
+
+-- how many bytes a text has at most: 2^26
+abbrev pub text_limit : ℕ
+text_limit = 67108864
+
+-- the feed that some commands make, or what is wrong with them
+abbrev pub feed_or_trouble : Result (List ℕ) CommandError → Result (List ℕ) Trouble
+feed_or_trouble (Ok feed) = Ok feed
+feed_or_trouble (Err error) = Err (Commands error)
+
+-- what a form makes of a text, or what is wrong with the text
+abbrev pub made : TextForm → List ℕ → Result (List ℕ) Trouble
+made (Pack unit) text = feed_or_trouble (feed_of unit text)
+
+-- the same by a relation: what is packed of a text is a packing of the messages that a venue accepts of it
+abbrev pub IsMadeOf : TextForm → (text bytes : List ℕ) → Type 0
+IsMadeOf (Pack unit) text bytes = AppendsPacking unit text [] bytes
+
+-- what is wrong with a text of which at most `most` bytes are read: that it has more, or else what the form finds
+abbrev pub text_trouble : TextForm → ℕ → List ℕ → Option Trouble
+text_trouble form most text = cond (nat_lt most (length text)) (Some LongText) (result_err (made form text))
+
+-- ---- How a text form ends
+-- the whole text was read
+pub record ReadsText (form : TextForm) (most : ℕ) (input : Told) (bytes : List ℕ) : Type 0 where
+  pub text : List ℕ
+  pub read : ReadsAll input text
+  pub small : length text ≤ most
+  pub made_is : made form text ≡ Ok bytes
+  pub made_of : IsMadeOf form text bytes
+
+-- the whole text was read, and what it makes was written
+pub record WritesMade (form : TextForm) (most : ℕ) (input out : Told) : Type 0 where
+  pub bytes : List ℕ
+  pub makes : ReadsText form most input bytes
+  pub wrote : Grows out.old out.new bytes
+
+-- the whole text was read, and a prefix of what it makes was written
+pub record WritesMadeSome (form : TextForm) (most : ℕ) (input out : Told) : Type 0 where
+  pub bytes : List ℕ
+  pub makes : ReadsText form most input bytes
+  pub wrote : PutsSome out.old out.new bytes
+
+-- the text has this trouble, and nothing was written
+pub record RefusesText (form : TextForm) (most : ℕ) (trouble : Trouble) (input out : Told) : Type 0 where
+  pub text : List ℕ
+  pub has : Has input.old text
+  pub trouble_is : text_trouble form most text ≡ Some trouble
+  pub wrote : IsUntouched out
+
+-- the source failed after some bytes, and nothing was written
+pub record ReadsNoText (input out : Told) : Type 0 where
+  pub bytes : List ℕ
+  pub read : Consumes input.old input.new bytes
+  pub wrote : IsUntouched out
+
+-- how it ends
+abbrev pub TextEnds : TextForm → ℕ → Result (Unit {0}) Failure → (input out : Told) → Type 0
+TextEnds form most (Ok done) input out = WritesMade form most input out
+TextEnds form most (Err Usage) input out = ⊥
+TextEnds form most (Err (BadInput trouble)) input out = RefusesText form most trouble input out
+TextEnds form most (Err Read) input out = ReadsNoText input out
+TextEnds form most (Err Write) input out = WritesMadeSome form most input out
+TextEnds form most (Err OutOfMemory) input out = IsUntouched out
+
+-- ---- Its parts
+-- why a text was not read whole
+abbrev pub IsUnread : ℕ → Told → Failure → Type 0
+IsUnread most input (BadInput LongText) = (text : List ℕ) × Has input.old text × (most < length text)
+IsUnread most input Read = (bytes : List ℕ) × Consumes input.old input.new bytes
+IsUnread most input OutOfMemory = Unit {0}
+IsUnread most input _ = ⊥
+
+-- why nothing was made of a text
+abbrev pub IsUnmade : Result (List ℕ) Trouble → Failure → Type 0
+IsUnmade answer (BadInput trouble) = answer ≡ Err trouble
+IsUnmade answer OutOfMemory = Unit {0}
+IsUnmade answer _ = ⊥

@@ -1,0 +1,23 @@
+ghost use Rattle.std.specs.Prelude.{◌≡◌, ◌≤◌, [], IfOk, IfErr, length};
+ghost use Rattle.command_feed.specs.Feed.{AppendsPacking};
+ghost use Rattle.pitch_tool.specs.TextForms.{made, IsUnmade};
+ghost use Rattle.pitch_tool.specs.declared.job.TextForm.TheVariants.{Pack};
+
+use crate::failure::{Failure, Trouble};
+use command_feed::{CommandError, append_feed};
+use std::alloc::Global;
+
+/// The datagrams that a unit's venue makes of a text of commands, back to back, once it has accepted all of them.
+pub fn pack(alloc: Global, unit: u8, text: &[u8]) -> Result<Vec<u8>, Failure>
+    requires { length text.now ≤ 67108864 }
+    ensures made { IfOk result (λ feed. made (Pack unit) text.now ≡ Ok feed.items) }
+    ensures packing { IfOk result (λ feed. AppendsPacking unit text.now [] feed.items) }
+    ensures unmade { IfErr result (IsUnmade (made (Pack unit) text.now)) }
+{
+    let mut feed = Vec::new(alloc);
+    match append_feed(alloc, unit, text, &mut feed) {
+        Ok(()) => Ok(feed),
+        Err(CommandError::OutOfMemory) => Err(Failure::OutOfMemory),
+        Err(error) => Err(Failure::BadInput(Trouble::Commands(error))),
+    }
+}

@@ -1,0 +1,67 @@
+use command_feed::CommandError;
+use pitch_fields::OutOfMemory;
+use stream_print::{PutFailed, StreamFailure, StreamTrouble};
+
+/// What is wrong with an input.
+#[derive(Clone, Copy, Debug, PartialEq, Eq)]
+pub enum Trouble {
+    /// A stream of blocks has a fault, or more bytes than are read.
+    Blocks(StreamTrouble),
+    /// A text has more bytes than are read.
+    LongText,
+    /// A text of commands has a fault, or the venue refuses one of them.
+    Commands(CommandError),
+}
+
+/// Why the program ends before its whole text.
+#[derive(Clone, Copy, Debug, PartialEq, Eq)]
+pub enum Failure {
+    /// The words are no form that the program has.
+    Usage,
+    /// Something is wrong with the input.
+    BadInput(Trouble),
+    /// The source failed.
+    Read,
+    /// The sink failed.
+    Write,
+    /// Memory ran out.
+    OutOfMemory,
+}
+
+impl From<OutOfMemory> for Failure {
+    ghost use Rattle.std.specs.Prelude.{◌≡◌};
+    ghost use Rattle.pitch_tool.specs.declared.failure.Failure.TheVariants as ending;
+
+    ghost from_gives = { λ _ failure. failure ≡ ending.OutOfMemory };
+
+    fn from(_: OutOfMemory) -> Failure {
+        Failure::OutOfMemory
+    }
+}
+
+impl From<PutFailed> for Failure {
+    ghost use Rattle.std.specs.Prelude.{◌≡◌};
+    ghost use Rattle.pitch_tool.specs.declared.failure.Failure.TheVariants as ending;
+
+    ghost from_gives = { λ _ failure. failure ≡ ending.Write };
+
+    fn from(_: PutFailed) -> Failure {
+        Failure::Write
+    }
+}
+
+impl From<StreamFailure> for Failure {
+    ghost use Rattle.std.specs.Prelude.{◌≡◌};
+    ghost use Rattle.pitch_tool.specs.Jobs.{of_stream};
+
+    ghost from_gives = { λ stream failure. failure ≡ of_stream stream };
+
+    fn from(failure: StreamFailure) -> Failure {
+        match failure {
+            StreamFailure::BadInput(trouble) => Failure::BadInput(Trouble::Blocks(trouble)),
+            StreamFailure::Read => Failure::Read,
+            StreamFailure::Write => Failure::Write,
+            StreamFailure::OutOfMemory => Failure::OutOfMemory,
+        }
+    }
+}

@@ -1,0 +1,35 @@
+ghost use Rattle.std.specs.Prelude.{◌≡◌};
+ghost use Rattle.pitch_words.specs.Forms.{IsInRange};
+ghost use Rattle.pitch_tool.specs.Jobs.{job_of as the_job, CanDo};
+
+use pitch_words::Form;
+use stream_print::StreamForm;
+
+/// What is made of a whole text.
+#[derive(Clone, Copy, Debug, PartialEq, Eq)]
+pub enum TextForm {
+    /// Of venue commands, the datagrams of this unit.
+    Pack { unit: u8 },
+}
+
+/// What a form of the words asks for.
+#[derive(Clone, Copy, Debug, PartialEq, Eq)]
+pub enum Job {
+    /// A stream of blocks is read, and printed as it comes.
+    Stream(StreamForm),
+    /// A whole text is read, and what it makes is written.
+    Text(TextForm),
+}
+
+/// The job of a form.
+pub fn job_of(form: Form) -> Job
+    requires { IsInRange form }
+    ensures job { result ≡ the_job form }
+    ensures can { CanDo result }
+{
+    match form {
+        Form::Follow { hold } => Job::Stream(StreamForm::Follow { hold }),
+        Form::Show => Job::Stream(StreamForm::Show),
+        Form::Pack { unit } => Job::Text(TextForm::Pack { unit }),
+    }
+}

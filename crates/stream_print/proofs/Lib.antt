@@ -1,0 +1,12 @@
+pub mod Booking
+pub mod Feeding
+pub mod Finishing
+pub mod Flow
+pub mod Keeping
+pub mod Naming
+pub mod Printing
+pub mod Showing
+pub mod Streaming
+pub mod Taking
+pub mod Uniting
+pub mod Unprinted

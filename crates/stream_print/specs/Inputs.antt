@@ -1,0 +1,81 @@
+-- A stream of blocks: what is wrong with it, and what is written for it.
+use Rattle.std.specs.Prelude.{◌≡◌, ℕ, List, [], ◌++◌, length, take, nat_lt, cond, Option, Some, None, Result, Ok, Err, ◌⊎◌}
+use Rattle.std.specs.Io.KnownBytes.{Consumes}
+use Rattle.pitch_io.specs.Putting.{Grows}
+use Rattle.unit_packets.specs.Cutting.{fault_of, fault_at_end}
+use Rattle.unit_packets.specs.declared.header.BlockFault.{BlockFault}
+use Rattle.stream_print.specs.declared.stream_form.StreamForm.{StreamForm}
+use Rattle.stream_print.specs.Putting.{PutsSome}
+use Rattle.stream_print.specs.Texts.{texts_for, IsText, IsFrontOfText}
+use Rattle.stream_print.specs.Told.{Told}
+use Rattle.stream_print.specs.declared.failure.StreamFailure.{StreamFailure}
+use Rattle.stream_print.specs.declared.failure.StreamFailure.TheVariants.{BadInput, Read, Write, OutOfMemory}
+use Rattle.stream_print.specs.declared.failure.StreamTrouble.{StreamTrouble}
+use Rattle.stream_print.specs.declared.failure.StreamTrouble.TheVariants.{Faulty, TooLong}
+
+-- how many bytes of a stream of blocks are read at most: 2^30
+abbrev pub stream_limit : ℕ
+stream_limit = 1073741824
+
+-- a fault, or else something else
+abbrev pub faulty : Option BlockFault → Option StreamTrouble → Option StreamTrouble
+faulty (Some fault) other = Some (Faulty fault)
+faulty None other = other
+
+-- what is wrong with a stream of which at most `most` bytes are read: a fault among the first of them that more bytes do
+-- not mend, or else more bytes than that, or else an end inside a block
+unfoldable pub trouble_of : ℕ → List ℕ → Option StreamTrouble
+trouble_of most bytes = faulty (fault_of (take most bytes)) (cond (nat_lt most (length bytes)) (Some TooLong) (faulty (fault_at_end bytes) None))
+
+-- ---- How a stream ends
+-- where a source told its bytes, these are all of them, and nothing is left
+abbrev pub AreAll : Option (List ℕ) → Option (List ℕ) → List ℕ → Type 0
+AreAll None left bytes = Unit {0}
+AreAll (Some all) left bytes = (all ≡ bytes) × (left ≡ Some [])
+
+-- all the bytes of the source were read
+abbrev pub ReadsAll : Told → List ℕ → Type 0
+ReadsAll input bytes = AreAll input.old input.new bytes
+
+-- the bytes that a source has, where it tells them
+abbrev pub Has : Option (List ℕ) → List ℕ → Type 0
+Has None bytes = Unit {0}
+Has (Some all) bytes = all ≡ bytes
+
+-- the whole stream was read and has no fault, and its text was written
+pub record WritesAll (form : StreamForm) (most : ℕ) (input out : Told) : Type 0 where
+  pub bytes : List ℕ
+  pub read : ReadsAll input bytes
+  pub sound : trouble_of most bytes ≡ None
+  pub text : List ℕ
+  pub is_text : IsText form bytes text
+  pub wrote : Grows out.old out.new text
+
+-- the stream has this trouble, and the texts of the whole blocks before were written, and no book
+pub record Refuses (form : StreamForm) (most : ℕ) (trouble : StreamTrouble) (input out : Told) : Type 0 where
+  pub bytes : List ℕ
+  pub has : Has input.old bytes
+  pub trouble_is : trouble_of most bytes ≡ Some trouble
+  pub wrote : Grows out.old out.new (texts_for form (take most bytes))
+
+-- the source failed after some bytes, and the texts of their whole blocks were written
+pub record ReadsSome (form : StreamForm) (input out : Told) : Type 0 where
+  pub bytes : List ℕ
+  pub read : Consumes input.old input.new bytes
+  pub wrote : Grows out.old out.new (texts_for form bytes)
+
+-- some bytes were read, and a prefix of the texts of their blocks was written, or, where they are all, of the whole text
+pub record WritesSome (form : StreamForm) (input out : Told) : Type 0 where
+  pub bytes : List ℕ
+  pub read : Consumes input.old input.new bytes
+  pub text : List ℕ
+  pub wrote : PutsSome out.old out.new text
+  pub is_front : (text ≡ texts_for form bytes) ⊎ (ReadsAll input bytes × IsFrontOfText form bytes text)
+
+-- how a stream ends
+abbrev pub StreamEnds : StreamForm → ℕ → Result (Unit {0}) StreamFailure → (input out : Told) → Type 0
+StreamEnds form most (Ok done) input out = WritesAll form most input out
+StreamEnds form most (Err (BadInput trouble)) input out = Refuses form most trouble input out
+StreamEnds form most (Err Read) input out = ReadsSome form input out
+StreamEnds form most (Err Write) input out = WritesSome form input out
+StreamEnds form most (Err OutOfMemory) input out = WritesSome form input out

@@ -1,0 +1,29 @@
+-- What a printer knows once some blocks were printed. Blocks stand newest first.
+use Rattle.std.specs.Prelude.{◌≡◌, ◌≤◌, ℕ, List, length}
+use Rattle.unit_packets.specs.Blocks.{Block}
+use Rattle.unit_clients.specs.Clients.{HaveHeard}
+use Rattle.stream_print.specs.declared.stream_form.StreamForm.{StreamForm}
+use Rattle.stream_print.specs.declared.stream_form.StreamForm.TheVariants as form
+use Rattle.stream_print.specs.declared.printer.Printer.{Printer}
+use Rattle.stream_print.specs.declared.task.Task.{Task}
+use Rattle.stream_print.specs.declared.task.Task.TheVariants.{Follow, Show}
+
+-- the hold has a place at least, and at most 65,536
+abbrev pub IsPossible : StreamForm → Type 0
+IsPossible (form.Follow hold) = (1 ≤ hold) × (hold ≤ 65536)
+IsPossible form.Show = Unit {0}
+
+-- the form that a task does
+abbrev pub form_of : Task → StreamForm
+form_of (Follow units) = form.Follow units.limit
+form_of Show = form.Show
+
+-- the clients of a follower have heard the blocks; `show` needs to know nothing of them
+abbrev pub Knows : Task → List Block → Type 0
+Knows (Follow units) before = HaveHeard units before
+Knows Show before = Unit {0}
+
+-- the blocks were counted, and the task knows of them
+pub record HasPrinted (p : Printer) (before : List Block) : Type 0 where
+  pub number_is : p.number ≡ length before
+  pub knows : Knows p.task before

@@ -1,0 +1,13 @@
+pub mod Books
+pub mod Ending
+pub mod Failures
+pub mod Feeding
+pub mod Inputs
+pub mod Knowing
+pub mod Page
+pub mod Pieces
+pub mod Printing
+pub mod Putting
+pub mod Rising
+pub mod Texts
+pub mod Told

@@ -1,0 +1,15 @@
+-- Text that is to be written.
+use Rattle.std.specs.Prelude.{◌≡◌, ℕ, ◌≤◌, List, ◌++◌, length, take, drop, Option}
+use Rattle.pitch_io.specs.Putting.{Grows}
+
+-- the text so far, and how many bytes the page has room for
+pub record Page : Type 0 where
+  pub text : List ℕ
+  pub size : ℕ
+
+-- the page and a text, one after the other: some prefix of both was written, and the rest stands on the page
+pub record Prints (old : Option (List ℕ)) (before : List ℕ) (new : Option (List ℕ)) (after text : List ℕ) : Type 0 where
+  pub count : ℕ
+  pub within : count ≤ length (before ++ text)
+  pub written : Grows old new (take count (before ++ text))
+  pub rest : after ≡ drop count (before ++ text)

@@ -1,0 +1,90 @@
+ghost use Rattle.std.specs.Prelude.{◌≡◌, ◌++◌, [], List, ℕ, OnOk, OnErr, Err, length};
+ghost use Rattle.unit_packets.specs.Blocks.{Block};
+ghost use Rattle.unit_clients.specs.Clients.{AreUnits, IsClient, Clients};
+ghost use Rattle.stream_print.specs.Books.{PrintsUnit, PutsUnit, PrintsBooks, PutsBooks};
+ghost use Rattle.std.specs.List.{flat_map};
+ghost use Rattle.pitch_io.specs.Causes.{HasCause};
+ghost use Rattle.feed_lines.specs.BookText.{order_line, book_text};
+ghost use Rattle.stream_print.specs.Page.{Prints};
+ghost use Rattle.stream_print.specs.Putting.{PutsSome};
+
+use crate::failure::PrintError;
+use crate::page::Page;
+use client_core::UnitClient;
+use order_book::{OrderList, UnitBook};
+use pitch_io::Sink;
+use pitch_messages::Order;
+use std::alloc::Global;
+
+// Prints the lines of orders.
+fn print_orders<O: Sink>(page: &mut Page, out: &mut O, orders: &[Order]) -> Result<(), PrintError>
+    ensures printed { OnOk result (Prints (O.written out.old) page.old.text (O.written out.new) page.new.text (flat_map (λ o. order_line o.id o) orders.now)) }
+    ensures err { OnErr result (PutsSome (O.written out.old) (O.written out.new) (page.old.text ++ flat_map (λ o. order_line o.id o) orders.now)) }
+    ensures cause { HasCause (O.faults out.old) (O.faults out.new) (result ≡ Err PrintError.Write) }
+{
+    'lines: for order in orders {
+        page.make_place(out)?;
+        page.add_order(order);
+    }
+    Ok(())
+}
+
+/// Prints the book of a unit that reaches so far.
+pub fn print_book<O: Sink>(
+    alloc: Global,
+    page: &mut Page,
+    out: &mut O,
+    unit: u8,
+    reach: u32,
+    book: &UnitBook,
+) -> Result<(), PrintError>
+    ensures printed { OnOk result (Prints (O.written out.old) page.old.text (O.written out.new) page.new.text (book_text unit reach book.now.book)) }
+    ensures err { OnErr result (PutsSome (O.written out.old) (O.written out.new) (page.old.text ++ book_text unit reach book.now.book)) }
+    ensures cause { HasCause (O.faults out.old) (O.faults out.new) (result ≡ Err PrintError.Write) }
+{
+    let mut orders = OrderList::make(alloc);
+    book.orders_by_id(&mut orders)?;
+    page.make_place(out)?;
+    page.add_book(unit, reach, book.second(), u64::from(book.len()));
+    print_orders(page, out, orders.as_slice())
+}
+
+// Prints the book of a unit, where it has a client.
+fn print_unit<O: Sink>(
+    alloc: Global,
+    unit: u8,
+    slot: &Option<UnitClient>,
+    page: &mut Page,
+    out: &mut O,
+) -> Result<(), PrintError>
+    ensures printed { OnOk result ((H : ℕ) (before : List Block) → IsClient H before unit slot.now
+        → PrintsUnit H slot.now before unit (O.written out.old) page.old.text (O.written out.new) page.new.text) }
+    ensures err { OnErr result ((H : ℕ) (before : List Block) → IsClient H before unit slot.now
+        → PutsUnit H slot.now before unit (O.written out.old) page.old.text (O.written out.new)) }
+    ensures cause { HasCause (O.faults out.old) (O.faults out.new) (result ≡ Err PrintError.Write) }
+{
+    match slot {
+        Some(client) => print_book(alloc, page, out, unit, client.reach(), client.book()),
+        None => Ok(()),
+    }
+}
+
+/// Prints the books of all units that have a client, by rising unit.
+pub fn print_books<O: Sink>(
+    alloc: Global,
+    clients: &[Option<UnitClient>],
+    page: &mut Page,
+    out: &mut O,
+) -> Result<(), PrintError>
+    requires many { length clients.now ≡ 256 }
+    ensures printed { OnOk result ((H : ℕ) (before : List Block) → Clients H clients.now before
+        → PrintsBooks H clients.now before 256 (O.written out.old) page.old.text (O.written out.new) page.new.text) }
+    ensures err { OnErr result ((H : ℕ) (before : List Block) → Clients H clients.now before → AreUnits before
+        → PutsBooks H clients.now before (O.written out.old) page.old.text (O.written out.new)) }
+    ensures cause { HasCause (O.faults out.old) (O.faults out.new) (result ≡ Err PrintError.Write) }
+{
+    'units: for unit in 0..clients.len() {
+        print_unit(alloc, unit as u8, &clients[unit], page, out)?;
+    }
+    Ok(())
+}

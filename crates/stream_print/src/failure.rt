@@ -1,0 +1,92 @@
+use crate::putting::PutFailed;
+use pitch_fields::OutOfMemory;
+use unit_packets::BlockFault;
+
+/// What is wrong with a stream of blocks.
+#[derive(Clone, Copy, Debug, PartialEq, Eq)]
+pub enum StreamTrouble {
+    /// A block has a fault, or the stream ends inside one.
+    Faulty(BlockFault),
+    /// The stream has more bytes than are read.
+    TooLong,
+}
+
+/// Why printing a stream ended before its whole text.
+#[derive(Clone, Copy, Debug, PartialEq, Eq)]
+pub enum StreamFailure {
+    /// The stream has a fault, or is too long.
+    BadInput(StreamTrouble),
+    /// The source failed.
+    Read,
+    /// The sink failed.
+    Write,
+    /// Memory ran out.
+    OutOfMemory,
+}
+
+/// Why text could not be printed.
+#[derive(Clone, Copy, Debug, PartialEq, Eq)]
+pub enum PrintError {
+    /// The sink failed.
+    Write,
+    /// Memory ran out.
+    OutOfMemory,
+}
+
+impl From<PutFailed> for PrintError {
+    ghost use Rattle.std.specs.Prelude.{◌≡◌};
+    ghost use Rattle.stream_print.specs.declared.failure.PrintError.TheVariants as printing;
+
+    ghost from_gives = { λ _ error. error ≡ printing.Write };
+
+    fn from(_: PutFailed) -> PrintError {
+        PrintError::Write
+    }
+}
+
+impl From<OutOfMemory> for PrintError {
+    ghost use Rattle.std.specs.Prelude.{◌≡◌};
+    ghost use Rattle.stream_print.specs.declared.failure.PrintError.TheVariants as printing;
+
+    ghost from_gives = { λ _ error. error ≡ printing.OutOfMemory };
+
+    fn from(_: OutOfMemory) -> PrintError {
+        PrintError::OutOfMemory
+    }
+}
+
+impl From<PrintError> for StreamFailure {
+    ghost use Rattle.std.specs.Prelude.{◌≡◌};
+    ghost use Rattle.stream_print.specs.Failures.{unprinted};
+
+    ghost from_gives = { λ error failure. failure ≡ unprinted error };
+
+    fn from(error: PrintError) -> StreamFailure {
+        match error {
+            PrintError::Write => StreamFailure::Write,
+            PrintError::OutOfMemory => StreamFailure::OutOfMemory,
+        }
+    }
+}
+
+impl From<PutFailed> for StreamFailure {
+    ghost use Rattle.std.specs.Prelude.{◌≡◌};
+    ghost use Rattle.stream_print.specs.declared.failure.StreamFailure.TheVariants as stream;
+
+    ghost from_gives = { λ _ failure. failure ≡ stream.Write };
+
+    fn from(_: PutFailed) -> StreamFailure {
+        StreamFailure::Write
+    }
+}
+
+impl From<OutOfMemory> for StreamFailure {
+    ghost use Rattle.std.specs.Prelude.{◌≡◌};
+    ghost use Rattle.stream_print.specs.declared.failure.StreamFailure.TheVariants as stream;
+
+    ghost from_gives = { λ _ failure. failure ≡ stream.OutOfMemory };
+
+    fn from(_: OutOfMemory) -> StreamFailure {
+        StreamFailure::OutOfMemory
+    }
+}

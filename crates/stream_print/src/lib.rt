@@ -1,0 +1,24 @@
+//! A stream of blocks read from a source and printed to a sink: a text for each block as soon as it has come, and one at the
+//! stream's end.
+//!
+//! `print_stream` says for each way to end what was written, whatever pieces the source gives: the whole text, the texts of the
+//! blocks before a fault, or some prefix of the text where a device or memory failed. Give it a form, a source and a sink; a
+//! command with a new form adds a `Task`.
+#![tactic(auto)]
+
+mod books;
+mod failure;
+mod page;
+mod pieces;
+mod printer;
+mod putting;
+mod shown;
+mod stream;
+mod stream_form;
+mod task;
+
+pub use crate::failure::{StreamFailure, StreamTrouble};
+pub use crate::pieces::{PIECE, piece_buffer, take_at_most};
+pub use crate::putting::{PutFailed, put_all};
+pub use crate::stream::{INPUT_LIMIT, print_stream};
+pub use crate::stream_form::StreamForm;

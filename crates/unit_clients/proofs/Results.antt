@@ -1,0 +1,14 @@
+-- A clause on a result, and a weaker one of the same result.
+use Rattle.std.proofs.Common.{Result, Ok, Err, OnOk, OnErr}
+
+pub on_err : {A E : Type 0} (P : Type 0) (r : Result A E) → P → OnErr r P
+on_err P (Ok x) p = tt
+on_err P (Err e) p = p
+
+pub on_err_map : {A E : Type 0} (P Q : Type 0) (r : Result A E) → OnErr r P → (P → Q) → OnErr r Q
+on_err_map P Q (Ok x) p f = tt
+on_err_map P Q (Err e) p f = f p
+
+pub on_ok_map : {A E : Type 0} (P Q : Type 0) (r : Result A E) → OnOk r P → (P → Q) → OnOk r Q
+on_ok_map P Q (Ok x) p f = f p
+on_ok_map P Q (Err e) p f = tt

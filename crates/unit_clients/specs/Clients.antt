@@ -1,0 +1,50 @@
+-- What the clients of all units stand for, once some blocks were heard. Blocks stand newest first.
+use Rattle.std.specs.Prelude.{◌≡◌, ℕ, ◌<◌, Bool, true, false, ◌==◌, List, length, Option, Some, None, slice_get}
+use Rattle.std.specs.List.{list_any}
+use Rattle.unit_packets.specs.Blocks.{Block}
+use Rattle.pitch_model.specs.History.{Raw, Entry}
+use Rattle.pitch_model.specs.Units.{unit_history, AllHonest}
+use Rattle.client_core.specs.Tracks.{Tracks, Keeps}
+use Rattle.client_core.specs.declared.client.UnitClient.{UnitClient}
+
+-- how many messages each client holds at most, and the place of each unit at its number
+pub record Units : Type 0 where
+  pub limit : ℕ
+  pub clients : List (Option UnitClient)
+
+-- a block names the unit
+abbrev pub is_named : List Block → ℕ → Bool
+is_named before unit = list_any (λ block. unit == block.unit) before
+
+-- a header names a unit by one byte
+abbrev pub AreUnits : List Block → Type 0
+AreUnits before = (unit : ℕ) → is_named before unit ≡ true → unit < 256
+
+-- a unit has a client exactly where a block names it, and the client is where the unit's blocks bring it
+abbrev pub IsClient : ℕ → List Block → ℕ → Option UnitClient → Type 0
+IsClient H before unit None = is_named before unit ≡ false
+IsClient H before unit (Some client) = (is_named before unit ≡ true) × Tracks client H (unit_history unit before)
+
+-- there is a client, and it stands for this history
+abbrev pub TracksAt : ℕ → List Entry → Option UnitClient → Type 0
+TracksAt H E None = ⊥
+TracksAt H E (Some client) = Tracks client H E
+
+-- each of the 256 units has its place
+pub record Clients (H : ℕ) (clients : List (Option UnitClient)) (before : List Block) : Type 0 where
+  pub many : length clients ≡ 256
+  pub each : (unit : ℕ) (client : Option UnitClient) → slice_get clients unit ≡ Some client → IsClient H before unit client
+
+-- a unit's client, where it has one, keeps to its venue's messages
+abbrev pub KeepsTo : List Raw → Option UnitClient → Type 0
+KeepsTo V None = Unit {0}
+KeepsTo V (Some client) = Keeps client V
+
+abbrev pub AllKeep : (ℕ → List Raw) → List (Option UnitClient) → Type 0
+AllKeep Vs clients = (unit : ℕ) (client : Option UnitClient) → slice_get clients unit ≡ Some client → KeepsTo (Vs unit) client
+
+-- each unit's client heard its blocks, and keeps to its venue's messages wherever the blocks speak of no others
+pub record HaveHeard (units : Units) (before : List Block) : Type 0 where
+  pub clients : Clients units.limit units.clients before
+  pub named : AreUnits before
+  pub keep : (Image : List Raw → ℕ → List Raw) (Vs : ℕ → List Raw) → AllHonest Image Vs before → AllKeep Vs units.clients

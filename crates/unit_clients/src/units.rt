@@ -1,0 +1,121 @@
+ghost use Rattle.std.specs.Prelude.{◌≡◌, ◌≤◌, ℕ, List, [], ◌∷◌, OnOk, IfOk, IsSome, length};
+ghost use Rattle.unit_packets.specs.Blocks.{Block};
+ghost use Rattle.pitch_model.specs.History.{Raw, Entry};
+ghost use Rattle.pitch_model.specs.Units.{unit_history};
+ghost use Rattle.pitch_model.specs.Heard.{heard_block, block_change};
+ghost use Rattle.pitch_model.specs.Honest.{Honest};
+ghost use Rattle.unit_clients.specs.Clients.{IsClient, TracksAt, Clients, KeepsTo, AllKeep, HaveHeard};
+
+use client_core::{Change, UnitClient};
+use pitch_fields::OutOfMemory;
+use std::alloc::Global;
+use std::marker::Model;
+use unit_packets::BlockView;
+
+/// The number of units that a header can name.
+pub const UNITS: usize = 256;
+
+/// The client of each unit that a block named. Each holds at most so many messages that came too early.
+#[derive(Drop)]
+pub struct Units {
+    limit: u32,
+    clients: Vec<Option<UnitClient>>,
+}
+
+impl Model for Units {
+    ghost use Rattle.std.specs.Prelude.{◌≡◌, ◌≤◌, length};
+    ghost use Rattle.std.specs.Coded.{codes};
+    ghost use Rattle.client_core.specs.contracts.client.UnitClient as client;
+    ghost use Rattle.unit_clients.specs.Clients.{Units};
+
+    ghost Value = { Units };
+
+    ghost view = { λ u. record { limit = u.limit; clients = u.clients.items } };
+
+    ghost coded = { Prim.hlevel (codes, client.the_row.coded) };
+
+    ghost invariant = { λ u. (1 ≤ u.limit) × (u.limit ≤ 65536) × (length u.clients.items ≡ 256) };
+}
+
+// No unit has a client yet.
+fn no_clients(alloc: Global) -> Result<Vec<Option<UnitClient>>, OutOfMemory>
+    ensures clients { IfOk result (λ clients. (H : ℕ) → Clients H clients.items []) }
+    ensures keep { IfOk result (λ clients. (Vs : ℕ → List Raw) → AllKeep Vs clients.items) }
+{
+    let mut clients = Vec::with_capacity(alloc, UNITS)?;
+    for _ in 0..UNITS {
+        clients.push(None)?;
+    }
+    Ok(clients)
+}
+
+// Makes the client of a unit that has none.
+#[inline]
+fn make_known(alloc: Global, limit: u32, slot: &mut Option<UnitClient>) -> Result<(), OutOfMemory>
+    requires { (1 ≤ limit) × (limit ≤ 65536) }
+    ensures tracks { OnOk result ((before : List Block) (unit : ℕ) → IsClient limit before unit slot.old → TracksAt limit (unit_history unit before) slot.new) }
+    ensures keeps { OnOk result ((V : List Raw) → KeepsTo V slot.old → KeepsTo V slot.new) }
+    ensures some { OnOk result (IsSome slot.new) }
+{
+    match slot {
+        Some(_) => Ok(()),
+        None => {
+            *slot = Some(UnitClient::make(alloc, limit)?);
+            Ok(())
+        }
+    }
+}
+
+// Hands a block to the client of its unit, where it stands.
+#[inline]
+fn hear_at(slot: &mut Option<UnitClient>, block: &BlockView<'_>) -> Result<Change, OutOfMemory>
+    requires { IsSome slot.old }
+    ensures tracks { OnOk result ((H : ℕ) (E : List Entry) → TracksAt H E slot.old → TracksAt H (heard_block block.now E) slot.new) }
+    ensures keeps { OnOk result ((Image : List Raw → ℕ → List Raw) (V : List Raw) (E : List Entry) → Honest Image V (heard_block block.now E) → KeepsTo V slot.old → KeepsTo V slot.new) }
+    ensures change { IfOk result (λ change. (H : ℕ) (E : List Entry) → TracksAt H E slot.old → change ≡ block_change H E block.now) }
+{
+    match slot {
+        Some(client) => client.hear_block(block.header().sequence, block.raws()),
+        None => unreachable!(),
+    }
+}
+
+impl Units {
+    /// No unit has a client yet. Each will hold at most `limit` messages, from 1 to 65,536.
+    pub fn make(alloc: Global, limit: u32) -> Result<Units, OutOfMemory>
+        requires { (1 ≤ limit) × (limit ≤ 65536) }
+        ensures limit { IfOk result (λ units. units.limit ≡ limit) }
+        ensures heard { IfOk result (λ units. HaveHeard units []) }
+    {
+        let clients = no_clients(alloc)?;
+        Ok(Units { limit, clients })
+    }
+
+    /// Hands a block to the client of its unit, and answers what it changed there.
+    ///
+    /// After an error, which comes only where memory runs out, nothing is known of the unit's client.
+    // Whatever blocks came before, the clients then stand for these with the block after them.
+    pub fn hear_block(
+        &mut self,
+        alloc: Global,
+        block: &BlockView<'_>,
+    ) -> Result<Change, OutOfMemory>
+        ensures limit { OnOk result (self.new.limit ≡ self.old.limit) }
+        ensures heard { OnOk result ((before : List Block) → HaveHeard self.old before → HaveHeard self.new (block.now ∷ before)) }
+        ensures change { IfOk result (λ change. (before : List Block) → HaveHeard self.old before
+            → change ≡ block_change self.old.limit (unit_history block.now.unit before) block.now) }
+    {
+        let unit = block.header().unit as usize;
+        make_known(alloc, self.limit, &mut self.clients[unit])?;
+        let change = hear_at(&mut self.clients[unit], block)?;
+        Ok(change)
+    }
+
+    /// The place of each unit, at its number. It is empty where no block named the unit.
+    pub fn clients(&self) -> &[Option<UnitClient>]
+        ensures clients { result.now ≡ self.now.clients }
+        ensures many { length result.now ≡ 256 }
+    {
+        &self.clients
+    }
+}
