@@ -13,9 +13,9 @@ use Rattle.pitch_model.specs.Book.{after}
 use Rattle.pitch_model.specs.History.{Entry, Raw, SpinUp, Advertised, Ticked, SpinReply, ImageMessages, SpinFinished}
 use Rattle.pitch_model.specs.Honest.{Honest}
 use Rattle.pitch_model.specs.Heard.{heard, image_end}
-use Rattle.pitch_model.specs.Image.{image}
+use Rattle.pitch_model.specs.Image.{image, image_of}
 use Rattle.pitch_model.specs.Reach.{reach_of}
-use Rattle.pitch_model.specs.Widths.{AreBytes}
+use Rattle.pitch_fields.specs.Fields.{AreBytes}
 use Rattle.pitch_model.specs.declared.ask.Ask.TheVariants.{Spin}
 use Rattle.pitch_model.specs.declared.change.ImageEnd.TheVariants.{Taken}
 use Rattle.pitch_model.specs.declared.item.Item.TheVariants as item
@@ -42,7 +42,7 @@ no_orders : finite.values nothing_open ≡ []
 no_orders = ap (map (λ (e : ℕ × Order). e.1)) (nil_from_length (finite.entries nothing_open) (sym (finite.len-entries nothing_open) ∙ finite.len-empty nat_cmp Order))
 
 image_is : opening ≡ image opening 1
-unfolding after reads image written add_message
+unfolding after reads image image_of written add_message
 image_is = ap (λ (orders : List Order). map written (Time 34200 ∷ map (λ order. add_message order 0) orders)) (sym no_orders)
 
 -- its end is honest, and the image is taken
