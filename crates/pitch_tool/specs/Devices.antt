@@ -4,7 +4,8 @@ use Rattle.pitch_io.specs.Causes.{Rose}
 use Rattle.pitch_io.specs.Putting.{Grows}
 use Rattle.stream_print.specs.Told.{Told, told}
 
--- a source or a sink before and after a run: what it tells of its bytes, and how many of its calls failed
+-- a source or a sink before and after a run: what it tells of its bytes, and how many of its calls
+-- failed
 pub record Device : Type 0 where
   pub bytes : Told
   pub faults : ℕ

@@ -3,7 +3,7 @@ use Rattle.std.specs.Prelude.{◌≡◌, ◌≤◌, ◌+◌, ℕ, List, Option, 
 use Rattle.pitch_words.specs.declared.form.Form.{Form}
 use Rattle.pitch_words.specs.declared.form.Form.TheVariants as form
 use Rattle.stream_print.specs.Inputs.{stream_limit, trouble_of, StreamEnds}
-use Rattle.stream_print.specs.Knowing.{IsPossible}
+use Rattle.stream_print.specs.Knowing.{CanHold}
 use Rattle.stream_print.specs.Told.{Told}
 use Rattle.stream_print.specs.declared.failure.StreamFailure.{StreamFailure}
 use Rattle.stream_print.specs.declared.failure.StreamFailure.TheVariants as stream
@@ -26,7 +26,7 @@ job_of (form.Pack unit) = Text (Pack unit)
 
 -- the numbers of a job lie in their ranges
 abbrev pub CanDo : Job → Type 0
-CanDo (Stream form) = IsPossible form
+CanDo (Stream form) = CanHold form
 CanDo (Text form) = Unit {0}
 
 -- how many bytes of the source a job takes at most: one more than it reads
@@ -44,8 +44,8 @@ abbrev pub trouble_in : Job → List ℕ → Option Trouble
 trouble_in (Stream form) bytes = blocks_trouble (trouble_of stream_limit bytes)
 trouble_in (Text form) bytes = text_trouble form text_limit bytes
 
--- a source tells its bytes, and a job has this to say of them; of a job that reads nothing it would be a unit type, whatever
--- the source tells
+-- a source tells its bytes, and a job has this to say of them; of a job that reads nothing it would
+-- be a unit type, whatever the source tells
 abbrev pub Judges : Job → Option (List ℕ) → Option Trouble → Type 0
 Judges (Stream form) left trouble = (bytes : List ℕ) × (left ≡ Some bytes) × (trouble_in (Stream form) bytes ≡ trouble)
 Judges (Text form) left trouble = (bytes : List ℕ) × (left ≡ Some bytes) × (trouble_in (Text form) bytes ≡ trouble)

@@ -44,7 +44,8 @@ IsNoForm words = (form : Form) → IsForm words form → ⊥
 abbrev pub Does : List (List ℕ) → Result (Unit {0}) Failure → (input out : Told) → Type 0
 Does words result input out = (form : Form) × IsForm words form × JobEnds (job_of form) result input out
 
--- memory ran out: before anything was read, during the job, or where an input was refused and the line that says so was made
+-- memory ran out: before anything was read, during the job, or where an input was refused and the
+-- line that says so was made
 abbrev pub RunsOut : List (List ℕ) → (input out : Told) → Type 0
 RunsOut words input out = (IsUntouched input × IsUntouched out)
     ⊎ (Does words (Err ending.OutOfMemory) input out ⊎ ((trouble : Trouble) × Does words (Err (ending.BadInput trouble)) input out))
@@ -58,7 +59,8 @@ Closes words ReadFault run = Does words (Err ending.Read) run.input.bytes run.ou
 Closes words WriteFault run = Does words (Err ending.Write) run.input.bytes run.out.bytes × Says run.err write_text
 Closes words OutOfMemory run = RunsOut words run.input.bytes run.out.bytes × Says run.err memory_text
 
--- a status that tells of a device's failure has its cause in that device's count, and no count falls
+-- a status that tells of a device's failure has its cause in that device's count, and no count
+-- falls
 pub record HasCauses (status : ExitStatus) (run : Run) : Type 0 where
   pub read : HasCause run.input.faults run.input.faults' (status ≡ ReadFault)
   pub write : HasCause run.out.faults run.out.faults' (status ≡ WriteFault)

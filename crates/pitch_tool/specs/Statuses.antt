@@ -3,10 +3,10 @@ use Rattle.std.specs.Prelude.{ℕ}
 use Rattle.pitch_tool.specs.declared.status.ExitStatus.{ExitStatus}
 use Rattle.pitch_tool.specs.declared.status.ExitStatus.TheVariants.{Done, Usage, BadInput, ReadFault, WriteFault, OutOfMemory}
 
-abbrev pub number_of : ExitStatus → ℕ
-number_of Done = 0
-number_of Usage = 2
-number_of BadInput = 3
-number_of ReadFault = 4
-number_of WriteFault = 5
-number_of OutOfMemory = 6
+abbrev pub status_number : ExitStatus → ℕ
+status_number Done = 0
+status_number Usage = 2
+status_number BadInput = 3
+status_number ReadFault = 4
+status_number WriteFault = 5
+status_number OutOfMemory = 6

@@ -28,11 +28,13 @@ feed_or_trouble (Err error) = Err (Commands error)
 abbrev pub made : TextForm → List ℕ → Result (List ℕ) Trouble
 made (Pack unit) text = feed_or_trouble (feed_of unit text)
 
--- the same by a relation: what is packed of a text is a packing of the messages that a venue accepts of it
+-- the same by a relation: what is packed of a text is a packing of the messages that a venue
+-- accepts of it
 abbrev pub IsMadeOf : TextForm → (text bytes : List ℕ) → Type 0
 IsMadeOf (Pack unit) text bytes = AppendsPacking unit text [] bytes
 
--- what is wrong with a text of which at most `most` bytes are read: that it has more, or else what the form finds
+-- what is wrong with a text of which at most `most` bytes are read: that it has more, or else what
+-- the form finds
 abbrev pub text_trouble : TextForm → ℕ → List ℕ → Option Trouble
 text_trouble form most text = cond (nat_lt most (length text)) (Some LongText) (result_err (made form text))
 

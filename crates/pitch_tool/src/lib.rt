@@ -1,8 +1,8 @@
 //! The program `pitch` as one call over words, a source and two sinks.
 //!
-//! `pitch` finds the form that the words are, does its job and answers the exit status. Each status has one sentence, `Closes`,
-//! on the words, on what was read and written, and on what was said. A job reads a stream of blocks or a text; a new command is
-//! a form of one of these, or a new job.
+//! `pitch` finds the form that the words are, does its job and answers the exit status. Each status
+//! has one sentence, `Closes`, on the words, on what was read and written, and on what was said. A
+//! job reads a stream of blocks or a text; a new command is a form of one of these, or a new job.
 #![tactic(auto)]
 
 mod commands;

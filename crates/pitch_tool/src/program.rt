@@ -6,7 +6,7 @@ ghost use Rattle.pitch_words.specs.declared.form.Form.{Form};
 ghost use Rattle.stream_print.specs.Told.{told, TakesAtMost};
 ghost use Rattle.pitch_tool.specs.Devices.{device};
 ghost use Rattle.pitch_tool.specs.Jobs.{CanDo, JobEnds, Judges, most_taken, job_of as the_job};
-ghost use Rattle.pitch_tool.specs.Program.{memory_text, trouble_text, RunEnds, Closes, HasCauses, IsWhole, IsRefusal};
+ghost use Rattle.pitch_tool.specs.Program.{memory_text, trouble_text, IsNoForm, RunEnds, Closes, HasCauses, IsWhole, IsRefusal};
 
 use crate::failure::{Failure, Trouble};
 use crate::job::{Job, job_of};
@@ -143,15 +143,17 @@ fn close<I: Source, O: Sink, E: Sink>(
 
 /// The program: does what the words ask for, and says on `err` why it ends before its whole text.
 ///
-/// `words` are those after the program's name: `follow`, and perhaps `--hold H` with H from 1 to 65,536 (4,096 where it
-/// isn't given), `show`, or `pack --unit U` with U from 1 to 255. The first two read a stream of Sequenced Unit Header blocks
-/// from `input`, of at most 1,073,741,824 bytes. `follow` writes to `out` a line for each block, and at the stream's end the
-/// books of all units that a block named; `show` writes a line for each block and for each message. `pack` reads venue commands,
-/// a text of at most 67,108,864 bytes, and writes their datagrams, back to back, once the venue has accepted all.
+/// `words` are those after the program's name: `follow`, and perhaps `--hold H` with H from 1 to
+/// 65,536 (4,096 where it isn't given), `show`, or `pack --unit U` with U from 1 to 255. The first
+/// two read a stream of Sequenced Unit Header blocks from `input`, of at most 1,073,741,824 bytes.
+/// `follow` writes to `out` a line for each block, and at the stream's end the books of all units
+/// that a block named; `show` writes a line for each block and for each message. `pack` reads venue
+/// commands, a text of at most 67,108,864 bytes, and writes their datagrams, back to back, once the
+/// venue has accepted all.
 ///
-/// At `Done` the whole text was written and nothing was said. At `Usage` nothing was read or written. At `BadInput` the texts of
-/// the whole blocks before the trouble were written, and no book; by `pack` nothing was. At `ReadFault` the source had failed,
-/// and at `WriteFault` the sink.
+/// At `Done` the whole text was written and nothing was said. At `Usage` nothing was read or
+/// written. At `BadInput` the texts of the whole blocks before the trouble were written, and no
+/// book; by `pack` nothing was. At `ReadFault` the source had failed, and at `WriteFault` the sink.
 pub fn pitch<I: Source, O: Sink, E: Sink>(
     alloc: Global,
     words: &[String],
@@ -167,12 +169,17 @@ pub fn pitch<I: Source, O: Sink, E: Sink>(
     // A read or a write fault was counted by its device.
     ensures causes { HasCauses result
         (record { input = device I.left I.faults input.old input.new; out = device O.written O.faults out.old out.new; err = device E.written E.faults err.old err.new }) }
-    // Whatever the status, the source was asked for no more than one byte past the limit of the form.
+    // Whatever the status, the source was asked for no more than one byte past the limit of the
+    // form.
     ensures reads { (form : Form) → IsForm (map string_bytes words.now) form → TakesAtMost (most_taken (the_job form)) (told I.left input.old input.new) }
-    // Where nothing is wrong with the words and the input and no device failed, the job was done whole, or memory ran out.
+    // Where the words are no form, that is the answer, or memory ran out.
+    ensures unknown { IsNoForm (map string_bytes words.now) → (result ≡ ExitStatus.Usage) ⊎ (result ≡ ExitStatus.OutOfMemory) }
+    // Where nothing is wrong with the words and the input and no device failed, the job was done
+    // whole, or memory ran out.
     ensures complete { (form : Form) → IsForm (map string_bytes words.now) form → Judges (the_job form) (I.left input.old) None
         → Rose (I.faults input.old) (I.faults input.new) ⊎ (Rose (O.faults out.old) (O.faults out.new) ⊎ IsWhole result) }
-    // Where something is wrong with the input and no device failed, the input was refused, or memory ran out.
+    // Where something is wrong with the input and no device failed, the input was refused, or
+    // memory ran out.
     ensures refused { (form : Form) (trouble : Trouble) → IsForm (map string_bytes words.now) form → Judges (the_job form) (I.left input.old) (Some trouble)
         → Rose (I.faults input.old) (I.faults input.new) ⊎ (Rose (O.faults out.old) (O.faults out.new) ⊎ IsRefusal result) }
 {

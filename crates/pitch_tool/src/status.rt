@@ -1,5 +1,5 @@
 ghost use Rattle.std.specs.Prelude.{◌≡◌};
-ghost use Rattle.pitch_tool.specs.Statuses.{number_of};
+ghost use Rattle.pitch_tool.specs.Statuses.{status_number};
 
 /// How the program ends.
 #[derive(Clone, Copy, Debug, PartialEq, Eq)]
@@ -21,7 +21,7 @@ pub enum ExitStatus {
 impl ExitStatus {
     /// The number with which the process ends.
     pub fn number(self) -> u8
-        ensures { result ≡ number_of self }
+        ensures { result ≡ status_number self }
     {
         match self {
             ExitStatus::Done => 0,

@@ -1,4 +1,9 @@
-ghost use Rattle.std.specs.Prelude.{◌<◌};
+ghost use Rattle.std.specs.Prelude.{◌<◌, Some, None, map, string_bytes};
+ghost use Rattle.pitch_words.specs.Forms.{IsForm};
+ghost use Rattle.pitch_words.specs.declared.form.Form.{Form};
+ghost use Rattle.pitch_tool.specs.Jobs.{Judges, job_of};
+ghost use Rattle.pitch_tool.specs.Program.{IsWhole, IsRefusal};
+ghost use Rattle.pitch_tool.specs.declared.failure.Trouble.{Trouble};
 
 use crate::{ExitStatus, pitch};
 use pitch_fields::OutOfMemory;
@@ -32,7 +37,8 @@ const LONGER: &[u8] = b"\x35\x00\x03\x01\x01\x00\x00\x00\x06\x20\x98\x85\x00\x00
     \x24\x21\x00\x00\x00\x00\x05\x00\x00\x00\x00\x00\x00\x00B\x64\x00\x00\x00IBM   \
     \xa0\x86\x01\x00\x00\x00\x00\x00\x01\xaa\xbb";
 
-// Order 9, hidden and of a participant: sells 50 of ABCDEFGH at 12.3456. Then order 3: buys 7 of IBM at 10.
+// Order 9, hidden and of a participant: sells 50 of ABCDEFGH at 12.3456. Then order 3: buys 7 of
+// IBM at 10.
 const HIDDEN: &[u8] = b"\x4a\x00\x02\x01\x01\x00\x00\x00\
     \x28\x2f\x00\x00\x00\x00\x09\x00\x00\x00\x00\x00\x00\x00S\x32\x00\x00\x00ABCDEFGH\
     \x40\xe2\x01\x00\x00\x00\x00\x00\x00CBOE\
@@ -264,6 +270,22 @@ fn stream_of(alloc: Global, blocks: &[&[u8]]) -> Result<Vec<u8>, OutOfMemory> {
     Ok(bytes)
 }
 
+/// The program over devices that never fail.
+fn pitch_steadily(
+    alloc: Global,
+    words: &[String],
+    input: &mut SteadySource,
+    out: &mut SteadySink,
+    err: &mut SteadySink,
+) -> ExitStatus
+    // Where nothing is wrong with the input, the job was done whole, or memory ran out.
+    ensures complete { (form : Form) → IsForm (map string_bytes words.now) form → Judges (job_of form) (Some input.old.bytes) None → IsWhole result }
+    // Where something is wrong with the input, it was refused, or memory ran out.
+    ensures refused { (form : Form) (trouble : Trouble) → IsForm (map string_bytes words.now) form → Judges (job_of form) (Some input.old.bytes) (Some trouble) → IsRefusal result }
+{
+    pitch(alloc, words, input, out, err)
+}
+
 /// What the program leaves.
 #[derive(Drop)]
 struct Outcome {
@@ -280,7 +302,7 @@ fn run(alloc: Global, line: &str, blocks: &[&[u8]], piece: usize) -> Result<Outc
     let mut input = SteadySource::make(stream_of(alloc, blocks)?, piece);
     let mut out = SteadySink::make(alloc, 4096)?;
     let mut err = SteadySink::make(alloc, 4096)?;
-    let status = pitch(alloc, words.as_slice(), &mut input, &mut out, &mut err);
+    let status = pitch_steadily(alloc, words.as_slice(), &mut input, &mut out, &mut err);
     Ok(Outcome { status, out, err })
 }
 
@@ -375,7 +397,7 @@ fn words_say_how_many_are_held(rt: HostRuntime) -> Result<(), Fail> {
         let mut input = SteadySource::make(stream_of(alloc, &[TIME, ADD])?, 65536);
         let mut out = SteadySink::make(alloc, 4096)?;
         let mut err = SteadySink::make(alloc, 4096)?;
-        let status = pitch(alloc, words.as_slice(), &mut input, &mut out, &mut err);
+        let status = pitch_steadily(alloc, words.as_slice(), &mut input, &mut out, &mut err);
         let usage = "pitch: usage: follow | show | pack | replay | storm | drill | demo\n";
         assert_eq!(rt; from_utf8(err.written())?, usage, "words {line}");
         assert_eq!(rt; from_utf8(out.written())?, "", "words {line}");

@@ -54,8 +54,8 @@ fn make(alloc: Global, form: TextForm, text: &[u8]) -> Result<Vec<u8>, Failure>
     }
 }
 
-/// Reads the whole text of a source, and writes what the form makes of it. Nothing is written before all of that is known. The
-/// text has at most `TEXT_LIMIT` bytes.
+/// Reads the whole text of a source, and writes what the form makes of it. Nothing is written
+/// before all of that is known. The text has at most `TEXT_LIMIT` bytes.
 pub fn print_text<I: Source, O: Sink>(
     alloc: Global,
     form: TextForm,

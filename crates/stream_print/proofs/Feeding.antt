@@ -20,7 +20,7 @@ use Rattle.stream_print.specs.declared.stream_form.StreamForm.{StreamForm}
 use Rattle.stream_print.specs.declared.stream_form.StreamForm.TheVariants.{Follow, Show}
 use Rattle.stream_print.specs.Feeding.{Fed}
 use Rattle.stream_print.specs.Inputs.{faulty, trouble_of, AreAll, WritesAll, Has, Refuses, WritesSome}
-use Rattle.stream_print.specs.Knowing.{form_of, HasPrinted}
+use Rattle.stream_print.specs.Knowing.{task_form, HasPrinted}
 use Rattle.stream_print.specs.Page.{Prints}
 use Rattle.stream_print.specs.Printing.{PrintsBlocks, PrintsAll}
 use Rattle.stream_print.specs.Putting.{PutsSome}
@@ -119,7 +119,7 @@ fed_unflushed form start u v w f g r s d e bytes piece fed all puts =
 
 -- a sink that fails at a piece
 pub fed_fails : (form : StreamForm) (start u v : Option (List ℕ)) (f : Printer) (r : Reading) (d : BlockError) (bytes piece : List ℕ) → Fed form start u f r d bytes
-    → ((before : List Block) → HasPrinted f before → PutsSome u v (f.page.text ++ texts_after (block_text (form_of f.task)) before (blocks_of (r.rest ++ piece)))) → PutsSome start v (texts_for form (bytes ++ piece))
+    → ((before : List Block) → HasPrinted f before → PutsSome u v (f.page.text ++ texts_after (block_text (task_form f.task)) before (blocks_of (r.rest ++ piece)))) → PutsSome start v (texts_for form (bytes ++ piece))
 fed_fails form start u v f r d bytes piece fed fails =
     let here = fails (reverse (blocks_of bytes)) fed.known in
     let there : PutsSome u v (f.page.text ++ more_texts form bytes piece) =

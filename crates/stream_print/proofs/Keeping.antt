@@ -12,9 +12,9 @@ use Rattle.unit_packets.specs.declared.header.BlockError.{BlockError}
 use Rattle.feed_lines.specs.Texts.{texts_after}
 use Rattle.stream_print.specs.Told.{between}
 use Rattle.stream_print.specs.declared.stream_form.StreamForm.{StreamForm}
-use Rattle.stream_print.specs.Feeding.{Fed, Feeds}
+use Rattle.stream_print.specs.Feeding.{Fed, StreamFeeds}
 use Rattle.stream_print.specs.Inputs.{StreamEnds, Refuses, WritesSome}
-use Rattle.stream_print.specs.Knowing.{form_of, HasPrinted}
+use Rattle.stream_print.specs.Knowing.{task_form, HasPrinted}
 use Rattle.stream_print.specs.Printing.{PrintsAll}
 use Rattle.stream_print.specs.Putting.{PutsSome}
 use Rattle.stream_print.specs.Texts.{block_text, texts_for}
@@ -30,10 +30,10 @@ whole : (k : ℕ) (bytes piece : List ℕ) → (bytes ++ take k piece) ++ drop k
 whole k bytes piece = append_assoc bytes (take k piece) (drop k piece) ∙ ap (λ (l : List ℕ). bytes ++ l) (take-append-drop k piece)
 
 -- what was kept
-pub fed_kept : (k : ℕ) (f g h : Printer) (start u v w : Option (List ℕ)) (r s : Reading) (d e : BlockError) (bytes piece : List ℕ) → k + length bytes ≤ 1073741824 → Fed (form_of f.task) start u f r d bytes
-    → PrintsAll f g (loaded r (take k piece)) s u v e → Grows v w g.page.text → h ≡ record g { page = record g.page { text = [] } } → Fed (form_of f.task) start w h s e (bytes ++ take k piece)
+pub fed_kept : (k : ℕ) (f g h : Printer) (start u v w : Option (List ℕ)) (r s : Reading) (d e : BlockError) (bytes piece : List ℕ) → k + length bytes ≤ 1073741824 → Fed (task_form f.task) start u f r d bytes
+    → PrintsAll f g (loaded r (take k piece)) s u v e → Grows v w g.page.text → h ≡ record g { page = record g.page { text = [] } } → Fed (task_form f.task) start w h s e (bytes ++ take k piece)
 fed_kept k f g h start u v w r s d e bytes piece small fed hears grows emptied =
-    fed_piece (form_of f.task) start u v w f g h r s d e bytes (take k piece) fed (omega (arith, length-append bytes (take k piece), length-take k piece, small)) hears grows emptied
+    fed_piece (task_form f.task) start u v w f g h r s d e bytes (take k piece) fed (omega (arith, length-append bytes (take k piece), length-take k piece, small)) hears grows emptied
 
 -- some front of the texts of what was kept is some front of those of the piece
 writes_kept : (k : ℕ) (form : StreamForm) (first now start v : Option (List ℕ)) (bytes piece : List ℕ) → Consumes first now (bytes ++ piece) → PutsSome start v (texts_for form (bytes ++ take k piece)) → WritesSome form (between first now) (between start v)
@@ -42,16 +42,16 @@ writes_kept k form first now start v bytes piece read puts =
     (subst (λ (l : List ℕ). PutsSome start v (texts_for form l)) (whole k bytes piece) (puts_texts form start v (bytes ++ take k piece) (drop k piece) puts))
 
 -- the sink failed while the piece was heard
-pub kept_fails : (k : ℕ) (f : Printer) (first now start u v : Option (List ℕ)) (r : Reading) (d : BlockError) (bytes piece : List ℕ) → Fed (form_of f.task) start u f r d bytes → Consumes first now (bytes ++ piece)
-    → ((before : List Block) → HasPrinted f before → PutsSome u v (f.page.text ++ texts_after (block_text (form_of f.task)) before (blocks_of (r.rest ++ take k piece)))) → WritesSome (form_of f.task) (between first now) (between start v)
+pub kept_fails : (k : ℕ) (f : Printer) (first now start u v : Option (List ℕ)) (r : Reading) (d : BlockError) (bytes piece : List ℕ) → Fed (task_form f.task) start u f r d bytes → Consumes first now (bytes ++ piece)
+    → ((before : List Block) → HasPrinted f before → PutsSome u v (f.page.text ++ texts_after (block_text (task_form f.task)) before (blocks_of (r.rest ++ take k piece)))) → WritesSome (task_form f.task) (between first now) (between start v)
 kept_fails k f first now start u v r d bytes piece fed read fails =
-    writes_kept k (form_of f.task) first now start v bytes piece read (fed_fails (form_of f.task) start u v f r d bytes (take k piece) fed fails)
+    writes_kept k (task_form f.task) first now start v bytes piece read (fed_fails (task_form f.task) start u v f r d bytes (take k piece) fed fails)
 
 -- or when the page was written out
-pub kept_unflushed : (k : ℕ) (f g : Printer) (first now start u v w : Option (List ℕ)) (r s : Reading) (d e : BlockError) (bytes piece : List ℕ) → Fed (form_of f.task) start u f r d bytes
-    → PrintsAll f g (loaded r (take k piece)) s u v e → Consumes first now (bytes ++ piece) → PutsSome v w g.page.text → WritesSome (form_of f.task) (between first now) (between start w)
+pub kept_unflushed : (k : ℕ) (f g : Printer) (first now start u v w : Option (List ℕ)) (r s : Reading) (d e : BlockError) (bytes piece : List ℕ) → Fed (task_form f.task) start u f r d bytes
+    → PrintsAll f g (loaded r (take k piece)) s u v e → Consumes first now (bytes ++ piece) → PutsSome v w g.page.text → WritesSome (task_form f.task) (between first now) (between start w)
 kept_unflushed k f g first now start u v w r s d e bytes piece fed hears read puts =
-    writes_kept k (form_of f.task) first now start w bytes piece read (fed_unflushed (form_of f.task) start u v w f g r s d e bytes (take k piece) fed hears puts)
+    writes_kept k (task_form f.task) first now start w bytes piece read (fed_unflushed (task_form f.task) start u v w f g r s d e bytes (take k piece) fed hears puts)
 
 -- a fault in what was kept
 pub kept_faulty : (k : ℕ) (form : StreamForm) (g : Printer) (first now start w : Option (List ℕ)) (s : Reading) (e : BlockError) (bytes piece : List ℕ) → k + length bytes ≤ 1073741824
@@ -75,7 +75,7 @@ kept_all k form g start v s e bytes piece le fed =
 
 -- what could not be printed ends the stream
 pub feeds_unprinted : (form : StreamForm) (most : ℕ) (answer : Result BlockError StreamFailure) (first now start v : Option (List ℕ)) (g : Printer) (s : Reading) (bytes : List ℕ) (e : PrintError)
-    → IsErr answer × IsErrAnd answer (λ failure. failure ≡ unprinted e) → WritesSome form (between first now) (between start v) → Feeds form most answer (between first now) (between start v) g s bytes
+    → IsErr answer × IsErrAnd answer (λ failure. failure ≡ unprinted e) → WritesSome form (between first now) (between start v) → StreamFeeds form most answer (between first now) (between start v) g s bytes
 feeds_unprinted form most (Ok error) first now start v g s bytes e is writes = absurd (true≢false (sym is.0))
 feeds_unprinted form most (Err failure) first now start v g s bytes e is writes =
     subst (λ (x : StreamFailure). StreamEnds form most (Err x) (between first now) (between start v)) (sym is.1) (ends_unwritten form most first now start v e writes)

@@ -13,7 +13,7 @@ use Rattle.unit_packets.proofs.Cuts.{none_of}
 use Rattle.stream_print.specs.declared.stream_form.StreamForm.{StreamForm}
 use Rattle.feed_lines.specs.Texts.{texts_after}
 use Rattle.feed_lines.proofs.Texts.{texts_none, texts_first, texts_more, reverse_more}
-use Rattle.stream_print.specs.Knowing.{form_of, HasPrinted}
+use Rattle.stream_print.specs.Knowing.{task_form, HasPrinted}
 use Rattle.stream_print.specs.Printing.{PrintsBlock, PrintsBlocks, PrintsAll}
 use Rattle.stream_print.specs.Page.{Prints}
 use Rattle.stream_print.specs.Putting.{PutsSome}
@@ -42,7 +42,7 @@ pub prints_no_block : (p : Printer) (written : Option (List ℕ)) → PrintsBloc
 prints_no_block p written = record {
   form_is = refl;
   known = λ before h. h;
-  printed = λ before h. subst (λ (t : List ℕ). Prints written p.page.text written p.page.text t) (sym (texts_none (block_text (form_of p.task)) before)) (prints_none written p.page.text);
+  printed = λ before h. subst (λ (t : List ℕ). Prints written p.page.text written p.page.text t) (sym (texts_none (block_text (task_form p.task)) before)) (prints_none written p.page.text);
 }
 
 pub prints_block_more : (f g h : Printer) (u v w : Option (List ℕ)) (blocks : List Block) (block : Block) → PrintsBlocks f g u v blocks → PrintsBlock g h v w block → PrintsBlocks f h u w (blocks ++ block ∷ [])
@@ -50,7 +50,7 @@ prints_block_more f g h u v w blocks block some more = record {
   form_is = more.form_is ∙ some.form_is;
   known = λ before stands. subst (HasPrinted h) (sym (reverse_then blocks block before)) (more.known (reverse blocks ++ before) (some.known before stands));
   printed = λ before stands.
-      let text = block_text (form_of f.task) in
+      let text = block_text (task_form f.task) in
       let last = subst (λ (form : StreamForm). Prints v g.page.text w h.page.text (block_text form (reverse blocks ++ before) block)) some.form_is (more.printed (reverse blocks ++ before) (some.known before stands)) in
       subst (λ (t : List ℕ). Prints u f.page.text w h.page.text t) (sym (texts_more text before blocks block))
       (prints_more u v w f.page.text g.page.text h.page.text (texts_after text before blocks) (text (reverse blocks ++ before) block) (some.printed before stands) last);
@@ -117,10 +117,10 @@ taking_end f g r s u v error so_far judged =
 
 -- a sink that fails at a block has some front of the texts
 pub taking_fails : (f g : Printer) (r s : Reading) (u v w : Option (List ℕ)) (before : List Block) (block : Block) → Taking f g r s u v → HasPrinted f before → StandsAtFront s.rest block
-    → ((earlier : List Block) → HasPrinted g earlier → PutsSome v w (g.page.text ++ block_text (form_of g.task) earlier block))
-    → PutsSome u w (f.page.text ++ texts_after (block_text (form_of f.task)) before (blocks_of r.rest))
+    → ((earlier : List Block) → HasPrinted g earlier → PutsSome v w (g.page.text ++ block_text (task_form g.task) earlier block))
+    → PutsSome u w (f.page.text ++ texts_after (block_text (task_form f.task)) before (blocks_of r.rest))
 taking_fails f g r s u v w before block so_far known stands fails =
-    let text = block_text (form_of f.task) in
+    let text = block_text (task_form f.task) in
     let l = leads s.rest block stands in
     let earlier : List Block = reverse so_far.done ++ before in
     let left : List ℕ = drop (header_for block).length s.rest in

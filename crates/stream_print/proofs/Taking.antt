@@ -16,7 +16,7 @@ use Rattle.stream_print.specs.Told.{between}
 use Rattle.stream_print.specs.declared.stream_form.StreamForm.{StreamForm}
 use Rattle.stream_print.specs.Feeding.{Fed}
 use Rattle.stream_print.specs.Inputs.{WritesSome}
-use Rattle.stream_print.specs.Knowing.{form_of, HasPrinted}
+use Rattle.stream_print.specs.Knowing.{task_form, HasPrinted}
 use Rattle.stream_print.specs.Texts.{block_text, texts_for}
 use Rattle.stream_print.specs.declared.printer.Printer.{Printer}
 use Rattle.stream_print.specs.declared.failure.StreamFailure.{StreamFailure}
@@ -46,7 +46,7 @@ no_texts : (form : StreamForm) → texts_for form [] ≡ []
 no_texts form = ap (texts_after (block_text form) []) no_blocks ∙ texts_none (block_text form) []
 
 -- nothing was taken yet
-pub taken_none : (form : StreamForm) (f : Printer) (r : Reading) (first start : Option (List ℕ)) → form_of f.task ≡ form → HasPrinted f [] → f.page.text ≡ []
+pub taken_none : (form : StreamForm) (f : Printer) (r : Reading) (first start : Option (List ℕ)) → task_form f.task ≡ form → HasPrinted f [] → f.page.text ≡ []
     → r ≡ record { rest = []; place = 0 } → Taken form f r (Truncated 0 8) 0 first first start start
 taken_none form f r first start is known page reader =
     let number = known.number_is in
@@ -97,7 +97,7 @@ later_cause a b c failed wanted le cause gives =
     }
 
 -- the form is that of the task
-pub own_form : (form : StreamForm) (start u : Option (List ℕ)) (f : Printer) (r : Reading) (e : BlockError) (bytes : List ℕ) → Fed form start u f r e bytes → Fed (form_of f.task) start u f r e bytes
+pub own_form : (form : StreamForm) (start u : Option (List ℕ)) (f : Printer) (r : Reading) (e : BlockError) (bytes : List ℕ) → Fed form start u f r e bytes → Fed (task_form f.task) start u f r e bytes
 own_form form start u f r e bytes fed = subst (λ (k : StreamForm). Fed k start u f r e bytes) (sym fed.form_is) fed
 
 -- the bytes that a source gave, where a buffer has them at its front

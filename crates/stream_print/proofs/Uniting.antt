@@ -1,4 +1,5 @@
 -- The books of all units, one after another.
+use Rattle.stream_print.specs.Texts.{IsEnd, IsFrontOfEnd}
 use Rattle.std.proofs.Common.{◌≡◌, ℕ, ◌+◌, ◌<◌, Bool, true, false, cond, List, [], ◌∷◌, ◌++◌, take, refl, sym, ap, ◌∙◌, subst, arith, Option, Some, None, slice_get, append_assoc}
 use Rattle.std.specs.List.{flat_map}
 use Rattle.std.proofs.lemmas.List.{append-nil}
@@ -11,23 +12,22 @@ use Rattle.pitch_model.specs.Units.{unit_history}
 use Rattle.feed_lines.specs.Follow.{unit_text, books_of}
 use Rattle.client_core.specs.Tracks.{Tracks, Keeps}
 use Rattle.client_core.specs.declared.client.UnitClient.{UnitClient}
-use Rattle.stream_print.specs.Books.{named_text, PrintsUnit, PutsUnit, PrintsBooks, PutsBooks}
+use Rattle.stream_print.specs.Books.{IsUnitText, AreBooksBelow, AreFirstBooks, named_text}
 use Rattle.stream_print.specs.declared.stream_form.StreamForm.TheVariants.{Follow}
-use Rattle.stream_print.specs.Ending.{PrintsEnd, PutsEnd}
 use Rattle.unit_clients.specs.Clients.{Units}
-use Rattle.stream_print.specs.Page.{Prints}
-use Rattle.stream_print.specs.Putting.{PutsSome}
+use Rattle.stream_print.specs.Page.{PrintsSuch, Prints}
+use Rattle.stream_print.specs.Putting.{PutsSuch, PutsSome}
 use Rattle.stream_print.specs.Rising.{named_below}
 use Rattle.unit_clients.specs.Clients.{is_named, IsClient, KeepsTo, AreUnits, HaveHeard}
 use Rattle.stream_print.proofs.Naming.{below_none, below_more, below_split, units_below}
 use Rattle.stream_print.proofs.Printing.{prints_none, prints_more, puts_then}
 
 -- ---- One unit
-pub unit_none : (H : ℕ) (slot : Option UnitClient) (before : List Block) (unit : ℕ) (w : Option (List ℕ)) (t : List ℕ) → slot ≡ None → IsClient H before unit slot → PrintsUnit H slot before unit w t w t
+pub unit_none : (H : ℕ) (slot : Option UnitClient) (before : List Block) (unit : ℕ) (w : Option (List ℕ)) (t : List ℕ) → slot ≡ None → IsClient H before unit slot → PrintsSuch (IsUnitText H slot before unit) w t w t
 unit_none H slot before unit w t is stands = record {
-  book = [];
+  text = [];
   printed = prints_none w t;
-  is = λ Vs keeps. sym (ap (λ (b : Bool). cond b (unit_text H Vs before unit) []) (subst (IsClient H before unit) is stands));
+  such = λ Vs keeps. sym (ap (λ (b : Bool). cond b (unit_text H Vs before unit) []) (subst (IsClient H before unit) is stands));
 }
 
 -- what a client's book prints as
@@ -50,12 +50,12 @@ named_is H slot client before unit n book is stands tells Vs keeps =
     text_is H client before unit n book Vs s.0 (tells.reach_is H (unit_history unit before) s.1) (tells.book_is H (unit_history unit before) (Vs unit) s.1 k)
 
 pub unit_some : (H : ℕ) (slot : Option UnitClient) (client : UnitClient) (before : List Block) (unit n : ℕ) (book : Book) (w : Option (List ℕ)) (t : List ℕ) (v : Option (List ℕ)) (u : List ℕ) → slot ≡ Some client
-    → IsClient H before unit slot → Tells client n book → Prints w t v u (book_text unit n book) → PrintsUnit H slot before unit w t v u
-unit_some H slot client before unit n book w t v u is stands tells printed = record { book = book_text unit n book; printed = printed; is = named_is H slot client before unit n book is stands tells }
+    → IsClient H before unit slot → Tells client n book → Prints w t v u (book_text unit n book) → PrintsSuch (IsUnitText H slot before unit) w t v u
+unit_some H slot client before unit n book w t v u is stands tells printed = record { text = book_text unit n book; printed = printed; such = named_is H slot client before unit n book is stands tells }
 
 pub unit_fails : (H : ℕ) (slot : Option UnitClient) (client : UnitClient) (before : List Block) (unit n : ℕ) (book : Book) (w : Option (List ℕ)) (t : List ℕ) (v : Option (List ℕ)) → slot ≡ Some client
-    → IsClient H before unit slot → Tells client n book → PutsSome w v (t ++ book_text unit n book) → PutsUnit H slot before unit w t v
-unit_fails H slot client before unit n book w t v is stands tells puts = record { book = book_text unit n book; puts = puts; is = named_is H slot client before unit n book is stands tells }
+    → IsClient H before unit slot → Tells client n book → PutsSome w v (t ++ book_text unit n book) → PutsSuch (IsUnitText H slot before unit) w t v
+unit_fails H slot client before unit n book w t v is stands tells puts = record { text = book_text unit n book; puts = puts; such = named_is H slot client before unit n book is stands tells }
 
 -- ---- All units
 flat_append : (f : ℕ → List ℕ) (xs ys : List ℕ) → flat_map f (xs ++ ys) ≡ flat_map f xs ++ flat_map f ys
@@ -73,29 +73,29 @@ one_more H Vs before n =
     last true = append-nil (unit_text H Vs before n)
     last false = refl
 
-pub books_start : (H : ℕ) (clients : List (Option UnitClient)) (before : List Block) (w : Option (List ℕ)) (t : List ℕ) → PrintsBooks H clients before 0 w t w t
-books_start H clients before w t = record { books = []; printed = prints_none w t; are = λ Vs keep. sym (ap (flat_map (unit_text H Vs before)) (below_none (is_named before))) }
+pub books_start : (H : ℕ) (clients : List (Option UnitClient)) (before : List Block) (w : Option (List ℕ)) (t : List ℕ) → PrintsSuch (AreBooksBelow H clients before 0) w t w t
+books_start H clients before w t = record { text = []; printed = prints_none w t; such = λ Vs keep. sym (ap (flat_map (unit_text H Vs before)) (below_none (is_named before))) }
 
 pub books_more : (H : ℕ) (clients : List (Option UnitClient)) (before : List Block) (n : ℕ) (slot : Option UnitClient) (a : Option (List ℕ)) (t : List ℕ) (b : Option (List ℕ)) (u : List ℕ) (c : Option (List ℕ)) (v : List ℕ)
-    → PrintsBooks H clients before n a t b u → slice_get clients n ≡ Some slot → PrintsUnit H slot before n b u c v → PrintsBooks H clients before (n + 1) a t c v
+    → PrintsSuch (AreBooksBelow H clients before n) a t b u → slice_get clients n ≡ Some slot → PrintsSuch (IsUnitText H slot before n) b u c v → PrintsSuch (AreBooksBelow H clients before (n + 1)) a t c v
 books_more H clients before n slot a t b u c v so_far at more = record {
-  books = so_far.books ++ more.book;
-  printed = prints_more a b c t u v so_far.books more.book so_far.printed more.printed;
-  are = λ Vs keep. ap (λ (l : List ℕ). l ++ more.book) (so_far.are Vs keep)
-      ∙ ap (λ (l : List ℕ). flat_map (unit_text H Vs before) (named_below (is_named before) n) ++ l) (more.is Vs (keep n slot at))
+  text = so_far.text ++ more.text;
+  printed = prints_more a b c t u v so_far.text more.text so_far.printed more.printed;
+  such = λ Vs keep. ap (λ (l : List ℕ). l ++ more.text) (so_far.such Vs keep)
+      ∙ ap (λ (l : List ℕ). flat_map (unit_text H Vs before) (named_below (is_named before) n) ++ l) (more.such Vs (keep n slot at))
       ∙ sym (one_more H Vs before n);
 }
 
 pub books_fail : (H : ℕ) (clients : List (Option UnitClient)) (before : List Block) (n : ℕ) (slot : Option UnitClient) (a : Option (List ℕ)) (t : List ℕ) (b : Option (List ℕ)) (u : List ℕ) (c : Option (List ℕ)) → n < 256 → AreUnits before
-    → PrintsBooks H clients before n a t b u → slice_get clients n ≡ Some slot → PutsUnit H slot before n b u c → PutsBooks H clients before a t c
+    → PrintsSuch (AreBooksBelow H clients before n) a t b u → slice_get clients n ≡ Some slot → PutsSuch (IsUnitText H slot before n) b u c → PutsSuch (AreFirstBooks H clients before) a t c
 books_fail H clients before n slot a t b u c lt low so_far at fails = record {
-  books = so_far.books ++ fails.book;
-  puts = puts_then a b c t u so_far.books fails.book so_far.printed fails.puts;
-  are = λ Vs keep.
+  text = so_far.text ++ fails.text;
+  puts = puts_then a b c t u so_far.text fails.text so_far.printed fails.puts;
+  such = λ Vs keep.
       let split = below_split (is_named before) (n + 1) 256 (omega arith) in
-      let here : so_far.books ++ fails.book ≡ flat_map (unit_text H Vs before) (named_below (is_named before) (n + 1)) =
-      ap (λ (l : List ℕ). l ++ fails.book) (so_far.are Vs keep)
-      ∙ ap (λ (l : List ℕ). flat_map (unit_text H Vs before) (named_below (is_named before) n) ++ l) (fails.is Vs (keep n slot at))
+      let here : so_far.text ++ fails.text ≡ flat_map (unit_text H Vs before) (named_below (is_named before) (n + 1)) =
+      ap (λ (l : List ℕ). l ++ fails.text) (so_far.such Vs keep)
+      ∙ ap (λ (l : List ℕ). flat_map (unit_text H Vs before) (named_below (is_named before) n) ++ l) (fails.such Vs (keep n slot at))
       ∙ sym (one_more H Vs before n) in (
         flat_map (unit_text H Vs before) split.0,
         ap (flat_map (unit_text H Vs before)) (units_below 256 before low ∙ split.1)
@@ -111,13 +111,13 @@ books_are H Vs before low = ap (flat_map (unit_text H Vs before)) (sym (units_be
 -- ---- The end of a stream that was followed
 -- for a venue that the blocks speak of, the books are those of its messages
 pub end_of_books : (units : Units) (before : List Block) (w : Option (List ℕ)) (t : List ℕ) (v : Option (List ℕ)) (u : List ℕ) → HaveHeard units before
-    → PrintsBooks units.limit units.clients before 256 w t v u → PrintsEnd (Follow units.limit) before w t v u
+    → PrintsSuch (AreBooksBelow units.limit units.clients before 256) w t v u → PrintsSuch (IsEnd (Follow units.limit) before) w t v u
 end_of_books units before w t v u heard p = record {
-  end = p.books;
+  text = p.text;
   printed = p.printed;
-  is_end = λ Image Vs honest. p.are Vs (heard.keep Image Vs honest) ∙ books_are units.limit Vs before heard.named;
+  such = λ Image Vs honest. p.such Vs (heard.keep Image Vs honest) ∙ books_are units.limit Vs before heard.named;
 }
 
 pub front_of_books : (units : Units) (before : List Block) (w : Option (List ℕ)) (t : List ℕ) (v : Option (List ℕ)) → HaveHeard units before
-    → PutsBooks units.limit units.clients before w t v → PutsEnd (Follow units.limit) before w t v
-front_of_books units before w t v heard p = record { end = p.books; puts = p.puts; is_front = λ Image Vs honest. p.are Vs (heard.keep Image Vs honest) }
+    → PutsSuch (AreFirstBooks units.limit units.clients before) w t v → PutsSuch (IsFrontOfEnd (Follow units.limit) before) w t v
+front_of_books units before w t v heard p = record { text = p.text; puts = p.puts; such = λ Image Vs honest. p.such Vs (heard.keep Image Vs honest) }

@@ -8,14 +8,15 @@ use Rattle.unit_packets.specs.declared.header.BlockError.{BlockError}
 use Rattle.stream_print.specs.declared.stream_form.StreamForm.{StreamForm}
 use Rattle.stream_print.specs.Inputs.{StreamEnds}
 use Rattle.stream_print.specs.Told.{Told}
-use Rattle.stream_print.specs.Knowing.{form_of, HasPrinted}
+use Rattle.stream_print.specs.Knowing.{task_form, HasPrinted}
 use Rattle.stream_print.specs.Texts.{texts_for}
 use Rattle.stream_print.specs.declared.printer.Printer.{Printer}
 use Rattle.stream_print.specs.declared.failure.StreamFailure.{StreamFailure}
 
--- the texts of the whole blocks were written, nothing of them waits on the page, and no block stands in what is left
+-- the texts of the whole blocks were written, nothing of them waits on the page, and no block
+-- stands in what is left
 pub record Fed (form : StreamForm) (start written : Option (List ℕ)) (p : Printer) (r : Reading) (error : BlockError) (bytes : List ℕ) : Type 0 where
-  pub form_is : form_of p.task ≡ form
+  pub form_is : task_form p.task ≡ form
   pub rest : r.rest ≡ rest_of bytes
   pub place : r.place ≡ place_of bytes
   pub judged : judge r.rest ≡ Err error
@@ -25,6 +26,6 @@ pub record Fed (form : StreamForm) (start written : Option (List ℕ)) (p : Prin
   pub few : 8 * p.number + length r.rest ≤ length bytes
 
 -- a piece more was fed, and bytes are still missing, or the stream ends here
-abbrev pub Feeds : StreamForm → ℕ → Result BlockError StreamFailure → (input out : Told) → Printer → Reading → List ℕ → Type 0
-Feeds form most (Ok error) input out p r bytes = Fed form out.old out.new p r error bytes × (is_truncated error ≡ true) × (length bytes ≤ most)
-Feeds form most (Err failure) input out p r bytes = StreamEnds form most (Err failure) input out
+abbrev pub StreamFeeds : StreamForm → ℕ → Result BlockError StreamFailure → (input out : Told) → Printer → Reading → List ℕ → Type 0
+StreamFeeds form most (Ok error) input out p r bytes = Fed form out.old out.new p r error bytes × (is_truncated error ≡ true) × (length bytes ≤ most)
+StreamFeeds form most (Err failure) input out p r bytes = StreamEnds form most (Err failure) input out

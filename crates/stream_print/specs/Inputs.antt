@@ -22,8 +22,8 @@ abbrev pub faulty : Option BlockFault → Option StreamTrouble → Option Stream
 faulty (Some fault) other = Some (Faulty fault)
 faulty None other = other
 
--- what is wrong with a stream of which at most `most` bytes are read: a fault among the first of them that more bytes do
--- not mend, or else more bytes than that, or else an end inside a block
+-- what is wrong with a stream of which at most `most` bytes are read: a fault among the first of
+-- them that more bytes do not mend, or else more bytes than that, or else an end inside a block
 unfoldable pub trouble_of : ℕ → List ℕ → Option StreamTrouble
 trouble_of most bytes = faulty (fault_of (take most bytes)) (cond (nat_lt most (length bytes)) (Some TooLong) (faulty (fault_at_end bytes) None))
 
@@ -64,7 +64,8 @@ pub record ReadsSome (form : StreamForm) (input out : Told) : Type 0 where
   pub read : Consumes input.old input.new bytes
   pub wrote : Grows out.old out.new (texts_for form bytes)
 
--- some bytes were read, and a prefix of the texts of their blocks was written, or, where they are all, of the whole text
+-- some bytes were read, and a prefix of the texts of their blocks was written, or, where they are
+-- all, of the whole text
 pub record WritesSome (form : StreamForm) (input out : Told) : Type 0 where
   pub bytes : List ℕ
   pub read : Consumes input.old input.new bytes

@@ -9,14 +9,14 @@ use Rattle.stream_print.specs.declared.task.Task.{Task}
 use Rattle.stream_print.specs.declared.task.Task.TheVariants.{Follow, Show}
 
 -- the hold has a place at least, and at most 65,536
-abbrev pub IsPossible : StreamForm → Type 0
-IsPossible (form.Follow hold) = (1 ≤ hold) × (hold ≤ 65536)
-IsPossible form.Show = Unit {0}
+abbrev pub CanHold : StreamForm → Type 0
+CanHold (form.Follow hold) = (1 ≤ hold) × (hold ≤ 65536)
+CanHold form.Show = Unit {0}
 
 -- the form that a task does
-abbrev pub form_of : Task → StreamForm
-form_of (Follow units) = form.Follow units.limit
-form_of Show = form.Show
+abbrev pub task_form : Task → StreamForm
+task_form (Follow units) = form.Follow units.limit
+task_form Show = form.Show
 
 -- the clients of a follower have heard the blocks; `show` needs to know nothing of them
 abbrev pub Knows : Task → List Block → Type 0

@@ -1,5 +1,4 @@
 pub mod Books
-pub mod Ending
 pub mod Failures
 pub mod Feeding
 pub mod Inputs

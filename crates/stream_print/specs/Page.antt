@@ -7,9 +7,16 @@ pub record Page : Type 0 where
   pub text : List ℕ
   pub size : ℕ
 
--- the page and a text, one after the other: some prefix of both was written, and the rest stands on the page
+-- the page and a text, one after the other: some prefix of both was written, and the rest stands on
+-- the page
 pub record Prints (old : Option (List ℕ)) (before : List ℕ) (new : Option (List ℕ)) (after text : List ℕ) : Type 0 where
   pub count : ℕ
   pub within : count ≤ length (before ++ text)
   pub written : Grows old new (take count (before ++ text))
   pub rest : after ≡ drop count (before ++ text)
+
+-- a text of which this is true was printed
+pub record PrintsSuch (is : List ℕ → Type 0) (old : Option (List ℕ)) (before : List ℕ) (new : Option (List ℕ)) (after : List ℕ) : Type 0 where
+  pub text : List ℕ
+  pub printed : Prints old before new after text
+  pub such : is text

@@ -19,8 +19,8 @@ block_text Show before block = shown_after before block
 abbrev pub texts_for : StreamForm → List ℕ → List ℕ
 texts_for form bytes = texts_after (block_text form) [] (blocks_of bytes)
 
--- what is printed at the end, where the blocks before stand newest first: for every family of venues of which they speak, the books
--- of all units; `show` prints nothing there
+-- what is printed at the end, where the blocks before stand newest first: for every family of
+-- venues of which they speak, the books of all units; `show` prints nothing there
 abbrev pub IsEnd : StreamForm → List Block → List ℕ → Type 0
 IsEnd (Follow hold) before books = (Image : List Raw → ℕ → List Raw) (Vs : ℕ → List Raw) → AllHonest Image Vs before → books ≡ books_of hold Vs before
 IsEnd Show before books = books ≡ []
@@ -31,7 +31,8 @@ IsFrontOfEnd (Follow hold) before books =
     (Image : List Raw → ℕ → List Raw) (Vs : ℕ → List Raw) → AllHonest Image Vs before → (more : List ℕ) × (books_of hold Vs before ≡ books ++ more)
 IsFrontOfEnd Show before books = books ≡ []
 
--- the whole text of `follow`: the lines, and books; for every family of venues of which the blocks speak, the defined text
+-- the whole text of `follow`: the lines, and books; for every family of venues of which the blocks
+-- speak, the defined text
 pub record IsFollowText (H : ℕ) (bytes text : List ℕ) : Type 0 where
   pub lines : (books : List ℕ) × (text ≡ texts_for (Follow H) bytes ++ books)
   pub honest : (Image : List Raw → ℕ → List Raw) (Vs : ℕ → List Raw) → AllHonest Image Vs (reverse (blocks_of bytes)) → text ≡ follow_text H Vs (blocks_of bytes)

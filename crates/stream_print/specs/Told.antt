@@ -1,4 +1,5 @@
--- What a device tells of its bytes before and after a run: a source those that are left, a sink those that were written.
+-- What a device tells of its bytes before and after a run: a source those that are left, a sink
+-- those that were written.
 use Rattle.std.specs.Prelude.{◌≡◌, ◌≤◌, ℕ, List, length, Option}
 use Rattle.std.specs.Io.KnownBytes.{Consumes}
 

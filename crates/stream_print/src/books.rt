@@ -1,12 +1,12 @@
 ghost use Rattle.std.specs.Prelude.{◌≡◌, ◌++◌, [], List, ℕ, OnOk, OnErr, Err, length};
 ghost use Rattle.unit_packets.specs.Blocks.{Block};
 ghost use Rattle.unit_clients.specs.Clients.{AreUnits, IsClient, Clients};
-ghost use Rattle.stream_print.specs.Books.{PrintsUnit, PutsUnit, PrintsBooks, PutsBooks};
+ghost use Rattle.stream_print.specs.Books.{IsUnitText, AreBooksBelow, AreFirstBooks};
 ghost use Rattle.std.specs.List.{flat_map};
 ghost use Rattle.pitch_io.specs.Causes.{HasCause};
 ghost use Rattle.feed_lines.specs.BookText.{order_line, book_text};
-ghost use Rattle.stream_print.specs.Page.{Prints};
-ghost use Rattle.stream_print.specs.Putting.{PutsSome};
+ghost use Rattle.stream_print.specs.Page.{PrintsSuch, Prints};
+ghost use Rattle.stream_print.specs.Putting.{PutsSuch, PutsSome};
 
 use crate::failure::PrintError;
 use crate::page::Page;
@@ -57,10 +57,11 @@ fn print_unit<O: Sink>(
     page: &mut Page,
     out: &mut O,
 ) -> Result<(), PrintError>
+    // Whatever blocks the unit's client has heard, the book that it has by them was printed.
     ensures printed { OnOk result ((H : ℕ) (before : List Block) → IsClient H before unit slot.now
-        → PrintsUnit H slot.now before unit (O.written out.old) page.old.text (O.written out.new) page.new.text) }
+        → PrintsSuch (IsUnitText H slot.now before unit) (O.written out.old) page.old.text (O.written out.new) page.new.text) }
     ensures err { OnErr result ((H : ℕ) (before : List Block) → IsClient H before unit slot.now
-        → PutsUnit H slot.now before unit (O.written out.old) page.old.text (O.written out.new)) }
+        → PutsSuch (IsUnitText H slot.now before unit) (O.written out.old) page.old.text (O.written out.new)) }
     ensures cause { HasCause (O.faults out.old) (O.faults out.new) (result ≡ Err PrintError.Write) }
 {
     match slot {
@@ -77,10 +78,11 @@ pub fn print_books<O: Sink>(
     out: &mut O,
 ) -> Result<(), PrintError>
     requires many { length clients.now ≡ 256 }
+    // Whatever blocks the clients have heard, the books that they have by them were printed.
     ensures printed { OnOk result ((H : ℕ) (before : List Block) → Clients H clients.now before
-        → PrintsBooks H clients.now before 256 (O.written out.old) page.old.text (O.written out.new) page.new.text) }
+        → PrintsSuch (AreBooksBelow H clients.now before 256) (O.written out.old) page.old.text (O.written out.new) page.new.text) }
     ensures err { OnErr result ((H : ℕ) (before : List Block) → Clients H clients.now before → AreUnits before
-        → PutsBooks H clients.now before (O.written out.old) page.old.text (O.written out.new)) }
+        → PutsSuch (AreFirstBooks H clients.now before) (O.written out.old) page.old.text (O.written out.new)) }
     ensures cause { HasCause (O.faults out.old) (O.faults out.new) (result ≡ Err PrintError.Write) }
 {
     'units: for unit in 0..clients.len() {

@@ -9,7 +9,8 @@ use pitch_io::Sink;
 use std::alloc::Global;
 use unit_packets::BlockView;
 
-/// What is printed of a stream: how many blocks there were, what the task knows of them, and the text that is not written yet.
+/// What is printed of a stream: how many blocks there were, what the task knows of them, and the
+/// text that is not written yet.
 #[derive(Drop)]
 pub struct Printer {
     pub number: u64,
@@ -18,20 +19,20 @@ pub struct Printer {
 }
 
 impl Printer {
+    ghost use Rattle.stream_print.specs.Page.{PrintsSuch, Prints};
     ghost use Rattle.std.specs.Prelude.{◌≡◌, ◌≤◌, ◌<◌, ◌+◌, ◌^◌, ◌++◌, [], ◌∷◌, List, length, OnOk, OnErr, IfOk, Err};
     ghost use Rattle.unit_packets.specs.Blocks.{Block};
     ghost use Rattle.pitch_io.specs.Causes.{HasCause};
-    ghost use Rattle.stream_print.specs.Ending.{PrintsEnd, PutsEnd};
-    ghost use Rattle.stream_print.specs.Knowing.{IsPossible, form_of, HasPrinted};
+    ghost use Rattle.stream_print.specs.Knowing.{CanHold, task_form, HasPrinted};
     ghost use Rattle.stream_print.specs.Printing.{PrintsBlock};
-    ghost use Rattle.stream_print.specs.Putting.{PutsSome};
-    ghost use Rattle.stream_print.specs.Texts.{block_text};
+    ghost use Rattle.stream_print.specs.Putting.{PutsSuch, PutsSome};
+    ghost use Rattle.stream_print.specs.Texts.{block_text, IsEnd, IsFrontOfEnd};
 
     /// Nothing was printed yet of what the form asks for.
     pub fn make(alloc: Global, form: StreamForm) -> Result<Printer, OutOfMemory>
-        requires { IsPossible form }
+        requires { CanHold form }
         ensures known { IfOk result (λ p. HasPrinted p []) }
-        ensures form { IfOk result (λ p. form_of p.task ≡ form) }
+        ensures form { IfOk result (λ p. task_form p.task ≡ form) }
         ensures page { IfOk result (λ p. p.page.text ≡ []) }
     {
         Ok(Printer {
@@ -51,8 +52,9 @@ impl Printer {
         requires few { self.old.number < 2 ^ 32 }
         ensures prints { OnOk result (PrintsBlock self.old self.new (O.written out.old) (O.written out.new) block.now) }
         ensures number { OnOk result (self.new.number ≡ self.old.number + 1) }
+        // After a failure the sink has a prefix of the page and of the block's text.
         ensures err { OnErr result ((before : List Block) → HasPrinted self.old before
-            → PutsSome (O.written out.old) (O.written out.new) (self.old.page.text ++ block_text (form_of self.old.task) before block.now)) }
+            → PutsSome (O.written out.old) (O.written out.new) (self.old.page.text ++ block_text (task_form self.old.task) before block.now)) }
         ensures cause { HasCause (O.faults out.old) (O.faults out.new) (result ≡ Err PrintError.Write) }
     {
         self.number += 1;
@@ -68,10 +70,11 @@ impl Printer {
 
     /// Prints what stands at the end of the stream.
     pub fn print_end<O: Sink>(&mut self, alloc: Global, out: &mut O) -> Result<(), PrintError>
+        // Whatever blocks were printed before, what follows them at the end was printed.
         ensures printed { OnOk result ((before : List Block) → HasPrinted self.old before
-            → PrintsEnd (form_of self.old.task) before (O.written out.old) self.old.page.text (O.written out.new) self.new.page.text) }
+            → PrintsSuch (IsEnd (task_form self.old.task) before) (O.written out.old) self.old.page.text (O.written out.new) self.new.page.text) }
         ensures err { OnErr result ((before : List Block) → HasPrinted self.old before
-            → PutsEnd (form_of self.old.task) before (O.written out.old) self.old.page.text (O.written out.new)) }
+            → PutsSuch (IsFrontOfEnd (task_form self.old.task) before) (O.written out.old) self.old.page.text (O.written out.new)) }
         ensures cause { HasCause (O.faults out.old) (O.faults out.new) (result ≡ Err PrintError.Write) }
     {
         print_end(alloc, &self.task, &mut self.page, out)

@@ -6,10 +6,10 @@ ghost use Rattle.unit_packets.specs.Judging.{judge};
 ghost use Rattle.unit_packets.specs.Reading.{Reading, loaded};
 ghost use Rattle.feed_lines.specs.Texts.{texts_after};
 ghost use Rattle.pitch_io.specs.Causes.{HasCause};
-ghost use Rattle.stream_print.specs.Feeding.{Fed, Feeds};
+ghost use Rattle.stream_print.specs.Feeding.{Fed, StreamFeeds};
 ghost use Rattle.stream_print.specs.Inputs.{stream_limit, StreamEnds};
 ghost use Rattle.stream_print.specs.Told.{between, told, TakesAtMost};
-ghost use Rattle.stream_print.specs.Knowing.{IsPossible, form_of, HasPrinted};
+ghost use Rattle.stream_print.specs.Knowing.{CanHold, task_form, HasPrinted};
 ghost use Rattle.stream_print.specs.Printing.{PrintsAll};
 ghost use Rattle.stream_print.specs.Putting.{PutsSome};
 ghost use Rattle.stream_print.specs.Texts.{block_text};
@@ -35,9 +35,10 @@ fn print_loaded<O: Sink>(
 ) -> Result<BlockError, PrintError>
     requires few { 8 * printer.old.number + length reader.old.rest ≤ 1073741824 }
     requires place { reader.old.place ≤ 1073741824 }
+    // The texts of all blocks that are whole follow those that were printed before.
     ensures prints { IfOk result (λ error. PrintsAll printer.old printer.new reader.old reader.new (O.written out.old) (O.written out.new) error) }
     ensures err { OnErr result ((before : List Block) → HasPrinted printer.old before
-        → PutsSome (O.written out.old) (O.written out.new) (printer.old.page.text ++ texts_after (block_text (form_of printer.old.task)) before (blocks_of reader.old.rest))) }
+        → PutsSome (O.written out.old) (O.written out.new) (printer.old.page.text ++ texts_after (block_text (task_form printer.old.task)) before (blocks_of reader.old.rest))) }
     ensures cause { HasCause (O.faults out.old) (O.faults out.new) (result ≡ Err PrintError.Write) }
 {
     'front: loop {
@@ -52,7 +53,8 @@ fn print_loaded<O: Sink>(
     }
 }
 
-// Prints the blocks that are whole with a piece more of the stream. Answers why no block stands at the front of what is left.
+// Prints the blocks that are whole with a piece more of the stream. Answers why no block stands at
+// the front of what is left.
 fn print_piece<O: Sink>(
     alloc: Global,
     reader: &mut BlockReader,
@@ -64,15 +66,15 @@ fn print_piece<O: Sink>(
     requires place { reader.old.place ≤ 1073741824 }
     ensures prints { IfOk result (λ error. PrintsAll printer.old printer.new (loaded reader.old piece.now) reader.new (O.written out.old) (O.written out.new) error) }
     ensures err { OnErr result ((before : List Block) → HasPrinted printer.old before
-        → PutsSome (O.written out.old) (O.written out.new) (printer.old.page.text ++ texts_after (block_text (form_of printer.old.task)) before (blocks_of (reader.old.rest ++ piece.now)))) }
+        → PutsSome (O.written out.old) (O.written out.new) (printer.old.page.text ++ texts_after (block_text (task_form printer.old.task)) before (blocks_of (reader.old.rest ++ piece.now)))) }
     ensures cause { HasCause (O.faults out.old) (O.faults out.new) (result ≡ Err PrintError.Write) }
 {
     reader.load(piece)?;
     print_loaded(alloc, reader, printer, out)
 }
 
-// Takes a piece more of the stream, of which at most `INPUT_LIMIT` bytes are taken. Answers why no block stands at the front
-// of what is left.
+// Takes a piece more of the stream, of which at most `INPUT_LIMIT` bytes are taken. Answers why no
+// block stands at the front of what is left.
 fn feed<O: Sink>(
     alloc: Global,
     printer: &mut Printer,
@@ -84,9 +86,10 @@ fn feed<O: Sink>(
     requires within { fed ≤ INPUT_LIMIT }
     requires few { 8 * printer.old.number + length reader.old.rest ≤ fed }
     requires place { reader.old.place ≤ fed }
+    // Where the bytes before were fed, this piece was fed after them, or the stream has ended.
     ensures feeds { (first now start : Option (List ℕ)) (bytes : List ℕ) (error : BlockError) → length bytes ≡ fed
-        → Fed (form_of printer.old.task) start (O.written out.old) printer.old reader.old error bytes → Consumes first now (bytes ++ piece.now)
-        → Feeds (form_of printer.old.task) stream_limit result (between first now) (between start (O.written out.new)) printer.new reader.new (bytes ++ piece.now) }
+        → Fed (task_form printer.old.task) start (O.written out.old) printer.old reader.old error bytes → Consumes first now (bytes ++ piece.now)
+        → StreamFeeds (task_form printer.old.task) stream_limit result (between first now) (between start (O.written out.new)) printer.new reader.new (bytes ++ piece.now) }
     ensures cause { HasCause (O.faults out.old) (O.faults out.new) (result ≡ Err StreamFailure.Write) }
     ensures not_read { result ≢ Err StreamFailure.Read }
 {
@@ -114,9 +117,10 @@ fn finish<O: Sink>(
     stopped: BlockError,
     out: &mut O,
 ) -> Result<(), StreamFailure>
+    // Where these bytes were fed and the source is at its end, the stream has ended.
     ensures finishes { (first before now start : Option (List ℕ)) (bytes : List ℕ) → length bytes ≤ stream_limit
-        → Fed (form_of printer.old.task) start (O.written out.old) printer.old reader.now stopped bytes → is_truncated stopped ≡ true
-        → Consumes first before bytes → IsAtEnd before × Keeps before now → StreamEnds (form_of printer.old.task) stream_limit result (between first now) (between start (O.written out.new)) }
+        → Fed (task_form printer.old.task) start (O.written out.old) printer.old reader.now stopped bytes → is_truncated stopped ≡ true
+        → Consumes first before bytes → IsAtEnd before × Keeps before now → StreamEnds (task_form printer.old.task) stream_limit result (between first now) (between start (O.written out.new)) }
     ensures cause { HasCause (O.faults out.old) (O.faults out.new) (result ≡ Err StreamFailure.Write) }
     ensures not_read { result ≢ Err StreamFailure.Read }
 {
@@ -132,15 +136,16 @@ fn finish<O: Sink>(
     Ok(())
 }
 
-/// Prints what the form asks for of the stream of blocks that a source gives: a text for each block, and one at the
-/// stream's end. At most `INPUT_LIMIT` bytes are read.
+/// Prints what the form asks for of the stream of blocks that a source gives: a text for each
+/// block, and one at the stream's end. At most `INPUT_LIMIT` bytes are read.
 pub fn print_stream<I: Source, O: Sink>(
     alloc: Global,
     form: StreamForm,
     input: &mut I,
     out: &mut O,
 ) -> Result<(), StreamFailure>
-    requires { IsPossible form }
+    requires { CanHold form }
+    // How the stream ended says what was read and what was written.
     ensures ends { StreamEnds form stream_limit result (told I.left input.old input.new) (told O.written out.old out.new) }
     // However it ended, at most one byte was taken past the limit.
     ensures reads { TakesAtMost (stream_limit + 1) (told I.left input.old input.new) }

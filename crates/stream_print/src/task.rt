@@ -4,11 +4,10 @@ ghost use Rattle.pitch_io.specs.Causes.{HasCause};
 ghost use Rattle.feed_lines.specs.Follow.{line_after};
 ghost use Rattle.feed_lines.specs.Show.{shown_head, message_lines};
 ghost use Rattle.unit_clients.specs.Clients.{HaveHeard};
-ghost use Rattle.stream_print.specs.Ending.{PrintsEnd, PutsEnd};
-ghost use Rattle.stream_print.specs.Knowing.{IsPossible, form_of, Knows};
-ghost use Rattle.stream_print.specs.Page.{Prints};
-ghost use Rattle.stream_print.specs.Putting.{PutsSome};
-ghost use Rattle.stream_print.specs.Texts.{block_text};
+ghost use Rattle.stream_print.specs.Knowing.{CanHold, task_form, Knows};
+ghost use Rattle.stream_print.specs.Page.{PrintsSuch, Prints};
+ghost use Rattle.stream_print.specs.Putting.{PutsSuch, PutsSome};
+ghost use Rattle.stream_print.specs.Texts.{block_text, IsEnd, IsFrontOfEnd};
 
 use crate::books::print_books;
 use crate::failure::PrintError;
@@ -32,8 +31,8 @@ pub enum Task {
 
 /// The task of a form.
 pub fn make_task(alloc: Global, form: StreamForm) -> Result<Task, OutOfMemory>
-    requires { IsPossible form }
-    ensures form { IfOk result (λ task. form_of task ≡ form) }
+    requires { CanHold form }
+    ensures form { IfOk result (λ task. task_form task ≡ form) }
     ensures knows { IfOk result (λ task. Knows task []) }
 {
     match form {
@@ -52,6 +51,7 @@ fn print_heard<O: Sink>(
     out: &mut O,
 ) -> Result<(), PrintError>
     ensures limit { OnOk result (units.new.limit ≡ units.old.limit) }
+    // Whatever blocks came before, the clients have then heard this one too, and its line was printed.
     ensures heard { OnOk result ((before : List Block) → HaveHeard units.old before → HaveHeard units.new (block.now ∷ before)) }
     ensures printed { OnOk result ((before : List Block) → HaveHeard units.old before → number ≡ length before + 1
         → Prints (O.written out.old) page.old.text (O.written out.new) page.new.text (line_after units.old.limit before block.now)) }
@@ -94,12 +94,14 @@ pub fn print_block<O: Sink>(
     page: &mut Page,
     out: &mut O,
 ) -> Result<(), PrintError>
-    ensures form { OnOk result (form_of task.new ≡ form_of task.old) }
+    ensures form { OnOk result (task_form task.new ≡ task_form task.old) }
+    // Whatever blocks came before, the task knows of this one too, and its text was printed.
     ensures knows { OnOk result ((before : List Block) → Knows task.old before → Knows task.new (block.now ∷ before)) }
     ensures printed { OnOk result ((before : List Block) → Knows task.old before → number ≡ length before + 1
-        → Prints (O.written out.old) page.old.text (O.written out.new) page.new.text (block_text (form_of task.old) before block.now)) }
+        → Prints (O.written out.old) page.old.text (O.written out.new) page.new.text (block_text (task_form task.old) before block.now)) }
+    // After a failure the sink has a prefix of what was to be printed.
     ensures err { OnErr result ((before : List Block) → Knows task.old before → number ≡ length before + 1
-        → PutsSome (O.written out.old) (O.written out.new) (page.old.text ++ block_text (form_of task.old) before block.now)) }
+        → PutsSome (O.written out.old) (O.written out.new) (page.old.text ++ block_text (task_form task.old) before block.now)) }
     ensures cause { HasCause (O.faults out.old) (O.faults out.new) (result ≡ Err PrintError.Write) }
 {
     match task {
@@ -115,9 +117,10 @@ pub fn print_end<O: Sink>(
     page: &mut Page,
     out: &mut O,
 ) -> Result<(), PrintError>
+    // Whatever blocks came before, what follows them at the end of a stream was printed.
     ensures printed { OnOk result ((before : List Block) → Knows task.now before
-        → PrintsEnd (form_of task.now) before (O.written out.old) page.old.text (O.written out.new) page.new.text) }
-    ensures err { OnErr result ((before : List Block) → Knows task.now before → PutsEnd (form_of task.now) before (O.written out.old) page.old.text (O.written out.new)) }
+        → PrintsSuch (IsEnd (task_form task.now) before) (O.written out.old) page.old.text (O.written out.new) page.new.text) }
+    ensures err { OnErr result ((before : List Block) → Knows task.now before → PutsSuch (IsFrontOfEnd (task_form task.now) before) (O.written out.old) page.old.text (O.written out.new)) }
     ensures cause { HasCause (O.faults out.old) (O.faults out.new) (result ≡ Err PrintError.Write) }
 {
     match task {

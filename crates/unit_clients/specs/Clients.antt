@@ -20,7 +20,8 @@ is_named before unit = list_any (λ block. unit == block.unit) before
 abbrev pub AreUnits : List Block → Type 0
 AreUnits before = (unit : ℕ) → is_named before unit ≡ true → unit < 256
 
--- a unit has a client exactly where a block names it, and the client is where the unit's blocks bring it
+-- a unit has a client exactly where a block names it, and the client is where the unit's blocks
+-- bring it
 abbrev pub IsClient : ℕ → List Block → ℕ → Option UnitClient → Type 0
 IsClient H before unit None = is_named before unit ≡ false
 IsClient H before unit (Some client) = (is_named before unit ≡ true) × Tracks client H (unit_history unit before)
@@ -43,7 +44,8 @@ KeepsTo V (Some client) = Keeps client V
 abbrev pub AllKeep : (ℕ → List Raw) → List (Option UnitClient) → Type 0
 AllKeep Vs clients = (unit : ℕ) (client : Option UnitClient) → slice_get clients unit ≡ Some client → KeepsTo (Vs unit) client
 
--- each unit's client heard its blocks, and keeps to its venue's messages wherever the blocks speak of no others
+-- each unit's client heard its blocks, and keeps to its venue's messages wherever the blocks speak
+-- of no others
 pub record HaveHeard (units : Units) (before : List Block) : Type 0 where
   pub clients : Clients units.limit units.clients before
   pub named : AreUnits before

@@ -7,7 +7,8 @@ use crate::failure::{Failure, Trouble};
 use command_feed::{CommandError, append_feed};
 use std::alloc::Global;
 
-/// The datagrams that a unit's venue makes of a text of commands, back to back, once it has accepted all of them.
+/// The datagrams that a unit's venue makes of a text of commands, back to back, once it has
+/// accepted all of them.
 pub fn pack(alloc: Global, unit: u8, text: &[u8]) -> Result<Vec<u8>, Failure>
     requires { length text.now ≤ 67108864 }
     ensures made { IfOk result (λ feed. made (Pack unit) text.now ≡ Ok feed.items) }

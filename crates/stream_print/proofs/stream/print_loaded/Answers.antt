@@ -5,7 +5,7 @@ use Rattle.unit_packets.specs.Judging.{judge}
 use Rattle.unit_packets.specs.Lending.{StandsAtFront}
 use Rattle.unit_packets.specs.declared.header.Header.{Header}
 use Rattle.feed_lines.specs.Texts.{texts_after}
-use Rattle.stream_print.specs.Knowing.{form_of, HasPrinted}
+use Rattle.stream_print.specs.Knowing.{task_form, HasPrinted}
 use Rattle.stream_print.specs.Putting.{PutsSome}
 use Rattle.unit_clients.proofs.Results.{on_err}
 use Rattle.stream_print.specs.Texts.{block_text}
@@ -20,7 +20,7 @@ front-init g c =
 pub returns-in_err-print-in-Ok-clause-err : goal.returns-in_err-print-in-Ok-clause-err
 returns-in_err-print-in-Ok-clause-err g c =
     on_err ((before : List Block) → HasPrinted c.args.printer.now before
-    → PutsSome (g.O.Sink.written c.args.out.now) (g.O.Sink.written c.print.new.out) (c.args.printer.now.page.text ++ texts_after (block_text (form_of c.args.printer.now.task)) before (blocks_of c.args.reader.now.rest)))
+    → PutsSome (g.O.Sink.written c.args.out.now) (g.O.Sink.written c.print.new.out) (c.args.printer.now.page.text ++ texts_after (block_text (task_form c.args.printer.now.task)) before (blocks_of c.args.reader.now.rest)))
     c.from_residual.result
     (λ before known. taking_fails c.args.printer.now c.front.printer c.args.reader.now c.front.reader (g.O.Sink.written c.args.out.now) (g.O.Sink.written c.front.out) (g.O.Sink.written c.print.new.out) before
     c.in-Ok.block c.front.invariant.taking known (subst (λ (r : List ℕ). StandsAtFront r c.in-Ok.block) c.rest.ensures c.in-Ok.ensures.found) c.in_err-print-in-Ok.ensures.err)

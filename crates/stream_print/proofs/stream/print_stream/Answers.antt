@@ -2,7 +2,7 @@ use Rattle.std.proofs.Common.{rules, ◌≤◌, ◌++◌, ℕ, List, take, lengt
 use Rattle.std.specs.Io.KnownBytes.{Consumes}
 use Rattle.std.proofs.lemmas.List.{length-take-le}
 use Rattle.stream_print.specs.declared.stream_form.StreamForm.{StreamForm}
-use Rattle.stream_print.specs.Feeding.{Feeds}
+use Rattle.stream_print.specs.Feeding.{StreamFeeds}
 use Rattle.stream_print.specs.Inputs.{StreamEnds}
 use Rattle.stream_print.specs.Inputs.{stream_limit}
 use Rattle.stream_print.specs.Told.{between}
@@ -125,7 +125,7 @@ takes-preserved g c =
     let given = given_bytes c.in-Got.count c.takes.piece.len c.take_at_most.new.piece c.takes.piece.items c.deref.result.now c.in-Got.ensures.count.2 fits c.deref.ensures.value in
     let took = subst (Consumes (g.I.Source.left c.takes.input) (g.I.Source.left c.take_at_most.new.input)) (sym given) c.in-Got.ensures.bytes in
     let read = consumes_more first (g.I.Source.left c.takes.input) (g.I.Source.left c.take_at_most.new.input) t.bytes piece t.read took in
-    let fed = subst (λ (n : StreamForm). Feeds n stream_limit (Ok c.in_ok-stopped-in-Got.stopped) (between first (g.I.Source.left c.take_at_most.new.input)) (between start (g.O.Sink.written c.feed.new.out)) c.feed.new.printer c.feed.new.reader (t.bytes ++ piece)) t.fed.form_is
+    let fed = subst (λ (n : StreamForm). StreamFeeds n stream_limit (Ok c.in_ok-stopped-in-Got.stopped) (between first (g.I.Source.left c.take_at_most.new.input)) (between start (g.O.Sink.written c.feed.new.out)) c.feed.new.printer c.feed.new.reader (t.bytes ++ piece)) t.fed.form_is
     (c.in_ok-stopped-in-Got.ensures.feeds first (g.I.Source.left c.take_at_most.new.input) start t.bytes c.takes.stopped t.size
     (own_form c.args.form start (g.O.Sink.written c.takes.out) c.takes.printer c.takes.reader c.takes.stopped t.bytes t.fed) read) in
     let some = c.in-Got.ensures.count.0 in

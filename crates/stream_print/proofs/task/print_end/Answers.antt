@@ -1,9 +1,11 @@
+use Rattle.stream_print.specs.Texts.{IsEnd, IsFrontOfEnd}
+use Rattle.stream_print.specs.Putting.{PutsSuch}
+use Rattle.stream_print.specs.Page.{PrintsSuch}
 use Rattle.std.proofs.Common.{List, Option, sym, subst}
 use Rattle.client_core.specs.declared.client.UnitClient.{UnitClient}
 use Rattle.unit_packets.specs.Blocks.{Block}
-use Rattle.stream_print.specs.Books.{PrintsBooks, PutsBooks}
-use Rattle.stream_print.specs.Ending.{PrintsEnd, PutsEnd}
-use Rattle.stream_print.specs.Knowing.{Knows, form_of}
+use Rattle.stream_print.specs.Books.{AreBooksBelow, AreFirstBooks}
+use Rattle.stream_print.specs.Knowing.{Knows, task_form}
 use Rattle.unit_clients.specs.Clients.{Clients}
 use Rattle.stream_print.specs.declared.task.Task.{Task}
 use Rattle.unit_clients.proofs.Results.{on_ok_map, on_err_map}
@@ -14,18 +16,18 @@ pub returns-in-Follow-clause-printed : goal.returns-in-Follow-clause-printed
 returns-in-Follow-clause-printed g c =
     let w = g.O.Sink.written c.args.out.now in
     let v = g.O.Sink.written c.print_books.new.out in
-    on_ok_map _ ((before : List Block) → Knows c.args.task.now before → PrintsEnd (form_of c.args.task.now) before w c.args.page.now.text v c.print_books.new.page.text) c.print_books.result c.print_books.ensures.printed
-    (λ printed. subst (λ (task : Task). (before : List Block) → Knows task before → PrintsEnd (form_of task) before w c.args.page.now.text v c.print_books.new.page.text) (sym c.in-Follow.is)
+    on_ok_map _ ((before : List Block) → Knows c.args.task.now before → PrintsSuch (IsEnd (task_form c.args.task.now) before) w c.args.page.now.text v c.print_books.new.page.text) c.print_books.result c.print_books.ensures.printed
+    (λ printed. subst (λ (task : Task). (before : List Block) → Knows task before → PrintsSuch (IsEnd (task_form task) before) w c.args.page.now.text v c.print_books.new.page.text) (sym c.in-Follow.is)
     (λ before heard. end_of_books c.in-Follow.units before w c.args.page.now.text v c.print_books.new.page.text heard
-    (subst (λ (clients : List (Option UnitClient)). PrintsBooks c.in-Follow.units.limit clients before 256 w c.args.page.now.text v c.print_books.new.page.text) c.clients.ensures.clients
+    (subst (λ (clients : List (Option UnitClient)). PrintsSuch (AreBooksBelow c.in-Follow.units.limit clients before 256) w c.args.page.now.text v c.print_books.new.page.text) c.clients.ensures.clients
     (printed c.in-Follow.units.limit before (subst (λ (clients : List (Option UnitClient)). Clients c.in-Follow.units.limit clients before) (sym c.clients.ensures.clients) heard.clients)))))
 
 pub returns-in-Follow-clause-err : goal.returns-in-Follow-clause-err
 returns-in-Follow-clause-err g c =
     let w = g.O.Sink.written c.args.out.now in
     let v = g.O.Sink.written c.print_books.new.out in
-    on_err_map _ ((before : List Block) → Knows c.args.task.now before → PutsEnd (form_of c.args.task.now) before w c.args.page.now.text v) c.print_books.result c.print_books.ensures.err
-    (λ puts. subst (λ (task : Task). (before : List Block) → Knows task before → PutsEnd (form_of task) before w c.args.page.now.text v) (sym c.in-Follow.is)
+    on_err_map _ ((before : List Block) → Knows c.args.task.now before → PutsSuch (IsFrontOfEnd (task_form c.args.task.now) before) w c.args.page.now.text v) c.print_books.result c.print_books.ensures.err
+    (λ puts. subst (λ (task : Task). (before : List Block) → Knows task before → PutsSuch (IsFrontOfEnd (task_form task) before) w c.args.page.now.text v) (sym c.in-Follow.is)
     (λ before heard. front_of_books c.in-Follow.units before w c.args.page.now.text v heard
-    (subst (λ (clients : List (Option UnitClient)). PutsBooks c.in-Follow.units.limit clients before w c.args.page.now.text v) c.clients.ensures.clients
+    (subst (λ (clients : List (Option UnitClient)). PutsSuch (AreFirstBooks c.in-Follow.units.limit clients before) w c.args.page.now.text v) c.clients.ensures.clients
     (puts c.in-Follow.units.limit before (subst (λ (clients : List (Option UnitClient)). Clients c.in-Follow.units.limit clients before) (sym c.clients.ensures.clients) heard.clients) heard.named))))
