@@ -1,5 +1,5 @@
 -- The computed cutting is the longest list of blocks, and there is no other.
-use Rattle.std.proofs.Common.{◌≡◌, ℕ, zero, suc, ◌+◌, ◌<◌, ◌≤◌, ◌^◌, List, [], ◌∷◌, ◌++◌, length, take, drop, get_or, refl, sym, ap, ◌∙◌, arith, Err, subst, inl, inr}
+use Rattle.std.proofs.Common.{◌≡◌, ℕ, zero, suc, ◌+◌, ◌<◌, ◌≤◌, List, [], ◌∷◌, ◌++◌, length, take, drop, get_or, refl, sym, ap, ◌∙◌, arith, Err, subst, inl, inr}
 use Rattle.std.proofs.lemmas.List.{length-drop, get_or-drop, take-append-drop, drop_at}
 use Rattle.pitch_fields.proofs.Bytes.{byte_at}
 use Rattle.pitch_messages.specs.Raw.{raws_of}
@@ -9,7 +9,7 @@ use Rattle.unit_packets.specs.declared.header.BlockError.{BlockError}
 use Rattle.unit_packets.specs.Judging.{judge, block_at, header_of}
 use Rattle.unit_packets.specs.Cutting.{blocks_of, rest_of}
 use Rattle.unit_packets.specs.CuttingLaws.{CutsAreComputed, CutsAreOne}
-use Rattle.unit_packets.proofs.Judged.{judged_front, fault_none, front_judged, front_stands}
+use Rattle.unit_packets.proofs.Judged.{judged_front, fault_none, front_stands}
 use Rattle.unit_packets.proofs.Stable.{judge_found}
 use Rattle.unit_packets.proofs.Cuts.{first_of, none_of, cases_Result}
 

@@ -1,5 +1,5 @@
 -- What more bytes do to a judgement.
-use Rattle.std.proofs.Common.{◌≡◌, ℕ, ◌+◌, ◌<◌, ◌≤◌, Bool, true, false, cond, List, ◌++◌, length, take, drop, get_or, refl, sym, ap, ◌∙◌, arith, Ok, Err, Result, nat_lt, subst, length-append, inl, inr}
+use Rattle.std.proofs.Common.{◌≡◌, ℕ, ◌+◌, ◌<◌, ◌≤◌, true, false, cond, List, ◌++◌, length, take, drop, get_or, refl, sym, ap, ◌∙◌, arith, Ok, Err, Result, nat_lt, subst, length-append, inl, inr}
 use Rattle.std.proofs.lemmas.Bool.{cases_Bool, ltb-false, le-ltb, cond-false, cond-true, false≢true}
 use Rattle.std.proofs.lemmas.List.{take-append-le, take_at, get_or-take, length-drop, length-take-le}
 use Rattle.std.specs.List.{concat}

@@ -164,11 +164,11 @@ fn lists_are_packed(rt: HostRuntime) {
         raws.push(&raw).expect(&rt, "memory");
     }
     let mut out = DatagramList::make(rt.alloc());
-    pack(rt.alloc(), 9, 7, raws.raws(), &mut out).expect(&rt, "memory");
+    pack(rt.alloc(), 9, 0, raws.raws(), &mut out).expect(&rt, "memory");
     let bytes = out.get(0).expect(&rt, "a datagram").bytes();
     assert_eq!(rt;
         bytes,
-        b"\x0d\0\x02\x09\x07\0\0\0\x02\x2d\x03\x2d\x07".as_slice()
+        b"\x0d\0\x02\x09\0\0\0\0\x02\x2d\x03\x2d\x07".as_slice()
     );
     assert_eq!(rt; out.len(), 1);
 }
