@@ -74,8 +74,8 @@ pub fn later_messages_are_held()
     ensures overflow { (H : ℕ) (E : List Entry) (k : ℕ) (raw : Raw) → reach H E + 1 < k → is_held H E k ≡ false → held_count (part_of H E) ≡ H → Leaves H E (Message k raw) true (reach H E) (λ j. j == k) }
 {}
 
-/// A finished image above the reach takes its place, with the held messages that follow it; another changes
-/// nothing.
+/// A finished image above the reach takes its place, with the held messages that follow it; another
+/// changes nothing.
 pub fn images_are_taken_above_the_reach()
     ensures taken { (H : ℕ) (E : List Entry) (sequence s : ℕ) (raws : List Raw) → image_finished (spin_of E) sequence ≡ (s, raws) ∷ [] → reach H E < s → Drains H E (SpinFinished sequence) s }
     ensures stale { (H : ℕ) (E : List Entry) (sequence s : ℕ) (raws : List Raw) → image_finished (spin_of E) sequence ≡ (s, raws) ∷ [] → s ≤ reach H E → SameReach H E (SpinFinished sequence ∷ E) }
@@ -120,8 +120,8 @@ pub fn best_price_is_the_best()
     ensures none { (book : Book) (symbol : List ℕ) (side : Side) → best book symbol side ≡ None → orders_on book symbol side ≡ [] }
 {}
 
-/// The image of a book is adds, one for each open order, and else Time messages. That of a wire book
-/// is raws of bytes, and leaves the book that it is of.
+/// The image of a book is adds, one for each open order, and else Time messages. That of a wire
+/// book is raws of bytes, and leaves the book that it is of.
 pub fn images_make_their_books_anew()
     ensures raws { (book : Book) → IsWireBook book → AllByRecursion IsRaw (image_of book) }
     ensures bytes { (book : Book) → IsWireBook book → AllByRecursion AreBytes (image_of book) }
@@ -147,8 +147,8 @@ pub fn venues_only_grow()
 {}
 
 /// The sums over blocks that are heard one after another are the sums of what each block changes,
-/// and none is above the number of messages. What a unit's client heard of a stream is what it hears
-/// of the unit's blocks, one after another.
+/// and none is above the number of messages. What a unit's client heard of a stream is what it
+/// hears of the unit's blocks, one after another.
 pub fn blocks_add_up()
     ensures heard { (E : List Entry) (xs ys : List Block) → heard_blocks (xs ++ ys) E ≡ heard_blocks ys (heard_blocks xs E) }
     ensures fresh { (H : ℕ) (E : List Entry) (blocks : List Block) → fresh_in H E blocks ≡ sum_by (λ change. change.fresh) (changes_in H E blocks) }

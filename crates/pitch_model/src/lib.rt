@@ -1,5 +1,8 @@
 //! What a client of the feed hears, knows and asks, as definitions, with the types that they speak
 //! of.
+//!
+//! The definitions stand in `specs/`, and what they are worth in `laws`: functions with empty bodies,
+//! each of which ensures what is proved of the definitions alone.
 #![tactic(auto)]
 
 mod ask;

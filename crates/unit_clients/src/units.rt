@@ -54,6 +54,7 @@ fn no_clients(alloc: Global) -> Result<Vec<Option<UnitClient>>, OutOfMemory>
 #[inline]
 fn make_known(alloc: Global, limit: u32, slot: &mut Option<UnitClient>) -> Result<(), OutOfMemory>
     requires { (1 ≤ limit) × (limit ≤ 65536) }
+    // Where the place was right for some blocks, the client there then stands for the unit's history by them.
     ensures tracks { OnOk result ((before : List Block) (unit : ℕ) → IsClient limit before unit slot.old → TracksAt limit (unit_history unit before) slot.new) }
     ensures keeps { OnOk result ((V : List Raw) → KeepsTo V slot.old → KeepsTo V slot.new) }
     ensures some { OnOk result (IsSome slot.new) }
@@ -71,7 +72,9 @@ fn make_known(alloc: Global, limit: u32, slot: &mut Option<UnitClient>) -> Resul
 #[inline]
 fn hear_at(slot: &mut Option<UnitClient>, block: &BlockView<'_>) -> Result<Change, OutOfMemory>
     requires { IsSome slot.old }
+    // A client that stood for a history then stands for it with the block after it.
     ensures tracks { OnOk result ((H : ℕ) (E : List Entry) → TracksAt H E slot.old → TracksAt H (heard_block block.now E) slot.new) }
+    // Where that history speaks of one venue's messages alone, the client keeps to them.
     ensures keeps { OnOk result ((Image : List Raw → ℕ → List Raw) (V : List Raw) (E : List Entry) → Honest Image V (heard_block block.now E) → KeepsTo V slot.old → KeepsTo V slot.new) }
     ensures change { IfOk result (λ change. (H : ℕ) (E : List Entry) → TracksAt H E slot.old → change ≡ block_change H E block.now) }
 {
@@ -96,14 +99,15 @@ impl Units {
     ///
     /// After an error, which comes only where memory runs out, nothing is known of the unit's
     /// client.
-    // Whatever blocks came before, the clients then stand for these with the block after them.
     pub fn hear_block(
         &mut self,
         alloc: Global,
         block: &BlockView<'_>,
     ) -> Result<Change, OutOfMemory>
         ensures limit { OnOk result (self.new.limit ≡ self.old.limit) }
+        // Whatever blocks the clients had heard, they have then heard these and this block.
         ensures heard { OnOk result ((before : List Block) → HaveHeard self.old before → HaveHeard self.new (block.now ∷ before)) }
+        // The answer is what the block changes for a client that has heard the unit's blocks before.
         ensures change { IfOk result (λ change. (before : List Block) → HaveHeard self.old before
             → change ≡ block_change self.old.limit (unit_history block.now.unit before) block.now) }
     {
