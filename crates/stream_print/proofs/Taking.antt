@@ -1,7 +1,7 @@
 -- A stream that is taken piece by piece.
-use Rattle.std.proofs.Common.{◌≡◌, ℕ, ◌+◌, ◌≤◌, true, true≢false, List, [], ◌++◌, length, take, drop, ◌-◌, reverse, refl, sym, ap, ◌∙◌, subst, arith, length-append, Option, Some, None, Result, Ok, Err}
+use Rattle.std.proofs.Common.{◌≡◌, ℕ, ◌+◌, ◌≤◌, true, List, [], ◌++◌, length, take, drop, ◌-◌, reverse, refl, sym, ap, ◌∙◌, subst, arith, length-append, Option, Err}
 use Rattle.std.specs.Io.KnownBytes.{Consumes}
-use Rattle.std.proofs.lemmas.List.{append-nil, take-append-le}
+use Rattle.std.proofs.lemmas.List.{take-append-le}
 use Rattle.pitch_io.specs.Causes.{HasCause}
 use Rattle.pitch_io.specs.Putting.{Grows}
 use Rattle.unit_packets.specs.Cutting.{blocks_of, rest_of, is_truncated}
@@ -19,7 +19,6 @@ use Rattle.stream_print.specs.Inputs.{WritesSome}
 use Rattle.stream_print.specs.Knowing.{task_form, HasPrinted}
 use Rattle.stream_print.specs.Texts.{block_text, texts_for}
 use Rattle.stream_print.specs.declared.printer.Printer.{Printer}
-use Rattle.stream_print.specs.declared.failure.StreamFailure.{StreamFailure}
 use Rattle.stream_print.proofs.Feeding.{take_front, consumes_more, consumes_none, writes_texts}
 use Rattle.stream_print.proofs.Flow.{grows_none}
 use Rattle.unit_packets.proofs.Streams.{judge_nothing}

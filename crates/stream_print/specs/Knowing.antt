@@ -1,5 +1,5 @@
 -- What a printer knows once some blocks were printed. Blocks stand newest first.
-use Rattle.std.specs.Prelude.{◌≡◌, ◌≤◌, ℕ, List, length}
+use Rattle.std.specs.Prelude.{◌≡◌, ◌≤◌, List, length}
 use Rattle.unit_packets.specs.Blocks.{Block}
 use Rattle.unit_clients.specs.Clients.{HaveHeard}
 use Rattle.stream_print.specs.declared.stream_form.StreamForm.{StreamForm}

@@ -1,5 +1,5 @@
 use Rattle.stream_print.specs.Putting.{PutsSuch}
-use Rattle.std.proofs.Common.{rules, ◌<◌, ℕ, List, Option, length, refl, ◌∙◌, arith}
+use Rattle.std.proofs.Common.{rules, ◌<◌, ℕ, List, Option, length, refl, arith}
 use Rattle.std.proofs.lemmas.Option.{slice_get_read}
 use Rattle.unit_packets.specs.Blocks.{Block}
 use Rattle.client_core.specs.declared.client.UnitClient.{UnitClient}

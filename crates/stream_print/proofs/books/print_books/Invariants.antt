@@ -1,5 +1,5 @@
 use Rattle.stream_print.specs.Page.{PrintsSuch}
-use Rattle.std.proofs.Common.{◌≡◌, ◌≤◌, ℕ, List}
+use Rattle.std.proofs.Common.{◌≤◌, ℕ, List}
 use Rattle.unit_packets.specs.Blocks.{Block}
 use Rattle.stream_print.specs.Books.{AreBooksBelow}
 use Rattle.unit_clients.specs.Clients.{Clients}

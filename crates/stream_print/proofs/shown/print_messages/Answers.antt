@@ -1,4 +1,4 @@
-use Rattle.std.proofs.Common.{◌++◌, length, ap, ◌∙◌, arith}
+use Rattle.std.proofs.Common.{◌++◌, length, ap, arith}
 use Rattle.feed_lines.specs.Show.{message_line, message_lines}
 use Rattle.stream_print.specs.Page.{Page}
 use Rattle.stream_print.specs.Putting.{PutsSome}

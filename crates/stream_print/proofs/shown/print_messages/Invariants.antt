@@ -1,4 +1,4 @@
-use Rattle.std.proofs.Common.{◌≡◌, ◌≤◌, length}
+use Rattle.std.proofs.Common.{◌≤◌, length}
 use Rattle.unit_packets.specs.Blocks.{StaysWithin}
 use Rattle.stream_print.proofs.Showing.{Shown}
 use Rattle.stream_print.proofs.shown.print_messages.Given as goal

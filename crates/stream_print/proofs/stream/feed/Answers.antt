@@ -1,4 +1,4 @@
-use Rattle.std.proofs.Common.{rules, ◌++◌, ◌≤◌, ◌+◌, ◌-◌, min, ℕ, length, sym, ap, ◌∙◌, subst, arith, length-append}
+use Rattle.std.proofs.Common.{rules, ◌≤◌, ◌+◌, ◌-◌, min, ℕ, length, sym, ap, ◌∙◌, subst, arith, length-append}
 use Rattle.stream_print.specs.Page.{Page}
 use Rattle.stream_print.specs.Told.{between}
 use Rattle.stream_print.specs.declared.failure.PrintError.TheVariants.{Write}
