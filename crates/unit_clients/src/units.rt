@@ -1,10 +1,11 @@
-ghost use Rattle.std.specs.Prelude.{◌≡◌, ◌≤◌, ℕ, List, [], ◌∷◌, OnOk, IfOk, IsSome, length};
+ghost use Rattle.std.specs.Prelude.{◌≡◌, ◌≤◌, ℕ, List, [], ◌∷◌, OnOk, OnErr, IfOk, length};
 ghost use Rattle.unit_packets.specs.Blocks.{Block};
 ghost use Rattle.pitch_model.specs.History.{Raw, Entry};
 ghost use Rattle.pitch_model.specs.Units.{unit_history};
 ghost use Rattle.pitch_model.specs.Heard.{heard_block, block_change};
 ghost use Rattle.pitch_model.specs.Honest.{Honest};
-ghost use Rattle.unit_clients.specs.Clients.{IsClient, TracksAt, Clients, KeepsTo, AllKeep, HaveHeard};
+ghost use Rattle.client_core.specs.Tracks.{Tracks, Keeps, IsAsBefore};
+ghost use Rattle.unit_clients.specs.Clients.{IsClient, TracksAt, IsSlotAsBefore, Clients, KeepsTo, AllKeep, HaveHeard};
 
 use client_core::{Change, UnitClient};
 use pitch_fields::OutOfMemory;
@@ -50,34 +51,40 @@ fn no_clients(alloc: Global) -> Result<Vec<Option<UnitClient>>, OutOfMemory>
     Ok(clients)
 }
 
-// Makes the client of a unit that has none.
+// Hands a block to a client.
 #[inline]
-fn make_known(alloc: Global, limit: u32, slot: &mut Option<UnitClient>) -> Result<(), OutOfMemory>
-    requires { (1 ≤ limit) × (limit ≤ 65536) }
-    ensures tracks { OnOk result ((before : List Block) (unit : ℕ) → IsClient limit before unit slot.old → TracksAt limit (unit_history unit before) slot.new) }
-    ensures keeps { OnOk result ((V : List Raw) → KeepsTo V slot.old → KeepsTo V slot.new) }
-    ensures some { OnOk result (IsSome slot.new) }
+fn hear(client: &mut UnitClient, block: &BlockView<'_>) -> Result<Change, OutOfMemory>
+    ensures tracks { OnOk result ((H : ℕ) (E : List Entry) → Tracks client.old H E → Tracks client.new H (heard_block block.now E)) }
+    ensures keeps { OnOk result ((Image : List Raw → ℕ → List Raw) (V : List Raw) (E : List Entry) → Honest Image V (heard_block block.now E) → Keeps client.old V → Keeps client.new V) }
+    ensures change { IfOk result (λ change. (H : ℕ) (E : List Entry) → Tracks client.old H E → change ≡ block_change H E block.now) }
+    ensures err { OnErr result (IsAsBefore client.old client.new) }
 {
-    match slot {
-        Some(_) => Ok(()),
-        None => {
-            *slot = Some(UnitClient::make(alloc, limit)?);
-            Ok(())
-        }
-    }
+    client.hear_block(block.header().sequence, block.raws())
 }
 
-// Hands a block to the client of its unit, where it stands.
+// Hands a block to the client at its unit's place, which is made where there is none. A new client
+// is put in its place only once it has heard the block.
 #[inline]
-fn hear_at(slot: &mut Option<UnitClient>, block: &BlockView<'_>) -> Result<Change, OutOfMemory>
-    requires { IsSome slot.old }
-    ensures tracks { OnOk result ((H : ℕ) (E : List Entry) → TracksAt H E slot.old → TracksAt H (heard_block block.now E) slot.new) }
+fn hear_at(
+    alloc: Global,
+    limit: u32,
+    slot: &mut Option<UnitClient>,
+    block: &BlockView<'_>,
+) -> Result<Change, OutOfMemory>
+    requires { (1 ≤ limit) × (limit ≤ 65536) }
+    ensures tracks { OnOk result ((before : List Block) (unit : ℕ) → IsClient limit before unit slot.old → TracksAt limit (heard_block block.now (unit_history unit before)) slot.new) }
     ensures keeps { OnOk result ((Image : List Raw → ℕ → List Raw) (V : List Raw) (E : List Entry) → Honest Image V (heard_block block.now E) → KeepsTo V slot.old → KeepsTo V slot.new) }
-    ensures change { IfOk result (λ change. (H : ℕ) (E : List Entry) → TracksAt H E slot.old → change ≡ block_change H E block.now) }
+    ensures change { IfOk result (λ change. (before : List Block) (unit : ℕ) → IsClient limit before unit slot.old → change ≡ block_change limit (unit_history unit before) block.now) }
+    ensures err { OnErr result (IsSlotAsBefore slot.old slot.new) }
 {
     match slot {
-        Some(client) => client.hear_block(block.header().sequence, block.raws()),
-        None => unreachable!(),
+        Some(client) => hear(client, block),
+        None => {
+            let mut client = UnitClient::make(alloc, limit)?;
+            let change = hear(&mut client, block)?;
+            *slot = Some(client);
+            Ok(change)
+        }
     }
 }
 
@@ -94,22 +101,23 @@ impl Units {
 
     /// Hands a block to the client of its unit, and answers what it changed there.
     ///
-    /// After an error, which comes only where memory runs out, nothing is known of the unit's
-    /// client.
-    // Whatever blocks came before, the clients then stand for these with the block after them.
+    /// The only error is that memory ran out. The clients are then as before the block, and a unit
+    /// that had no client still has none.
     pub fn hear_block(
         &mut self,
         alloc: Global,
         block: &BlockView<'_>,
     ) -> Result<Change, OutOfMemory>
-        ensures limit { OnOk result (self.new.limit ≡ self.old.limit) }
+        ensures limit { self.new.limit ≡ self.old.limit }
+        // Whatever blocks came before, the clients then stand for these with the block after them.
         ensures heard { OnOk result ((before : List Block) → HaveHeard self.old before → HaveHeard self.new (block.now ∷ before)) }
         ensures change { IfOk result (λ change. (before : List Block) → HaveHeard self.old before
             → change ≡ block_change self.old.limit (unit_history block.now.unit before) block.now) }
+        // After an error they stand for the blocks for which they stood before.
+        ensures err { OnErr result ((before : List Block) → HaveHeard self.old before → HaveHeard self.new before) }
     {
         let unit = block.header().unit as usize;
-        make_known(alloc, self.limit, &mut self.clients[unit])?;
-        let change = hear_at(&mut self.clients[unit], block)?;
+        let change = hear_at(alloc, self.limit, &mut self.clients[unit], block)?;
         Ok(change)
     }
 
