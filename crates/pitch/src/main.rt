@@ -7,7 +7,8 @@ use std::env;
 use std::io::ErrorKind;
 use std::process::ExitCode;
 
-// The words after the program's name. A word that isn't UTF-8 is in no form, so it stands for no words at all.
+// The words after the program's name. A word that isn't UTF-8 is in no form, so it stands for no
+// words at all.
 fn words_of(rt: &HostRuntime) -> Result<Vec<String>, ErrorKind> {
     match env::args(rt) {
         Ok(args) => match args.skip(1).collect::<Vec<String>>(rt.alloc()) {

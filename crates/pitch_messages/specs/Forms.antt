@@ -1,5 +1,6 @@
--- Which form of a message the venue writes, where the feed has more than one. The choice is this project's own:
--- the expanded form where the fields ask for it, else the short form where they fit, else the long form.
+-- Which form of a message the venue writes, where the feed has more than one. The choice is this
+-- project's own: the expanded form where the fields ask for it, else the short form where they fit,
+-- else the long form.
 use Rattle.std.specs.Prelude.{ℕ, Bool, nat_le, List, Option, None, Some, if◌then◌else◌}
 use Rattle.pitch_fields.specs.Name.{is_blank, six_of}
 use Rattle.pitch_fields.specs.Price.{short_of}
@@ -15,7 +16,8 @@ flags_of display = if display then 1 else 0
 abbrev pub short_price : ℕ → ℕ → Option ℕ
 short_price quantity price = if nat_le quantity 65535 then short_of price else None
 
--- the six bytes of the symbol, where neither the symbol nor the participant asks for the expanded form
+-- the six bytes of the symbol, where neither the symbol nor the participant asks for the expanded
+-- form
 abbrev pub plain_symbol : Order → Option (List ℕ)
 plain_symbol order = if is_blank order.participant then six_of order.symbol else None
 

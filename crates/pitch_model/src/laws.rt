@@ -6,6 +6,7 @@ ghost use Rattle.std.specs.List.{list_any, sum_by, AllByRecursion};
 ghost use Rattle.std.specs.List.Sorted.{IsStrictlyIncreasing};
 ghost use Rattle.std.specs.Set.{is_member};
 ghost use Rattle.std.specs.FinMap as map;
+ghost use Rattle.pitch_fields.specs.Limits.{last_sequence};
 ghost use Rattle.pitch_fields.specs.declared.side.Side.{Side};
 ghost use Rattle.pitch_messages.specs.Raw.{IsRaw, kind_of};
 ghost use Rattle.unit_packets.specs.Blocks.{Block, StaysWithin};
@@ -74,8 +75,8 @@ pub fn later_messages_are_held()
     ensures overflow { (H : ℕ) (E : List Entry) (k : ℕ) (raw : Raw) → reach H E + 1 < k → is_held H E k ≡ false → held_count (part_of H E) ≡ H → Leaves H E (Message k raw) true (reach H E) (λ j. j == k) }
 {}
 
-/// A finished image above the reach takes its place, with the held messages that follow it; another changes
-/// nothing.
+/// A finished image above the reach takes its place, with the held messages that follow it; another
+/// changes nothing.
 pub fn images_are_taken_above_the_reach()
     ensures taken { (H : ℕ) (E : List Entry) (sequence s : ℕ) (raws : List Raw) → image_finished (spin_of E) sequence ≡ (s, raws) ∷ [] → reach H E < s → Drains H E (SpinFinished sequence) s }
     ensures stale { (H : ℕ) (E : List Entry) (sequence s : ℕ) (raws : List Raw) → image_finished (spin_of E) sequence ≡ (s, raws) ∷ [] → s ≤ reach H E → SameReach H E (SpinFinished sequence ∷ E) }
@@ -120,8 +121,8 @@ pub fn best_price_is_the_best()
     ensures none { (book : Book) (symbol : List ℕ) (side : Side) → best book symbol side ≡ None → orders_on book symbol side ≡ [] }
 {}
 
-/// The image of a book is adds, one for each open order, and else Time messages. That of a wire book
-/// is raws of bytes, and leaves the book that it is of.
+/// The image of a book is adds, one for each open order, and else Time messages. That of a wire
+/// book is raws of bytes, and leaves the book that it is of.
 pub fn images_make_their_books_anew()
     ensures raws { (book : Book) → IsWireBook book → AllByRecursion IsRaw (image_of book) }
     ensures bytes { (book : Book) → IsWireBook book → AllByRecursion AreBytes (image_of book) }
@@ -135,7 +136,7 @@ pub fn images_make_their_books_anew()
 pub fn images_leave_their_books()
     ensures of_book { (V : List Raw) (s : ℕ) → image V s ≡ image_of (book_after (take s V)) }
     ensures leaves { (V : List Raw) (s : ℕ) → AllByRecursion AreBytes V → book_after (image V s) ≡ book_after (take s V) }
-    ensures promise { (V : List Raw) (s : ℕ) → s ≤ 4294967294 → can_promise s (adds (image V s)) ≡ true }
+    ensures promise { (V : List Raw) (s : ℕ) → s ≤ last_sequence → can_promise s (adds (image V s)) ≡ true }
 {}
 
 /// Where a venue accepts more messages, the books and images of those before stay as they are, and
@@ -147,8 +148,8 @@ pub fn venues_only_grow()
 {}
 
 /// The sums over blocks that are heard one after another are the sums of what each block changes,
-/// and none is above the number of messages. What a unit's client heard of a stream is what it hears
-/// of the unit's blocks, one after another.
+/// and none is above the number of messages. What a unit's client heard of a stream is what it
+/// hears of the unit's blocks, one after another.
 pub fn blocks_add_up()
     ensures heard { (E : List Entry) (xs ys : List Block) → heard_blocks (xs ++ ys) E ≡ heard_blocks ys (heard_blocks xs E) }
     ensures fresh { (H : ℕ) (E : List Entry) (blocks : List Block) → fresh_in H E blocks ≡ sum_by (λ change. change.fresh) (changes_in H E blocks) }
@@ -176,7 +177,7 @@ pub fn pieces_are_honest()
 /// a heartbeat.
 pub fn packed_messages_are_pieces()
     ensures packed { (V : List Raw) (unit first : ℕ) (raws : List Raw) (datagrams : List (List ℕ)) → 0 < first → first + length raws ≤ length V + 1 → AreVenues V first raws → IsPacking unit first raws datagrams → AllByRecursion (IsPiece V unit) datagrams }
-    ensures heartbeat { (V : List Raw) (unit next : ℕ) → unit < 256 → 0 < next → next ≤ length V + 1 → next ≤ 4294967295 → IsPiece V unit (block_bytes (heartbeat_block unit next)) }
+    ensures heartbeat { (V : List Raw) (unit next : ℕ) → unit < 256 → 0 < next → next ≤ length V + 1 → next ≤ last_sequence + 1 → IsPiece V unit (block_bytes (heartbeat_block unit next)) }
 {}
 
 /// An accept adds its message and advertises nothing. An advertise stands for all that was accepted

@@ -10,7 +10,7 @@ use crate::parse::parse;
 use pitch_fields::OutOfMemory;
 use std::alloc::Global;
 
-/// Whether a word is `--`.
+// Whether a word is `--`.
 fn has_dashes(words: &[String]) -> bool
     ensures { result ≡ some_dashes (map string_bytes words.now) }
 {
@@ -19,8 +19,8 @@ fn has_dashes(words: &[String]) -> bool
 
 /// The form that the words are, or `None` exactly where they are none.
 ///
-/// `words` are the words after the program's own name. The numbers of a form lie within their ranges. The one error
-/// is want of memory.
+/// `words` are the words after the program's own name. The numbers of a form lie within their
+/// ranges. The one error is want of memory.
 pub fn read(alloc: Global, words: &[String]) -> Result<Option<Form>, OutOfMemory>
     ensures form { IfOk result (λ answer. MatchOption answer ((form : Form) → ¬ IsForm (map string_bytes words.now) form)
         (IsForm (map string_bytes words.now))) }

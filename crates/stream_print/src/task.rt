@@ -7,7 +7,7 @@ ghost use Rattle.unit_clients.specs.Clients.{HaveHeard};
 ghost use Rattle.stream_print.specs.Knowing.{CanHold, task_form, Knows};
 ghost use Rattle.stream_print.specs.Page.{PrintsSuch, Prints};
 ghost use Rattle.stream_print.specs.Putting.{PutsSuch, PutsSome};
-ghost use Rattle.stream_print.specs.Texts.{block_text, IsEnd, IsFrontOfEnd};
+ghost use Rattle.stream_print.specs.Texts.{block_text, IsEnd, IsPrefixOfEnd};
 
 use crate::books::print_books;
 use crate::failure::PrintError;
@@ -116,7 +116,7 @@ pub fn print_end<O: Sink>(
 ) -> Result<(), PrintError>
     ensures printed { OnOk result ((before : List Block) → Knows task.now before
         → PrintsSuch (IsEnd (task_form task.now) before) (O.written out.old) page.old.text (O.written out.new) page.new.text) }
-    ensures err { OnErr result ((before : List Block) → Knows task.now before → PutsSuch (IsFrontOfEnd (task_form task.now) before) (O.written out.old) page.old.text (O.written out.new)) }
+    ensures err { OnErr result ((before : List Block) → Knows task.now before → PutsSuch (IsPrefixOfEnd (task_form task.now) before) (O.written out.old) page.old.text (O.written out.new)) }
     ensures cause { HasCause (O.faults out.old) (O.faults out.new) (result ≡ Err PrintError.Write) }
 {
     match task {

@@ -1,4 +1,5 @@
 ghost use Rattle.std.specs.Prelude.{◌≡◌, ◌≤◌, ℕ, List, [], ◌∷◌, OnOk, OnErr, IfOk, length};
+ghost use Rattle.pitch_fields.specs.Limits.{most_held};
 ghost use Rattle.unit_packets.specs.Blocks.{Block};
 ghost use Rattle.pitch_model.specs.History.{Raw, Entry};
 ghost use Rattle.pitch_model.specs.Units.{unit_history};
@@ -27,6 +28,7 @@ pub struct Units {
 impl Model for Units {
     ghost use Rattle.std.specs.Prelude.{◌≡◌, ◌≤◌, length};
     ghost use Rattle.std.specs.Coded.{codes};
+    ghost use Rattle.pitch_fields.specs.Limits.{most_held};
     ghost use Rattle.client_core.specs.contracts.client.UnitClient as client;
     ghost use Rattle.unit_clients.specs.Clients.{Units};
 
@@ -36,7 +38,7 @@ impl Model for Units {
 
     ghost coded = { Prim.hlevel (codes, client.the_row.coded) };
 
-    ghost invariant = { λ u. (1 ≤ u.limit) × (u.limit ≤ 65536) × (length u.clients.items ≡ 256) };
+    ghost invariant = { λ u. (1 ≤ u.limit) × (u.limit ≤ most_held) × (length u.clients.items ≡ 256) };
 }
 
 // No unit has a client yet.
@@ -71,7 +73,7 @@ fn hear_at(
     slot: &mut Option<UnitClient>,
     block: &BlockView<'_>,
 ) -> Result<Change, OutOfMemory>
-    requires { (1 ≤ limit) × (limit ≤ 65536) }
+    requires { (1 ≤ limit) × (limit ≤ most_held) }
     ensures tracks { OnOk result ((before : List Block) (unit : ℕ) → IsClient limit before unit slot.old → TracksAt limit (heard_block block.now (unit_history unit before)) slot.new) }
     ensures keeps { OnOk result ((Image : List Raw → ℕ → List Raw) (V : List Raw) (E : List Entry) → Honest Image V (heard_block block.now E) → KeepsTo V slot.old → KeepsTo V slot.new) }
     ensures change { IfOk result (λ change. (before : List Block) (unit : ℕ) → IsClient limit before unit slot.old → change ≡ block_change limit (unit_history unit before) block.now) }
@@ -91,7 +93,7 @@ fn hear_at(
 impl Units {
     /// No unit has a client yet. Each will hold at most `limit` messages, from 1 to 65,536.
     pub fn make(alloc: Global, limit: u32) -> Result<Units, OutOfMemory>
-        requires { (1 ≤ limit) × (limit ≤ 65536) }
+        requires { (1 ≤ limit) × (limit ≤ most_held) }
         ensures limit { IfOk result (λ units. units.limit ≡ limit) }
         ensures heard { IfOk result (λ units. HaveHeard units []) }
     {
