@@ -20,6 +20,7 @@ use Rattle.pitch_fields.specs.declared.side.Side.TheVariants.{Buy}
 use Rattle.pitch_messages.specs.declared.order.Order.{Order}
 use Rattle.order_book.proofs.Maps.{find_lookup, absent, looks}
 use Rattle.order_book.specs.Standing.{IsKept}
+use Rattle.std.proofs.lemmas.Option.{none-some}
 
 -- an order with its id in front
 abbrev pub by_id : Order → ℕ × Order
@@ -32,16 +33,13 @@ StandById es = (q : ℕ) (order : Order) → lookup (nat_eq q) es ≡ Some order
 itself : (n : ℕ) → nat_eq n n ≡ true
 itself n = grind (arith, nat_tests)
 
-none_some : (order : Order) → ◌≡◌ {A = Option Order} None (Some order) → ⊥
-none_some order e = cc
-
 rest_stands : (e : ℕ × Order) (es : List (ℕ × Order)) → IsDistinct nat_eq (keys_of (e ∷ es)) → StandById (e ∷ es) → StandById es
 rest_stands e es d s q order found = by (nat_eq q e.0) refl
   where
     by : (b : Bool) → nat_eq q e.0 ≡ b → order.id ≡ q
     by true t =
         let same : q ≡ e.0 = (Decides-eqb q e.0).0 t in
-        absurd (none_some order (sym (absent e.0 es (IsDistinct-head nat_eq e.0 (keys_of es) d)) ∙ ap (λ (k : ℕ). lookup (nat_eq k) es) (sym same) ∙ found))
+        absurd (none-some order (sym (absent e.0 es (IsDistinct-head nat_eq e.0 (keys_of es) d)) ∙ ap (λ (k : ℕ). lookup (nat_eq k) es) (sym same) ∙ found))
     by false f = s q order (ap (λ (b : Bool). cond b (Some e.1) (lookup (nat_eq q) es)) f ∙ found)
 
 -- so the entries are their orders with the ids in front

@@ -4,3 +4,4 @@ mod Examples
 pub mod LittleEndian
 pub mod Names
 pub mod Placing
+pub mod Truth

@@ -15,6 +15,7 @@ use Rattle.pitch_messages.specs.Reading.{reads}
 use Rattle.pitch_messages.specs.Writing.{written}
 use Rattle.pitch_model.specs.Book.{Book, with_order, without_order, reformed, reduced_by, modified, after, book_after}
 use Rattle.pitch_model.specs.History.{Entry, Message, Next, GrpUp, SpinUp, Advertised, SpinReply, ImageMessages, SpinFinished, Ticked}
+use Rattle.pitch_model.specs.Advertising.{Accept, Advertise, advertised_by}
 use Rattle.pitch_model.specs.Asking.{ask_of}
 use Rattle.pitch_model.specs.Honest.{Honest}
 use Rattle.pitch_model.specs.Image.{image_of, image}
@@ -179,6 +180,11 @@ spun_is_honest = ((omega arith, image_of_one_order), (tt, (tt, (tt, (omega arith
 spun_is_current : status_of 4096 spun ≡ Current 2
 unfolding reach_of held_count
 spun_is_current = refl
+
+-- ---- Advertised sequences
+-- nothing, and then the first message, twice
+sequences_are_advertised_once : advertised_by (Advertise ∷ Accept clock ∷ Advertise ∷ Advertise ∷ []) ≡ 0 ∷ 1 ∷ []
+sequences_are_advertised_once = refl
 
 -- ---- Changes of an open order
 -- to 7 shares at 11.0000, hidden; and then 3 shares fewer, and 4 more

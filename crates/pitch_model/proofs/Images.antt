@@ -28,10 +28,7 @@ use Rattle.pitch_model.specs.Image.{clock_of, image_messages, image_of, image}
 use Rattle.pitch_model.specs.Widths.{FitsWire, IsWireBook}
 use Rattle.pitch_model.proofs.Books.{book_after_book}
 use Rattle.pitch_model.proofs.Widths.{book_after_fits}
-
-true_from_T : (b : Bool) → T b → b ≡ true
-true_from_T true h = refl
-true_from_T false h = absurd h
+use Rattle.pitch_fields.proofs.Truth.{true_from_T}
 
 -- ---- Entries put one after another
 abbrev put_all : finite.FinMap nat_cmp Order → List (ℕ × Order) → finite.FinMap nat_cmp Order

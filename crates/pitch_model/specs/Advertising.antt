@@ -11,6 +11,7 @@ pub data Operation : Type 0 where
   Accept : (raw : Raw) → Operation
   Advertise : Operation
 
+-- the message that an operation accepts, as a list of one or none
 abbrev pub accepted_at : Operation → List Raw
 accepted_at (Accept raw) = raw ∷ []
 accepted_at Advertise = []

@@ -1,14 +1,15 @@
 -- A sound input is done whole, and a faulty one is refused.
-use Rattle.std.proofs.Common.{◌≡◌, ◌⊎◌, inl, inr, ℕ, List, refl, sym, ap, ◌∙◌, subst, Option, None, Some, Ok, Err, Result, length, nat_lt, cond, ◌≤◌}
+use Rattle.std.proofs.Common.{◌≡◌, ◌⊎◌, inl, inr, ℕ, List, refl, sym, ap, ◌∙◌, subst, Option, None, Some, Ok, Err, Result, length, nat_lt, cond, ◌≤◌, arith}
 use Rattle.std.proofs.lemmas.Bool.{le-ltb}
 use Rattle.std.specs.Result.{result_err}
+use Rattle.pitch_io.specs.Causes.{Rose}
 use Rattle.pitch_words.specs.Forms.{IsForm}
 use Rattle.pitch_words.specs.declared.form.Form.{Form}
 use Rattle.pitch_words.proofs.Exact.{at_most_one}
 use Rattle.stream_print.specs.Inputs.{Has, AreAll, stream_limit, trouble_of}
 use Rattle.pitch_tool.specs.Devices.{Run, HasFaulted}
 use Rattle.pitch_tool.specs.Jobs.{job_of, JobEnds, Judges, blocks_trouble}
-use Rattle.pitch_tool.specs.Program.{Closes, Does, HasCauses, IsWhole, IsRefusal}
+use Rattle.pitch_tool.specs.Program.{Closes, HasCauses, IsNoForm, IsWhole, IsRefusal}
 use Rattle.pitch_tool.specs.TextForms.{text_limit, text_trouble, made}
 use Rattle.pitch_tool.specs.declared.failure.Failure.TheVariants as ending
 use Rattle.pitch_tool.specs.declared.failure.Trouble.{Trouble}
@@ -75,3 +76,23 @@ closes_refused words Usage run form trouble closes causes is wrong = absurd (clo
 closes_refused words Done run form trouble (f, is_f, ends) causes is wrong =
     absurd (not_done (job_of form) trouble run.input.bytes run.out.bytes wrong
     (subst (λ (g : Form). JobEnds (job_of g) (Ok tt) run.input.bytes run.out.bytes) (at_most_one words f form is_f is) ends))
+
+-- ---- Words that are no form
+pub closes_unknown : (words : List (List ℕ)) (status : ExitStatus) (run : Run) → Closes words status run → IsNoForm words → (status ≡ Usage) ⊎ (status ≡ OutOfMemory)
+closes_unknown words Usage run closes none = inl refl
+closes_unknown words OutOfMemory run closes none = inr refl
+closes_unknown words Done run (form, is, ends) none = absurd (none form is)
+closes_unknown words BadInput run (trouble, does, said) none = absurd (none does.0 does.1)
+closes_unknown words ReadFault run (does, said) none = absurd (none does.0 does.1)
+closes_unknown words WriteFault run (does, said) none = absurd (none does.0 does.1)
+
+-- ---- Devices that never fail
+-- a count that stays 0 did not rise
+pub unless_both : {A : Type 0} → Rose 0 0 ⊎ (Rose 0 0 ⊎ A) → A
+unless_both either = elim either [
+  | inl rose ↦ absurd (omega (arith, rose))
+  | inr other ↦ elim other [
+    | inl rose ↦ absurd (omega (arith, rose))
+    | inr a ↦ a
+  ]
+]

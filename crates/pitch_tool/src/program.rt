@@ -6,7 +6,7 @@ ghost use Rattle.pitch_words.specs.declared.form.Form.{Form};
 ghost use Rattle.stream_print.specs.Told.{told, TakesAtMost};
 ghost use Rattle.pitch_tool.specs.Devices.{device};
 ghost use Rattle.pitch_tool.specs.Jobs.{CanDo, JobEnds, Judges, most_taken, job_of as the_job};
-ghost use Rattle.pitch_tool.specs.Program.{memory_text, trouble_text, RunEnds, Closes, HasCauses, IsWhole, IsRefusal};
+ghost use Rattle.pitch_tool.specs.Program.{memory_text, trouble_text, IsNoForm, RunEnds, Closes, HasCauses, IsWhole, IsRefusal};
 
 use crate::failure::{Failure, Trouble};
 use crate::job::{Job, job_of};
@@ -172,6 +172,8 @@ pub fn pitch<I: Source, O: Sink, E: Sink>(
     // Whatever the status, the source was asked for no more than one byte past the limit of the
     // form.
     ensures reads { (form : Form) → IsForm (map string_bytes words.now) form → TakesAtMost (most_taken (the_job form)) (told I.left input.old input.new) }
+    // Where the words are no form, that is the answer, or memory ran out.
+    ensures unknown { IsNoForm (map string_bytes words.now) → (result ≡ ExitStatus.Usage) ⊎ (result ≡ ExitStatus.OutOfMemory) }
     // Where nothing is wrong with the words and the input and no device failed, the job was done
     // whole, or memory ran out.
     ensures complete { (form : Form) → IsForm (map string_bytes words.now) form → Judges (the_job form) (I.left input.old) None

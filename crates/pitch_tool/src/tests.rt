@@ -1,4 +1,9 @@
-ghost use Rattle.std.specs.Prelude.{◌<◌};
+ghost use Rattle.std.specs.Prelude.{◌<◌, Some, None, map, string_bytes};
+ghost use Rattle.pitch_words.specs.Forms.{IsForm};
+ghost use Rattle.pitch_words.specs.declared.form.Form.{Form};
+ghost use Rattle.pitch_tool.specs.Jobs.{Judges, job_of};
+ghost use Rattle.pitch_tool.specs.Program.{IsWhole, IsRefusal};
+ghost use Rattle.pitch_tool.specs.declared.failure.Trouble.{Trouble};
 
 use crate::{ExitStatus, pitch};
 use pitch_fields::OutOfMemory;
@@ -265,6 +270,22 @@ fn stream_of(alloc: Global, blocks: &[&[u8]]) -> Result<Vec<u8>, OutOfMemory> {
     Ok(bytes)
 }
 
+// The program over devices that never fail.
+fn pitch_steadily(
+    alloc: Global,
+    words: &[String],
+    input: &mut SteadySource,
+    out: &mut SteadySink,
+    err: &mut SteadySink,
+) -> ExitStatus
+    // Where nothing is wrong with the input, the job was done whole, or memory ran out.
+    ensures complete { (form : Form) → IsForm (map string_bytes words.now) form → Judges (job_of form) (Some input.old.bytes) None → IsWhole result }
+    // Where something is wrong with the input, it was refused, or memory ran out.
+    ensures refused { (form : Form) (trouble : Trouble) → IsForm (map string_bytes words.now) form → Judges (job_of form) (Some input.old.bytes) (Some trouble) → IsRefusal result }
+{
+    pitch(alloc, words, input, out, err)
+}
+
 // What the program leaves.
 #[derive(Drop)]
 struct Outcome {
@@ -281,7 +302,7 @@ fn run(alloc: Global, line: &str, blocks: &[&[u8]], piece: usize) -> Result<Outc
     let mut input = SteadySource::make(stream_of(alloc, blocks)?, piece);
     let mut out = SteadySink::make(alloc, 4096)?;
     let mut err = SteadySink::make(alloc, 4096)?;
-    let status = pitch(alloc, words.as_slice(), &mut input, &mut out, &mut err);
+    let status = pitch_steadily(alloc, words.as_slice(), &mut input, &mut out, &mut err);
     Ok(Outcome { status, out, err })
 }
 
@@ -376,7 +397,7 @@ fn words_say_how_many_are_held(rt: HostRuntime) -> Result<(), Fail> {
         let mut input = SteadySource::make(stream_of(alloc, &[TIME, ADD])?, 65536);
         let mut out = SteadySink::make(alloc, 4096)?;
         let mut err = SteadySink::make(alloc, 4096)?;
-        let status = pitch(alloc, words.as_slice(), &mut input, &mut out, &mut err);
+        let status = pitch_steadily(alloc, words.as_slice(), &mut input, &mut out, &mut err);
         let usage = "pitch: usage: follow | show | pack | replay | storm | drill | demo\n";
         assert_eq!(rt; from_utf8(err.written())?, usage, "words {line}");
         assert_eq!(rt; from_utf8(out.written())?, "", "words {line}");

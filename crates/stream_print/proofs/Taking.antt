@@ -22,6 +22,7 @@ use Rattle.stream_print.specs.declared.printer.Printer.{Printer}
 use Rattle.stream_print.specs.declared.failure.StreamFailure.{StreamFailure}
 use Rattle.stream_print.proofs.Feeding.{take_prefix, consumes_more, consumes_none, writes_texts}
 use Rattle.stream_print.proofs.Flow.{grows_none}
+use Rattle.unit_packets.proofs.Streams.{judge_nothing}
 
 -- the bytes that were taken so far were fed
 pub record Taken (form : StreamForm) (f : Printer) (r : Reading) (e : BlockError) (count : ℕ) (first left start written : Option (List ℕ)) : Type 0 where
@@ -31,10 +32,6 @@ pub record Taken (form : StreamForm) (f : Printer) (r : Reading) (e : BlockError
   pub read : Consumes first left bytes
   pub fed : Fed form start written f r e bytes
   pub unended : is_truncated e ≡ true
-
-judge_nothing : judge [] ≡ Err (Truncated 0 8)
-unfolding judge
-judge_nothing = refl
 
 no_blocks : blocks_of [] ≡ []
 no_blocks = (none_of [] (Truncated 0 8) judge_nothing).blocks

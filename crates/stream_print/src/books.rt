@@ -57,6 +57,7 @@ fn print_unit<O: Sink>(
     page: &mut Page,
     out: &mut O,
 ) -> Result<(), PrintError>
+    // Whatever blocks the unit's client has heard, the book that it has by them was printed.
     ensures printed { OnOk result ((H : ℕ) (before : List Block) → IsClient H before unit slot.now
         → PrintsSuch (IsUnitText H slot.now before unit) (O.written out.old) page.old.text (O.written out.new) page.new.text) }
     ensures err { OnErr result ((H : ℕ) (before : List Block) → IsClient H before unit slot.now
@@ -77,6 +78,7 @@ pub fn print_books<O: Sink>(
     out: &mut O,
 ) -> Result<(), PrintError>
     requires many { length clients.now ≡ 256 }
+    // Whatever blocks the clients have heard, the books that they have by them were printed.
     ensures printed { OnOk result ((H : ℕ) (before : List Block) → Clients H clients.now before
         → PrintsSuch (AreBooksBelow H clients.now before 256) (O.written out.old) page.old.text (O.written out.new) page.new.text) }
     ensures err { OnErr result ((H : ℕ) (before : List Block) → Clients H clients.now before → AreUnits before

@@ -52,6 +52,7 @@ impl Printer {
         requires few { self.old.number < 2 ^ 32 }
         ensures prints { OnOk result (PrintsBlock self.old self.new (O.written out.old) (O.written out.new) block.now) }
         ensures number { OnOk result (self.new.number ≡ self.old.number + 1) }
+        // After a failure the sink has a prefix of the page and of the block's text.
         ensures err { OnErr result ((before : List Block) → HasPrinted self.old before
             → PutsSome (O.written out.old) (O.written out.new) (self.old.page.text ++ block_text (task_form self.old.task) before block.now)) }
         ensures cause { HasCause (O.faults out.old) (O.faults out.new) (result ≡ Err PrintError.Write) }
@@ -69,6 +70,7 @@ impl Printer {
 
     /// Prints what stands at the end of the stream.
     pub fn print_end<O: Sink>(&mut self, alloc: Global, out: &mut O) -> Result<(), PrintError>
+        // Whatever blocks were printed before, what follows them at the end was printed.
         ensures printed { OnOk result ((before : List Block) → HasPrinted self.old before
             → PrintsSuch (IsEnd (task_form self.old.task) before) (O.written out.old) self.old.page.text (O.written out.new) self.new.page.text) }
         ensures err { OnErr result ((before : List Block) → HasPrinted self.old before

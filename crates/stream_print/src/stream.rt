@@ -35,6 +35,7 @@ fn print_loaded<O: Sink>(
 ) -> Result<BlockError, PrintError>
     requires few { 8 * printer.old.number + length reader.old.rest ≤ 1073741824 }
     requires place { reader.old.place ≤ 1073741824 }
+    // The texts of all blocks that are whole follow those that were printed before.
     ensures prints { IfOk result (λ error. PrintsAll printer.old printer.new reader.old reader.new (O.written out.old) (O.written out.new) error) }
     ensures err { OnErr result ((before : List Block) → HasPrinted printer.old before
         → PutsSome (O.written out.old) (O.written out.new) (printer.old.page.text ++ texts_after (block_text (task_form printer.old.task)) before (blocks_of reader.old.rest))) }
@@ -85,6 +86,7 @@ fn feed<O: Sink>(
     requires within { fed ≤ INPUT_LIMIT }
     requires few { 8 * printer.old.number + length reader.old.rest ≤ fed }
     requires place { reader.old.place ≤ fed }
+    // Where the bytes before were fed, this piece was fed after them, or the stream has ended.
     ensures feeds { (first now start : Option (List ℕ)) (bytes : List ℕ) (error : BlockError) → length bytes ≡ fed
         → Fed (task_form printer.old.task) start (O.written out.old) printer.old reader.old error bytes → Consumes first now (bytes ++ piece.now)
         → StreamFeeds (task_form printer.old.task) stream_limit result (between first now) (between start (O.written out.new)) printer.new reader.new (bytes ++ piece.now) }
@@ -115,6 +117,7 @@ fn finish<O: Sink>(
     stopped: BlockError,
     out: &mut O,
 ) -> Result<(), StreamFailure>
+    // Where these bytes were fed and the source is at its end, the stream has ended.
     ensures finishes { (first before now start : Option (List ℕ)) (bytes : List ℕ) → length bytes ≤ stream_limit
         → Fed (task_form printer.old.task) start (O.written out.old) printer.old reader.now stopped bytes → is_truncated stopped ≡ true
         → Consumes first before bytes → IsAtEnd before × Keeps before now → StreamEnds (task_form printer.old.task) stream_limit result (between first now) (between start (O.written out.new)) }
@@ -142,6 +145,7 @@ pub fn print_stream<I: Source, O: Sink>(
     out: &mut O,
 ) -> Result<(), StreamFailure>
     requires { CanHold form }
+    // How the stream ended says what was read and what was written.
     ensures ends { StreamEnds form stream_limit result (told I.left input.old input.new) (told O.written out.old out.new) }
     // However it ended, at most one byte was taken past the limit.
     ensures reads { TakesAtMost (stream_limit + 1) (told I.left input.old input.new) }

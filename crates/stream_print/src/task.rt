@@ -51,6 +51,7 @@ fn print_heard<O: Sink>(
     out: &mut O,
 ) -> Result<(), PrintError>
     ensures limit { OnOk result (units.new.limit ≡ units.old.limit) }
+    // Whatever blocks came before, the clients have then heard this one too, and its line was printed.
     ensures heard { OnOk result ((before : List Block) → HaveHeard units.old before → HaveHeard units.new (block.now ∷ before)) }
     ensures printed { OnOk result ((before : List Block) → HaveHeard units.old before → number ≡ length before + 1
         → Prints (O.written out.old) page.old.text (O.written out.new) page.new.text (line_after units.old.limit before block.now)) }
@@ -94,9 +95,11 @@ pub fn print_block<O: Sink>(
     out: &mut O,
 ) -> Result<(), PrintError>
     ensures form { OnOk result (task_form task.new ≡ task_form task.old) }
+    // Whatever blocks came before, the task knows of this one too, and its text was printed.
     ensures knows { OnOk result ((before : List Block) → Knows task.old before → Knows task.new (block.now ∷ before)) }
     ensures printed { OnOk result ((before : List Block) → Knows task.old before → number ≡ length before + 1
         → Prints (O.written out.old) page.old.text (O.written out.new) page.new.text (block_text (task_form task.old) before block.now)) }
+    // After a failure the sink has a prefix of what was to be printed.
     ensures err { OnErr result ((before : List Block) → Knows task.old before → number ≡ length before + 1
         → PutsSome (O.written out.old) (O.written out.new) (page.old.text ++ block_text (task_form task.old) before block.now)) }
     ensures cause { HasCause (O.faults out.old) (O.faults out.new) (result ≡ Err PrintError.Write) }
@@ -114,6 +117,7 @@ pub fn print_end<O: Sink>(
     page: &mut Page,
     out: &mut O,
 ) -> Result<(), PrintError>
+    // Whatever blocks came before, what follows them at the end of a stream was printed.
     ensures printed { OnOk result ((before : List Block) → Knows task.now before
         → PrintsSuch (IsEnd (task_form task.now) before) (O.written out.old) page.old.text (O.written out.new) page.new.text) }
     ensures err { OnErr result ((before : List Block) → Knows task.now before → PutsSuch (IsPrefixOfEnd (task_form task.now) before) (O.written out.old) page.old.text (O.written out.new)) }

@@ -2,6 +2,7 @@
 use Rattle.std.proofs.Common.{◌≡◌, ◌≢◌, ℕ, ◌<◌, zero, suc, ◌⊎◌, inl, inr, Bool, true, false, ◌||◌, List, [], ◌∷◌, ◌++◌, eqb, refl, sym, ap, ◌∙◌, subst, arith, Option, Some, None, slice_get}
 use Rattle.std.proofs.Math.ListN.{set, length-set}
 use Rattle.std.proofs.lemmas.Bool.{cases_eq, eq-eqb, ne_eqb}
+use Rattle.std.proofs.lemmas.Option.{none-some}
 use Rattle.unit_packets.specs.Blocks.{Block}
 use Rattle.pitch_model.specs.History.{Entry, Raw}
 use Rattle.pitch_model.specs.Heard.{heard_block}
@@ -14,10 +15,7 @@ use Rattle.unit_clients.specs.Clients.{is_named, IsClient, TracksAt, IsSlotAsBef
 -- ---- Lists
 -- what stands at a place of a list in which one element was set
 pub get_set : {X : Type 0} (xs : List X) (i q : ℕ) (y r : X) → slice_get (set xs i y) q ≡ Some r → ((q ≡ i) × (r ≡ y)) ⊎ ((q ≢ i) × (slice_get xs q ≡ Some r))
-get_set [] i q y r e = absurd (none_some r e)
-  where
-    none_some : {X : Type 0} (r : X) → ◌≡◌ {A = Option X} None (Some r) → ⊥
-    none_some r e = cc
+get_set [] i q y r e = absurd (none-some r e)
 get_set (x ∷ xs) zero zero y r e = inl (refl, cc)
 get_set (x ∷ xs) zero (suc q) y r e = inr ((λ same. omega arith), e)
 get_set (x ∷ xs) (suc i) zero y r e = inr ((λ same. omega arith), e)

@@ -1,5 +1,5 @@
 use Rattle.std.proofs.Common.{map, string_bytes}
-use Rattle.pitch_tool.proofs.Completing.{closes_whole, closes_refused}
+use Rattle.pitch_tool.proofs.Completing.{closes_whole, closes_refused, closes_unknown}
 use Rattle.pitch_tool.proofs.program.pitch.Goals as goal
 
 pub returns-clause-causes : goal.returns-clause-causes
@@ -12,3 +12,6 @@ returns-clause-complete g c = λ form is sound.
 pub returns-clause-refused : goal.returns-clause-refused
 returns-clause-refused g c = λ form trouble is wrong.
     closes_refused (map string_bytes c.args.words.now) c.close.result _ form trouble c.close.ensures.ends (record { read = c.close.ensures.read_cause; write = c.close.ensures.write_cause }) is wrong
+
+pub returns-clause-unknown : goal.returns-clause-unknown
+returns-clause-unknown g c = closes_unknown (map string_bytes c.args.words.now) c.close.result _ c.close.ensures.ends
