@@ -31,7 +31,7 @@ fn fault_from(ended: bool, place: u64, error: BlockError) -> Option<BlockFault>
     Some(BlockFault { place, error })
 }
 
-// The fault of the bytes that stand at a place behind the whole blocks.
+// The fault of the bytes at a place after the whole blocks.
 fn fault_in(ended: bool, place: u64, rest: &[u8]) -> Option<BlockFault>
     ensures { result ≡ fault_in ended place rest.now }
 {
@@ -132,7 +132,7 @@ impl BlockReader {
         self.place
     }
 
-    /// What was loaded and is not behind.
+    /// The bytes loaded and not yet passed.
     pub fn rest(&self) -> &[u8]
         ensures { result.now ≡ self.now.rest }
     {
@@ -152,7 +152,7 @@ impl BlockReader {
         Ok(())
     }
 
-    /// Puts the first bytes of the rest behind, as a block's whose length this is.
+    /// Passes the first `count` bytes of the rest, the length of a block.
     pub fn pass(&mut self, count: usize)
         requires { count ≤ length self.old.rest }
         ensures { self.new ≡ passed self.old count }
