@@ -51,7 +51,8 @@ fn print_heard<O: Sink>(
     out: &mut O,
 ) -> Result<(), PrintError>
     ensures limit { OnOk result (units.new.limit ≡ units.old.limit) }
-    // Whatever blocks came before, the clients have then heard this one too, and its line was printed.
+    // Whatever blocks came before, the clients have then heard this one too, and its line was
+    // printed.
     ensures heard { OnOk result ((before : List Block) → HaveHeard units.old before → HaveHeard units.new (block.now ∷ before)) }
     ensures printed { OnOk result ((before : List Block) → HaveHeard units.old before → number ≡ length before + 1
         → Prints (O.written out.old) page.old.text (O.written out.new) page.new.text (line_after units.old.limit before block.now)) }

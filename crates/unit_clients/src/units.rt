@@ -78,7 +78,8 @@ fn hear_at(
     // Where the place was right for some blocks of a unit, the client there then stands for the
     // unit's history by them with this block after it.
     ensures tracks { OnOk result ((before : List Block) (unit : ℕ) → IsClient limit before unit slot.old → TracksAt limit (heard_block block.now (unit_history unit before)) slot.new) }
-    // Where a history with this block speaks of one venue's messages alone, the client keeps to them.
+    // Where a history with this block speaks of one venue's messages alone, the client keeps to
+    // them.
     ensures keeps { OnOk result ((Image : List Raw → ℕ → List Raw) (V : List Raw) (E : List Entry) → Honest Image V (heard_block block.now E) → KeepsTo V slot.old → KeepsTo V slot.new) }
     ensures change { IfOk result (λ change. (before : List Block) (unit : ℕ) → IsClient limit before unit slot.old → change ≡ block_change limit (unit_history unit before) block.now) }
     ensures err { OnErr result (IsSlotAsBefore slot.old slot.new) }
@@ -117,7 +118,8 @@ impl Units {
         ensures limit { self.new.limit ≡ self.old.limit }
         // Whatever blocks came before, the clients then stand for these with the block after them.
         ensures heard { OnOk result ((before : List Block) → HaveHeard self.old before → HaveHeard self.new (block.now ∷ before)) }
-        // The answer is what the block changes for a client that has heard the unit's blocks before.
+        // The answer is what the block changes for a client that has heard the unit's blocks
+        // before.
         ensures change { IfOk result (λ change. (before : List Block) → HaveHeard self.old before
             → change ≡ block_change self.old.limit (unit_history block.now.unit before) block.now) }
         // After an error they stand for the blocks for which they stood before.
