@@ -1,5 +1,6 @@
 -- What the client's own functions tell one another. No public clause needs this file.
 use Rattle.std.specs.Prelude.{◌≡◌, ℕ, ◌+◌, ◌-◌, ◌^◌, ◌≤◌, ◌&&◌, not, nat_lt, min, List, [], ◌∷◌, ◌++◌, Option, Some, None, option_map}
+use Rattle.pitch_fields.specs.Limits.{last_sequence}
 use Rattle.std.specs.FinMap.{len}
 use Rattle.order_book.specs.Standing.{Standing}
 use Rattle.hold_buffer.specs.HoldView.{HoldView}
@@ -23,14 +24,14 @@ use Rattle.client_core.specs.declared.taking.Taken.{Taken}
 
 -- ---- Room in a book
 -- the book has room for so many messages and for what is held, or for all that can still be
--- applied: sequences end at 4,294,967,294
+-- applied before the last sequence
 abbrev pub HasRoom : ℕ → HoldView → ℕ → Type 0
-HasRoom left h spare = min (left + len h.held) (4294967294 - h.floor) ≤ spare
+HasRoom left h spare = min (left + len h.held) (last_sequence - h.floor) ≤ spare
 
 -- a book of an image through a sequence has room for so many messages that are held, or for all
 -- that can follow
 abbrev pub HasRoomAfter : ℕ → ℕ → ℕ → Type 0
-HasRoomAfter held through spare = min held (4294967294 - through) ≤ spare
+HasRoomAfter held through spare = min held (last_sequence - through) ≤ spare
 
 -- the image that a Spin Finished for a sequence would finish has room for so many messages that are
 -- held

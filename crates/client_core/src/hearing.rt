@@ -1,4 +1,5 @@
 ghost use Rattle.std.specs.Prelude.{◌≡◌, ◌+◌, ◌^◌, ◌<◌, ◌≤◌, ◌||◌, [], ◌∷◌, false, IsTrue, if◌then◌else◌};
+ghost use Rattle.pitch_fields.specs.Limits.{last_sequence};
 ghost use Rattle.pitch_model.specs.Status.{raised};
 
 use crate::applied_log::AppliedLog;
@@ -68,7 +69,7 @@ fn is_old(first: u32, count: usize, floor: u32) -> bool
 }
 
 fn counted(n: u32, one: bool) -> u32
-    requires { n < 4294967295 }
+    requires { n ≤ last_sequence }
     ensures { result ≡ (if one then 1 else 0) + n }
 {
     if one { n + 1 } else { n }
@@ -93,6 +94,7 @@ fn image_end_of(taken: bool) -> ImageEnd
 
 impl UnitClient {
     ghost use Rattle.std.specs.Prelude.{◌≡◌, ◌≢◌, ℕ, ◌+◌, ◌≤◌, List, OnOk, OnErr, IfOk, IsOk, Some, ◌∷◌, [], ◌++◌, length, take, drop};
+    ghost use Rattle.pitch_fields.specs.Limits.{last_sequence};
     ghost use Rattle.pitch_messages.specs.Raw.{IsRaw};
     ghost use Rattle.unit_packets.specs.Blocks.{Block, StaysWithin};
     ghost use Rattle.pitch_model.specs.History.{Entry, Raw, Message, Next, GrpUp, GrpDown, GapReply, SpinUp, SpinDown, Advertised, SpinReply, ImageMessages, SpinFinished, image_finished, bad_image, spin_of};
@@ -123,7 +125,7 @@ impl UnitClient {
 
     // Hears a message for which there is room, and notes what is applied.
     fn hear_message(&mut self, log: &mut AppliedLog, sequence: u32, raw: &[u8]) -> Taken
-        requires sequence { sequence ≤ 4294967294 }
+        requires sequence { sequence ≤ last_sequence }
         requires raw { IsRaw raw.now }
         requires room { HasRoom 1 self.old.hold self.old.book.spare }
         requires log { CanNote (1 + held_number self.old) log.old }
@@ -145,7 +147,7 @@ impl UnitClient {
 
     // Hears messages with rising sequence, for which there is room, and notes what is applied.
     fn hear_raws(&mut self, log: &mut AppliedLog, first: u32, raws: Raws<'_>) -> Counts
-        requires first { (1 ≤ first) × (first + length raws ≤ 4294967295) }
+        requires first { (1 ≤ first) × (first + length raws ≤ last_sequence + 1) }
         requires room { HasRoom (length raws) self.old.hold self.old.book.spare }
         requires log { CanNote (length raws + held_number self.old) log.old }
         ensures tracks { (H : ℕ) (E : List Entry) → Tracks self.old H E → Tracks self.new H (heard_messages first raws.entry E) }
@@ -177,7 +179,7 @@ impl UnitClient {
         first: u32,
         raws: Raws<'_>,
     ) -> Result<Counts, OutOfMemory>
-        requires first { (1 ≤ first) × (first + length raws ≤ 4294967295) }
+        requires first { (1 ≤ first) × (first + length raws ≤ last_sequence + 1) }
         ensures tracks { OnOk result ((H : ℕ) (E : List Entry) → Tracks self.old H E → Tracks self.new H (heard_messages first raws.entry E)) }
         ensures keeps { OnOk result ((V : List Raw) → AreVenues V first raws.entry → Keeps self.old V → Keeps self.new V) }
         ensures fresh { IfOk result (λ counts. (H : ℕ) (E : List Entry) → Tracks self.old H E → counts.fresh ≡ fresh_messages H first raws.entry E) }

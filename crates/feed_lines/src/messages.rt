@@ -1,6 +1,7 @@
 //! Lines of messages, field by field.
 
 ghost use Rattle.std.specs.Prelude.{◌≡◌, ◌≤◌, ◌<◌, ◌+◌, ◌++◌, take, length, codes, Result, Err};
+ghost use Rattle.pitch_fields.specs.Limits.{last_sequence};
 ghost use Rattle.pitch_fields.specs.Name.{name_shown};
 ghost use Rattle.pitch_messages.specs.Raw.{IsRaw, kind_of};
 ghost use Rattle.pitch_messages.specs.Reading.{reads};
@@ -410,7 +411,7 @@ pub fn put_message_line(out: &mut [u8], at: usize, sequence: u32, raw: &[u8]) ->
 /// has the next one.
 #[inline]
 pub fn next_after(sequence: u32) -> u32
-    requires { sequence < 4294967295 }
+    requires { sequence ≤ last_sequence }
     ensures { result ≡ next_after sequence }
 {
     if sequence == 0 { 0 } else { sequence + 1 }

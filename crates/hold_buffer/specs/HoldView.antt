@@ -1,5 +1,6 @@
 -- What a hold is seen as: its floor, its limit, and the messages that it holds by their sequences.
 use Rattle.std.specs.Prelude.{◌≡◌, ℕ, ◌≤◌, ◌<◌, List, refl, true}
+use Rattle.pitch_fields.specs.Limits.{last_sequence, most_held}
 use Rattle.std.specs.Ordering.{nat_cmp}
 use Rattle.std.specs.FinMap as map
 use Rattle.std.specs.Coded.{Coded, code_by, coded×, coded_ℕ, coded_list}
@@ -23,7 +24,7 @@ coded_hold =
 -- What holds of every hold: its limit is 1 to 65,536, it holds at most so many messages, each above
 -- the floor, and sequences end at 4,294,967,294.
 pub record IsHold (h : HoldView) : Type 0 where
-  pub limited : (0 < h.limit) × (h.limit ≤ 65536)
+  pub limited : (0 < h.limit) × (h.limit ≤ most_held)
   pub few : map.len h.held ≤ h.limit
   pub above : (k : ℕ) → map.contains_key h.held k ≡ true → h.floor < k
-  pub fits : (k : ℕ) → map.contains_key h.held k ≡ true → k ≤ 4294967294
+  pub fits : (k : ℕ) → map.contains_key h.held k ≡ true → k ≤ last_sequence

@@ -1,6 +1,7 @@
 ghost use Rattle.std.specs.Prelude.{◌≡◌, ℕ, ◌+◌, ◌<◌, ◌≤◌, ◌↔◌, IfOk, IsTrue, IsSome, MatchOption, None, nat_lt};
 ghost use Rattle.std.specs.Option.{option_copied};
 ghost use Rattle.std.specs.FinMap as map;
+ghost use Rattle.pitch_fields.specs.Limits.{last_sequence, most_held};
 ghost use Rattle.pitch_messages.specs.Raw.{IsRaw};
 ghost use Rattle.hold_buffer.specs.HoldView.{IsHold};
 ghost use Rattle.hold_buffer.specs.Offered.{Answers};
@@ -56,7 +57,7 @@ impl Model for Hold {
 impl Hold {
     /// A hold for at most `limit` messages, 1 to 65,536, with the floor 0 and nothing held.
     pub fn make(alloc: Global, limit: u32) -> Result<Hold, OutOfMemory>
-        requires { (1 ≤ limit) × (limit ≤ 65536) }
+        requires { (1 ≤ limit) × (limit ≤ most_held) }
         ensures { IfOk result (λ hold. hold ≡ record { floor = 0; limit = limit; held = map.empty }) }
     {
         Ok(Hold {
@@ -69,7 +70,7 @@ impl Hold {
     /// the floor and the first held one alone.
     #[inline]
     pub fn offer(&mut self, sequence: u32, raw: &Raw) -> Offer
-        requires { sequence ≤ 4294967294 }
+        requires { sequence ≤ last_sequence }
         ensures answer { Answers result self.old sequence raw.now self.new }
         ensures kept { IsHold self.new }
     {
@@ -80,7 +81,7 @@ impl Hold {
     /// held.
     #[inline(always)]
     pub fn offer_bytes(&mut self, sequence: u32, bytes: &[u8]) -> Offer
-        requires fits { sequence ≤ 4294967294 }
+        requires fits { sequence ≤ last_sequence }
         requires raw { IsRaw bytes.now }
         ensures answer { Answers result self.old sequence bytes.now self.new }
         ensures kept { IsHold self.new }
@@ -108,7 +109,7 @@ impl Hold {
               held = map.remove self.old.held (self.old.floor + 1);
             }) }
         ensures kept { IsHold self.new }
-        ensures fits { IsSome result → self.new.floor ≤ 4294967294 }
+        ensures fits { IsSome result → self.new.floor ≤ last_sequence }
     {
         let first = first_sequence(&self.ring)?;
         if first - 1 != self.floor {
@@ -123,7 +124,7 @@ impl Hold {
     #[inline]
     pub fn next(&self) -> Option<&Raw>
         ensures answer { option_copied result ≡ map.get self.now.held (self.now.floor + 1) }
-        ensures fits { IsSome result → self.now.floor < 4294967294 }
+        ensures fits { IsSome result → self.now.floor < last_sequence }
         ensures kept { IsHold self.now }
     {
         let message = self.ring.front()?;
@@ -142,7 +143,7 @@ impl Hold {
           held = map.remove self.old.held (self.old.floor + 1);
         } }
         ensures kept { IsHold self.new }
-        ensures fits { self.new.floor ≤ 4294967294 }
+        ensures fits { self.new.floor ≤ last_sequence }
     {
         let _ = self.pop_next();
     }
@@ -201,7 +202,7 @@ impl Hold {
 
 // Holds a message in its place unless its sequence is held, alone where the ring is full.
 fn store(ring: &mut Ring, sequence: u32, bytes: &[u8]) -> Offer
-    requires fits { sequence ≤ 4294967294 }
+    requires fits { sequence ≤ last_sequence }
     requires raw { IsRaw bytes.now }
     requires rising { IsRising ring.old.items }
     ensures answer { (floor : ℕ) → floor + 1 < sequence → IsHoldRing floor ring.old

@@ -10,7 +10,7 @@ use std::cmp::Ordering;
 // Messages with their sequences, in a block of memory that never grows.
 pub(crate) type Ring = HeapCircularBuffer<(u32, Raw)>;
 
-// The sequence of the message at the front.
+// The sequence of the message at the start.
 pub(crate) fn first_sequence(ring: &Ring) -> Option<u32>
     ensures { result ≡ option_map (λ e. e.0) (slice_get ring.now.items 0) }
 {

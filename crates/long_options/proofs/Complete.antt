@@ -9,9 +9,9 @@ use Rattle.clap.specs.Simple.{Shape}
 use Rattle.clap.specs.Faults.{settle_fault, turn_fault, use_fault, walk_fault}
 use Rattle.clap.specs.Kinds.{or_else}
 use Rattle.clap.proofs.WalkLemmas.{both}
-use Rattle.long_options.specs.Words.{AreListed, Given, IsApart, IsWritten, Listed, Once, Text, Writes, flag, has_name, is_plain_name, listed}
+use Rattle.long_options.specs.Words.{AreListed, Given, IsApart, IsWritten, Listed, Once, Text, Writes, long_flag, has_name, is_plain_name, listed}
 use Rattle.long_options.proofs.Apart.{no_option}
-use Rattle.long_options.proofs.LongWords.{long_of-attached, long_of-flag}
+use Rattle.long_options.proofs.LongWords.{long_of-attached, long_of-long_flag}
 use Rattle.long_options.proofs.Rows.{built_rule, built_rules, by_long, given_rows, left_fault, left_of, left_rows, listed_name, switch, switch_passes, use_passes, used_given, used_switch, valued}
 use Rattle.long_options.proofs.Turns.{both_none, built_shape, flag_next, flag_turn, plain_next, plain_turn, value_next, walk_at}
 use Rattle.long_options.proofs.Sound.{end_of, ending}
@@ -19,11 +19,11 @@ use Rattle.long_options.proofs.Sound.{end_of, ending}
 abbrev pub plain_names : List Listed → Bool
 plain_names options = list_all (λ o. is_plain_name o.0) options
 
-pub name_flag : (n : Text) → is_plain_name n ≡ true → long_of (flag n) ≡ Some (n, None)
+pub name_flag : (n : Text) → is_plain_name n ≡ true → long_of (long_flag n) ≡ Some (n, None)
 name_flag [] e = absurd (true≢false (sym e))
-name_flag (n ∷ ns) e = long_of-flag n ns (not-true _ e)
+name_flag (n ∷ ns) e = long_of-long_flag n ns (not-true _ e)
 
-pub name_attached : (n v : Text) → is_plain_name n ≡ true → long_of (flag n ++ 61 ∷ v) ≡ Some (n, Some v)
+pub name_attached : (n v : Text) → is_plain_name n ≡ true → long_of (long_flag n ++ 61 ∷ v) ≡ Some (n, Some v)
 name_attached [] v e = absurd (true≢false (sym e))
 name_attached (n ∷ ns) v e = long_of-attached n ns v (not-true _ e)
 
@@ -68,15 +68,15 @@ module _ (c : Text × List Listed) (names_plain : plain_names c.1 ≡ true) wher
     name_is = listed_plain c.1 o.0 (valued o) names_plain is
 
     -- `--name value`
-    apart : IsApart v → Leaves (walk_at idle h) (flag o.0 ∷ v ∷ rest) (given_rows (before ++ (o.0, Some v) ∷ more))
+    apart : IsApart v → Leaves (walk_at idle h) (long_flag o.0 ∷ v ∷ rest) (given_rows (before ++ (o.0, Some v) ∷ more))
     apart alone =
         let (d, no_long, no_short) = no_option v alone in
         let l = name_flag o.0 name_is in
         let same : ◌≡◌ {A = Held} (record (settled R h) { pending = Some (o.0, []) }) (left_of before o []) =
         λ i. record { rows = (ready.2) i; pending = Some (o.0, []); skip = ready.0 i } in
-        let one : turn_fault S [] (walk_at idle h) (flag o.0) ≡ [] = flag_turn c false [] idle h (flag o.0) refl o.0 None (Some (built_rule (valued o))) l by ∙ both_none _ _ ready.1 refl in
-        let moved : walked R [] (walk_at idle h) (flag o.0) ≡ walk_at (option o.0) (left_of before o []) =
-        flag_next c false [] idle h (flag o.0) refl o.0 None (Some (built_rule (valued o))) l by ∙ ap (walk_at (option o.0)) same in
+        let one : turn_fault S [] (walk_at idle h) (long_flag o.0) ≡ [] = flag_turn c false [] idle h (long_flag o.0) refl o.0 None (Some (built_rule (valued o))) l by ∙ both_none _ _ ready.1 refl in
+        let moved : walked R [] (walk_at idle h) (long_flag o.0) ≡ walk_at (option o.0) (left_of before o []) =
+        flag_next c false [] idle h (long_flag o.0) refl o.0 None (Some (built_rule (valued o))) l by ∙ ap (walk_at (option o.0)) same in
         let two : turn_fault S [] (walk_at (option o.0) (left_of before o [])) v ≡ [] = plain_turn c false [] (option o.0) (left_of before o []) v refl d no_long no_short in
         let then_moved : walked R [] (walk_at (option o.0) (left_of before o [])) v ≡ walk_at idle (left_of before o (v ∷ [])) =
         plain_next c false [] (option o.0) (left_of before o []) v refl d no_long no_short ∙ value_next c o before v is in
@@ -84,38 +84,38 @@ module _ (c : Text × List Listed) (names_plain : plain_names c.1 ≡ true) wher
         (refl, left_fault c.1 o is before (v ∷ []) ∙ use_passes o v before new, left_rows c.1 o is before (v ∷ []) ∙ used_given o v before new) in
         let last = subst (λ gs. Leaves (walk_at idle (left_of before o (v ∷ []))) rest (given_rows gs)) (append_assoc before ((o.0, Some v) ∷ []) more)
         (ih rest (before ++ (o.0, Some v) ∷ []) (left_of before o (v ∷ [])) again writes once known) in
-        step_back _ _ (flag o.0) (v ∷ rest) _ one moved (step_back _ _ v rest _ two then_moved last)
+        step_back _ _ (long_flag o.0) (v ∷ rest) _ one moved (step_back _ _ v rest _ two then_moved last)
 
     -- `--name=value`
-    attached : Leaves (walk_at idle h) ((flag o.0 ++ 61 ∷ v) ∷ rest) (given_rows (before ++ (o.0, Some v) ∷ more))
+    attached : Leaves (walk_at idle h) ((long_flag o.0 ++ 61 ∷ v) ∷ rest) (given_rows (before ++ (o.0, Some v) ∷ more))
     attached =
         let l = name_attached o.0 v name_is in
         let after = reacted R (built_rule (valued o)) (v ∷ []) h in
         let uses : use_fault false (built_rule (valued o)) (v ∷ []) (settled R h).rows ≡ [] = ap (use_fault false (built_rule (valued o)) (v ∷ [])) ready.2 ∙ use_passes o v before new in
-        let one : turn_fault S [] (walk_at idle h) (flag o.0 ++ 61 ∷ v) ≡ [] =
-        flag_turn c false [] idle h (flag o.0 ++ 61 ∷ v) refl o.0 (Some v) (Some (built_rule (valued o))) l by ∙ both_none _ _ (both_none _ _ ready.1 uses) refl in
-        let moved : walked R [] (walk_at idle h) (flag o.0 ++ 61 ∷ v) ≡ walk_at idle after = flag_next c false [] idle h (flag o.0 ++ 61 ∷ v) refl o.0 (Some v) (Some (built_rule (valued o))) l by in
+        let one : turn_fault S [] (walk_at idle h) (long_flag o.0 ++ 61 ∷ v) ≡ [] =
+        flag_turn c false [] idle h (long_flag o.0 ++ 61 ∷ v) refl o.0 (Some v) (Some (built_rule (valued o))) l by ∙ both_none _ _ (both_none _ _ ready.1 uses) refl in
+        let moved : walked R [] (walk_at idle h) (long_flag o.0 ++ 61 ∷ v) ≡ walk_at idle after = flag_next c false [] idle h (long_flag o.0 ++ 61 ∷ v) refl o.0 (Some v) (Some (built_rule (valued o))) l by in
         let again : Ready (before ++ (o.0, Some v) ∷ []) after = (ready.0, refl, ap (used (built_rule (valued o)) (v ∷ [])) ready.2 ∙ used_given o v before new) in
         let last = subst (λ gs. Leaves (walk_at idle after) rest (given_rows gs)) (append_assoc before ((o.0, Some v) ∷ []) more)
         (ih rest (before ++ (o.0, Some v) ∷ []) after again writes once known) in
-        step_back _ _ (flag o.0 ++ 61 ∷ v) rest _ one moved last
+        step_back _ _ (long_flag o.0 ++ 61 ∷ v) rest _ one moved last
 
   module _ (more : List Given) (ih : Rest more) (o : Text × Bool) (is : listed c.1 o.0 ≡ Some (switch o)) (rest : List Text) (before : List Given) (h : Held) (ready : Ready before h) (writes : Writes more rest)
       (new : has_name o.0 before ≡ false) (once : Once (before ++ (o.0, None) ∷ []) more) (known : AreListed c.1 more) where
     -- `--name` alone
-    alone : Leaves (walk_at idle h) (flag o.0 ∷ rest) (given_rows (before ++ (o.0, None) ∷ more))
+    alone : Leaves (walk_at idle h) (long_flag o.0 ∷ rest) (given_rows (before ++ (o.0, None) ∷ more))
     alone =
         let by : arg_by_long R o.0 ≡ Some (built_rule (switch o)) = by_long c.1 o.0 ∙ ap (option_map built_rule) is in
         let l = name_flag o.0 (listed_plain c.1 o.0 (switch o) names_plain is) in
         let after = reacted R (built_rule (switch o)) [] h in
         let uses : use_fault false (built_rule (switch o)) [] (settled R h).rows ≡ [] = ap (use_fault false (built_rule (switch o)) []) ready.2 ∙ switch_passes o before new in
-        let one : turn_fault S [] (walk_at idle h) (flag o.0) ≡ [] =
-        flag_turn c false [] idle h (flag o.0) refl o.0 None (Some (built_rule (switch o))) l by ∙ both_none _ _ (both_none _ _ ready.1 uses) refl in
-        let moved : walked R [] (walk_at idle h) (flag o.0) ≡ walk_at idle after = flag_next c false [] idle h (flag o.0) refl o.0 None (Some (built_rule (switch o))) l by in
+        let one : turn_fault S [] (walk_at idle h) (long_flag o.0) ≡ [] =
+        flag_turn c false [] idle h (long_flag o.0) refl o.0 None (Some (built_rule (switch o))) l by ∙ both_none _ _ (both_none _ _ ready.1 uses) refl in
+        let moved : walked R [] (walk_at idle h) (long_flag o.0) ≡ walk_at idle after = flag_next c false [] idle h (long_flag o.0) refl o.0 None (Some (built_rule (switch o))) l by in
         let again : Ready (before ++ (o.0, None) ∷ []) after = (ready.0, refl, ap (used (built_rule (switch o)) []) ready.2 ∙ used_switch o before new) in
         let last = subst (λ gs. Leaves (walk_at idle after) rest (given_rows gs)) (append_assoc before ((o.0, None) ∷ []) more)
         (ih rest (before ++ (o.0, None) ∷ []) after again writes once known) in
-        step_back _ _ (flag o.0) rest _ one moved last
+        step_back _ _ (long_flag o.0) rest _ one moved last
 
   -- one option, of the name that the command has
   abbrev First : List Given → Text → Option Text → List Text → List Text → List Given → Held → Type 0

@@ -8,7 +8,7 @@ use Rattle.std.proofs.lemmas.Bool.Decides.{nat_tests}
 use Rattle.clap.specs.Lexer.{has_byte, long_of, long_of_rest, name_and_value, strip_byte}
 use Rattle.clap.proofs.CutLemmas.{Lacks}
 use Rattle.clap.proofs.LexerLemmas.{name_and_value-at, name_and_value-without}
-use Rattle.long_options.specs.Words.{Text, flag}
+use Rattle.long_options.specs.Words.{Text, long_flag}
 
 pub lacks : (xs : Text) → has_byte 61 xs ≡ false → Lacks 61 xs
 lacks [] e i lt = absurd (omega arith)
@@ -26,16 +26,16 @@ cut (x ∷ xs) e = go (x == 61) refl (cut xs)
         let rest = ih (rw is at e) in
         (x ∷ rest.0, rest.1, ap (λ t. x ∷ t) rest.2, rw is rest.3)
 
-pub long_of-flag : (n : ℕ) (ns : Text) → has_byte 61 (n ∷ ns) ≡ false → long_of (flag (n ∷ ns)) ≡ Some (n ∷ ns, None)
-long_of-flag n ns e = ap Some (name_and_value-without (n ∷ ns) (lacks (n ∷ ns) e))
+pub long_of-long_flag : (n : ℕ) (ns : Text) → has_byte 61 (n ∷ ns) ≡ false → long_of (long_flag (n ∷ ns)) ≡ Some (n ∷ ns, None)
+long_of-long_flag n ns e = ap Some (name_and_value-without (n ∷ ns) (lacks (n ∷ ns) e))
 
-pub long_of-attached : (n : ℕ) (ns v : Text) → has_byte 61 (n ∷ ns) ≡ false → long_of (flag (n ∷ ns) ++ 61 ∷ v) ≡ Some (n ∷ ns, Some v)
+pub long_of-attached : (n : ℕ) (ns v : Text) → has_byte 61 (n ∷ ns) ≡ false → long_of (long_flag (n ∷ ns) ++ 61 ∷ v) ≡ Some (n ∷ ns, Some v)
 long_of-attached n ns v e = ap Some (name_and_value-at (n ∷ ns) v (lacks (n ∷ ns) e))
 
 -- the word that was read so
 abbrev pub IsWordOf : Text → Text → Option Text → Type 0
-IsWordOf word n None = word ≡ flag n
-IsWordOf word n (Some v) = word ≡ flag n ++ 61 ∷ v
+IsWordOf word n None = word ≡ long_flag n
+IsWordOf word n (Some v) = word ≡ long_flag n ++ 61 ∷ v
 
 value_of_rest : (t : Text) (n : Text) (v : Option Text) → name_and_value t ≡ (n, v) → IsWordOf (45 ∷ 45 ∷ t) n v
 value_of_rest t n v e = go (has_byte 61 t) refl

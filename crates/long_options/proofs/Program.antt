@@ -13,7 +13,7 @@ use Rattle.clap.specs.Faults.{built_fault, check_fault, defaults_fault, entered_
 use Rattle.clap.specs.Kinds.{Kinds, or_else}
 use Rattle.clap.proofs.FaultLemmas.{stopped_fault}
 use Rattle.clap.specs.declared.error.kind.ErrorKind.TheVariants.{DisplayHelp, InvalidSubcommand}
-use Rattle.long_options.specs.Words.{are_distinct, Described, Given, IsCall, IsWritten, Listed, Text, Writes, AreListed, dashes, described, flag, has_dashes, is_plain, is_plain_name}
+use Rattle.long_options.specs.Words.{are_distinct, Described, Given, IsCall, IsWritten, Listed, Text, Writes, AreListed, dashes, described, long_flag, has_dashes, is_plain, is_plain_name}
 use Rattle.long_options.specs.Apps.{command_shape, option_rule, program}
 use Rattle.long_options.proofs.Rows.{built_rule, built_rules, listed_name}
 use Rattle.long_options.proofs.Turns.{both_none, built_shape, flag_turn, left_none, shape_at, some_fault, stray_turn}
@@ -183,10 +183,10 @@ module _ (name : Text) (commands : List Described) where
 -- ---- no word of a call is `--`
 
 written_dashes : (n : Text) (v : Option Text) (words rest : List Text) → is_plain_name n ≡ true → IsWritten n v words rest → has_dashes words ≡ has_dashes rest
-written_dashes n None words rest name form = ap has_dashes form ∙ ap (λ a. a || has_dashes rest) (not_dashes (flag n) n None (name_flag n name))
+written_dashes n None words rest name form = ap has_dashes form ∙ ap (λ a. a || has_dashes rest) (not_dashes (long_flag n) n None (name_flag n name))
 written_dashes n (Some v) words rest name form = elim form [
-  | inl e ↦ ap has_dashes e.0 ∙ ap₂ (λ a b. a || (b || has_dashes rest)) (not_dashes (flag n) n None (name_flag n name)) (no_option v e.1).0
-  | inr e ↦ ap has_dashes e ∙ ap (λ a. a || has_dashes rest) (not_dashes (flag n ++ 61 ∷ v) n (Some v) (name_attached n v name))
+  | inl e ↦ ap has_dashes e.0 ∙ ap₂ (λ a b. a || (b || has_dashes rest)) (not_dashes (long_flag n) n None (name_flag n name)) (no_option v e.1).0
+  | inr e ↦ ap has_dashes e ∙ ap (λ a. a || has_dashes rest) (not_dashes (long_flag n ++ 61 ∷ v) n (Some v) (name_attached n v name))
 ]
 
 no_dashes : (options : List Listed) (given : List Given) (words : List Text) → plain_names options ≡ true → AreListed options given → Writes given words → has_dashes words ≡ false

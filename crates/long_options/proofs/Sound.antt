@@ -8,7 +8,7 @@ use Rattle.clap.specs.Walk.{Held, Rule, Walk, arg_by_long, idle, option, reacted
 use Rattle.clap.specs.Simple.{Shape}
 use Rattle.clap.specs.Faults.{long_fault, react_fault, settle_fault, turn_fault, use_fault, walk_fault}
 use Rattle.clap.specs.Kinds.{Kinds, or_else}
-use Rattle.long_options.specs.Words.{AreListed, Given, IsApart, Listed, Once, Text, Writes, dashes, flag, has_dashes, has_name, listed}
+use Rattle.long_options.specs.Words.{AreListed, Given, IsApart, Listed, Once, Text, Writes, dashes, long_flag, has_dashes, has_name, listed}
 use Rattle.long_options.proofs.Apart.{apart_of}
 use Rattle.long_options.proofs.LongWords.{word_of}
 use Rattle.long_options.proofs.Rows.{built_rule, built_rules, by_long, given_rows, left_fault, left_of, left_rows, listed_name, switch, switch_was_first, use_was_first, used_given, used_switch, valued}
@@ -97,7 +97,7 @@ module _ (c : Text × List Listed) where
         record {
           fault = fine;
           more = (o.0, Some t) ∷ r.more;
-          writes = (ws, r.writes, inr (ap (λ x. x ∷ ws) (word_of w n (Some t) l ∙ ap (λ x. flag x ++ 61 ∷ t) (sym name))));
+          writes = (ws, r.writes, inr (ap (λ x. x ∷ ws) (word_of w n (Some t) l ∙ ap (λ x. long_flag x ++ 61 ∷ t) (sym name))));
           once = (new, r.once);
           are_listed = ((valued o, at_o, refl), r.are_listed);
           rows = ap (λ (x : Walk). (settled R (end_of x ws)).rows) moved ∙ r.rows ∙ ap given_rows (append_assoc before ((o.0, Some t) ∷ []) r.more);
@@ -120,7 +120,7 @@ module _ (c : Text × List Listed) where
         record {
           fault = fine;
           more = (o.0, Some r.value) ∷ r.more;
-          writes = (r.rest, r.writes, inl (ap₂ (λ x y. x ∷ y) (word_of w n None l ∙ ap flag (sym name)) r.words_are, r.apart));
+          writes = (r.rest, r.writes, inl (ap₂ (λ x y. x ∷ y) (word_of w n None l ∙ ap long_flag (sym name)) r.words_are, r.apart));
           once = r.once;
           are_listed = ((valued o, at_o, refl), r.are_listed);
           rows = ap (λ (x : Walk). (settled R (end_of x ws)).rows) moved ∙ r.rows;
@@ -185,7 +185,7 @@ module _ (c : Text × List Listed) where
         record {
           fault = fine;
           more = (o.0, None) ∷ r.more;
-          writes = (ws, r.writes, ap (λ x. x ∷ ws) (word_of w n None l ∙ ap flag (sym name)));
+          writes = (ws, r.writes, ap (λ x. x ∷ ws) (word_of w n None l ∙ ap long_flag (sym name)));
           once = (new, r.once);
           are_listed = ((switch o, at_o, refl), r.are_listed);
           rows = ap (λ (x : Walk). (settled R (end_of x ws)).rows) moved ∙ r.rows ∙ ap given_rows (append_assoc before ((o.0, None) ∷ []) r.more);

@@ -23,7 +23,8 @@ abbrev pub is_set : Option Text → Bool
 is_set None = false
 is_set (Some text) = bytes_eq text (codes "true")
 
--- as clap's rows have them: a row for each option with a value, and `true` or `false` for each without one
+-- as clap's rows have them: a row for each option with a value, and `true` or `false` for each
+-- without one
 abbrev pub found_options : List Listed → List Row → Options
 found_options options rows = record {
   value = λ name. option_and_then (λ o. if o.2 then None else first_of name rows) (listed options name);

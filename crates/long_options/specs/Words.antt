@@ -35,18 +35,19 @@ abbrev pub dashes : Text
 dashes = 45 ∷ 45 ∷ []
 
 -- `--name`
-abbrev pub flag : Text → Text
-flag name = 45 ∷ 45 ∷ name
+abbrev pub long_flag : Text → Text
+long_flag name = 45 ∷ 45 ∷ name
 
--- a value that may be a word of its own: a hyphen (45) in front of it is all of it
+-- a value that may be a word of its own: if it begins with a hyphen (45), it is that hyphen alone
 abbrev pub IsApart : Text → Type 0
 IsApart value = (rest : Text) → value ≡ 45 ∷ rest → rest ≡ []
 
--- the words begin with the option, as `--name value`, as `--name=value`, or as `--name` alone; 61 is `=`
+-- the words begin with the option, as `--name value`, as `--name=value`, or as `--name` alone; 61
+-- is `=`
 abbrev pub IsWritten : Text → Option Text → List Text → List Text → Type 0
 IsWritten name (Some value) words rest =
-    ((words ≡ flag name ∷ value ∷ rest) × IsApart value) ⊎ (words ≡ (flag name ++ 61 ∷ value) ∷ rest)
-IsWritten name None words rest = words ≡ flag name ∷ rest
+    ((words ≡ long_flag name ∷ value ∷ rest) × IsApart value) ⊎ (words ≡ (long_flag name ++ 61 ∷ value) ∷ rest)
+IsWritten name None words rest = words ≡ long_flag name ∷ rest
 
 -- the words write these options in this order
 abbrev pub Writes : List Given → List Text → Type 0

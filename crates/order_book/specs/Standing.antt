@@ -52,14 +52,14 @@ Fields = ℕ × (Side × (ℕ × (List ℕ × (ℕ × (Bool × List ℕ)))))
 abbrev pub fields_code : Coded Fields
 fields_code = coded× coded_ℕ (coded× side_code (coded× coded_ℕ (coded× (coded_list coded_ℕ) (coded× coded_ℕ (coded× coded_bool (coded_list coded_ℕ))))))
 
-abbrev pub fields_of : Order → Fields
-fields_of o = (o.id, (o.side, (o.quantity, (o.symbol, (o.price, (o.display, o.participant))))))
+abbrev pub order_fields : Order → Fields
+order_fields o = (o.id, (o.side, (o.quantity, (o.symbol, (o.price, (o.display, o.participant))))))
 
 abbrev pub order_from : Fields → Order
 order_from p = record { id = p.0; side = p.1.0; quantity = p.1.1.0; symbol = p.1.1.1.0; price = p.1.1.1.1.0; display = p.1.1.1.1.1.0; participant = p.1.1.1.1.1.1 }
 
 abbrev pub order_code : Coded Order
-order_code = code_by Fields fields_code fields_of order_from (λ _. refl)
+order_code = code_by Fields fields_code order_fields order_from (λ _. refl)
 
 abbrev pub Parts : Type 0
 Parts = Option ℕ × (map.FinMap nat_cmp Order × ℕ)

@@ -1,4 +1,9 @@
 //! The order book of one unit.
+//!
+//! `UnitBook::apply` has exactly the effect that the definition of the book gives a message, or the
+//! book is unchanged and the answer is want of memory. `reserve` makes room for new orders ahead,
+//! and no message is refused while there is room for one. Orders, levels and best prices can be
+//! asked for at any time.
 #![tactic(auto)]
 
 mod adding;

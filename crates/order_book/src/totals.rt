@@ -18,7 +18,7 @@ fn is_on(order: &Order, symbol: Symbol, side: Side) -> bool
 // The shares of an order, a number of 32 bits.
 fn quantity_of(order: &Order) -> u64
     ensures value { result ≡ order.now.quantity }
-    ensures fits { result ≤ 4294967295 }
+    ensures fits { result ≤ most_orders }
 {
     u64::from(order.quantity)
 }

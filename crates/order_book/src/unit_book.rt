@@ -63,7 +63,7 @@ impl UnitBook {
     #[tactic(auto, unfolding(pitch_model::specs::Book::after))]
     pub fn apply_bytes(&mut self, raw: &[u8]) -> Result<(), OutOfMemory>
         requires raw { IsRaw raw.now }
-        requires few { map.len self.old.book.orders < 4294967295 }
+        requires few { map.len self.old.book.orders < most_orders }
         ensures ok { OnOk result (self.new.book ≡ after self.old.book raw.now) }
         ensures err { OnErr result (self.new.book ≡ self.old.book) }
         ensures succeeds { 1 ≤ self.old.spare → IsOk result }
@@ -87,7 +87,7 @@ impl UnitBook {
 
     /// Does what a raw message says, as `apply_bytes` does.
     pub fn apply(&mut self, raw: &Raw) -> Result<(), OutOfMemory>
-        requires few { map.len self.old.book.orders < 4294967295 }
+        requires few { map.len self.old.book.orders < most_orders }
         ensures ok { OnOk result (self.new.book ≡ after self.old.book raw.now) }
         ensures err { OnErr result (self.new.book ≡ self.old.book) }
         ensures succeeds { 1 ≤ self.old.spare → IsOk result }
@@ -101,7 +101,7 @@ impl UnitBook {
     pub fn apply_reserved(&mut self, raw: &[u8])
         requires raw { IsRaw raw.now }
         requires room { 1 ≤ self.old.spare }
-        requires few { map.len self.old.book.orders < 4294967295 }
+        requires few { map.len self.old.book.orders < most_orders }
         ensures book { self.new.book ≡ after self.old.book raw.now }
         ensures spare { self.old.spare ≤ self.new.spare + 1 }
     {
@@ -111,7 +111,7 @@ impl UnitBook {
     /// Makes room for more orders: the spare is then at least so many. The book is the same in
     /// either case.
     pub fn reserve(&mut self, more: u32) -> Result<(), OutOfMemory>
-        requires { map.len self.old.book.orders + more ≤ 4294967295 }
+        requires { map.len self.old.book.orders + more ≤ most_orders }
         ensures same { self.new.book ≡ self.old.book }
         ensures room { OnOk result (more ≤ self.new.spare) }
         ensures kept { self.old.spare ≤ self.new.spare }
@@ -235,7 +235,7 @@ impl UnitBook {
     #[tactic(auto, unfolding(pitch_model::specs::Book::after))]
     fn apply_any(&mut self, raw: &[u8]) -> Result<(), OutOfMemory>
         requires raw { IsRaw raw.now }
-        requires few { map.len self.old.book.orders < 4294967295 }
+        requires few { map.len self.old.book.orders < most_orders }
         ensures ok { OnOk result (self.new.book ≡ after self.old.book raw.now) }
         ensures err { OnErr result (self.new.book ≡ self.old.book) }
         ensures succeeds { 1 ≤ self.old.spare → IsOk result }
@@ -250,7 +250,7 @@ impl UnitBook {
     fn apply_add_short(&mut self, raw: &[u8]) -> Result<(), OutOfMemory>
         requires raw { IsRaw raw.now }
         requires kind { 0x22 ≡ kind_of raw.now }
-        requires few { map.len self.old.book.orders < 4294967295 }
+        requires few { map.len self.old.book.orders < most_orders }
         ensures ok { OnOk result (self.new.book ≡ after self.old.book raw.now) }
         ensures err { OnErr result (self.new.book ≡ self.old.book) }
         ensures succeeds { 1 ≤ self.old.spare → IsOk result }
@@ -275,7 +275,7 @@ impl UnitBook {
     // Does what was read of a raw message.
     #[inline(always)]
     fn apply_read(&mut self, read: Result<Message, ReadError>) -> Result<(), OutOfMemory>
-        requires few { map.len self.old.book.orders < 4294967295 }
+        requires few { map.len self.old.book.orders < most_orders }
         ensures ok { OnOk result (self.new.book ≡ after_read self.old.book read) }
         ensures err { OnErr result (self.new.book ≡ self.old.book) }
         ensures succeeds { 1 ≤ self.old.spare → IsOk result }
@@ -290,7 +290,7 @@ impl UnitBook {
     // Does what a message says.
     #[inline(always)]
     fn apply_message(&mut self, message: &Message) -> Result<(), OutOfMemory>
-        requires few { map.len self.old.book.orders < 4294967295 }
+        requires few { map.len self.old.book.orders < most_orders }
         ensures ok { OnOk result (self.new.book ≡ after_message self.old.book message.now) }
         ensures err { OnErr result (self.new.book ≡ self.old.book) }
         ensures succeeds { 1 ≤ self.old.spare → IsOk result }
@@ -404,7 +404,7 @@ impl UnitBook {
 
     // Adds an order, unless it has no shares.
     fn add(&mut self, order: Order) -> Result<(), OutOfMemory>
-        requires few { map.len self.old.book.orders < 4294967295 }
+        requires few { map.len self.old.book.orders < most_orders }
         ensures ok { OnOk result (self.new.book ≡ added self.old.book order) }
         ensures err { OnErr result (self.new.book ≡ self.old.book) }
         ensures succeeds { 1 ≤ self.old.spare → IsOk result }
@@ -420,7 +420,7 @@ impl UnitBook {
     #[tactic(auto, using(crate::proofs::Maps::inserts))]
     fn insert(&mut self, order: Order) -> Result<(), OutOfMemory>
         requires filled { 0 < order.quantity }
-        requires few { map.len self.old.book.orders < 4294967295 }
+        requires few { map.len self.old.book.orders < most_orders }
         ensures ok { OnOk result (self.new.book ≡ with_order self.old.book order.id order) }
         ensures err { OnErr result (self.new.book ≡ self.old.book) }
         ensures succeeds { 1 ≤ self.old.spare → IsOk result }

@@ -100,8 +100,8 @@ pub fn put_hex(out: &mut [u8], at: usize, byte: u8) -> usize
     put_text(out, at, &[hex(byte / 16), hex(byte % 16)])
 }
 
-/// Writes a byte of a name from a place, as itself or as `\x` and two hexadecimal digits, and answers where
-/// it ends.
+/// Writes a byte of a name from a place, as itself or as `\x` and two hexadecimal digits, and
+/// answers where it ends.
 #[inline]
 pub fn put_shown_byte(out: &mut [u8], at: usize, byte: u8) -> usize
     requires { at + 4 ≤ length out.old }
@@ -138,7 +138,7 @@ pub fn put_name(out: &mut [u8], at: usize, name: &[u8]) -> usize
     end
 }
 
-/// Writes a number in decimal at the front, and answers how many bytes it took.
+/// Writes a number in decimal at the start, and answers how many bytes it took.
 pub fn number_text(value: u64, into: &mut [u8; 24]) -> usize
     ensures text { Begins into.new result (decimal value) }
     ensures rest { drop result into.new ≡ drop result into.old }
@@ -146,7 +146,7 @@ pub fn number_text(value: u64, into: &mut [u8; 24]) -> usize
     put_number(into, 0, value)
 }
 
-/// Writes a price in dollars with four decimals at the front, and answers how many bytes it took.
+/// Writes a price in dollars with four decimals at the start, and answers how many bytes it took.
 pub fn price_text(price: Price, into: &mut [u8; 24]) -> usize
     ensures text { Begins into.new result (price_digits price) }
     ensures rest { drop result into.new ≡ drop result into.old }
@@ -154,7 +154,8 @@ pub fn price_text(price: Price, into: &mut [u8; 24]) -> usize
     put_price(into, 0, price)
 }
 
-/// Writes a symbol or a participant of at most 8 bytes at the front, and answers how many bytes it took.
+/// Writes a symbol or a participant of at most 8 bytes at the start, and answers how many bytes it
+/// took.
 pub fn name_text(bytes: &[u8], into: &mut [u8; 32]) -> usize
     requires { length bytes.now ≤ 8 }
     ensures text { Begins into.new result (name_shown bytes.now) }

@@ -1,10 +1,11 @@
--- Sources and sinks in memory, of which the maker says how much one call moves and which calls fail.
+-- Sources and sinks in memory, of which the maker says how much one call moves and which calls
+-- fail.
 use Rattle.std.specs.Prelude.{◌≡◌, ℕ, ◌+◌, ◌-◌, ◌^◌, List, length, min}
 use Rattle.pitch_io.specs.declared.sink.Put.{Put}
 use Rattle.pitch_io.specs.declared.sink.Put.TheVariants.{Wrote}
 
--- such an end: the bytes left in a source or written to a sink, the most of one call, the numbers of the calls
--- that fail, and how many calls and faults there were
+-- such an end: the bytes left in a source or written to a sink, the most of one call, the numbers
+-- of the calls that fail, and how many calls and faults there were
 pub record Scripted : Type 0 where
   pub bytes : List ℕ
   pub piece : ℕ

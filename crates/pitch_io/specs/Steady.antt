@@ -16,7 +16,8 @@ pub record SteadyKept : Type 0 where
 abbrev pub told_bytes : SteadyKept → Option (List ℕ)
 told_bytes sink = if sink.told then Some sink.bytes else None
 
--- a piece that fits into the room is added to the bytes; one that does not is dropped, and nothing is told again
+-- a piece that fits into the room is added to the bytes; one that does not is dropped, and nothing
+-- is told again
 pub record KeepsWhatFits (old new : SteadyKept) (piece : List ℕ) : Type 0 where
   pub fits : length old.bytes + length piece ≤ old.room → (new.bytes ≡ old.bytes ++ piece) × (new.told ≡ old.told)
   pub drops : old.room < length old.bytes + length piece → (new.bytes ≡ old.bytes) × (new.told ≡ false)

@@ -1,7 +1,7 @@
 /// A line on which a unit's datagrams come.
 ///
-/// Lines A and B carry the same messages, each sent once on either; the gap line carries what the Gap Request
-/// Proxy replays.
+/// Lines A and B carry the same messages, each sent once on either; the gap line carries what the
+/// Gap Request Proxy replays.
 #[derive(Clone, Copy, Debug, PartialEq, Eq)]
 pub enum Line {
     A,

@@ -1,5 +1,5 @@
--- What a session message says, and its bytes. The rows are message sections of the Cboe US Equities Multicast PITCH
--- specification, for the Gap Request Proxy and the Spin Server.
+-- What a session message says, and its bytes. The rows are message sections of the Cboe US Equities
+-- Multicast PITCH specification, for the Gap Request Proxy and the Spin Server.
 use Rattle.std.specs.Prelude.{ℕ, ◌==◌, List, [], ◌∷◌, ◌++◌, slice_index, Option, None, Some, Result, Ok, Err, if◌then◌else◌}
 use Rattle.byteorder.specs.Endian.{little_bytes}
 use Rattle.pitch_fields.specs.Fields.{number_at}

@@ -27,7 +27,8 @@ fn short_price(quantity: u32, price: Price) -> Option<u16>
     price.short()
 }
 
-// The six bytes of the symbol, where neither the symbol nor the participant asks for the expanded form.
+// The six bytes of the symbol, where neither the symbol nor the participant asks for the expanded
+// form.
 fn plain_symbol(order: &Order) -> Option<[u8; 6]>
     ensures { result ≡ plain_symbol order.now }
 {
@@ -117,9 +118,9 @@ fn trade_message(order: &Order, execution: u64, offset: u32) -> Message
 
 /// The add of an order, at an offset in nanoseconds.
 ///
-/// It is expanded where the last two symbol bytes are not both spaces or the participant is not four spaces. Else it
-/// is short where the quantity is at most 65,535 and the price is a whole number of cents of at most 655.35 dollars.
-/// Else it is long. This choice is the project's own.
+/// It is expanded where the last two symbol bytes are not both spaces or the participant is not
+/// four spaces. Else it is short where the quantity is at most 65,535 and the price is a whole
+/// number of cents of at most 655.35 dollars. Else it is long. This choice is the project's own.
 #[inline]
 pub fn add_raw(order: &Order, offset: u32) -> Raw
     ensures written { result ≡ written (add_message order.now offset) }
@@ -128,7 +129,8 @@ pub fn add_raw(order: &Order, offset: u32) -> Raw
     write(&add_message(order, offset))
 }
 
-/// The trade of an order, at an offset in nanoseconds. Its form is chosen as for an add that names no participant.
+/// The trade of an order, at an offset in nanoseconds. Its form is chosen as for an add that names
+/// no participant.
 #[inline]
 pub fn trade_raw(order: &Order, execution: u64, offset: u32) -> Raw
     ensures written { result ≡ written (trade_message order.now execution offset) }
@@ -160,8 +162,8 @@ pub fn reduce_raw(id: u64, quantity: u32, offset: u32) -> Raw
 
 /// The modification of an order to a quantity, a price and a display mark.
 ///
-/// It is short where the quantity is at most 65,535 and the price is a whole number of cents of at most 655.35
-/// dollars, else long.
+/// It is short where the quantity is at most 65,535 and the price is a whole number of cents of at
+/// most 655.35 dollars, else long.
 #[inline]
 #[tactic(auto, unfolding(crate::specs::Forms::modify_message))]
 pub fn modify_raw(id: u64, quantity: u32, price: Price, display: bool, offset: u32) -> Raw

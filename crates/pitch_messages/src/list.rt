@@ -95,7 +95,8 @@ impl<T: Drop> List<T> {
         Ok(())
     }
 
-    /// Takes memory ahead, so that the next `more` pushes are Ok. The list is as before after OutOfMemory.
+    /// Takes memory ahead, so that the next `more` pushes are Ok. The list is as before after
+    /// OutOfMemory.
     pub fn reserve(&mut self, more: usize) -> Result<(), OutOfMemory>
         ensures items { self.new.items ≡ self.old.items }
         ensures ok { OnOk result (more ≤ self.new.spare) }

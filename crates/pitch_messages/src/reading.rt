@@ -330,8 +330,8 @@ fn needs_of(kind: u8) -> Option<u8>
     }
 }
 
-/// How many bytes a message of a known type has beyond those that its type needs, as one of a later edition of the feed
-/// may; 0 where its type is not known.
+/// How many bytes a message of a known type has beyond those that its type needs, as one of a later
+/// edition of the feed may; 0 where its type is not known.
 #[inline]
 pub fn extra_bytes(raw: &[u8]) -> usize
     requires { IsRaw raw.now }
@@ -362,8 +362,8 @@ fn long_enough(kind: u8, bytes: &[u8]) -> Result<(), ReadError>
 
 /// The message of the bytes of a raw of this type, as `read_bytes` says it.
 ///
-/// Where the type is a literal, one form alone is read: nothing is left of the choice among them, nor of a message that may
-/// be of any form.
+/// Where the type is a literal, one form alone is read: nothing is left of the choice among them,
+/// nor of a message that may be of any form.
 #[inline(always)]
 pub fn read_as(kind: u8, bytes: &[u8]) -> Result<Message, ReadError>
     requires raw { IsRaw bytes.now }
@@ -395,8 +395,9 @@ pub fn read_as(kind: u8, bytes: &[u8]) -> Result<Message, ReadError>
 
 /// The message of a raw's bytes.
 ///
-/// Short where its type is known and needs more bytes, BadSide where it has them and its side is neither `B` nor `S`.
-/// Bytes past those that its type needs are ignored, and a message of an unknown type is Other.
+/// Short where its type is known and needs more bytes, BadSide where it has them and its side is
+/// neither `B` nor `S`. Bytes past those that its type needs are ignored, and a message of an
+/// unknown type is Other.
 #[inline]
 pub fn read_bytes(bytes: &[u8]) -> Result<Message, ReadError>
     requires { IsRaw bytes.now }

@@ -23,7 +23,8 @@ pub enum SessionMessage {
         user: [u8; 4],
         password: [u8; 10],
     },
-    /// "Login Response Message": `A` accepted, `N` not authorized, `B` session in use, `S` invalid session.
+    /// "Login Response Message": `A` accepted, `N` not authorized, `B` session in use, `S` invalid
+    /// session.
     LoginReply {
         status: u8,
     },
@@ -203,7 +204,8 @@ fn long_enough(bytes: &[u8]) -> Result<(), SessionError>
 
 /// The session message of a raw.
 ///
-/// WrongType where its type is none of a session, Short where its type needs more bytes. Bytes past those are ignored.
+/// WrongType where its type is none of a session, Short where its type needs more bytes. Bytes past
+/// those are ignored.
 pub fn read(raw: &Raw) -> Result<SessionMessage, SessionError>
     ensures { result ≡ session_reads raw.now }
 {
@@ -233,7 +235,8 @@ fn login_raw(sub: [u8; 4], user: [u8; 4], password: [u8; 10]) -> Raw
     Raw::of_fields(0x01, &[&sub, &user, b"  ", &password])
 }
 
-/// The raw of a session message: its length, its type and its fields, end to end. A Login's filler is two spaces.
+/// The raw of a session message: its length, its type and its fields, end to end. A Login's filler
+/// is two spaces.
 #[tactic(auto, unfolding(crate::specs::Session::session_written))]
 pub fn write(message: &SessionMessage) -> Raw
     ensures written { result ≡ session_written message.now }

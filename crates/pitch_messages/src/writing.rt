@@ -306,8 +306,10 @@ fn unit_clear_raw(offset: u32) -> Raw
     Raw::of_fields(0x97, &[&offset.to_le_bytes()])
 }
 
-/// The raw of a message: its length, its type and its fields, end to end. A raw under Other is itself.
-// It is inlined where a message is made, so that one form alone is left and no raw is copied on its way.
+/// The raw of a message: its length, its type and its fields, end to end. A raw under Other is
+/// itself.
+// It is inlined where a message is made, so that one form alone is left and no raw is copied on its
+// way.
 #[inline(always)]
 #[tactic(auto, unfolding(crate::specs::Writing::written))]
 pub fn write(message: &Message) -> Raw

@@ -14,7 +14,7 @@ use Rattle.pitch_fields.specs.declared.side.Side.{Side}
 use Rattle.pitch_fields.specs.declared.side.Side.TheVariants.{Buy, Sell}
 use Rattle.pitch_messages.specs.declared.order.Order.{Order}
 use Rattle.pitch_messages.specs.declared.message.Message.TheVariants.{Time}
-use Rattle.pitch_messages.specs.Forms.{add_message, add_form, plain_symbol, short_price, flags_of}
+use Rattle.pitch_messages.specs.Forms.{add_message, add_in_form, plain_symbol, short_price, flags_of}
 use Rattle.pitch_messages.specs.Raw.{IsRaw, kind_of}
 use Rattle.pitch_messages.specs.Writing.{written}
 use Rattle.pitch_model.specs.Book.{Book, book_after}
@@ -34,7 +34,7 @@ is_add_of : (order : Order) → is_add (written (add_message order 0)) ≡ true
 unfolding written add_message
 is_add_of order = by (plain_symbol order) (short_price order.quantity order.price)
   where
-    by : (six : Option (List ℕ)) (cents : Option ℕ) → is_add (written (add_form six cents order 0)) ≡ true
+    by : (six : Option (List ℕ)) (cents : Option ℕ) → is_add (written (add_in_form six cents order 0)) ≡ true
     by None cents = refl
     by (Some six) None = refl
     by (Some six) (Some cents) = refl
@@ -138,22 +138,22 @@ add_raw order fits = by (plain_symbol order) (short_price order.quantity order.p
     one : AreBytes (flags_of order.display ∷ [])
     one = (flags_byte order.display, tt)
 
-    by : (six : Option (List ℕ)) (cents : Option ℕ) → plain_symbol order ≡ six → IsByteRaw (written (add_form six cents order 0))
+    by : (six : Option (List ℕ)) (cents : Option ℕ) → plain_symbol order ≡ six → IsByteRaw (written (add_in_form six cents order 0))
     by None cents s =
         let symbol = fits.symbol in
         let participant = fits.participant in
-        raw_by (written (add_form None cents order 0)) 40
+        raw_by (written (add_in_form None cents order 0)) 40
         (omega (arith, length-append order.symbol (little 8 order.price ++ flags_of order.display ∷ order.participant), symbol, participant)) refl (omega arith) (omega arith)
         (add_bytes 40 0x2f order.id order.side 4 order.quantity order.symbol 8 order.price (flags_of order.display ∷ order.participant) (omega arith) (omega arith) fits.symbol_bytes (flags_byte order.display, fits.participant_bytes))
     by (Some six) None s =
         let plain = (plain_is order six fits s).0 in
         let size = plain.size in
-        raw_by (written (add_form (Some six) None order 0)) 34 (omega (arith, length-append six (little 8 order.price ++ flags_of order.display ∷ []), size)) refl (omega arith) (omega arith)
+        raw_by (written (add_in_form (Some six) None order 0)) 34 (omega (arith, length-append six (little 8 order.price ++ flags_of order.display ∷ []), size)) refl (omega arith) (omega arith)
         (add_bytes 34 0x21 order.id order.side 4 order.quantity six 8 order.price (flags_of order.display ∷ []) (omega arith) (omega arith) (bytes_front six (32 ∷ 32 ∷ []) (subst AreBytes (sym plain.padded) fits.symbol_bytes)) one)
     by (Some six) (Some cents) s =
         let plain = (plain_is order six fits s).0 in
         let size = plain.size in
-        raw_by (written (add_form (Some six) (Some cents) order 0)) 26 (omega (arith, length-append six (little 2 cents ++ flags_of order.display ∷ []), size)) refl (omega arith) (omega arith)
+        raw_by (written (add_in_form (Some six) (Some cents) order 0)) 26 (omega (arith, length-append six (little 2 cents ++ flags_of order.display ∷ []), size)) refl (omega arith) (omega arith)
         (add_bytes 26 0x22 order.id order.side 2 order.quantity six 2 cents (flags_of order.display ∷ []) (omega arith) (omega arith) (bytes_front six (32 ∷ 32 ∷ []) (subst AreBytes (sym plain.padded) fits.symbol_bytes)) one)
 
 time_raw : (second : ℕ) → IsByteRaw (written (Time second))

@@ -17,7 +17,7 @@ use Rattle.pitch_messages.specs.declared.message.ReadError.{ReadError}
 use Rattle.pitch_messages.specs.Reading.{reads}
 use Rattle.pitch_fields.specs.Name.{is_blank, six_of}
 use Rattle.pitch_fields.specs.Price.{short_of}
-use Rattle.pitch_messages.specs.Forms.{add_message, add_form, plain_symbol, short_price, flags_of}
+use Rattle.pitch_messages.specs.Forms.{add_message, add_in_form, plain_symbol, short_price, flags_of}
 use Rattle.pitch_messages.proofs.RoundTrip.{time_back, add_long_back, add_short_back, add_expanded_back}
 use Rattle.pitch_messages.specs.Writing.{written}
 use Rattle.pitch_model.specs.Book.{Book, IsBook, empty_book, with_order, added, long_symbol, long_price, is_displayed, order_of_long, order_of_expanded, after_message, after_read, after, book_after}
@@ -223,7 +223,7 @@ pub add_message_adds : (order : Order) → FitsWire order → Adds order
 unfolding add_message
 add_message_adds order fits book = by (plain_symbol order) (short_price order.quantity order.price) refl refl
   where
-    by : (six : Option (List ℕ)) (cents : Option ℕ) → plain_symbol order ≡ six → short_price order.quantity order.price ≡ cents → after_message book (add_form six cents order 0) ≡ added book order
+    by : (six : Option (List ℕ)) (cents : Option ℕ) → plain_symbol order ≡ six → short_price order.quantity order.price ≡ cents → after_message book (add_in_form six cents order 0) ≡ added book order
     by None cents s c = ap (added book) (expanded_order order)
     by (Some six) None s c = let plain = plain_is order six fits s in ap (added book) (long_order order six order.price plain.0.padded plain.1 refl)
     by (Some six) (Some cents) s c =
@@ -235,7 +235,7 @@ pub add_message_reads : (order : Order) → FitsWire order → reads (written (a
 unfolding add_message
 add_message_reads order fits = by (plain_symbol order) (short_price order.quantity order.price) refl refl
   where
-    by : (six : Option (List ℕ)) (cents : Option ℕ) → plain_symbol order ≡ six → short_price order.quantity order.price ≡ cents → reads (written (add_form six cents order 0)) ≡ Ok (add_form six cents order 0)
+    by : (six : Option (List ℕ)) (cents : Option ℕ) → plain_symbol order ≡ six → short_price order.quantity order.price ≡ cents → reads (written (add_in_form six cents order 0)) ≡ Ok (add_in_form six cents order 0)
     by None cents s c = add_expanded_back 0 order.id order.side order.quantity order.symbol order.price (flags_of order.display) order.participant (omega arith) fits.id fits.quantity fits.price fits.symbol fits.participant
     by (Some six) None s c = let plain = plain_is order six fits s in add_long_back 0 order.id order.side order.quantity six order.price (flags_of order.display) (omega arith) fits.id fits.quantity fits.price plain.0.size
     by (Some six) (Some cents) s c =

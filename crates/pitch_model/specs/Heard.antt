@@ -1,5 +1,6 @@
 -- What an item adds to a history, and what it changes.
 use Rattle.std.specs.Prelude.{◌≡◌, ℕ, ◌+◌, ◌≤◌, ◌<◌, Bool, ◌&&◌, not, cond, List, [], ◌∷◌, length, ◌==◌, nat_lt, min, ◌^◌, ◌-◌}
+use Rattle.pitch_fields.specs.Limits.{last_sequence}
 use Rattle.unit_packets.specs.Blocks.{Block}
 use Rattle.pitch_model.specs.History.{Entry, Raw, image_finished, bad_image, spin_of, adds}
 use Rattle.pitch_model.specs.History as entry
@@ -30,7 +31,7 @@ IsItemOf block (item.SpinFinished sequence) = ⊥
 
 -- the sequences of an item are those of a feed: from 1 to 4,294,967,294
 abbrev pub IsItem : Item → Type 0
-IsItem (item.Messages first raws) = (1 ≤ first) × (first + length raws.items ≤ 4294967295)
+IsItem (item.Messages first raws) = (1 ≤ first) × (first + length raws.items ≤ last_sequence + 1)
 IsItem (item.Next next) = 1 ≤ next
 IsItem (item.GapReply sequence count status) = Unit {0}
 IsItem (item.Advertised sequence) = Unit {0}

@@ -1,5 +1,6 @@
 -- What one unit's client heard and did. A history is a list of entries, the newest first.
 use Rattle.std.specs.Prelude.{ℕ, Bool, ◌&&◌, ◌||◌, cond, not, List, [], ◌∷◌, ◌++◌, Option, Some, nat_le, ◌==◌, sum_by}
+use Rattle.pitch_fields.specs.Limits.{last_sequence}
 use Rattle.pitch_messages.specs.Raw.{kind_of}
 use Rattle.pitch_model.specs.declared.ask.Ask.{Ask}
 use Rattle.pitch_model.specs.declared.ask.Ask.TheVariants.{Spin}
@@ -56,7 +57,7 @@ spin_asked ask spin = spin
 -- a promise that can be kept: messages up to a sequence leave at most as many orders, and the last
 -- sequence is 4,294,967,294
 abbrev pub can_promise : ℕ → ℕ → Bool
-can_promise sequence orders = nat_le orders sequence && nat_le orders 4294967294
+can_promise sequence orders = nat_le orders sequence && nat_le orders last_sequence
 
 -- the reply to what was asked makes the spin run where it is accepted, and ends it where not
 abbrev pub spin_replied : Spinning → ℕ → ℕ → Bool → Spinning

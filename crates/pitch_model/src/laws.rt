@@ -6,6 +6,7 @@ ghost use Rattle.std.specs.List.{list_any, sum_by, AllByRecursion};
 ghost use Rattle.std.specs.List.Sorted.{IsStrictlyIncreasing};
 ghost use Rattle.std.specs.Set.{is_member};
 ghost use Rattle.std.specs.FinMap as map;
+ghost use Rattle.pitch_fields.specs.Limits.{last_sequence};
 ghost use Rattle.pitch_fields.specs.declared.side.Side.{Side};
 ghost use Rattle.pitch_messages.specs.Raw.{IsRaw, kind_of};
 ghost use Rattle.unit_packets.specs.Blocks.{Block, StaysWithin};
@@ -135,7 +136,7 @@ pub fn images_make_their_books_anew()
 pub fn images_leave_their_books()
     ensures of_book { (V : List Raw) (s : ℕ) → image V s ≡ image_of (book_after (take s V)) }
     ensures leaves { (V : List Raw) (s : ℕ) → AllByRecursion AreBytes V → book_after (image V s) ≡ book_after (take s V) }
-    ensures promise { (V : List Raw) (s : ℕ) → s ≤ 4294967294 → can_promise s (adds (image V s)) ≡ true }
+    ensures promise { (V : List Raw) (s : ℕ) → s ≤ last_sequence → can_promise s (adds (image V s)) ≡ true }
 {}
 
 /// Where a venue accepts more messages, the books and images of those before stay as they are, and
@@ -176,7 +177,7 @@ pub fn pieces_are_honest()
 /// a heartbeat.
 pub fn packed_messages_are_pieces()
     ensures packed { (V : List Raw) (unit first : ℕ) (raws : List Raw) (datagrams : List (List ℕ)) → 0 < first → first + length raws ≤ length V + 1 → AreVenues V first raws → IsPacking unit first raws datagrams → AllByRecursion (IsPiece V unit) datagrams }
-    ensures heartbeat { (V : List Raw) (unit next : ℕ) → unit < 256 → 0 < next → next ≤ length V + 1 → next ≤ 4294967295 → IsPiece V unit (block_bytes (heartbeat_block unit next)) }
+    ensures heartbeat { (V : List Raw) (unit next : ℕ) → unit < 256 → 0 < next → next ≤ length V + 1 → next ≤ last_sequence + 1 → IsPiece V unit (block_bytes (heartbeat_block unit next)) }
 {}
 
 /// An accept adds its message and advertises nothing. An advertise stands for all that was accepted

@@ -1,8 +1,9 @@
 //! What a client of the feed hears, knows and asks, as definitions, with the types that they speak
 //! of.
 //!
-//! The definitions stand in `specs/`, and what they are worth in `laws`: functions with empty bodies,
-//! each of which ensures what is proved of the definitions alone.
+//! The definitions stand in `specs/`: the book, a client's history, its reach and status, images,
+//! and when a history is honest. The functions in `laws` have empty bodies. Each carries a law of
+//! these definitions, and a caller that needs the law calls it.
 #![tactic(auto)]
 
 mod ask;

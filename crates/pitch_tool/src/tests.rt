@@ -250,7 +250,7 @@ const HELD_BY_MORE: &str = "block 1 unit 1 first 1 count 1; current 1\n\
     block 9 unit 1 first 5 count 1; current 7\n\
     book unit 1 at 7 second 7 orders 0\n";
 
-/// The words of a line, which single spaces part.
+// The words of a line, which single spaces part.
 fn words_of(alloc: Global, line: &str) -> Result<Vec<String>, OutOfMemory> {
     let mut words = Vec::new(alloc);
     for word in line.split(' ') {
@@ -261,7 +261,7 @@ fn words_of(alloc: Global, line: &str) -> Result<Vec<String>, OutOfMemory> {
     Ok(words)
 }
 
-/// The bytes of the blocks, one after the other.
+// The bytes of the blocks, one after the other.
 fn stream_of(alloc: Global, blocks: &[&[u8]]) -> Result<Vec<u8>, OutOfMemory> {
     let mut bytes = Vec::new(alloc);
     for block in blocks {
@@ -270,7 +270,7 @@ fn stream_of(alloc: Global, blocks: &[&[u8]]) -> Result<Vec<u8>, OutOfMemory> {
     Ok(bytes)
 }
 
-/// The program over devices that never fail.
+// The program over devices that never fail.
 fn pitch_steadily(
     alloc: Global,
     words: &[String],
@@ -286,7 +286,7 @@ fn pitch_steadily(
     pitch(alloc, words, input, out, err)
 }
 
-/// What the program leaves.
+// What the program leaves.
 #[derive(Drop)]
 struct Outcome {
     status: ExitStatus,
@@ -294,7 +294,7 @@ struct Outcome {
     err: SteadySink,
 }
 
-/// Runs the program on blocks of which at most `piece` bytes come at once.
+// Runs the program on blocks of which at most `piece` bytes come at once.
 fn run(alloc: Global, line: &str, blocks: &[&[u8]], piece: usize) -> Result<Outcome, OutOfMemory>
     requires { 0 < piece }
 {

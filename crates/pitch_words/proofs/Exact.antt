@@ -10,7 +10,7 @@ use Rattle.clap.specs.Faults.{fault_of}
 use Rattle.long_options.specs.Words.{Described, IsCall, Text, described, has_dashes, is_plain}
 use Rattle.long_options.specs.Found.{Options, found_options}
 use Rattle.long_options.proofs.Program.{calls_taken, takes_calls}
-use Rattle.pitch_words.specs.Numbers.{IsGiven, IsGivenOr}
+use Rattle.pitch_words.specs.Numbers.{IsGivenNumber, IsGivenOr}
 use Rattle.pitch_words.specs.Forms.{HasForm, HasNumbers, IsForm, command_of, commands, pitch}
 use Rattle.pitch_words.specs.declared.form.Form.{Form}
 use Rattle.pitch_words.specs.declared.form.Form.TheVariants.{Follow, Show, Pack}
@@ -27,7 +27,7 @@ given_or_same : (default least most : ℕ) (o : Option Text) (m n : ℕ) → IsG
 given_or_same default least most None m n a b = a ∙ sym b
 given_or_same default least most (Some t) m n a b = sym a.2 ∙ b.2
 
-given_same : (least most : ℕ) (o : Option Text) (m n : ℕ) → IsGiven least most o m → IsGiven least most o n → m ≡ n
+given_same : (least most : ℕ) (o : Option Text) (m n : ℕ) → IsGivenNumber least most o m → IsGivenNumber least most o n → m ≡ n
 given_same least most None m n a b = absurd a
 given_same least most (Some t) m n a b = sym a.2 ∙ b.2
 

@@ -1,11 +1,12 @@
 -- The forms of the program's words.
 use Rattle.std.specs.Prelude.{◌≡◌, ◌≤◌, List, [], ◌∷◌, Option, Some, None, codes}
+use Rattle.pitch_fields.specs.Limits.{most_held}
 use Rattle.clap.specs.Simple.{App}
 use Rattle.clap.specs.Walk.{Row}
 use Rattle.long_options.specs.Words.{Described, Given, IsCall, Text, may_have, must_have}
 use Rattle.long_options.specs.Apps.{program}
 use Rattle.long_options.specs.Found.{Options, found_options, given_options}
-use Rattle.pitch_words.specs.Numbers.{IsGiven, IsGivenOr}
+use Rattle.pitch_words.specs.Numbers.{IsGivenNumber, IsGivenOr}
 use Rattle.pitch_words.specs.declared.form.Form.{Form}
 use Rattle.pitch_words.specs.declared.form.Form.TheVariants.{Follow, Show, Pack}
 
@@ -31,11 +32,12 @@ command_of (Follow hold) = follow
 command_of Show = show
 command_of (Pack unit) = pack
 
--- the options have the form's numbers: H is 1 to 65,536, and 4,096 where it isn't given; `show` has none, and U is 1 to 255
+-- the options have the form's numbers: H is 1 to 65,536, and 4,096 where it isn't given; `show` has
+-- none, and U is 1 to 255
 abbrev pub HasNumbers : Options → Form → Type 0
-HasNumbers options (Follow hold) = IsGivenOr 4096 1 65536 (options.value (codes "hold")) hold
+HasNumbers options (Follow hold) = IsGivenOr 4096 1 most_held (options.value (codes "hold")) hold
 HasNumbers options Show = Unit {0}
-HasNumbers options (Pack unit) = IsGiven 1 255 (options.value (codes "unit")) unit
+HasNumbers options (Pack unit) = IsGivenNumber 1 255 (options.value (codes "unit")) unit
 
 -- the words are this form: its command, then that command's options, with its numbers
 abbrev pub IsForm : List Text → Form → Type 0
@@ -43,7 +45,7 @@ IsForm words form = (given : List Given) × IsCall (command_of form) words given
 
 -- a form's numbers lie within their ranges
 abbrev pub IsInRange : Form → Type 0
-IsInRange (Follow hold) = (1 ≤ hold) × (hold ≤ 65536)
+IsInRange (Follow hold) = (1 ≤ hold) × (hold ≤ most_held)
 IsInRange Show = Unit {0}
 IsInRange (Pack unit) = (1 ≤ unit) × (unit ≤ 255)
 

@@ -8,9 +8,9 @@ abbrev pub IsNumber : ℕ → ℕ → Text → ℕ → Type 0
 IsNumber least most text n = IsNumeral 10 text × (length text ≤ 20) × (digits_value 10 text ≡ n) × (least ≤ n) × (n ≤ most)
 
 -- an option was given with this number
-abbrev pub IsGiven : ℕ → ℕ → Option Text → ℕ → Type 0
-IsGiven least most (Some text) n = IsNumber least most text n
-IsGiven least most None n = ⊥
+abbrev pub IsGivenNumber : ℕ → ℕ → Option Text → ℕ → Type 0
+IsGivenNumber least most (Some text) n = IsNumber least most text n
+IsGivenNumber least most None n = ⊥
 
 -- an option was given with this number, or wasn't given and n is its default
 abbrev pub IsGivenOr : ℕ → ℕ → ℕ → Option Text → ℕ → Type 0

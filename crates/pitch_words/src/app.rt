@@ -9,7 +9,7 @@ ghost use Rattle.pitch_words.specs.Forms.{follow as follow_words, pack as pack_w
 use clap::{Arg, ArgAction, Command};
 use std::alloc::{AllocError, Global};
 
-/// An option `--name` with one value.
+// An option `--name` with one value.
 fn option<'a>(alloc: Global, name: &'a str, required: bool) -> Arg<'a>
     ensures rule { rule_of result ≡ option_rule (name.now, required, false) }
     ensures local { result.global ≡ false }
@@ -20,7 +20,7 @@ fn option<'a>(alloc: Global, name: &'a str, required: bool) -> Arg<'a>
         .required(required)
 }
 
-/// The command with one option more.
+// The command with one option more.
 fn with_option<'a>(
     alloc: Global,
     command: Command<'a>,
@@ -33,7 +33,7 @@ fn with_option<'a>(
     command.arg(option(alloc, name, required))
 }
 
-/// A command without options.
+// A command without options.
 fn command<'a>(alloc: Global, name: &'a str) -> Command<'a>
     ensures app { app_of result ≡ command_app (name.now, []) }
     ensures local { (fields_of result).has_globals ≡ false }
@@ -43,7 +43,7 @@ fn command<'a>(alloc: Global, name: &'a str) -> Command<'a>
         .disable_version_flag(true)
 }
 
-/// `follow [--hold H]`
+// `follow [--hold H]`
 fn follow<'a>(alloc: Global) -> Result<Command<'a>, AllocError>
     ensures app { IfOk result (λ r. app_of r ≡ command_app follow_words) }
     ensures local { IfOk result (λ r. (fields_of r).has_globals ≡ false) }
@@ -51,7 +51,7 @@ fn follow<'a>(alloc: Global) -> Result<Command<'a>, AllocError>
     with_option(alloc, command(alloc, "follow"), "hold", false)
 }
 
-/// `pack --unit U`
+// `pack --unit U`
 fn pack<'a>(alloc: Global) -> Result<Command<'a>, AllocError>
     ensures app { IfOk result (λ r. app_of r ≡ command_app pack_words) }
     ensures local { IfOk result (λ r. (fields_of r).has_globals ≡ false) }
@@ -59,7 +59,7 @@ fn pack<'a>(alloc: Global) -> Result<Command<'a>, AllocError>
     with_option(alloc, command(alloc, "pack"), "unit", true)
 }
 
-/// The program without its commands, of which one must be there.
+// The program without its commands, of which one must be there.
 fn top<'a>(alloc: Global) -> Command<'a>
     ensures app { app_of result ≡ empty_program (codes "pitch") }
     ensures local { (fields_of result).has_globals ≡ false }
@@ -72,7 +72,7 @@ fn top<'a>(alloc: Global) -> Command<'a>
         .subcommand_required(true)
 }
 
-/// The program with its commands.
+// The program with its commands.
 pub(crate) fn app<'a>(alloc: Global) -> Result<Command<'a>, AllocError>
     ensures app { IfOk result (λ r. app_of r ≡ pitch) }
 {

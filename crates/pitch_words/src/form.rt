@@ -3,7 +3,7 @@
 /// What the program is asked to do, with its numbers.
 #[derive(Clone, Copy, Debug, PartialEq, Eq)]
 pub enum Form {
-    /// `follow [--hold H]`: read a block stream, with room for `hold` messages behind each gap.
+    /// `follow [--hold H]`: read a block stream, with room for `hold` messages beyond each gap.
     Follow {
         /// How many messages a unit's hold has room for: 1 to 65,536.
         hold: u32,

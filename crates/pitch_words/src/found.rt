@@ -3,14 +3,14 @@ ghost use Rattle.std.specs.Prelude.{◌≡◌, ℕ, ◌≤◌, IfNone, IfSome, M
 ghost use Rattle.clap.specs.Matches.{found_of};
 ghost use Rattle.clap.specs.Simple.{subcommand_rows_of};
 ghost use Rattle.clap.specs.Walk.{first_of, rows_of};
-ghost use Rattle.pitch_words.specs.Numbers.{IsGiven, IsGivenOr, IsNumber};
+ghost use Rattle.pitch_words.specs.Numbers.{IsGivenNumber, IsGivenOr, IsNumber};
 ghost use Rattle.pitch_words.specs.Forms.{HasForm, IsInRange};
 ghost use Rattle.pitch_words.specs.declared.form.Form.{Form};
 
 use crate::form::Form;
 use clap::ArgMatches;
 
-/// The number that the text writes by 1 to 20 digits, where it lies within the range.
+// The number that the text writes by 1 to 20 digits, where it lies within the range.
 fn number(text: &str, least: u64, most: u64) -> Option<u64>
     ensures some { IfSome result (λ n. IsNumber least most text.now n) }
     ensures none { IfNone result ((n : ℕ) → ¬ IsNumber least most text.now n) }
@@ -25,7 +25,7 @@ fn number(text: &str, least: u64, most: u64) -> Option<u64>
     }
 }
 
-/// The text of an option's value.
+// The text of an option's value.
 #[tactic(auto, using(crate::proofs::Rows::first_is))]
 fn text_of<'a>(matches: &ArgMatches<'a>, name: &str) -> Option<&'a str>
     ensures { option_map (λ s. s.now) result ≡ first_of name.now (rows_of (found_of matches.now)) }
@@ -33,10 +33,10 @@ fn text_of<'a>(matches: &ArgMatches<'a>, name: &str) -> Option<&'a str>
     matches.get_str(name)
 }
 
-/// The number of an option that must be given.
+// The number of an option that must be given.
 fn given(matches: &ArgMatches, name: &str, least: u64, most: u64) -> Option<u64>
-    ensures some { IfSome result (λ n. IsGiven least most (first_of name.now (rows_of (found_of matches.now))) n) }
-    ensures none { IfNone result ((n : ℕ) → ¬ IsGiven least most (first_of name.now (rows_of (found_of matches.now))) n) }
+    ensures some { IfSome result (λ n. IsGivenNumber least most (first_of name.now (rows_of (found_of matches.now))) n) }
+    ensures none { IfNone result ((n : ℕ) → ¬ IsGivenNumber least most (first_of name.now (rows_of (found_of matches.now))) n) }
     ensures range { IfSome result (λ n. (least ≤ n) × (n ≤ most)) }
 {
     match text_of(matches, name) {
@@ -45,7 +45,7 @@ fn given(matches: &ArgMatches, name: &str, least: u64, most: u64) -> Option<u64>
     }
 }
 
-/// The number of an option that may be left out, and has a default then.
+// The number of an option that may be left out, and has a default then.
 fn given_or(matches: &ArgMatches, name: &str, default: u64, least: u64, most: u64) -> Option<u64>
     requires default_in_range { least ≤ default × default ≤ most }
     ensures some { IfSome result (λ n. IsGivenOr default least most (first_of name.now (rows_of (found_of matches.now))) n) }
@@ -58,7 +58,7 @@ fn given_or(matches: &ArgMatches, name: &str, default: u64, least: u64, most: u6
     }
 }
 
-/// `follow [--hold H]`
+// `follow [--hold H]`
 fn follow(matches: &ArgMatches) -> Option<Form>
     ensures form { MatchOption result ((form : Form) → ¬ HasForm (Some (codes "follow", rows_of (found_of matches.now))) form)
         (HasForm (Some (codes "follow", rows_of (found_of matches.now)))) }
@@ -68,7 +68,7 @@ fn follow(matches: &ArgMatches) -> Option<Form>
     Some(Form::Follow { hold: hold as u32 })
 }
 
-/// `pack --unit U`
+// `pack --unit U`
 fn pack(matches: &ArgMatches) -> Option<Form>
     ensures form { MatchOption result ((form : Form) → ¬ HasForm (Some (codes "pack", rows_of (found_of matches.now))) form)
         (HasForm (Some (codes "pack", rows_of (found_of matches.now)))) }
@@ -78,7 +78,7 @@ fn pack(matches: &ArgMatches) -> Option<Form>
     Some(Form::Pack { unit: unit as u8 })
 }
 
-/// The form of the command of this name.
+// The form of the command of this name.
 fn form_in(name: &str, matches: &ArgMatches) -> Option<Form>
     ensures form { MatchOption result ((form : Form) → ¬ HasForm (Some (name.now, rows_of (found_of matches.now))) form)
         (HasForm (Some (name.now, rows_of (found_of matches.now)))) }
@@ -92,7 +92,7 @@ fn form_in(name: &str, matches: &ArgMatches) -> Option<Form>
     }
 }
 
-/// The form that `clap`'s matches have, if they have one.
+// The form that `clap`'s matches have, if they have one.
 pub(crate) fn form_of(matches: &ArgMatches) -> Option<Form>
     ensures form { MatchOption result ((form : Form) → ¬ HasForm (subcommand_rows_of matches.now) form)
         (HasForm (subcommand_rows_of matches.now)) }

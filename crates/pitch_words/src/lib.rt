@@ -10,7 +10,7 @@
 //!
 //! The first word is a command's name. The options follow in any order, each at most once, as
 //! `--name value` or `--name=value`; those in brackets may be left out. A value is 1 to 20 digits
-//! and lies within its range, and zeros in front count as digits. All else is no form: no words, an
+//! and lies within its range, and leading zeros count as digits. All else is no form: no words, an
 //! empty word, the word `--`, a repeated option, a word that the command does not have, and any
 //! request for help or a version.
 //!

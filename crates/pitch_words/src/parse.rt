@@ -10,7 +10,7 @@ use clap::error::ErrorKind;
 use pitch_fields::OutOfMemory;
 use std::alloc::Global;
 
-/// The matches, or `None` where `clap` refuses the words.
+// The matches, or `None` where `clap` refuses the words.
 pub(crate) fn parse<'a>(
     alloc: Global,
     words: &'a [String],

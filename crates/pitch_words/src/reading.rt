@@ -10,7 +10,7 @@ use crate::parse::parse;
 use pitch_fields::OutOfMemory;
 use std::alloc::Global;
 
-/// Whether a word is `--`.
+// Whether a word is `--`.
 fn has_dashes(words: &[String]) -> bool
     ensures { result ≡ some_dashes (map string_bytes words.now) }
 {

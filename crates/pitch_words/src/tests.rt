@@ -2,7 +2,7 @@ use crate::{Form, read};
 use pitch_fields::OutOfMemory;
 use std::test::*;
 
-/// The answer to the words of the line, which single spaces part.
+// The answer to the words of the line, which single spaces part.
 fn form_of_line(alloc: std::alloc::Global, line: &str) -> Result<Option<Form>, OutOfMemory> {
     let mut words = Vec::new(alloc);
     for word in line.split(' ') {

@@ -24,7 +24,7 @@ use Rattle.stream_print.specs.Knowing.{task_form, HasPrinted}
 use Rattle.stream_print.specs.Page.{Prints}
 use Rattle.stream_print.specs.Printing.{PrintsBlocks, PrintsAll}
 use Rattle.stream_print.specs.Putting.{PutsSome}
-use Rattle.stream_print.specs.Texts.{block_text, texts_for, IsText, IsFrontOfText, IsEnd, IsFrontOfEnd}
+use Rattle.stream_print.specs.Texts.{block_text, texts_for, IsText, IsPrefixOfText, IsEnd, IsPrefixOfEnd}
 use Rattle.stream_print.specs.declared.printer.Printer.{Printer}
 use Rattle.stream_print.specs.declared.failure.StreamTrouble.TheVariants.{Faulty, TooLong}
 use Rattle.stream_print.proofs.Printing.{prints_more, prints_whole, puts_after, puts_longer, puts_then}
@@ -128,14 +128,14 @@ fed_fails form start u v f r d bytes piece fed fails =
     subst (PutsSome start v) (sym (texts_split form bytes piece)) (puts_then start u v [] f.page.text (texts_for form bytes) (more_texts form bytes piece) (fed_printed form start u f r d bytes fed) there)
 
 -- ---- How it ends
-pub take_front : (most : ℕ) (bytes more : List ℕ) → length bytes ≤ most → take most (bytes ++ more) ≡ bytes ++ take (most - length bytes) more
-take_front most [] more le = ap (λ (n : ℕ). take n more) (omega arith)
-take_front zero (x ∷ bytes) more le = absurd (omega arith)
-take_front (suc most) (x ∷ bytes) more le = ap (λ (l : List ℕ). x ∷ l) (take_front most bytes more (omega arith) ∙ ap (λ (n : ℕ). bytes ++ take n more) (omega arith))
+pub take_prefix : (most : ℕ) (bytes more : List ℕ) → length bytes ≤ most → take most (bytes ++ more) ≡ bytes ++ take (most - length bytes) more
+take_prefix most [] more le = ap (λ (n : ℕ). take n more) (omega arith)
+take_prefix zero (x ∷ bytes) more le = absurd (omega arith)
+take_prefix (suc most) (x ∷ bytes) more le = ap (λ (l : List ℕ). x ∷ l) (take_prefix most bytes more (omega arith) ∙ ap (λ (n : ℕ). bytes ++ take n more) (omega arith))
 
 take_all : (most : ℕ) (bytes : List ℕ) → length bytes ≤ most → take most bytes ≡ bytes
 take_all most bytes le =
-    ap (take most) (sym (append-nil bytes)) ∙ take_front most bytes [] le ∙ ap (λ (l : List ℕ). bytes ++ l) (take_none (most - length bytes)) ∙ append-nil bytes
+    ap (take most) (sym (append-nil bytes)) ∙ take_prefix most bytes [] le ∙ ap (λ (l : List ℕ). bytes ++ l) (take_none (most - length bytes)) ∙ append-nil bytes
   where
     take_none : (n : ℕ) → ◌≡◌ {A = List ℕ} (take n []) []
     take_none zero = refl
@@ -146,7 +146,7 @@ lasting_trouble : (most : ℕ) (bytes more : List ℕ) (e : BlockError) → leng
     → (trouble_of most (bytes ++ more) ≡ Some (Faulty (record { place = place_of bytes; error = e }))) × (blocks_of (take most (bytes ++ more)) ≡ blocks_of bytes)
 unfolding trouble_of
 lasting_trouble most bytes more e le judged lasts =
-    let front = take_front most bytes more le in
+    let front = take_prefix most bytes more le in
     let stays = fault_stays bytes (take (most - length bytes) more) e judged lasts in (
       ap (λ (o : Option BlockFault). faulty o (cond (nat_lt most (length (bytes ++ more))) (Some TooLong) (faulty (fault_at_end (bytes ++ more)) None))) (ap fault_of front ∙ stays.fault),
       ap blocks_of front ∙ stays.blocks,
@@ -232,19 +232,19 @@ is_text : (form : StreamForm) (bytes end : List ℕ) → IsEnd form (reverse (bl
 is_text (Follow hold) bytes end is = record { lines = (end, refl); honest = λ Image Vs honest. ap (λ (t : List ℕ). texts_for (Follow hold) bytes ++ t) (is Image Vs honest) }
 is_text Show bytes end is = ap (λ (t : List ℕ). texts_for Show bytes ++ t) is ∙ append-nil (texts_for Show bytes)
 
-is_front : (form : StreamForm) (bytes end : List ℕ) → IsFrontOfEnd form (reverse (blocks_of bytes)) end → IsFrontOfText form bytes (texts_for form bytes ++ end)
-is_front (Follow hold) bytes end are = record {
+is_prefix : (form : StreamForm) (bytes end : List ℕ) → IsPrefixOfEnd form (reverse (blocks_of bytes)) end → IsPrefixOfText form bytes (texts_for form bytes ++ end)
+is_prefix (Follow hold) bytes end are = record {
   lines = (end, refl);
   honest = λ Image Vs honest.
       let here = are Image Vs honest in
       (here.0, ap (λ (t : List ℕ). texts_for (Follow hold) bytes ++ t) here.1 ∙ sym (append_assoc (texts_for (Follow hold) bytes) end here.0));
 }
-is_front Show bytes end is = ap (λ (t : List ℕ). texts_for Show bytes ++ t) is ∙ append-nil (texts_for Show bytes)
+is_prefix Show bytes end is = ap (λ (t : List ℕ). texts_for Show bytes ++ t) is ∙ append-nil (texts_for Show bytes)
 
 -- the end is a front of itself
-pub whole_front : (form : StreamForm) (before : List Block) (end : List ℕ) → IsEnd form before end → IsFrontOfEnd form before end
-whole_front (Follow hold) before end is = λ Image Vs honest. ([], sym (is Image Vs honest) ∙ sym (append-nil end))
-whole_front Show before end is = is
+pub whole_prefix : (form : StreamForm) (before : List Block) (end : List ℕ) → IsEnd form before end → IsPrefixOfEnd form before end
+whole_prefix (Follow hold) before end is = λ Image Vs honest. ([], sym (is Image Vs honest) ∙ sym (append-nil end))
+whole_prefix Show before end is = is
 
 -- all was written
 pub writes_whole : (form : StreamForm) (most : ℕ) (first before now start written : Option (List ℕ)) (bytes end : List ℕ) (r : Reading) (e : BlockError) → length bytes ≤ most → Consumes first before bytes → IsAtEnd before × Keeps before now
@@ -267,17 +267,17 @@ writes_whole form most first before now start written bytes end r e le read ends
 
 -- a front of the texts was written
 pub writes_texts : (form : StreamForm) (first now start written : Option (List ℕ)) (bytes : List ℕ) → Consumes first now bytes → PutsSome start written (texts_for form bytes) → WritesSome form (between first now) (between start written)
-writes_texts form first now start written bytes read puts = record { bytes = bytes; read = read; text = texts_for form bytes; wrote = puts; is_front = inl refl }
+writes_texts form first now start written bytes read puts = record { bytes = bytes; read = read; text = texts_for form bytes; wrote = puts; is_prefix = inl refl }
 
 -- a front of the whole text was written
-pub writes_front : (form : StreamForm) (first before now start written : Option (List ℕ)) (bytes end : List ℕ) → Consumes first now bytes → Consumes first before bytes → IsAtEnd before × Keeps before now
-    → IsFrontOfEnd form (reverse (blocks_of bytes)) end → PutsSome start written (texts_for form bytes ++ end) → WritesSome form (between first now) (between start written)
-writes_front form first before now start written bytes end read so_far ends are puts = record {
+pub writes_prefix : (form : StreamForm) (first before now start written : Option (List ℕ)) (bytes end : List ℕ) → Consumes first now bytes → Consumes first before bytes → IsAtEnd before × Keeps before now
+    → IsPrefixOfEnd form (reverse (blocks_of bytes)) end → PutsSome start written (texts_for form bytes ++ end) → WritesSome form (between first now) (between start written)
+writes_prefix form first before now start written bytes end read so_far ends are puts = record {
   bytes = bytes;
   read = read;
   text = texts_for form bytes ++ end;
   wrote = puts;
-  is_front = inr ((has_all first before now bytes so_far ends).1, is_front form bytes end are);
+  is_prefix = inr ((has_all first before now bytes so_far ends).1, is_prefix form bytes end are);
 }
 
 -- what was kept of the bytes taken

@@ -14,10 +14,10 @@ use Rattle.stream_print.specs.Feeding.{Fed}
 use Rattle.stream_print.specs.Inputs.{StreamEnds, WritesAll, WritesSome}
 use Rattle.stream_print.specs.Page.{PrintsSuch, Prints}
 use Rattle.stream_print.specs.Putting.{PutsSuch, PutsSome}
-use Rattle.stream_print.specs.Texts.{texts_for, IsEnd, IsFrontOfEnd}
+use Rattle.stream_print.specs.Texts.{texts_for, IsEnd, IsPrefixOfEnd}
 use Rattle.stream_print.specs.declared.printer.Printer.{Printer}
 use Rattle.stream_print.specs.declared.failure.StreamFailure.{StreamFailure}
-use Rattle.stream_print.proofs.Feeding.{fed_printed, prints_out, writes_whole, writes_front, whole_front}
+use Rattle.stream_print.proofs.Feeding.{fed_printed, prints_out, writes_whole, writes_prefix, whole_prefix}
 use Rattle.stream_print.proofs.Printing.{prints_more, puts_after, puts_then}
 
 pub some_left : (n : ℕ) → false ≡ (n == 0) → 0 < n
@@ -45,15 +45,15 @@ pub ends_unflushed : (form : StreamForm) (first before now start u v w : Option 
     → Fed form start u p r e bytes → Consumes first now bytes → Consumes first before bytes → IsAtEnd before × Keeps before now
     → PrintsSuch (IsEnd form (reverse (blocks_of bytes))) u p.page.text v t → PutsSome v w t → WritesSome form (between first now) (between start w)
 ends_unflushed form first before now start u v w p t r e bytes fed all read end q puts =
-    writes_front form first before now start w bytes q.text all read end (whole_front form (reverse (blocks_of bytes)) q.text q.such)
+    writes_prefix form first before now start w bytes q.text all read end (whole_prefix form (reverse (blocks_of bytes)) q.text q.such)
     (puts_after start v w [] t (texts_for form bytes ++ q.text) (end_printed form p start u v t r e bytes fed q) puts)
 
 -- the sink failed while the end was printed
 pub ends_unprinted : (form : StreamForm) (first before now start u v : Option (List ℕ)) (p : Printer) (r : Reading) (e : BlockError) (bytes : List ℕ)
     → Fed form start u p r e bytes → Consumes first now bytes → Consumes first before bytes → IsAtEnd before × Keeps before now
-    → PutsSuch (IsFrontOfEnd form (reverse (blocks_of bytes))) u p.page.text v → WritesSome form (between first now) (between start v)
+    → PutsSuch (IsPrefixOfEnd form (reverse (blocks_of bytes))) u p.page.text v → WritesSome form (between first now) (between start v)
 ends_unprinted form first before now start u v p r e bytes fed all read end q =
-    writes_front form first before now start v bytes q.text all read end q.such
+    writes_prefix form first before now start v bytes q.text all read end q.such
     (puts_then start u v [] p.page.text (texts_for form bytes) q.text (fed_printed form start u p r e bytes fed) q.puts)
 
 -- the answer of a `?` is its error

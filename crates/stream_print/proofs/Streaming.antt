@@ -5,7 +5,7 @@ use Rattle.unit_packets.specs.Blocks.{Block}
 use Rattle.unit_packets.specs.Causes.{counted}
 use Rattle.unit_packets.specs.Cutting.{blocks_of, rest_of}
 use Rattle.unit_packets.specs.Judging.{judge}
-use Rattle.unit_packets.specs.Lending.{header_for, StandsAtFront}
+use Rattle.unit_packets.specs.Lending.{header_for, StandsFirst}
 use Rattle.unit_packets.specs.Reading.{Reading, passed}
 use Rattle.unit_packets.specs.declared.header.BlockError.{BlockError}
 use Rattle.unit_packets.proofs.Streams.{leads}
@@ -78,7 +78,7 @@ taking_start f r written fits = record {
   few = omega arith;
 }
 
-pub taking_more : (f g h : Printer) (r s t : Reading) (u v w : Option (List ℕ)) (block : Block) (n : ℕ) → Taking f g r s u v → StandsAtFront s.rest block → n ≡ (header_for block).length → t ≡ passed s n
+pub taking_more : (f g h : Printer) (r s t : Reading) (u v w : Option (List ℕ)) (block : Block) (n : ℕ) → Taking f g r s u v → StandsFirst s.rest block → n ≡ (header_for block).length → t ≡ passed s n
     → PrintsBlock g h v w block → h.number ≡ g.number + 1 → Taking f h r t u w
 taking_more f g h r s t u v w block n so_far stands size pass more number =
     let l = leads s.rest block stands in
@@ -116,7 +116,7 @@ taking_end f g r s u v error so_far judged =
     }
 
 -- a sink that fails at a block has some front of the texts
-pub taking_fails : (f g : Printer) (r s : Reading) (u v w : Option (List ℕ)) (before : List Block) (block : Block) → Taking f g r s u v → HasPrinted f before → StandsAtFront s.rest block
+pub taking_fails : (f g : Printer) (r s : Reading) (u v w : Option (List ℕ)) (before : List Block) (block : Block) → Taking f g r s u v → HasPrinted f before → StandsFirst s.rest block
     → ((earlier : List Block) → HasPrinted g earlier → PutsSome v w (g.page.text ++ block_text (task_form g.task) earlier block))
     → PutsSome u w (f.page.text ++ texts_after (block_text (task_form f.task)) before (blocks_of r.rest))
 taking_fails f g r s u v w before block so_far known stands fails =

@@ -19,7 +19,7 @@ use Rattle.stream_print.specs.Inputs.{WritesSome}
 use Rattle.stream_print.specs.Knowing.{task_form, HasPrinted}
 use Rattle.stream_print.specs.Texts.{block_text, texts_for}
 use Rattle.stream_print.specs.declared.printer.Printer.{Printer}
-use Rattle.stream_print.proofs.Feeding.{take_front, consumes_more, consumes_none, writes_texts}
+use Rattle.stream_print.proofs.Feeding.{take_prefix, consumes_more, consumes_none, writes_texts}
 use Rattle.stream_print.proofs.Flow.{grows_none}
 use Rattle.unit_packets.proofs.Streams.{judge_nothing}
 
@@ -99,4 +99,4 @@ own_form form start u f r e bytes fed = subst (λ (k : StreamForm). Fed k start 
 -- the bytes that a source gave, where a buffer has them at its front
 pub given_bytes : (count len : ℕ) (into items buffer : List ℕ) → count ≤ length into → length into ≤ len → buffer ≡ take len (into ++ drop (length into) items) → take count buffer ≡ take count into
 given_bytes count len into items buffer le fits is =
-    ap (take count) (is ∙ take_front len into (drop (length into) items) fits) ∙ take-append-le count into (take (len - length into) (drop (length into) items)) le
+    ap (take count) (is ∙ take_prefix len into (drop (length into) items) fits) ∙ take-append-le count into (take (len - length into) (drop (length into) items)) le

@@ -1,5 +1,5 @@
 -- The books of all units, one after another.
-use Rattle.stream_print.specs.Texts.{IsEnd, IsFrontOfEnd}
+use Rattle.stream_print.specs.Texts.{IsEnd, IsPrefixOfEnd}
 use Rattle.std.proofs.Common.{◌≡◌, ℕ, ◌+◌, ◌<◌, Bool, true, false, cond, List, [], ◌∷◌, ◌++◌, take, refl, sym, ap, ◌∙◌, subst, arith, Option, Some, None, slice_get, append_assoc}
 use Rattle.std.specs.List.{flat_map}
 use Rattle.std.proofs.lemmas.List.{append-nil}
@@ -118,6 +118,6 @@ end_of_books units before w t v u heard p = record {
   such = λ Image Vs honest. p.such Vs (heard.keep Image Vs honest) ∙ books_are units.limit Vs before heard.named;
 }
 
-pub front_of_books : (units : Units) (before : List Block) (w : Option (List ℕ)) (t : List ℕ) (v : Option (List ℕ)) → HaveHeard units before
-    → PutsSuch (AreFirstBooks units.limit units.clients before) w t v → PutsSuch (IsFrontOfEnd (Follow units.limit) before) w t v
-front_of_books units before w t v heard p = record { text = p.text; puts = p.puts; such = λ Image Vs honest. p.such Vs (heard.keep Image Vs honest) }
+pub prefix_of_books : (units : Units) (before : List Block) (w : Option (List ℕ)) (t : List ℕ) (v : Option (List ℕ)) → HaveHeard units before
+    → PutsSuch (AreFirstBooks units.limit units.clients before) w t v → PutsSuch (IsPrefixOfEnd (Follow units.limit) before) w t v
+prefix_of_books units before w t v heard p = record { text = p.text; puts = p.puts; such = λ Image Vs honest. p.such Vs (heard.keep Image Vs honest) }

@@ -6,7 +6,7 @@ use Rattle.unit_packets.specs.Cutting.{fault_of, fault_at_end}
 use Rattle.unit_packets.specs.declared.header.BlockFault.{BlockFault}
 use Rattle.stream_print.specs.declared.stream_form.StreamForm.{StreamForm}
 use Rattle.stream_print.specs.Putting.{PutsSome}
-use Rattle.stream_print.specs.Texts.{texts_for, IsText, IsFrontOfText}
+use Rattle.stream_print.specs.Texts.{texts_for, IsText, IsPrefixOfText}
 use Rattle.stream_print.specs.Told.{Told}
 use Rattle.stream_print.specs.declared.failure.StreamFailure.{StreamFailure}
 use Rattle.stream_print.specs.declared.failure.StreamFailure.TheVariants.{BadInput, Read, Write, OutOfMemory}
@@ -71,7 +71,7 @@ pub record WritesSome (form : StreamForm) (input out : Told) : Type 0 where
   pub read : Consumes input.old input.new bytes
   pub text : List ℕ
   pub wrote : PutsSome out.old out.new text
-  pub is_front : (text ≡ texts_for form bytes) ⊎ (ReadsAll input bytes × IsFrontOfText form bytes text)
+  pub is_prefix : (text ≡ texts_for form bytes) ⊎ (ReadsAll input bytes × IsPrefixOfText form bytes text)
 
 -- how a stream ends
 abbrev pub StreamEnds : StreamForm → ℕ → Result (Unit {0}) StreamFailure → (input out : Told) → Type 0

@@ -25,11 +25,11 @@ abbrev pub IsEnd : StreamForm → List Block → List ℕ → Type 0
 IsEnd (Follow hold) before books = (Image : List Raw → ℕ → List Raw) (Vs : ℕ → List Raw) → AllHonest Image Vs before → books ≡ books_of hold Vs before
 IsEnd Show before books = books ≡ []
 
--- a front of it
-abbrev pub IsFrontOfEnd : StreamForm → List Block → List ℕ → Type 0
-IsFrontOfEnd (Follow hold) before books =
+-- a prefix of it
+abbrev pub IsPrefixOfEnd : StreamForm → List Block → List ℕ → Type 0
+IsPrefixOfEnd (Follow hold) before books =
     (Image : List Raw → ℕ → List Raw) (Vs : ℕ → List Raw) → AllHonest Image Vs before → (more : List ℕ) × (books_of hold Vs before ≡ books ++ more)
-IsFrontOfEnd Show before books = books ≡ []
+IsPrefixOfEnd Show before books = books ≡ []
 
 -- the whole text of `follow`: the lines, and books; for every family of venues of which the blocks
 -- speak, the defined text
@@ -37,8 +37,8 @@ pub record IsFollowText (H : ℕ) (bytes text : List ℕ) : Type 0 where
   pub lines : (books : List ℕ) × (text ≡ texts_for (Follow H) bytes ++ books)
   pub honest : (Image : List Raw → ℕ → List Raw) (Vs : ℕ → List Raw) → AllHonest Image Vs (reverse (blocks_of bytes)) → text ≡ follow_text H Vs (blocks_of bytes)
 
--- a front of it
-pub record IsFrontOfFollowText (H : ℕ) (bytes text : List ℕ) : Type 0 where
+-- a prefix of it
+pub record IsPrefixOfFollowText (H : ℕ) (bytes text : List ℕ) : Type 0 where
   pub lines : (books : List ℕ) × (text ≡ texts_for (Follow H) bytes ++ books)
   pub honest : (Image : List Raw → ℕ → List Raw) (Vs : ℕ → List Raw) → AllHonest Image Vs (reverse (blocks_of bytes)) → (more : List ℕ) × (follow_text H Vs (blocks_of bytes) ≡ text ++ more)
 
@@ -47,7 +47,7 @@ abbrev pub IsText : StreamForm → List ℕ → List ℕ → Type 0
 IsText (Follow hold) bytes text = IsFollowText hold bytes text
 IsText Show bytes text = text ≡ show_text (blocks_of bytes)
 
--- all the texts of the blocks, and a front of what follows them
-abbrev pub IsFrontOfText : StreamForm → List ℕ → List ℕ → Type 0
-IsFrontOfText (Follow hold) bytes text = IsFrontOfFollowText hold bytes text
-IsFrontOfText Show bytes text = text ≡ show_text (blocks_of bytes)
+-- all the texts of the blocks, and a prefix of what follows them
+abbrev pub IsPrefixOfText : StreamForm → List ℕ → List ℕ → Type 0
+IsPrefixOfText (Follow hold) bytes text = IsPrefixOfFollowText hold bytes text
+IsPrefixOfText Show bytes text = text ≡ show_text (blocks_of bytes)

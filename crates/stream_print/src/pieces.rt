@@ -1,6 +1,6 @@
 ghost use Rattle.std.specs.Prelude.{◌≡◌, ◌<◌, IfOk, length};
 ghost use Rattle.pitch_io.specs.Causes.{HasCause};
-ghost use Rattle.pitch_io.specs.Taking.{Takes, HasFailed};
+ghost use Rattle.pitch_io.specs.Taking.{Takes, TakeFailed};
 ghost use Rattle.stream_print.specs.Pieces.{IsBetween};
 
 use pitch_fields::OutOfMemory;
@@ -17,14 +17,14 @@ pub fn piece_buffer(alloc: Global, size: usize) -> Result<Vec<u8>, OutOfMemory>
     Ok(Vec::from_elem(alloc, 0u8, size)?)
 }
 
-/// Takes the next bytes of a source to the front of a buffer, and no more than `most` of them.
+/// Takes the next bytes of a source to the start of a buffer, and no more than `most` of them.
 pub fn take_at_most<I: Source>(input: &mut I, piece: &mut [u8], most: usize) -> Taken
     requires some { 0 < most }
     requires room { 0 < length piece.old }
     ensures count { IsBetween result most piece.new }
     ensures bytes { Takes (I.left input.old) (I.left input.new) result piece.new }
     ensures size { length piece.new ≡ length piece.old }
-    ensures cause { HasCause (I.faults input.old) (I.faults input.new) (HasFailed result) }
+    ensures cause { HasCause (I.faults input.old) (I.faults input.new) (TakeFailed result) }
 {
     let count = piece.len().min(most);
     input.take(&mut piece[..count])

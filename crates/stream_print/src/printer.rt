@@ -26,7 +26,7 @@ impl Printer {
     ghost use Rattle.stream_print.specs.Knowing.{CanHold, task_form, HasPrinted};
     ghost use Rattle.stream_print.specs.Printing.{PrintsBlock};
     ghost use Rattle.stream_print.specs.Putting.{PutsSuch, PutsSome};
-    ghost use Rattle.stream_print.specs.Texts.{block_text, IsEnd, IsFrontOfEnd};
+    ghost use Rattle.stream_print.specs.Texts.{block_text, IsEnd, IsPrefixOfEnd};
 
     /// Nothing was printed yet of what the form asks for.
     pub fn make(alloc: Global, form: StreamForm) -> Result<Printer, OutOfMemory>
@@ -74,7 +74,7 @@ impl Printer {
         ensures printed { OnOk result ((before : List Block) → HasPrinted self.old before
             → PrintsSuch (IsEnd (task_form self.old.task) before) (O.written out.old) self.old.page.text (O.written out.new) self.new.page.text) }
         ensures err { OnErr result ((before : List Block) → HasPrinted self.old before
-            → PutsSuch (IsFrontOfEnd (task_form self.old.task) before) (O.written out.old) self.old.page.text (O.written out.new)) }
+            → PutsSuch (IsPrefixOfEnd (task_form self.old.task) before) (O.written out.old) self.old.page.text (O.written out.new)) }
         ensures cause { HasCause (O.faults out.old) (O.faults out.new) (result ≡ Err PrintError.Write) }
     {
         print_end(alloc, &self.task, &mut self.page, out)

@@ -26,7 +26,7 @@ use unit_packets::{BlockError, BlockFault, BlockReader, view_block};
 /// How many bytes of an input are read at most.
 pub const INPUT_LIMIT: usize = 1073741824;
 
-// Prints the blocks that are whole. Answers why no block stands at the front of what is left.
+// Prints the blocks that are whole. Answers why no block stands at the start of what is left.
 fn print_loaded<O: Sink>(
     alloc: Global,
     reader: &mut BlockReader,
@@ -54,7 +54,7 @@ fn print_loaded<O: Sink>(
 }
 
 // Prints the blocks that are whole with a piece more of the stream. Answers why no block stands at
-// the front of what is left.
+// the start of what is left.
 fn print_piece<O: Sink>(
     alloc: Global,
     reader: &mut BlockReader,
@@ -74,7 +74,7 @@ fn print_piece<O: Sink>(
 }
 
 // Takes a piece more of the stream, of which at most `INPUT_LIMIT` bytes are taken. Answers why no
-// block stands at the front of what is left.
+// block stands at the start of what is left.
 fn feed<O: Sink>(
     alloc: Global,
     printer: &mut Printer,

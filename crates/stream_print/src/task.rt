@@ -7,7 +7,7 @@ ghost use Rattle.unit_clients.specs.Clients.{HaveHeard};
 ghost use Rattle.stream_print.specs.Knowing.{CanHold, task_form, Knows};
 ghost use Rattle.stream_print.specs.Page.{PrintsSuch, Prints};
 ghost use Rattle.stream_print.specs.Putting.{PutsSuch, PutsSome};
-ghost use Rattle.stream_print.specs.Texts.{block_text, IsEnd, IsFrontOfEnd};
+ghost use Rattle.stream_print.specs.Texts.{block_text, IsEnd, IsPrefixOfEnd};
 
 use crate::books::print_books;
 use crate::failure::PrintError;
@@ -51,7 +51,8 @@ fn print_heard<O: Sink>(
     out: &mut O,
 ) -> Result<(), PrintError>
     ensures limit { OnOk result (units.new.limit ≡ units.old.limit) }
-    // Whatever blocks came before, the clients have then heard this one too, and its line was printed.
+    // Whatever blocks came before, the clients have then heard this one too, and its line was
+    // printed.
     ensures heard { OnOk result ((before : List Block) → HaveHeard units.old before → HaveHeard units.new (block.now ∷ before)) }
     ensures printed { OnOk result ((before : List Block) → HaveHeard units.old before → number ≡ length before + 1
         → Prints (O.written out.old) page.old.text (O.written out.new) page.new.text (line_after units.old.limit before block.now)) }
@@ -120,7 +121,7 @@ pub fn print_end<O: Sink>(
     // Whatever blocks came before, what follows them at the end of a stream was printed.
     ensures printed { OnOk result ((before : List Block) → Knows task.now before
         → PrintsSuch (IsEnd (task_form task.now) before) (O.written out.old) page.old.text (O.written out.new) page.new.text) }
-    ensures err { OnErr result ((before : List Block) → Knows task.now before → PutsSuch (IsFrontOfEnd (task_form task.now) before) (O.written out.old) page.old.text (O.written out.new)) }
+    ensures err { OnErr result ((before : List Block) → Knows task.now before → PutsSuch (IsPrefixOfEnd (task_form task.now) before) (O.written out.old) page.old.text (O.written out.new)) }
     ensures cause { HasCause (O.faults out.old) (O.faults out.new) (result ≡ Err PrintError.Write) }
 {
     match task {

@@ -10,7 +10,7 @@ use Rattle.pitch_model.specs.Units.{unit_history}
 use Rattle.pitch_model.proofs.Units.{history_same, history_other}
 use Rattle.client_core.specs.Tracks.{Tracks}
 use Rattle.client_core.specs.declared.client.UnitClient.{UnitClient}
-use Rattle.unit_clients.specs.Clients.{is_named, IsClient, TracksAt, Clients, KeepsTo, AllKeep}
+use Rattle.unit_clients.specs.Clients.{is_named, IsClient, TracksAt, IsSlotAsBefore, Clients, KeepsTo, AllKeep}
 
 -- ---- Lists
 -- what stands at a place of a list in which one element was set
@@ -22,12 +22,6 @@ get_set (x ∷ xs) (suc i) zero y r e = inr ((λ same. omega arith), e)
 get_set (x ∷ xs) (suc i) (suc q) y r e = elim (get_set xs i q y r e) [
   | inl here ↦ inl (omega (arith, here.0), here.1)
   | inr other ↦ inr ((λ same. other.0 (omega arith)), other.1)
-]
-
-pub set_there : {X : Type 0} (xs : List X) (i : ℕ) (y r : X) → slice_get (set xs i y) i ≡ Some r → r ≡ y
-set_there xs i y r e = elim (get_set xs i i y r e) [
-  | inl here ↦ here.1
-  | inr other ↦ absurd (other.0 refl)
 ]
 
 -- one more None
@@ -81,11 +75,11 @@ client_hears : (H : ℕ) (before : List Block) (unit : ℕ) (slot : Option UnitC
 client_hears H before unit None named stands = absurd stands
 client_hears H before unit (Some client) named stands = (named, stands)
 
-pub clients_hear : (H u : ℕ) (old : List (Option UnitClient)) (gone slot : Option UnitClient) (block : Block) (before : List Block) → Clients H old before → u ≡ block.unit
-    → TracksAt H (heard_block block (unit_history u before)) slot → Clients H (set (set old u gone) u slot) (block ∷ before)
-clients_hear H u old gone slot block before stands same heard = record {
-  many = length-set (set old u gone) u slot ∙ length-set old u gone ∙ stands.many;
-  each = λ unit s at. elim (get_set (set old u gone) u unit slot s at) [
+pub clients_hear : (H u : ℕ) (old : List (Option UnitClient)) (slot : Option UnitClient) (block : Block) (before : List Block) → Clients H old before → u ≡ block.unit
+    → TracksAt H (heard_block block (unit_history u before)) slot → Clients H (set old u slot) (block ∷ before)
+clients_hear H u old slot block before stands same heard = record {
+  many = length-set old u slot ∙ stands.many;
+  each = λ unit s at. elim (get_set old u unit slot s at) [
     | inl here ↦
         let there : unit ≡ block.unit = here.0 ∙ same in
         subst (IsClient H (block ∷ before) unit) (sym here.1) (
@@ -94,21 +88,38 @@ clients_hear H u old gone slot block before stands same heard = record {
         (subst (λ (E : List Entry). TracksAt H E slot) (sym (history_same block before))
         (subst (λ (n : ℕ). TracksAt H (heard_block block (unit_history n before)) slot) same heard)))
         )
-    | inr other ↦ elim (get_set old u unit gone s other.1) [
-      | inl here ↦ absurd (other.0 here.0)
-      | inr kept ↦ other_client H block before unit s (λ e. other.0 (e ∙ sym same)) (stands.each unit s kept.1)
-    ]
+    | inr kept ↦ other_client H block before unit s (λ e. kept.0 (e ∙ sym same)) (stands.each unit s kept.1)
   ];
 }
 
-pub clients_keep : (Vs : ℕ → List Raw) (u : ℕ) (old : List (Option UnitClient)) (gone slot : Option UnitClient) → AllKeep Vs old → KeepsTo (Vs u) slot → AllKeep Vs (set (set old u gone) u slot)
-clients_keep Vs u old gone slot keeps kept unit s at = elim (get_set (set old u gone) u unit slot s at) [
+pub clients_keep : (Vs : ℕ → List Raw) (u : ℕ) (old : List (Option UnitClient)) (slot : Option UnitClient) → AllKeep Vs old → KeepsTo (Vs u) slot → AllKeep Vs (set old u slot)
+clients_keep Vs u old slot keeps kept unit s at = elim (get_set old u unit slot s at) [
   | inl here ↦ subst (KeepsTo (Vs unit)) (sym here.1) (subst (λ (n : ℕ). KeepsTo (Vs n) slot) (sym here.0) kept)
-  | inr other ↦ elim (get_set old u unit gone s other.1) [
-    | inl here ↦ absurd (other.0 here.0)
-    | inr there ↦ keeps unit s there.1
-  ]
+  | inr there ↦ keeps unit s there.1
 ]
+
+-- ---- A block that was not heard for want of memory
+client_still : (H : ℕ) (before : List Block) (unit : ℕ) (old slot : Option UnitClient) → IsSlotAsBefore old slot → IsClient H before unit old → IsClient H before unit slot
+client_still H before unit None slot same stands = subst (IsClient H before unit) (sym same) stands
+client_still H before unit (Some client) None same stands = absurd same
+client_still H before unit (Some client) (Some client') same stands = (stands.0, same.tracks H (unit_history unit before) stands.1)
+
+keeps_still : (V : List Raw) (old slot : Option UnitClient) → IsSlotAsBefore old slot → KeepsTo V old → KeepsTo V slot
+keeps_still V None slot same kept = subst (KeepsTo V) (sym same) kept
+keeps_still V (Some client) None same kept = absurd same
+keeps_still V (Some client) (Some client') same kept = same.keeps V kept
+
+pub clients_still : (H u : ℕ) (old : List (Option UnitClient)) (was slot : Option UnitClient) (before : List Block) → slice_get old u ≡ Some was → IsSlotAsBefore was slot → Clients H old before → Clients H (set old u slot) before
+clients_still H u old was slot before there same stands = record {
+  many = length-set old u slot ∙ stands.many;
+  each = λ unit s at. elim (get_set old u unit slot s at) [
+    | inl here ↦ subst (IsClient H before unit) (sym here.1) (subst (λ (n : ℕ). IsClient H before n slot) (sym here.0) (client_still H before u was slot same (stands.each u was there)))
+    | inr kept ↦ stands.each unit s kept.1
+  ];
+}
+
+pub all_keep_still : (Vs : ℕ → List Raw) (u : ℕ) (old : List (Option UnitClient)) (was slot : Option UnitClient) → slice_get old u ≡ Some was → IsSlotAsBefore was slot → AllKeep Vs old → AllKeep Vs (set old u slot)
+all_keep_still Vs u old was slot there same keeps = clients_keep Vs u old slot keeps (keeps_still (Vs u) was slot same (keeps u was there))
 
 -- ---- Units
 -- a block more

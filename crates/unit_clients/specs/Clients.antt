@@ -4,7 +4,7 @@ use Rattle.std.specs.List.{list_any}
 use Rattle.unit_packets.specs.Blocks.{Block}
 use Rattle.pitch_model.specs.History.{Raw, Entry}
 use Rattle.pitch_model.specs.Units.{unit_history, AllHonest}
-use Rattle.client_core.specs.Tracks.{Tracks, Keeps}
+use Rattle.client_core.specs.Tracks.{Tracks, Keeps, IsAsBefore}
 use Rattle.client_core.specs.declared.client.UnitClient.{UnitClient}
 
 -- how many messages each client holds at most, and the place of each unit at its number
@@ -30,6 +30,12 @@ IsClient H before unit (Some client) = (is_named before unit ≡ true) × Tracks
 abbrev pub TracksAt : ℕ → List Entry → Option UnitClient → Type 0
 TracksAt H E None = ⊥
 TracksAt H E (Some client) = Tracks client H E
+
+-- there is still no client, or what a caller can tell of it is as before
+abbrev pub IsSlotAsBefore : Option UnitClient → Option UnitClient → Type 0
+IsSlotAsBefore None slot = slot ≡ None
+IsSlotAsBefore (Some client) None = ⊥
+IsSlotAsBefore (Some client) (Some client') = IsAsBefore client client'
 
 -- each of the 256 units has its place
 pub record Clients (H : ℕ) (clients : List (Option UnitClient)) (before : List Block) : Type 0 where

@@ -1,10 +1,12 @@
-ghost use Rattle.std.specs.Prelude.{◌≡◌, ◌≤◌, ℕ, List, [], ◌∷◌, OnOk, IfOk, IsSome, length};
+ghost use Rattle.std.specs.Prelude.{◌≡◌, ◌≤◌, ℕ, List, [], ◌∷◌, OnOk, OnErr, IfOk, length};
+ghost use Rattle.pitch_fields.specs.Limits.{most_held};
 ghost use Rattle.unit_packets.specs.Blocks.{Block};
 ghost use Rattle.pitch_model.specs.History.{Raw, Entry};
 ghost use Rattle.pitch_model.specs.Units.{unit_history};
 ghost use Rattle.pitch_model.specs.Heard.{heard_block, block_change};
 ghost use Rattle.pitch_model.specs.Honest.{Honest};
-ghost use Rattle.unit_clients.specs.Clients.{IsClient, TracksAt, Clients, KeepsTo, AllKeep, HaveHeard};
+ghost use Rattle.client_core.specs.Tracks.{Tracks, Keeps, IsAsBefore};
+ghost use Rattle.unit_clients.specs.Clients.{IsClient, TracksAt, IsSlotAsBefore, Clients, KeepsTo, AllKeep, HaveHeard};
 
 use client_core::{Change, UnitClient};
 use pitch_fields::OutOfMemory;
@@ -26,6 +28,7 @@ pub struct Units {
 impl Model for Units {
     ghost use Rattle.std.specs.Prelude.{◌≡◌, ◌≤◌, length};
     ghost use Rattle.std.specs.Coded.{codes};
+    ghost use Rattle.pitch_fields.specs.Limits.{most_held};
     ghost use Rattle.client_core.specs.contracts.client.UnitClient as client;
     ghost use Rattle.unit_clients.specs.Clients.{Units};
 
@@ -35,7 +38,7 @@ impl Model for Units {
 
     ghost coded = { Prim.hlevel (codes, client.the_row.coded) };
 
-    ghost invariant = { λ u. (1 ≤ u.limit) × (u.limit ≤ 65536) × (length u.clients.items ≡ 256) };
+    ghost invariant = { λ u. (1 ≤ u.limit) × (u.limit ≤ most_held) × (length u.clients.items ≡ 256) };
 }
 
 // No unit has a client yet.
@@ -50,44 +53,52 @@ fn no_clients(alloc: Global) -> Result<Vec<Option<UnitClient>>, OutOfMemory>
     Ok(clients)
 }
 
-// Makes the client of a unit that has none.
+// Hands a block to a client.
 #[inline]
-fn make_known(alloc: Global, limit: u32, slot: &mut Option<UnitClient>) -> Result<(), OutOfMemory>
-    requires { (1 ≤ limit) × (limit ≤ 65536) }
-    // Where the place was right for some blocks, the client there then stands for the unit's history by them.
-    ensures tracks { OnOk result ((before : List Block) (unit : ℕ) → IsClient limit before unit slot.old → TracksAt limit (unit_history unit before) slot.new) }
-    ensures keeps { OnOk result ((V : List Raw) → KeepsTo V slot.old → KeepsTo V slot.new) }
-    ensures some { OnOk result (IsSome slot.new) }
+fn hear(client: &mut UnitClient, block: &BlockView<'_>) -> Result<Change, OutOfMemory>
+    // A client that stood for a history then stands for it with the block after it.
+    ensures tracks { OnOk result ((H : ℕ) (E : List Entry) → Tracks client.old H E → Tracks client.new H (heard_block block.now E)) }
+    ensures keeps { OnOk result ((Image : List Raw → ℕ → List Raw) (V : List Raw) (E : List Entry) → Honest Image V (heard_block block.now E) → Keeps client.old V → Keeps client.new V) }
+    ensures change { IfOk result (λ change. (H : ℕ) (E : List Entry) → Tracks client.old H E → change ≡ block_change H E block.now) }
+    ensures err { OnErr result (IsAsBefore client.old client.new) }
 {
-    match slot {
-        Some(_) => Ok(()),
-        None => {
-            *slot = Some(UnitClient::make(alloc, limit)?);
-            Ok(())
-        }
-    }
+    client.hear_block(block.header().sequence, block.raws())
 }
 
-// Hands a block to the client of its unit, where it stands.
+// Hands a block to the client at its unit's place, which is made where there is none. A new client
+// is put in its place only once it has heard the block.
 #[inline]
-fn hear_at(slot: &mut Option<UnitClient>, block: &BlockView<'_>) -> Result<Change, OutOfMemory>
-    requires { IsSome slot.old }
-    // A client that stood for a history then stands for it with the block after it.
-    ensures tracks { OnOk result ((H : ℕ) (E : List Entry) → TracksAt H E slot.old → TracksAt H (heard_block block.now E) slot.new) }
-    // Where that history speaks of one venue's messages alone, the client keeps to them.
+fn hear_at(
+    alloc: Global,
+    limit: u32,
+    slot: &mut Option<UnitClient>,
+    block: &BlockView<'_>,
+) -> Result<Change, OutOfMemory>
+    requires { (1 ≤ limit) × (limit ≤ most_held) }
+    // Where the place was right for some blocks of a unit, the client there then stands for the
+    // unit's history by them with this block after it.
+    ensures tracks { OnOk result ((before : List Block) (unit : ℕ) → IsClient limit before unit slot.old → TracksAt limit (heard_block block.now (unit_history unit before)) slot.new) }
+    // Where a history with this block speaks of one venue's messages alone, the client keeps to
+    // them.
     ensures keeps { OnOk result ((Image : List Raw → ℕ → List Raw) (V : List Raw) (E : List Entry) → Honest Image V (heard_block block.now E) → KeepsTo V slot.old → KeepsTo V slot.new) }
-    ensures change { IfOk result (λ change. (H : ℕ) (E : List Entry) → TracksAt H E slot.old → change ≡ block_change H E block.now) }
+    ensures change { IfOk result (λ change. (before : List Block) (unit : ℕ) → IsClient limit before unit slot.old → change ≡ block_change limit (unit_history unit before) block.now) }
+    ensures err { OnErr result (IsSlotAsBefore slot.old slot.new) }
 {
     match slot {
-        Some(client) => client.hear_block(block.header().sequence, block.raws()),
-        None => unreachable!(),
+        Some(client) => hear(client, block),
+        None => {
+            let mut client = UnitClient::make(alloc, limit)?;
+            let change = hear(&mut client, block)?;
+            *slot = Some(client);
+            Ok(change)
+        }
     }
 }
 
 impl Units {
     /// No unit has a client yet. Each will hold at most `limit` messages, from 1 to 65,536.
     pub fn make(alloc: Global, limit: u32) -> Result<Units, OutOfMemory>
-        requires { (1 ≤ limit) × (limit ≤ 65536) }
+        requires { (1 ≤ limit) × (limit ≤ most_held) }
         ensures limit { IfOk result (λ units. units.limit ≡ limit) }
         ensures heard { IfOk result (λ units. HaveHeard units []) }
     {
@@ -97,23 +108,25 @@ impl Units {
 
     /// Hands a block to the client of its unit, and answers what it changed there.
     ///
-    /// After an error, which comes only where memory runs out, nothing is known of the unit's
-    /// client.
+    /// The only error is that memory ran out. The clients are then as before the block, and a unit
+    /// that had no client still has none.
     pub fn hear_block(
         &mut self,
         alloc: Global,
         block: &BlockView<'_>,
     ) -> Result<Change, OutOfMemory>
-        ensures limit { OnOk result (self.new.limit ≡ self.old.limit) }
-        // Whatever blocks the clients had heard, they have then heard these and this block.
+        ensures limit { self.new.limit ≡ self.old.limit }
+        // Whatever blocks came before, the clients then stand for these with the block after them.
         ensures heard { OnOk result ((before : List Block) → HaveHeard self.old before → HaveHeard self.new (block.now ∷ before)) }
-        // The answer is what the block changes for a client that has heard the unit's blocks before.
+        // The answer is what the block changes for a client that has heard the unit's blocks
+        // before.
         ensures change { IfOk result (λ change. (before : List Block) → HaveHeard self.old before
             → change ≡ block_change self.old.limit (unit_history block.now.unit before) block.now) }
+        // After an error they stand for the blocks for which they stood before.
+        ensures err { OnErr result ((before : List Block) → HaveHeard self.old before → HaveHeard self.new before) }
     {
         let unit = block.header().unit as usize;
-        make_known(alloc, self.limit, &mut self.clients[unit])?;
-        let change = hear_at(&mut self.clients[unit], block)?;
+        let change = hear_at(alloc, self.limit, &mut self.clients[unit], block)?;
         Ok(change)
     }
 

@@ -4,7 +4,7 @@ use Rattle.std.proofs.lemmas.List.{take-append-le, length-drop, get_or-take, len
 use Rattle.unit_packets.specs.Blocks.{Block}
 use Rattle.unit_packets.specs.declared.header.Header.{Header}
 use Rattle.unit_packets.specs.declared.header.BlockError.{BlockError}
-use Rattle.unit_packets.specs.Judging.{judge, block_at, IsFront}
+use Rattle.unit_packets.specs.Judging.{judge, block_at, BeginsWithBlock}
 use Rattle.pitch_messages.specs.Raw.{raws_of}
 use Rattle.unit_packets.specs.Cutting.{blocks_on, rest_on, blocks_by, rest_by, blocks_of, rest_of}
 use Rattle.unit_packets.proofs.Stable.{judge_found, judge_more, IsFinal}
@@ -153,7 +153,7 @@ pub record Takes (bytes : List ℕ) (h : Header) : Type 0 where
   pub fits : h.length ≤ length bytes
   pub stand : length (raws_of h.count (drop 8 (take h.length bytes))) ≡ h.count
 
-pub front_takes : (bytes : List ℕ) (h : Header) → IsFront bytes h → Takes bytes h
+pub front_takes : (bytes : List ℕ) (h : Header) → BeginsWithBlock bytes h → Takes bytes h
 front_takes bytes h f =
     let size : length (take h.length bytes) ≡ h.length = length-take-le h.length bytes f.fits in
     let head = f.block.header in

@@ -5,7 +5,7 @@ use Rattle.std.proofs.lemmas.List.{append-nil, length-drop, drop-drop, take_at}
 use Rattle.unit_packets.specs.Blocks.{Block}
 use Rattle.unit_packets.specs.Causes.{counted}
 use Rattle.unit_packets.specs.Judging.{judge}
-use Rattle.unit_packets.specs.Lending.{header_for, StandsAtFront}
+use Rattle.unit_packets.specs.Lending.{header_for, StandsFirst}
 use Rattle.unit_packets.specs.Cutting.{blocks_of, rest_of, place_of, fault_in, fault_from}
 use Rattle.unit_packets.specs.Reading.{Reading, unread}
 use Rattle.unit_packets.specs.Feeding.{fed_fault, kept_fault, StandsFor, fed_answer, Feeds, WithMemory, CutsTo, FeedsAll, PiecesAreCut, PiecesDoNotMatter}
@@ -33,10 +33,10 @@ cutting_none bytes before = record { within = omega arith; rest = refl; added = 
 pub cutting_kept : (bytes : List ℕ) (at n : ℕ) (before so_far : List Block) → Cutting bytes at before so_far → n ≡ length before → take n so_far ≡ before
 cutting_kept bytes at n before so_far c is = ap (λ (k : ℕ). take k so_far) is ∙ ap (take (length before)) c.are ∙ take_at before c.added (length before) refl
 
-pub cutting_more : (bytes rest : List ℕ) (at n : ℕ) (before so_far longer : List Block) (block : Block) → Cutting bytes at before so_far → rest ≡ drop at bytes → StandsAtFront rest block → n ≡ (header_for block).length
+pub cutting_more : (bytes rest : List ℕ) (at n : ℕ) (before so_far longer : List Block) (block : Block) → Cutting bytes at before so_far → rest ≡ drop at bytes → StandsFirst rest block → n ≡ (header_for block).length
     → longer ≡ so_far ++ block ∷ [] → Cutting bytes (at + n) before longer
 cutting_more bytes rest at n before so_far longer block c is stands size more =
-    let l = leads (drop at bytes) block (subst (λ (r : List ℕ). StandsAtFront r block) is stands) in
+    let l = leads (drop at bytes) block (subst (λ (r : List ℕ). StandsFirst r block) is stands) in
     let cut : drop (header_for block).length (drop at bytes) ≡ drop (at + n) bytes = drop-drop (header_for block).length at bytes ∙ ap (λ (k : ℕ). drop (at + k) bytes) (sym size) in
     record {
       within = omega (arith, l.fits, length-drop at bytes, c.within, size);

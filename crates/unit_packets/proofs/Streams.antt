@@ -4,7 +4,7 @@ use Rattle.std.proofs.lemmas.List.{append-nil}
 use Rattle.std.proofs.lemmas.Bool.{cases_Bool}
 use Rattle.unit_packets.specs.Blocks.{Block}
 use Rattle.unit_packets.specs.Judging.{judge}
-use Rattle.unit_packets.specs.Lending.{header_for, StandsAtFront}
+use Rattle.unit_packets.specs.Lending.{header_for, StandsFirst}
 use Rattle.unit_packets.specs.Cutting.{blocks_of, rest_of, place_of, fault_from, fault_in, fault_of, fault_at_end, is_truncated}
 use Rattle.unit_packets.specs.declared.header.Header.{Header}
 use Rattle.unit_packets.specs.declared.header.BlockError.{BlockError}
@@ -21,7 +21,7 @@ pub record Leads (rest : List ℕ) (block : Block) : Type 0 where
   pub blocks : blocks_of rest ≡ block ∷ blocks_of (drop (header_for block).length rest)
   pub rest_is : rest_of rest ≡ rest_of (drop (header_for block).length rest)
 
-pub leads : (rest : List ℕ) (block : Block) → StandsAtFront rest block → Leads rest block
+pub leads : (rest : List ℕ) (block : Block) → StandsFirst rest block → Leads rest block
 leads rest block stands =
     let h : Header = header_for block in
     let found = judge_found rest h stands.judged in

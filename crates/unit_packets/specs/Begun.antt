@@ -3,7 +3,8 @@ use Rattle.std.specs.Prelude.{ℕ, ◌≤◌, ◌<◌, List, length, drop}
 use Rattle.pitch_messages.specs.Raw.{IsChain}
 use Rattle.unit_packets.specs.Blocks.{StaysWithin}
 
--- behind eight bytes for the header, so many messages; they fit a datagram, and have sequences that messages can have
+-- after eight bytes for the header, so many messages; they fit a datagram, and have sequences that
+-- messages can have
 pub record IsBegun (sequence count : ℕ) (bytes : List ℕ) : Type 0 where
   pub chain : IsChain count (drop 8 bytes)
   pub header : 0 < count → 8 ≤ length bytes

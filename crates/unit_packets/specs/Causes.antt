@@ -7,13 +7,13 @@ use Rattle.unit_packets.specs.declared.block.FeedError.{FeedError}
 use Rattle.unit_packets.specs.declared.block.FeedError.TheVariants.{Fault, OutOfMemory}
 
 -- the cause of a fault
-abbrev pub cause_text : BlockError → List ℕ
-cause_text (Truncated has needs) = codes "truncated, has " ++ (decimal has ++ (codes " of " ++ decimal needs))
-cause_text (LengthBelowHeader length) = codes "length " ++ (decimal length ++ codes " below header")
-cause_text (SequencePast sequence count) = codes "sequence " ++ (decimal sequence ++ (codes " count " ++ (decimal count ++ codes " past the last")))
-cause_text (TinyMessage place length) = codes "tiny message of length " ++ decimal length
-cause_text (MessageOverrun place) = codes "message overrun"
-cause_text (Spare place) = codes "spare bytes"
+abbrev pub block_cause_text : BlockError → List ℕ
+block_cause_text (Truncated has needs) = codes "truncated, has " ++ (decimal has ++ (codes " of " ++ decimal needs))
+block_cause_text (LengthBelowHeader length) = codes "length " ++ (decimal length ++ codes " below header")
+block_cause_text (SequencePast sequence count) = codes "sequence " ++ (decimal sequence ++ (codes " count " ++ (decimal count ++ codes " past the last")))
+block_cause_text (TinyMessage place length) = codes "tiny message of length " ++ decimal length
+block_cause_text (MessageOverrun place) = codes "message overrun"
+block_cause_text (Spare place) = codes "spare bytes"
 
 -- the place inside the block, where the fault has one
 abbrev pub inner_place : BlockError → ℕ
@@ -30,7 +30,7 @@ counted n = min n (2 ^ 64 - 1)
 
 -- the place of a fault in the stream, and its cause
 abbrev pub fault_text : BlockFault → List ℕ
-fault_text fault = codes "byte " ++ (decimal (counted (fault.place + inner_place fault.error)) ++ (codes ": " ++ cause_text fault.error))
+fault_text fault = codes "byte " ++ (decimal (counted (fault.place + inner_place fault.error)) ++ (codes ": " ++ block_cause_text fault.error))
 
 -- why feeding did not go on
 abbrev pub feed_text : FeedError → List ℕ

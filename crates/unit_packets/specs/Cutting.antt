@@ -15,7 +15,7 @@ abbrev pub rest_on : (List ℕ → List ℕ) → List ℕ → Result Header Bloc
 rest_on more bytes (Ok h) = more (drop h.length bytes)
 rest_on more bytes (Err e) = bytes
 
--- at most n blocks that stand back to back at the front
+-- at most n blocks that stand back to back at the start
 unfoldable pub blocks_by : ℕ → List ℕ → List Block
 blocks_by zero bytes = []
 blocks_by (suc n) bytes = blocks_on (blocks_by n) bytes (judge bytes)
@@ -25,7 +25,8 @@ unfoldable pub rest_by : ℕ → List ℕ → List ℕ
 rest_by zero bytes = bytes
 rest_by (suc n) bytes = rest_on (rest_by n) bytes (judge bytes)
 
--- the longest list of blocks at the front: a block has a byte, so there are no more blocks than bytes
+-- the longest list of blocks at the start: a block has a byte, so there are no more blocks than
+-- bytes
 unfoldable pub blocks_of : List ℕ → List Block
 blocks_of bytes = blocks_by (length bytes) bytes
 
@@ -42,7 +43,8 @@ is_truncated (TinyMessage place length) = false
 is_truncated (MessageOverrun place) = false
 is_truncated (Spare place) = false
 
--- the fault of a rest at a place of the stream: bytes that are cut off are a fault only where the stream has ended
+-- the fault of a rest at a place of the stream: bytes that are cut off are a fault only where the
+-- stream has ended
 abbrev pub fault_from : Bool → ℕ → Result Header BlockError → Option BlockFault
 fault_from ended place (Ok h) = None
 fault_from ended place (Err e) = if is_truncated e then (if ended then Some (record { place = place; error = e }) else None) else Some (record { place = place; error = e })
@@ -51,7 +53,7 @@ abbrev pub fault_in : Bool → ℕ → List ℕ → Option BlockFault
 fault_in ended place [] = None
 fault_in ended place (byte ∷ rest) = fault_from ended place (judge (byte ∷ rest))
 
--- the place behind the whole blocks
+-- the place after the whole blocks
 abbrev pub place_of : List ℕ → ℕ
 place_of bytes = length bytes - length (rest_of bytes)
 

@@ -24,7 +24,8 @@ ended_fault fed = fault_in true (counted (place_of fed)) (rest_of fed)
 abbrev pub kept_fault : Reading → Option BlockFault
 kept_fault reading = fault_in false reading.place reading.rest
 
--- the reader is behind the whole blocks of the bytes that were fed, and keeps what follows them; only behind a fault that it keeps may it have dropped bytes
+-- the reader has passed the whole blocks of the bytes that were fed, and keeps what follows them;
+-- only after a fault that it keeps may it have dropped bytes
 pub record StandsFor (reading : Reading) (fed : List ℕ) : Type 0 where
   pub place_is : reading.place ≡ counted (place_of fed)
   pub dropped : List ℕ
@@ -40,7 +41,8 @@ abbrev pub ended_answer : Option BlockFault → Result (Unit {0}) BlockFault
 ended_answer None = Ok tt
 ended_answer (Some fault) = Err fault
 
--- one piece more was fed: the reader stands for all bytes, the blocks that became whole were put out, and the answer is the fault of all bytes
+-- one piece more was fed: the reader stands for all bytes, the blocks that became whole were put
+-- out, and the answer is the fault of all bytes
 pub record Feeds (fed piece : List ℕ) (new : Reading) (before after : List Block) (answer : Result (Unit {0}) FeedError) : Type 0 where
   pub stands : StandsFor new (fed ++ piece)
   pub added : List Block

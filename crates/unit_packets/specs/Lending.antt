@@ -9,8 +9,8 @@ use Rattle.unit_packets.specs.declared.header.Header.{Header}
 abbrev pub header_for : Block → Header
 header_for block = record { length = 8 + length (concat block.raws); count = length block.raws; unit = block.unit; sequence = block.sequence }
 
--- the block stands at the front of the bytes
-pub record StandsAtFront (bytes : List ℕ) (block : Block) : Type 0 where
+-- the block stands at the start of the bytes
+pub record StandsFirst (bytes : List ℕ) (block : Block) : Type 0 where
   pub judged : judge bytes ≡ Ok (header_for block)
   pub block_is : block ≡ block_at (header_for block) bytes
   pub front : IsBlock (take (header_for block).length bytes) block

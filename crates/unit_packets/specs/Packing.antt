@@ -27,7 +27,8 @@ abbrev pub IsFull : List (List ℕ) → List (List ℕ) → Type 0
 IsFull raws [] = Unit {0}
 IsFull raws (raw ∷ following) = FitsDatagram (raws ++ raw ∷ []) → ⊥
 
--- the datagrams hold the messages in their order, from a sequence on, and none but the last could also take the first message of the next
+-- the datagrams hold the messages in their order, from a sequence on, and none but the last could
+-- also take the first message of the next
 abbrev pub IsPacking : ℕ → ℕ → List (List ℕ) → List (List ℕ) → Type 0
 IsPacking unit first raws [] = raws ≡ []
 IsPacking unit first raws (datagram ∷ datagrams) =
@@ -68,7 +69,8 @@ unpacked unit first = record { unit = unit; sequence = first; begun = [] }
 abbrev pub next_sequence : Packing → ℕ
 next_sequence packing = sequence_after packing.sequence (length packing.begun)
 
--- the messages from a sequence on were pushed, and the datagrams given out: whatever messages follow, the packing of all is these datagrams and those that the packer will give
+-- the messages from a sequence on were pushed, and the datagrams given out: whatever messages
+-- follow, the packing of all is these datagrams and those that the packer will give
 pub record HasPacked (packing : Packing) (unit first : ℕ) (raws datagrams : List (List ℕ)) : Type 0 where
   pub unit_is : packing.unit ≡ unit
   pub next_is : next_sequence packing ≡ sequence_after first (length raws)
@@ -92,8 +94,8 @@ pub record Finishes (old new : Packing) (before after : List (Roomy ℕ)) : Type
   pub whole : (unit first : ℕ) (raws datagrams : List (List ℕ)) → HasPacked old unit first raws datagrams → datagrams ++ bytes_in added ≡ packed unit first raws
   pub stands : (unit first : ℕ) (raws datagrams : List (List ℕ)) → HasPacked old unit first raws datagrams → HasPacked new unit (sequence_after first (length raws)) [] []
 
--- what was given out before and what is given out now are the packing of all that was pushed, where these are raws
--- whose sequences messages can have
+-- what was given out before and what is given out now are the packing of all that was pushed, where
+-- these are raws whose sequences messages can have
 abbrev pub GivesPacking : Packing → List (Roomy ℕ) → List (Roomy ℕ) → Type 0
 GivesPacking old before after = (unit first : ℕ) (raws datagrams given : List (List ℕ)) → HasPacked old unit first raws datagrams → bytes_in after ≡ bytes_in before ++ given
     → AllByRecursion IsRaw raws → StaysWithin first (length raws) → IsPacking unit first raws (datagrams ++ given)

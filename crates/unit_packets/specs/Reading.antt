@@ -15,7 +15,7 @@ unread = record { place = 0; rest = [] }
 abbrev pub loaded : Reading → List ℕ → Reading
 loaded reading piece = record { place = reading.place; rest = reading.rest ++ piece }
 
--- the first n bytes of the rest are behind
+-- the first n bytes of the rest were passed
 abbrev pub passed : Reading → ℕ → Reading
 passed reading n = record { place = counted (reading.place + n); rest = drop n reading.rest }
 

@@ -5,8 +5,9 @@ ghost use Rattle.unit_packets.specs.Cutting.{is_truncated};
 use std::error::Error;
 use std::fmt;
 
-/// The header of a block: its length in bytes with the header, the number of its messages, its unit, and the
-/// sequence of its first message (0 where the block is unsequenced). Each number is little endian.
+/// The header of a block: its length in bytes with the header, the number of its messages, its
+/// unit, and the sequence of its first message (0 where the block is unsequenced). Each number is
+/// little endian.
 ///
 /// Source: Cboe US Equities Multicast PITCH specification, "Sequenced Unit Header".
 #[derive(Clone, Copy, Debug, PartialEq, Eq)]
@@ -17,7 +18,7 @@ pub struct Header {
     pub sequence: u32,
 }
 
-/// Why no block stands at the front of some bytes. Places count from the first of them.
+/// Why some bytes do not begin with a block. Places count from the first of them.
 #[derive(Clone, Copy, Debug, PartialEq, Eq)]
 pub enum BlockError {
     /// Fewer bytes are there than the header, or the block, has.
@@ -58,9 +59,9 @@ impl BlockError {
 /// The cause in words, as `truncated, has 5 of 8`.
 impl fmt::Display for BlockError {
     ghost use Rattle.std.specs.Prelude.{Some};
-    ghost use Rattle.unit_packets.specs.Causes.{cause_text};
+    ghost use Rattle.unit_packets.specs.Causes.{block_cause_text};
 
-    ghost output = { λ error. Some (cause_text error) };
+    ghost output = { λ error. Some (block_cause_text error) };
 
     fn fmt<W: fmt::Write>(&self, f: &mut fmt::Formatter<W>) -> fmt::Result {
         match *self {
@@ -80,14 +81,16 @@ impl fmt::Display for BlockError {
 
 impl Error for BlockError {}
 
-/// A fault in a stream of blocks: the place of the faulty block in the stream, and what is wrong with it.
+/// A fault in a stream of blocks: the place of the faulty block in the stream, and what is wrong
+/// with it.
 #[derive(Clone, Copy, Debug, PartialEq, Eq)]
 pub struct BlockFault {
     pub place: u64,
     pub error: BlockError,
 }
 
-/// The fault in words, as `byte 22: tiny message of length 1`: the place is the block's and the inner one together.
+/// The fault in words, as `byte 22: tiny message of length 1`: the place is the block's and the
+/// inner one together.
 impl fmt::Display for BlockFault {
     ghost use Rattle.std.specs.Prelude.{Some};
     ghost use Rattle.unit_packets.specs.Causes.{fault_text};

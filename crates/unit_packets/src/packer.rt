@@ -1,4 +1,5 @@
 ghost use Rattle.std.specs.Prelude.{◌≡◌, ◌+◌, ◌≤◌, ◌<◌, ◌++◌, [], ◌∷◌, length, drop, IfOk, OnOk, OnErr, IsTrue, ◌↔◌};
+ghost use Rattle.pitch_fields.specs.Limits.{last_sequence};
 ghost use Rattle.pitch_messages.specs.Raw.{IsRaw};
 ghost use Rattle.unit_packets.specs.BlockBytes.{header_bytes, block_bytes};
 ghost use Rattle.unit_packets.specs.Blocks.{StaysWithin};
@@ -20,8 +21,9 @@ pub const DATAGRAM_SIZE: usize = 1400;
 
 /// Packs messages in their order into datagrams of one block each.
 ///
-/// A message goes into the block that was begun, unless that would then pass 1,400 bytes or 255 messages; then the
-/// block is given out and a new one begun. A datagram's bytes are written once, where they stay.
+/// A message goes into the block that was begun, unless that would then pass 1,400 bytes or 255
+/// messages; then the block is given out and a new one begun. A datagram's bytes are written once,
+/// where they stay.
 #[derive(Drop)]
 pub struct Packer {
     unit: u8,
@@ -82,7 +84,8 @@ fn sequence_after(first: u32, count: u8) -> u32
 }
 
 impl Packer {
-    /// Packs messages of a unit, the first of which has this sequence. Where it is 0, every block has sequence 0.
+    /// Packs messages of a unit, the first of which has this sequence. Where it is 0, every block
+    /// has sequence 0.
     pub fn make(alloc: Global, unit: u8, first: u32) -> Packer
         ensures new { result ≡ unpacked unit first }
         ensures packed { HasPacked result unit first [] [] }
@@ -113,7 +116,7 @@ impl Packer {
     /// Packs a message. Packer and list are as before after OutOfMemory.
     #[inline]
     pub fn push(&mut self, raw: &Raw, out: &mut DatagramList) -> Result<(), OutOfMemory>
-        requires { next_sequence self.old ≤ 4294967294 }
+        requires { next_sequence self.old ≤ last_sequence }
         ensures ok { OnOk result (Pushes self.old raw.now self.new out.old.items out.new.items) }
         ensures err { OnErr result ((self.new ≡ self.old) × (out.new.items ≡ out.old.items)) }
     {
@@ -124,7 +127,7 @@ impl Packer {
     #[inline]
     pub fn push_bytes(&mut self, raw: &[u8], out: &mut DatagramList) -> Result<(), OutOfMemory>
         requires raw { IsRaw raw.now }
-        requires next { next_sequence self.old ≤ 4294967294 }
+        requires next { next_sequence self.old ≤ last_sequence }
         ensures ok { OnOk result (Pushes self.old raw.now self.new out.old.items out.new.items) }
         ensures err { OnErr result ((self.new ≡ self.old) × (out.new.items ≡ out.old.items)) }
     {

@@ -7,8 +7,8 @@ use pitch_fields::OutOfMemory;
 use pitch_messages::Raws;
 use std::alloc::Global;
 
-/// Appends the packed datagrams of messages, the first of which has this sequence; where it is 0, every block has
-/// sequence 0. The list is as before after OutOfMemory.
+/// Appends the packed datagrams of messages, the first of which has this sequence; where it is 0,
+/// every block has sequence 0. The list is as before after OutOfMemory.
 pub fn pack(
     alloc: Global,
     unit: u8,

@@ -31,7 +31,7 @@ fn fault_from(ended: bool, place: u64, error: BlockError) -> Option<BlockFault>
     Some(BlockFault { place, error })
 }
 
-// The fault of the bytes that stand at a place behind the whole blocks.
+// The fault of the bytes at a place after the whole blocks.
 fn fault_in(ended: bool, place: u64, rest: &[u8]) -> Option<BlockFault>
     ensures { result ≡ fault_in ended place rest.now }
 {
@@ -62,7 +62,8 @@ fn push_copy(alloc: Global, view: &BlockView<'_>, out: &mut BlockList) -> Result
     out.push(block)
 }
 
-// Appends the blocks at the front of the bytes. Answers how many bytes they have, and why no block stands behind them.
+// Appends the blocks with which the bytes begin. Answers how many bytes they have, and why no block
+// follows them.
 fn cut_blocks(
     alloc: Global,
     bytes: &[u8],
@@ -92,8 +93,8 @@ fn cut_blocks(
     unreachable!()
 }
 
-/// The rest of a stream that comes in pieces: the bytes that were loaded and not yet passed, and their place in the
-/// stream.
+/// The rest of a stream that comes in pieces: the bytes that were loaded and not yet passed, and
+/// their place in the stream.
 #[derive(Drop)]
 pub struct BlockReader {
     buffer: Vec<u8>,
@@ -131,7 +132,7 @@ impl BlockReader {
         self.place
     }
 
-    /// What was loaded and is not behind.
+    /// The bytes loaded and not yet passed.
     pub fn rest(&self) -> &[u8]
         ensures { result.now ≡ self.now.rest }
     {
@@ -151,7 +152,7 @@ impl BlockReader {
         Ok(())
     }
 
-    /// Puts the first bytes of the rest behind, as a block's whose length this is.
+    /// Passes the first `count` bytes of the rest, the length of a block.
     pub fn pass(&mut self, count: usize)
         requires { count ≤ length self.old.rest }
         ensures { self.new ≡ passed self.old count }
@@ -170,8 +171,9 @@ impl BlockReader {
 
     /// Feeds the next piece of the stream, and appends each block that became whole.
     ///
-    /// The answer is the fault of the stream so far, unless more bytes may mend it; the blocks before it are in `out`, and each
-    /// later call answers it again, appends nothing and keeps nothing of its piece. Reader and list are as before after OutOfMemory.
+    /// The answer is the fault of the stream so far, unless more bytes may mend it; the blocks
+    /// before it are in `out`, and each later call answers it again, appends nothing and keeps
+    /// nothing of its piece. Reader and list are as before after OutOfMemory.
     pub fn feed(&mut self, piece: &[u8], out: &mut BlockList) -> Result<(), FeedError>
         // However the bytes were cut into pieces.
         ensures fed { WithMemory result ((fed : List ℕ) → StandsFor self.old fed → Feeds fed piece.now self.new out.old.items out.new.items result) }
@@ -197,8 +199,8 @@ impl BlockReader {
         }
     }
 
-    /// Ends the stream. Where the rest has bytes and no whole block stands at its front, it is a fault: the one that
-    /// was kept, or that the block is cut off.
+    /// Ends the stream. Where the rest has bytes and no whole block stands at its start, it is a
+    /// fault: the one that was kept, or that the block is cut off.
     pub fn finish(&self) -> Result<(), BlockFault>
         ensures kept { result ≡ ended_answer (fault_in true self.now.place self.now.rest) }
         ensures fed { (fed : List ℕ) → StandsFor self.now fed → result ≡ ended_answer (ended_fault fed) }

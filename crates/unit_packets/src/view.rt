@@ -1,7 +1,7 @@
 ghost use Rattle.std.specs.Prelude.{◌≡◌, length, IfOk, IfErr, Err};
 ghost use Rattle.unit_packets.specs.Blocks.{StaysWithin};
 ghost use Rattle.unit_packets.specs.Judging.{judge};
-ghost use Rattle.unit_packets.specs.Lending.{header_for, StandsAtFront};
+ghost use Rattle.unit_packets.specs.Lending.{header_for, StandsFirst};
 
 use crate::block::Block;
 use crate::header::{BlockError, Header};
@@ -59,10 +59,10 @@ impl<'a> BlockView<'a> {
     }
 }
 
-/// The block at the front of the bytes, or the first fault that stands there, as `read_block` judges it.
-/// It takes no memory.
+/// The block at the start of the bytes, or the first fault that stands there, as `read_block`
+/// judges it. It takes no memory.
 pub fn view_block(bytes: &[u8]) -> Result<BlockView<'_>, BlockError>
-    ensures found { IfOk result (λ block. StandsAtFront bytes.now block) }
+    ensures found { IfOk result (λ block. StandsFirst bytes.now block) }
     ensures fault { IfErr result (λ error. judge bytes.now ≡ Err error) }
 {
     let header = read_block(bytes)?;

@@ -24,7 +24,8 @@ pub(crate) fn header_bytes(header: Header) -> [u8; 8]
     ]
 }
 
-/// The heartbeat of a unit: a header that says which sequence the next sequenced message will have, or 0 for nothing.
+/// The heartbeat of a unit: a header that says which sequence the next sequenced message will have,
+/// or 0 for nothing.
 pub fn heartbeat(unit: u8, next: u32) -> [u8; 8]
     ensures bytes { result ≡ block_bytes (heartbeat_block unit next) }
     ensures block { IsBlock result (heartbeat_block unit next) }

@@ -9,7 +9,7 @@ use Rattle.std.proofs.lemmas.List.Folds.{list_any-append}
 use Rattle.pitch_messages.specs.declared.order.Order.{Order}
 use Rattle.pitch_messages.specs.declared.message.Message.{Message}
 use Rattle.pitch_messages.specs.declared.message.Message.TheVariants.{ReduceLong, ReduceShort}
-use Rattle.pitch_messages.specs.Forms.{add_form, add_message, plain_symbol, short_price, trade_form, trade_message, reduce_message, modify_form, modify_message}
+use Rattle.pitch_messages.specs.Forms.{add_in_form, add_message, plain_symbol, short_price, trade_in_form, trade_message, reduce_message, modify_in_form, modify_message}
 use Rattle.pitch_fields.specs.Fields.{AreBytes}
 use Rattle.pitch_fields.specs.Name.{six_of}
 use Rattle.pitch_messages.specs.Raw.{IsRaw}
@@ -26,17 +26,17 @@ use Rattle.venue_core.specs.Stands.{Stands, last_of}
 use Rattle.venue_core.specs.Waiting.{Waiting, Waits}
 
 -- ---- Which commands end the session
-add_goes_on : (six : Option (List ℕ)) (cents : Option ℕ) (order : Order) (offset : ℕ) → is_end (add_form six cents order offset) ≡ false
+add_goes_on : (six : Option (List ℕ)) (cents : Option ℕ) (order : Order) (offset : ℕ) → is_end (add_in_form six cents order offset) ≡ false
 add_goes_on None cents order offset = refl
 add_goes_on (Some six) (Some cents) order offset = refl
 add_goes_on (Some six) None order offset = refl
 
-trade_goes_on : (six : Option (List ℕ)) (cents : Option ℕ) (order : Order) (execution offset : ℕ) → is_end (trade_form six cents order execution offset) ≡ false
+trade_goes_on : (six : Option (List ℕ)) (cents : Option ℕ) (order : Order) (execution offset : ℕ) → is_end (trade_in_form six cents order execution offset) ≡ false
 trade_goes_on None cents order execution offset = refl
 trade_goes_on (Some six) (Some cents) order execution offset = refl
 trade_goes_on (Some six) None order execution offset = refl
 
-modify_goes_on : (cents : Option ℕ) (id quantity price : ℕ) (display : Bool) (offset : ℕ) → is_end (modify_form cents id quantity price display offset) ≡ false
+modify_goes_on : (cents : Option ℕ) (id quantity price : ℕ) (display : Bool) (offset : ℕ) → is_end (modify_in_form cents id quantity price display offset) ≡ false
 modify_goes_on (Some cents) id quantity price display offset = refl
 modify_goes_on None id quantity price display offset = refl
 

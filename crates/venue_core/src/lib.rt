@@ -1,9 +1,9 @@
 //! The venue of one unit: which commands it accepts, which message each makes, and the datagrams
 //! that it sends.
 //!
-//! A command is accepted exactly where no refusal holds after the messages accepted so far, and is
-//! else refused for the first that holds. What is flushed is the one packing of the messages not yet
-//! sent. Each clause speaks of every list of messages for which the venue stands (`specs/Stands`).
+//! A command is accepted exactly where no refusal holds after the messages accepted so far, else it
+//! is refused for the first that holds. Make a `Venue`, hand it commands by `accept`, and take the
+//! datagrams of what is pending by `flush`, and a heartbeat by `beat`.
 #![tactic(auto)]
 
 mod error;

@@ -2,7 +2,7 @@ use Rattle.std.proofs.Common.{◌++◌, ℕ, List, ap, sym, subst, ◌∙◌, ar
 use Rattle.unit_packets.specs.Blocks.{Block}
 use Rattle.unit_packets.specs.Cutting.{blocks_of}
 use Rattle.unit_packets.specs.Judging.{judge}
-use Rattle.unit_packets.specs.Lending.{StandsAtFront}
+use Rattle.unit_packets.specs.Lending.{StandsFirst}
 use Rattle.unit_packets.specs.declared.header.Header.{Header}
 use Rattle.feed_lines.specs.Texts.{texts_after}
 use Rattle.stream_print.specs.Knowing.{task_form, HasPrinted}
@@ -23,7 +23,7 @@ returns-in_err-print-in-Ok-clause-err g c =
     → PutsSome (g.O.Sink.written c.args.out.now) (g.O.Sink.written c.print.new.out) (c.args.printer.now.page.text ++ texts_after (block_text (task_form c.args.printer.now.task)) before (blocks_of c.args.reader.now.rest)))
     c.from_residual.result
     (λ before known. taking_fails c.args.printer.now c.front.printer c.args.reader.now c.front.reader (g.O.Sink.written c.args.out.now) (g.O.Sink.written c.front.out) (g.O.Sink.written c.print.new.out) before
-    c.in-Ok.block c.front.invariant.taking known (subst (λ (r : List ℕ). StandsAtFront r c.in-Ok.block) c.rest.ensures c.in-Ok.ensures.found) c.in_err-print-in-Ok.ensures.err)
+    c.in-Ok.block c.front.invariant.taking known (subst (λ (r : List ℕ). StandsFirst r c.in-Ok.block) c.rest.ensures c.in-Ok.ensures.found) c.in_err-print-in-Ok.ensures.err)
 
 pub returns-in-Err-clause-prints : goal.returns-in-Err-clause-prints
 returns-in-Err-clause-prints g c =
@@ -34,7 +34,7 @@ pub front-preserved : goal.front-preserved
 front-preserved g c =
     let later = c.front.invariant.later in
     let cause = c.print.ensures.cause.later in
-    let stands = subst (λ (r : List ℕ). StandsAtFront r c.in-Ok.block) c.rest.ensures c.in-Ok.ensures.found in
+    let stands = subst (λ (r : List ℕ). StandsFirst r c.in-Ok.block) c.rest.ensures c.in-Ok.ensures.found in
     record {
       taking = taking_more c.args.printer.now c.front.printer c.print.new.self c.args.reader.now c.front.reader c.pass.new.self
           (g.O.Sink.written c.args.out.now) (g.O.Sink.written c.front.out) (g.O.Sink.written c.print.new.out) c.in-Ok.block c.header.result.length

@@ -1,21 +1,30 @@
-use Rattle.std.proofs.Common.{ℕ, List, sym, ap, subst}
-use Rattle.unit_packets.specs.Blocks.{Block}
-use Rattle.unit_packets.specs.declared.header.Header.{Header}
-use Rattle.pitch_model.specs.History.{Entry, Raw}
+use Rattle.std.proofs.Common.{ℕ, List, subst}
+use Rattle.pitch_model.specs.History.{Raw, Entry}
+use Rattle.pitch_model.specs.Units.{unit_history}
 use Rattle.pitch_model.specs.Heard.{heard_block}
 use Rattle.pitch_model.specs.Honest.{Honest}
-use Rattle.client_core.specs.Blocks.{Carries}
 use Rattle.client_core.specs.Tracks.{Keeps}
 use Rattle.unit_clients.specs.Clients.{KeepsTo}
+use Rattle.unit_clients.proofs.Hearing.{new_client}
 use Rattle.unit_clients.proofs.Results.{on_ok_map}
 use Rattle.unit_clients.proofs.units.hear_at.Goals as goal
 
-pub returns-clause-keeps : goal.returns-clause-keeps
-returns-clause-keeps c =
-    let carries : Carries c.args.block.now c.header.result.sequence c.raws.result =
-    record { sequence_is = sym (ap (λ (h : Header). h.sequence) c.header.ensures); raws_are = sym c.raws.ensures.raws } in
+pub returns-in-Some-clause-keeps : goal.returns-in-Some-clause-keeps
+returns-in-Some-clause-keeps c =
     on_ok_map
-    ((block : Block) → Carries block c.header.result.sequence c.raws.result → (Image : List Raw → ℕ → List Raw) (V : List Raw) (E : List Entry) → Honest Image V (heard_block block E) → Keeps c.in-Some.client V → Keeps c.hear_block.new.self V)
-    ((Image : List Raw → ℕ → List Raw) (V : List Raw) (E : List Entry) → Honest Image V (heard_block c.args.block.now E) → KeepsTo V c.args.slot.now → Keeps c.hear_block.new.self V)
-    c.hear_block.result c.hear_block.ensures.keeps
-    (λ keeps Image V E honest kept. keeps c.args.block.now carries Image V E honest (subst (KeepsTo V) c.in-Some.is kept))
+    ((Image : List Raw → ℕ → List Raw) (V : List Raw) (E : List Entry) → Honest Image V (heard_block c.args.block.now E) → Keeps c.in-Some.client V → Keeps c.hear.new.client V)
+    ((Image : List Raw → ℕ → List Raw) (V : List Raw) (E : List Entry) → Honest Image V (heard_block c.args.block.now E) → KeepsTo V c.args.slot.now → Keeps c.hear.new.client V)
+    c.hear.result c.hear.ensures.keeps
+    (λ keeps Image V E honest kept. keeps Image V E honest (subst (KeepsTo V) c.in-Some.is kept))
+
+pub returns-in_ok-change-in-None-clause-tracks : goal.returns-in_ok-change-in-None-clause-tracks
+returns-in_ok-change-in-None-clause-tracks c = λ before unit stands.
+    c.in_ok-change-in-None.ensures.tracks c.args.limit (unit_history unit before) (new_client c.args.limit c.in_ok-client-in-None.client c.args.slot.now c.in-None.is c.in_ok-client-in-None.ensures.tracks before unit stands)
+
+pub returns-in_ok-change-in-None-clause-keeps : goal.returns-in_ok-change-in-None-clause-keeps
+returns-in_ok-change-in-None-clause-keeps c = λ Image V E honest kept.
+    c.in_ok-change-in-None.ensures.keeps Image V E honest (c.in_ok-client-in-None.ensures.keeps V)
+
+pub returns-in_ok-change-in-None-clause-change : goal.returns-in_ok-change-in-None-clause-change
+returns-in_ok-change-in-None-clause-change c = λ before unit stands.
+    c.in_ok-change-in-None.ensures.change c.args.limit (unit_history unit before) (new_client c.args.limit c.in_ok-client-in-None.client c.args.slot.now c.in-None.is c.in_ok-client-in-None.ensures.tracks before unit stands)

@@ -1,0 +1,11 @@
+-- The limits of the feed's numbers.
+use Rattle.std.specs.Prelude.{ℕ}
+
+-- the last sequence that a message can have: 2^32 - 2, so that the next sequence still has four
+-- bytes
+abbrev pub last_sequence : ℕ
+last_sequence = 4294967294
+
+-- the most messages that a client may hold of those that came too early
+abbrev pub most_held : ℕ
+most_held = 65536

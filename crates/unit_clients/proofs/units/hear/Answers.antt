@@ -1,0 +1,20 @@
+use Rattle.std.proofs.Common.{ℕ, List, sym, ap}
+use Rattle.unit_packets.specs.Blocks.{Block}
+use Rattle.unit_packets.specs.declared.header.Header.{Header}
+use Rattle.pitch_model.specs.History.{Entry, Raw}
+use Rattle.pitch_model.specs.Heard.{heard_block}
+use Rattle.pitch_model.specs.Honest.{Honest}
+use Rattle.client_core.specs.Blocks.{Carries}
+use Rattle.client_core.specs.Tracks.{Keeps}
+use Rattle.unit_clients.proofs.Results.{on_ok_map}
+use Rattle.unit_clients.proofs.units.hear.Goals as goal
+
+pub returns-clause-keeps : goal.returns-clause-keeps
+returns-clause-keeps c =
+    let carries : Carries c.args.block.now c.header.result.sequence c.raws.result =
+    record { sequence_is = sym (ap (λ (h : Header). h.sequence) c.header.ensures); raws_are = sym c.raws.ensures.raws } in
+    on_ok_map
+    ((block : Block) → Carries block c.header.result.sequence c.raws.result → (Image : List Raw → ℕ → List Raw) (V : List Raw) (E : List Entry) → Honest Image V (heard_block block E) → Keeps c.args.client.now V → Keeps c.hear_block.new.self V)
+    ((Image : List Raw → ℕ → List Raw) (V : List Raw) (E : List Entry) → Honest Image V (heard_block c.args.block.now E) → Keeps c.args.client.now V → Keeps c.hear_block.new.self V)
+    c.hear_block.result c.hear_block.ensures.keeps
+    (λ keeps Image V E honest kept. keeps c.args.block.now carries Image V E honest kept)
