@@ -7,11 +7,11 @@ use Rattle.pitch_messages.specs.Room.{Roomy}
 use Rattle.unit_packets.specs.Packing.{bytes_in}
 use Rattle.std.proofs.lemmas.Option.{get_or_from_slice_get, slice_get_within}
 use Rattle.pitch_text.specs.CommandGrammar.{command, command_entry}
-use Rattle.pitch_text.specs.Text.{TextFault, entries_of, items_of, all_of, with_front}
-use Rattle.pitch_text.proofs.TextLemmas.{answer_of, items_answer}
+use Rattle.text_lines.specs.Text.{TextFault, entries_of, items_of, all_of, with_front}
+use Rattle.text_lines.proofs.TextLemmas.{answer_of, items_answer}
 use Rattle.pitch_text.specs.declared.command.Command.{Command}
 use Rattle.pitch_text.specs.declared.command.CommandEntry.{CommandEntry}
-use Rattle.pitch_text.specs.declared.fault.TextError.{TextError}
+use Rattle.text_lines.specs.declared.fault.TextError.{TextError}
 use Rattle.venue_core.specs.Commands.{raw_of}
 use Rattle.venue_core.specs.Refusals.{refusal, IsAnswer}
 use Rattle.venue_core.specs.Standing.{VenueState}

@@ -1,7 +1,7 @@
 -- What accepting commands does.
 use Rattle.std.specs.Prelude.{◌≡◌, ℕ, List, [], ◌∷◌, ◌++◌, None, Some, Result, Ok, Err}
 use Rattle.pitch_text.specs.declared.command.CommandEntry.{CommandEntry}
-use Rattle.pitch_text.specs.declared.fault.TextError.{TextError}
+use Rattle.text_lines.specs.declared.fault.TextError.{TextError}
 use Rattle.venue_core.specs.Commands.{raw_of}
 use Rattle.venue_core.specs.Refusals.{refusal}
 use Rattle.venue_core.specs.Standing.{VenueState}

@@ -1,6 +1,6 @@
 -- The words for why a text of commands makes no feed.
 use Rattle.std.specs.Prelude.{ℕ, List, ◌++◌, codes, decimal}
-use Rattle.pitch_text.specs.Causes.{place_text}
+use Rattle.text_lines.specs.Causes.{place_text}
 use Rattle.venue_core.specs.Causes.{refusal_text}
 use Rattle.command_feed.specs.declared.error.CommandError.{CommandError}
 use Rattle.command_feed.specs.declared.error.CommandError.TheVariants.{Bad, Refused, OutOfMemory}

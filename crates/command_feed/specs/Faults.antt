@@ -1,8 +1,8 @@
 -- An error of a part as an error of the whole.
 use Rattle.std.specs.Prelude.{ℕ, List, Result, Ok, Err}
 use Rattle.pitch_text.specs.declared.command.CommandEntry.{CommandEntry}
-use Rattle.pitch_text.specs.declared.fault.TextError.{TextError}
-use Rattle.pitch_text.specs.declared.fault.TextError.TheVariants as text
+use Rattle.text_lines.specs.declared.fault.TextError.{TextError}
+use Rattle.text_lines.specs.declared.fault.TextError.TheVariants as text
 use Rattle.venue_core.specs.declared.error.VenueError.{VenueError}
 use Rattle.venue_core.specs.declared.error.VenueError.TheVariants as venue
 use Rattle.command_feed.specs.declared.error.CommandError.{CommandError}

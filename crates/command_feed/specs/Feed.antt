@@ -2,7 +2,7 @@
 use Rattle.std.specs.Prelude.{◌≡◌, ℕ, List, [], ◌∷◌, ◌++◌, map, Option, None, Some, Result, Ok, Err}
 use Rattle.std.specs.List.{concat}
 use Rattle.pitch_text.specs.CommandGrammar.{command, command_entry}
-use Rattle.pitch_text.specs.Text.{TextFault, entries_of}
+use Rattle.text_lines.specs.Text.{TextFault, entries_of}
 use Rattle.pitch_text.specs.declared.command.Command.{Command}
 use Rattle.pitch_text.specs.declared.command.CommandEntry.{CommandEntry}
 use Rattle.unit_packets.specs.Packing.{IsPacking, packed}

@@ -1,7 +1,7 @@
 ghost use Rattle.std.specs.Prelude.{◌≡◌, ◌≤◌, ◌++◌, [], ◌⊎◌, List, ℕ, Ok, Err, OnOk, OnErr, IfOk, IfErr, length, take};
 ghost use Rattle.std.specs.List.{concat};
 ghost use Rattle.std.specs.Result.{result_err};
-ghost use Rattle.pitch_text.specs.Text.{all_of};
+ghost use Rattle.text_lines.specs.Text.{all_of};
 ghost use Rattle.unit_packets.specs.Packing.{IsPacking, packed, bytes_in};
 ghost use Rattle.venue_core.specs.Stands.{Stands};
 ghost use Rattle.command_feed.specs.Accepting.{IsAccepted, IsRefused, AcceptsAll, IsVenueAfter, accepted_in};

@@ -20,16 +20,16 @@ use Rattle.pitch_text.specs.declared.verb.Session.{Session}
 use Rattle.pitch_text.specs.declared.verb.Session.TheVariants.{Grp, Spin}
 use Rattle.pitch_text.specs.declared.verb.Verb.{Verb}
 use Rattle.pitch_text.specs.declared.verb.Verb.TheVariants as verbs
-use Rattle.pitch_text.specs.Fields.{Field, Rest, placed, fields_of}
+use Rattle.text_lines.specs.Fields.{Field, Rest, placed, fields_of}
 use Rattle.pitch_fields.specs.Name.{is_printing}
 use Rattle.pitch_fields.specs.Name.{no_participant}
-use Rattle.pitch_text.specs.Kinds.{padded_of, participant_of}
+use Rattle.text_lines.specs.Kinds.{padded_of, participant_of}
 use Rattle.pitch_text.specs.ScheduleGrammar.{entry}
-use Rattle.pitch_text.specs.Text.{line_of, lines_of, said_of, entries_of}
+use Rattle.text_lines.specs.Text.{line_of, lines_of, said_of, entries_of}
 use Rattle.pitch_text.specs.WellFormed.{IsVerb, IsCommand, IsOrder, IsOffset, IsSymbol, IsWellFormed}
 use Rattle.pitch_text.specs.Printing.{verb_words, command_words, number_words, at_words, hidden_words, mpid_words, order_words, name_of, count_word, line_word, session_word, spaced, entry_text}
 use Rattle.pitch_text.proofs.WordLemmas.{is_dark, IsWord, AreWords, fields_words, spaced_length, one_line}
-use Rattle.pitch_text.proofs.KindLemmas.{decimal_digits}
+use Rattle.text_lines.proofs.KindLemmas.{decimal_digits}
 use Rattle.pitch_text.proofs.NameLemmas.{guard_is, name_again, participant_again}
 use Rattle.pitch_text.proofs.VerbLemmas.{left, entry_again}
 
@@ -95,7 +95,7 @@ are_append : (xs ys : List (List ℕ)) → AreWords xs → AreWords ys → AreWo
 are_append [] ys h k = k
 are_append (x ∷ xs) ys h k = (h.0, are_append xs ys h.1 k)
 
--- what is known of the words behind the unit
+-- what is known of the words after the unit
 pub record AreFew (ws : List (List ℕ)) : Type 0 where
   pub words : AreWords ws
   pub few : length ws ≤ 9

@@ -8,11 +8,11 @@ use Rattle.std.proofs.lemmas.List.{length-replicate}
 use Rattle.std.proofs.lemmas.Slice.Eq.{bytes_eq-Decides}
 use Rattle.pitch_fields.specs.Name.{is_blank, is_printing, is_well_formed, no_participant, without_spaces}
 use Rattle.pitch_fields.proofs.Names.{none_blank}
-use Rattle.pitch_text.specs.Kinds.{padded_of, participant_of}
+use Rattle.text_lines.specs.Kinds.{padded_of, participant_of}
 use Rattle.pitch_text.specs.Printing.{name_of}
 use Rattle.pitch_text.specs.WellFormed.{IsParticipant}
 
--- ---- a name, and the spaces behind it
+-- ---- a name, and the spaces after it
 
 plain_no_space : (b : ℕ) → is_printing b ≡ true → eqb b 32 ≡ false
 plain_no_space b h =
@@ -26,7 +26,7 @@ blank_spaces (b ∷ bs) h =
     let p = and_parts (eqb b 32) (is_blank bs) h in
     ap (λ (v : ℕ). v ∷ bs) (eqb-true b 32 p.0) ∙ ap (λ (vs : List ℕ). 32 ∷ vs) (blank_spaces bs p.1)
 
--- a name with spaces behind it, up to the length of the whole
+-- a name with spaces after it, up to the length of the whole
 abbrev IsSplit : List ℕ → List ℕ → Type 0
 IsSplit whole shown = (length shown ≤ length whole) × (shown ++ replicate (length whole - length shown) 32 ≡ whole)
 
@@ -48,7 +48,8 @@ name_more b bs e =
     let one : 1 + position_or_len (λ x. eqb x 32) bs ≡ suc (position_or_len (λ x. eqb x 32) bs) = omega arith in
     rw (e, one) refl
 
--- where each byte of a name before the spaces is a printing one, they are what stands before the first space
+-- where each byte of a name before the spaces is a printing one, they are what stands before the
+-- first space
 name_stands : (s : List ℕ) → list_all is_printing (without_spaces s) ≡ true → name_of s ≡ without_spaces s
 name_stands [] h = refl
 name_stands (b ∷ bs) h = elim (cases_Bool (is_blank (b ∷ bs))) [
@@ -63,7 +64,7 @@ blank_replicate : (k : ℕ) → is_blank (replicate k 32) ≡ true
 blank_replicate zero = refl
 blank_replicate (suc k) = blank_replicate k
 
--- spaces behind printing bytes are dropped, and no others
+-- spaces after printing bytes are dropped, and no others
 spaces_dropped : (bytes : List ℕ) (k : ℕ) → list_all is_printing bytes ≡ true → without_spaces (bytes ++ replicate k 32) ≡ bytes
 spaces_dropped [] zero h = refl
 spaces_dropped [] (suc k) h = cond-true (is_blank (replicate (suc k) 32)) [] (32 ∷ without_spaces (replicate k 32)) (blank_replicate (suc k))

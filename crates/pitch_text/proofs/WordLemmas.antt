@@ -6,11 +6,11 @@ use Rattle.std.proofs.lemmas.List.{append-nil}
 use Rattle.std.proofs.lemmas.List.Splits.{slice_split_none, slice_split_at}
 use Rattle.std.proofs.lemmas.List.Concat.{flat_map-append}
 use Rattle.std.proofs.lemmas.List.Elements.{All-from_recursion}
-use Rattle.pitch_text.specs.Fields.{Field, placed, fields_from}
+use Rattle.text_lines.specs.Fields.{Field, placed, fields_from}
 use Rattle.std.specs.Str.Lines.{strip_carriage_return}
-use Rattle.pitch_text.specs.Text.{lines_of}
+use Rattle.text_lines.specs.Text.{lines_of}
 use Rattle.pitch_text.specs.Printing.{spaced}
-use Rattle.pitch_text.proofs.FieldLemmas.{is_space}
+use Rattle.text_lines.proofs.FieldLemmas.{is_space}
 
 -- a byte above the space
 abbrev pub is_dark : ℕ → Bool

@@ -1,4 +1,5 @@
--- The canonical line of an entry: one space between fields, no field that has its default, no space at either end.
+-- The canonical line of an entry: one space between fields, no field that has its default, no space
+-- at either end.
 use Rattle.std.specs.Prelude.{ℕ, ◌==◌, Bool, nat_eq, List, [], ◌∷◌, ◌++◌, decimal, Option, Some, None, codes, if◌then◌else◌}
 use Rattle.std.specs.List.{flat_map, before_first}
 use Rattle.std.specs.Cmp.Lexicographic.{pointwise}
@@ -17,7 +18,7 @@ use Rattle.pitch_fields.specs.Name.{no_participant}
 
 -- ---- the words of a line
 
--- a name without the spaces behind it
+-- a name without the spaces after it
 abbrev pub name_of : List ℕ → List ℕ
 name_of padded = before_first (λ b. b == 32) padded
 
@@ -97,7 +98,7 @@ verb_words verbs.Tick = codes "tick" ∷ []
 verb_words verbs.Show = codes "show" ∷ []
 verb_words (verbs.Quote symbol) = codes "quote" ∷ name_of symbol ∷ []
 
--- each word with a space in front
+-- each word with a space before it
 abbrev pub spaced : List (List ℕ) → List ℕ
 spaced words = flat_map (λ w. 32 ∷ w) words
 

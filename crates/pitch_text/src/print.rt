@@ -2,19 +2,18 @@ ghost use Rattle.std.specs.Prelude.{◌≡◌, ◌++◌, ◌∷◌, [], OnOk, On
 ghost use Rattle.pitch_fields.specs.Price.{price_digits};
 ghost use Rattle.pitch_text.specs.Printing.{spaced, hidden_words, mpid_words, number_words, order_words, terms_words, setup_words, command_words, verb_words, entry_text, at_words, line_word, session_word, count_word, name_of};
 ghost use Rattle.pitch_text.specs.ScheduleGrammar.{entry as entry_grammar};
-ghost use Rattle.pitch_text.specs.Text.{entries_of};
+ghost use Rattle.text_lines.specs.Text.{entries_of};
 ghost use Rattle.pitch_text.specs.WellFormed.{IsWellFormed};
 
 use crate::command::Command;
-use crate::fields::length_before;
-use crate::lines::LONGEST_LINE;
 use crate::verb::{ScheduleEntry, Session, Verb};
 use pitch_fields::{OutOfMemory, Price, Symbol, number_text, price_text};
 use pitch_io::Line;
 use pitch_messages::Order;
+use text_lines::{LONGEST_LINE, length_before};
 
-/// Appends the canonical line of a well-formed entry, without a line feed: one space between fields, no field
-/// that has its default. After OutOfMemory the text is as before.
+/// Appends the canonical line of a well-formed entry, without a line feed: one space between
+/// fields, no field that has its default. After OutOfMemory the text is as before.
 #[tactic(auto, using(crate::proofs::LineLemmas::text_again))]
 pub fn print_entry(entry: &ScheduleEntry, out: &mut Vec<u8>) -> Result<(), OutOfMemory>
     requires { IsWellFormed entry.now.unit entry.now.verb }
@@ -39,7 +38,7 @@ fn push_line(entry: &ScheduleEntry, out: &mut Vec<u8>) -> Result<(), OutOfMemory
     Ok(())
 }
 
-// The words of a verb, each with a space in front.
+// The words of a verb, each with a space before it.
 #[tactic(auto, using(crate::proofs::WordLemmas::spaced_append))]
 fn push_verb(line: &mut Vec<u8>, verb: &Verb) -> Result<(), OutOfMemory>
     ensures { OnOk result (line.new.items ≡ line.old.items ++ spaced (verb_words verb.now)) }
@@ -89,7 +88,7 @@ fn push_verb(line: &mut Vec<u8>, verb: &Verb) -> Result<(), OutOfMemory>
     }
 }
 
-// The words of a command, each with a space in front.
+// The words of a command, each with a space before it.
 #[tactic(auto, using(crate::proofs::WordLemmas::spaced_append))]
 fn push_command(line: &mut Vec<u8>, command: &Command) -> Result<(), OutOfMemory>
     ensures { OnOk result (line.new.items ≡ line.old.items ++ spaced (command_words command.now)) }
@@ -255,7 +254,7 @@ fn push_named(line: &mut Vec<u8>, name: &[u8], default: u32, number: u32) -> Res
     push_digits(line, u64::from(number))
 }
 
-// ---- single words, each with a space in front
+// ---- single words, each with a space before it
 
 fn push_line_word(line: &mut Vec<u8>, source: Line) -> Result<(), OutOfMemory>
     ensures { OnOk result (line.new.items ≡ line.old.items ++ 32 ∷ line_word source) }
@@ -267,7 +266,7 @@ fn push_line_word(line: &mut Vec<u8>, source: Line) -> Result<(), OutOfMemory>
     }
 }
 
-// A session's word and the one behind it.
+// A session's word and the one after it.
 fn push_session(line: &mut Vec<u8>, session: Session, word: &[u8]) -> Result<(), OutOfMemory>
     ensures { OnOk result (line.new.items ≡ line.old.items ++ spaced (session_word session ∷ word.now ∷ [])) }
 {
@@ -322,7 +321,7 @@ fn push_word(line: &mut Vec<u8>, word: &[u8]) -> Result<(), OutOfMemory>
     Ok(())
 }
 
-// A number in decimal, with no space in front.
+// A number in decimal, without a space before it.
 fn push_digits(line: &mut Vec<u8>, number: u64) -> Result<(), OutOfMemory>
     ensures { OnOk result (line.new.items ≡ line.old.items ++ decimal number) }
 {

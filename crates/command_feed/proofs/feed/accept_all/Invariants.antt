@@ -1,5 +1,5 @@
 use Rattle.std.proofs.Common.{◌≡◌, ℕ, List, length}
-use Rattle.pitch_text.specs.Text.{all_of}
+use Rattle.text_lines.specs.Text.{all_of}
 use Rattle.venue_core.specs.Stands.{Stands}
 use Rattle.command_feed.proofs.Accepted.{TakesSome}
 use Rattle.command_feed.proofs.feed.accept_all.Given as goal

@@ -1,6 +1,6 @@
 use Rattle.std.proofs.Common.{◌≡◌}
 use Rattle.std.specs.Result.{result_err}
-use Rattle.pitch_text.specs.Text.{all_of}
+use Rattle.text_lines.specs.Text.{all_of}
 use Rattle.command_feed.proofs.feed.first_fault.Given as goal
 
 abbrev pub invariant-items : goal.invariant-items

@@ -1,0 +1,4 @@
+pub mod FieldLemmas
+pub mod KindLemmas
+pub mod OptionLemmas
+pub mod TextLemmas

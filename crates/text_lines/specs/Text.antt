@@ -1,0 +1,112 @@
+-- A text as lines, what they say one after another, and its first fault.
+use Rattle.std.specs.Prelude.{◌≡◌, ◌⊎◌, ℕ, ◌+◌, ◌==◌, Bool, true, nat_eq, nat_lt, List, [], ◌∷◌, ◌++◌, length, map, Option, Some, None, Result, Ok, Err, codes, if◌then◌else◌}
+use Rattle.std.specs.List.{slice_split, starts_with, cons_option}
+use Rattle.std.specs.Str.Lines.{strip_carriage_return}
+use Rattle.text_lines.specs.declared.fault.Fault.{Fault}
+use Rattle.text_lines.specs.declared.fault.TextCause.TheVariants.{LongLine}
+use Rattle.text_lines.specs.declared.fault.TextError.{TextError}
+use Rattle.text_lines.specs.declared.fault.TextError.TheVariants as errors
+use Rattle.text_lines.specs.Fields.{Field, Rest, fields_of}
+use Rattle.text_lines.specs.Reading.{LineReading, fault_in_column}
+
+-- ---- one line
+
+-- a line of spaces only, or whose first byte after them is `#`
+abbrev pub is_skipped : List Field → Bool
+is_skipped [] = true
+is_skipped (f ∷ fields) = starts_with nat_eq f.bytes (codes "#")
+
+-- the fault of a line of more than 200 bytes
+abbrev pub too_long : Fault
+too_long = fault_in_column 201 LongLine
+
+-- the leftmost fault of such a line: one that the grammar finds up to column 200, or that it is too
+-- long
+abbrev pub long_fault : {A : Type 0} → Result (A × Rest) Fault → Fault
+long_fault (Ok x) = too_long
+long_fault (Err f) = if nat_lt f.column 201 then f else too_long
+
+-- what was read of a whole line
+abbrev pub value_read : {A : Type 0} → Result (A × Rest) Fault → Result (Option A) Fault
+value_read (Ok x) = Ok (Some x.0)
+value_read (Err f) = Err f
+
+-- what a line says: nothing where it is skipped, or its first fault
+abbrev pub line_of : {A : Type 0} → LineReading A → List ℕ → Result (Option A) Fault
+line_of grammar line =
+    let fields = fields_of line in
+    let read = grammar (record { past = 1; fields = fields }) in
+    if is_skipped fields then (if nat_lt 200 (length line) then Err too_long else Ok None)
+    else if nat_lt 200 (length line) then Err (long_fault read) else value_read read
+
+-- ---- the lines of a text
+
+-- The lines between line feeds, each without one carriage return at its end. An empty part after
+-- the last line feed is skipped like any line of spaces only.
+abbrev pub lines_of : List ℕ → List (List ℕ)
+lines_of text = map strip_carriage_return (slice_split (λ b. b == 10) text)
+
+-- the number of a line, counted from 1, and the fault in it
+pub record TextFault : Type 0 where
+  pub line : ℕ
+  pub fault : Fault
+
+-- what a line with this number says: its entry, or the fault in it; nothing where it is skipped
+abbrev pub said_on : {A : Type 0} → ℕ → Result (Option A) Fault → Option (Result (ℕ × A) TextFault)
+said_on n (Err f) = Some (Err (record { line = n; fault = f }))
+said_on n (Ok None) = None
+said_on n (Ok (Some x)) = Some (Ok (n, x))
+
+-- what the lines from a number on say, one after another; those that are skipped are left out
+abbrev pub said_from : {A : Type 0} → LineReading A → ℕ → List (List ℕ) → List (Result (ℕ × A) TextFault)
+said_from grammar n [] = []
+said_from grammar n (line ∷ lines) = cons_option (said_on n (line_of grammar line)) (said_from grammar (n + 1) lines)
+
+-- what the lines of a text say, each with its number: its entry, or the fault in it. A fault does
+-- not end the list.
+unfoldable pub said_of : {A : Type 0} → LineReading A → List ℕ → List (Result (ℕ × A) TextFault)
+said_of grammar text = said_from grammar 1 (lines_of text)
+
+-- one more before them, or the fault among them
+abbrev pub with_front : {X E : Type 0} → X → Result (List X) E → Result (List X) E
+with_front x (Ok xs) = Ok (x ∷ xs)
+with_front x (Err f) = Err f
+
+-- all of them, or the first fault among them
+abbrev pub all_of : {X E : Type 0} → List (Result X E) → Result (List X) E
+all_of [] = Ok []
+all_of (Ok x ∷ rest) = with_front x (all_of rest)
+all_of (Err f ∷ rest) = Err f
+
+-- what the lines of a text say, each with its number, or the text's first fault
+unfoldable pub entries_of : {A : Type 0} → LineReading A → List ℕ → Result (List (ℕ × A)) TextFault
+entries_of grammar text = all_of (said_of grammar text)
+
+-- a first line without its line end, and the bytes after that: none where the text has no more
+-- lines
+abbrev pub IsFirstLine : List ℕ → List ℕ → List ℕ → Type 0
+IsFirstLine text line behind = (lines_of text ≡ line ∷ lines_of behind) ⊎ ((lines_of text ≡ line ∷ []) × (behind ≡ []))
+
+-- ---- what a call answers
+
+-- the text has no fault, and its entries were appended to a list
+abbrev pub AppendsEntries : {X Y : Type 0} → (X → Y) → Result (List X) TextFault → List Y → List Y → Type 0
+AppendsEntries {X} entry read old new = (xs : List X) × (read ≡ Ok xs) × (new ≡ old ++ map entry xs)
+
+-- a call's error is the text's first fault; want of memory tells nothing of the text
+abbrev pub IsFirstFault : {X : Type 0} → Result (List X) TextFault → TextError → Type 0
+IsFirstFault read errors.OutOfMemory = Unit {0}
+IsFirstFault read (errors.Bad line column cause) = read ≡ Err (record { line = line; fault = fault_in_column column cause })
+
+-- what a line says as a caller sees it: its entry, or the error
+abbrev pub item_of : {X Y : Type 0} → (X → Y) → Result X TextFault → Result Y TextError
+item_of entry (Ok x) = Ok (entry x)
+item_of entry (Err at) = Err (errors.Bad at.line at.fault.column at.fault.cause)
+
+-- what the lines from a number on say, as a caller sees it
+abbrev pub items_from : {A Y : Type 0} → LineReading A → (ℕ × A → Y) → ℕ → List ℕ → List (Result Y TextError)
+items_from grammar entry n text = map (item_of entry) (said_from grammar n (lines_of text))
+
+-- what the lines of a text say, as a caller sees it: an item for each line that is not skipped
+unfoldable pub items_of : {A Y : Type 0} → LineReading A → (ℕ × A → Y) → List ℕ → List (Result Y TextError)
+items_of grammar entry text = map (item_of entry) (said_of grammar text)
