@@ -7,7 +7,7 @@
 #![tactic(auto)]
 
 mod command;
-mod command_forms;
+mod command_rules;
 mod command_text;
 mod options;
 mod print;
@@ -15,7 +15,7 @@ mod schedule_text;
 #[cfg(test)]
 mod tests;
 mod verb;
-mod verb_forms;
+mod verb_rules;
 mod well_formed;
 
 pub use crate::command::{Command, CommandEntry};
