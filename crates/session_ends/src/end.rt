@@ -1,4 +1,4 @@
-ghost use Rattle.std.specs.Prelude.{◌≡◌, ℕ, ◌+◌, ◌≤◌, ◌||◌, Bool, List, ◌++◌, OnOk, OnErr, IfSome, None, Some, is_some, if◌then◌else◌};
+ghost use Rattle.std.specs.Prelude.{◌≡◌, ℕ, ◌+◌, ◌≤◌, ◌||◌, Bool, List, ◌++◌, OnOk, OnErr, IsOk, IfSome, None, Some, is_some, if◌then◌else◌};
 ghost use Rattle.std.specs.List.{list_any};
 ghost use Rattle.unit_packets.specs.Feeding.{fed_fault};
 ghost use Rattle.pitch_messages.specs.declared.session.SessionMessage.{SessionMessage};
@@ -361,6 +361,7 @@ impl End {
         ensures err_closed { OnErr result (self.new.closed ≡ Some (closed_at Memory self.new.inbox.fed)) }
         ensures err_out { OnErr result (out.new.items ≡ out.old.items) }
         ensures shut { IfSome self.old.closed (λ c. self.new ≡ self.old) }
+        ensures shut_ok { IfSome self.old.closed (λ c. IsOk result × (out.new.items ≡ out.old.items)) }
     {
         if self.closed.is_some() {
             return Ok(());
