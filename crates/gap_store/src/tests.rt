@@ -7,8 +7,8 @@ use std::process::Abort;
 fn the_last_are_kept(rt: HostRuntime) {
     let mut store = GapStore::make(rt.alloc(), 200).expect(&rt, "memory");
     assert_eq!(rt; store.first(), None);
-    for sequence in 1..301 {
-        let raw = Raw::from_bytes(&[2, (sequence % 256) as u8]).expect(&rt, "a raw");
+    for sequence in 1..301u32 {
+        let raw = Raw::from_bytes(&[2, sequence.to_le_bytes()[0]]).expect(&rt, "a raw");
         assert!(rt; store.last() < 4294967294);
         store.push(&raw);
     }
@@ -20,6 +20,7 @@ fn the_last_are_kept(rt: HostRuntime) {
     ];
     let mut out = RawList::make(rt.alloc());
     for (first, count, found) in looks {
+        assert!(rt; first >= 1 && count >= 1);
         assert_eq!(rt; store.look(first, count, &mut out).ok(), Some(found));
     }
     assert_eq!(rt; (out.len(), out.get(1)), (2, Some([2, 44].as_slice())));

@@ -155,8 +155,8 @@ fn five_silent_ticks(rt: HostRuntime) {
 // 300 messages over 200 places; the second byte of each is its sequence, modulo 256.
 fn store(rt: &impl Abort, alloc: Global) -> GapStore {
     let mut store = GapStore::make(alloc, 200).expect(rt, "memory");
-    for sequence in 1..301 {
-        let raw = Raw::from_bytes(&[2, (sequence % 256) as u8]).expect(rt, "a raw");
+    for sequence in 1..301u32 {
+        let raw = Raw::from_bytes(&[2, sequence.to_le_bytes()[0]]).expect(rt, "a raw");
         assert!(rt; store.last() < 4294967294);
         store.push(&raw);
     }
