@@ -1,0 +1,4 @@
+pub mod Ends
+pub mod Inboxes
+pub mod Runs
+pub mod Cuts

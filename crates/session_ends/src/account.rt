@@ -1,0 +1,8 @@
+/// Who may log in: a sub id, a user and a password, each with spaces up to its length ("Login
+/// Message").
+#[derive(Clone, Copy, Debug, PartialEq, Eq)]
+pub struct Account {
+    pub sub: [u8; 4],
+    pub user: [u8; 4],
+    pub password: [u8; 10],
+}
