@@ -1,4 +1,4 @@
-ghost use Rattle.std.specs.Prelude.{◌≡◌, ℕ, ◌+◌, ◌≤◌, ◌||◌, Bool, List, ◌++◌, OnOk, OnErr, IfSome, None, Some, is_some, if◌then◌else◌};
+ghost use Rattle.std.specs.Prelude.{◌≡◌, ℕ, ◌+◌, ◌≤◌, ◌||◌, Bool, List, ◌++◌, OnOk, OnErr, IsOk, IfSome, None, Some, is_some, if◌then◌else◌};
 ghost use Rattle.std.specs.List.{list_any};
 ghost use Rattle.unit_packets.specs.Feeding.{fed_fault};
 ghost use Rattle.pitch_messages.specs.declared.session.SessionMessage.{SessionMessage};
@@ -7,8 +7,8 @@ ghost use Rattle.session_ends.specs.Closing.{has_sub, is_theirs, login_status, c
 ghost use Rattle.session_ends.specs.Ending.{EndKnows, Known, known_ticked, tick_bytes, nothing_known};
 ghost use Rattle.session_ends.specs.Inboxes.{HasTaken, TakesPiece};
 ghost use Rattle.session_ends.specs.Items.{closed_at};
-ghost use Rattle.session_ends.specs.Saying.{heard_by, is_login};
-ghost use Rattle.session_ends.specs.Sending.{header_unit, message_bytes, heartbeat_bytes, some_bytes, begins_with_login};
+ghost use Rattle.session_ends.specs.Saying.{heard_by};
+ghost use Rattle.session_ends.specs.Sending.{header_unit, message_bytes, heartbeat_bytes, some_bytes};
 
 use crate::account::Account;
 use crate::closed::{CloseCause, Closed};
@@ -117,46 +117,6 @@ fn either(first: bool, second: bool) -> bool
     ensures { result ≡ (first || second) }
 {
     first || second
-}
-
-impl Role {
-    // The unit in the headers that the end writes.
-    fn header_unit(&self, unit: u8) -> u8
-        ensures { result ≡ header_unit self.now unit }
-    {
-        match *self {
-            Role::GrpServer => 0,
-            Role::GapLink => 0,
-            Role::SpinServer => unit,
-            Role::SpinLink => unit,
-        }
-    }
-
-    // Whether the end has sent a login when it is made.
-    fn begins_with_login(&self) -> bool
-        ensures { result ≡ begins_with_login self.now }
-    {
-        match *self {
-            Role::GrpServer => false,
-            Role::SpinServer => false,
-            Role::GapLink => true,
-            Role::SpinLink => true,
-        }
-    }
-}
-
-impl Said {
-    // A login was said.
-    fn is_login(&self) -> bool
-        ensures { result ≡ is_login self.now }
-    {
-        match self {
-            Said::Message(SessionMessage::Login { .. }) => true,
-            Said::Message(_) => false,
-            Said::Skipped => false,
-            Said::TooShort => false,
-        }
-    }
 }
 
 impl End {
@@ -361,6 +321,7 @@ impl End {
         ensures err_closed { OnErr result (self.new.closed ≡ Some (closed_at Memory self.new.inbox.fed)) }
         ensures err_out { OnErr result (out.new.items ≡ out.old.items) }
         ensures shut { IfSome self.old.closed (λ c. self.new ≡ self.old) }
+        ensures shut_ok { IfSome self.old.closed (λ c. IsOk result × (out.new.items ≡ out.old.items)) }
     {
         if self.closed.is_some() {
             return Ok(());

@@ -1,0 +1,305 @@
+ghost use Rattle.std.specs.Prelude.{◌≡◌, ℕ, ◌||◌, List, [], ◌∷◌, ◌++◌, map, OnOk, OnErr, IsOk, IfOk, IfSome, None, Some};
+ghost use Rattle.std.specs.List.{list_any};
+ghost use Rattle.session_ends.specs.declared.closed.CloseCause.TheVariants.{Memory};
+ghost use Rattle.session_ends.specs.declared.inbox.Heard.{Heard};
+ghost use Rattle.session_ends.specs.Closing.{cause_of, first_cause, logs_in};
+ghost use Rattle.session_ends.specs.Ending.{EndKnows, nothing_known};
+ghost use Rattle.session_ends.specs.Events.{Event, Fed, Ticked, Asked};
+ghost use Rattle.session_ends.specs.Items.{closed_at};
+ghost use Rattle.session_ends.specs.Sending.{sent_at_tick};
+ghost use Rattle.client_links.specs.Linking.{Lookups, NoLookup, link_setup, login_bytes, link_sends, link_tells, LinkStands};
+ghost use Rattle.client_links.specs.Telling.{without_spare, run_of, told_of, tells_on, message_tells, tells};
+
+use crate::items::ItemList;
+use pitch_fields::OutOfMemory;
+use pitch_messages::session::SessionMessage;
+use pitch_messages::{Raw, RawList};
+use pitch_model::Item;
+use session_ends::{Account, Closed, End, Heard, Role, Said};
+use std::alloc::Global;
+use std::marker::Model;
+use std::mem::replace;
+
+// What both links are made of.
+#[derive(Drop)]
+pub(crate) struct Link {
+    alloc: Global,
+    end: End,
+    spin: bool,
+}
+
+impl Model for Link {
+    ghost use Rattle.std.specs.Prelude.{◌≡◌};
+    ghost use Rattle.session_ends.specs.Ending.{Ending};
+    ghost use Rattle.client_links.specs.Telling.{hands_out};
+
+    ghost Value = { Ending };
+
+    ghost view = { λ l. l.end };
+
+    ghost invariant = { λ l. l.spin ≡ hands_out l.end.setup.role };
+}
+
+// Appends what a message tells that does not close a link.
+fn tell(spin: bool, message: &SessionMessage, told: &mut Vec<Item>) -> Result<(), OutOfMemory>
+    ensures { OnOk result (told.new.items ≡ told.old.items ++ told_of spin message.now) }
+{
+    match message {
+        SessionMessage::LoginReply { status } => {
+            if *status != b'A' {
+                return Ok(());
+            }
+            if spin {
+                told.push(Item::SpinUp)?;
+                return Ok(());
+            }
+            told.push(Item::GrpUp)?;
+            Ok(())
+        }
+        SessionMessage::GapReply {
+            sequence,
+            count,
+            status,
+            ..
+        } => {
+            told.push(Item::GapReply {
+                sequence: *sequence,
+                count: *count,
+                status: *status,
+            })?;
+            Ok(())
+        }
+        SessionMessage::SpinAvailable { sequence } => {
+            told.push(Item::Advertised {
+                sequence: *sequence,
+            })?;
+            Ok(())
+        }
+        SessionMessage::SpinReply {
+            sequence,
+            orders,
+            status,
+        } => {
+            told.push(Item::SpinReply {
+                sequence: *sequence,
+                orders: *orders,
+                status: *status,
+            })?;
+            Ok(())
+        }
+        SessionMessage::SpinFinished { sequence } => {
+            told.push(Item::SpinFinished {
+                sequence: *sequence,
+            })?;
+            Ok(())
+        }
+        SessionMessage::Login { .. } => Ok(()),
+        SessionMessage::GapRequest { .. } => Ok(()),
+        SessionMessage::SpinRequest { .. } => Ok(()),
+    }
+}
+
+impl Link {
+    // A link, whose login block it appends. The bytes are as before after OutOfMemory.
+    pub(crate) fn make(
+        alloc: Global,
+        role: Role,
+        unit: u8,
+        account: &Account,
+        out: &mut Vec<u8>,
+    ) -> Result<Link, OutOfMemory>
+        ensures stands { IfOk result (λ link. EndKnows link (nothing_known role)) }
+        ensures setup { IfOk result (λ link. link.setup ≡ link_setup role unit) }
+        ensures says { OnOk result (out.new.items ≡ out.old.items ++ login_bytes role unit account.now) }
+        ensures err { OnErr result (out.new.items ≡ out.old.items) }
+    {
+        let end = End::make(alloc, role, unit, Vec::new(alloc), false);
+        end.put(
+            &SessionMessage::Login {
+                sub: account.sub,
+                user: account.user,
+                password: account.password,
+            },
+            out,
+        )?;
+        Ok(Link {
+            alloc,
+            end,
+            spin: role == Role::SpinLink,
+        })
+    }
+
+    pub(crate) fn closed(&self) -> Option<Closed>
+        ensures { result ≡ self.now.closed }
+    {
+        self.end.closed()
+    }
+
+    // Appends a run of other messages, and begins the next.
+    fn put_run(&self, run: &mut RawList, told: &mut Vec<Item>) -> Result<(), OutOfMemory>
+        ensures told { OnOk result (map without_spare told.new.items ≡ map without_spare told.old.items ++ run_of self.now.setup.role run.old.items) }
+        ensures run { OnOk result (run.new.items ≡ []) }
+    {
+        if run.len() == 0 {
+            return Ok(());
+        }
+        let raws = replace(run, RawList::make(self.alloc));
+        if !self.spin {
+            return Ok(());
+        }
+        told.push(Item::ImageMessages { raws })?;
+        Ok(())
+    }
+
+    // Hears a message that says something.
+    fn hear_message(
+        &self,
+        said: &Said,
+        raw: &Raw,
+        run: &mut RawList,
+        told: &mut Vec<Item>,
+    ) -> Result<(), OutOfMemory>
+        ensures { OnOk result ((rest : List Heard) → map without_spare told.new.items ++ tells_on self.now.setup.role run.new.items rest
+            ≡ map without_spare told.old.items ++ message_tells self.now.setup.role said.now raw.now run.old.items rest) }
+    {
+        match said {
+            Said::Skipped => {
+                run.push(raw)?;
+                Ok(())
+            }
+            Said::TooShort => {
+                self.put_run(run, told)?;
+                Ok(())
+            }
+            Said::Message(message) => {
+                self.put_run(run, told)?;
+                tell(self.spin, message, told)?;
+                Ok(())
+            }
+        }
+    }
+
+    // Hears what the stream says next.
+    fn hear(&self, item: &Heard, run: &mut RawList, told: &mut Vec<Item>) -> Result<(), OutOfMemory>
+        ensures { OnOk result ((rest : List Heard) → map without_spare told.new.items ++ tells_on self.now.setup.role run.new.items rest
+            ≡ map without_spare told.old.items ++ tells_on self.now.setup.role run.old.items (item.now ∷ rest)) }
+    {
+        match item {
+            Heard::Message { raw, .. } => {
+                let said = self.end.said(item);
+                self.hear_message(&said, raw, run, told)?;
+                Ok(())
+            }
+            Heard::BlockEnd => {
+                self.put_run(run, told)?;
+                Ok(())
+            }
+            Heard::Broken(_) => {
+                self.put_run(run, told)?;
+                Ok(())
+            }
+        }
+    }
+
+    // Hears what the stream says, until the link closes.
+    fn hear_all(
+        &mut self,
+        items: &[Heard],
+        run: &mut RawList,
+        told: &mut Vec<Item>,
+    ) -> Result<(), OutOfMemory>
+        requires open { self.old.closed ≡ None }
+        requires no_run { run.old.items ≡ [] }
+        ensures closed { OnOk result (self.new.closed ≡ first_cause self.old.setup self.old.logged items.now) }
+        ensures logged { OnOk result (self.new.closed ≡ None → self.new.logged ≡ (self.old.logged || list_any (logs_in self.old.setup.role) items.now)) }
+        ensures rest { self.new ≡ record self.old { closed = self.new.closed; logged = self.new.logged } }
+        ensures tells { OnOk result (map without_spare told.new.items ++ run_of self.old.setup.role run.new.items ≡ map without_spare told.old.items ++ tells self.old.setup self.old.logged items.now) }
+    {
+        'items: for i in 0..items.len() {
+            self.hear(&items[i], run, told)?;
+            self.end.judge(&items[i]);
+            if self.end.is_closed() {
+                return Ok(());
+            }
+        }
+        Ok(())
+    }
+
+    // Hears a piece while the link is open; what it tells is put into an empty list.
+    fn hear_piece(&mut self, piece: &[u8], told: &mut Vec<Item>) -> Result<(), OutOfMemory>
+        requires open { self.old.closed ≡ None }
+        requires none_told { told.old.items ≡ [] }
+        ensures stands { OnOk result ((es : List (Event Lookups)) → LinkStands self.old es → LinkStands self.new (Fed piece.now NoLookup ∷ es)) }
+        ensures tells { OnOk result ((es : List (Event Lookups)) → LinkStands self.old es → map without_spare told.new.items ≡ link_tells self.old.setup es piece.now) }
+        ensures setup { self.new.setup ≡ self.old.setup }
+    {
+        let mut items: Vec<Heard> = Vec::new(self.alloc);
+        self.end.take(piece, &mut items)?;
+        let mut run = RawList::make(self.alloc);
+        self.hear_all(&items, &mut run, told)?;
+        self.put_run(&mut run, told)?;
+        Ok(())
+    }
+
+    // Takes the next piece of the stream, and appends what it tells the client. After OutOfMemory
+    // `items` is as before, and the link is closed.
+    pub(crate) fn feed(&mut self, piece: &[u8], items: &mut ItemList) -> Result<(), OutOfMemory>
+        ensures stands { OnOk result ((es : List (Event Lookups)) → LinkStands self.old es → LinkStands self.new (Fed piece.now NoLookup ∷ es)) }
+        ensures tells { OnOk result ((es : List (Event Lookups)) → LinkStands self.old es → map without_spare items.new.items ≡ map without_spare items.old.items ++ link_tells self.old.setup es piece.now) }
+        ensures setup { self.new.setup ≡ self.old.setup }
+        ensures err_closed { OnErr result (self.new.closed ≡ Some (closed_at Memory self.new.inbox.fed)) }
+        ensures err_items { OnErr result (items.new.items ≡ items.old.items) }
+        ensures shut { IfSome self.old.closed (λ c. self.new ≡ self.old) }
+        ensures shut_ok { IfSome self.old.closed (λ c. IsOk result × (items.new.items ≡ items.old.items)) }
+    {
+        if self.end.is_closed() {
+            return Ok(());
+        }
+        let mut told: Vec<Item> = Vec::new(self.alloc);
+        match self.hear_piece(piece, &mut told) {
+            Ok(()) => match items.append(told) {
+                Ok(()) => return Ok(()),
+                Err(_) => {}
+            },
+            Err(_) => {}
+        }
+        self.end.fail();
+        Err(OutOfMemory)
+    }
+
+    // Sends a request, unless the link is closed. All is as before after OutOfMemory.
+    pub(crate) fn ask(
+        &mut self,
+        request: &SessionMessage,
+        out: &mut Vec<u8>,
+    ) -> Result<(), OutOfMemory>
+        ensures stands { OnOk result ((es : List (Event Lookups)) → LinkStands self.old es → LinkStands self.new (Asked request.now ∷ es)) }
+        ensures says { OnOk result ((es : List (Event Lookups)) → LinkStands self.old es → out.new.items ≡ out.old.items ++ link_sends self.old.setup (Asked request.now) es) }
+        ensures setup { self.new.setup ≡ self.old.setup }
+        ensures err { OnErr result ((self.new ≡ self.old) × (out.new.items ≡ out.old.items)) }
+        ensures shut { IfSome self.old.closed (λ c. IsOk result × ((self.new ≡ self.old) × (out.new.items ≡ out.old.items))) }
+    {
+        if self.end.is_closed() {
+            return Ok(());
+        }
+        let mut said = Vec::new(self.alloc);
+        self.end.put(request, &mut said)?;
+        out.extend_from_slice(&said)?;
+        self.end.note_sent(&said);
+        Ok(())
+    }
+
+    // A second passes.
+    pub(crate) fn tick(&mut self, out: &mut Vec<u8>) -> Result<(), OutOfMemory>
+        ensures stands { OnOk result ((es : List (Event Lookups)) → LinkStands self.old es → LinkStands self.new (Ticked ∷ es)) }
+        ensures says { OnOk result ((es : List (Event Lookups)) → LinkStands self.old es → out.new.items ≡ out.old.items ++ sent_at_tick (link_sends self.old.setup) self.old.setup es) }
+        ensures setup { self.new.setup ≡ self.old.setup }
+        ensures err_closed { OnErr result (self.new.closed ≡ Some (closed_at Memory self.new.inbox.fed)) }
+        ensures err_out { OnErr result (out.new.items ≡ out.old.items) }
+        ensures shut { IfSome self.old.closed (λ c. self.new ≡ self.old) }
+        ensures shut_ok { IfSome self.old.closed (λ c. IsOk result × (out.new.items ≡ out.old.items)) }
+    {
+        self.end.tick(out)?;
+        Ok(())
+    }
+}

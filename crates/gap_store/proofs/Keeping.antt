@@ -1,0 +1,106 @@
+-- The last messages of a growing list.
+use Rattle.std.proofs.Common.{◌≡◌, ℕ, zero, suc, ◌+◌, ◌-◌, ◌<◌, ◌≤◌, List, [], ◌∷◌, ◌++◌, length, take, drop, refl, sym, ap, ◌∙◌, arith, length-append, append_assoc, Some, None, slice_get, nat_lt, nat_eq}
+use Rattle.std.proofs.lemmas.List.{length-drop, drop-drop, append-nil, take_more}
+use Rattle.std.proofs.lemmas.Option.{slice_get_within, get_or_from_slice_get}
+use Rattle.std.proofs.lemmas.Bool.{cond-true, cond-false, lt-ltb, le-ltb, ne_eqb, eq-eqb}
+use Rattle.circular_buffer.proofs.Places.{slice_get-drop}
+use Rattle.gap_store.specs.declared.found.Found.{Found}
+use Rattle.gap_store.specs.declared.found.Found.TheVariants.{Kept, Ahead, NotKept}
+use Rattle.circular_buffer.specs.Buffer.{keep_last}
+use Rattle.gap_store.specs.Look.{View, Store, store_of, first_kept, look, given, oldest, LooksAt}
+
+pub drop_append : {A : Type 0} (n : ℕ) (xs ys : List A) → n ≤ length xs → drop n (xs ++ ys) ≡ drop n xs ++ ys
+drop_append zero xs ys le = refl
+drop_append (suc n) [] ys le = absurd (omega arith)
+drop_append (suc n) (x ∷ xs) ys le = drop_append n xs ys (omega arith)
+
+pub keep_push : (n : ℕ) (xs : List (List ℕ)) (x : List ℕ) → keep_last n (keep_last n xs ++ x ∷ []) ≡ keep_last n (xs ++ x ∷ [])
+keep_push n xs x =
+    let k : ℕ = length xs - n in
+    let e : keep_last n xs ++ x ∷ [] ≡ drop k (xs ++ x ∷ []) = sym (drop_append k xs (x ∷ []) (omega arith)) in
+    ap (keep_last n) e ∙ drop-drop (length (drop k (xs ++ x ∷ [])) - n) k (xs ++ x ∷ [])
+    ∙ ap (λ (m : ℕ). drop m (xs ++ x ∷ [])) (omega (arith, length-drop k (xs ++ x ∷ []), length-append xs (x ∷ [])))
+
+abbrev store : List (List ℕ) → ℕ → ℕ → Store
+store items room pushed = record { items = items; room = room; pushed = pushed }
+
+pub pushed_on : (v : View) (old new : Store) (x : List ℕ) → old ≡ store_of v → new.items ≡ keep_last old.room (old.items ++ x ∷ []) → new.room ≡ old.room → new.pushed ≡ old.pushed + 1
+    → new ≡ store_of (record { messages = v.messages ++ x ∷ []; kept = v.kept })
+pushed_on v old new x is items room pushed =
+    let r : old.room ≡ v.kept = ap (λ (s : Store). s.room) is in
+    let i : new.items ≡ keep_last v.kept (v.messages ++ x ∷ []) =
+    items ∙ ap (λ (m : ℕ). keep_last m (old.items ++ x ∷ [])) r ∙ ap (λ (s : Store). keep_last v.kept (s.items ++ x ∷ [])) is ∙ keep_push v.kept v.messages x in
+    let p : new.pushed ≡ length (v.messages ++ x ∷ []) = omega (arith, pushed, ap (λ (s : Store). s.pushed) is, length-append v.messages (x ∷ [])) in
+    ap (λ (a : List (List ℕ)). store a new.room new.pushed) i
+    ∙ ap (λ (m : ℕ). store (keep_last v.kept (v.messages ++ x ∷ [])) m new.pushed) (room ∙ r)
+    ∙ ap (λ (m : ℕ). store (keep_last v.kept (v.messages ++ x ∷ [])) v.kept m) p
+
+pub none_past : (xs : List (List ℕ)) (i : ℕ) → i < length xs → slice_get xs i ≡ None → ⊥
+none_past [] i lt none = omega arith
+none_past (x ∷ xs) zero lt none = cc
+none_past (x ∷ xs) (suc i) lt none = none_past xs i (omega arith) none
+
+pub copies_more : (items before so_far so_far' : List (List ℕ)) (at i : ℕ) (x : List ℕ) → so_far ≡ before ++ take i (drop at items) → slice_get items (at + i) ≡ Some x → so_far' ≡ so_far ++ x ∷ []
+    → so_far' ≡ before ++ take (i + 1) (drop at items)
+copies_more items before so_far so_far' at i x are there more =
+    let here : slice_get (drop at items) i ≡ Some x = slice_get-drop at items i (at + i) refl ∙ there in
+    let lt : i < length (drop at items) = slice_get_within (drop at items) i x here in
+    more ∙ ap (λ (l : List (List ℕ)). l ++ x ∷ []) are ∙ append_assoc before (take i (drop at items)) (x ∷ [])
+    ∙ ap (λ (y : List ℕ). before ++ (take i (drop at items) ++ y ∷ [])) (sym (get_or_from_slice_get (drop at items) i x x here))
+    ∙ ap (λ (l : List (List ℕ)). before ++ l) (sym (take_more (drop at items) i x lt))
+
+looks_by : (v : View) (s : Store) (first count : ℕ) (found : Found) (before after : List (List ℕ)) → s ≡ store_of v → 1 ≤ s.room → found ≡ look v first count → after ≡ before ++ given found v first count
+    → LooksAt (λ w. s ≡ store_of w) v first count found before after
+looks_by v s first count found before after is fits answer there = record {
+  now = v;
+  later = record { more = []; messages = sym (append-nil v.messages); kept = refl };
+  shows = is;
+  answer = answer;
+  given = there ∙ ap (λ (f : Found). before ++ given f v first count) answer;
+}
+
+pub looks_ahead : (v : View) (s : Store) (first count last : ℕ) (before : List (List ℕ)) → s ≡ store_of v → 1 ≤ s.room → last ≡ s.pushed → s.pushed < first + count - 1
+    → LooksAt (λ w. s ≡ store_of w) v first count (Ahead last) before before
+looks_ahead v s first count last before is fits same past =
+    let p : s.pushed ≡ length v.messages = ap (λ (t : Store). t.pushed) is in
+    looks_by v s first count (Ahead last) before before is fits
+    (ap Ahead (same ∙ p) ∙ sym (cond-true (nat_lt (length v.messages) (first + count - 1)) _ _ (lt-ltb (length v.messages) (first + count - 1) (omega arith))))
+    (sym (append-nil before))
+
+pub looks_behind : (v : View) (s : Store) (first count least : ℕ) (before : List (List ℕ)) → s ≡ store_of v → 1 ≤ s.room → least ≡ s.pushed - length s.items + 1 → first + count - 1 ≤ s.pushed → first < least
+    → 1 ≤ count → 1 ≤ first → LooksAt (λ w. s ≡ store_of w) v first count (NotKept least) before before
+looks_behind v s first count least before is fits same there gone one some =
+    let p : s.pushed ≡ length v.messages = ap (λ (t : Store). t.pushed) is in
+    let r : s.room ≡ v.kept = ap (λ (t : Store). t.room) is in
+    let k : length s.items ≡ length v.messages - (length v.messages - v.kept) = ap (λ (t : Store). length t.items) is ∙ length-drop (length v.messages - v.kept) v.messages in
+    let e : least ≡ oldest v = omega (arith, r) in
+    looks_by v s first count (NotKept least) before before is fits
+    (ap NotKept e ∙ sym (cond-false (nat_lt (length v.messages) (first + count - 1)) _ _ (le-ltb (length v.messages) (first + count - 1) (omega arith))
+    ∙ cond-true (nat_lt first (oldest v)) _ _ (lt-ltb first (oldest v) (omega arith))))
+    (sym (append-nil before))
+
+pub looks_kept : (v : View) (s : Store) (first count at : ℕ) (before after : List (List ℕ)) → s ≡ store_of v → 1 ≤ s.room → first + count - 1 ≤ s.pushed → s.pushed - length s.items + 1 ≤ first → at ≡ first - (s.pushed - length s.items + 1)
+    → 1 ≤ count → 1 ≤ first → after ≡ before ++ take count (drop at s.items) → LooksAt (λ w. s ≡ store_of w) v first count Kept before after
+looks_kept v s first count at before after is fits there kept place one some copied =
+    let p : s.pushed ≡ length v.messages = ap (λ (t : Store). t.pushed) is in
+    let r : s.room ≡ v.kept = ap (λ (t : Store). t.room) is in
+    let k : length s.items ≡ length v.messages - (length v.messages - v.kept) = ap (λ (t : Store). length t.items) is ∙ length-drop (length v.messages - v.kept) v.messages in
+    let from : drop at s.items ≡ drop (first - 1) v.messages =
+    ap (λ (t : Store). drop at t.items) is ∙ drop-drop at (length v.messages - v.kept) v.messages ∙ ap (λ (m : ℕ). drop m v.messages) (omega (arith, r)) in
+    looks_by v s first count Kept before after is fits
+    (sym (cond-false (nat_lt (length v.messages) (first + count - 1)) _ _ (le-ltb (length v.messages) (first + count - 1) (omega arith))
+    ∙ cond-false (nat_lt first (oldest v)) _ _ (le-ltb first (oldest v) (omega arith))))
+    (copied ∙ ap (λ (l : List (List ℕ)). before ++ take count l) from)
+
+pub first_is : (s : Store) (v : View) (n : ℕ) → s ≡ store_of v → 1 ≤ s.room → 0 < s.pushed → n ≡ s.pushed - length s.items + 1 → Some n ≡ first_kept v
+first_is s v n is fits some e =
+    let p : s.pushed ≡ length v.messages = ap (λ (t : Store). t.pushed) is in
+    let r : s.room ≡ v.kept = ap (λ (t : Store). t.room) is in
+    let k : length s.items ≡ length v.messages - (length v.messages - v.kept) = ap (λ (t : Store). length t.items) is ∙ length-drop (length v.messages - v.kept) v.messages in
+    let o : n ≡ oldest v = omega (arith, r) in
+    ap Some o ∙ sym (cond-false (nat_eq (length v.messages) 0) _ _ (ne_eqb (length v.messages) 0 (λ z. omega arith)))
+
+pub first_none : (s : Store) (v : View) → s ≡ store_of v → s.pushed ≡ 0 → None ≡ first_kept v
+first_none s v is none =
+    let z : length v.messages ≡ 0 = sym (ap (λ (t : Store). t.pushed) is) ∙ none in
+    sym (cond-true (nat_eq (length v.messages) 0) _ _ (eq-eqb (length v.messages) 0 z))

@@ -1,0 +1,41 @@
+ghost use Rattle.std.specs.Prelude.{◌≡◌, ℕ, ◌+◌, ◌≤◌, Bool, true, List, length, OnErr, OnOk, IfOk};
+ghost use Rattle.gap_store.specs.Look.{View, LooksAt};
+
+use pitch_fields::OutOfMemory;
+use pitch_messages::RawList;
+
+/// What became of a look-up.
+#[derive(Clone, Copy, Debug, PartialEq, Eq)]
+pub enum Found {
+    /// The messages of the range were appended.
+    Kept,
+    /// The range ends above the last message, which has this sequence.
+    Ahead { last: u32 },
+    /// The range begins below the oldest message that is kept, which has this sequence.
+    NotKept { first: u32 },
+}
+
+/// Where messages of a unit can be looked up by their sequences.
+pub trait GapLookup {
+    /// Which messages so far, and how many of the last are kept, it may be seen as. They only grow.
+    ghost shows: { Self → View → Type 0 };
+
+    /// Whether nobody else pushes there: then a look-up leaves it as it was.
+    ghost still: { Bool };
+
+    /// Looks up `count` messages from the sequence `first` on, and appends them where all are kept.
+    /// Both numbers are at least 1. The answer is that of what is to be seen after the call. `out`
+    /// is as before after all but Kept.
+    fn look(&mut self, first: u32, count: u16, out: &mut RawList) -> Result<Found, OutOfMemory>
+        requires first { 1 ≤ first }
+        requires count { 1 ≤ count }
+        // Of every view that it shows before: the answer is right at a view that it shows after,
+        // which is no earlier.
+        ensures found { IfOk result (λ found. (v : View) → shows self.old v → LooksAt (shows self.new) v first count found out.old.items out.new.items) }
+        // A range ends at the last sequence that a message can have.
+        ensures within { OnOk result (first + length out.new.items ≤ 4294967295 + length out.old.items) }
+        ensures err { OnErr result (out.new.items ≡ out.old.items) }
+        ensures same { still ≡ true → self.new ≡ self.old }
+        // Of every view that it showed before: without memory it shows the same.
+        ensures shown { OnErr result ((v : View) → shows self.old v → shows self.new v) };
+}

@@ -1,0 +1,132 @@
+ghost use Rattle.std.specs.Prelude.{◌≡◌, ℕ, ◌+◌, ◌-◌, ◌≤◌, ◌<◌, List, [], ◌∷◌, ◌++◌, true, OnErr, IfOk, length, take, drop};
+ghost use Rattle.gap_store.specs.Look.{View, LooksAt, Store, store_of, first_kept};
+
+use crate::found::{Found, GapLookup};
+use circular_buffer::HeapCircularBuffer;
+use pitch_fields::OutOfMemory;
+use pitch_messages::{Raw, RawList};
+use std::alloc::Global;
+use std::marker::Model;
+
+/// The last messages of a unit, in their order. All memory is taken when the store is made.
+#[derive(Drop)]
+pub struct GapStore {
+    ring: HeapCircularBuffer<Raw>,
+    pushed: u32,
+}
+
+impl Model for GapStore {
+    ghost use Rattle.std.specs.Prelude.{◌≡◌, ◌≤◌, length, min};
+    ghost use Rattle.gap_store.specs.Look.{Store};
+
+    ghost Value = { Store };
+
+    ghost view = { λ s. record { items = s.ring.items; room = s.ring.capacity; pushed = s.pushed } };
+
+    ghost invariant = { λ s. (length s.ring.items ≡ min s.pushed s.ring.capacity) × (1 ≤ s.ring.capacity) × (s.pushed ≤ 4294967294) };
+}
+
+// Appends so many messages of the ring from a place on. The list is as before after OutOfMemory.
+fn copy_out(
+    ring: &HeapCircularBuffer<Raw>,
+    at: usize,
+    count: u16,
+    out: &mut RawList,
+) -> Result<(), OutOfMemory>
+    requires { at + count ≤ length ring.now.items }
+    ensures ok { IfOk result (λ _. out.new.items ≡ out.old.items ++ take count (drop at ring.now.items)) }
+    ensures err { OnErr result (out.new.items ≡ out.old.items) }
+{
+    let before = out.len();
+    let held = ring.len();
+    prove!(at + count as usize <= held);
+    'copies: for i in 0..count {
+        let Some(raw) = ring.get(at + i as usize) else {
+            unreachable!();
+        };
+        match out.push(raw) {
+            Ok(()) => {}
+            Err(error) => {
+                out.truncate(before);
+                return Err(error);
+            }
+        }
+    }
+    Ok(())
+}
+
+impl GapStore {
+    /// An empty store, with all its memory.
+    ///
+    /// It keeps the last `kept` messages, at least 1 and at most 65,536.
+    pub fn make(alloc: Global, kept: u32) -> Result<GapStore, OutOfMemory>
+        requires least { 1 ≤ kept }
+        requires most { kept ≤ 65536 }
+        ensures { IfOk result (λ store. store ≡ store_of (record { messages = []; kept = kept })) }
+    {
+        let ring = HeapCircularBuffer::with_capacity(alloc, kept as usize)?;
+        Ok(GapStore { ring, pushed: 0 })
+    }
+
+    /// Appends the next message of the unit. Where the store is full, the oldest goes. It takes no
+    /// memory.
+    ///
+    /// Fewer than 4,294,967,294 messages may have been pushed before, as [`GapStore::last`] tells.
+    #[tactic(auto, using(crate::proofs::Keeping::pushed_on))]
+    pub fn push(&mut self, raw: &Raw)
+        requires { self.old.pushed < 4294967294 }
+        // Of all messages of which the store kept the last: it keeps the last of them with this
+        // one.
+        ensures { (v : View) → self.old ≡ store_of v → self.new ≡ store_of (record { messages = v.messages ++ raw.now ∷ []; kept = v.kept }) }
+    {
+        let _ = self.ring.push_back(raw.copy());
+        self.pushed += 1;
+    }
+
+    // The sequence of the oldest message that is kept; 1 before the first message.
+    fn oldest(&self) -> u32
+        ensures { result ≡ self.now.pushed - length self.now.items + 1 }
+    {
+        self.pushed - self.ring.len() as u32 + 1
+    }
+
+    /// The sequence of the oldest message that is kept, or None exactly where nothing was pushed.
+    pub fn first(&self) -> Option<u32>
+        // Of all messages of which the store keeps the last.
+        ensures { (v : View) → self.now ≡ store_of v → result ≡ first_kept v }
+    {
+        if self.pushed == 0 {
+            return None;
+        }
+        Some(self.oldest())
+    }
+
+    /// How many messages were pushed so far, which is the sequence of the last one.
+    pub fn last(&self) -> u32
+        // Of all messages of which the store keeps the last: how many they are.
+        ensures last { (v : View) → self.now ≡ store_of v → result ≡ length v.messages }
+        ensures pushed { result ≡ self.now.pushed }
+        ensures within { result ≤ 4294967294 }
+    {
+        self.pushed
+    }
+}
+
+impl GapLookup for GapStore {
+    ghost shows = { λ s v. s ≡ store_of v };
+
+    ghost still = { true };
+
+    fn look(&mut self, first: u32, count: u16, out: &mut RawList) -> Result<Found, OutOfMemory> {
+        let last = first as u64 + count as u64 - 1;
+        if last > self.pushed as u64 {
+            return Ok(Found::Ahead { last: self.pushed });
+        }
+        let oldest = self.oldest();
+        if first < oldest {
+            return Ok(Found::NotKept { first: oldest });
+        }
+        copy_out(&self.ring, (first - oldest) as usize, count, out)?;
+        Ok(Found::Kept)
+    }
+}

@@ -1,0 +1,27 @@
+use crate::{Found, GapLookup, GapStore};
+use pitch_messages::{Raw, RawList};
+use std::process::Abort;
+
+// 300 messages over 200 places; the second byte of each is its sequence, modulo 256.
+#[test]
+fn the_last_are_kept(rt: HostRuntime) {
+    let mut store = GapStore::make(rt.alloc(), 200).expect(&rt, "memory");
+    assert_eq!(rt; store.first(), None);
+    for sequence in 1..301u32 {
+        let raw = Raw::from_bytes(&[2, sequence.to_le_bytes()[0]]).expect(&rt, "a raw");
+        assert!(rt; store.last() < 4294967294);
+        store.push(&raw);
+    }
+    assert_eq!(rt; (store.first(), store.last()), (Some(101), 300));
+    let looks = [
+        (299, 2, Found::Kept),
+        (300, 2, Found::Ahead { last: 300 }),
+        (100, 1, Found::NotKept { first: 101 }),
+    ];
+    let mut out = RawList::make(rt.alloc());
+    for (first, count, found) in looks {
+        assert!(rt; first >= 1 && count >= 1);
+        assert_eq!(rt; store.look(first, count, &mut out).ok(), Some(found));
+    }
+    assert_eq!(rt; (out.len(), out.get(1)), (2, Some([2, 44].as_slice())));
+}

@@ -1,0 +1,96 @@
+-- Answers to gap requests.
+use Rattle.std.proofs.Common.{◌≡◌, ℕ, ◌<◌, ◌≤◌, Bool, true, false, cond, ◌||◌, List, [], ◌++◌, refl, sym, ap, ◌∙◌, arith, subst, append_assoc, Option, Some, None, nat_eq, nat_lt, unwrap_or}
+use Rattle.std.proofs.lemmas.List.{append-nil}
+use Rattle.std.proofs.lemmas.Bool.{ne_eqb, cond-true, cond-false, lt-ltb, le-ltb}
+use Rattle.unit_packets.specs.Packing.{packed}
+use Rattle.gap_store.specs.Look.{View, IsLater, look, slice_of, given, LooksAt}
+use Rattle.gap_store.specs.declared.found.Found.{Found}
+use Rattle.gap_store.specs.declared.found.Found.TheVariants.{Kept}
+use Rattle.session_ends.proofs.Runs.{IsOrder}
+use Rattle.grp_session.specs.Budget.{Limits, Spent, limit_reached, spending}
+use Rattle.grp_session.specs.Asking.{status_found, status_here, IsAsked}
+
+later_same : (v : View) → IsLater v v
+later_same v = record { more = []; messages = sym (append-nil v.messages); kept = refl }
+
+later_then : (a b c : View) → IsLater a b → IsLater b c → IsLater a c
+later_then a b c p q = record {
+  more = p.more ++ q.more;
+  messages = q.messages ∙ ap (λ (x : List (List ℕ)). x ++ q.more) p.messages ∙ append_assoc a.messages p.more q.more;
+  kept = q.kept ∙ p.kept;
+}
+
+pub later_order : IsOrder IsLater
+later_order = record { same = later_same; then = later_then }
+
+-- ---- The first status that applies
+pub status_there : (l : Limits) (view : View) (spent : Spent) (sequence count : ℕ) → 85 ≡ status_here false l view spent sequence count
+unfolding status_here
+status_there l view spent sequence count = refl
+
+pub status_count : (l : Limits) (view : View) (spent : Spent) (sequence count : ℕ) → 100 < count → 67 ≡ status_here true l view spent sequence count
+unfolding status_here
+status_count l view spent sequence count lt = sym (cond-true (nat_lt 100 count) _ _ (lt-ltb 100 count lt))
+
+pub status_range : (l : Limits) (view : View) (spent : Spent) (sequence count : ℕ) → count ≤ 100 → ((nat_eq count 0) || (nat_eq sequence 0)) ≡ true → 79 ≡ status_here true l view spent sequence count
+unfolding status_here
+status_range l view spent sequence count le z = sym (cond-false (nat_lt 100 count) _ _ (le-ltb 100 count le) ∙ cond-true ((nat_eq count 0) || (nat_eq sequence 0)) _ _ z)
+
+status_look : (l : Limits) (view : View) (spent : Spent) (sequence count : ℕ) → count ≤ 100 → 1 ≤ count → 1 ≤ sequence → status_found l spent (look view sequence count) ≡ status_here true l view spent sequence count
+unfolding status_here
+status_look l view spent sequence count le one some =
+    sym (cond-false (nat_lt 100 count) _ _ (le-ltb 100 count le)
+    ∙ ap (λ (b : Bool). cond (b || nat_eq sequence 0) 79 (status_found l spent (look view sequence count))) (ne_eqb count 0 (λ e. omega arith))
+    ∙ cond-false (nat_eq sequence 0) _ _ (ne_eqb sequence 0 (λ e. omega arith)))
+
+-- ---- Requests
+-- a refusal that needs no look-up
+pub asked_plain : (unit : ℕ) (there there' : Bool) (l : Limits) (sequence count status : ℕ) (spent : Spent) (view : View) (counted : Spent → Type 0) (shown : View → Type 0) (lines : List (List ℕ))
+    → counted spent → shown view → there ≡ there' → status ≡ status_here there' l view spent sequence count → nat_eq status 65 ≡ false → IsAsked unit there l sequence count spent view status counted shown lines lines
+asked_plain unit there there' l sequence count status spent view counted shown lines c s same is other = record {
+  now = view;
+  later = later_same view;
+  shows = s;
+  answer = is ∙ ap (λ (b : Bool). status_here b l view spent sequence count) (sym same);
+  lines = sym (append-nil lines) ∙ ap (λ (b : Bool). lines ++ cond b (packed unit sequence (slice_of view sequence count)) []) (sym other);
+  counts = subst counted (ap (λ (b : Bool). cond b (spending spent) spent) (sym other)) c;
+}
+
+some_not : (b c d : Bool) (status : ℕ) → cond b (Some 68) (cond c (Some 77) (cond d (Some 83) None)) ≡ Some status → nat_eq status 65 ≡ false
+some_not true c d status is = let e : 68 ≡ status = cc in ap (λ (n : ℕ). nat_eq n 65) (sym e)
+some_not false true d status is = let e : 77 ≡ status = cc in ap (λ (n : ℕ). nat_eq n 65) (sym e)
+some_not false false true status is = let e : 83 ≡ status = cc in ap (λ (n : ℕ). nat_eq n 65) (sym e)
+some_not false false false status is = cc
+
+-- one that was looked up, and whose range is then in a list that was empty
+module _ (unit : ℕ) (there : Bool) (l : Limits) (sequence count : ℕ) (spent : Spent) (view : View) (shown : View → Type 0) (none range : List (List ℕ)) (found : Found) (is_there : there ≡ true)
+    (le : count ≤ 100) (one : 1 ≤ count) (some : 1 ≤ sequence) (looks : LooksAt shown view sequence count found none range) where
+  answer_is : (status : ℕ) → status ≡ status_found l spent found → status ≡ status_here there l looks.now spent sequence count
+  answer_is status is = is ∙ ap (status_found l spent) looks.answer ∙ status_look l looks.now spent sequence count le one some ∙ ap (λ (b : Bool). status_here b l looks.now spent sequence count) (sym is_there)
+
+  pub asked_refused : (status : ℕ) (counted : Spent → Type 0) (lines : List (List ℕ)) → status ≡ status_found l spent found → nat_eq status 65 ≡ false → counted spent → IsAsked unit there l sequence count spent view status counted shown lines lines
+  asked_refused status counted lines is other c = record {
+    now = looks.now;
+    later = looks.later;
+    shows = looks.shows;
+    answer = answer_is status is;
+    lines = sym (append-nil lines) ∙ ap (λ (b : Bool). lines ++ cond b (packed unit sequence (slice_of looks.now sequence count)) []) (sym other);
+    counts = subst counted (ap (λ (b : Bool). cond b (spending spent) spent) (sym other)) c;
+  }
+
+  pub asked_limited : (status : ℕ) (counted : Spent → Type 0) (lines : List (List ℕ)) → found ≡ Kept → Some status ≡ limit_reached l spent → counted spent → IsAsked unit there l sequence count spent view status counted shown lines lines
+  asked_limited status counted lines is refused c =
+      asked_refused status counted lines (ap (λ (o : Option ℕ). unwrap_or o 65) refused ∙ sym (ap (status_found l spent) is)) (some_not _ _ _ status (sym refused)) c
+
+  pub asked_taken : (counted : Spent → Type 0) (lines lines' : List (List ℕ)) → found ≡ Kept → None ≡ limit_reached l spent → none ≡ [] → lines' ≡ lines ++ packed unit sequence range → counted (spending spent)
+      → IsAsked unit there l sequence count spent view 65 counted shown lines lines'
+  asked_taken counted lines lines' is free empty packs c = record {
+    now = looks.now;
+    later = looks.later;
+    shows = looks.shows;
+    answer = answer_is 65 (ap (λ (o : Option ℕ). unwrap_or o 65) free ∙ sym (ap (status_found l spent) is));
+    lines = packs ∙ ap (λ (r : List (List ℕ)). lines ++ packed unit sequence r)
+        (looks.given ∙ ap (λ (r : List (List ℕ)). r ++ given (look looks.now sequence count) looks.now sequence count) empty
+        ∙ ap (λ (f : Found). given f looks.now sequence count) (sym looks.answer ∙ is));
+    counts = c;
+  }

@@ -1,0 +1,44 @@
+use Rattle.std.proofs.Common.{◌≡◌, ℕ, true, false, ◌||◌, ap, ◌∙◌, sym, refl, arith, rules, nat_eq, List, ◌++◌}
+use Rattle.unit_packets.specs.Packing.{bytes_in, packed}
+use Rattle.grp_session.specs.Asking.{status_found}
+use Rattle.grp_session.specs.Budget.{Counted}
+use Rattle.grp_session.proofs.Asked.{asked_plain, status_there, status_count, status_range, asked_refused, asked_limited, asked_taken}
+use Rattle.grp_session.proofs.asking.ask.Goals as goal
+
+pub returns-then-not-there-clause-asked : goal.returns-then-not-there-clause-asked
+returns-then-not-there-clause-asked g c = λ spent view counted shows.
+    asked_plain c.args.unit c.args.there false _ _ _ 85 spent view _ _ _ counted shows (search rules) (status_there _ view spent _ _) refl
+
+pub returns-then-count-gt100-clause-asked : goal.returns-then-count-gt100-clause-asked
+returns-then-count-gt100-clause-asked g c = λ spent view counted shows.
+    asked_plain c.args.unit c.args.there true _ _ _ 67 spent view _ _ _ counted shows (search rules) (status_count _ view spent _ _ (omega arith)) refl
+
+pub returns-then-count-eq0-clause-asked : goal.returns-then-count-eq0-clause-asked
+returns-then-count-eq0-clause-asked g c = λ spent view counted shows.
+    let none : (nat_eq c.args.count 0 || nat_eq c.args.sequence 0) ≡ true = search rules in
+    asked_plain c.args.unit c.args.there true _ _ _ 79 spent view _ _ _ counted shows (search rules) (status_range _ view spent _ _ (omega arith) none) refl
+
+pub returns-in-Ahead-clause-asked : goal.returns-in-Ahead-clause-asked
+returns-in-Ahead-clause-asked g c = λ spent view counted shows.
+    let there : c.args.there ≡ true = search rules in
+    asked_refused c.args.unit c.args.there _ _ _ spent view _ _ _ c.in_ok-look.field-0 there (omega arith) (omega arith) (omega arith) (c.in_ok-look.ensures.found view shows)
+    79 (Counted c.args.budget.now) _ (sym (ap (status_found _ spent) c.in-Ahead.is)) refl counted
+
+pub returns-in-NotKept-clause-asked : goal.returns-in-NotKept-clause-asked
+returns-in-NotKept-clause-asked g c = λ spent view counted shows.
+    let there : c.args.there ≡ true = search rules in
+    asked_refused c.args.unit c.args.there _ _ _ spent view _ _ _ c.in_ok-look.field-0 there (omega arith) (omega arith) (omega arith) (c.in_ok-look.ensures.found view shows)
+    79 (Counted c.args.budget.now) _ (sym (ap (status_found _ spent) c.in-NotKept.is)) refl counted
+
+pub returns-in-Some-clause-asked : goal.returns-in-Some-clause-asked
+returns-in-Some-clause-asked g c = λ spent view counted shows.
+    let there : c.args.there ≡ true = search rules in
+    asked_limited c.args.unit c.args.there _ _ _ spent view _ _ _ c.in_ok-look.field-0 there (omega arith) (omega arith) (omega arith) (c.in_ok-look.ensures.found view shows)
+    c.in-Some.status (Counted c.args.budget.now) _ c.in-Kept.is (c.in-Some.ensures.reached spent counted) counted
+
+pub returns-clause-asked : goal.returns-clause-asked
+returns-clause-asked g c = λ spent view counted shows.
+    let there : c.args.there ≡ true = search rules in
+    asked_taken c.args.unit c.args.there _ _ _ spent view _ _ _ c.in_ok-look.field-0 there (omega arith) (omega arith) (omega arith) (c.in_ok-look.ensures.found view shows)
+    (Counted c.spend.new.self) _ _ c.in-Kept.is (c.in-None.ensures.reached spent counted) c.make-range.ensures
+    (c.in_ok-pack-in-None.ensures.ok ∙ ap (λ (r : List (List ℕ)). bytes_in c.args.gap_line.now.items ++ packed c.args.unit c.args.sequence r) c.raws.ensures) (c.spend.ensures.spent spent counted)

@@ -1,0 +1,428 @@
+ghost use Rattle.std.specs.Prelude.{◌≡◌, ℕ, ◌||◌, Bool, true, false, List, [], ◌∷◌, ◌++◌, OnOk, OnErr, IsOk, IfSome, None, Some, is_some};
+ghost use Rattle.std.specs.List.{list_any};
+ghost use Rattle.unit_packets.specs.Packing.{bytes_in};
+ghost use Rattle.pitch_messages.specs.declared.session.SessionMessage.TheVariants.{GapReply};
+ghost use Rattle.gap_store.specs.Look.{View, IsLater};
+ghost use Rattle.session_ends.specs.declared.closed.CloseCause.TheVariants.{Memory};
+ghost use Rattle.session_ends.specs.declared.role.Role.TheVariants.{GrpServer as GrpRole};
+ghost use Rattle.session_ends.specs.Answering.{Hears, HearsAll};
+ghost use Rattle.session_ends.specs.Closing.{cause_of, closed_of, first_cause, logs_in};
+ghost use Rattle.session_ends.specs.Events.{Event, Ticked};
+ghost use Rattle.session_ends.specs.Items.{closed_at};
+ghost use Rattle.session_ends.specs.Sending.{sent_at_tick};
+ghost use Rattle.grp_session.specs.Budget.{Spent, Counted};
+ghost use Rattle.grp_session.specs.Lent.{OnLent, OnNone, Left};
+ghost use Rattle.grp_session.specs.Serving.{Source, reply_bytes, request_answer, message_answer, said_answer, grp_answer, grp_sends, ProxyStands, ProxyFeeds};
+
+use crate::asking::ask;
+use crate::budget::GapBudget;
+use gap_store::{Found, GapLookup};
+use pitch_fields::OutOfMemory;
+use pitch_messages::RawList;
+use pitch_messages::session::SessionMessage;
+use session_ends::{Account, Closed, End, Heard, Role, Said};
+use std::alloc::Global;
+use std::marker::Model;
+use unit_packets::DatagramList;
+
+/// The Gap Request Proxy's end of a session of one unit.
+#[derive(Drop)]
+pub struct GrpServer {
+    alloc: Global,
+    end: End,
+}
+
+impl Model for GrpServer {
+    ghost use Rattle.session_ends.specs.Ending.{Ending};
+
+    ghost Value = { Ending };
+
+    ghost view = { λ g. g.end };
+}
+
+// Stands in for a gap source that is not there; nothing is looked up in it.
+#[derive(Drop)]
+struct NoSource;
+
+impl GapLookup for NoSource {
+    ghost shows = { λ s v. Unit {0} };
+
+    ghost still = { true };
+
+    fn look(&mut self, _first: u32, _count: u16, _out: &mut RawList) -> Result<Found, OutOfMemory> {
+        Err(OutOfMemory)
+    }
+}
+
+// Appends what was said; all is as before after OutOfMemory.
+fn append_said(
+    said: &[u8],
+    lines: DatagramList,
+    reply: &mut Vec<u8>,
+    gap_line: &mut DatagramList,
+) -> Result<(), OutOfMemory>
+    ensures reply { OnOk result (reply.new.items ≡ reply.old.items ++ said.now) }
+    ensures lines { OnOk result (bytes_in gap_line.new.items ≡ bytes_in gap_line.old.items ++ bytes_in lines.items) }
+    ensures same_reply { OnErr result (reply.new.items ≡ reply.old.items) }
+    ensures same_lines { OnErr result (gap_line.new.items ≡ gap_line.old.items) }
+{
+    let before = gap_line.len();
+    gap_line.append(lines.into_vec())?;
+    match reply.extend_from_slice(said) {
+        Ok(()) => Ok(()),
+        Err(_) => {
+            gap_line.truncate(before);
+            Err(OutOfMemory)
+        }
+    }
+}
+
+impl GrpServer {
+    /// The end of a session of one unit, not logged in. These accounts may log in, unless the
+    /// session is in use. It takes no memory.
+    pub fn make(alloc: Global, unit: u8, accounts: Vec<Account>, in_use: bool) -> GrpServer
+        // Nothing happened to it.
+        ensures stands { ProxyStands result [] }
+        ensures setup { result.setup ≡ record { role = GrpRole; unit = unit; accounts = accounts.items; in_use = in_use } }
+    {
+        GrpServer {
+            alloc,
+            end: End::make(alloc, Role::GrpServer, unit, accounts, in_use),
+        }
+    }
+
+    /// Why the session closed and where, or None exactly while it has not.
+    pub fn closed(&self) -> Option<Closed>
+        ensures kept { result ≡ self.now.closed }
+        // Of all that happened to it: the first cause that closes it.
+        ensures cause { (es : List (Event Source)) → ProxyStands self.now es → result ≡ closed_of self.now.setup es }
+    {
+        self.end.closed()
+    }
+
+    fn is_closed(&self) -> bool
+        ensures { result ≡ is_some self.now.closed }
+    {
+        self.end.is_closed()
+    }
+
+    // Appends the reply to a gap request.
+    fn put_status(
+        &self,
+        unit: u8,
+        sequence: u32,
+        count: u16,
+        status: u8,
+        reply: &mut Vec<u8>,
+    ) -> Result<(), OutOfMemory>
+        ensures { OnOk result (reply.new.items ≡ reply.old.items ++ reply_bytes self.now.setup (GapReply unit sequence count status)) }
+    {
+        self.end.put(
+            &SessionMessage::GapReply {
+                unit,
+                sequence,
+                count,
+                status,
+            },
+            reply,
+        )
+    }
+
+    // Answers a gap request after an accepted login.
+    fn answer_request<L: GapLookup>(
+        &self,
+        there: bool,
+        unit: u8,
+        sequence: u32,
+        count: u16,
+        budget: &mut GapBudget,
+        lookup: &mut L,
+        reply: &mut Vec<u8>,
+        gap_line: &mut DatagramList,
+    ) -> Result<(), OutOfMemory>
+        ensures same { L.still ≡ true → lookup.new ≡ lookup.old }
+        ensures limits { budget.new.limits ≡ budget.old.limits }
+        ensures hears { OnOk result ((spent : Spent) (view : View) → Counted budget.old spent → L.shows lookup.old view
+            → Hears (λ v. request_answer self.now.setup there budget.old.limits v spent unit sequence count) IsLater view (Counted budget.new) (L.shows lookup.new)
+            reply.old.items reply.new.items (bytes_in gap_line.old.items) (bytes_in gap_line.new.items)) }
+    {
+        if unit != self.end.unit() {
+            self.put_status(unit, sequence, count, b'I', reply)?;
+            return Ok(());
+        }
+        let status = ask(
+            self.alloc, unit, there, sequence, count, budget, lookup, gap_line,
+        )?;
+        self.put_status(unit, sequence, count, status, reply)?;
+        Ok(())
+    }
+
+    // Answers a message that the end reads.
+    fn answer_message<L: GapLookup>(
+        &self,
+        there: bool,
+        message: &SessionMessage,
+        budget: &mut GapBudget,
+        lookup: &mut L,
+        reply: &mut Vec<u8>,
+        gap_line: &mut DatagramList,
+    ) -> Result<(), OutOfMemory>
+        ensures same { L.still ≡ true → lookup.new ≡ lookup.old }
+        ensures limits { budget.new.limits ≡ budget.old.limits }
+        ensures hears { OnOk result ((spent : Spent) (view : View) → Counted budget.old spent → L.shows lookup.old view
+            → Hears (λ v. message_answer self.now.setup there budget.old.limits self.now.logged spent v message.now) IsLater view (Counted budget.new) (L.shows lookup.new)
+            reply.old.items reply.new.items (bytes_in gap_line.old.items) (bytes_in gap_line.new.items)) }
+    {
+        match message {
+            SessionMessage::Login {
+                sub,
+                user,
+                password,
+            } => {
+                let status = self.end.login_status(sub, user, password);
+                self.end.put(&SessionMessage::LoginReply { status }, reply)
+            }
+            SessionMessage::GapRequest {
+                unit,
+                sequence,
+                count,
+            } => {
+                if !self.end.logged() {
+                    return Ok(());
+                }
+                self.answer_request(
+                    there, *unit, *sequence, *count, budget, lookup, reply, gap_line,
+                )?;
+                Ok(())
+            }
+            SessionMessage::LoginReply { .. } => Ok(()),
+            SessionMessage::GapReply { .. } => Ok(()),
+            SessionMessage::SpinAvailable { .. } => Ok(()),
+            SessionMessage::SpinRequest { .. } => Ok(()),
+            SessionMessage::SpinReply { .. } => Ok(()),
+            SessionMessage::SpinFinished { .. } => Ok(()),
+        }
+    }
+
+    // Answers what was said.
+    fn answer<L: GapLookup>(
+        &self,
+        there: bool,
+        said: &Said,
+        budget: &mut GapBudget,
+        lookup: &mut L,
+        reply: &mut Vec<u8>,
+        gap_line: &mut DatagramList,
+    ) -> Result<(), OutOfMemory>
+        ensures same { L.still ≡ true → lookup.new ≡ lookup.old }
+        ensures limits { budget.new.limits ≡ budget.old.limits }
+        ensures hears { OnOk result ((spent : Spent) (view : View) → Counted budget.old spent → L.shows lookup.old view
+            → Hears (λ v. said_answer self.now.setup there budget.old.limits self.now.logged spent v said.now) IsLater view (Counted budget.new) (L.shows lookup.new)
+            reply.old.items reply.new.items (bytes_in gap_line.old.items) (bytes_in gap_line.new.items)) }
+    {
+        match said {
+            Said::Message(message) => {
+                self.answer_message(there, message, budget, lookup, reply, gap_line)?;
+                Ok(())
+            }
+            Said::TooShort => Ok(()),
+            Said::Skipped => Ok(()),
+        }
+    }
+
+    // Hears what the stream says next.
+    fn hear<L: GapLookup>(
+        &mut self,
+        there: bool,
+        item: &Heard,
+        budget: &mut GapBudget,
+        lookup: &mut L,
+        reply: &mut Vec<u8>,
+        gap_line: &mut DatagramList,
+    ) -> Result<(), OutOfMemory>
+        requires { self.old.closed ≡ None }
+        ensures same { L.still ≡ true → lookup.new ≡ lookup.old }
+        ensures closed { OnOk result (self.new.closed ≡ cause_of self.old.setup self.old.logged item.now) }
+        ensures logged { OnOk result (self.new.logged ≡ (self.old.logged || logs_in self.old.setup.role item.now)) }
+        ensures rest { self.new ≡ record self.old { closed = self.new.closed; logged = self.new.logged } }
+        ensures limits { budget.new.limits ≡ budget.old.limits }
+        ensures hears { OnOk result ((spent : Spent) (view : View) → Counted budget.old spent → L.shows lookup.old view
+            → Hears (λ v. grp_answer self.old.setup there budget.old.limits self.old.logged spent v item.now) IsLater view (Counted budget.new) (L.shows lookup.new)
+            reply.old.items reply.new.items (bytes_in gap_line.old.items) (bytes_in gap_line.new.items)) }
+    {
+        let said = self.end.said(item);
+        self.answer(there, &said, budget, lookup, reply, gap_line)?;
+        self.end.judge(item);
+        Ok(())
+    }
+
+    // Hears what the stream says, until the session closes.
+    fn hear_all<L: GapLookup>(
+        &mut self,
+        there: bool,
+        items: &[Heard],
+        budget: &mut GapBudget,
+        lookup: &mut L,
+        reply: &mut Vec<u8>,
+        gap_line: &mut DatagramList,
+    ) -> Result<(), OutOfMemory>
+        requires { self.old.closed ≡ None }
+        ensures same { L.still ≡ true → lookup.new ≡ lookup.old }
+        ensures closed { OnOk result (self.new.closed ≡ first_cause self.old.setup self.old.logged items.now) }
+        ensures logged { OnOk result (self.new.closed ≡ None → self.new.logged ≡ (self.old.logged || list_any (logs_in self.old.setup.role) items.now)) }
+        ensures rest { self.new ≡ record self.old { closed = self.new.closed; logged = self.new.logged } }
+        ensures limits { budget.new.limits ≡ budget.old.limits }
+        ensures hears { OnOk result ((spent : Spent) (view : View) → Counted budget.old spent → L.shows lookup.old view
+            → HearsAll self.old.setup (grp_answer self.old.setup there budget.old.limits) IsLater self.old.logged items.now spent view (Counted budget.new) (L.shows lookup.new)
+            reply.old.items reply.new.items (bytes_in gap_line.old.items) (bytes_in gap_line.new.items)) }
+    {
+        'items: for i in 0..items.len() {
+            self.hear(there, &items[i], budget, lookup, reply, gap_line)?;
+            if self.is_closed() {
+                return Ok(());
+            }
+        }
+        Ok(())
+    }
+
+    // Hears a piece while the session is open; what it says is put into empty lists.
+    fn hear_piece<L: GapLookup>(
+        &mut self,
+        there: bool,
+        piece: &[u8],
+        budget: &mut GapBudget,
+        lookup: &mut L,
+        said: &mut Vec<u8>,
+        lines: &mut DatagramList,
+    ) -> Result<(), OutOfMemory>
+        requires open { self.old.closed ≡ None }
+        requires no_said { said.old.items ≡ [] }
+        requires no_lines { lines.old.items ≡ [] }
+        ensures same { L.still ≡ true → lookup.new ≡ lookup.old }
+        ensures fed { OnOk result ((es : List (Event Source)) (spent : Spent) (view : View) → ProxyStands self.old es → Counted budget.old spent → L.shows lookup.old view
+            → ProxyFeeds es piece.now self.old self.new there budget.old.limits spent view (Counted budget.new) (L.shows lookup.new) [] said.new.items [] (bytes_in lines.new.items)) }
+        ensures setup { self.new.setup ≡ self.old.setup }
+        ensures limits { budget.new.limits ≡ budget.old.limits }
+    {
+        let mut items: Vec<Heard> = Vec::new(self.alloc);
+        self.end.take(piece, &mut items)?;
+        self.hear_all(there, &items, budget, lookup, said, lines)?;
+        self.end.note_sent(said);
+        Ok(())
+    }
+
+    // ProxyFeeds from a gap source that is there or not.
+    fn feed_from<L: GapLookup>(
+        &mut self,
+        there: bool,
+        piece: &[u8],
+        budget: &mut GapBudget,
+        lookup: &mut L,
+        reply: &mut Vec<u8>,
+        gap_line: &mut DatagramList,
+    ) -> Result<(), OutOfMemory>
+        ensures same { L.still ≡ true → lookup.new ≡ lookup.old }
+        ensures fed { OnOk result ((es : List (Event Source)) (spent : Spent) (view : View) → ProxyStands self.old es → Counted budget.old spent → L.shows lookup.old view
+            → ProxyFeeds es piece.now self.old self.new there budget.old.limits spent view (Counted budget.new) (L.shows lookup.new)
+            reply.old.items reply.new.items (bytes_in gap_line.old.items) (bytes_in gap_line.new.items)) }
+        ensures setup { self.new.setup ≡ self.old.setup }
+        ensures limits { budget.new.limits ≡ budget.old.limits }
+        ensures err_closed { OnErr result (self.new.closed ≡ Some (closed_at Memory self.new.inbox.fed)) }
+        ensures err_budget { OnErr result (budget.new ≡ budget.old) }
+        ensures err_reply { OnErr result (reply.new.items ≡ reply.old.items) }
+        ensures err_lines { OnErr result (gap_line.new.items ≡ gap_line.old.items) }
+        ensures shut { IfSome self.old.closed (λ c. self.new ≡ self.old) }
+        ensures shut_ok { IfSome self.old.closed (λ c. IsOk result × (budget.new ≡ budget.old)) }
+        ensures shut_says { IfSome self.old.closed (λ c. (reply.new.items ≡ reply.old.items) × (gap_line.new.items ≡ gap_line.old.items)) }
+    {
+        if self.end.is_closed() {
+            return Ok(());
+        }
+        let spent = budget.copy();
+        let mut said = Vec::new(self.alloc);
+        let mut lines = DatagramList::make(self.alloc);
+        match self.hear_piece(there, piece, budget, lookup, &mut said, &mut lines) {
+            Ok(()) => match append_said(&said, lines, reply, gap_line) {
+                Ok(()) => return Ok(()),
+                Err(_) => {}
+            },
+            Err(_) => {}
+        }
+        *budget = spent;
+        self.end.fail();
+        Err(OutOfMemory)
+    }
+
+    /// Takes the next piece of the stream, and answers each message that is whole now: logins and
+    /// gap requests, by the first status that applies. A request that is accepted counts on the
+    /// budget, and its range is packed onto the gap line. Other types are skipped. Once closed it
+    /// takes bytes and does nothing.
+    ///
+    /// `lookup` is the gap source of the unit; with none each request is answered `U`. Replies are
+    /// appended to `reply`. After OutOfMemory both outputs and the budget are as before, and the
+    /// session is closed with Memory.
+    ///
+    /// Standard: "Login Message", "Login Response Message", "Gap Request Message", "Gap Response
+    /// Message". The limits and the order of the statuses are this project's own.
+    pub fn feed<L: GapLookup>(
+        &mut self,
+        piece: &[u8],
+        budget: &mut GapBudget,
+        lookup: Option<&mut L>,
+        reply: &mut Vec<u8>,
+        gap_line: &mut DatagramList,
+    ) -> Result<(), OutOfMemory>
+        // A source to which nobody else pushes is left as it was.
+        ensures same { OnLent lookup.entry (λ before. L.still ≡ true → Left lookup.exit (λ after. after ≡ before)) }
+        // Of all that happened to the end, of what was spent, and of every view of the source that
+        // is lent: the piece came too, and its messages were answered at views that rise from that
+        // one.
+        ensures fed { OnOk result (OnLent lookup.entry (λ before. (es : List (Event Source)) (spent : Spent) (view : View) → ProxyStands self.old es → Counted budget.old spent → L.shows before view
+            → Left lookup.exit (λ after. ProxyFeeds es piece.now self.old self.new true budget.old.limits spent view (Counted budget.new) (L.shows after)
+            reply.old.items reply.new.items (bytes_in gap_line.old.items) (bytes_in gap_line.new.items)))) }
+        // The same of an end to which no source is lent: the views are whatever they may be.
+        ensures without { OnOk result (OnNone lookup.entry ((es : List (Event Source)) (spent : Spent) (view : View) → ProxyStands self.old es → Counted budget.old spent
+            → ProxyFeeds es piece.now self.old self.new false budget.old.limits spent view (Counted budget.new) (λ v. Unit {0})
+            reply.old.items reply.new.items (bytes_in gap_line.old.items) (bytes_in gap_line.new.items))) }
+        ensures setup { self.new.setup ≡ self.old.setup }
+        ensures limits { budget.new.limits ≡ budget.old.limits }
+        ensures err_closed { OnErr result (self.new.closed ≡ Some (closed_at Memory self.new.inbox.fed)) }
+        ensures err_budget { OnErr result (budget.new ≡ budget.old) }
+        ensures err_reply { OnErr result (reply.new.items ≡ reply.old.items) }
+        ensures err_lines { OnErr result (gap_line.new.items ≡ gap_line.old.items) }
+        ensures shut { IfSome self.old.closed (λ c. self.new ≡ self.old) }
+        ensures shut_ok { IfSome self.old.closed (λ c. IsOk result × (budget.new ≡ budget.old)) }
+        ensures shut_says { IfSome self.old.closed (λ c. (reply.new.items ≡ reply.old.items) × (gap_line.new.items ≡ gap_line.old.items)) }
+    {
+        match lookup {
+            Some(lookup) => {
+                self.feed_from(true, piece, budget, lookup, reply, gap_line)?;
+                Ok(())
+            }
+            None => {
+                self.feed_from(false, piece, budget, &mut NoSource, reply, gap_line)?;
+                Ok(())
+            }
+        }
+    }
+
+    /// A second passes. The session closes at the fifth silent tick in a row; else, where nothing
+    /// was sent since the last tick, a heartbeat is appended to `reply`. Once closed it does
+    /// nothing. After OutOfMemory the session is closed with Memory, and `reply` is as before.
+    ///
+    /// Standard: "Heartbeat Messages". The number of ticks is this project's own.
+    pub fn tick(&mut self, reply: &mut Vec<u8>) -> Result<(), OutOfMemory>
+        // Of all that happened to it: the tick happened too.
+        ensures stands { OnOk result ((es : List (Event Source)) → ProxyStands self.old es → ProxyStands self.new (Ticked ∷ es)) }
+        // Of all that happened to it: what is then sent at a tick was appended.
+        ensures says { OnOk result ((es : List (Event Source)) → ProxyStands self.old es → reply.new.items ≡ reply.old.items ++ sent_at_tick (grp_sends self.old.setup) self.old.setup es) }
+        ensures setup { self.new.setup ≡ self.old.setup }
+        ensures err_closed { OnErr result (self.new.closed ≡ Some (closed_at Memory self.new.inbox.fed)) }
+        ensures err_reply { OnErr result (reply.new.items ≡ reply.old.items) }
+        ensures shut { IfSome self.old.closed (λ c. self.new ≡ self.old) }
+        ensures shut_ok { IfSome self.old.closed (λ c. IsOk result × (reply.new.items ≡ reply.old.items)) }
+    {
+        self.end.tick(reply)?;
+        Ok(())
+    }
+}
