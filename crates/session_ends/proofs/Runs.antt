@@ -185,7 +185,7 @@ going_at s one Later logged0 items state0 view0 logged logged' rest knows shown 
     subst (λ (x : Bool). Going s one Later logged0 items state0 view0 x rest knows shown reply0 reply lines0 lines) p g
 
 -- ---- Views that do not rise
-rises_to : {V : Type 0} (Later : V → V → Type 0) → IsOrder Later → (first : V) (vs : List V) (last : V) → Rises Later first vs last → Later first last
+pub rises_to : {V : Type 0} (Later : V → V → Type 0) → IsOrder Later → (first : V) (vs : List V) (last : V) → Rises Later first vs last → Later first last
 rises_to Later o first [] last r = r
 rises_to Later o first (v ∷ vs) last r = o.then first v last r.0 (rises_to Later o v vs last r.1)
 

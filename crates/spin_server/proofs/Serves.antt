@@ -17,7 +17,7 @@ use Rattle.session_ends.proofs.Ends.{Takes, Pieced, fed_end, shut_end, sent_end,
 use Rattle.session_ends.proofs.Runs.{IsOrder, rises_rest, size_rest}
 use Rattle.pitch_model.specs.Advertising.{newest_of}
 use Rattle.spin_server.specs.Served.{Served, ServedLater}
-use Rattle.spin_server.specs.Serving.{Spin, Serving, spin_bytes, available_bytes, spin_login_answer, SpinStands, SpinFeeds, spin_fed_answer, spin_of, spin_sends, spin_answer, spin_said_answer, spin_message_answer, spin_request_answer, pumped, pump_bytes, told_bytes, runs}
+use Rattle.spin_server.specs.Serving.{Spin, Serving, spin_bytes, available_bytes, spin_login_answer, SpinStands, SpinFeeds, spin_fed_answer, running_spin, spin_sends, spin_answer, spin_said_answer, spin_message_answer, spin_request_answer, pumped, pump_bytes, tell_bytes, runs}
 use Rattle.spin_server.proofs.Shelving.{later_same}
 
 later_then : (a b c : Served) → ServedLater a b → ServedLater b c → ServedLater a c
@@ -49,13 +49,13 @@ stands_none v role same is none = record {
 }
 
 -- while the end is open, the spin is kept
-pub spin_on : (v : Serving) (es : List (Event (List Served))) → SpinStands v es → closed_of v.end.setup es ≡ None → v.spin ≡ spin_of v.end.setup es
+pub spin_on : (v : Serving) (es : List (Event (List Served))) → SpinStands v es → closed_of v.end.setup es ≡ None → v.spin ≡ running_spin v.end.setup es
 spin_on v es stands still = stands.spin_is (stands.end_is.closed_is ∙ still)
 
 pub stands_ticked : (old new : Serving) (es : List (Event (List Served))) → new.end.setup ≡ old.end.setup → EndKnows new.end (known_ticked (known_of (spin_sends old.end.setup) old.end.setup es)) → new.spin ≡ old.spin → SpinStands old es → SpinStands new (Ticked ∷ es)
 stands_ticked old new es same is kept stands = record {
   end_is = subst (λ (s : Setup). EndKnows new.end (known_of (spin_sends s) s (Ticked ∷ es))) (sym same) is;
-  spin_is = λ on. kept ∙ spin_on old es stands (or_parts (closed_of old.end.setup es) (closes_at old.end.setup Ticked es) (sym is.closed_is ∙ on)).0 ∙ ap (λ (s : Setup). spin_of s es) (sym same);
+  spin_is = λ on. kept ∙ spin_on old es stands (or_parts (closed_of old.end.setup es) (closes_at old.end.setup Ticked es) (sym is.closed_is ∙ on)).0 ∙ ap (λ (s : Setup). running_spin s es) (sym same);
 }
 
 -- an end that was closed keeps nothing
@@ -120,17 +120,17 @@ pub fed_serves : (es : List (Event (List Served))) (piece : List ℕ) (old new :
     → SpinFeeds es piece old new view shown [] reply'
 fed_serves es piece old new items inbox setup logged spin after view shown reply reply' still stands none_said t p same was kept keeps heard =
     let s : Setup = old.end.setup in
-    let spin_is : spin ≡ spin_of s es = kept ∙ stands.spin_is still in
-    let h : HearsAll s (spin_answer s) ServedLater old.end.logged items (spin_of s es) view (λ (x : Option Spin). x ≡ after) shown reply reply' [] [] =
-    subst (λ (x : Setup). HearsAll x (spin_answer x) ServedLater old.end.logged items (spin_of s es) view (λ (x : Option Spin). x ≡ after) shown reply reply' [] []) same
-    (subst (λ (b : Bool). HearsAll setup (spin_answer setup) ServedLater b items (spin_of s es) view (λ (x : Option Spin). x ≡ after) shown reply reply' [] []) was
+    let spin_is : spin ≡ running_spin s es = kept ∙ stands.spin_is still in
+    let h : HearsAll s (spin_answer s) ServedLater old.end.logged items (running_spin s es) view (λ (x : Option Spin). x ≡ after) shown reply reply' [] [] =
+    subst (λ (x : Setup). HearsAll x (spin_answer x) ServedLater old.end.logged items (running_spin s es) view (λ (x : Option Spin). x ≡ after) shown reply reply' [] []) same
+    (subst (λ (b : Bool). HearsAll setup (spin_answer setup) ServedLater b items (running_spin s es) view (λ (x : Option Spin). x ≡ after) shown reply reply' [] []) was
     (subst (λ (o : Option Spin). HearsAll setup (spin_answer setup) ServedLater logged items o view (λ (x : Option Spin). x ≡ after) shown reply reply' [] []) spin_is heard)) in
-    let a : Answer (Option Spin) = answers s (spin_answer s) old.end.logged (spin_of s es) h.views items in
-    let said : spin_fed_answer s es piece h.views (spin_of s es) ≡ a =
-    ap (λ (o : Option Closed). cond (is_some o) (no_answer (spin_of s es)) (answers s (spin_answer s) (logged_in s.role es) (spin_of s es) h.views (new_items es piece))) t.open_is
-    ∙ ap (λ (x : List Heard). answers s (spin_answer s) (logged_in s.role es) (spin_of s es) h.views x) t.new_is
-    ∙ ap (λ (b : Bool). answers s (spin_answer s) b (spin_of s es) h.views items) (sym t.logged_is) in
-    let bytes : reply' ≡ (spin_fed_answer s es piece h.views (spin_of s es)).reply = h.replied ∙ ap (λ (x : List ℕ). x ++ a.reply) none_said ∙ ap (λ (x : Answer (Option Spin)). x.reply) (sym said) in
+    let a : Answer (Option Spin) = answers s (spin_answer s) old.end.logged (running_spin s es) h.views items in
+    let said : spin_fed_answer s es piece h.views (running_spin s es) ≡ a =
+    ap (λ (o : Option Closed). cond (is_some o) (no_answer (running_spin s es)) (answers s (spin_answer s) (logged_in s.role es) (running_spin s es) h.views (new_items es piece))) t.open_is
+    ∙ ap (λ (x : List Heard). answers s (spin_answer s) (logged_in s.role es) (running_spin s es) h.views x) t.new_is
+    ∙ ap (λ (b : Bool). answers s (spin_answer s) b (running_spin s es) h.views items) (sym t.logged_is) in
+    let bytes : reply' ≡ (spin_fed_answer s es piece h.views (running_spin s es)).reply = h.replied ∙ ap (λ (x : List ℕ). x ++ a.reply) none_said ∙ ap (λ (x : Answer (Option Spin)). x.reply) (sym said) in
     record {
       views = h.views;
       each = h.each ∙ ap length (sym t.new_is);
@@ -139,7 +139,7 @@ fed_serves es piece old new items inbox setup logged spin after view shown reply
       shows = h.shows;
       stands = record {
         end_is = subst (λ (x : Setup). EndKnows new.end (known_of (spin_sends x) x (Fed piece h.views ∷ es))) (sym p.setup_is) (fed_end (spin_sends s) es piece h.views old.end new.end items inbox reply' still stands.end_is t p bytes);
-        spin_is = λ on. sym keeps ∙ sym h.state_is ∙ ap (λ (x : Answer (Option Spin)). x.knows) (sym said) ∙ ap (λ (x : Setup). spin_of x (Fed piece h.views ∷ es)) (sym p.setup_is);
+        spin_is = λ on. sym keeps ∙ sym h.state_is ∙ ap (λ (x : Answer (Option Spin)). x.knows) (sym said) ∙ ap (λ (x : Setup). running_spin x (Fed piece h.views ∷ es)) (sym p.setup_is);
       };
       replied = bytes;
     }
@@ -151,8 +151,8 @@ fed_shut es piece v c view shown reply some stands shows =
     let s : Setup = v.end.setup in
     let n : ℕ = length (new_items es piece) in
     let views : List Served = replicate n view in
-    let said : spin_fed_answer s es piece views (spin_of s es) ≡ no_answer (spin_of s es) =
-    ap (λ (o : Option Closed). cond (is_some o) (no_answer (spin_of s es)) (answers s (spin_answer s) (logged_in s.role es) (spin_of s es) views (new_items es piece))) (sym stands.end_is.closed_is ∙ some) in
+    let said : spin_fed_answer s es piece views (running_spin s es) ≡ no_answer (running_spin s es) =
+    ap (λ (o : Option Closed). cond (is_some o) (no_answer (running_spin s es)) (answers s (spin_answer s) (logged_in s.role es) (running_spin s es) views (new_items es piece))) (sym stands.end_is.closed_is ∙ some) in
     record {
       views = views;
       each = size_rest n view;
@@ -196,29 +196,29 @@ module _ (old : Serving) (end' : Ending) (spin' : Option Spin) (es : List (Event
   sent_to new e = subst (λ (v : Ending). EndKnows v (sending (known_of (spin_sends s) s es) bytes)) (sym e) (sent_end old.end end' (known_of (spin_sends s) s es) bytes still stands.end_is is)
 
   pub pump_says : pump_bytes s old.spin ≡ spin_sends s Pumped es
-  pump_says = ap (pump_bytes s) (stands.spin_is still) ∙ ap (λ (o : Option Closed). cond (is_some o) [] (pump_bytes s (spin_of s es))) (sym open_is)
+  pump_says = ap (pump_bytes s) (stands.spin_is still) ∙ ap (λ (o : Option Closed). cond (is_some o) [] (pump_bytes s (running_spin s es))) (sym open_is)
 
   pub stands_pumped : (new : Serving) → new.end ≡ end' → new.spin ≡ pumped old.spin → bytes ≡ pump_bytes s old.spin → SpinStands new (Pumped ∷ es)
   stands_pumped new e kept b = record {
     end_is = subst (λ (x : Setup). EndKnows new.end (known_of (spin_sends x) x (Pumped ∷ es))) (sym (ap (λ (v : Ending). v.setup) e ∙ same))
         (subst (λ (o : Option Closed). EndKnows new.end (record (known_of (spin_sends s) s (Pumped ∷ es)) { closed = o })) none_more
         (subst (λ (x : List ℕ). EndKnows new.end (sending (known_of (spin_sends s) s es) x)) (b ∙ pump_says) (sent_to new e)));
-    spin_is = λ on. kept ∙ ap pumped (stands.spin_is still) ∙ ap (λ (x : Setup). spin_of x (Pumped ∷ es)) (sym (ap (λ (v : Ending). v.setup) e ∙ same));
+    spin_is = λ on. kept ∙ ap pumped (stands.spin_is still) ∙ ap (λ (x : Setup). running_spin x (Pumped ∷ es)) (sym (ap (λ (v : Ending). v.setup) e ∙ same));
   }
 
   pub pump_runs : is_some (pumped old.spin) ≡ runs s (Pumped ∷ es)
-  pump_runs = ap (λ (o : Option Spin). is_some (pumped o)) (stands.spin_is still) ∙ ap (λ (o : Option Closed). is_none o && is_some (pumped (spin_of s es))) (sym open_is ∙ none_more)
+  pump_runs = ap (λ (o : Option Spin). is_some (pumped o)) (stands.spin_is still) ∙ ap (λ (o : Option Closed). is_none o && is_some (pumped (running_spin s es))) (sym open_is ∙ none_more)
 
-  pub tell_says : (sequence : ℕ) → told_bytes s old.end.logged old.spin sequence ≡ spin_sends s (Told sequence) es
-  tell_says sequence = ap (λ (o : Option Spin). told_bytes s old.end.logged o sequence) (stands.spin_is still) ∙ ap (λ (b : Bool). told_bytes s b (spin_of s es) sequence) (stands.end_is.still still).logged_is
-      ∙ ap (λ (o : Option Closed). cond (is_some o) [] (told_bytes s (logged_in s.role es) (spin_of s es) sequence)) (sym open_is)
+  pub tell_says : (sequence : ℕ) → tell_bytes s old.end.logged old.spin sequence ≡ spin_sends s (Told sequence) es
+  tell_says sequence = ap (λ (o : Option Spin). tell_bytes s old.end.logged o sequence) (stands.spin_is still) ∙ ap (λ (b : Bool). tell_bytes s b (running_spin s es) sequence) (stands.end_is.still still).logged_is
+      ∙ ap (λ (o : Option Closed). cond (is_some o) [] (tell_bytes s (logged_in s.role es) (running_spin s es) sequence)) (sym open_is)
 
-  pub stands_told : (sequence : ℕ) (new : Serving) → new.end ≡ end' → new.spin ≡ old.spin → bytes ≡ told_bytes s old.end.logged old.spin sequence → SpinStands new (Told sequence ∷ es)
+  pub stands_told : (sequence : ℕ) (new : Serving) → new.end ≡ end' → new.spin ≡ old.spin → bytes ≡ tell_bytes s old.end.logged old.spin sequence → SpinStands new (Told sequence ∷ es)
   stands_told sequence new e kept b = record {
     end_is = subst (λ (x : Setup). EndKnows new.end (known_of (spin_sends x) x (Told sequence ∷ es))) (sym (ap (λ (v : Ending). v.setup) e ∙ same))
         (subst (λ (o : Option Closed). EndKnows new.end (record (known_of (spin_sends s) s (Told sequence ∷ es)) { closed = o })) none_more
         (subst (λ (x : List ℕ). EndKnows new.end (sending (known_of (spin_sends s) s es) x)) (b ∙ tell_says sequence) (sent_to new e)));
-    spin_is = λ on. kept ∙ stands.spin_is still ∙ ap (λ (x : Setup). spin_of x es) (sym (ap (λ (v : Ending). v.setup) e ∙ same));
+    spin_is = λ on. kept ∙ stands.spin_is still ∙ ap (λ (x : Setup). running_spin x es) (sym (ap (λ (v : Ending). v.setup) e ∙ same));
   }
 
 -- the datagrams that are left, from the bytes of all

@@ -104,27 +104,27 @@ spin_fed_answer s before bytes views spin =
     else answers s (spin_answer s) (logged_in s.role before) spin views (new_items before bytes)
 
 -- the spin that was accepted and is not yet sent whole; it runs while the end is open
-abbrev pub spin_of : Setup → List (Event (List Served)) → Option Spin
-spin_of s [] = None
-spin_of s (Fed bytes views ∷ before) = (spin_fed_answer s before bytes views (spin_of s before)).knows
-spin_of s (Pumped ∷ before) = pumped (spin_of s before)
-spin_of s (event ∷ before) = spin_of s before
+abbrev pub running_spin : Setup → List (Event (List Served)) → Option Spin
+running_spin s [] = None
+running_spin s (Fed bytes views ∷ before) = (spin_fed_answer s before bytes views (running_spin s before)).knows
+running_spin s (Pumped ∷ before) = pumped (running_spin s before)
+running_spin s (event ∷ before) = running_spin s before
 
 -- a spin runs
 abbrev pub runs : Setup → List (Event (List Served)) → Bool
-runs s es = is_none (closed_of s es) && is_some (spin_of s es)
+runs s es = is_none (closed_of s es) && is_some (running_spin s es)
 
 -- what is said when the end is told of an advertised sequence: nothing before a login or while a
 -- spin runs
-abbrev pub told_bytes : Setup → Bool → Option Spin → ℕ → List ℕ
-told_bytes s logged (Some spin) sequence = []
-told_bytes s logged None sequence = if logged then spin_bytes s (SpinAvailable sequence) else []
+abbrev pub tell_bytes : Setup → Bool → Option Spin → ℕ → List ℕ
+tell_bytes s logged (Some spin) sequence = []
+tell_bytes s logged None sequence = if logged then spin_bytes s (SpinAvailable sequence) else []
 
 -- what is sent at an event that is no tick
 abbrev pub spin_sends : Setup → Event (List Served) → List (Event (List Served)) → List ℕ
-spin_sends s (Fed bytes views) before = (spin_fed_answer s before bytes views (spin_of s before)).reply
-spin_sends s Pumped before = if is_some (closed_of s before) then [] else pump_bytes s (spin_of s before)
-spin_sends s (Told sequence) before = if is_some (closed_of s before) then [] else told_bytes s (logged_in s.role before) (spin_of s before) sequence
+spin_sends s (Fed bytes views) before = (spin_fed_answer s before bytes views (running_spin s before)).reply
+spin_sends s Pumped before = if is_some (closed_of s before) then [] else pump_bytes s (running_spin s before)
+spin_sends s (Told sequence) before = if is_some (closed_of s before) then [] else tell_bytes s (logged_in s.role before) (running_spin s before) sequence
 spin_sends s event before = []
 
 -- ---- What the server keeps
@@ -135,7 +135,7 @@ pub record Serving : Type 0 where
 -- it stands for what happened to it, the newest first
 pub record SpinStands (v : Serving) (es : List (Event (List Served))) : Type 0 where
   pub end_is : EndKnows v.end (known_of (spin_sends v.end.setup) v.end.setup es)
-  pub spin_is : v.end.closed ≡ None → v.spin ≡ spin_of v.end.setup es
+  pub spin_is : v.end.closed ≡ None → v.spin ≡ running_spin v.end.setup es
 
 -- what feeding does: it stands for one event more, and what it answers was appended; the messages
 -- were answered at views that rise from that of the call to that after it, one for each message and

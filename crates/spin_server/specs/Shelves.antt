@@ -50,12 +50,12 @@ pub record ShelfKeeps (shelf : Shelf) (messages : List (List ℕ)) : Type 0 wher
   pub after_is : shelf.after ≡ drop (base_at shelf) messages
 
 -- ---- Its code: lists and numbers
-abbrev pub Parts : Type 0
-Parts = Option ℕ × (map.FinMap nat_cmp Order × (List (List ℕ) × (ℕ × List ℕ)))
+abbrev pub ShelfParts : Type 0
+ShelfParts = Option ℕ × (map.FinMap nat_cmp Order × (List (List ℕ) × (ℕ × List ℕ)))
 
-abbrev pub shelf_from : Parts → Shelf
+abbrev pub shelf_from : ShelfParts → Shelf
 shelf_from p = record { base = record { second = p.0; orders = p.1.0 }; after = p.1.1.0; pushed = p.1.1.1.0; served = p.1.1.1.1 }
 
 abbrev pub shelf_code : Coded Shelf
-shelf_code = code_by Parts (coded× (coded_option coded_ℕ) (coded× (map.code coded_ℕ order_code) (coded× (coded_list (coded_list coded_ℕ)) (coded× coded_ℕ (coded_list coded_ℕ)))))
+shelf_code = code_by ShelfParts (coded× (coded_option coded_ℕ) (coded× (map.code coded_ℕ order_code) (coded× (coded_list (coded_list coded_ℕ)) (coded× coded_ℕ (coded_list coded_ℕ)))))
     (λ s. (s.base.second, (s.base.orders, (s.after, (s.pushed, s.served))))) shelf_from (λ _. refl)

@@ -5,7 +5,6 @@ ghost use Rattle.session_ends.specs.Laws.{ClosesOnce, RisesNowhere};
 ghost use Rattle.spin_server.specs.Served.{Served, ServedLater, is_served};
 ghost use Rattle.spin_server.specs.Serving.{SpinAnswersOnce};
 ghost use Rattle.spin_server.specs.Shelves.{Shelf};
-ghost use Rattle.spin_server.specs.Speaking.{NeverBad};
 ghost use Rattle.spin_server.specs.Stands.{ShelfStands, ShelfShows, OneServed, seen_of};
 
 /// The laws of cutting a session's bytes into pieces: two pieces close the end exactly where both
@@ -14,12 +13,6 @@ ghost use Rattle.spin_server.specs.Stands.{ShelfStands, ShelfShows, OneServed, s
 pub fn spin_cutting_laws()
     ensures closes { ClosesOnce (List Served) }
     ensures answers { SpinAnswersOnce }
-{}
-
-/// The law of images: where a client hears of spin servers what they send, in order, up to any
-/// place, none of its images is bad.
-pub fn no_image_is_bad()
-    ensures { NeverBad }
 {}
 
 /// The laws of looking up: a later view of a shelf that stayed as it was is the same view; and

@@ -1,7 +1,6 @@
 //! The Spin Server: images of a unit's book, and the server's end of a session. What the server
 //! answers to bytes, in whatever pieces they come, is what its definition says of all that happened
-//! to it and of the images that could be looked up meanwhile. No client that hears what it sends,
-//! delayed or cut, ever has a bad image.
+//! to it and of the images that could be looked up meanwhile.
 //!
 //! The venue's side pushes each message to an [`ImageShelf`], and advertises now and then. It feeds
 //! what a client sent to [`SpinServer::feed`], calls [`SpinServer::pump`] while that answers true,
@@ -19,9 +18,7 @@ mod spin;
 mod tests;
 
 pub use crate::image::append_image;
-pub use crate::laws::{
-    image_look_laws, no_image_is_bad, shelves_show_what_was_pushed, spin_cutting_laws,
-};
+pub use crate::laws::{image_look_laws, shelves_show_what_was_pushed, spin_cutting_laws};
 pub use crate::lookup::{ImageLookup, Imaged};
 pub use crate::server::SpinServer;
 pub use crate::shelf::ImageShelf;
