@@ -336,16 +336,6 @@ stands_moved old new operations s is full keeps served = stands_advertised new o
     (served ∙ ap (λ (n : ℕ). drop 1 old.served ++ n ∷ []) s.keeps.pushed_is ∙ ten_moved (advertised_by operations) old.served (length (accepted_by operations)) s.served_is full
     ∙ ap last_ten (sym (advertised_new operations (serves_is old operations false s is))))
 
--- the newest that is served, behind some others
-pub newest_behind : (served : List ℕ) (n : ℕ) → newest_of (served ++ n ∷ []) ≡ Some n
-newest_behind served n =
-    let e : length (served ++ n ∷ []) - 1 ≡ length served = omega (arith, length-append served (n ∷ [])) in
-    ap (slice_get (served ++ n ∷ [])) e ∙ at served
-  where
-    at : (ns : List ℕ) → slice_get (ns ++ n ∷ []) (length ns) ≡ Some n
-    at [] = refl
-    at (m ∷ ns) = at ns
-
 -- ---- The base moves
 pub moves : (base base' copied : Book) (later later' : List (List ℕ)) (served served' : List ℕ) (a b count : ℕ) → length served ≡ 10 → a ≡ get_or served 0 0 → b ≡ get_or served 1 0 → served' ≡ drop 1 served → count ≡ b - a
     → base' ≡ fold after base (take count later) → map.len base'.orders ≤ map.len base.orders + count → later' ≡ drop count later → Moves base base' later later' served served' count
@@ -401,3 +391,14 @@ later_both a b p q =
     let messages : b.messages ≡ a.messages = p.messages_are ∙ ap (λ (l : List (List ℕ)). a.messages ++ l) more ∙ append-nil a.messages in
     let sequences : b.advertised ≡ a.advertised = p.advertised_are ∙ ap (λ (l : List ℕ). a.advertised ++ l) others ∙ append-nil a.advertised in
     ap (λ (l : List (List ℕ)). record { messages = l; advertised = b.advertised }) messages ∙ ap (λ (l : List ℕ). record { messages = a.messages; advertised = l }) sequences
+
+-- there is a newest one where there is one at all
+pub none_advertised : (advertised : List ℕ) → newest_of advertised ≡ None → advertised ≡ []
+none_advertised [] none = refl
+none_advertised (n ∷ ns) none =
+    let e : length (n ∷ ns) - 1 ≡ length ns = omega arith in
+    absurd (at n ns (ap (slice_get (n ∷ ns)) (sym e) ∙ none))
+  where
+    at : (m : ℕ) (ms : List ℕ) → slice_get (m ∷ ms) (length ms) ≡ None → ⊥
+    at m [] e = cc
+    at m (k ∷ ms) e = at k ms e

@@ -1,4 +1,4 @@
-ghost use Rattle.std.specs.Prelude.{◌≡◌, ℕ, ◌==◌, List};
+ghost use Rattle.std.specs.Prelude.{◌≡◌, ℕ, ◌==◌, List, [], None};
 ghost use Rattle.std.specs.List.{list_any};
 ghost use Rattle.pitch_model.specs.Advertising.{Operation, advertised_by, last_ten, newest_of};
 ghost use Rattle.session_ends.specs.Laws.{ClosesOnce, RisesNowhere};
@@ -24,9 +24,10 @@ pub fn image_look_laws()
 
 /// What is seen of a shelf: all messages that were pushed, and of the sequences that were
 /// advertised the last ten, which are those that are served; the newest of them is the newest of
-/// all.
+/// all, and there is none only where nothing was advertised.
 pub fn shelves_show_what_was_pushed()
     ensures shows { (shelf : Shelf) (operations : List Operation) → ShelfStands shelf operations → ShelfShows shelf (seen_of operations) }
     ensures served { (operations : List Operation) (sequence : ℕ) → is_served (seen_of operations) sequence ≡ list_any (λ n. n == sequence) (last_ten (advertised_by operations)) }
+    ensures none { (advertised : List ℕ) → newest_of advertised ≡ None → advertised ≡ [] }
     ensures newest { (operations : List Operation) → newest_of (seen_of operations).advertised ≡ newest_of (advertised_by operations) }
 {}

@@ -1,10 +1,10 @@
-ghost use Rattle.std.specs.Prelude.{◌≡◌, ℕ, ◌||◌, Bool, true, false, List, [], ◌∷◌, ◌++◌, OnOk, OnErr, IfOk, IfSome, None, Some, is_some, is_none};
+ghost use Rattle.std.specs.Prelude.{◌≡◌, ℕ, ◌||◌, Bool, true, false, List, [], ◌∷◌, ◌++◌, OnOk, OnErr, IsOk, IfOk, IfSome, None, Some, is_some, is_none};
 ghost use Rattle.std.specs.List.{list_any};
 ghost use Rattle.pitch_messages.specs.declared.session.SessionMessage.TheVariants.{SpinReply};
 ghost use Rattle.session_ends.specs.declared.closed.CloseCause.TheVariants.{Memory};
 ghost use Rattle.session_ends.specs.declared.role.Role.TheVariants.{SpinServer as SpinRole};
 ghost use Rattle.session_ends.specs.Answering.{Hears, HearsAll};
-ghost use Rattle.session_ends.specs.Closing.{cause_of, first_cause, logs_in, login_status};
+ghost use Rattle.session_ends.specs.Closing.{cause_of, closed_of, first_cause, logs_in, login_status};
 ghost use Rattle.session_ends.specs.Events.{Event, Ticked, Pumped, Told};
 ghost use Rattle.session_ends.specs.Items.{closed_at};
 ghost use Rattle.session_ends.specs.Sending.{sent_at_tick};
@@ -74,9 +74,11 @@ impl SpinServer {
         }
     }
 
-    /// Why the session closed, or None exactly while it has not.
+    /// Why the session closed and where, or None exactly while it has not.
     pub fn closed(&self) -> Option<Closed>
-        ensures { result ≡ self.now.end.closed }
+        ensures kept { result ≡ self.now.end.closed }
+        // Of everything that happened to it: the first cause that closes it.
+        ensures cause { (es : List (Event (List Served))) → SpinStands self.now es → result ≡ closed_of self.now.end.setup es }
     {
         self.end.closed()
     }
@@ -341,6 +343,7 @@ impl SpinServer {
         ensures err_closed { OnErr result (self.new.end.closed ≡ Some (closed_at Memory self.new.end.inbox.fed)) }
         ensures err_reply { OnErr result (reply.new.items ≡ reply.old.items) }
         ensures shut { IfSome self.old.end.closed (λ c. self.new ≡ self.old) }
+        ensures shut_ok { IfSome self.old.end.closed (λ c. IsOk result × (reply.new.items ≡ reply.old.items)) }
     {
         if self.is_closed() {
             return Ok(());
@@ -369,6 +372,7 @@ impl SpinServer {
         ensures more { IfOk result (λ more. (es : List (Event (List Served))) → SpinStands self.old es → more ≡ runs self.old.end.setup (Pumped ∷ es)) }
         ensures setup { self.new.end.setup ≡ self.old.end.setup }
         ensures err { OnErr result ((self.new ≡ self.old) × (reply.new.items ≡ reply.old.items)) }
+        ensures shut { IfSome self.old.end.closed (λ c. IsOk result × ((self.new ≡ self.old) × (reply.new.items ≡ reply.old.items))) }
     {
         if self.is_closed() {
             return Ok(false);
@@ -397,6 +401,7 @@ impl SpinServer {
         ensures says { OnOk result ((es : List (Event (List Served))) → SpinStands self.old es → reply.new.items ≡ reply.old.items ++ spin_sends self.old.end.setup (Told sequence) es) }
         ensures setup { self.new.end.setup ≡ self.old.end.setup }
         ensures err { OnErr result ((self.new ≡ self.old) × (reply.new.items ≡ reply.old.items)) }
+        ensures shut { IfSome self.old.end.closed (λ c. IsOk result × ((self.new ≡ self.old) × (reply.new.items ≡ reply.old.items))) }
     {
         if self.is_closed() {
             return Ok(());
@@ -427,6 +432,7 @@ impl SpinServer {
         ensures err_closed { OnErr result (self.new.end.closed ≡ Some (closed_at Memory self.new.end.inbox.fed)) }
         ensures err_reply { OnErr result (reply.new.items ≡ reply.old.items) }
         ensures shut { IfSome self.old.end.closed (λ c. self.new ≡ self.old) }
+        ensures shut_ok { IfSome self.old.end.closed (λ c. IsOk result × (reply.new.items ≡ reply.old.items)) }
     {
         self.end.tick(reply)?;
         Ok(())
