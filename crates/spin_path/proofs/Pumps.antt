@@ -1,0 +1,61 @@
+-- What a spin server does over a shelf.
+use Rattle.std.proofs.Common.{◌≡◌, ℕ, zero, suc, ◌-◌, ◌≤◌, List, [], ◌∷◌, ◌++◌, length, drop, replicate, sym, ap, ◌∙◌, subst, append_assoc}
+use Rattle.std.specs.List.{AllByRecursion}
+use Rattle.std.proofs.lemmas.List.{append-nil}
+use Rattle.pitch_model.specs.Advertising.{Operation, accepted_by, advertised_by}
+use Rattle.pitch_model.specs.History.{Raw}
+use Rattle.pitch_model.proofs.Advertising.{advertised_within}
+use Rattle.session_ends.specs.Answering.{Rises}
+use Rattle.session_ends.specs.Closing.{Setup}
+use Rattle.session_ends.specs.Events.{Event, Fed, Pumped}
+use Rattle.session_ends.proofs.Runs.{rises_to, rises_nowhere}
+use Rattle.spin_server.specs.Served.{Served, ServedLater}
+use Rattle.spin_server.specs.Serving.{Serving, SpinStands, SpinFeeds, spin_sends}
+use Rattle.spin_server.specs.Shelves.{Shelf}
+use Rattle.spin_server.specs.Stands.{ShelfStands, ShelfShows, seen_of}
+use Rattle.spin_server.proofs.Serves.{later_order}
+use Rattle.spin_server.proofs.Shelving.{one_served, later_both, shelf_seen}
+use Rattle.spin_path.specs.Paths.{Move, path_of, all_said, IsShown, AreMoves, ServesOn}
+
+all_drop : (C : ℕ → Type 0) (n : ℕ) (ns : List ℕ) → AllByRecursion C ns → AllByRecursion C (drop n ns)
+all_drop C zero ns all = all
+all_drop C (suc n) [] all = tt
+all_drop C (suc n) (m ∷ ns) all = all_drop C n ns all.1
+
+all_of : (V : List Raw) (view : Served) (n : ℕ) → IsShown V view → AllByRecursion (IsShown V) (replicate n view)
+all_of V view zero s = tt
+all_of V view (suc n) s = (s, all_of V view n s)
+
+seen_is_shown : (operations : List Operation) → IsShown (accepted_by operations) (seen_of operations)
+seen_is_shown operations = record {
+  more = [];
+  messages_are = sym (append-nil (accepted_by operations));
+  within = all_drop (λ n. n ≤ length (accepted_by operations)) (length (advertised_by operations) - 10) (advertised_by operations) (advertised_within operations);
+}
+
+-- over a shelf that stays as it was, all views of a feeding are one
+pub views_are_shown : (shelf : Shelf) (operations : List Operation) (views : List Served) (now : Served) → ShelfStands shelf operations → Rises ServedLater (seen_of operations) views now → ShelfShows shelf now → AllByRecursion (IsShown (accepted_by operations)) views
+views_are_shown shelf operations views now stands rises shows =
+    let first : Served = seen_of operations in
+    let same : now ≡ first = one_served shelf first now (shelf_seen shelf operations stands) shows (rises_to ServedLater later_order first views now rises) in
+    subst (AllByRecursion (IsShown (accepted_by operations))) (sym (rises_nowhere ServedLater later_order later_both first now views rises same)) (all_of (accepted_by operations) first (length views) (seen_is_shown operations))
+
+-- the two moves of a server that was fed and then pumped
+pub served_on : (V : List Raw) (setup : Setup) (moves : List Move) (piece : List ℕ) (old fed new : Serving) (before middle after : List ℕ) (view : Served) (shown : Served → Type 0) (f : SpinFeeds (path_of setup moves).served piece old fed view shown before middle)
+    → AllByRecursion (IsShown V) f.views → AreMoves V setup moves → old.end.setup ≡ (path_of setup moves).setup → fed.end.setup ≡ old.end.setup → SpinStands new (Pumped ∷ Fed piece f.views ∷ (path_of setup moves).served)
+    → after ≡ middle ++ spin_sends fed.end.setup Pumped (Fed piece f.views ∷ (path_of setup moves).served) → ServesOn V setup moves piece new before after
+served_on V setup moves piece old fed new before middle after view shown f all are same still stands pumps =
+    let es : List (Event (List Served)) = (path_of setup moves).served in
+    let s : Setup = (path_of setup moves).setup in
+    let says : List ℕ = spin_sends s (Fed piece f.views) es in
+    let more : List ℕ = spin_sends s Pumped (Fed piece f.views ∷ es) in
+    record {
+      views = f.views;
+      are = (_, (all, are));
+      stands = stands;
+      said = says ++ more;
+      appended = pumps ∙ ap (λ (x : Setup). middle ++ spin_sends x Pumped (Fed piece f.views ∷ es)) (still ∙ same)
+          ∙ ap (λ (x : List ℕ). x ++ more) (f.replied ∙ ap (λ (x : Setup). before ++ spin_sends x (Fed piece f.views) es) same)
+          ∙ append_assoc before says more;
+      says = append_assoc (all_said s es) says more;
+    }

@@ -1,0 +1,11 @@
+use Rattle.session_ends.proofs.Runs.{rises_nowhere}
+use Rattle.spin_server.specs.Served.{ServedLater}
+use Rattle.spin_server.proofs.Serves.{later_order}
+use Rattle.spin_server.proofs.Shelving.{one_served, later_both}
+use Rattle.spin_server.proofs.laws.image_look_laws.Goals as goal
+
+pub returns-clause-one : goal.returns-clause-one
+returns-clause-one c = one_served
+
+pub returns-clause-rises : goal.returns-clause-rises
+returns-clause-rises c = rises_nowhere ServedLater later_order later_both

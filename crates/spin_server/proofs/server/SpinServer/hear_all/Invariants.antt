@@ -1,0 +1,16 @@
+use Rattle.std.proofs.Common.{◌≡◌, drop, true, None, [], Option}
+use Rattle.session_ends.proofs.Runs.{Going, Left}
+use Rattle.spin_server.specs.Served.{Served, ServedLater}
+use Rattle.spin_server.specs.Serving.{Spin, spin_answer}
+use Rattle.spin_server.proofs.server.SpinServer.hear_all.Given as goal
+
+abbrev pub invariant-items : goal.invariant-items
+invariant-items g l = record {
+  still : l.self.end.closed ≡ None;
+  rest : l.self.end ≡ record l.fn.self.end { closed = l.self.end.closed; logged = l.self.end.logged };
+  same : g.L.ImageLookup.still ≡ true → l.lookup ≡ l.fn.lookup;
+  left : Left l.fn.self.end.setup l.fn.self.end.logged l.items l.self.end.logged (drop l.i l.items);
+  going : (view : Served) → g.L.ImageLookup.shows l.fn.lookup view
+      → Going l.fn.self.end.setup (spin_answer l.fn.self.end.setup) ServedLater l.fn.self.end.logged l.items l.fn.self.spin view l.self.end.logged (drop l.i l.items)
+      (λ (spin : Option Spin). spin ≡ l.self.spin) (g.L.ImageLookup.shows l.lookup) l.fn.reply.items l.reply.items [] [];
+}

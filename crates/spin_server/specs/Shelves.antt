@@ -1,0 +1,61 @@
+-- What an image shelf keeps.
+use Rattle.std.specs.Prelude.{◌≡◌, ℕ, ◌+◌, ◌≤◌, Bool, false, ◌==◌, List, [], ◌∷◌, length, take, drop, Option, None, Some, refl}
+use Rattle.std.specs.Ordering.{nat_cmp}
+use Rattle.std.specs.FinMap as map
+use Rattle.std.specs.Coded.{Coded, code_by, coded×, coded_ℕ, coded_list, coded_option}
+use Rattle.pitch_messages.specs.declared.order.Order.{Order}
+use Rattle.pitch_model.specs.Book.{Book, book_after}
+use Rattle.order_book.specs.Standing.{order_code}
+
+-- a base book, the messages after it, how many messages were pushed, and the sequences that are
+-- served
+pub record Shelf : Type 0 where
+  pub base : Book
+  pub after : List (List ℕ)
+  pub pushed : ℕ
+  pub served : List ℕ
+
+-- the first, or another where there is none
+abbrev pub first_or : ℕ → List ℕ → ℕ
+first_or other [] = other
+first_or other (n ∷ ns) = n
+
+-- there is one, and it is this
+abbrev pub is_number : Option ℕ → ℕ → Bool
+is_number None sequence = false
+is_number (Some n) sequence = n == sequence
+
+-- the base is the book at the oldest sequence that is served; while none is, the book of all
+-- messages
+abbrev pub base_at : Shelf → ℕ
+base_at shelf = first_or shelf.pushed shelf.served
+
+-- numbers that do not fall, from one number up to another
+abbrev pub Climbs : ℕ → List ℕ → ℕ → Type 0
+Climbs low [] top = low ≤ top
+Climbs low (n ∷ ns) top = (low ≤ n) × Climbs n ns top
+
+-- what holds of every shelf
+pub record IsShelf (shelf : Shelf) : Type 0 where
+  pub climbs : Climbs 0 shelf.served shelf.pushed
+  pub size : length shelf.after + base_at shelf ≡ shelf.pushed
+  pub few : map.len shelf.base.orders ≤ base_at shelf
+  pub ten : length shelf.served ≤ 10
+  pub top : shelf.pushed ≤ 4294967294
+
+-- it keeps these messages
+pub record ShelfKeeps (shelf : Shelf) (messages : List (List ℕ)) : Type 0 where
+  pub pushed_is : shelf.pushed ≡ length messages
+  pub base_is : shelf.base ≡ book_after (take (base_at shelf) messages)
+  pub after_is : shelf.after ≡ drop (base_at shelf) messages
+
+-- ---- Its code: lists and numbers
+abbrev pub ShelfParts : Type 0
+ShelfParts = Option ℕ × (map.FinMap nat_cmp Order × (List (List ℕ) × (ℕ × List ℕ)))
+
+abbrev pub shelf_from : ShelfParts → Shelf
+shelf_from p = record { base = record { second = p.0; orders = p.1.0 }; after = p.1.1.0; pushed = p.1.1.1.0; served = p.1.1.1.1 }
+
+abbrev pub shelf_code : Coded Shelf
+shelf_code = code_by ShelfParts (coded× (coded_option coded_ℕ) (coded× (map.code coded_ℕ order_code) (coded× (coded_list (coded_list coded_ℕ)) (coded× coded_ℕ (coded_list coded_ℕ)))))
+    (λ s. (s.base.second, (s.base.orders, (s.after, (s.pushed, s.served))))) shelf_from (λ _. refl)

@@ -1,0 +1,58 @@
+ghost use Rattle.std.specs.Prelude.{◌≡◌, ◌+◌, ◌<◌, ◌≤◌, ◌++◌, [], ◌∷◌, length, map, OnOk, OnErr, IfOk};
+ghost use Rattle.pitch_messages.specs.Forms.{add_message};
+ghost use Rattle.pitch_messages.specs.Writing.{written};
+ghost use Rattle.pitch_model.specs.History.{adds};
+ghost use Rattle.pitch_model.specs.Image.{clock_of, image_of};
+
+use order_book::{OrderList, UnitBook};
+use pitch_fields::OutOfMemory;
+use pitch_messages::{Message, Order, Raw, RawList, add_raw, write};
+use std::alloc::Global;
+
+// Appends a message to a list that has room for it.
+fn push_reserved(out: &mut RawList, raw: &Raw)
+    requires { 0 < out.old.spare }
+    ensures items { out.new.items ≡ out.old.items ++ raw.now ∷ [] }
+    ensures spare { out.old.spare ≤ out.new.spare + 1 }
+{
+    out.push(raw).unwrap();
+}
+
+// Appends the Time message of an image, where a second is known.
+fn push_clock(second: Option<u32>, out: &mut RawList)
+    requires { 0 < out.old.spare }
+    ensures items { out.new.items ≡ out.old.items ++ map written (clock_of second) }
+    ensures spare { out.old.spare ≤ out.new.spare + 1 }
+{
+    match second {
+        None => {}
+        Some(second) => push_reserved(out, &write(&Message::Time { second })),
+    }
+}
+
+// Appends the adds of an image.
+fn push_adds(orders: &[Order], out: &mut RawList)
+    requires { length orders.now ≤ out.old.spare }
+    ensures { out.new.items ≡ out.old.items ++ map written (map (λ order. add_message order 0) orders.now) }
+{
+    'adds: for i in 0..orders.len() {
+        push_reserved(out, &add_raw(&orders[i], 0));
+    }
+}
+
+/// Appends the image of a book ("Spin Server"): a Time message where its second is known, and the
+/// add of each open order by rising id, with offset 0. Answers the number of adds. The list is as
+/// before after OutOfMemory.
+pub fn append_image(alloc: Global, book: &UnitBook, out: &mut RawList) -> Result<u32, OutOfMemory>
+    ensures ok { OnOk result (out.new.items ≡ out.old.items ++ image_of book.now.book) }
+    ensures count { IfOk result (λ count. count ≡ adds (image_of book.now.book)) }
+    ensures err { OnErr result (out.new.items ≡ out.old.items) }
+{
+    let mut orders = OrderList::make(alloc);
+    book.orders_by_id(&mut orders)?;
+    let count = book.len();
+    out.reserve(orders.len().saturating_add(1))?;
+    push_clock(book.second(), out);
+    push_adds(orders.as_slice(), out);
+    Ok(count)
+}

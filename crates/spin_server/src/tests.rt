@@ -1,0 +1,185 @@
+use crate::{Account, CloseCause, Closed, ImageShelf, SpinServer};
+use pitch_messages::Raw;
+use std::alloc::Global;
+use std::process::Abort;
+use unit_packets::BlockError;
+
+const LOGIN: &[u8] = b"\x1e\0\x01\x01\0\0\0\0\x16\x010001FEED  PITCH     ";
+
+const ADD: &[u8; 26] = b"\x1a\x22\0\0\0\0\x01\0\0\0\0\0\0\0B\x64\0ABC   \x10\x27\x01";
+
+fn server(rt: &impl Abort, alloc: Global, in_use: bool) -> SpinServer {
+    let mut accounts = Vec::new(alloc);
+    let account = Account {
+        sub: *b"0001",
+        user: *b"FEED",
+        password: *b"PITCH     ",
+    };
+    accounts.push(account).expect(rt, "memory");
+    SpinServer::make(alloc, 1, accounts, in_use)
+}
+
+// The add of an order of 100 shares.
+fn add(id: u8) -> [u8; 26] {
+    let mut add = *ADD;
+    add[6] = id;
+    add
+}
+
+// A shelf of so many adds, each advertised as soon as it was pushed.
+fn shelf(rt: &impl Abort, alloc: Global, count: u8) -> ImageShelf {
+    let mut shelf = ImageShelf::make(alloc);
+    for id in 0..count {
+        let raw = Raw::from_bytes(&add(id + 1)).expect(rt, "a raw");
+        assert!(rt; shelf.pushed() < 4294967294);
+        shelf.push(&raw).expect(rt, "memory");
+        shelf.advertise().expect(rt, "memory");
+    }
+    shelf
+}
+
+// What is fed, and what is replied to it: a login, a request for 2, and two requests for 12.
+const REQUESTS: [(&[u8], &[u8]); 3] = [
+    (
+        LOGIN,
+        b"\x0b\0\x01\x01\0\0\0\0\x03\x02A\x0e\0\x01\x01\0\0\0\0\x06\x80\x0c\0\0\0",
+    ),
+    (
+        b"\x0e\0\x01\x01\0\0\0\0\x06\x81\x02\0\0\0",
+        b"\x13\0\x01\x01\0\0\0\0\x0b\x82\x02\0\0\0\0\0\0\0O",
+    ),
+    (
+        b"\x0e\0\x01\x01\0\0\0\0\x06\x81\x0c\0\0\0\x0e\0\x01\x01\0\0\0\0\x06\x81\x0c\0\0\0",
+        b"\x13\0\x01\x01\0\0\0\0\x0b\x82\x0c\0\0\0\x0c\0\0\0A\x13\0\x01\x01\0\0\0\0\x0b\x82\x0c\0\0\0\0\0\0\0S",
+    ),
+];
+
+#[test]
+fn an_image_of_twelve_messages(rt: HostRuntime) {
+    let mut shelf = shelf(&rt, rt.alloc(), 12);
+    assert_eq!(rt; shelf.retained(), 9);
+    let mut server = server(&rt, rt.alloc(), false);
+    let mut reply = Vec::new(rt.alloc());
+    for (fed, replied) in &REQUESTS {
+        reply.clear();
+        server
+            .feed(fed, &mut shelf, &mut reply)
+            .expect(&rt, "memory");
+        assert_eq!(rt; reply.as_slice(), *replied);
+    }
+    reply.clear();
+    server.tell(13, &mut reply).expect(&rt, "memory");
+    assert_eq!(rt; reply.len(), 0);
+    assert!(rt; server.pump(&mut reply).expect(&rt, "memory"));
+    let mut image = Vec::new(rt.alloc());
+    image
+        .extend_from_slice(b"\x40\x01\x0c\x01\0\0\0\0")
+        .expect(&rt, "memory");
+    for id in 0..12 {
+        image.extend_from_slice(&add(id + 1)).expect(&rt, "memory");
+    }
+    assert_eq!(rt; reply.as_slice(), image.as_slice());
+    reply.clear();
+    assert!(rt; !server.pump(&mut reply).expect(&rt, "memory"));
+    server.tell(12, &mut reply).expect(&rt, "memory");
+    server
+        .feed(
+            b"\x0e\0\x01\x01\0\0\0\0\x06\x81\x03\0\0\0",
+            &mut shelf,
+            &mut reply,
+        )
+        .expect(&rt, "memory");
+    server.tick(&mut reply).expect(&rt, "memory");
+    server.tick(&mut reply).expect(&rt, "memory");
+    assert_eq!(rt;
+        reply.as_slice(),
+        b"\x0e\0\x01\x01\0\0\0\0\x06\x83\x0c\0\0\0\x0e\0\x01\x01\0\0\0\0\x06\x80\x0c\0\0\0\x13\0\x01\x01\0\0\0\0\x0b\x82\x03\0\0\0\x03\0\0\0A\x08\0\0\x01\0\0\0\0".as_slice()
+    );
+}
+
+// Bytes that are fed to a new server, in use or not; the status of its last reply, and why it
+// closes.
+struct Case {
+    in_use: bool,
+    fed: &'static [&'static [u8]],
+    status: Option<u8>,
+    closed: Option<(CloseCause, u64)>,
+}
+
+const CASES: [Case; 9] = [
+    Case {
+        in_use: false,
+        fed: &[b"\x1e\0\x01\x01\0\0\0\0\x16\x010009FEED  PITCH     "],
+        status: Some(b'S'),
+        closed: Some((CloseCause::Refused { status: b'S' }, 8)),
+    },
+    Case {
+        in_use: false,
+        fed: &[b"\x1e\0\x01\x01\0\0\0\0\x16\x010001FEED  PASTE     "],
+        status: Some(b'N'),
+        closed: Some((CloseCause::Refused { status: b'N' }, 8)),
+    },
+    Case {
+        in_use: true,
+        fed: &[LOGIN],
+        status: Some(b'B'),
+        closed: Some((CloseCause::Refused { status: b'B' }, 8)),
+    },
+    Case {
+        in_use: false,
+        fed: &[LOGIN, LOGIN],
+        status: Some(b'B'),
+        closed: Some((CloseCause::Refused { status: b'B' }, 38)),
+    },
+    Case {
+        in_use: false,
+        fed: &[LOGIN, b"\x0d\0\x01\x01\0\0\0\0\x05\x81\x01\0\0"],
+        status: Some(b'A'),
+        closed: Some((CloseCause::Short, 38)),
+    },
+    Case {
+        in_use: false,
+        fed: &[b"\x0e\0\x01\x01\0\0\0\0\x06\x81\x01\0\0\0"],
+        status: None,
+        closed: Some((CloseCause::NotLoggedIn, 8)),
+    },
+    Case {
+        in_use: false,
+        fed: &[b"\x08\0\0\0\x01\0\0\0"],
+        status: None,
+        closed: Some((CloseCause::Sequenced, 0)),
+    },
+    Case {
+        in_use: false,
+        fed: &[b"\x07\0\0\0\0\0\0\0"],
+        status: None,
+        closed: Some((
+            CloseCause::Block(BlockError::LengthBelowHeader { length: 7 }),
+            0,
+        )),
+    },
+    // A type that is not read, and a block that is not whole.
+    Case {
+        in_use: false,
+        fed: &[b"\x0b\0\x01\0\0\0\0\0\x03\x99\x07", b"\xff\xff\0\0\0\0\0\0"],
+        status: None,
+        closed: None,
+    },
+];
+
+#[test]
+fn hostile_and_refused(rt: HostRuntime) {
+    let mut shelf = ImageShelf::make(rt.alloc());
+    for case in &CASES {
+        let mut server = server(&rt, rt.alloc(), case.in_use);
+        let mut reply = Vec::new(rt.alloc());
+        for piece in case.fed {
+            server
+                .feed(piece, &mut shelf, &mut reply)
+                .expect(&rt, "memory");
+        }
+        assert_eq!(rt; reply.last().copied(), case.status);
+        let closed = case.closed.map(|(cause, place)| Closed { cause, place });
+        assert_eq!(rt; server.closed(), closed);
+    }
+}
