@@ -68,12 +68,12 @@ run_of SpinLink (raw ∷ raws) = item.ImageMessages (record { items = raw ∷ ra
 run_of role raws = []
 
 -- ---- All messages
--- what is told behind a message that is another one, or else what is told of it
+-- what is told after a message that is another one, or else what is told of it
 abbrev pub or_items : Option (List ℕ) → List Item → List Item → List Item
 or_items (Some raw) more mine = more
 or_items None more mine = mine
 
--- what is told behind the other messages that come first
+-- what is told after the other messages that come first
 abbrev pub after_others : Role → List Heard → List Item
 after_others role [] = []
 after_others role (item ∷ items) =

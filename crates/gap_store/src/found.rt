@@ -1,4 +1,5 @@
 ghost use Rattle.std.specs.Prelude.{◌≡◌, ℕ, ◌+◌, ◌≤◌, Bool, true, List, length, OnErr, OnOk, IfOk};
+ghost use Rattle.pitch_fields.specs.Limits.{last_sequence};
 ghost use Rattle.gap_store.specs.Look.{View, LooksAt};
 
 use pitch_fields::OutOfMemory;
@@ -33,7 +34,7 @@ pub trait GapLookup {
         // which is no earlier.
         ensures found { IfOk result (λ found. (v : View) → shows self.old v → LooksAt (shows self.new) v first count found out.old.items out.new.items) }
         // A range ends at the last sequence that a message can have.
-        ensures within { OnOk result (first + length out.new.items ≤ 4294967295 + length out.old.items) }
+        ensures within { OnOk result (first + length out.new.items ≤ (last_sequence + 1) + length out.old.items) }
         ensures err { OnErr result (out.new.items ≡ out.old.items) }
         ensures same { still ≡ true → self.new ≡ self.old }
         // Of every view that it showed before: without memory it shows the same.

@@ -1,4 +1,5 @@
 ghost use Rattle.std.specs.Prelude.{◌≡◌, ℕ, ◌+◌, ◌-◌, ◌≤◌, ◌<◌, List, [], ◌∷◌, ◌++◌, true, OnErr, IfOk, length, take, drop};
+ghost use Rattle.pitch_fields.specs.Limits.{last_sequence, most_held};
 ghost use Rattle.gap_store.specs.Look.{View, LooksAt, Store, store_of, first_kept};
 
 use crate::found::{Found, GapLookup};
@@ -16,6 +17,7 @@ pub struct GapStore {
 }
 
 impl Model for GapStore {
+    ghost use Rattle.pitch_fields.specs.Limits.{last_sequence};
     ghost use Rattle.std.specs.Prelude.{◌≡◌, ◌≤◌, length, min};
     ghost use Rattle.gap_store.specs.Look.{Store};
 
@@ -23,7 +25,7 @@ impl Model for GapStore {
 
     ghost view = { λ s. record { items = s.ring.items; room = s.ring.capacity; pushed = s.pushed } };
 
-    ghost invariant = { λ s. (length s.ring.items ≡ min s.pushed s.ring.capacity) × (1 ≤ s.ring.capacity) × (s.pushed ≤ 4294967294) };
+    ghost invariant = { λ s. (length s.ring.items ≡ min s.pushed s.ring.capacity) × (1 ≤ s.ring.capacity) × (s.pushed ≤ last_sequence) };
 }
 
 // Appends so many messages of the ring from a place on. The list is as before after OutOfMemory.
@@ -61,7 +63,7 @@ impl GapStore {
     /// It keeps the last `kept` messages, at least 1 and at most 65,536.
     pub fn make(alloc: Global, kept: u32) -> Result<GapStore, OutOfMemory>
         requires least { 1 ≤ kept }
-        requires most { kept ≤ 65536 }
+        requires most { kept ≤ most_held }
         ensures { IfOk result (λ store. store ≡ store_of (record { messages = []; kept = kept })) }
     {
         let ring = HeapCircularBuffer::with_capacity(alloc, kept as usize)?;
@@ -74,7 +76,7 @@ impl GapStore {
     /// Fewer than 4,294,967,294 messages may have been pushed before, as [`GapStore::last`] tells.
     #[tactic(auto, using(crate::proofs::Keeping::pushed_on))]
     pub fn push(&mut self, raw: &Raw)
-        requires { self.old.pushed < 4294967294 }
+        requires { self.old.pushed < last_sequence }
         // Of all messages of which the store kept the last: it keeps the last of them with this
         // one.
         ensures { (v : View) → self.old ≡ store_of v → self.new ≡ store_of (record { messages = v.messages ++ raw.now ∷ []; kept = v.kept }) }
@@ -106,7 +108,7 @@ impl GapStore {
         // Of all messages of which the store keeps the last: how many they are.
         ensures last { (v : View) → self.now ≡ store_of v → result ≡ length v.messages }
         ensures pushed { result ≡ self.now.pushed }
-        ensures within { result ≤ 4294967294 }
+        ensures within { result ≤ last_sequence }
     {
         self.pushed
     }

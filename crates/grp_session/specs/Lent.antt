@@ -8,7 +8,7 @@ abbrev pub OnLent : {X : Type 0} → Option (MutBor X) → (X → Type 0) → Ty
 OnLent None P = Unit {0}
 OnLent (Some r) P = P r.now
 
--- the fact of what was left behind the reference
+-- the fact of what the reference was left with
 abbrev pub Left : {X : Type 0} → Unit {0} ⊎ ((MutBor X × Unit {0}) ⊎ ⊥) → (X → Type 0) → Type 0
 Left (inl none) P = Unit {0}
 Left (inr (inl r)) P = P r.0.now

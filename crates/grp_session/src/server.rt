@@ -311,7 +311,7 @@ impl GrpServer {
         Ok(())
     }
 
-    // ProxyFeeds from a gap source that is there or not.
+    // Feeds from a gap source that is there or not.
     fn feed_from<L: GapLookup>(
         &mut self,
         there: bool,

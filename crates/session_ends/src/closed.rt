@@ -16,7 +16,7 @@ pub enum CloseCause {
     Refused { status: u8 },
     /// No byte came for five ticks in a row; the number is this project's own.
     Silent,
-    /// A call on the end answered OutOfMemory.
+    /// A feeding or a tick of the end answered OutOfMemory.
     Memory,
 }
 

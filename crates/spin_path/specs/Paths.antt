@@ -1,6 +1,7 @@
 -- A client's history over its connections to spin servers, one after another, whose bytes are only
 -- delayed or cut.
 use Rattle.std.specs.Prelude.{◌≡◌, ℕ, ◌+◌, ◌≤◌, ◌<◌, List, [], ◌∷◌, ◌++◌, length, map, replicate, Some}
+use Rattle.pitch_fields.specs.Limits.{last_sequence}
 use Rattle.std.specs.List.{AllByRecursion}
 use Rattle.pitch_model.specs.declared.item.Item.{Item}
 use Rattle.pitch_model.specs.declared.change.ImageEnd.TheVariants as end
@@ -136,7 +137,7 @@ NoneBad (entry ∷ E) = NoneBad E
 -- the messages of a unit: bytes, and as many as have sequences
 pub record IsFeed (V : List Raw) : Type 0 where
   pub bytes : AllByRecursion AreBytes V
-  pub top : length V ≤ 4294967294
+  pub top : length V ≤ last_sequence
 
 -- a history whose images are all the venue's, and none of them bad
 pub record HasWholeImages (V : List Raw) (E : List Entry) : Type 0 where

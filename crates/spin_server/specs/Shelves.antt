@@ -1,5 +1,6 @@
 -- What an image shelf keeps.
 use Rattle.std.specs.Prelude.{◌≡◌, ℕ, ◌+◌, ◌≤◌, Bool, false, ◌==◌, List, [], ◌∷◌, length, take, drop, Option, None, Some, refl}
+use Rattle.pitch_fields.specs.Limits.{last_sequence}
 use Rattle.std.specs.Ordering.{nat_cmp}
 use Rattle.std.specs.FinMap as map
 use Rattle.std.specs.Coded.{Coded, code_by, coded×, coded_ℕ, coded_list, coded_option}
@@ -41,7 +42,7 @@ pub record IsShelf (shelf : Shelf) : Type 0 where
   pub size : length shelf.after + base_at shelf ≡ shelf.pushed
   pub few : map.len shelf.base.orders ≤ base_at shelf
   pub ten : length shelf.served ≤ 10
-  pub top : shelf.pushed ≤ 4294967294
+  pub top : shelf.pushed ≤ last_sequence
 
 -- it keeps these messages
 pub record ShelfKeeps (shelf : Shelf) (messages : List (List ℕ)) : Type 0 where

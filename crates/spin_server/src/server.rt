@@ -360,7 +360,7 @@ impl SpinServer {
         Err(OutOfMemory)
     }
 
-    /// Appends the next block of the running image, or Spin Finished behind its last ("Spin
+    /// Appends the next block of the running image, or Spin Finished after its last ("Spin
     /// Finished Message"), and nothing where no spin runs. Answers whether a spin still runs. All
     /// is as before after OutOfMemory.
     pub fn pump(&mut self, reply: &mut Vec<u8>) -> Result<bool, OutOfMemory>

@@ -1,4 +1,6 @@
 ghost use Rattle.std.specs.Prelude.{◌≡◌, ℕ, ◌+◌, ◌-◌, ◌<◌, ◌≤◌, ◌++◌, List, [], ◌∷◌, Some, true, length, take, drop, OnOk, OnErr, IfOk, ◌==◌, nat_eq};
+ghost use Rattle.pitch_fields.specs.Limits.{last_sequence};
+ghost use Rattle.order_book.specs.Standing.{most_orders};
 ghost use Rattle.std.specs.List.{fold, list_any};
 ghost use Rattle.std.specs.FinMap as map;
 ghost use Rattle.pitch_model.specs.Book.{after, book_after};
@@ -44,7 +46,7 @@ impl Model for ImageShelf {
 // Applies the first messages to a book that has room for them.
 fn apply_first(book: &mut UnitBook, raws: Raws<'_>, count: u32)
     requires room { count ≤ book.old.spare }
-    requires few { map.len book.old.book.orders + count ≤ 4294967295 }
+    requires few { map.len book.old.book.orders + count ≤ most_orders }
     requires there { count ≤ length raws }
     ensures book { book.new.book ≡ fold after book.old.book (take count raws.entry) }
     ensures few { map.len book.new.book.orders ≤ map.len book.old.book.orders + count }
@@ -60,7 +62,7 @@ fn apply_first(book: &mut UnitBook, raws: Raws<'_>, count: u32)
 
 // Takes room for so many messages, and applies them. The book is as before after OutOfMemory.
 fn advance(book: &mut UnitBook, raws: Raws<'_>, count: u32) -> Result<(), OutOfMemory>
-    requires few { map.len book.old.book.orders + count ≤ 4294967295 }
+    requires few { map.len book.old.book.orders + count ≤ most_orders }
     requires there { count ≤ length raws }
     ensures ok { OnOk result (book.new.book ≡ fold after book.old.book (take count raws.entry)) }
     ensures few { OnOk result (map.len book.new.book.orders ≤ map.len book.old.book.orders + count) }
@@ -92,7 +94,7 @@ impl ImageShelf {
     /// Fewer than 4,294,967,294 messages may have been pushed before, as [`ImageShelf::pushed`]
     /// tells.
     pub fn push(&mut self, raw: &Raw) -> Result<(), OutOfMemory>
-        requires { self.old.pushed < 4294967294 }
+        requires { self.old.pushed < last_sequence }
         // Of everything that was pushed and advertised before: the message was pushed too.
         ensures ok { OnOk result ((operations : List Operation) → ShelfStands self.old operations → ShelfStands self.new (operations ++ Accept raw.now ∷ [])) }
         ensures pushed { OnOk result (self.new.pushed ≡ self.old.pushed + 1) }
@@ -113,7 +115,7 @@ impl ImageShelf {
         ensures pushed { result ≡ self.now.pushed }
         // Of everything that was pushed and advertised: the number of messages.
         ensures messages { (operations : List Operation) → ShelfStands self.now operations → result ≡ length (accepted_by operations) }
-        ensures within { result ≤ 4294967294 }
+        ensures within { result ≤ last_sequence }
     {
         self.pushed
     }
