@@ -1,8 +1,8 @@
 -- What the proxy's end of a session says.
-use Rattle.std.specs.Prelude.{◌≡◌, ℕ, Bool, ◌==◌, List, [], ◌∷◌, ◌++◌, length, is_some, if◌then◌else◌}
+use Rattle.std.specs.Prelude.{◌≡◌, ℕ, Bool, ◌==◌, List, [], ◌∷◌, ◌++◌, length, replicate, is_some, if◌then◌else◌}
 use Rattle.pitch_messages.specs.declared.session.SessionMessage.{SessionMessage}
 use Rattle.pitch_messages.specs.declared.session.SessionMessage.TheVariants.{Login, LoginReply, GapRequest, GapReply}
-use Rattle.gap_store.specs.Look.{View, IsLater}
+use Rattle.gap_store.specs.Look.{View, IsLater, store_of}
 use Rattle.session_ends.specs.declared.role.Said.{Said}
 use Rattle.session_ends.specs.declared.role.Said.TheVariants.{Message}
 use Rattle.session_ends.specs.Answering.{Answer, Answerer, no_answer, followed, answers, Rises}
@@ -101,3 +101,9 @@ abbrev pub GrpAnswersOnce : Type 0
 GrpAnswersOnce = (s : Setup) (es : List (Event Source)) (a b : List ℕ) (first : Source) (more : List View) → length first.views ≡ length (new_items es a)
     → proxy_answer s es (a ++ b) (record first { views = first.views ++ more })
     ≡ followed (proxy_answer s es a first) (proxy_answer s (Fed a first ∷ es) b (record first { views = more; spent = (proxy_answer s es a first).knows }))
+
+-- ---- Over a store to which nobody else pushes
+-- while a store stays as it was, all views at which a piece is answered are one
+abbrev pub StoreHasOneView : Type 0
+StoreHasOneView = (view now : View) (views : List View) → Rises IsLater view views now → store_of now ≡ store_of view
+    → (now ≡ view) × (views ≡ replicate (length views) view)

@@ -1,6 +1,6 @@
 ghost use Rattle.gap_store.specs.Look.{View, IsLater};
 ghost use Rattle.session_ends.specs.Laws.{ClosesOnce, RisesNowhere};
-ghost use Rattle.grp_session.specs.Serving.{Source, GrpAnswersOnce};
+ghost use Rattle.grp_session.specs.Serving.{Source, GrpAnswersOnce, StoreHasOneView};
 
 /// The laws of cutting a session's bytes into pieces: two pieces close the end exactly where both
 /// at once do, and what is answered to both at once is what is answered to the one, then to the
@@ -11,8 +11,11 @@ pub fn cutting_laws()
     ensures answers { GrpAnswersOnce }
 {}
 
-/// The law of looking up: of views that rise, where the last is the first, all are. So over a
-/// source to which nobody else pushes, a piece is answered at one view.
+/// The laws of looking up: of views that rise, where the last is the first, all are; so while a
+/// store stays as it was, as [`GrpServer::feed`](crate::GrpServer::feed) leaves it where nobody
+/// else pushes, a piece is answered at one view.
 pub fn look_laws()
-    ensures { RisesNowhere View IsLater }
+    ensures nowhere { RisesNowhere View IsLater }
+    // Of views that rise over a store that stays.
+    ensures store { StoreHasOneView }
 {}
