@@ -1,6 +1,7 @@
 -- What an image shelf stands for.
-use Rattle.std.specs.Prelude.{◌≡◌, ℕ, ◌-◌, length, List}
+use Rattle.std.specs.Prelude.{◌≡◌, ℕ, ◌-◌, length, List, replicate}
 use Rattle.pitch_model.specs.Advertising.{Operation, accepted_by, advertised_by, last_ten}
+use Rattle.session_ends.specs.Answering.{Rises}
 use Rattle.spin_server.specs.Served.{Served, ServedLater}
 use Rattle.spin_server.specs.Shelves.{Shelf, ShelfKeeps, first_or}
 
@@ -27,3 +28,8 @@ seen_of operations = record { messages = accepted_by operations; advertised = la
 -- a view that comes later is the same while the shelf is
 abbrev pub OneServed : Type 0
 OneServed = (shelf : Shelf) (view now : Served) → ShelfShows shelf view → ShelfShows shelf now → ServedLater view now → now ≡ view
+
+-- and all views at which a piece is answered are one
+abbrev pub ShelfHasOneView : Type 0
+ShelfHasOneView = (shelf : Shelf) (view now : Served) (views : List Served) → ShelfShows shelf view → ShelfShows shelf now → Rises ServedLater view views now
+    → (now ≡ view) × (views ≡ replicate (length views) view)

@@ -5,7 +5,7 @@ ghost use Rattle.session_ends.specs.Laws.{ClosesOnce, RisesNowhere};
 ghost use Rattle.spin_server.specs.Served.{Served, ServedLater, is_served};
 ghost use Rattle.spin_server.specs.Serving.{SpinAnswersOnce};
 ghost use Rattle.spin_server.specs.Shelves.{Shelf};
-ghost use Rattle.spin_server.specs.Stands.{ShelfStands, ShelfShows, OneServed, seen_of};
+ghost use Rattle.spin_server.specs.Stands.{ShelfStands, ShelfShows, OneServed, ShelfHasOneView, seen_of};
 
 /// The laws of cutting a session's bytes into pieces: two pieces close the end exactly where both
 /// at once do, and what is answered to both at once is what is answered to the one, then to the
@@ -15,10 +15,12 @@ pub fn spin_cutting_laws()
     ensures answers { SpinAnswersOnce }
 {}
 
-/// The laws of looking up: a later view of a shelf that stayed as it was is the same view; and
-/// where the last view of a feeding is that of the call, all are.
+/// The laws of looking up: a later view of a shelf that stayed as it was is the same view, and so
+/// are all views at which a piece is answered. Where the last view of a feeding is that of the
+/// call, all are.
 pub fn image_look_laws()
     ensures one { OneServed }
+    ensures piece { ShelfHasOneView }
     ensures rises { RisesNowhere Served ServedLater }
 {}
 

@@ -1,4 +1,4 @@
-use Rattle.session_ends.proofs.Runs.{rises_nowhere}
+use Rattle.session_ends.proofs.Runs.{rises_to, rises_nowhere}
 use Rattle.spin_server.specs.Served.{ServedLater}
 use Rattle.spin_server.proofs.Serves.{later_order}
 use Rattle.spin_server.proofs.Shelving.{one_served, later_both}
@@ -9,3 +9,8 @@ returns-clause-one c = one_served
 
 pub returns-clause-rises : goal.returns-clause-rises
 returns-clause-rises c = rises_nowhere ServedLater later_order later_both
+
+pub returns-clause-piece : goal.returns-clause-piece
+returns-clause-piece c = λ shelf view now views shown later rises.
+    let same = one_served shelf view now shown later (rises_to ServedLater later_order view views now rises) in
+    (same, rises_nowhere ServedLater later_order later_both view now views rises same)
