@@ -5,6 +5,7 @@ use Rattle.std.specs.Io.KnownBytes.{Consumes}
 use Rattle.pitch_io.specs.Putting.{Grows}
 use Rattle.command_feed.specs.Feed.{feed_of, AppendsPacking}
 use Rattle.command_feed.specs.declared.error.CommandError.{CommandError}
+use Rattle.command_feed.specs.declared.error.CommandError.TheVariants as commands
 use Rattle.stream_print.specs.Inputs.{ReadsAll, Has}
 use Rattle.stream_print.specs.Putting.{PutsSome}
 use Rattle.stream_print.specs.Told.{Told, IsUntouched}
@@ -18,6 +19,11 @@ use Rattle.pitch_tool.specs.declared.job.TextForm.TheVariants.{Pack}
 -- how many bytes a text has at most: 2^26
 abbrev pub text_limit : ℕ
 text_limit = 67108864
+
+-- why nothing was made of some commands, as why the program ends
+abbrev pub of_commands : CommandError → Failure
+of_commands commands.OutOfMemory = OutOfMemory
+of_commands error = BadInput (Commands error)
 
 -- the feed that some commands make, or what is wrong with them
 abbrev pub feed_or_trouble : Result (List ℕ) CommandError → Result (List ℕ) Trouble

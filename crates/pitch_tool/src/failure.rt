@@ -65,3 +65,17 @@ impl From<StreamFailure> for Failure {
         }
     }
 }
+
+impl From<CommandError> for Failure {
+    ghost use Rattle.std.specs.Prelude.{◌≡◌};
+    ghost use Rattle.pitch_tool.specs.TextForms.{of_commands};
+
+    ghost from_gives = { λ error failure. failure ≡ of_commands error };
+
+    fn from(error: CommandError) -> Failure {
+        match error {
+            CommandError::OutOfMemory => Failure::OutOfMemory,
+            error => Failure::BadInput(Trouble::Commands(error)),
+        }
+    }
+}

@@ -34,14 +34,9 @@ given_same least most (Some t) m n a b = sym a.2 ∙ b.2
 -- options have the numbers of one form of a command
 numbers_same : (options : Options) (a b : Form) → bytes_eq (command_of a).0 (command_of b).0 ≡ true → HasNumbers options a → HasNumbers options b → a ≡ b
 numbers_same options (Follow m) (Follow n) e a b = ap Follow (given_or_same 4096 1 65536 (options.value (codes "hold")) m n a b)
-numbers_same options (Follow m) Show e a b = cc
-numbers_same options Show (Follow n) e a b = cc
 numbers_same options Show Show e a b = refl
 numbers_same options (Pack m) (Pack n) e a b = ap Pack (given_same 1 255 (options.value (codes "unit")) m n a b)
-numbers_same options (Pack m) (Follow n) e a b = cc
-numbers_same options (Pack m) Show e a b = cc
-numbers_same options (Follow m) (Pack n) e a b = cc
-numbers_same options Show (Pack n) e a b = cc
+numbers_same options _ _ e a b = cc
 
 -- ---- whatever the forms are
 

@@ -3,8 +3,8 @@ ghost use Rattle.command_feed.specs.Feed.{AppendsPacking};
 ghost use Rattle.pitch_tool.specs.TextForms.{made, IsUnmade};
 ghost use Rattle.pitch_tool.specs.declared.job.TextForm.TheVariants.{Pack};
 
-use crate::failure::{Failure, Trouble};
-use command_feed::{CommandError, append_feed};
+use crate::failure::Failure;
+use command_feed::append_feed;
 use std::alloc::Global;
 
 /// The datagrams that a unit's venue makes of a text of commands, back to back, once it has
@@ -16,9 +16,6 @@ pub fn pack(alloc: Global, unit: u8, text: &[u8]) -> Result<Vec<u8>, Failure>
     ensures unmade { IfErr result (IsUnmade (made (Pack unit) text.now)) }
 {
     let mut feed = Vec::new(alloc);
-    match append_feed(alloc, unit, text, &mut feed) {
-        Ok(()) => Ok(feed),
-        Err(CommandError::OutOfMemory) => Err(Failure::OutOfMemory),
-        Err(error) => Err(Failure::BadInput(Trouble::Commands(error))),
-    }
+    append_feed(alloc, unit, text, &mut feed)?;
+    Ok(feed)
 }
