@@ -5,6 +5,7 @@ ghost use Rattle.pitch_fields.specs.Limits.{last_sequence};
 ghost use Rattle.pitch_fields.specs.Name.{name_shown};
 ghost use Rattle.pitch_messages.specs.Raw.{IsRaw, kind_of};
 ghost use Rattle.pitch_messages.specs.Reading.{reads};
+ghost use Rattle.feed_lines.specs.LineSize.{line_size};
 ghost use Rattle.feed_lines.specs.Show.{number_field, kind_text, price_text, flags_text, add_text, trade_text, reduce_text, modify_text, executed_text, message_text, short_text, bad_side_text, said_text, message_line, next_after};
 ghost use Rattle.feed_lines.specs.Terms.{shown};
 
@@ -395,9 +396,9 @@ fn put_any(out: &mut [u8], at: usize, raw: &[u8], kind: u8) -> usize
 /// why it can't be read.
 #[tactic(auto, unfolding(crate::specs::Show::message_line))]
 pub fn put_message_line(out: &mut [u8], at: usize, sequence: u32, raw: &[u8]) -> usize
-    requires place { at + LINE ≤ length out.old }
+    requires place { at + line_size ≤ length out.old }
     requires raw { IsRaw raw.now }
-    ensures end { result ≤ at + LINE }
+    ensures end { result ≤ at + line_size }
     ensures text { take result out.new ≡ take at out.old ++ message_line sequence raw.now }
     ensures kept { length out.new ≡ length out.old }
 {

@@ -41,7 +41,7 @@ fn print_loaded<O: Sink>(
         → PutsSome (O.written out.old) (O.written out.new) (printer.old.page.text ++ texts_after (block_text (task_form printer.old.task)) before (blocks_of reader.old.rest))) }
     ensures cause { HasCause (O.faults out.old) (O.faults out.new) (result ≡ Err PrintError.Write) }
 {
-    'front: loop {
+    'block: loop {
         let length = match view_block(reader.rest()) {
             Ok(block) => {
                 printer.print(alloc, &block, out)?;

@@ -147,14 +147,14 @@ rest_short_by (suc n) bytes le = elim (cases_Result (judge bytes)) [
 pub rest_short : (bytes : List ℕ) → length (rest_of bytes) ≤ length bytes
 rest_short bytes = rest_short_by (length bytes) bytes (omega arith)
 
--- what a block at the front needs to be taken out
+-- what a block at the start needs to be taken out
 pub record Takes (bytes : List ℕ) (h : Header) : Type 0 where
   pub header : 8 ≤ h.length
   pub fits : h.length ≤ length bytes
   pub stand : length (raws_of h.count (drop 8 (take h.length bytes))) ≡ h.count
 
-pub front_takes : (bytes : List ℕ) (h : Header) → BeginsWithBlock bytes h → Takes bytes h
-front_takes bytes h f =
+pub begins_takes : (bytes : List ℕ) (h : Header) → BeginsWithBlock bytes h → Takes bytes h
+begins_takes bytes h f =
     let size : length (take h.length bytes) ≡ h.length = length-take-le h.length bytes f.fits in
     let head = f.block.header in
     record {

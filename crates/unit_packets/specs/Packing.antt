@@ -3,14 +3,18 @@ use Rattle.std.specs.Prelude.{◌≡◌, ℕ, ◌+◌, ◌≤◌, ◌<◌, Bool,
 use Rattle.std.specs.List.{concat, AllByRecursion}
 use Rattle.pitch_messages.specs.Raw.{IsRaw}
 use Rattle.pitch_messages.specs.Room.{Roomy}
-use Rattle.unit_packets.specs.Blocks.{IsBlock, StaysWithin}
+use Rattle.unit_packets.specs.Blocks.{most_messages, IsBlock, StaysWithin}
 use Rattle.unit_packets.specs.BlockBytes.{block_bytes}
 use Rattle.pitch_fields.specs.Fields.{AreBytes}
 
--- the messages go into one datagram: 1,400 bytes with the header, and 255 messages, at most
+-- the most bytes of a datagram that a packer makes
+abbrev pub datagram_size : ℕ
+datagram_size = 1400
+
+-- the messages go into one datagram, with the header
 pub record FitsDatagram (raws : List (List ℕ)) : Type 0 where
-  pub size : 8 + length (concat raws) ≤ 1400
-  pub count : length raws ≤ 255
+  pub size : 8 + length (concat raws) ≤ datagram_size
+  pub count : length raws ≤ most_messages
 
 -- the sequence after so many messages; unsequenced stays unsequenced
 abbrev pub sequence_after : ℕ → ℕ → ℕ
@@ -32,11 +36,12 @@ IsFull raws (raw ∷ following) = FitsDatagram (raws ++ raw ∷ []) → ⊥
 abbrev pub IsPacking : ℕ → ℕ → List (List ℕ) → List (List ℕ) → Type 0
 IsPacking unit first raws [] = raws ≡ []
 IsPacking unit first raws (datagram ∷ datagrams) =
-    (front back : List (List ℕ)) × (raws ≡ front ++ back) × IsDatagram unit first front datagram × IsFull front back × IsPacking unit (sequence_after first (length front)) back datagrams
+    (prefix suffix : List (List ℕ)) × (raws ≡ prefix ++ suffix) × IsDatagram unit first prefix datagram × IsFull prefix suffix
+    × IsPacking unit (sequence_after first (length prefix)) suffix datagrams
 
 -- ---- The same, computed
 unfoldable pub fits_datagram : List (List ℕ) → Bool
-fits_datagram raws = nat_le (8 + length (concat raws)) 1400 && nat_le (length raws) 255
+fits_datagram raws = nat_le (8 + length (concat raws)) datagram_size && nat_le (length raws) most_messages
 
 -- the datagram of a block that was begun, if any
 abbrev pub begun_datagrams : ℕ → ℕ → List (List ℕ) → List (List ℕ)
