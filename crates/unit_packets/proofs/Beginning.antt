@@ -10,7 +10,8 @@ use Rattle.unit_packets.specs.Blocks.{StaysWithin}
 use Rattle.unit_packets.specs.Begun.{IsBegun}
 use Rattle.unit_packets.specs.BlockBytes.{header_bytes, block_bytes}
 use Rattle.unit_packets.specs.Lending.{header_for}
-use Rattle.unit_packets.specs.Packing.{sequence_after, fits_datagram, Packing, next_sequence}
+use Rattle.unit_packets.specs.Packing.{sequence_after, fits_datagram}
+use Rattle.unit_packets.specs.Pushing.{Packing, next_sequence}
 use Rattle.unit_packets.specs.declared.header.Header.{Header}
 use Rattle.unit_packets.proofs.Cuts.{drop_append}
 use Rattle.unit_packets.proofs.Packs.{fits_true, fits_of, after_known}
