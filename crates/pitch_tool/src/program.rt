@@ -169,8 +169,7 @@ pub fn pitch<I: Source, O: Sink, E: Sink>(
     // A read or a write fault was counted by its device.
     ensures causes { HasCauses result
         (record { input = device I.left I.faults input.old input.new; out = device O.written O.faults out.old out.new; err = device E.written E.faults err.old err.new }) }
-    // Whatever the status, the source was asked for no more than one byte past the limit of the
-    // form.
+    // Whatever the status, the source gave no more than one byte past the limit of the form.
     ensures reads { (form : Form) → IsForm (map string_bytes words.now) form → TakesAtMost (most_taken (the_job form)) (told I.left input.old input.new) }
     // Where the words are no form, that is the answer, or memory ran out.
     ensures unknown { IsNoForm (map string_bytes words.now) → (result ≡ ExitStatus.Usage) ⊎ (result ≡ ExitStatus.OutOfMemory) }
