@@ -16,12 +16,12 @@ use Rattle.session_ends.specs.Closing.{Setup, logged_in}
 use Rattle.session_ends.specs.Ending.{Ending, EndKnows, known_of, nothing_known, known_ticked}
 use Rattle.session_ends.specs.declared.role.Role.{Role}
 use Rattle.session_ends.specs.Events.{Event, Fed, Ticked}
-use Rattle.session_ends.specs.Sending.{new_items}
+use Rattle.session_ends.specs.Sending.{sent_bytes, new_items}
 use Rattle.session_ends.proofs.Ends.{Takes, Pieced, fed_end, shut_end, known_none}
 use Rattle.session_ends.proofs.Runs.{rises_rest, size_rest}
 use Rattle.grp_session.specs.Asking.{IsAsked, gap_status, datagrams_of}
 use Rattle.grp_session.specs.Budget.{Limits, Spent}
-use Rattle.grp_session.specs.Serving.{Source, grp_answer, proxy_answer, grp_sends, ProxyStands, ProxyFeeds, request_answer, gap_answer, message_answer, said_answer, reply_bytes}
+use Rattle.grp_session.specs.Serving.{Source, grp_answer, proxy_answer, grp_sends, ProxyStands, ProxyFeeds, request_answer, gap_answer, message_answer, said_answer}
 use Rattle.grp_session.proofs.Asked.{later_order}
 
 pub stands_none : (v : Ending) (role : Role) → v.setup.role ≡ role → EndKnows v (nothing_known role) → ProxyStands v []
@@ -76,7 +76,7 @@ pub hears_other : (s : Setup) (there : Bool) (l : Limits) (spent : Spent) (view 
     → nat_eq unit s.unit ≡ false → reply' ≡ reply ++ (gap_answer s 73 view spent unit sequence count).reply → counted spent → shown view
     → Hears (λ (v : View). request_answer s there l v spent unit sequence count) IsLater view counted shown reply reply' lines lines
 hears_other s there l spent view unit sequence count counted shown reply reply' lines other more c v =
-    hears_reply IsLater (λ (w : View). request_answer s there l w spent unit sequence count) (reply_bytes s (GapReply unit sequence count 73)) spent view counted shown reply reply' lines
+    hears_reply IsLater (λ (w : View). request_answer s there l w spent unit sequence count) (sent_bytes s (GapReply unit sequence count 73)) spent view counted shown reply reply' lines
     (λ w. ap (λ (b : Bool). gap_answer s (gap_status b there l w spent sequence count) w spent unit sequence count) other) more (later_order.same view) c v
 
 -- a message is a request, after an accepted login

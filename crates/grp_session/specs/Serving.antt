@@ -10,7 +10,7 @@ use Rattle.session_ends.specs.Closing.{Setup, closed_of, logged_in, login_status
 use Rattle.session_ends.specs.Ending.{Ending, EndKnows, known_of}
 use Rattle.session_ends.specs.Events.{Event, Fed}
 use Rattle.session_ends.specs.Saying.{heard_by}
-use Rattle.session_ends.specs.Sending.{header_unit, message_bytes, new_items}
+use Rattle.session_ends.specs.Sending.{sent_bytes, new_items}
 use Rattle.grp_session.specs.Asking.{gap_status, datagrams_of, spent_after}
 use Rattle.grp_session.specs.Budget.{Limits, Spent}
 
@@ -23,18 +23,14 @@ pub record Source : Type 0 where
   pub spent : Spent
 
 -- ---- One message
--- the bytes of a reply
-abbrev pub reply_bytes : Setup → SessionMessage → List ℕ
-reply_bytes s message = message_bytes (header_unit s.role s.unit) message
-
 -- a login gets its status ("Login Response Message")
 abbrev pub login_answer : {S : Type 0} → Setup → ℕ → S → Answer S
-login_answer s status state = record { reply = reply_bytes s (LoginReply status); lines = []; knows = state }
+login_answer s status state = record { reply = sent_bytes s (LoginReply status); lines = []; knows = state }
 
 -- a request gets its status, with its unit, sequence and count ("Gap Response Message")
 abbrev pub gap_answer : Setup → ℕ → View → Spent → ℕ → ℕ → ℕ → Answer Spent
 gap_answer s status view spent unit sequence count = record {
-  reply = reply_bytes s (GapReply unit sequence count status);
+  reply = sent_bytes s (GapReply unit sequence count status);
   lines = datagrams_of status s.unit view sequence count;
   knows = spent_after status spent;
 }

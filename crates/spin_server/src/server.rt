@@ -7,9 +7,9 @@ ghost use Rattle.session_ends.specs.Answering.{Hears, HearsAll};
 ghost use Rattle.session_ends.specs.Closing.{cause_of, closed_of, first_cause, logs_in, login_status};
 ghost use Rattle.session_ends.specs.Events.{Event, Ticked, Pumped, Told};
 ghost use Rattle.session_ends.specs.Items.{closed_at};
-ghost use Rattle.session_ends.specs.Sending.{sent_at_tick};
+ghost use Rattle.session_ends.specs.Sending.{sent_bytes, sent_at_tick};
 ghost use Rattle.spin_server.specs.Served.{Served, ServedLater};
-ghost use Rattle.spin_server.specs.Serving.{spin_bytes, pump_bytes, pumped, available_bytes, spin_login_answer, spin_request_answer, spin_message_answer, spin_said_answer, spin_answer, spin_sends, runs, SpinStands, SpinFeeds};
+ghost use Rattle.spin_server.specs.Serving.{pump_bytes, pumped, available_bytes, spin_login_answer, spin_request_answer, spin_message_answer, spin_said_answer, spin_answer, spin_sends, runs, SpinStands, SpinFeeds};
 
 use crate::lookup::{ImageLookup, Imaged};
 use crate::spin::Spin;
@@ -135,7 +135,7 @@ impl SpinServer {
         status: u8,
         reply: &mut Vec<u8>,
     ) -> Result<(), OutOfMemory>
-        ensures { OnOk result (reply.new.items ≡ reply.old.items ++ spin_bytes self.now.end.setup (SpinReply sequence orders status)) }
+        ensures { OnOk result (reply.new.items ≡ reply.old.items ++ sent_bytes self.now.end.setup (SpinReply sequence orders status)) }
     {
         self.end.put(
             &SessionMessage::SpinReply {
