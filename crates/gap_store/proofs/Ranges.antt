@@ -1,10 +1,9 @@
 -- Ranges of a ring, packed.
-use Rattle.std.proofs.Common.{◌≡◌, ℕ, zero, suc, ◌+◌, ◌<◌, ◌≤◌, List, [], ◌∷◌, ◌++◌, length, take, drop, refl, sym, ap, ◌∙◌, subst, arith, append_assoc, Some, slice_get}
+use Rattle.std.proofs.Common.{◌≡◌, ℕ, suc, ◌+◌, ◌<◌, ◌≤◌, List, [], ◌∷◌, ◌++◌, length, take, drop, refl, sym, ap, ◌∙◌, subst, arith, Some, slice_get}
 use Rattle.std.proofs.lemmas.List.{append-nil, length-drop, length-take, length-take-le}
 use Rattle.std.proofs.lemmas.Option.{slice_get_within, get_or_from_slice_get}
 use Rattle.std.proofs.Math.Seq.{drop-cons}
 use Rattle.circular_buffer.proofs.Places.{slice_get-drop, slice_get-take}
-use Rattle.std.specs.List.{AllByRecursion}
 use Rattle.pitch_messages.specs.Raw.{IsRaw}
 use Rattle.pitch_messages.specs.Room.{Roomy}
 use Rattle.unit_packets.specs.Blocks.{StaysWithin}

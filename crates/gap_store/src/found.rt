@@ -44,14 +44,16 @@ pub trait GapLookup {
         ensures shown { OnErr result ((v : View) → shows self.old v → shows self.new v) };
 
     /// Looks for `count` messages from the sequence `first` on, and hands out none. Both numbers are
-    /// at least 1. The answer is that of what is to be seen after the call. It takes no memory.
-    fn find(&mut self, first: u32, count: u16) -> Found
+    /// at least 1. The answer is that of what is to be seen after the call.
+    fn find(&mut self, first: u32, count: u16) -> Result<Found, OutOfMemory>
         requires first { 1 ≤ first }
         requires count { 1 ≤ count }
         // Of every view that it shows before: the answer is right at a view that it shows after,
         // which is no earlier.
-        ensures found { (v : View) → shows self.old v → FindsAt (shows self.new) v first count result }
-        ensures same { still ≡ true → self.new ≡ self.old };
+        ensures found { IfOk result (λ found. (v : View) → shows self.old v → FindsAt (shows self.new) v first count found) }
+        ensures same { still ≡ true → self.new ≡ self.old }
+        // Of every view that it showed before: without memory it shows the same.
+        ensures shown { OnErr result ((v : View) → shows self.old v → shows self.new v) };
 
     /// Looks up `count` messages from the sequence `first` on, and where all are kept appends them
     /// packed into datagrams of a unit, each message copied once. Both numbers are at least 1. The

@@ -193,8 +193,8 @@ impl GapLookup for GapStore {
         Ok(Found::Kept)
     }
 
-    fn find(&mut self, first: u32, count: u16) -> Found {
-        self.found(first, count)
+    fn find(&mut self, first: u32, count: u16) -> Result<Found, OutOfMemory> {
+        Ok(self.found(first, count))
     }
 
     fn pack(

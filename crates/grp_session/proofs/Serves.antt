@@ -23,6 +23,7 @@ use Rattle.grp_session.specs.Asking.{IsAsked, gap_status, datagrams_of}
 use Rattle.grp_session.specs.Budget.{Limits, Spent}
 use Rattle.grp_session.specs.Serving.{Source, grp_answer, proxy_answer, grp_sends, ProxyStands, ProxyFeeds, request_answer, gap_answer, message_answer, said_answer}
 use Rattle.grp_session.proofs.Asked.{later_order}
+use Rattle.grp_session.proofs.GapLine.{answered_lines, none_packed}
 
 pub stands_none : (v : Ending) (role : Role) → v.setup.role ≡ role → EndKnows v (nothing_known role) → ProxyStands v []
 stands_none v role same is = subst (EndKnows v) (ap nothing_known (sym same) ∙ sym (known_none (grp_sends v.setup) v.setup)) is
@@ -139,6 +140,7 @@ fed_serves es piece old new items inbox setup logged there l spent view counted 
         replied = bytes;
         lined = h.lined ∙ ap (λ (x : List (List ℕ)). x ++ a.lines) none_sent ∙ ap (λ (x : Answer Spent). x.lines) (sym said);
       };
+      packing = λ are. (a.lines, h.lined ∙ ap (λ (x : List (List ℕ)). x ++ a.lines) none_sent, answered_lines s there l h.now are old.logged spent h.views items view h.rises);
     }
 
 -- an end that was closed stays as it was, and says nothing
@@ -162,6 +164,7 @@ fed_shut es piece v c there l spent view counted shown reply lines some stands k
         replied = sym (append-nil reply) ∙ ap (λ (x : Answer Spent). reply ++ x.reply) (sym said);
         lined = sym (append-nil lines) ∙ ap (λ (x : Answer Spent). lines ++ x.lines) (sym said);
       };
+      packing = λ are. ([], sym (append-nil lines), none_packed v.setup.unit view.messages);
     }
 
 -- what was said into empty lists is appended to others
@@ -180,4 +183,5 @@ feeds_behind es piece old new there l spent view counted shown said reply reply'
     replied = r ∙ ap (λ (x : List ℕ). reply ++ x) f.answered.replied;
     lined = n ∙ ap (λ (x : List (List ℕ)). lines ++ x) f.answered.lined;
   };
+  packing = λ are. let p = f.packing are in (p.0, n ∙ ap (λ (x : List (List ℕ)). lines ++ x) p.1, p.2);
 }

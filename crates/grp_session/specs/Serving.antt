@@ -1,7 +1,10 @@
 -- What the proxy's end of a session says.
-use Rattle.std.specs.Prelude.{◌≡◌, ℕ, Bool, ◌==◌, List, [], ◌∷◌, ◌++◌, length, replicate, is_some, if◌then◌else◌}
+use Rattle.std.specs.Prelude.{◌≡◌, ◌≤◌, ◌<◌, ℕ, Bool, ◌==◌, List, [], ◌∷◌, ◌++◌, length, replicate, is_some, if◌then◌else◌}
 use Rattle.pitch_messages.specs.declared.session.SessionMessage.{SessionMessage}
 use Rattle.pitch_messages.specs.declared.session.SessionMessage.TheVariants.{Login, LoginReply, GapRequest, GapReply}
+use Rattle.std.specs.List.{AllByRecursion}
+use Rattle.pitch_fields.specs.Limits.{last_sequence}
+use Rattle.pitch_messages.specs.Raw.{IsRaw}
 use Rattle.gap_store.specs.Look.{View, IsLater, store_of}
 use Rattle.session_ends.specs.declared.role.Said.{Said}
 use Rattle.session_ends.specs.declared.role.Said.TheVariants.{Message}
@@ -11,7 +14,7 @@ use Rattle.session_ends.specs.Ending.{Ending, EndKnows, known_of}
 use Rattle.session_ends.specs.Events.{Event, Fed}
 use Rattle.session_ends.specs.Saying.{heard_by}
 use Rattle.session_ends.specs.Sending.{sent_bytes, new_items}
-use Rattle.grp_session.specs.Asking.{gap_status, datagrams_of, spent_after}
+use Rattle.grp_session.specs.Asking.{gap_status, datagrams_of, spent_after, ArePackedRanges}
 use Rattle.grp_session.specs.Budget.{Limits, Spent}
 
 -- what the proxy has when it is fed: whether a gap source is there, what can be seen of it at each
@@ -80,8 +83,15 @@ pub record Answered (es : List (Event Source)) (bytes : List ℕ) (source : Sour
   pub replied : reply' ≡ reply ++ (proxy_answer old.setup es bytes source).reply
   pub lined : lines' ≡ lines ++ (proxy_answer old.setup es bytes source).lines
 
+-- a unit's messages are raw, and each has a sequence that a message can have
+pub record AreSequenced (unit : ℕ) (messages : List (List ℕ)) : Type 0 where
+  pub small : unit < 256
+  pub raws : AllByRecursion IsRaw messages
+  pub top : length messages ≤ last_sequence
+
 -- the messages were answered at views that rise from that of the call to that after it, one for
--- each message and each end of a block
+-- each message and each end of a block; what goes on the gap line are packings of ranges of the
+-- messages to be seen after it
 pub record ProxyFeeds (es : List (Event Source)) (bytes : List ℕ) (old new : Ending) (there : Bool) (limits : Limits) (spent : Spent) (view : View)
     (counted : Spent → Type 0) (shown : View → Type 0) (reply reply' : List ℕ) (lines lines' : List (List ℕ)) : Type 0 where
   pub views : List View
@@ -90,6 +100,7 @@ pub record ProxyFeeds (es : List (Event Source)) (bytes : List ℕ) (old new : E
   pub rises : Rises IsLater view views now
   pub shows : shown now
   pub answered : Answered es bytes (record { there = there; views = views; limits = limits; spent = spent }) old new counted reply reply' lines lines'
+  pub packing : AreSequenced old.setup.unit now.messages → (added : List (List ℕ)) × (lines' ≡ lines ++ added) × ArePackedRanges old.setup.unit now.messages added
 
 -- ---- However the bytes are cut
 -- what is answered to two pieces at once is what is answered to the one, then to the other

@@ -52,6 +52,21 @@ impl GapLookup for NoSource {
     fn look(&mut self, _first: u32, _count: u16, _out: &mut RawList) -> Result<Found, OutOfMemory> {
         Err(OutOfMemory)
     }
+
+    fn find(&mut self, _first: u32, _count: u16) -> Result<Found, OutOfMemory> {
+        Err(OutOfMemory)
+    }
+
+    fn pack(
+        &mut self,
+        _alloc: Global,
+        _unit: u8,
+        _first: u32,
+        _count: u16,
+        _out: &mut DatagramList,
+    ) -> Result<Found, OutOfMemory> {
+        Err(OutOfMemory)
+    }
 }
 
 // Appends what was said; all is as before after OutOfMemory.

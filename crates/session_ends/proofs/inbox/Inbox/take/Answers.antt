@@ -2,7 +2,7 @@ use Rattle.std.proofs.Common.{ℕ, List, sym, subst, arith, ap, ◌∙◌, ◌++
 use Rattle.unit_packets.specs.Causes.{counted}
 use Rattle.unit_packets.specs.Cutting.{fault_from}
 use Rattle.unit_packets.specs.Reading.{Reading}
-use Rattle.session_ends.specs.Inboxes.{Inboxed, HasTaken, HearsBlocks}
+use Rattle.session_ends.specs.Inboxes.{Inboxed, HasTaken}
 use Rattle.session_ends.proofs.Inboxes.{taken_in}
 use Rattle.session_ends.proofs.inbox.Inbox.take.Goals as goal
 
