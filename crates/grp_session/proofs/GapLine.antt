@@ -52,12 +52,12 @@ within : (view : View) (sequence count : ℕ) → look view sequence count ≡ K
 within view sequence count is =
     let e : nat_lt (length view.messages) (sequence + count - 1) ≡ false = kept_ends _ _ _ _ is in
     elim (cases_lt (length view.messages) (sequence + count - 1)) [
-    | inl past ↦ let t : nat_lt (length view.messages) (sequence + count - 1) ≡ true = lt-ltb (length view.messages) (sequence + count - 1) past in absurd (no_both (nat_lt (length view.messages) (sequence + count - 1)) t e)
-    | inr le ↦ le
+      | inl past ↦ let t : nat_lt (length view.messages) (sequence + count - 1) ≡ true = lt-ltb (length view.messages) (sequence + count - 1) past in absurd (no_both (nat_lt (length view.messages) (sequence + count - 1)) t e)
+      | inr le ↦ le
     ]
-    where
-      no_both : (b : Bool) → b ≡ true → b ≡ false → ⊥
-      no_both b t f = cc
+  where
+    no_both : (b : Bool) → b ≡ true → b ≡ false → ⊥
+    no_both b t f = cc
 
 -- ---- Ranges of messages
 all_take : (P : List ℕ → Type 0) (n : ℕ) (xs : List (List ℕ)) → AllByRecursion P xs → AllByRecursion P (take n xs)
@@ -103,12 +103,12 @@ module _ (s : Setup) (there : Bool) (l : Limits) (now : View) (are : AreSequence
   request_lines spent view unit sequence count later =
       let status : ℕ = gap_status (nat_eq unit s.unit) there l view spent sequence count in
       elim (cases_eq status 65) [
-      | inl is ↦
-          let a = accepted (nat_eq unit s.unit) there l view spent sequence count is in
-          let lines : datagrams_of status s.unit view sequence count ≡ packed s.unit sequence (slice_of view sequence count) = cond-true (nat_eq status 65) _ _ (eq-eqb status 65 is) in
-          inr (subst (IsPackedRange s.unit now.messages) (sym lines)
-          (range_packed s.unit sequence count view now later are (not_zero (nat_eq count 0) sequence a.0) (within view sequence count a.1)))
-      | inr other ↦ inl (cond-false (nat_eq status 65) _ _ (ne_eqb status 65 other))
+        | inl is ↦
+            let a = accepted (nat_eq unit s.unit) there l view spent sequence count is in
+            let lines : datagrams_of status s.unit view sequence count ≡ packed s.unit sequence (slice_of view sequence count) = cond-true (nat_eq status 65) _ _ (eq-eqb status 65 is) in
+            inr (subst (IsPackedRange s.unit now.messages) (sym lines)
+            (range_packed s.unit sequence count view now later are (not_zero (nat_eq count 0) sequence a.0) (within view sequence count a.1)))
+        | inr other ↦ inl (cond-false (nat_eq status 65) _ _ (ne_eqb status 65 other))
       ]
 
   asked_lines : (logged : Bool) (spent : Spent) (view : View) (unit sequence count : ℕ) → IsLater view now → OneRange s.unit now.messages (message_answer s there l logged spent view (GapRequest unit sequence count)).lines

@@ -45,8 +45,8 @@ pub(crate) fn ask<L: GapLookup>(
             Found::Kept => Ok(status),
         },
         None => match lookup.pack(alloc, unit, sequence, count, gap_line)? {
-            Found::Ahead { .. } => Ok(b'O'),
-            Found::NotKept { .. } => Ok(b'O'),
+            Found::Ahead { last: _ } => Ok(b'O'),
+            Found::NotKept { first: _ } => Ok(b'O'),
             Found::Kept => {
                 budget.spend();
                 Ok(b'A')

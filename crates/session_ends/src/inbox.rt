@@ -45,11 +45,7 @@ fn push_messages(start: u64, raws: Raws<'_>, out: &mut Vec<Heard>) -> Result<(),
 }
 
 // Appends what a block says.
-fn push_block(
-    place: u64,
-    block: &BlockView<'_>,
-    out: &mut Vec<Heard>,
-) -> Result<(), OutOfMemory>
+fn push_block(place: u64, block: &BlockView<'_>, out: &mut Vec<Heard>) -> Result<(), OutOfMemory>
     ensures { OnOk result (out.new.items ≡ out.old.items ++ block_items place block.now) }
 {
     if block.header().sequence != 0 {
