@@ -7,7 +7,7 @@ use Rattle.session_ends.specs.declared.role.Role.{Role}
 use Rattle.session_ends.specs.Closing.{Setup, closed_of, logged_in}
 use Rattle.session_ends.specs.Ending.{Ending, EndKnows, known_of}
 use Rattle.session_ends.specs.Events.{Event, Asked, Fed}
-use Rattle.session_ends.specs.Sending.{header_unit, message_bytes, new_items}
+use Rattle.session_ends.specs.Sending.{header_unit, message_bytes, sent_bytes, new_items}
 use Rattle.client_links.specs.Telling.{tells}
 
 -- a link looks nothing up
@@ -24,7 +24,7 @@ login_bytes role unit account = message_bytes (header_unit role unit) (Login acc
 
 -- what it sends at an event that is no tick: what it is asked for, while it is open
 abbrev pub link_sends : Setup → Event Lookups → List (Event Lookups) → List ℕ
-link_sends s (Asked request) before = if is_some (closed_of s before) then [] else message_bytes (header_unit s.role s.unit) request
+link_sends s (Asked request) before = if is_some (closed_of s before) then [] else sent_bytes s request
 link_sends s event before = []
 
 -- what it tells when bytes come in

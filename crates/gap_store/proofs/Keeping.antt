@@ -1,5 +1,5 @@
 -- The last messages of a growing list.
-use Rattle.std.proofs.Common.{◌≡◌, ℕ, zero, suc, ◌+◌, ◌-◌, ◌<◌, ◌≤◌, List, [], ◌∷◌, ◌++◌, length, take, drop, refl, sym, ap, ◌∙◌, arith, length-append, append_assoc, Some, None, slice_get, nat_lt, nat_eq}
+use Rattle.std.proofs.Common.{◌≡◌, ℕ, zero, suc, ◌+◌, ◌-◌, ◌<◌, ◌≤◌, List, [], ◌∷◌, ◌++◌, length, take, drop, refl, sym, ap, ◌∙◌, arith, subst, length-append, append_assoc, Some, None, slice_get, nat_lt, nat_eq}
 use Rattle.std.proofs.lemmas.List.{length-drop, drop-drop, append-nil, take_more}
 use Rattle.std.proofs.lemmas.Option.{slice_get_within, get_or_from_slice_get}
 use Rattle.std.proofs.lemmas.Bool.{cond-true, cond-false, lt-ltb, le-ltb, ne_eqb, eq-eqb}
@@ -7,12 +7,9 @@ use Rattle.circular_buffer.proofs.Places.{slice_get-drop}
 use Rattle.gap_store.specs.declared.found.Found.{Found}
 use Rattle.gap_store.specs.declared.found.Found.TheVariants.{Kept, Ahead, NotKept}
 use Rattle.circular_buffer.specs.Buffer.{keep_last}
-use Rattle.gap_store.specs.Look.{View, Store, store_of, first_kept, look, given, oldest, LooksAt}
-
-pub drop_append : {A : Type 0} (n : ℕ) (xs ys : List A) → n ≤ length xs → drop n (xs ++ ys) ≡ drop n xs ++ ys
-drop_append zero xs ys le = refl
-drop_append (suc n) [] ys le = absurd (omega arith)
-drop_append (suc n) (x ∷ xs) ys le = drop_append n xs ys (omega arith)
+use Rattle.gap_store.specs.Look.{View, IsLater, Store, store_of, first_kept, look, given, slice_of, oldest, LooksAt, FindsAt, PacksRange, PacksAt}
+use Rattle.unit_packets.specs.Packing.{packed_on}
+use Rattle.unit_packets.proofs.Cuts.{drop_append}
 
 pub keep_push : (n : ℕ) (xs : List (List ℕ)) (x : List ℕ) → keep_last n (keep_last n xs ++ x ∷ []) ≡ keep_last n (xs ++ x ∷ [])
 keep_push n xs x =
@@ -49,48 +46,96 @@ copies_more items before so_far so_far' at i x are there more =
     ∙ ap (λ (y : List ℕ). before ++ (take i (drop at items) ++ y ∷ [])) (sym (get_or_from_slice_get (drop at items) i x x here))
     ∙ ap (λ (l : List (List ℕ)). before ++ l) (sym (take_more (drop at items) i x lt))
 
-looks_by : (v : View) (s : Store) (first count : ℕ) (found : Found) (before after : List (List ℕ)) → s ≡ store_of v → 1 ≤ s.room → found ≡ look v first count → after ≡ before ++ given found v first count
-    → LooksAt (λ w. s ≡ store_of w) v first count found before after
-looks_by v s first count found before after is fits answer there = record {
-  now = v;
-  later = record { more = []; messages = sym (append-nil v.messages); kept = refl };
-  shows = is;
-  answer = answer;
-  given = there ∙ ap (λ (f : Found). before ++ given f v first count) answer;
-}
-
-pub looks_ahead : (v : View) (s : Store) (first count last : ℕ) (before : List (List ℕ)) → s ≡ store_of v → 1 ≤ s.room → last ≡ s.pushed → s.pushed < first + count - 1
-    → LooksAt (λ w. s ≡ store_of w) v first count (Ahead last) before before
-looks_ahead v s first count last before is fits same past =
+-- ---- Ranges
+pub found_ahead : (v : View) (s : Store) (first count last : ℕ) → s ≡ store_of v → last ≡ s.pushed → s.pushed < first + count - 1 → Ahead last ≡ look v first count
+found_ahead v s first count last is same past =
     let p : s.pushed ≡ length v.messages = ap (λ (t : Store). t.pushed) is in
-    looks_by v s first count (Ahead last) before before is fits
-    (ap Ahead (same ∙ p) ∙ sym (cond-true (nat_lt (length v.messages) (first + count - 1)) _ _ (lt-ltb (length v.messages) (first + count - 1) (omega arith))))
-    (sym (append-nil before))
+    ap Ahead (same ∙ p) ∙ sym (cond-true (nat_lt (length v.messages) (first + count - 1)) _ _ (lt-ltb (length v.messages) (first + count - 1) (omega arith)))
 
-pub looks_behind : (v : View) (s : Store) (first count least : ℕ) (before : List (List ℕ)) → s ≡ store_of v → 1 ≤ s.room → least ≡ s.pushed - length s.items + 1 → first + count - 1 ≤ s.pushed → first < least
-    → 1 ≤ count → 1 ≤ first → LooksAt (λ w. s ≡ store_of w) v first count (NotKept least) before before
-looks_behind v s first count least before is fits same there gone one some =
+pub found_behind : (v : View) (s : Store) (first count least : ℕ) → s ≡ store_of v → 1 ≤ s.room → least ≡ s.pushed - length s.items + 1 → first + count - 1 ≤ s.pushed → first < least
+    → 1 ≤ count → 1 ≤ first → NotKept least ≡ look v first count
+found_behind v s first count least is fits same there gone one some =
     let p : s.pushed ≡ length v.messages = ap (λ (t : Store). t.pushed) is in
     let r : s.room ≡ v.kept = ap (λ (t : Store). t.room) is in
     let k : length s.items ≡ length v.messages - (length v.messages - v.kept) = ap (λ (t : Store). length t.items) is ∙ length-drop (length v.messages - v.kept) v.messages in
     let e : least ≡ oldest v = omega (arith, r) in
-    looks_by v s first count (NotKept least) before before is fits
-    (ap NotKept e ∙ sym (cond-false (nat_lt (length v.messages) (first + count - 1)) _ _ (le-ltb (length v.messages) (first + count - 1) (omega arith))
-    ∙ cond-true (nat_lt first (oldest v)) _ _ (lt-ltb first (oldest v) (omega arith))))
-    (sym (append-nil before))
+    ap NotKept e ∙ sym (cond-false (nat_lt (length v.messages) (first + count - 1)) _ _ (le-ltb (length v.messages) (first + count - 1) (omega arith))
+    ∙ cond-true (nat_lt first (oldest v)) _ _ (lt-ltb first (oldest v) (omega arith)))
 
-pub looks_kept : (v : View) (s : Store) (first count at : ℕ) (before after : List (List ℕ)) → s ≡ store_of v → 1 ≤ s.room → first + count - 1 ≤ s.pushed → s.pushed - length s.items + 1 ≤ first → at ≡ first - (s.pushed - length s.items + 1)
-    → 1 ≤ count → 1 ≤ first → after ≡ before ++ take count (drop at s.items) → LooksAt (λ w. s ≡ store_of w) v first count Kept before after
-looks_kept v s first count at before after is fits there kept place one some copied =
+pub found_kept : (v : View) (s : Store) (first count least : ℕ) → s ≡ store_of v → 1 ≤ s.room → least ≡ s.pushed - length s.items + 1 → first + count - 1 ≤ s.pushed → least ≤ first
+    → 1 ≤ count → 1 ≤ first → Kept ≡ look v first count
+found_kept v s first count least is fits same there kept one some =
     let p : s.pushed ≡ length v.messages = ap (λ (t : Store). t.pushed) is in
     let r : s.room ≡ v.kept = ap (λ (t : Store). t.room) is in
     let k : length s.items ≡ length v.messages - (length v.messages - v.kept) = ap (λ (t : Store). length t.items) is ∙ length-drop (length v.messages - v.kept) v.messages in
-    let from : drop at s.items ≡ drop (first - 1) v.messages =
-    ap (λ (t : Store). drop at t.items) is ∙ drop-drop at (length v.messages - v.kept) v.messages ∙ ap (λ (m : ℕ). drop m v.messages) (omega (arith, r)) in
-    looks_by v s first count Kept before after is fits
-    (sym (cond-false (nat_lt (length v.messages) (first + count - 1)) _ _ (le-ltb (length v.messages) (first + count - 1) (omega arith))
-    ∙ cond-false (nat_lt first (oldest v)) _ _ (le-ltb first (oldest v) (omega arith))))
-    (copied ∙ ap (λ (l : List (List ℕ)). before ++ take count l) from)
+    sym (cond-false (nat_lt (length v.messages) (first + count - 1)) _ _ (le-ltb (length v.messages) (first + count - 1) (omega arith))
+    ∙ cond-false (nat_lt first (oldest v)) _ _ (le-ltb first (oldest v) (omega (arith, r))))
+
+-- the range in what is kept
+pub range_is : (v : View) (s : Store) (first at count : ℕ) → s ≡ store_of v → at ≡ first - (s.pushed - length s.items + 1) → s.pushed - length s.items + 1 ≤ first
+    → take count (drop at s.items) ≡ slice_of v first count
+range_is v s first at count is place kept =
+    let p : s.pushed ≡ length v.messages = ap (λ (t : Store). t.pushed) is in
+    let r : s.room ≡ v.kept = ap (λ (t : Store). t.room) is in
+    let k : length s.items ≡ length v.messages - (length v.messages - v.kept) = ap (λ (t : Store). length t.items) is ∙ length-drop (length v.messages - v.kept) v.messages in
+    ap (λ (t : Store). take count (drop at t.items)) is
+    ∙ ap (take count) (drop-drop at (length v.messages - v.kept) v.messages ∙ ap (λ (m : ℕ). drop m v.messages) (omega (arith, r)))
+
+same_view : (v : View) → IsLater v v
+same_view v = record { more = []; messages = sym (append-nil v.messages); kept = refl }
+
+-- ---- Answers of a store
+pub finds_by : (v : View) (s : Store) (first count : ℕ) (found : Found) → s ≡ store_of v → found ≡ look v first count → FindsAt (λ w. s ≡ store_of w) v first count found
+finds_by v s first count found is answer = record { now = v; later = same_view v; shows = is; answer = answer }
+
+none_given : (v : View) (first count : ℕ) (found : Found) → found ≡ look v first count → (found ≡ Kept → ⊥) → given (look v first count) v first count ≡ []
+none_given v first count Kept answer other = absurd (other refl)
+none_given v first count (Ahead last) answer other = ap (λ (f : Found). given f v first count) (sym answer)
+none_given v first count (NotKept least) answer other = ap (λ (f : Found). given f v first count) (sym answer)
+
+pub looks_none : (v : View) (s : Store) (first count : ℕ) (found : Found) (before : List (List ℕ)) → s ≡ store_of v → found ≡ look v first count → (found ≡ Kept → ⊥)
+    → LooksAt (λ w. s ≡ store_of w) v first count found before before
+looks_none v s first count found before is answer other = record {
+  now = v;
+  later = same_view v;
+  shows = is;
+  answer = answer;
+  given = sym (append-nil before) ∙ ap (λ (g : List (List ℕ)). before ++ g) (sym (none_given v first count found answer other));
+}
+
+pub looks_kept : (v : View) (s : Store) (first count at : ℕ) (before after : List (List ℕ)) → s ≡ store_of v → Kept ≡ look v first count → at ≡ first - (s.pushed - length s.items + 1) → s.pushed - length s.items + 1 ≤ first
+    → after ≡ before ++ take count (drop at s.items) → LooksAt (λ w. s ≡ store_of w) v first count Kept before after
+looks_kept v s first count at before after is answer place kept copied = record {
+  now = v;
+  later = same_view v;
+  shows = is;
+  answer = answer;
+  given = copied ∙ ap (λ (g : List (List ℕ)). before ++ g) (range_is v s first at count is place kept ∙ ap (λ (f : Found). given f v first count) answer);
+}
+
+packs_nothing : (unit first : ℕ) (raws lines : List (List ℕ)) → raws ≡ [] → PacksRange unit first raws lines lines
+unfolding packed_on
+packs_nothing unit first raws lines none = subst (λ (r : List (List ℕ)). PacksRange unit first r lines lines) (sym none) (record { packing = refl; appended = sym (append-nil lines) })
+
+pub packs_none : (v : View) (s : Store) (unit first count : ℕ) (found : Found) (before : List (List ℕ)) → s ≡ store_of v → found ≡ look v first count → (found ≡ Kept → ⊥)
+    → PacksAt (λ w. s ≡ store_of w) v unit first count found before before
+packs_none v s unit first count found before is answer other = record {
+  now = v;
+  later = same_view v;
+  shows = is;
+  answer = answer;
+  packs = packs_nothing unit first _ before (none_given v first count found answer other);
+}
+
+pub packs_kept : (v : View) (s : Store) (unit first count at : ℕ) (before after : List (List ℕ)) → s ≡ store_of v → Kept ≡ look v first count → at ≡ first - (s.pushed - length s.items + 1) → s.pushed - length s.items + 1 ≤ first
+    → PacksRange unit first (take count (drop at s.items)) before after → PacksAt (λ w. s ≡ store_of w) v unit first count Kept before after
+packs_kept v s unit first count at before after is answer place kept packs = record {
+  now = v;
+  later = same_view v;
+  shows = is;
+  answer = answer;
+  packs = subst (λ (r : List (List ℕ)). PacksRange unit first r before after) (range_is v s first at count is place kept ∙ ap (λ (f : Found). given f v first count) answer) packs;
+}
 
 pub first_is : (s : Store) (v : View) (n : ℕ) → s ≡ store_of v → 1 ≤ s.room → 0 < s.pushed → n ≡ s.pushed - length s.items + 1 → Some n ≡ first_kept v
 first_is s v n is fits some e =

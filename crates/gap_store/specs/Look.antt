@@ -1,6 +1,7 @@
 -- What can be looked up of the messages of a unit (the numbers are this project's own).
 use Rattle.std.specs.Prelude.{◌≡◌, ℕ, ◌+◌, ◌-◌, nat_lt, List, [], ◌++◌, length, take, drop, nat_eq, Option, None, Some, if◌then◌else◌}
 use Rattle.circular_buffer.specs.Buffer.{keep_last}
+use Rattle.unit_packets.specs.Packing.{IsPacking, packed}
 use Rattle.gap_store.specs.declared.found.Found.{Found}
 use Rattle.gap_store.specs.declared.found.Found.TheVariants.{Kept, Ahead, NotKept}
 
@@ -44,6 +45,27 @@ pub record LooksAt (shown : View → Type 0) (old : View) (first count : ℕ) (f
   pub shows : shown now
   pub answer : found ≡ look now first count
   pub given : after ≡ before ++ given (look now first count) now first count
+
+-- the same where nothing is handed out
+pub record FindsAt (shown : View → Type 0) (old : View) (first count : ℕ) (found : Found) : Type 0 where
+  pub now : View
+  pub later : IsLater old now
+  pub shows : shown now
+  pub answer : found ≡ look now first count
+
+-- messages were packed into datagrams of a unit, the first of them with this sequence, and these
+-- appended
+pub record PacksRange (unit first : ℕ) (raws : List (List ℕ)) (before after : List (List ℕ)) : Type 0 where
+  pub packing : IsPacking unit first raws (packed unit first raws)
+  pub appended : after ≡ before ++ packed unit first raws
+
+-- the same where what is handed out is packed, from the range's first sequence on
+pub record PacksAt (shown : View → Type 0) (old : View) (unit first count : ℕ) (found : Found) (before after : List (List ℕ)) : Type 0 where
+  pub now : View
+  pub later : IsLater old now
+  pub shows : shown now
+  pub answer : found ≡ look now first count
+  pub packs : PacksRange unit first (given (look now first count) now first count) before after
 
 -- the oldest sequence that is kept; none before the first message
 abbrev pub first_kept : View → Option ℕ

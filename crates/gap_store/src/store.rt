@@ -1,6 +1,9 @@
-ghost use Rattle.std.specs.Prelude.{◌≡◌, ℕ, ◌+◌, ◌-◌, ◌≤◌, ◌<◌, List, [], ◌∷◌, ◌++◌, true, OnErr, IfOk, length, take, drop};
+ghost use Rattle.std.specs.Prelude.{◌≡◌, ℕ, ◌+◌, ◌-◌, ◌≤◌, ◌<◌, List, [], ◌∷◌, ◌++◌, true, OnOk, OnErr, IfOk, length, take, drop};
 ghost use Rattle.pitch_fields.specs.Limits.{last_sequence, most_held};
-ghost use Rattle.gap_store.specs.Look.{View, LooksAt, Store, store_of, first_kept};
+ghost use Rattle.unit_packets.specs.Blocks.{StaysWithin};
+ghost use Rattle.unit_packets.specs.Packing.{bytes_in, unpacked};
+ghost use Rattle.gap_store.specs.declared.found.Found.TheVariants.{Kept};
+ghost use Rattle.gap_store.specs.Look.{View, LooksAt, FindsAt, PacksAt, PacksRange, Store, store_of, look, first_kept};
 
 use crate::found::{Found, GapLookup};
 use circular_buffer::HeapCircularBuffer;
@@ -8,6 +11,7 @@ use pitch_fields::OutOfMemory;
 use pitch_messages::{Raw, RawList};
 use std::alloc::Global;
 use std::marker::Model;
+use unit_packets::{DatagramList, Packer};
 
 /// The last messages of a unit, in their order. All memory is taken when the store is made.
 #[derive(Drop)]
@@ -57,6 +61,46 @@ fn copy_out(
     Ok(())
 }
 
+// Appends the datagrams of so many messages of the ring from a place on; the packer packed none
+// yet. Each message is copied to where it stays. The list is as before after OutOfMemory.
+fn pack_out(
+    ring: &HeapCircularBuffer<Raw>,
+    at: usize,
+    count: u16,
+    packer: Packer,
+    out: &mut DatagramList,
+) -> Result<(), OutOfMemory>
+    requires there { at + count ≤ length ring.now.items }
+    requires within { StaysWithin packer.sequence count }
+    requires begins { packer ≡ unpacked packer.unit packer.sequence }
+    ensures ok { OnOk result (PacksRange packer.unit packer.sequence (take count (drop at ring.now.items)) (bytes_in out.old.items) (bytes_in out.new.items)) }
+    ensures err { OnErr result (out.new.items ≡ out.old.items) }
+{
+    let before = out.len();
+    let held = ring.len();
+    prove!(at + count as usize <= held);
+    let mut packer = packer;
+    'packs: for i in 0..count {
+        let Some(raw) = ring.get(at + i as usize) else {
+            unreachable!();
+        };
+        match packer.push_bytes(raw.bytes(), out) {
+            Ok(()) => {}
+            Err(error) => {
+                out.truncate(before);
+                return Err(error);
+            }
+        }
+    }
+    match packer.finish(out) {
+        Ok(()) => Ok(()),
+        Err(error) => {
+            out.truncate(before);
+            Err(error)
+        }
+    }
+}
+
 impl GapStore {
     /// An empty store, with all its memory.
     ///
@@ -92,6 +136,25 @@ impl GapStore {
         self.pushed - self.ring.len() as u32 + 1
     }
 
+    // Whether the messages of a range are kept.
+    fn found(&self, first: u32, count: u16) -> Found
+        requires first { 1 ≤ first }
+        requires count { 1 ≤ count }
+        // Of all messages of which the store keeps the last.
+        ensures found { (v : View) → self.now ≡ store_of v → result ≡ look v first count }
+        ensures kept { result ≡ Kept → (self.now.pushed - length self.now.items + 1 ≤ first) × (first + count - 1 ≤ self.now.pushed) }
+    {
+        let last = first as u64 + count as u64 - 1;
+        if last > self.pushed as u64 {
+            return Found::Ahead { last: self.pushed };
+        }
+        let oldest = self.oldest();
+        if first < oldest {
+            return Found::NotKept { first: oldest };
+        }
+        Found::Kept
+    }
+
     /// The sequence of the oldest message that is kept, or None exactly where nothing was pushed.
     pub fn first(&self) -> Option<u32>
         // Of all messages of which the store keeps the last.
@@ -120,15 +183,36 @@ impl GapLookup for GapStore {
     ghost still = { true };
 
     fn look(&mut self, first: u32, count: u16, out: &mut RawList) -> Result<Found, OutOfMemory> {
-        let last = first as u64 + count as u64 - 1;
-        if last > self.pushed as u64 {
-            return Ok(Found::Ahead { last: self.pushed });
+        match self.found(first, count) {
+            Found::Ahead { last } => return Ok(Found::Ahead { last }),
+            Found::NotKept { first } => return Ok(Found::NotKept { first }),
+            Found::Kept => {}
         }
-        let oldest = self.oldest();
-        if first < oldest {
-            return Ok(Found::NotKept { first: oldest });
+        let at = (first - self.oldest()) as usize;
+        copy_out(&self.ring, at, count, out)?;
+        Ok(Found::Kept)
+    }
+
+    fn find(&mut self, first: u32, count: u16) -> Result<Found, OutOfMemory> {
+        Ok(self.found(first, count))
+    }
+
+    fn pack(
+        &mut self,
+        alloc: Global,
+        unit: u8,
+        first: u32,
+        count: u16,
+        out: &mut DatagramList,
+    ) -> Result<Found, OutOfMemory> {
+        match self.found(first, count) {
+            Found::Ahead { last } => return Ok(Found::Ahead { last }),
+            Found::NotKept { first } => return Ok(Found::NotKept { first }),
+            Found::Kept => {}
         }
-        copy_out(&self.ring, (first - oldest) as usize, count, out)?;
+        let at = (first - self.oldest()) as usize;
+        let packer = Packer::make(alloc, unit, first);
+        pack_out(&self.ring, at, count, packer, out)?;
         Ok(Found::Kept)
     }
 }

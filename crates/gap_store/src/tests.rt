@@ -1,6 +1,7 @@
 use crate::{Found, GapLookup, GapStore};
 use pitch_messages::{Raw, RawList};
 use std::process::Abort;
+use unit_packets::DatagramList;
 
 // 300 messages over 200 places; the second byte of each is its sequence, modulo 256.
 #[test]
@@ -24,4 +25,19 @@ fn the_last_are_kept(rt: HostRuntime) {
         assert_eq!(rt; store.look(first, count, &mut out).ok(), Some(found));
     }
     assert_eq!(rt; (out.len(), out.get(1)), (2, Some([2, 44].as_slice())));
+    let mut lines = DatagramList::make(rt.alloc());
+    for (first, count, found) in looks {
+        assert!(rt; first >= 1 && count >= 1);
+        assert_eq!(rt; store.find(first, count).ok(), Some(found));
+        assert_eq!(rt;
+            store.pack(rt.alloc(), 1, first, count, &mut lines).ok(),
+            Some(found)
+        );
+    }
+    let datagram = lines.get(0).expect(&rt, "a datagram");
+    assert_eq!(rt;
+        datagram.bytes(),
+        b"\x0c\0\x02\x01\x2b\x01\0\0\x02\x2b\x02\x2c".as_slice()
+    );
+    assert_eq!(rt; lines.len(), 1);
 }

@@ -2,8 +2,8 @@
 use Rattle.std.proofs.Common.{◌≡◌, ℕ, ◌<◌, ◌≤◌, Bool, true, false, cond, ◌||◌, List, [], ◌++◌, refl, sym, ap, ◌∙◌, arith, subst, append_assoc, Option, Some, None, nat_eq, nat_lt, unwrap_or}
 use Rattle.std.proofs.lemmas.List.{append-nil}
 use Rattle.std.proofs.lemmas.Bool.{ne_eqb, cond-true, cond-false, lt-ltb, le-ltb}
-use Rattle.unit_packets.specs.Packing.{packed}
-use Rattle.gap_store.specs.Look.{View, IsLater, look, slice_of, given, LooksAt}
+use Rattle.unit_packets.specs.Packing.{packed, packed_on}
+use Rattle.gap_store.specs.Look.{View, IsLater, look, slice_of, given, PacksRange}
 use Rattle.gap_store.specs.declared.found.Found.{Found}
 use Rattle.gap_store.specs.declared.found.Found.TheVariants.{Kept}
 use Rattle.session_ends.proofs.Runs.{IsOrder}
@@ -62,19 +62,24 @@ some_not false true d status is = let e : 77 ≡ status = cc in ap (λ (n : ℕ)
 some_not false false true status is = let e : 83 ≡ status = cc in ap (λ (n : ℕ). nat_eq n 65) (sym e)
 some_not false false false status is = cc
 
--- one that was looked up, and whose range is then in a list that was empty
-module _ (unit : ℕ) (there : Bool) (l : Limits) (sequence count : ℕ) (spent : Spent) (view : View) (shown : View → Type 0) (none range : List (List ℕ)) (found : Found) (is_there : there ≡ true)
-    (le : count ≤ 100) (one : 1 ≤ count) (some : 1 ≤ sequence) (looks : LooksAt shown view sequence count found none range) where
-  answer_is : (status : ℕ) → status ≡ status_found l spent found → status ≡ status_here there l looks.now spent sequence count
-  answer_is status is = is ∙ ap (status_found l spent) looks.answer ∙ status_look l looks.now spent sequence count le one some ∙ ap (λ (b : Bool). status_here b l looks.now spent sequence count) (sym is_there)
+-- what a look-up that is not Kept appends
+nothing_packed : (unit sequence : ℕ) (raws lines lines' : List (List ℕ)) → PacksRange unit sequence raws lines lines' → raws ≡ [] → lines' ≡ lines
+unfolding packed_on
+nothing_packed unit sequence raws lines lines' packs none = packs.appended ∙ ap (λ (r : List (List ℕ)). lines ++ packed unit sequence r) none ∙ append-nil lines
+
+-- one whose range was looked for at a view
+module _ (unit : ℕ) (there : Bool) (l : Limits) (sequence count : ℕ) (spent : Spent) (view now : View) (shown : View → Type 0) (found : Found) (later : IsLater view now) (shows : shown now)
+    (answer : found ≡ look now sequence count) (is_there : there ≡ true) (le : count ≤ 100) (one : 1 ≤ count) (some : 1 ≤ sequence) where
+  answer_is : (status : ℕ) → status ≡ status_found l spent found → status ≡ status_here there l now spent sequence count
+  answer_is status is = is ∙ ap (status_found l spent) answer ∙ status_look l now spent sequence count le one some ∙ ap (λ (b : Bool). status_here b l now spent sequence count) (sym is_there)
 
   pub asked_refused : (status : ℕ) (counted : Spent → Type 0) (lines : List (List ℕ)) → status ≡ status_found l spent found → nat_eq status 65 ≡ false → counted spent → IsAsked unit there l sequence count spent view status counted shown lines lines
   asked_refused status counted lines is other c = record {
-    now = looks.now;
-    later = looks.later;
-    shows = looks.shows;
+    now = now;
+    later = later;
+    shows = shows;
     answer = answer_is status is;
-    lines = sym (append-nil lines) ∙ ap (λ (b : Bool). lines ++ cond b (packed unit sequence (slice_of looks.now sequence count)) []) (sym other);
+    lines = sym (append-nil lines) ∙ ap (λ (b : Bool). lines ++ cond b (packed unit sequence (slice_of now sequence count)) []) (sym other);
     counts = subst counted (ap (λ (b : Bool). cond b (spending spent) spent) (sym other)) c;
   }
 
@@ -82,15 +87,21 @@ module _ (unit : ℕ) (there : Bool) (l : Limits) (sequence count : ℕ) (spent 
   asked_limited status counted lines is refused c =
       asked_refused status counted lines (ap (λ (o : Option ℕ). unwrap_or o 65) refused ∙ sym (ap (status_found l spent) is)) (some_not _ _ _ status (sym refused)) c
 
-  pub asked_taken : (counted : Spent → Type 0) (lines lines' : List (List ℕ)) → found ≡ Kept → None ≡ limit_reached l spent → none ≡ [] → lines' ≡ lines ++ packed unit sequence range → counted (spending spent)
+  pub asked_gone : (other : Found) (counted : Spent → Type 0) (lines lines' : List (List ℕ)) → found ≡ other → given other now sequence count ≡ [] → status_found l spent other ≡ 79
+      → PacksRange unit sequence (given (look now sequence count) now sequence count) lines lines' → counted spent → IsAsked unit there l sequence count spent view 79 counted shown lines lines'
+  asked_gone other counted lines lines' is none status packs c =
+      let empty : given (look now sequence count) now sequence count ≡ [] = ap (λ (f : Found). given f now sequence count) (sym answer ∙ is) ∙ none in
+      let same : lines' ≡ lines = nothing_packed unit sequence _ lines lines' packs empty in
+      subst (λ (x : List (List ℕ)). IsAsked unit there l sequence count spent view 79 counted shown lines x) (sym same)
+      (asked_refused 79 counted lines (sym status ∙ sym (ap (status_found l spent) is)) refl c)
+
+  pub asked_taken : (counted : Spent → Type 0) (lines lines' : List (List ℕ)) → found ≡ Kept → None ≡ limit_reached l spent → PacksRange unit sequence (given (look now sequence count) now sequence count) lines lines' → counted (spending spent)
       → IsAsked unit there l sequence count spent view 65 counted shown lines lines'
-  asked_taken counted lines lines' is free empty packs c = record {
-    now = looks.now;
-    later = looks.later;
-    shows = looks.shows;
+  asked_taken counted lines lines' is free packs c = record {
+    now = now;
+    later = later;
+    shows = shows;
     answer = answer_is 65 (ap (λ (o : Option ℕ). unwrap_or o 65) free ∙ sym (ap (status_found l spent) is));
-    lines = packs ∙ ap (λ (r : List (List ℕ)). lines ++ packed unit sequence r)
-        (looks.given ∙ ap (λ (r : List (List ℕ)). r ++ given (look looks.now sequence count) looks.now sequence count) empty
-        ∙ ap (λ (f : Found). given f looks.now sequence count) (sym looks.answer ∙ is));
+    lines = packs.appended ∙ ap (λ (f : Found). lines ++ packed unit sequence (given f now sequence count)) (sym answer ∙ is);
     counts = c;
   }

@@ -16,13 +16,14 @@ use Rattle.session_ends.specs.Closing.{Setup, logged_in}
 use Rattle.session_ends.specs.Ending.{Ending, EndKnows, known_of, nothing_known, known_ticked}
 use Rattle.session_ends.specs.declared.role.Role.{Role}
 use Rattle.session_ends.specs.Events.{Event, Fed, Ticked}
-use Rattle.session_ends.specs.Sending.{new_items}
+use Rattle.session_ends.specs.Sending.{sent_bytes, new_items}
 use Rattle.session_ends.proofs.Ends.{Takes, Pieced, fed_end, shut_end, known_none}
 use Rattle.session_ends.proofs.Runs.{rises_rest, size_rest}
 use Rattle.grp_session.specs.Asking.{IsAsked, gap_status, datagrams_of}
 use Rattle.grp_session.specs.Budget.{Limits, Spent}
-use Rattle.grp_session.specs.Serving.{Source, grp_answer, proxy_answer, grp_sends, ProxyStands, ProxyFeeds, request_answer, gap_answer, message_answer, said_answer, reply_bytes}
+use Rattle.grp_session.specs.Serving.{Source, grp_answer, proxy_answer, grp_sends, ProxyStands, ProxyFeeds, request_answer, gap_answer, message_answer, said_answer}
 use Rattle.grp_session.proofs.Asked.{later_order}
+use Rattle.grp_session.proofs.GapLine.{answered_lines, none_packed}
 
 pub stands_none : (v : Ending) (role : Role) → v.setup.role ≡ role → EndKnows v (nothing_known role) → ProxyStands v []
 stands_none v role same is = subst (EndKnows v) (ap nothing_known (sym same) ∙ sym (known_none (grp_sends v.setup) v.setup)) is
@@ -76,7 +77,7 @@ pub hears_other : (s : Setup) (there : Bool) (l : Limits) (spent : Spent) (view 
     → nat_eq unit s.unit ≡ false → reply' ≡ reply ++ (gap_answer s 73 view spent unit sequence count).reply → counted spent → shown view
     → Hears (λ (v : View). request_answer s there l v spent unit sequence count) IsLater view counted shown reply reply' lines lines
 hears_other s there l spent view unit sequence count counted shown reply reply' lines other more c v =
-    hears_reply IsLater (λ (w : View). request_answer s there l w spent unit sequence count) (reply_bytes s (GapReply unit sequence count 73)) spent view counted shown reply reply' lines
+    hears_reply IsLater (λ (w : View). request_answer s there l w spent unit sequence count) (sent_bytes s (GapReply unit sequence count 73)) spent view counted shown reply reply' lines
     (λ w. ap (λ (b : Bool). gap_answer s (gap_status b there l w spent sequence count) w spent unit sequence count) other) more (later_order.same view) c v
 
 -- a message is a request, after an accepted login
@@ -139,6 +140,7 @@ fed_serves es piece old new items inbox setup logged there l spent view counted 
         replied = bytes;
         lined = h.lined ∙ ap (λ (x : List (List ℕ)). x ++ a.lines) none_sent ∙ ap (λ (x : Answer Spent). x.lines) (sym said);
       };
+      packing = λ are. (a.lines, h.lined ∙ ap (λ (x : List (List ℕ)). x ++ a.lines) none_sent, answered_lines s there l h.now are old.logged spent h.views items view h.rises);
     }
 
 -- an end that was closed stays as it was, and says nothing
@@ -162,6 +164,7 @@ fed_shut es piece v c there l spent view counted shown reply lines some stands k
         replied = sym (append-nil reply) ∙ ap (λ (x : Answer Spent). reply ++ x.reply) (sym said);
         lined = sym (append-nil lines) ∙ ap (λ (x : Answer Spent). lines ++ x.lines) (sym said);
       };
+      packing = λ are. ([], sym (append-nil lines), none_packed v.setup.unit view.messages);
     }
 
 -- what was said into empty lists is appended to others
@@ -180,4 +183,5 @@ feeds_behind es piece old new there l spent view counted shown said reply reply'
     replied = r ∙ ap (λ (x : List ℕ). reply ++ x) f.answered.replied;
     lined = n ∙ ap (λ (x : List (List ℕ)). lines ++ x) f.answered.lined;
   };
+  packing = λ are. let p = f.packing are in (p.0, n ∙ ap (λ (x : List (List ℕ)). lines ++ x) p.1, p.2);
 }

@@ -1,7 +1,10 @@
 -- What the proxy's end of a session says.
-use Rattle.std.specs.Prelude.{◌≡◌, ℕ, Bool, ◌==◌, List, [], ◌∷◌, ◌++◌, length, replicate, is_some, if◌then◌else◌}
+use Rattle.std.specs.Prelude.{◌≡◌, ◌≤◌, ◌<◌, ℕ, Bool, ◌==◌, List, [], ◌∷◌, ◌++◌, length, replicate, is_some, if◌then◌else◌}
 use Rattle.pitch_messages.specs.declared.session.SessionMessage.{SessionMessage}
 use Rattle.pitch_messages.specs.declared.session.SessionMessage.TheVariants.{Login, LoginReply, GapRequest, GapReply}
+use Rattle.std.specs.List.{AllByRecursion}
+use Rattle.pitch_fields.specs.Limits.{last_sequence}
+use Rattle.pitch_messages.specs.Raw.{IsRaw}
 use Rattle.gap_store.specs.Look.{View, IsLater, store_of}
 use Rattle.session_ends.specs.declared.role.Said.{Said}
 use Rattle.session_ends.specs.declared.role.Said.TheVariants.{Message}
@@ -10,8 +13,8 @@ use Rattle.session_ends.specs.Closing.{Setup, closed_of, logged_in, login_status
 use Rattle.session_ends.specs.Ending.{Ending, EndKnows, known_of}
 use Rattle.session_ends.specs.Events.{Event, Fed}
 use Rattle.session_ends.specs.Saying.{heard_by}
-use Rattle.session_ends.specs.Sending.{header_unit, message_bytes, new_items}
-use Rattle.grp_session.specs.Asking.{gap_status, datagrams_of, spent_after}
+use Rattle.session_ends.specs.Sending.{sent_bytes, new_items}
+use Rattle.grp_session.specs.Asking.{gap_status, datagrams_of, spent_after, ArePackedRanges}
 use Rattle.grp_session.specs.Budget.{Limits, Spent}
 
 -- what the proxy has when it is fed: whether a gap source is there, what can be seen of it at each
@@ -23,18 +26,14 @@ pub record Source : Type 0 where
   pub spent : Spent
 
 -- ---- One message
--- the bytes of a reply
-abbrev pub reply_bytes : Setup → SessionMessage → List ℕ
-reply_bytes s message = message_bytes (header_unit s.role s.unit) message
-
 -- a login gets its status ("Login Response Message")
 abbrev pub login_answer : {S : Type 0} → Setup → ℕ → S → Answer S
-login_answer s status state = record { reply = reply_bytes s (LoginReply status); lines = []; knows = state }
+login_answer s status state = record { reply = sent_bytes s (LoginReply status); lines = []; knows = state }
 
 -- a request gets its status, with its unit, sequence and count ("Gap Response Message")
 abbrev pub gap_answer : Setup → ℕ → View → Spent → ℕ → ℕ → ℕ → Answer Spent
 gap_answer s status view spent unit sequence count = record {
-  reply = reply_bytes s (GapReply unit sequence count status);
+  reply = sent_bytes s (GapReply unit sequence count status);
   lines = datagrams_of status s.unit view sequence count;
   knows = spent_after status spent;
 }
@@ -84,8 +83,15 @@ pub record Answered (es : List (Event Source)) (bytes : List ℕ) (source : Sour
   pub replied : reply' ≡ reply ++ (proxy_answer old.setup es bytes source).reply
   pub lined : lines' ≡ lines ++ (proxy_answer old.setup es bytes source).lines
 
+-- a unit's messages are raw, and each has a sequence that a message can have
+pub record AreSequenced (unit : ℕ) (messages : List (List ℕ)) : Type 0 where
+  pub small : unit < 256
+  pub raws : AllByRecursion IsRaw messages
+  pub top : length messages ≤ last_sequence
+
 -- the messages were answered at views that rise from that of the call to that after it, one for
--- each message and each end of a block
+-- each message and each end of a block; what goes on the gap line are packings of ranges of the
+-- messages to be seen after it
 pub record ProxyFeeds (es : List (Event Source)) (bytes : List ℕ) (old new : Ending) (there : Bool) (limits : Limits) (spent : Spent) (view : View)
     (counted : Spent → Type 0) (shown : View → Type 0) (reply reply' : List ℕ) (lines lines' : List (List ℕ)) : Type 0 where
   pub views : List View
@@ -94,6 +100,7 @@ pub record ProxyFeeds (es : List (Event Source)) (bytes : List ℕ) (old new : E
   pub rises : Rises IsLater view views now
   pub shows : shown now
   pub answered : Answered es bytes (record { there = there; views = views; limits = limits; spent = spent }) old new counted reply reply' lines lines'
+  pub packing : AreSequenced old.setup.unit now.messages → (added : List (List ℕ)) × (lines' ≡ lines ++ added) × ArePackedRanges old.setup.unit now.messages added
 
 -- ---- However the bytes are cut
 -- what is answered to two pieces at once is what is answered to the one, then to the other

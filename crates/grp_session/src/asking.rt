@@ -7,12 +7,12 @@ ghost use Rattle.grp_session.specs.Asking.{IsAsked};
 use crate::budget::GapBudget;
 use gap_store::{Found, GapLookup};
 use pitch_fields::OutOfMemory;
-use pitch_messages::RawList;
 use std::alloc::Global;
-use unit_packets::{DatagramList, pack};
+use unit_packets::DatagramList;
 
 // How a gap request of this unit is answered, where there is a gap source or not. One that is
-// accepted counts, and its messages are packed onto the gap line.
+// accepted counts, and its messages are packed onto the gap line. While a limit is reached none can
+// be, so the range is only looked for.
 pub(crate) fn ask<L: GapLookup>(
     alloc: Global,
     unit: u8,
@@ -38,15 +38,17 @@ pub(crate) fn ask<L: GapLookup>(
     if count == 0 || sequence == 0 {
         return Ok(b'O');
     }
-    let mut range = RawList::make(alloc);
-    match lookup.look(sequence, count, &mut range)? {
-        Found::Ahead { .. } => Ok(b'O'),
-        Found::NotKept { .. } => Ok(b'O'),
-        Found::Kept => match budget.limit_reached() {
-            Some(status) => Ok(status),
-            None => {
+    match budget.limit_reached() {
+        Some(status) => match lookup.find(sequence, count)? {
+            Found::Ahead { .. } => Ok(b'O'),
+            Found::NotKept { .. } => Ok(b'O'),
+            Found::Kept => Ok(status),
+        },
+        None => match lookup.pack(alloc, unit, sequence, count, gap_line)? {
+            Found::Ahead { last: _ } => Ok(b'O'),
+            Found::NotKept { first: _ } => Ok(b'O'),
+            Found::Kept => {
                 budget.spend();
-                pack(alloc, unit, sequence, range.raws(), gap_line)?;
                 Ok(b'A')
             }
         },

@@ -9,10 +9,10 @@ ghost use Rattle.session_ends.specs.Answering.{Hears, HearsAll};
 ghost use Rattle.session_ends.specs.Closing.{cause_of, closed_of, first_cause, logs_in};
 ghost use Rattle.session_ends.specs.Events.{Event, Ticked};
 ghost use Rattle.session_ends.specs.Items.{closed_at};
-ghost use Rattle.session_ends.specs.Sending.{sent_at_tick};
+ghost use Rattle.session_ends.specs.Sending.{sent_bytes, sent_at_tick};
 ghost use Rattle.grp_session.specs.Budget.{Spent, Counted};
 ghost use Rattle.grp_session.specs.Lent.{OnLent, OnNone, Left};
-ghost use Rattle.grp_session.specs.Serving.{Source, reply_bytes, request_answer, message_answer, said_answer, grp_answer, grp_sends, ProxyStands, ProxyFeeds};
+ghost use Rattle.grp_session.specs.Serving.{Source, request_answer, message_answer, said_answer, grp_answer, grp_sends, ProxyStands, ProxyFeeds};
 
 use crate::asking::ask;
 use crate::budget::GapBudget;
@@ -50,6 +50,21 @@ impl GapLookup for NoSource {
     ghost still = { true };
 
     fn look(&mut self, _first: u32, _count: u16, _out: &mut RawList) -> Result<Found, OutOfMemory> {
+        Err(OutOfMemory)
+    }
+
+    fn find(&mut self, _first: u32, _count: u16) -> Result<Found, OutOfMemory> {
+        Err(OutOfMemory)
+    }
+
+    fn pack(
+        &mut self,
+        _alloc: Global,
+        _unit: u8,
+        _first: u32,
+        _count: u16,
+        _out: &mut DatagramList,
+    ) -> Result<Found, OutOfMemory> {
         Err(OutOfMemory)
     }
 }
@@ -115,7 +130,7 @@ impl GrpServer {
         status: u8,
         reply: &mut Vec<u8>,
     ) -> Result<(), OutOfMemory>
-        ensures { OnOk result (reply.new.items ≡ reply.old.items ++ reply_bytes self.now.setup (GapReply unit sequence count status)) }
+        ensures { OnOk result (reply.new.items ≡ reply.old.items ++ sent_bytes self.now.setup (GapReply unit sequence count status)) }
     {
         self.end.put(
             &SessionMessage::GapReply {

@@ -203,6 +203,7 @@ fn each_status_in_turn(rt: HostRuntime) {
         ((2, 150, 1), b'I'),
         ((1, 150, 101), b'C'),
         ((1, 150, 0), b'O'),
+        ((1, 0, 1), b'O'),
         ((1, 100, 1), b'O'),
         ((1, 300, 2), b'O'),
     ];
@@ -259,4 +260,57 @@ fn each_status_in_turn(rt: HostRuntime) {
         datagram.bytes(),
         b"\x0c\0\x02\x01\x2b\x01\0\0\x02\x2b\x02\x2c".as_slice()
     );
+}
+
+// Limits for a second, a minute and a day; what is answered to a second request, and to a third
+// after a minute.
+const LIMITS: [((u32, u32, u32), u8, u8); 5] = [
+    ((1, 9, 9), b'S', b'A'),
+    ((9, 1, 9), b'M', b'A'),
+    ((9, 9, 1), b'D', b'D'),
+    ((1, 1, 9), b'M', b'A'),
+    ((1, 1, 1), b'D', b'D'),
+];
+
+#[test]
+fn each_limit_in_turn(rt: HostRuntime) {
+    let mut store = store(&rt, rt.alloc());
+    let mut server = server(&rt, rt.alloc(), false);
+    let mut line = DatagramList::make(rt.alloc());
+    let mut reply = Vec::new(rt.alloc());
+    let mut any = GapBudget::make(0, 0, 0);
+    server
+        .feed(LOGIN, &mut any, Some(&mut store), &mut reply, &mut line)
+        .expect(&rt, "memory");
+    // A range that is gone is not there, whatever the budget says.
+    for (request, answer) in [((1, 100, 1), b'O'), ((1, 150, 1), b'D')] {
+        let found = status(
+            &rt,
+            rt.alloc(),
+            &mut server,
+            &mut any,
+            Some(&mut store),
+            request,
+            &mut line,
+        );
+        assert_eq!(rt; found, answer);
+    }
+    for ((second, minute, day), then, later) in LIMITS {
+        let mut budget = GapBudget::make(second, minute, day);
+        for (ticks, answer) in [(0, b'A'), (0, then), (60, later)] {
+            for _ in 0..ticks {
+                budget.tick();
+            }
+            let found = status(
+                &rt,
+                rt.alloc(),
+                &mut server,
+                &mut budget,
+                Some(&mut store),
+                (1, 299, 2),
+                &mut line,
+            );
+            assert_eq!(rt; found, answer);
+        }
+    }
 }

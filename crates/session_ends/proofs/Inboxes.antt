@@ -1,21 +1,22 @@
 -- What a stream says, and what a piece adds to it.
-use Rattle.std.proofs.Common.{◌≡◌, ℕ, zero, suc, ◌+◌, ◌≤◌, List, [], ◌∷◌, ◌++◌, length, drop, refl, sym, ap, ◌∙◌, arith, false, Result, subst, length-append, append_assoc, inl, inr, Option, Some, None, slice_get}
-use Rattle.std.proofs.lemmas.List.{append-nil, length-drop}
+use Rattle.std.proofs.Common.{◌≡◌, ℕ, zero, suc, ◌+◌, ◌≤◌, List, [], ◌∷◌, ◌++◌, length, drop, refl, sym, ap, ◌∙◌, arith, false, subst, length-append, append_assoc, inl, inr, Option, Some, None, Err, slice_get}
+use Rattle.std.proofs.lemmas.List.{append-nil, length-drop, drop-drop}
 use Rattle.unit_packets.specs.Blocks.{Block}
 use Rattle.unit_packets.specs.Causes.{counted}
-use Rattle.unit_packets.specs.declared.block.FeedError.{FeedError}
 use Rattle.unit_packets.specs.declared.header.Header.{Header}
 use Rattle.unit_packets.specs.declared.header.BlockFault.{BlockFault}
 use Rattle.unit_packets.specs.Judging.{judge}
-use Rattle.unit_packets.specs.Cutting.{blocks_of, blocks_by, rest_of, rest_by, place_of, fault_in}
-use Rattle.unit_packets.specs.Feeding.{StandsFor, Feeds, WithMemory, fed_answer, fed_fault}
+use Rattle.unit_packets.specs.Cutting.{blocks_of, blocks_by, rest_of, rest_by, place_of, fault_in, fault_from}
+use Rattle.unit_packets.specs.Lending.{StandsFirst}
+use Rattle.unit_packets.specs.declared.header.BlockError.{BlockError}
+use Rattle.unit_packets.specs.Feeding.{Feeds, fed_answer, fed_fault, kept_fault}
 use Rattle.unit_packets.proofs.Stable.{judge_found}
 use Rattle.unit_packets.proofs.Cuts.{first_of, none_of, cases_Result, rest_short, appends}
-use Rattle.unit_packets.proofs.Feeds.{stands_unread}
-use Rattle.unit_packets.proofs.Streams.{lasting_of, lasting_more, fault_stays}
+use Rattle.unit_packets.proofs.Feeds.{stands_unread, stands_fault, fed_on}
+use Rattle.unit_packets.proofs.Streams.{leads, lasting_of, lasting_more, fault_stays}
 use Rattle.session_ends.specs.declared.inbox.Heard.{Heard}
 use Rattle.session_ends.specs.Items.{onward, block_size, block_items, stream_items_from, stream_items, trouble}
-use Rattle.session_ends.specs.Inboxes.{Inboxed, nothing_fed, HasTaken, TakesPiece}
+use Rattle.session_ends.specs.Inboxes.{Inboxed, nothing_fed, HasTaken, TakesPiece, HearsBlocks}
 
 -- ---- Places
 pub counted_on : (a b : ℕ) → counted (counted a + b) ≡ counted (a + b)
@@ -92,24 +93,23 @@ pub items_stay : (fed piece : List ℕ) → (more : List Heard) × (stream_items
 items_stay fed piece = stays_by fed piece (fed_fault fed) refl
 
 -- ---- An inbox
-with_memory : (fault : Option BlockFault) (answer : Result (Unit {0}) FeedError) (P : Type 0) → answer ≡ fed_answer fault → WithMemory answer P → P
-with_memory None answer P is p = subst (λ (a : Result (Unit {0}) FeedError). WithMemory a P) is p
-with_memory (Some fault) answer P is p = subst (λ (a : Result (Unit {0}) FeedError). WithMemory a P) is p
-
 answer_one : (a b : Option BlockFault) → fed_answer a ≡ fed_answer b → a ≡ b
 answer_one None None is = refl
 answer_one None (Some f) is = cc
 answer_one (Some f) None is = cc
 answer_one (Some f) (Some g) is = cc
 
-pub taken_in : (fed piece : List ℕ) (old new : Inboxed) (blocks none : List Block) (fault : Option BlockFault) (answer : Result (Unit {0}) FeedError) (start : ℕ) (before mid after : List Heard)
-    → HasTaken old fed → fed_fault fed ≡ None → WithMemory answer ((bytes : List ℕ) → StandsFor old.reading bytes → Feeds bytes piece new.reading none blocks answer) → answer ≡ fed_answer fault → none ≡ []
-    → new.fed ≡ counted (old.fed + length piece) → start ≡ old.reading.place → mid ≡ before ++ stream_items_from start blocks → after ≡ mid ++ trouble fault → TakesPiece fed piece new before after
-taken_in fed piece old new blocks none fault answer start before mid after old_is unspoiled feeds answers empty count place m a =
-    let f : Feeds fed piece new.reading none blocks answer = with_memory fault answer ((bytes : List ℕ) → StandsFor old.reading bytes → Feeds bytes piece new.reading none blocks answer) answers feeds fed old_is.reads in
+pub taken_in : (fed piece all : List ℕ) (old new : Inboxed) (passed : ℕ) (error : BlockError) (fault : Option BlockFault) (start : ℕ) (before mid after : List Heard)
+    → HasTaken old fed → fed_fault fed ≡ None → all ≡ old.reading.rest ++ piece → start ≡ old.reading.place → HearsBlocks start all passed error before mid
+    → new.reading.place ≡ counted (old.reading.place + passed) → new.reading.rest ≡ drop passed all → fault ≡ fault_from false new.reading.place (Err error)
+    → new.fed ≡ counted (old.fed + length piece) → after ≡ mid ++ trouble fault → TakesPiece fed piece new before after
+taken_in fed piece all old new passed error fault start before mid after old_is unspoiled are place hears on rest why count a =
+    let none : kept_fault old.reading ≡ None = stands_fault false old.reading fed old_is.reads ∙ unspoiled in
+    let f : Feeds fed piece new.reading [] (blocks_of all) (fed_answer fault) =
+    fed_on fed piece all passed error old.reading new.reading [] (blocks_of all) (fed_answer fault) old_is.reads none are hears.cut on rest (ap fed_answer why) in
     let here : start ≡ counted (place_of fed) = place ∙ old_is.reads.place_is in
-    let same : fault ≡ fed_fault (fed ++ piece) = answer_one fault (fed_fault (fed ++ piece)) (sym answers ∙ f.fault) in
-    let given : blocks ≡ f.added = f.given ∙ ap (λ (bs : List Block). bs ++ f.added) empty in
+    let same : fault ≡ fed_fault (fed ++ piece) = answer_one fault (fed_fault (fed ++ piece)) f.fault in
+    let given : blocks_of all ≡ f.added = f.given in
     record {
       stands = record {
         reads = f.stands;
@@ -117,8 +117,8 @@ taken_in fed piece old new blocks none fault answer start before mid after old_i
       };
       added = stream_items_from (counted (place_of fed)) f.added ++ trouble (fed_fault (fed ++ piece));
       are = items_more fed piece f.added f.blocks unspoiled;
-      appended = a ∙ ap (λ (l : List Heard). l ++ trouble fault) m ∙ append_assoc before (stream_items_from start blocks) (trouble fault)
-          ∙ ap (λ (n : ℕ). before ++ (stream_items_from n blocks ++ trouble fault)) here
+      appended = a ∙ ap (λ (l : List Heard). l ++ trouble fault) hears.heard ∙ append_assoc before (stream_items_from start (blocks_of all)) (trouble fault)
+          ∙ ap (λ (n : ℕ). before ++ (stream_items_from n (blocks_of all) ++ trouble fault)) here
           ∙ ap (λ (bs : List Block). before ++ (stream_items_from (counted (place_of fed)) bs ++ trouble fault)) given
           ∙ ap (λ (o : Option BlockFault). before ++ (stream_items_from (counted (place_of fed)) f.added ++ trouble o)) same;
     }
@@ -145,13 +145,36 @@ drop_all [] (suc i) is = absurd (omega arith)
 drop_all (x ∷ xs) zero is = absurd (omega arith)
 drop_all (x ∷ xs) (suc i) is = drop_all xs i (omega arith)
 
-pub blocks_more : (start place i : ℕ) (blocks : List Block) (block : Block) (before so_far so_far' : List Heard) → so_far ++ stream_items_from place (drop i blocks) ≡ before ++ stream_items_from start blocks
-    → drop i blocks ≡ block ∷ drop (i + 1) blocks → so_far' ≡ so_far ++ block_items place block
-    → so_far' ++ stream_items_from (onward place (block_size block)) (drop (i + 1) blocks) ≡ before ++ stream_items_from start blocks
-blocks_more start place i blocks block before so_far so_far' is next more =
-    ap (λ (l : List Heard). l ++ stream_items_from (onward place (block_size block)) (drop (i + 1) blocks)) more
-    ∙ append_assoc so_far (block_items place block) (stream_items_from (onward place (block_size block)) (drop (i + 1) blocks))
-    ∙ ap (λ (bs : List Block). so_far ++ stream_items_from place bs) (sym next) ∙ is
+-- ---- Going through the blocks of a piece
+-- so many bytes were passed; what they and the others say is what all do
+pub record Going (start : ℕ) (bytes : List ℕ) (at place : ℕ) (before so_far : List Heard) : Type 0 where
+  pub within : at ≤ length bytes
+  pub rest : rest_of bytes ≡ rest_of (drop at bytes)
+  pub says : so_far ++ stream_items_from place (blocks_of (drop at bytes)) ≡ before ++ stream_items_from start (blocks_of bytes)
 
-pub blocks_end : (start place i : ℕ) (blocks : List Block) (before so_far : List Heard) → so_far ++ stream_items_from place (drop i blocks) ≡ before ++ stream_items_from start blocks → i ≡ length blocks → so_far ≡ before ++ stream_items_from start blocks
-blocks_end start place i blocks before so_far is all = sym (append-nil so_far) ∙ ap (λ (bs : List Block). so_far ++ stream_items_from place bs) (sym (drop_all blocks i all)) ∙ is
+pub going_more : (start : ℕ) (bytes rest : List ℕ) (at place place' size : ℕ) (before so_far longer : List Heard) (block : Block) → Going start bytes at place before so_far → rest ≡ drop at bytes
+    → StandsFirst rest block → size ≡ block_size block → place' ≡ onward place size → longer ≡ so_far ++ block_items place block → Going start bytes (at + size) place' before longer
+going_more start bytes rest at place place' size before so_far longer block g is stands fits on more =
+    let l = leads (drop at bytes) block (subst (λ (r : List ℕ). StandsFirst r block) is stands) in
+    let cut : drop (block_size block) (drop at bytes) ≡ drop (at + size) bytes = drop-drop (block_size block) at bytes ∙ ap (λ (k : ℕ). drop (at + k) bytes) (sym fits) in
+    let next : blocks_of (drop at bytes) ≡ block ∷ blocks_of (drop (at + size) bytes) = l.blocks ∙ ap (λ (r : List ℕ). block ∷ blocks_of r) cut in
+    let there : place' ≡ onward place (block_size block) = on ∙ ap (onward place) fits in
+    record {
+      within = omega (arith, l.fits, length-drop at bytes, g.within, fits);
+      rest = g.rest ∙ l.rest_is ∙ ap rest_of cut;
+      says = ap (λ (n : ℕ). longer ++ stream_items_from n (blocks_of (drop (at + size) bytes))) there
+          ∙ ap (λ (h : List Heard). h ++ stream_items_from (onward place (block_size block)) (blocks_of (drop (at + size) bytes))) more
+          ∙ append_assoc so_far (block_items place block) (stream_items_from (onward place (block_size block)) (blocks_of (drop (at + size) bytes)))
+          ∙ ap (λ (bs : List Block). so_far ++ stream_items_from place bs) (sym next)
+          ∙ g.says;
+    }
+
+pub going_end : (start : ℕ) (bytes rest : List ℕ) (at place : ℕ) (before so_far : List Heard) (e : BlockError) → Going start bytes at place before so_far → rest ≡ drop at bytes → judge rest ≡ Err e
+    → HearsBlocks start bytes at e before so_far
+going_end start bytes rest at place before so_far e g is stop =
+    let there : judge (drop at bytes) ≡ Err e = ap judge (sym is) ∙ stop in
+    let none = none_of (drop at bytes) e there in
+    record {
+      cut = record { within = g.within; rest = g.rest ∙ none.rest; blocks = refl; stop = there };
+      heard = sym (append-nil so_far) ∙ ap (λ (bs : List Block). so_far ++ stream_items_from place bs) (sym none.blocks) ∙ g.says;
+    }

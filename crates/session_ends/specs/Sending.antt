@@ -21,6 +21,10 @@ header_unit SpinLink unit = unit
 abbrev pub message_bytes : ℕ → SessionMessage → List ℕ
 message_bytes unit message = block_bytes (session_block unit (session_written message))
 
+-- the bytes of a session message that an end sends
+abbrev pub sent_bytes : Setup → SessionMessage → List ℕ
+sent_bytes s message = message_bytes (header_unit s.role s.unit) message
+
 abbrev pub heartbeat_bytes : ℕ → List ℕ
 heartbeat_bytes unit = block_bytes (heartbeat_block unit 0)
 

@@ -8,7 +8,7 @@ ghost use Rattle.session_ends.specs.Ending.{EndKnows, Known, known_ticked, tick_
 ghost use Rattle.session_ends.specs.Inboxes.{HasTaken, TakesPiece};
 ghost use Rattle.session_ends.specs.Items.{closed_at};
 ghost use Rattle.session_ends.specs.Saying.{heard_by};
-ghost use Rattle.session_ends.specs.Sending.{header_unit, message_bytes, heartbeat_bytes, some_bytes};
+ghost use Rattle.session_ends.specs.Sending.{header_unit, sent_bytes, heartbeat_bytes, some_bytes};
 
 use crate::account::Account;
 use crate::closed::{CloseCause, Closed};
@@ -294,7 +294,7 @@ impl End {
 
     /// Appends the block of a session message. After OutOfMemory the bytes are as before.
     pub fn put(&self, message: &SessionMessage, out: &mut Vec<u8>) -> Result<(), OutOfMemory>
-        ensures ok { OnOk result (out.new.items ≡ out.old.items ++ message_bytes (header_unit self.now.setup.role self.now.setup.unit) message.now) }
+        ensures ok { OnOk result (out.new.items ≡ out.old.items ++ sent_bytes self.now.setup message.now) }
         ensures err { OnErr result (out.new.items ≡ out.old.items) }
     {
         put_session(self.header_unit(), &write(message), out)

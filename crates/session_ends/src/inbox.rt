@@ -1,14 +1,15 @@
-ghost use Rattle.std.specs.Prelude.{◌≡◌, ℕ, ◌+◌, ◌≤◌, List, [], ◌∷◌, ◌++◌, OnOk, IfOk, length, None};
-ghost use Rattle.unit_packets.specs.Feeding.{fed_answer, fed_fault};
-ghost use Rattle.session_ends.specs.Inboxes.{nothing_fed, HasTaken, TakesPiece};
-ghost use Rattle.session_ends.specs.Items.{onward, messages_from, block_items, block_size, stream_items_from, trouble};
+ghost use Rattle.std.specs.Prelude.{◌≡◌, ℕ, ◌+◌, ◌≤◌, List, [], ◌∷◌, ◌++◌, OnOk, IfOk, length, None, Err, true, false};
+ghost use Rattle.unit_packets.specs.Cutting.{fault_from};
+ghost use Rattle.unit_packets.specs.Feeding.{fed_fault};
+ghost use Rattle.session_ends.specs.Inboxes.{nothing_fed, HasTaken, TakesPiece, HearsBlocks};
+ghost use Rattle.session_ends.specs.Items.{onward, messages_from, block_items, trouble};
 
 use crate::closed::{CloseCause, Closed};
 use pitch_fields::OutOfMemory;
 use pitch_messages::{Raw, Raws};
 use std::alloc::Global;
 use std::marker::Model;
-use unit_packets::{Block, BlockFault, BlockList, BlockReader, FeedError};
+use unit_packets::{BlockError, BlockFault, BlockReader, BlockView, view_block};
 
 /// What a stream says next to an end: a message with its place, that its block ends, or what breaks
 /// the stream.
@@ -44,37 +45,53 @@ fn push_messages(start: u64, raws: Raws<'_>, out: &mut Vec<Heard>) -> Result<(),
 }
 
 // Appends what a block says.
-fn push_block(place: u64, block: &Block, out: &mut Vec<Heard>) -> Result<(), OutOfMemory>
+fn push_block(place: u64, block: &BlockView<'_>, out: &mut Vec<Heard>) -> Result<(), OutOfMemory>
     ensures { OnOk result (out.new.items ≡ out.old.items ++ block_items place block.now) }
 {
-    if block.header.sequence != 0 {
+    if block.header().sequence != 0 {
         out.push(Heard::Broken(Closed {
             cause: CloseCause::Sequenced,
             place,
         }))?;
         return Ok(());
     }
-    push_messages(onward(place, 8), block.raws.raws(), out)
+    push_messages(onward(place, 8), block.raws(), out)
 }
 
-// How many bytes a block has.
-fn block_size(block: &Block) -> usize
-    ensures { result ≡ block_size block.now }
-{
-    block.header.length as usize
-}
-
-// Appends what blocks say that stand from a place on.
-fn push_blocks(start: u64, blocks: &[Block], out: &mut Vec<Heard>) -> Result<(), OutOfMemory>
-    ensures { OnOk result (out.new.items ≡ out.old.items ++ stream_items_from start blocks.now) }
+// Appends what the blocks say with which the bytes begin, the first of which stands at a place of
+// the stream. Answers how many bytes they have, and why no block follows them.
+fn push_blocks(
+    start: u64,
+    bytes: &[u8],
+    out: &mut Vec<Heard>,
+) -> Result<(usize, BlockError), OutOfMemory>
+    ensures { IfOk result (λ cut. HearsBlocks start bytes.now cut.0 cut.1 out.old.items out.new.items) }
 {
     let mut place = start;
-    'each: for i in 0..blocks.len() {
-        let block = &blocks[i];
-        push_block(place, block, out)?;
-        place = onward(place, block_size(block));
+    let mut at = 0;
+    'next: while at <= bytes.len() {
+        let rest = &bytes[at..];
+        match view_block(rest) {
+            Ok(block) => {
+                push_block(place, &block, out)?;
+                let size = block.header().length as usize;
+                place = onward(place, size);
+                at += size;
+            }
+            Err(error) => return Ok((at, error)),
+        }
     }
-    Ok(())
+    unreachable!()
+}
+
+// The fault at a place where no block follows, unless more bytes may mend it.
+fn fault_from(place: u64, error: BlockError) -> Option<BlockFault>
+    ensures { result ≡ fault_from false place (Err error) }
+{
+    if error.is_truncated() {
+        return None;
+    }
+    Some(BlockFault { place, error })
 }
 
 // Appends the fault that breaks the stream, if there is one.
@@ -93,21 +110,9 @@ fn push_trouble(fault: Option<BlockFault>, out: &mut Vec<Heard>) -> Result<(), O
     }
 }
 
-// The fault that a reader answered, unless there was no memory.
-fn fault_in(answer: Result<(), FeedError>) -> Result<Option<BlockFault>, OutOfMemory>
-    ensures { IfOk result (λ fault. answer ≡ fed_answer fault) }
-{
-    match answer {
-        Ok(()) => Ok(None),
-        Err(FeedError::Fault(fault)) => Ok(Some(fault)),
-        Err(FeedError::OutOfMemory) => Err(OutOfMemory),
-    }
-}
-
 /// Takes in the bytes of a stream, in whatever pieces they come, and says what they are to an end.
 #[derive(Drop)]
 pub struct Inbox {
-    alloc: Global,
     reader: BlockReader,
     fed: u64,
 }
@@ -126,7 +131,6 @@ impl Inbox {
         ensures { result ≡ nothing_fed }
     {
         Inbox {
-            alloc,
             reader: BlockReader::make(alloc),
             fed: 0,
         }
@@ -148,11 +152,11 @@ impl Inbox {
             → TakesPiece fed piece.now self.new out.old.items out.new.items) }
     {
         self.fed = self.fed.saturating_add(piece.len() as u64);
-        let place = self.reader.place();
-        let mut blocks = BlockList::make(self.alloc);
-        let fault = fault_in(self.reader.feed(piece, &mut blocks))?;
-        push_blocks(place, blocks.as_slice(), out)?;
-        push_trouble(fault, out)?;
+        let start = self.reader.place();
+        self.reader.load(piece)?;
+        let (passed, error) = push_blocks(start, self.reader.rest(), out)?;
+        self.reader.pass(passed);
+        push_trouble(fault_from(self.reader.place(), error), out)?;
         Ok(())
     }
 }

@@ -14,11 +14,11 @@ use Rattle.session_ends.specs.Answering.{Answer, no_answer, answers}
 use Rattle.session_ends.specs.Closing.{Setup, cause_of, closed_of, closes_at, logged_in, logs_in, login_status, or_else}
 use Rattle.session_ends.specs.Events.{Event, Fed, Ticked, Asked, Pumped, Told}
 use Rattle.session_ends.specs.Saying.{heard_by}
-use Rattle.session_ends.specs.Sending.{header_unit, heartbeat_bytes, sent_since, new_items}
+use Rattle.session_ends.specs.Sending.{sent_bytes, header_unit, heartbeat_bytes, sent_since, new_items}
 use Rattle.session_ends.proofs.Ends.{or_parts}
 use Rattle.pitch_model.specs.Advertising.{last_ten, newest_of}
 use Rattle.spin_server.specs.Served.{Served, is_served}
-use Rattle.spin_server.specs.Serving.{Spin, spin_bytes, available_bytes, next_block, spin_left, spin_login_answer, spin_message_answer, spin_said_answer, spin_answer, served_answer, spin_request_answer, refusal_answer, pump_bytes, pumped, tell_bytes, running_spin, spin_sends}
+use Rattle.spin_server.specs.Serving.{Spin, available_bytes, next_block, spin_left, spin_login_answer, spin_message_answer, spin_said_answer, spin_answer, served_answer, spin_request_answer, refusal_answer, pump_bytes, pumped, tell_bytes, running_spin, spin_sends}
 use Rattle.spin_path.specs.Paths.{IsFeed, IsShown, MayServe, all_said, says_at}
 use Rattle.spin_path.proofs.Sending.{Sent, Serves, nothing_sent, serves_none, serves_beat, serves_login, serves_available, serves_refusal, serves_image, serves_finished, serves_datagram}
 
@@ -64,14 +64,14 @@ module _ (V : List Raw) (venues : IsFeed V) (s : Setup) (small : header_unit s.r
   does_login bytes status view spin shown sv = by (nat_eq status 65) (newest_of view.advertised) refl
     where
       reply : List ℕ
-      reply = spin_bytes s (LoginReply status)
+      reply = sent_bytes s (LoginReply status)
 
       first : Serves V h s.unit (bytes ++ reply) spin
       first = serves_login V h s.unit bytes spin sv small status
 
       by : (b : Bool) (o : Option ℕ) → newest_of view.advertised ≡ o → Serves V h s.unit (bytes ++ (reply ++ cond b (available_bytes s o) [])) spin
       by true (Some n) is =
-          subst (λ (l : List ℕ). Serves V h s.unit l spin) (append_assoc bytes reply (spin_bytes s (SpinAvailable n)))
+          subst (λ (l : List ℕ). Serves V h s.unit l spin) (append_assoc bytes reply (sent_bytes s (SpinAvailable n)))
           (serves_available V h s.unit (bytes ++ reply) spin first small venues n (newest_within V view n shown is))
       by true None is = subst (λ (l : List ℕ). Serves V h s.unit l spin) (append_assoc bytes reply []) (serves_none V h s.unit (bytes ++ reply) spin first)
       by false o is = subst (λ (l : List ℕ). Serves V h s.unit l spin) (append_assoc bytes reply []) (serves_none V h s.unit (bytes ++ reply) spin first)

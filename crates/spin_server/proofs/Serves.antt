@@ -12,12 +12,12 @@ use Rattle.session_ends.specs.Answering.{Answer, no_answer, answers, Hears, Hear
 use Rattle.session_ends.specs.Closing.{Setup, or_else, closed_of, closes_at, logged_in}
 use Rattle.session_ends.specs.Ending.{Ending, EndKnows, known_of, nothing_known, known_ticked, sending}
 use Rattle.session_ends.specs.Events.{Event, Fed, Ticked, Pumped, Told}
-use Rattle.session_ends.specs.Sending.{some_bytes, new_items}
+use Rattle.session_ends.specs.Sending.{sent_bytes, some_bytes, new_items}
 use Rattle.session_ends.proofs.Ends.{Takes, Pieced, fed_end, shut_end, sent_end, known_none, or_parts}
 use Rattle.session_ends.proofs.Runs.{IsOrder, rises_rest, size_rest}
 use Rattle.pitch_model.specs.Advertising.{newest_of}
 use Rattle.spin_server.specs.Served.{Served, ServedLater}
-use Rattle.spin_server.specs.Serving.{Spin, Serving, spin_bytes, available_bytes, spin_login_answer, SpinStands, SpinFeeds, spin_fed_answer, running_spin, spin_sends, spin_answer, spin_said_answer, spin_message_answer, spin_request_answer, pumped, pump_bytes, tell_bytes, runs}
+use Rattle.spin_server.specs.Serving.{Spin, Serving, available_bytes, spin_login_answer, SpinStands, SpinFeeds, spin_fed_answer, running_spin, spin_sends, spin_answer, spin_said_answer, spin_message_answer, spin_request_answer, pumped, pump_bytes, tell_bytes, runs}
 use Rattle.spin_server.proofs.Shelving.{later_same}
 
 later_then : (a b c : Served) → ServedLater a b → ServedLater b c → ServedLater a c
@@ -244,13 +244,13 @@ left_more f xs n lt = let l = left_len (drop n (map f xs)) (map f xs) n refl lt 
 
 -- a login that is not accepted
 pub hears_login : (s : Setup) (status : ℕ) (spin : Option Spin) (view : Served) (knows : Option Spin → Type 0) (shown : Served → Type 0) (reply reply' : List ℕ)
-    → nat_eq status 65 ≡ false → reply' ≡ reply ++ spin_bytes s (LoginReply status) → knows spin → shown view
+    → nat_eq status 65 ≡ false → reply' ≡ reply ++ sent_bytes s (LoginReply status) → knows spin → shown view
     → Hears (λ (v : Served). spin_login_answer s status v spin) ServedLater view knows shown reply reply' [] []
 hears_login s status spin view knows shown reply reply' off more k v = record {
   now = view;
   later = later_order.same view;
   shows = v;
   state_is = k;
-  replied = more ∙ ap (λ (x : List ℕ). reply ++ x) (sym (append-nil (spin_bytes s (LoginReply status))) ∙ ap (λ (b : Bool). spin_bytes s (LoginReply status) ++ cond b (available_bytes s (newest_of view.advertised)) []) (sym off));
+  replied = more ∙ ap (λ (x : List ℕ). reply ++ x) (sym (append-nil (sent_bytes s (LoginReply status))) ∙ ap (λ (b : Bool). sent_bytes s (LoginReply status) ++ cond b (available_bytes s (newest_of view.advertised)) []) (sym off));
   lined = refl;
 }

@@ -15,7 +15,7 @@ use Rattle.std.proofs.lemmas.List.{append-nil, length-drop, take_all, drop-appen
 use Rattle.std.proofs.lemmas.List.Sums.{fold-append}
 use Rattle.std.proofs.lemmas.Bool.{eqb-true, eq-eqb, cases_eq, cond-true, cond-false, false≢true}
 use Rattle.pitch_model.specs.Book.{Book, after, book_after, empty_book}
-use Rattle.spin_server.specs.Served.{Served, is_served, ServedLater, LooksUpImage, SeesNewest}
+use Rattle.spin_server.specs.Served.{Served, is_served, ServedLater, LooksUpImage, SeesNewest, SeesServed}
 use Rattle.spin_server.specs.Shelves.{Shelf, IsShelf, ShelfKeeps, Climbs, base_at, is_number}
 use Rattle.spin_server.specs.Stands.{ShelfStands, ShelfShows, OneServed, seen_of}
 
@@ -271,14 +271,22 @@ pub later_same : (v : Served) → ServedLater v v
 later_same v = record { more = []; messages_are = sym (append-nil v.messages); others = []; advertised_are = sym (append-nil v.advertised) }
 
 -- the sequences that are served, as a view of the shelf has them
-serves_view : (shelf : Shelf) (v : Served) → IsShelf shelf → ShelfShows shelf v → shelf.served ≡ last_ten v.advertised
-serves_view shelf v kept shows =
-    let none : ◌≡◌ {A = ℕ} (length shelf.served - 10) 0 = let ten = kept.ten in omega (arith, ten) in
+serves_view : (shelf : Shelf) (v : Served) → length shelf.served ≤ 10 → ShelfShows shelf v → shelf.served ≡ last_ten v.advertised
+serves_view shelf v ten shows =
+    let none : ◌≡◌ {A = ℕ} (length shelf.served - 10) 0 = omega arith in
     ap (λ (n : ℕ). drop n shelf.served) (sym none) ∙ ap last_ten (sym shows.advertised_is)
+
+pub sees_served : (shown : Served → Type 0) (v : Served) (shelf : Shelf) (n : ℕ) (served : Bool) → shown v → length shelf.served ≤ 10 → ShelfShows shelf v → served ≡ list_any (λ k. nat_eq k n) shelf.served → SeesServed shown v n served
+sees_served shown v shelf n served shows ten seen is = record {
+  now = v;
+  later = later_same v;
+  shows = shows;
+  answer = is ∙ ap (λ (l : List ℕ). list_any (λ k. nat_eq k n) l) (serves_view shelf v ten seen);
+}
 
 pub looks_not : (shown : Served → Type 0) (v : Served) (shelf : Shelf) (n : ℕ) (before : List (List ℕ)) → shown v → IsShelf shelf → ShelfShows shelf v → list_any (λ k. nat_eq k n) shelf.served ≡ false → LooksUpImage shown v n NotAdvertised before before
 looks_not shown v shelf n before shows kept seen none =
-    let not_served : is_served v n ≡ false = ap (λ (l : List ℕ). list_any (λ k. nat_eq k n) l) (sym (serves_view shelf v kept seen)) ∙ none in
+    let not_served : is_served v n ≡ false = ap (λ (l : List ℕ). list_any (λ k. nat_eq k n) l) (sym (serves_view shelf v kept.ten seen)) ∙ none in
     record {
       now = v;
       later = later_same v;
@@ -290,7 +298,7 @@ looks_not shown v shelf n before shows kept seen none =
 pub looks_image : (shown : Served → Type 0) (v : Served) (shelf : Shelf) (n orders : ℕ) (book : Book) (before after : List (List ℕ)) → shown v → IsShelf shelf → ShelfShows shelf v → list_any (λ k. nat_eq k n) shelf.served ≡ true
     → book ≡ book_after (take n v.messages) → orders ≡ adds (image_of book) → after ≡ before ++ image_of book → LooksUpImage shown v n (Image orders) before after
 looks_image shown v shelf n orders book before after shows kept seen there same count given =
-    let served : is_served v n ≡ true = ap (λ (l : List ℕ). list_any (λ k. nat_eq k n) l) (sym (serves_view shelf v kept seen)) ∙ there in
+    let served : is_served v n ≡ true = ap (λ (l : List ℕ). list_any (λ k. nat_eq k n) l) (sym (serves_view shelf v kept.ten seen)) ∙ there in
     let is : image_of book ≡ image v.messages n = ap image_of same ∙ sym (image_is v.messages n) in
     record {
       now = v;

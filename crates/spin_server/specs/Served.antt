@@ -39,6 +39,13 @@ pub record SeesNewest (shown : Served → Type 0) (old : Served) (newest : Optio
   pub shows : shown now
   pub answer : newest ≡ newest_of now.advertised
 
+-- whether an image can be had is said of a view after the call, which is no earlier
+pub record SeesServed (shown : Served → Type 0) (old : Served) (sequence : ℕ) (served : Bool) : Type 0 where
+  pub now : Served
+  pub later : ServedLater old now
+  pub shows : shown now
+  pub answer : served ≡ is_served now sequence
+
 -- an image is looked up in a view after the call, which is no earlier than that before it
 pub record LooksUpImage (shown : Served → Type 0) (old : Served) (sequence : ℕ) (answer : Imaged) (before after : List (List ℕ)) : Type 0 where
   pub now : Served

@@ -12,7 +12,7 @@ use Rattle.session_ends.specs.Closing.{Setup, closed_of, logged_in, login_status
 use Rattle.session_ends.specs.Ending.{Ending, EndKnows, known_of}
 use Rattle.session_ends.specs.Events.{Event, Fed, Pumped, Told}
 use Rattle.session_ends.specs.Saying.{heard_by}
-use Rattle.session_ends.specs.Sending.{header_unit, message_bytes, new_items}
+use Rattle.session_ends.specs.Sending.{header_unit, sent_bytes, new_items}
 use Rattle.pitch_model.specs.Advertising.{newest_of}
 use Rattle.spin_server.specs.Served.{Served, ServedLater, is_served}
 
@@ -22,13 +22,9 @@ pub record Spin : Type 0 where
   pub sequence : ℕ
   pub left : List (List ℕ)
 
--- the bytes of a session message that the server sends
-abbrev pub spin_bytes : Setup → SessionMessage → List ℕ
-spin_bytes s message = message_bytes (header_unit s.role s.unit) message
-
 -- the next block of the image, or Spin Finished ("Spin Finished Message")
 abbrev pub next_block : Setup → ℕ → List (List ℕ) → List ℕ
-next_block s sequence [] = spin_bytes s (SpinFinished sequence)
+next_block s sequence [] = sent_bytes s (SpinFinished sequence)
 next_block s sequence (datagram ∷ datagrams) = datagram
 
 -- the spin after it
@@ -50,24 +46,24 @@ pumped (Some spin) = spin_left spin.sequence spin.left
 -- the newest advertised sequence, where there is one ("Spin Image Available Message")
 abbrev pub available_bytes : Setup → Option ℕ → List ℕ
 available_bytes s None = []
-available_bytes s (Some sequence) = spin_bytes s (SpinAvailable sequence)
+available_bytes s (Some sequence) = sent_bytes s (SpinAvailable sequence)
 
 -- a login gets its status, and the newest sequence after an accepted one ("Login Response Message")
 abbrev pub after_login : Setup → ℕ → Option ℕ → List ℕ
 after_login s status newest = if status == 65 then available_bytes s newest else []
 
 abbrev pub spin_login_answer : Setup → ℕ → Served → Option Spin → Answer (Option Spin)
-spin_login_answer s status view spin = record { reply = spin_bytes s (LoginReply status) ++ after_login s status (newest_of view.advertised); lines = []; knows = spin }
+spin_login_answer s status view spin = record { reply = sent_bytes s (LoginReply status) ++ after_login s status (newest_of view.advertised); lines = []; knows = spin }
 
 -- a refused request gets its status, and no order
 abbrev pub refusal_answer : Setup → ℕ → ℕ → Option Spin → Answer (Option Spin)
-refusal_answer s sequence status spin = record { reply = spin_bytes s (SpinReply sequence 0 status); lines = []; knows = spin }
+refusal_answer s sequence status spin = record { reply = sent_bytes s (SpinReply sequence 0 status); lines = []; knows = spin }
 
 -- an accepted one gets `A` with the number of adds; its image is left to be sent, packed into
 -- blocks without sequences
 abbrev pub image_answer : Setup → ℕ → List (List ℕ) → Answer (Option Spin)
 image_answer s sequence raws = record {
-  reply = spin_bytes s (SpinReply sequence (adds raws) 65);
+  reply = sent_bytes s (SpinReply sequence (adds raws) 65);
   lines = [];
   knows = Some (record { sequence = sequence; left = packed (header_unit s.role s.unit) 0 raws });
 }
@@ -118,7 +114,7 @@ runs s es = is_none (closed_of s es) && is_some (running_spin s es)
 -- spin runs
 abbrev pub tell_bytes : Setup → Bool → Option Spin → ℕ → List ℕ
 tell_bytes s logged (Some spin) sequence = []
-tell_bytes s logged None sequence = if logged then spin_bytes s (SpinAvailable sequence) else []
+tell_bytes s logged None sequence = if logged then sent_bytes s (SpinAvailable sequence) else []
 
 -- what is sent at an event that is no tick
 abbrev pub spin_sends : Setup → Event (List Served) → List (Event (List Served)) → List ℕ

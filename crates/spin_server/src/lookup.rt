@@ -1,5 +1,5 @@
 ghost use Rattle.std.specs.Prelude.{OnErr, IfOk, Bool, true, ◌≡◌};
-ghost use Rattle.spin_server.specs.Served.{Served, SeesNewest, LooksUpImage};
+ghost use Rattle.spin_server.specs.Served.{Served, SeesNewest, SeesServed, LooksUpImage};
 
 use pitch_fields::OutOfMemory;
 use pitch_messages::RawList;
@@ -27,6 +27,14 @@ pub trait ImageLookup {
         // Of every view that it shows before: the answer is right at a view that it shows after,
         // which is no earlier.
         ensures sees { (v : Served) → shows self.old v → SeesNewest (shows self.new) v result }
+        ensures same { still ≡ true → self.new ≡ self.old };
+
+    /// Whether the image through a sequence can be had: it is among the last ten that were
+    /// advertised. No image is made, and it takes no memory.
+    fn has_image(&mut self, sequence: u32) -> bool
+        // Of every view that it shows before: the answer is right at a view that it shows after,
+        // which is no earlier.
+        ensures sees { (v : Served) → shows self.old v → SeesServed (shows self.new) v sequence result }
         ensures same { still ≡ true → self.new ≡ self.old };
 
     /// Looks up the image through a sequence, and appends it where it is among the last ten that

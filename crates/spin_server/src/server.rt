@@ -1,4 +1,4 @@
-ghost use Rattle.std.specs.Prelude.{◌≡◌, ℕ, ◌||◌, Bool, true, false, List, [], ◌∷◌, ◌++◌, OnOk, OnErr, IsOk, IfOk, IfSome, None, Some, is_some, is_none};
+ghost use Rattle.std.specs.Prelude.{◌≡◌, ℕ, ◌||◌, Bool, true, false, List, [], ◌∷◌, ◌++◌, OnOk, OnErr, IsOk, IfOk, IfSome, None, Some, is_some, is_none, if◌then◌else◌};
 ghost use Rattle.std.specs.List.{list_any};
 ghost use Rattle.pitch_messages.specs.declared.session.SessionMessage.TheVariants.{SpinReply};
 ghost use Rattle.session_ends.specs.declared.closed.CloseCause.TheVariants.{Memory};
@@ -7,9 +7,9 @@ ghost use Rattle.session_ends.specs.Answering.{Hears, HearsAll};
 ghost use Rattle.session_ends.specs.Closing.{cause_of, closed_of, first_cause, logs_in, login_status};
 ghost use Rattle.session_ends.specs.Events.{Event, Ticked, Pumped, Told};
 ghost use Rattle.session_ends.specs.Items.{closed_at};
-ghost use Rattle.session_ends.specs.Sending.{sent_at_tick};
+ghost use Rattle.session_ends.specs.Sending.{sent_bytes, sent_at_tick};
 ghost use Rattle.spin_server.specs.Served.{Served, ServedLater};
-ghost use Rattle.spin_server.specs.Serving.{spin_bytes, pump_bytes, pumped, available_bytes, spin_login_answer, spin_request_answer, spin_message_answer, spin_said_answer, spin_answer, spin_sends, runs, SpinStands, SpinFeeds};
+ghost use Rattle.spin_server.specs.Serving.{pump_bytes, pumped, available_bytes, spin_login_answer, spin_request_answer, spin_message_answer, spin_said_answer, spin_answer, spin_sends, runs, SpinStands, SpinFeeds};
 
 use crate::lookup::{ImageLookup, Imaged};
 use crate::spin::Spin;
@@ -57,6 +57,13 @@ fn put_next(end: &End, spin: &Spin, reply: &mut Vec<u8>) -> Result<bool, OutOfMe
             Ok(false)
         }
     }
+}
+
+// How a request is answered while a spin runs: `S`, or `O` where its image is not served.
+fn running_status(served: bool) -> u8
+    ensures { result ≡ (if served then 83 else 79) }
+{
+    if served { b'S' } else { b'O' }
 }
 
 impl SpinServer {
@@ -135,7 +142,7 @@ impl SpinServer {
         status: u8,
         reply: &mut Vec<u8>,
     ) -> Result<(), OutOfMemory>
-        ensures { OnOk result (reply.new.items ≡ reply.old.items ++ spin_bytes self.now.end.setup (SpinReply sequence orders status)) }
+        ensures { OnOk result (reply.new.items ≡ reply.old.items ++ sent_bytes self.now.end.setup (SpinReply sequence orders status)) }
     {
         self.end.put(
             &SessionMessage::SpinReply {
@@ -162,6 +169,11 @@ impl SpinServer {
             → Hears (λ v. spin_request_answer self.old.end.setup v sequence self.old.spin) ServedLater view (λ spin. spin ≡ self.new.spin) (L.shows lookup.new)
             reply.old.items reply.new.items [] []) }
     {
+        if self.spin.is_some() {
+            let status = running_status(lookup.has_image(sequence));
+            self.put_status(sequence, 0, status, reply)?;
+            return Ok(());
+        }
         let mut image = RawList::make(self.alloc);
         match lookup.image(sequence, &mut image)? {
             Imaged::NotAdvertised => {
@@ -169,10 +181,6 @@ impl SpinServer {
                 Ok(())
             }
             Imaged::Image { orders } => {
-                if self.spin.is_some() {
-                    self.put_status(sequence, 0, b'S', reply)?;
-                    return Ok(());
-                }
                 let spin = Spin::make(self.alloc, self.end.header_unit(), sequence, image.raws())?;
                 self.put_status(sequence, orders, b'A', reply)?;
                 self.spin = Some(spin);

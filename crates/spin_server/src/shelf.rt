@@ -186,7 +186,8 @@ impl ImageShelf {
 
     // Whether the image through a sequence is served.
     fn serves(&self, sequence: u32) -> bool
-        ensures { result ≡ list_any (λ n. n == sequence) self.now.served }
+        ensures served { result ≡ list_any (λ n. n == sequence) self.now.served }
+        ensures ten { length self.now.served ≤ 10 }
     {
         self.served.as_slice().contains(&sequence)
     }
@@ -240,6 +241,10 @@ impl ImageLookup for ImageShelf {
 
     fn newest(&mut self) -> Option<u32> {
         self.served.as_slice().last().copied()
+    }
+
+    fn has_image(&mut self, sequence: u32) -> bool {
+        self.serves(sequence)
     }
 
     fn image(&mut self, sequence: u32, out: &mut RawList) -> Result<Imaged, OutOfMemory> {

@@ -1,8 +1,8 @@
-use Rattle.std.proofs.Common.{◌≡◌, ℕ, true, false, ◌||◌, ap, ◌∙◌, sym, refl, arith, rules, nat_eq, List, ◌++◌}
-use Rattle.unit_packets.specs.Packing.{bytes_in, packed}
+use Rattle.std.proofs.Common.{◌≡◌, true, false, ◌||◌, ap, sym, refl, arith, rules, nat_eq}
+use Rattle.gap_store.specs.declared.found.Found.TheVariants.{Ahead, NotKept}
 use Rattle.grp_session.specs.Asking.{status_found}
 use Rattle.grp_session.specs.Budget.{Counted}
-use Rattle.grp_session.proofs.Asked.{asked_plain, status_there, status_count, status_range, asked_refused, asked_limited, asked_taken}
+use Rattle.grp_session.proofs.Asked.{asked_plain, status_there, status_count, status_range, asked_refused, asked_limited, asked_gone, asked_taken}
 use Rattle.grp_session.proofs.asking.ask.Goals as goal
 
 pub returns-then-not-there-clause-asked : goal.returns-then-not-there-clause-asked
@@ -21,24 +21,41 @@ returns-then-count-eq0-clause-asked g c = λ spent view counted shows.
 pub returns-in-Ahead-clause-asked : goal.returns-in-Ahead-clause-asked
 returns-in-Ahead-clause-asked g c = λ spent view counted shows.
     let there : c.args.there ≡ true = search rules in
-    asked_refused c.args.unit c.args.there _ _ _ spent view _ _ _ c.in_ok-look.field-0 there (omega arith) (omega arith) (omega arith) (c.in_ok-look.ensures.found view shows)
+    let found = c.in_ok-find-in-Some.ensures.found view shows in
+    asked_refused c.args.unit c.args.there _ _ _ spent view found.now _ c.in_ok-find-in-Some.field-0 found.later found.shows found.answer there (omega arith) (omega arith) (omega arith)
     79 (Counted c.args.budget.now) _ (sym (ap (status_found _ spent) c.in-Ahead.is)) refl counted
 
 pub returns-in-NotKept-clause-asked : goal.returns-in-NotKept-clause-asked
 returns-in-NotKept-clause-asked g c = λ spent view counted shows.
     let there : c.args.there ≡ true = search rules in
-    asked_refused c.args.unit c.args.there _ _ _ spent view _ _ _ c.in_ok-look.field-0 there (omega arith) (omega arith) (omega arith) (c.in_ok-look.ensures.found view shows)
+    let found = c.in_ok-find-in-Some.ensures.found view shows in
+    asked_refused c.args.unit c.args.there _ _ _ spent view found.now _ c.in_ok-find-in-Some.field-0 found.later found.shows found.answer there (omega arith) (omega arith) (omega arith)
     79 (Counted c.args.budget.now) _ (sym (ap (status_found _ spent) c.in-NotKept.is)) refl counted
 
-pub returns-in-Some-clause-asked : goal.returns-in-Some-clause-asked
-returns-in-Some-clause-asked g c = λ spent view counted shows.
+pub returns-in-Kept-clause-asked : goal.returns-in-Kept-clause-asked
+returns-in-Kept-clause-asked g c = λ spent view counted shows.
     let there : c.args.there ≡ true = search rules in
-    asked_limited c.args.unit c.args.there _ _ _ spent view _ _ _ c.in_ok-look.field-0 there (omega arith) (omega arith) (omega arith) (c.in_ok-look.ensures.found view shows)
+    let found = c.in_ok-find-in-Some.ensures.found view shows in
+    asked_limited c.args.unit c.args.there _ _ _ spent view found.now _ c.in_ok-find-in-Some.field-0 found.later found.shows found.answer there (omega arith) (omega arith) (omega arith)
     c.in-Some.status (Counted c.args.budget.now) _ c.in-Kept.is (c.in-Some.ensures.reached spent counted) counted
 
-pub returns-clause-asked : goal.returns-clause-asked
-returns-clause-asked g c = λ spent view counted shows.
+pub returns-in-Ahead-2-clause-asked : goal.returns-in-Ahead-2-clause-asked
+returns-in-Ahead-2-clause-asked g c = λ spent view counted shows.
     let there : c.args.there ≡ true = search rules in
-    asked_taken c.args.unit c.args.there _ _ _ spent view _ _ _ c.in_ok-look.field-0 there (omega arith) (omega arith) (omega arith) (c.in_ok-look.ensures.found view shows)
-    (Counted c.spend.new.self) _ _ c.in-Kept.is (c.in-None.ensures.reached spent counted) c.make-range.ensures
-    (c.in_ok-pack-in-None.ensures.ok ∙ ap (λ (r : List (List ℕ)). bytes_in c.args.gap_line.now.items ++ packed c.args.unit c.args.sequence r) c.raws.ensures) (c.spend.ensures.spent spent counted)
+    let found = c.in_ok-pack-in-None.ensures.found view shows in
+    asked_gone c.args.unit c.args.there _ _ _ spent view found.now _ c.in_ok-pack-in-None.field-0 found.later found.shows found.answer there (omega arith) (omega arith) (omega arith)
+    (Ahead c.in-Ahead-2.last) (Counted c.args.budget.now) _ _ c.in-Ahead-2.is refl refl found.packs counted
+
+pub returns-in-NotKept-2-clause-asked : goal.returns-in-NotKept-2-clause-asked
+returns-in-NotKept-2-clause-asked g c = λ spent view counted shows.
+    let there : c.args.there ≡ true = search rules in
+    let found = c.in_ok-pack-in-None.ensures.found view shows in
+    asked_gone c.args.unit c.args.there _ _ _ spent view found.now _ c.in_ok-pack-in-None.field-0 found.later found.shows found.answer there (omega arith) (omega arith) (omega arith)
+    (NotKept c.in-NotKept-2.first) (Counted c.args.budget.now) _ _ c.in-NotKept-2.is refl refl found.packs counted
+
+pub returns-in-Kept-2-clause-asked : goal.returns-in-Kept-2-clause-asked
+returns-in-Kept-2-clause-asked g c = λ spent view counted shows.
+    let there : c.args.there ≡ true = search rules in
+    let found = c.in_ok-pack-in-None.ensures.found view shows in
+    asked_taken c.args.unit c.args.there _ _ _ spent view found.now _ c.in_ok-pack-in-None.field-0 found.later found.shows found.answer there (omega arith) (omega arith) (omega arith)
+    (Counted c.spend.new.self) _ _ c.in-Kept-2.is (c.in-None.ensures.reached spent counted) found.packs (c.spend.ensures.spent spent counted)

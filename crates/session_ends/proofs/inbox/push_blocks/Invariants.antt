@@ -1,6 +1,9 @@
-use Rattle.std.proofs.Common.{◌≡◌, ◌++◌, drop}
-use Rattle.session_ends.specs.Items.{stream_items_from}
+use Rattle.std.proofs.Common.{length, ◌+◌, ◌-◌}
+use Rattle.session_ends.proofs.Inboxes.{Going}
 use Rattle.session_ends.proofs.inbox.push_blocks.Given as goal
 
-abbrev pub invariant-each : goal.invariant-each
-invariant-each l = l.out.items ++ stream_items_from l.place (drop l.i l.blocks) ≡ l.fn.out.items ++ stream_items_from l.start l.blocks
+abbrev pub invariant-next : goal.invariant-next
+invariant-next l = Going l.start l.bytes l.at l.place l.initial.out.items l.out.items
+
+abbrev pub decreases-next : goal.decreases-next
+decreases-next l = length l.bytes + 1 - l.at

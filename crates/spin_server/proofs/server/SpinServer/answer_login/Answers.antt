@@ -1,6 +1,7 @@
 use Rattle.std.proofs.Common.{◌≡◌, ap, ◌∙◌, sym, nat_eq, ℕ, refl, ◌++◌}
 use Rattle.std.proofs.lemmas.Bool.{ne_eqb}
-use Rattle.spin_server.specs.Serving.{Serving, spin_bytes}
+use Rattle.spin_server.specs.Serving.{Serving}
+use Rattle.session_ends.specs.Sending.{sent_bytes}
 use Rattle.pitch_messages.specs.declared.session.SessionMessage.TheVariants.{LoginReply}
 use Rattle.session_ends.specs.Closing.{login_status}
 use Rattle.spin_server.proofs.Serves.{hears_login}
@@ -14,6 +15,6 @@ returns-then-status-ne65 g c =
       same = λ on. refl;
       hears = λ view shows.
           hears_login c.args.self.now.end.setup _ c.args.self.now.spin view _ _ _ _ (ap (λ (n : ℕ). nat_eq n 65) (sym status) ∙ ne_eqb c.login_status-status.result 65 c.if-status-ne65.true)
-          (c.in_ok-put.ensures.ok ∙ ap (λ (v : Serving). c.args.reply.now.items ++ spin_bytes v.end.setup (LoginReply c.login_status-status.result)) c.self.view_is
-          ∙ ap (λ (n : ℕ). c.args.reply.now.items ++ spin_bytes c.args.self.now.end.setup (LoginReply n)) status) refl shows;
+          (c.in_ok-put.ensures.ok ∙ ap (λ (v : Serving). c.args.reply.now.items ++ sent_bytes v.end.setup (LoginReply c.login_status-status.result)) c.self.view_is
+          ∙ ap (λ (n : ℕ). c.args.reply.now.items ++ sent_bytes c.args.self.now.end.setup (LoginReply n)) status) refl shows;
     }
