@@ -238,7 +238,7 @@ def measure(program, name, rounds):
     wanted('time of the whole to that of the tenth', cpu['replay'] / cpu['replay, a tenth'], 10.5)
     if 'follow' in runs:
         wanted('time to that of pack and follow together', cpu['replay'] / (cpu['pack'] + cpu['follow']), 3)
-    wanted('peak of memory to the size of the text', peaks['replay'] / size, 12)
+        wanted('peak of memory to the size of the text', peaks['replay'] / size, 12)
     if not right:
         print('  A UNIT IS NOT CURRENT AT ITS END')
     return right
