@@ -8,7 +8,7 @@ PROGRAM is the path of the built program. There are three schedules, and a tenth
 
     storm   16 units with 10,000 steps each, some 688,000 lines and 9 MB: a command and a flush a
             step; one datagram in 20 is lost on each line; gaps are asked for at every tenth step,
-            and an image at the end
+            and at the end an image, where a unit is still behind
     long    4 units, 5,120,000 lines and 65 MB: orders that are added, flushed and heard on
             both lines, and then deleted in the same way; no sessions
     pieces  an image of 100,000 orders, of which 20 bytes are carried at a line; some 230,000 lines
