@@ -36,7 +36,7 @@ use Rattle.session_ends.specs.declared.role.Role.TheVariants as roles
 use Rattle.grp_session.specs.Budget.{next_second}
 use Rattle.grp_session.specs.Serving.{Source, proxy_answer}
 use Rattle.spin_server.specs.Served.{Served}
-use Rattle.spin_server.specs.Serving.{Spin as Image, running_spin, runs}
+use Rattle.spin_server.specs.Serving.{running_spin, blocks_left, runs}
 use Rattle.spin_path.specs.Paths.{heard_all}
 use Rattle.client_links.specs.Linking.{Lookups, NoLookup, login_bytes, link_tells}
 use Rattle.world_model.specs.Ends.{the_account, grp_server, spin_server, gap_link, spin_link, grp_says, spin_says, link_says}
@@ -202,11 +202,6 @@ spin_server_has unit event s = record s { spin = option_map (λ c. at_spin_serve
 abbrev pub views_of : State → List (Event (List Served)) → List ℕ → List Served
 views_of s before piece = replicate (length (new_items before piece)) (record { messages = s.accepted; advertised = last_ten s.advertised })
 
--- how many blocks of a running image are left
-abbrev pub left_of : Option Image → ℕ
-left_of None = 0
-left_of (Some image) = length image.left
-
 -- it is asked so many times for the next block of its image
 abbrev pub pumped_times : ℕ → ℕ → Connection (List Served) → Connection (List Served)
 pumped_times unit zero c = c
@@ -214,7 +209,7 @@ pumped_times unit (suc n) c = pumped_times unit n (at_spin_server unit Pumped c)
 
 -- how often that is: until Spin Finished, and once where no image runs
 abbrev pub pumps : ℕ → List (Event (List Served)) → ℕ
-pumps unit es = if runs (spin_server unit) es then left_of (running_spin (spin_server unit) es) + 1 else 1
+pumps unit es = if runs (spin_server unit) es then blocks_left (running_spin (spin_server unit) es) + 1 else 1
 
 -- a running image is sent to its end
 abbrev pub sent_whole : ℕ → Connection (List Served) → Connection (List Served)
