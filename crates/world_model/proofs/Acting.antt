@@ -267,7 +267,7 @@ marks_bits true r x = or_true (ltb 0 r) x ∙ ap (λ (y : Bool). y || x) (sym (l
     or_true false x = refl
 marks_bits false r x = let e : r ≡ 0 + r = omega arith in ap (λ (n : ℕ). ltb 0 n || x) e
 
-marks_none : (H : ℕ) (E : List Entry) → Marks H E E false
+pub marks_none : (H : ℕ) (E : List Entry) → Marks H E E false
 marks_none H E = record { added = 0; longer = omega arith; marks = λ m. let e : 0 + m ≡ m = omega arith in ap (λ (n : ℕ). overflowed H n E) e }
 
 marks_messages : (H first : ℕ) (raws : List Raw) (E : List Entry) → Marks H E (heard_messages first raws E) (ltb 0 (overflowed_messages H first raws E))
@@ -361,7 +361,7 @@ line_pieces w s B has = has.sound.sent
 line_pieces w s Gap has = has.sound.replayed
 
 -- ---- Parts of a verb
-marks_then : (H : ℕ) (E F G : List Entry) → Marks H E F false → Marks H F G false → Marks H E G false
+pub marks_then : (H : ℕ) (E F G : List Entry) → Marks H E F false → Marks H F G false → Marks H E G false
 marks_then H E F G x y = record {
   added = y.added + x.added;
   longer = omega (arith, x.longer, y.longer);
@@ -422,7 +422,7 @@ with_heard w client s E has tracks keeps came = record {
   sound = record { sent = has.sound.sent; replayed = has.sound.replayed; witness = came };
 }
 
-marks_one : (H : ℕ) (entry : Entry) (E : List Entry) → is_overflow H E entry ≡ false → Marks H E (entry ∷ E) false
+pub marks_one : (H : ℕ) (entry : Entry) (E : List Entry) → is_overflow H E entry ≡ false → Marks H E (entry ∷ E) false
 marks_one H entry E none = record {
   added = 1;
   longer = omega arith;

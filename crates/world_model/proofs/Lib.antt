@@ -1,7 +1,11 @@
 mod Witness
 mod Pieces
 mod HeardBlocks
+mod HeardItems
+mod LinkItems
+mod Replies
 mod Booking
 mod Carrying
 mod Acting
+mod Sessions
 mod Examples

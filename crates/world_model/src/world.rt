@@ -9,12 +9,14 @@ ghost use Rattle.world_model.specs.State.{State, datagrams_on};
 ghost use Rattle.world_model.specs.Verbs.{tick_outcome};
 
 use crate::grp::{GrpConnection, ask_through, is_shut, tick_link, tick_server};
-use crate::hearing::{hear_all, hear_datagram};
+use crate::hearing::{hear_all, hear_datagram, hear_told};
 use crate::limits::Limits;
 use crate::outcome::{Outcome, Printed};
 use crate::passed::Passed;
+use crate::pipe::carry_count;
 use crate::showing::{append_book, append_counts};
 use client_core::{UnitClient, keeping_lasts_while_a_venue_accepts};
+use client_links::ItemList;
 use gap_store::GapStore;
 use grp_session::GapBudget;
 use line_arbiter::Arbiter;
@@ -66,7 +68,7 @@ impl World {
     ghost use Rattle.spin_path.specs.Paths.{HasWholeImages};
     ghost use Rattle.world_model.specs.Stands.{WorldHas, WorldStands, AreLimits, Acts, Passes, has_failed};
     ghost use Rattle.world_model.specs.declared.limits.Limits.{Limits as LimitsSaid};
-    ghost use Rattle.world_model.specs.Verbs.{state_of, does, set_up, commanded, flushed, beaten, delivered, rest_delivered, ticked, quoted, grp_connected, grp_cut, cut_on, grp_settled};
+    ghost use Rattle.world_model.specs.Verbs.{state_of, does, set_up, commanded, flushed, beaten, delivered, rest_delivered, ticked, quoted, grp_connected, grp_cut, cut_on, grp_settled, grp_up_on, grp_down_on};
 
     /// The world of a unit with which nothing was done. Its limits are ones that an `open` line can
     /// set.
@@ -234,8 +236,20 @@ impl World {
                 }
                 Session::Spin => Err(OutOfMemory),
             },
-            Verb::Up { .. } => Err(OutOfMemory),
-            Verb::Down { .. } => Err(OutOfMemory),
+            Verb::Up { session, bytes } => match session {
+                Session::Grp => {
+                    let acted = self.up_grp(*bytes)?;
+                    Ok(acted)
+                }
+                Session::Spin => Err(OutOfMemory),
+            },
+            Verb::Down { session, bytes } => match session {
+                Session::Grp => {
+                    let acted = self.down_grp(*bytes)?;
+                    Ok(acted)
+                }
+                Session::Spin => Err(OutOfMemory),
+            },
             Verb::Advertise => Err(OutOfMemory),
         }
     }
@@ -374,6 +388,57 @@ impl World {
             self.drop_grp()?;
         }
         Ok(())
+    }
+
+    // Bytes are carried to the proxy.
+    fn up_grp(&mut self, bytes: Option<u32>) -> Result<Acted, OutOfMemory>
+        ensures { IfOk result (λ acted. (s : State) → WorldHas self.old s → Acts self.old self.new acted s (grp_up_on self.old.unit self.old.limits bytes s.grp s)) }
+    {
+        match &mut self.grp {
+            None => Ok(calm(Outcome::NotOpen)),
+            Some(c) => {
+                let has = c.up_count();
+                match carry_count(bytes, has) {
+                    Err(asked) => Ok(calm(Outcome::TooFew {
+                        asked,
+                        has: has as u64,
+                    })),
+                    Ok(count) => {
+                        c.carry_up(count, &mut self.budget, &mut self.store, &mut self.replayed)?;
+                        Ok(calm(Outcome::Carried {
+                            bytes: count as u64,
+                        }))
+                    }
+                }
+            }
+        }
+    }
+
+    // Bytes are carried to the client from the proxy.
+    fn down_grp(&mut self, bytes: Option<u32>) -> Result<Acted, OutOfMemory>
+        ensures { IfOk result (λ acted. (s : State) → WorldHas self.old s → Acts self.old self.new acted s (grp_down_on bytes s.grp s)) }
+    {
+        match &mut self.grp {
+            None => Ok(calm(Outcome::NotOpen)),
+            Some(c) => {
+                let has = c.down_count();
+                match carry_count(bytes, has) {
+                    Err(asked) => Ok(calm(Outcome::TooFew {
+                        asked,
+                        has: has as u64,
+                    })),
+                    Ok(count) => {
+                        let mut items = ItemList::make(self.alloc);
+                        c.carry_down(count, &mut items)?;
+                        hear_told(&mut self.client, items.as_slice())?;
+                        self.drop_shut_grp()?;
+                        Ok(calm(Outcome::Carried {
+                            bytes: count as u64,
+                        }))
+                    }
+                }
+            }
+        }
     }
 
     // A second passes.
