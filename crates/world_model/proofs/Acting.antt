@@ -405,7 +405,7 @@ with_budget w counter s has limited counts = record {
 }
 
 -- the client heard or asked something
-with_heard : (w : World) (client : UnitClient) (s : State) (E : List Entry) → WorldHas w s → Tracks client w.limits.hold E → Keeps client s.accepted → Witnessed w.unit s.accepted s.spin E → WorldHas (record w { client = client }) (record s { heard = E })
+pub with_heard : (w : World) (client : UnitClient) (s : State) (E : List Entry) → WorldHas w s → Tracks client w.limits.hold E → Keeps client s.accepted → Witnessed w.unit s.accepted s.spin E → WorldHas (record w { client = client }) (record s { heard = E })
 with_heard w client s E has tracks keeps came = record {
   begun = has.begun;
   venue_unit = has.venue_unit;
