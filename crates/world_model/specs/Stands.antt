@@ -7,13 +7,11 @@ use Rattle.unit_packets.specs.Packing.{bytes_in}
 use Rattle.venue_core.specs.Stands.{Stands as VenueStands}
 use Rattle.client_core.specs.Tracks.{Tracks, Keeps}
 use Rattle.line_arbiter.specs.Noted.{HasNoted}
-use Rattle.pitch_model.specs.Advertising.{Operation, accepted_by, advertised_by}
 use Rattle.pitch_model.specs.History.{Entry, Raw}
 use Rattle.gap_store.specs.Look.{Store, store_of}
 use Rattle.grp_session.specs.Budget.{Counts, Counted, Spent}
 use Rattle.spin_server.specs.Shelves.{Shelf}
-use Rattle.spin_server.specs.Stands.{ShelfStands}
-use Rattle.world_model.specs.Connections.{HasGrp}
+use Rattle.world_model.specs.Connections.{HasGrp, KeepsShelf}
 use Rattle.world_model.specs.Printed.{overflowed}
 use Rattle.world_model.specs.Sound.{Sound}
 use Rattle.world_model.specs.State.{State}
@@ -25,13 +23,6 @@ use Rattle.world_model.specs.declared.world.World.{World}
 -- limits that an `open` line can set
 abbrev pub AreLimits : Limits → Type 0
 AreLimits l = IsVerb (verbs.Setup l.hold l.kept l.second l.minute l.day)
-
--- a shelf has these messages, and these sequences were advertised
-pub record KeepsShelf (shelf : Shelf) (accepted : List Raw) (advertised : List ℕ) : Type 0 where
-  pub operations : List Operation
-  pub accepted_is : accepted_by operations ≡ accepted
-  pub advertised_is : advertised_by operations ≡ advertised
-  pub stands : ShelfStands shelf operations
 
 -- what the proxy and the spin server look up: the messages, of which the proxy keeps so many; the
 -- requests that it accepted; and the images that were advertised
