@@ -11,4 +11,6 @@ mod SpinCarrying
 mod Pumping
 mod Acting
 mod Sessions
+mod SpinActing
+mod Ticking
 mod Examples

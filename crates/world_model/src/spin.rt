@@ -10,7 +10,8 @@ ghost use Rattle.world_model.specs.State.{Connection};
 ghost use Rattle.world_model.specs.Verbs.{at_spin_server, at_link, sent_whole, shut, asked_spin};
 ghost use Rattle.world_model.specs.Connections.{IsServed, HasSpin};
 
-use crate::grp::{account, take_front};
+use crate::grp::account;
+use crate::pipe::take_front;
 use client_links::{ItemList, SpinLink};
 use pitch_fields::OutOfMemory;
 use pitch_model::Ask;
