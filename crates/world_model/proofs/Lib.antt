@@ -6,6 +6,11 @@ mod LinkItems
 mod Replies
 mod Booking
 mod Carrying
+mod SpinWitness
+mod SpinCarrying
+mod Pumping
 mod Acting
 mod Sessions
+mod SpinActing
+mod Ticking
 mod Examples

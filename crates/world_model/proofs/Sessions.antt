@@ -16,13 +16,14 @@ use Rattle.gap_store.specs.Look.{Store, View, store_of}
 use Rattle.grp_session.specs.Budget.{Counts, Counted}
 use Rattle.grp_session.specs.Budget as budget
 use Rattle.grp_session.specs.Serving.{Source, proxy_answer}
+use Rattle.spin_server.specs.Served.{Served}
 use Rattle.client_core.specs.Tracks.{Tracks, Keeps}
 use Rattle.client_core.specs.declared.client.UnitClient.{UnitClient}
 use Rattle.client_links.specs.Linking.{NoLookup, link_tells}
 use Rattle.client_links.specs.Telling.{without_spare}
 use Rattle.spin_path.specs.Paths.{heard_all}
 use Rattle.spin_path.proofs.Moves.{spare_is_unheard}
-use Rattle.world_model.specs.Connections.{IsGrp, HasGrp, CarriedUp}
+use Rattle.world_model.specs.Connections.{IsGrp, HasGrp, HasSpin, CarriedUp}
 use Rattle.world_model.specs.Ends.{grp_server, gap_link}
 use Rattle.world_model.specs.Hearing.{HearsItems, IsTold}
 use Rattle.world_model.specs.Sound.{Sound}
@@ -31,11 +32,12 @@ use Rattle.world_model.specs.State.{State, Connection, Pipe, waiting}
 use Rattle.world_model.specs.Verbs.{done, grp_up_on, grp_down_on, grp_fed, gap_link_fed, grp_settled, carried, wanted, at_link, at_grp_server, source_of, took, with_up, with_down}
 use Rattle.world_model.specs.Witness.{Witnessed}
 use Rattle.world_model.specs.declared.grp.GrpConnection.{GrpConnection}
+use Rattle.world_model.specs.declared.spin.SpinConnection.{SpinConnection}
 use Rattle.world_model.specs.declared.limits.Limits.{Limits}
 use Rattle.world_model.specs.declared.outcome.Outcome.TheVariants as outcome
 use Rattle.world_model.specs.declared.world.Acted.{Acted}
 use Rattle.world_model.specs.declared.world.World.{World}
-use Rattle.world_model.proofs.Acting.{calm_of, acts_passed, passes_none, with_grp, with_heard, honest_of, marks_none, marks_then, marks_one}
+use Rattle.world_model.proofs.Acting.{calm_of, acts_passed, passes_none, with_grp, honest_of, marks_none, marks_then, marks_one, with_spin}
 use Rattle.world_model.proofs.HeardItems.{AreTold}
 use Rattle.world_model.proofs.LinkItems.{gap_link_tells, link_told, told_spare}
 use Rattle.world_model.proofs.Pieces.{pieces_append}
@@ -59,7 +61,7 @@ acts_too_few w acted s after pipe bytes has asked holds many asked_is less calm 
     (calm ∙ ap (λ (n : ℕ). calm_of (outcome.TooFew n has)) wants ∙ ap (λ (n : ℕ). calm_of (outcome.TooFew (wanted bytes pipe) n)) many))
 
 -- so many are carried
-acts_carried : (w new : World) (acted : Acted) (s after : State) (pipe : Pipe) (bytes : Option ℕ) (has n : ℕ) → has ≡ length (waiting pipe) → n ≡ unwrap_or bytes has → n ≤ has → Passes w new s after
+pub acts_carried : (w new : World) (acted : Acted) (s after : State) (pipe : Pipe) (bytes : Option ℕ) (has n : ℕ) → has ≡ length (waiting pipe) → n ≡ unwrap_or bytes has → n ≤ has → Passes w new s after
     → acted ≡ calm_of (outcome.Carried n) → Acts w new acted s (carried (wanted bytes pipe) pipe after s)
 acts_carried w new acted s after pipe bytes has n many n_is few passes calm =
     let wants : n ≡ wanted bytes pipe = n_is ∙ ap (unwrap_or bytes) many in
@@ -108,7 +110,7 @@ acts_up w old new store counter replayed acted s bytes has n holds stood many n_
             keeps = holds.keeps;
             noted = holds.noted;
             grp = up.stands;
-            no_spin = holds.no_spin;
+            spin = holds.spin;
             sound = record { sent = holds.sound.sent; replayed = pieces_append s.accepted w.unit s.replayed lines holds.sound.replayed pieces; witness = holds.sound.witness };
           };
         }
@@ -142,16 +144,16 @@ marks_items H [] E all = marks_none H E
 marks_items H (x ∷ items) E all = marks_then H E (heard x E) (heard_all items (heard x E)) (marks_item H x E all.0) (marks_items H items (heard x E) all.1)
 
 -- the client heard what a link told, whatever room the lists of the items have
-pub passes_told : (w : World) (client : UnitClient) (s : State) (items told : List Item) → WorldHas w s → HearsItems w.client client items → map without_spare items ≡ told → AreTold told
-    → Witnessed w.unit s.accepted s.spin (heard_all told s.heard) → Passes w (record w { client = client }) s (record s { heard = heard_all told s.heard })
-passes_told w client s items told has hears are all came =
+pub passes_told : (w : World) (client : UnitClient) (spin : Option SpinConnection) (s : State) (g : Option (Connection (List Served))) (items told : List Item) → WorldHas w s → HasSpin spin w.unit g → HearsItems w.client client items
+    → map without_spare items ≡ told → AreTold told → Witnessed w.unit s.accepted g (heard_all told s.heard) → Passes w (record w { client = client; spin = spin }) s (record s { spin = g; heard = heard_all told s.heard })
+passes_told w client spin s g items told has is hears are all came =
     let H : ℕ = w.limits.hold in
     let same : heard_all items s.heard ≡ heard_all told s.heard = sym (spare_is_unheard items s.heard) ∙ ap (λ (xs : List Item). heard_all xs s.heard) are in
     let these : AreTold items = told_spare items (subst AreTold (sym are) all) in
-    let honest = honest_of w s has s.spin (heard_all told s.heard) came in
+    let honest = honest_of w s has g (heard_all told s.heard) came in
     let tracks : Tracks client H (heard_all told s.heard) = subst (Tracks client H) same (hears.tracks these H s.heard has.tracks) in
     let keeps : Keeps client s.accepted = hears.keeps these s.accepted has.venue.bytes H s.heard has.tracks (subst (λ (E : List Entry). Honest image s.accepted E) (sym same) honest) has.keeps in
-    record { unit_is = refl; limits_are = refl; quiet = marks_items H told s.heard all; has = with_heard w client s (heard_all told s.heard) has tracks keeps came }
+    record { unit_is = refl; limits_are = refl; quiet = marks_items H told s.heard all; has = with_spin w client spin s g (heard_all told s.heard) has is tracks keeps came }
 
 pub passes_then : (a b c : World) (s t u : State) → Passes a b s t → Passes b c t u → Passes a c s u
 passes_then a b c s t u one two = record {
@@ -175,7 +177,7 @@ acts_down w old new client items last acted s bytes has n holds stood many n_is 
         let piece : List ℕ = take n (waiting k.down) in
         let told : List Item = link_tells gap_link k.link piece in
         let came = hears_gap w.unit s.accepted s.spin told s.heard (gap_link_tells k.link piece) holds.sound.witness in
-        let heard_them = passes_told w client s items told holds hears (tells w.unit k z) (link_told gap_link k.link piece) came in
+        let heard_them = passes_told w client w.spin s s.spin items told holds holds.spin hears (tells w.unit k z) (link_told gap_link k.link piece) came in
         let t : State = record s { grp = Some (at_link gap_link (Fed piece NoLookup) (with_down (took n k.down) k)); heard = heard_all told s.heard } in
         let carried_there : WorldHas (record w { grp = Some new; client = client }) t =
         with_grp (record w { client = client }) (Some new) (record s { heard = heard_all told s.heard }) t.grp heard_them.has (link w.unit k z) in
