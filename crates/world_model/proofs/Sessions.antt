@@ -44,21 +44,7 @@ use Rattle.world_model.proofs.Pieces.{pieces_append}
 use Rattle.world_model.proofs.Replies.{proxy_pieces, views_same}
 use Rattle.world_model.proofs.Witness.{unit_small, hears_gap}
 
--- ---- No connection, or too few bytes
-pub acts_unopened_up : (w : World) (acted : Acted) (s : State) (bytes : Option ℕ) → WorldHas w s → w.grp ≡ None → acted ≡ calm_of outcome.NotOpen → Acts w w acted s (grp_up_on w.unit w.limits bytes s.grp s)
-acts_unopened_up w acted s bytes has none calm = by s.grp (subst (λ (g : Option GrpConnection). HasGrp g w.unit s.grp) none has.grp)
-  where
-    by : (g : Option (Connection Source)) → HasGrp None w.unit g → Acts w w acted s (grp_up_on w.unit w.limits bytes g s)
-    by None z = acts_passed w w acted outcome.NotOpen s s (passes_none w s has) calm
-    by (Some k) z = absurd z
-
-pub acts_unopened_down : (w : World) (acted : Acted) (s : State) (bytes : Option ℕ) → WorldHas w s → w.grp ≡ None → acted ≡ calm_of outcome.NotOpen → Acts w w acted s (grp_down_on bytes s.grp s)
-acts_unopened_down w acted s bytes has none calm = by s.grp (subst (λ (g : Option GrpConnection). HasGrp g w.unit s.grp) none has.grp)
-  where
-    by : (g : Option (Connection Source)) → HasGrp None w.unit g → Acts w w acted s (grp_down_on bytes g s)
-    by None z = acts_passed w w acted outcome.NotOpen s s (passes_none w s has) calm
-    by (Some k) z = absurd z
-
+-- ---- How many bytes are carried
 less_is : (a b : ℕ) → a < b → nat_lt a b ≡ true
 less_is a b less = grind (arith, nat_tests, less)
 
@@ -83,17 +69,9 @@ acts_carried w new acted s after pipe bytes has n many n_is few passes calm =
     subst (λ (b : Bool). Acts w new acted s (cond b (done (outcome.TooFew (wanted bytes pipe) (length (waiting pipe))) s) (done (outcome.Carried (wanted bytes pipe)) after))) (sym enough)
     (acts_passed w new acted (outcome.Carried (wanted bytes pipe)) s after passes (calm ∙ ap (λ (m : ℕ). calm_of (outcome.Carried m)) wants))
 
-pub acts_few_up : (w : World) (c : GrpConnection) (acted : Acted) (s : State) (bytes : Option ℕ) (has asked : ℕ) → WorldHas w s → w.grp ≡ Some c → ((unit : ℕ) (k : Connection Source) → IsGrp c unit k → has ≡ length (waiting k.up))
-    → asked ≡ unwrap_or bytes has → has < asked → acted ≡ calm_of (outcome.TooFew asked has) → Acts w w acted s (grp_up_on w.unit w.limits bytes s.grp s)
-acts_few_up w c acted s bytes has asked holds some many asked_is less calm = by s.grp (subst (λ (g : Option GrpConnection). HasGrp g w.unit s.grp) some holds.grp)
-  where
-    by : (g : Option (Connection Source)) → HasGrp (Some c) w.unit g → Acts w w acted s (grp_up_on w.unit w.limits bytes g s)
-    by None z = absurd z
-    by (Some k) z = acts_too_few w acted s _ k.up bytes has asked holds (many w.unit k z) asked_is less calm
-
 pub acts_few_down : (w : World) (c : GrpConnection) (acted : Acted) (s : State) (bytes : Option ℕ) (has asked : ℕ) → WorldHas w s → w.grp ≡ Some c → ((unit : ℕ) (k : Connection Source) → IsGrp c unit k → has ≡ length (waiting k.down))
     → asked ≡ unwrap_or bytes has → has < asked → acted ≡ calm_of (outcome.TooFew asked has) → Acts w w acted s (grp_down_on bytes s.grp s)
-acts_few_down w c acted s bytes has asked holds some many asked_is less calm = by s.grp (subst (λ (g : Option GrpConnection). HasGrp g w.unit s.grp) some holds.grp)
+acts_few_down w c acted s bytes has asked holds stood many asked_is less calm = by s.grp (subst (λ (g : Option GrpConnection). HasGrp g w.unit s.grp) stood holds.grp)
   where
     by : (g : Option (Connection Source)) → HasGrp (Some c) w.unit g → Acts w w acted s (grp_down_on bytes g s)
     by None z = absurd z
@@ -106,20 +84,16 @@ pub acts_up : (w : World) (old new : GrpConnection) (store : Store) (counter : C
     → w.budget.limits ≡ record { second = limits.second; minute = limits.minute; day = limits.day } → Counted w.budget s.spent
     → CarriedUp unit limits s n k new w.store store w.budget counter (bytes_in w.replayed.items) (bytes_in replayed.items)) → acted ≡ calm_of (outcome.Carried n)
     → Acts w (record w { grp = Some new; store = store; budget = counter; replayed = replayed }) acted s (grp_up_on w.unit w.limits bytes s.grp s)
-acts_up w old new store counter replayed acted s bytes has n holds some many n_is few carry calm = by s.grp (subst (λ (g : Option GrpConnection). HasGrp g w.unit s.grp) some holds.grp)
+acts_up w old new store counter replayed acted s bytes has n holds stood many n_is few carry calm = by s.grp (subst (λ (g : Option GrpConnection). HasGrp g w.unit s.grp) stood holds.grp)
   where
-    w' : World
-    w' = record w { grp = Some new; store = store; budget = counter; replayed = replayed }
-
-    passes : (k : Connection Source) → IsGrp old w.unit k → Passes w w' s (grp_fed w.unit w.limits (take n (waiting k.up)) (with_up (took n k.up) k) s)
-    unfolding w'
+    passes : (k : Connection Source) → IsGrp old w.unit k → Passes w (record w { grp = Some new; store = store; budget = counter; replayed = replayed }) s (grp_fed w.unit w.limits (take n (waiting k.up)) (with_up (took n k.up) k) s)
     passes k z =
         let up = carry w.unit w.limits s k z holds.kept.store_is holds.kept.limits_are holds.kept.counted in
         let piece : List ℕ = take n (waiting k.up) in
         let source : Source = source_of w.limits s k.server piece in
         let lines : List (List ℕ) = (proxy_answer (grp_server w.unit) k.server piece source).lines in
         let pieces = proxy_pieces s.accepted w.unit (unit_small w.unit s.accepted s.spin s.heard holds.sound.witness) holds.venue.raws holds.venue.few (grp_server w.unit) k.server piece source refl
-            (views_same _ (record { messages = s.accepted; kept = w.limits.kept }) s.accepted refl) in
+        (views_same _ (record { messages = s.accepted; kept = w.limits.kept }) s.accepted refl) in
         record {
           unit_is = refl;
           limits_are = refl;
@@ -141,13 +115,13 @@ acts_up w old new store counter replayed acted s bytes has n holds some many n_i
           };
         }
 
-    by : (g : Option (Connection Source)) → HasGrp (Some old) w.unit g → Acts w w' acted s (grp_up_on w.unit w.limits bytes g s)
+    by : (g : Option (Connection Source)) → HasGrp (Some old) w.unit g → Acts w (record w { grp = Some new; store = store; budget = counter; replayed = replayed }) acted s (grp_up_on w.unit w.limits bytes g s)
     by None z = absurd z
     by (Some k) z =
         let count = many w.unit k z in
         let wants : n ≡ wanted bytes k.up = n_is ∙ ap (unwrap_or bytes) count in
-        acts_carried w w' acted s (grp_fed w.unit w.limits (take (wanted bytes k.up) (waiting k.up)) (with_up (took (wanted bytes k.up) k.up) k) s) k.up bytes has n count n_is few
-        (subst (λ (m : ℕ). Passes w w' s (grp_fed w.unit w.limits (take m (waiting k.up)) (with_up (took m k.up) k) s)) wants (passes k z)) calm
+        acts_carried w (record w { grp = Some new; store = store; budget = counter; replayed = replayed }) acted s (grp_fed w.unit w.limits (take (wanted bytes k.up) (waiting k.up)) (with_up (took (wanted bytes k.up) k.up) k) s) k.up bytes has n count n_is few
+        (subst (λ (m : ℕ). Passes w (record w { grp = Some new; store = store; budget = counter; replayed = replayed }) s (grp_fed w.unit w.limits (take m (waiting k.up)) (with_up (took m k.up) k) s)) wants (passes k z)) calm
 
 -- ---- To the client
 marks_item : (H : ℕ) (x : Item) (E : List Entry) → IsTold x → Marks H E (heard x E) false
@@ -196,7 +170,7 @@ pub acts_down : (w : World) (old new : GrpConnection) (client : UnitClient) (ite
     → HearsItems w.client client items
     → ((t : State) → WorldHas (record w { grp = Some new; client = client }) t → Passes (record w { grp = Some new; client = client }) last t (grp_settled t))
     → acted ≡ calm_of (outcome.Carried n) → Acts w last acted s (grp_down_on bytes s.grp s)
-acts_down w old new client items last acted s bytes has n holds some many n_is few link tells hears settles calm = by s.grp (subst (λ (g : Option GrpConnection). HasGrp g w.unit s.grp) some holds.grp)
+acts_down w old new client items last acted s bytes has n holds stood many n_is few link tells hears settles calm = by s.grp (subst (λ (g : Option GrpConnection). HasGrp g w.unit s.grp) stood holds.grp)
   where
     passes : (k : Connection Source) → IsGrp old w.unit k → Passes w last s (gap_link_fed (take n (waiting k.down)) (with_down (took n k.down) k) s)
     passes k z =

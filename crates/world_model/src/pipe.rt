@@ -1,6 +1,6 @@
 //! The pipes of a connection: bytes that wait.
 
-ghost use Rattle.std.specs.Prelude.{◌≡◌, ◌≤◌, ◌<◌, ◌×◌, length, take, drop, unwrap_or, IfOk, IfErr, OnOk};
+ghost use Rattle.std.specs.Prelude.{◌≡◌, ◌≤◌, ◌<◌, length, take, drop, unwrap_or, IfOk, IfErr, OnOk};
 
 use pitch_fields::OutOfMemory;
 use std::alloc::Global;

@@ -61,7 +61,7 @@ pub struct World {
 }
 
 impl World {
-    ghost use Rattle.std.specs.Prelude.{◌≡◌, ◌≤◌, ◌++◌, ℕ, List, [], ◌∷◌, true, false, length, take, is_err, OnOk, OnErr, IfOk, IsErr};
+    ghost use Rattle.std.specs.Prelude.{◌≡◌, ◌≤◌, ◌++◌, ℕ, List, [], ◌∷◌, true, false, length, take, OnOk, OnErr, IfOk, IsErr};
     ghost use Rattle.client_core.specs.Tracks.{Tracks, Keeps};
     ghost use Rattle.pitch_text.specs.WellFormed.{IsVerb};
     ghost use Rattle.pitch_text.specs.declared.verb.Verb.{Verb as VerbSaid};
@@ -115,7 +115,7 @@ impl World {
         // Whatever verbs were done before, the answer is what the definition prints of this one.
         ensures printed { IfOk result (λ p. (unit : ℕ) (limits : LimitsSaid) (done : List VerbSaid) → WorldStands self.old unit limits done
             → p ≡ printed unit limits verb.now (state_of unit limits done)) }
-        ensures failed { has_failed self.new ≡ is_err result }
+        ensures failed { OnErr result (has_failed self.new ≡ true) }
         ensures failed_before { has_failed self.old ≡ true → IsErr result }
     {
         if self.failed {
