@@ -149,7 +149,8 @@ impl GrpConnection {
             .feed(piece, budget, Some(store), &mut said, &mut packed)?;
         self.up.take(count);
         self.down.put(&said)?;
-        append_copies(self.alloc, packed.as_slice(), gap_line)
+        append_copies(self.alloc, packed.as_slice(), gap_line)?;
+        Ok(())
     }
 
     /// Carries so many bytes to the client, and appends what they tell it.
