@@ -78,5 +78,6 @@ pub(crate) fn app<'a>(alloc: Global) -> Result<Command<'a>, AllocError>
 {
     let with_follow = top(alloc).subcommand(follow(alloc)?)?;
     let with_show = with_follow.subcommand(command(alloc, "show"))?;
-    with_show.subcommand(pack(alloc)?)
+    let with_pack = with_show.subcommand(pack(alloc)?)?;
+    with_pack.subcommand(command(alloc, "replay"))
 }
