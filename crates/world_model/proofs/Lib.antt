@@ -1,0 +1,7 @@
+mod Witness
+mod Pieces
+mod HeardBlocks
+mod Booking
+mod Carrying
+mod Acting
+mod Examples
