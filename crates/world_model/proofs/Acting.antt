@@ -51,7 +51,7 @@ use Rattle.session_ends.specs.declared.role.Role.TheVariants as roles
 use Rattle.client_core.specs.Items.{IsImage}
 use Rattle.pitch_model.proofs.Images.{image_book}
 use Rattle.client_links.specs.Linking.{login_bytes}
-use Rattle.world_model.specs.Connections.{IsGrp, HasGrp}
+use Rattle.world_model.specs.Connections.{IsGrp, HasGrp, HasSpin}
 use Rattle.world_model.specs.declared.grp.GrpConnection.{GrpConnection}
 use Rattle.world_model.specs.Ends.{the_account, gap_link, spin_link}
 use Rattle.world_model.specs.declared.limits.Limits.{Limits}
@@ -72,6 +72,7 @@ use Rattle.pitch_model.proofs.Topmost.{reach_le_top}
 use Rattle.world_model.specs.declared.outcome.Outcome.{Outcome}
 use Rattle.world_model.specs.declared.outcome.Outcome.TheVariants as outcome
 use Rattle.world_model.specs.declared.world.Acted.{Acted}
+use Rattle.world_model.specs.declared.spin.SpinConnection.{SpinConnection}
 use Rattle.world_model.specs.declared.world.World.{World}
 
 -- ---- Nothing was heard
@@ -173,7 +174,7 @@ acts_accepted w venue store shelf acted command s n has answer stands unit store
       keeps = keeping w.client s.accepted (raw ∷ []) (reached_within w s has) has.keeps;
       noted = has.noted;
       grp = has.grp;
-      no_spin = has.no_spin;
+      spin = has.spin;
       sound = sound_accepted w.unit s raw has.sound;
     }))
 
@@ -219,7 +220,7 @@ has_sent w venue sent s flushed datagrams has stands unit are pieces = record {
   keeps = has.keeps;
   noted = has.noted;
   grp = has.grp;
-  no_spin = has.no_spin;
+  spin = has.spin;
   sound = record {
     sent = pieces_append s.accepted w.unit s.sent datagrams has.sound.sent pieces;
     replayed = has.sound.replayed;
@@ -267,7 +268,7 @@ marks_bits true r x = or_true (ltb 0 r) x ∙ ap (λ (y : Bool). y || x) (sym (l
     or_true false x = refl
 marks_bits false r x = let e : r ≡ 0 + r = omega arith in ap (λ (n : ℕ). ltb 0 n || x) e
 
-marks_none : (H : ℕ) (E : List Entry) → Marks H E E false
+pub marks_none : (H : ℕ) (E : List Entry) → Marks H E E false
 marks_none H E = record { added = 0; longer = omega arith; marks = λ m. let e : 0 + m ≡ m = omega arith in ap (λ (n : ℕ). overflowed H n E) e }
 
 marks_messages : (H first : ℕ) (raws : List Raw) (E : List Entry) → Marks H E (heard_messages first raws E) (ltb 0 (overflowed_messages H first raws E))
@@ -349,7 +350,7 @@ acts_heard w client arbiter passed acted overflow s line number n blocks has hea
         keeps = heard.keeps s.accepted s.heard honest has.keeps;
         noted = heard.noted H s.heard s.notes has.tracks has.noted;
         grp = has.grp;
-        no_spin = has.no_spin;
+        spin = has.spin;
         sound = record { sent = has.sound.sent; replayed = has.sound.replayed; witness = came };
       };
     }
@@ -361,7 +362,7 @@ line_pieces w s B has = has.sound.sent
 line_pieces w s Gap has = has.sound.replayed
 
 -- ---- Parts of a verb
-marks_then : (H : ℕ) (E F G : List Entry) → Marks H E F false → Marks H F G false → Marks H E G false
+pub marks_then : (H : ℕ) (E F G : List Entry) → Marks H E F false → Marks H F G false → Marks H E G false
 marks_then H E F G x y = record {
   added = y.added + x.added;
   longer = omega (arith, x.longer, y.longer);
@@ -383,11 +384,11 @@ with_grp w grp s g has is = record {
   keeps = has.keeps;
   noted = has.noted;
   grp = is;
-  no_spin = has.no_spin;
+  spin = has.spin;
   sound = record { sent = has.sound.sent; replayed = has.sound.replayed; witness = has.sound.witness };
 }
 
-with_budget : (w : World) (counter : Counts) (s : State) → WorldHas w s → counter.limits ≡ w.budget.limits → ((p : Spent) → Counted w.budget p → Counted counter (budget.next_second p)) → WorldHas (record w { budget = counter }) (budget_ticks s)
+pub with_budget : (w : World) (counter : Counts) (s : State) → WorldHas w s → counter.limits ≡ w.budget.limits → ((p : Spent) → Counted w.budget p → Counted counter (budget.next_second p)) → WorldHas (record w { budget = counter }) (budget_ticks s)
 with_budget w counter s has limited counts = record {
   begun = has.begun;
   venue_unit = has.venue_unit;
@@ -400,13 +401,14 @@ with_budget w counter s has limited counts = record {
   keeps = has.keeps;
   noted = has.noted;
   grp = has.grp;
-  no_spin = has.no_spin;
+  spin = has.spin;
   sound = record { sent = has.sound.sent; replayed = has.sound.replayed; witness = has.sound.witness };
 }
 
--- the client heard or asked something
-with_heard : (w : World) (client : UnitClient) (s : State) (E : List Entry) → WorldHas w s → Tracks client w.limits.hold E → Keeps client s.accepted → Witnessed w.unit s.accepted s.spin E → WorldHas (record w { client = client }) (record s { heard = E })
-with_heard w client s E has tracks keeps came = record {
+-- the client heard or asked something, beside what happened to the connection with the spin server
+pub with_spin : (w : World) (client : UnitClient) (spin : Option SpinConnection) (s : State) (g : Option (Connection (List Served))) (E : List Entry) → WorldHas w s → HasSpin spin w.unit g → Tracks client w.limits.hold E → Keeps client s.accepted
+    → Witnessed w.unit s.accepted g E → WorldHas (record w { client = client; spin = spin }) (record s { spin = g; heard = E })
+with_spin w client spin s g E has is tracks keeps came = record {
   begun = has.begun;
   venue_unit = has.venue_unit;
   venue = has.venue;
@@ -418,11 +420,15 @@ with_heard w client s E has tracks keeps came = record {
   keeps = keeps;
   noted = has.noted;
   grp = has.grp;
-  no_spin = has.no_spin;
+  spin = is;
   sound = record { sent = has.sound.sent; replayed = has.sound.replayed; witness = came };
 }
 
-marks_one : (H : ℕ) (entry : Entry) (E : List Entry) → is_overflow H E entry ≡ false → Marks H E (entry ∷ E) false
+-- the client heard or asked something
+pub with_heard : (w : World) (client : UnitClient) (s : State) (E : List Entry) → WorldHas w s → Tracks client w.limits.hold E → Keeps client s.accepted → Witnessed w.unit s.accepted s.spin E → WorldHas (record w { client = client }) (record s { heard = E })
+with_heard w client s E has tracks keeps came = with_spin w client w.spin s s.spin E has has.spin tracks keeps came
+
+pub marks_one : (H : ℕ) (entry : Entry) (E : List Entry) → is_overflow H E entry ≡ false → Marks H E (entry ∷ E) false
 marks_one H entry E none = record {
   added = 1;
   longer = omega arith;
@@ -486,79 +492,11 @@ acts_not_open w acted s has none calm = by s.grp (subst (λ (g : Option GrpConne
     by None z = acts_passed w w acted outcome.NotOpen s s (passes_none w s has) calm
     by (Some k) z = absurd z
 
--- ---- A tick
-spin_served_none : (unit : ℕ) (event : Event (List Served)) (s : State) → s.spin ≡ None → spin_server_has unit event s ≡ s
-spin_served_none unit event s spin = ap (λ (c : Option (Connection (List Served))). record s { spin = option_map (λ c. at_spin_server unit event c) c }) spin ∙ ap (λ (c : Option (Connection (List Served))). record s { spin = c }) (sym spin)
-
-spin_link_none : (unit : ℕ) (s : State) → s.spin ≡ None → spin_link_ticks unit s ≡ s
-spin_link_none unit s spin =
-    ap (λ (c : Option (Connection (List Served))). spin_settled unit (record s { spin = option_map (λ k. at_link (spin_link unit) Ticked k) c })) spin
-    ∙ ap (λ (c : Option (Connection (List Served))). record s { spin = c }) (sym spin)
-
-asked_spin_none : (unit : ℕ) (ask : Option Ask) (g : Option (Connection (List Served))) → g ≡ None → asked_spin unit ask g ≡ None
-asked_spin_none unit ask g none = ap (asked_spin unit ask) none ∙ of ask
-  where
-    of : (a : Option Ask) → asked_spin unit a None ≡ None
-    of None = refl
-    of (Some (asks.Gap first count)) = refl
-    of (Some (asks.Spin sequence)) = refl
-
 pub passes_where : (w new : World) (s : State) (b : Bool) → b ≡ true → Passes w new s (grp_cut s) → Passes w new s (grp_cut_where b s)
 passes_where w new s b is passes = subst (λ (x : Bool). Passes w new s (grp_cut_where x s)) (sym is) passes
 
 pub passes_still : (w : World) (s : State) (b : Bool) → b ≡ false → WorldHas w s → Passes w w s (grp_cut_where b s)
 passes_still w s b is has = subst (λ (x : Bool). Passes w w s (grp_cut_where x s)) (sym is) (passes_none w s has)
-
--- the ends tick before the client
-ends_ticked : ℕ → State → State
-ends_ticked unit s = gap_link_ticks (grp_server_ticks unit (budget_ticks s))
-
-ends_alone : (unit : ℕ) (limits : Limits) (s : State) → s.spin ≡ None → (ends_ticked unit s).spin ≡ None → ticked unit limits s ≡ client_ticks unit limits (ends_ticked unit s)
-unfolding ends_ticked
-ends_alone unit limits s none after =
-    ap (λ (x : State). client_ticks unit limits (spin_link_ticks unit (gap_link_ticks x))) (spin_served_none unit Ticked (grp_server_ticks unit (budget_ticks s)) none)
-    ∙ ap (λ (x : State). client_ticks unit limits x) (spin_link_none unit (gap_link_ticks (grp_server_ticks unit (budget_ticks s))) after)
-
-pub acts_ticked : (w : World) (counter : Counts) (grp1 grp2 : Option GrpConnection) (shutting : World) (client : UnitClient) (grp3 : Option GrpConnection) (ask : Option Ask) (acted : Acted) (s : State) → WorldHas w s
-    → counter.limits ≡ w.budget.limits → ((p : Spent) → Counted w.budget p → Counted counter (budget.next_second p))
-    → ((unit : ℕ) (g : Option (Connection Source)) → HasGrp w.grp unit g → HasGrp grp1 unit (option_map (λ k. at_grp_server unit Ticked k) g))
-    → ((unit : ℕ) (g : Option (Connection Source)) → HasGrp grp1 unit g → HasGrp grp2 unit (option_map (λ k. at_link gap_link Ticked k) g))
-    → ((t : State) → WorldHas (record w { budget = counter; grp = grp2 }) t → Passes (record w { budget = counter; grp = grp2 }) shutting t (grp_settled t))
-    → ((E : List Entry) → Tracks shutting.client shutting.limits.hold E → ask ≡ ask_of shutting.limits.hold E)
-    → ((E : List Entry) → Tracks shutting.client shutting.limits.hold E → Tracks client shutting.limits.hold (entry.Ticked ask ∷ E))
-    → ((V : List Raw) → Keeps shutting.client V → Keeps client V)
-    → ((of : ℕ) (g : Option (Connection Source)) → HasGrp shutting.grp of g → HasGrp grp3 of (asked_grp shutting.unit ask g))
-    → acted ≡ calm_of (tick_outcome ask)
-    → Acts w (record shutting { client = client; grp = grp3 }) acted s (ticked w.unit w.limits s)
-unfolding ends_ticked
-acts_ticked w counter grp1 grp2 shutting client grp3 ask acted s has limited counts server link shut asks tracks keeps through calm =
-    let s1 : State = budget_ticks s in
-    let h1 : WorldHas (record w { budget = counter }) s1 = with_budget w counter s has limited counts in
-    let s2 : State = grp_server_ticks w.unit s1 in
-    let h2 : WorldHas (record w { budget = counter; grp = grp1 }) s2 = with_grp (record w { budget = counter }) grp1 s1 s2.grp h1 (server w.unit s.grp has.grp) in
-    let s3 : State = record s2 { grp = option_map (λ k. at_link gap_link Ticked k) s2.grp } in
-    let h3 : WorldHas (record w { budget = counter; grp = grp2 }) s3 = with_grp (record w { budget = counter; grp = grp1 }) grp2 s2 s3.grp h2 (link w.unit s2.grp h2.grp) in
-    let p : Passes (record w { budget = counter; grp = grp2 }) shutting s3 (ends_ticked w.unit s) = shut s3 h3 in
-    let t : State = ends_ticked w.unit s in
-    let asked : ask ≡ ask_of shutting.limits.hold t.heard = asks t.heard p.has.tracks in
-    let H : ℕ = shutting.limits.hold in
-    let E : List Entry = entry.Ticked ask ∷ t.heard in
-    let h4 : WorldHas (record shutting { client = client }) (record t { heard = E }) = with_heard shutting client t E p.has (tracks t.heard p.has.tracks) (keeps t.accepted p.has.keeps) (witness.hears shutting.unit t.accepted t.spin (entry.Ticked ask) t.heard tt p.has.sound.witness) in
-    let h5 : WorldHas (record shutting { client = client; grp = grp3 }) (record t { heard = E; grp = asked_grp shutting.unit ask t.grp }) = with_grp (record shutting { client = client }) grp3 (record t { heard = E }) (asked_grp shutting.unit ask t.grp) h4 (through shutting.unit t.grp p.has.grp) in
-    let spin : asked_spin shutting.unit ask t.spin ≡ t.spin = asked_spin_none shutting.unit ask t.spin p.has.no_spin ∙ sym p.has.no_spin in
-    let h6 : WorldHas (record shutting { client = client; grp = grp3 }) (asked_through shutting.unit ask (record t { heard = E })) =
-    subst (λ (g : Option (Connection (List Served))). WorldHas (record shutting { client = client; grp = grp3 }) (record t { heard = E; grp = asked_grp shutting.unit ask t.grp; spin = g })) (sym spin) h5 in
-    let one : Marks H t.heard E false = marks_one H (entry.Ticked ask) t.heard refl in
-    let whole : Marks w.limits.hold s.heard E false = marks_then w.limits.hold s.heard t.heard E p.quiet (subst (λ (h : ℕ). Marks h t.heard E false) (ap (λ (l : Limits). l.hold) p.limits_are) one) in
-    let passes : Passes w (record shutting { client = client; grp = grp3 }) s (asked_through shutting.unit ask (record t { heard = E })) = record { unit_is = p.unit_is; limits_are = p.limits_are; quiet = whole; has = h6 } in
-    let done_is : Acts w (record shutting { client = client; grp = grp3 }) acted s (done (tick_outcome ask) (asked_through shutting.unit ask (record t { heard = E }))) =
-    acts_passed w (record shutting { client = client; grp = grp3 }) acted (tick_outcome ask) s (asked_through shutting.unit ask (record t { heard = E })) passes calm in
-    let at_unit : Acts w (record shutting { client = client; grp = grp3 }) acted s (done (tick_outcome ask) (asked_through w.unit ask (record t { heard = E }))) =
-    subst (λ (u : ℕ). Acts w (record shutting { client = client; grp = grp3 }) acted s (done (tick_outcome ask) (asked_through u ask (record t { heard = E })))) p.unit_is done_is in
-    let same : ask ≡ ask_of w.limits.hold t.heard = asked ∙ ap (λ (l : Limits). ask_of l.hold t.heard) p.limits_are in
-    let at_ask : Acts w (record shutting { client = client; grp = grp3 }) acted s (client_ticks w.unit w.limits t) =
-    subst (λ (a : Option Ask). Acts w (record shutting { client = client; grp = grp3 }) acted s (done (tick_outcome a) (asked_through w.unit a (record t { heard = entry.Ticked a ∷ t.heard })))) same at_unit in
-    subst (λ (d : Done). Acts w (record shutting { client = client; grp = grp3 }) acted s d) (sym (ends_alone w.unit w.limits s has.no_spin p.has.no_spin)) at_ask
 
 -- ---- A datagram by its number, and those behind the last
 numbered_at : (datagrams : List (List ℕ)) (n : ℕ) → 1 ≤ n → numbered datagrams n ≡ slice_get datagrams (n - 1)
@@ -620,7 +558,7 @@ begun_has w s has = record {
   keeps = has.keeps;
   noted = has.noted;
   grp = has.grp;
-  no_spin = has.no_spin;
+  spin = has.spin;
   sound = record { sent = has.sound.sent; replayed = has.sound.replayed; witness = has.sound.witness };
 }
 

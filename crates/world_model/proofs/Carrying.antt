@@ -3,16 +3,14 @@ use Rattle.std.proofs.Common.{◌≡◌, ℕ, zero, suc, ◌+◌, ◌-◌, ◌�
 use Rattle.std.proofs.lemmas.List.{drop-append-le, length-drop}
 use Rattle.std.proofs.Math.Seq.{drop-drop}
 use Rattle.std.specs.Option.{option_map}
-use Rattle.session_ends.specs.Answering.{Rises}
 use Rattle.session_ends.specs.Closing.{Setup, closed_of}
 use Rattle.session_ends.specs.Ending.{Ending}
 use Rattle.session_ends.specs.Events.{Event, Fed}
-use Rattle.session_ends.specs.Laws.{RisesNowhere}
 use Rattle.session_ends.specs.Sending.{new_items}
-use Rattle.gap_store.specs.Look.{View, IsLater, OneView, Store, store_of}
+use Rattle.gap_store.specs.Look.{View, Store, store_of}
 use Rattle.grp_session.specs.Budget.{Counts, Counted, Spent}
 use Rattle.grp_session.specs.Budget as budget
-use Rattle.grp_session.specs.Serving.{Source, Answered, ProxyFeeds, proxy_answer}
+use Rattle.grp_session.specs.Serving.{Source, Answered, ProxyFeeds, StoreHasOneView, proxy_answer}
 use Rattle.client_links.specs.Linking.{LinkStands}
 use Rattle.world_model.specs.Connections.{IsPipe, IsGrp, HasGrp, CarriedUp}
 use Rattle.world_model.specs.Ends.{grp_server, grp_says}
@@ -36,36 +34,19 @@ piped_taken bytes n pipe is few =
       are = ap (drop n) is.are ∙ drop-drop n pipe.taken pipe.put;
     }
 
--- ---- Views that rise to the first are the first
-later_then : (a b c : View) → IsLater a b → IsLater b c → IsLater a c
-later_then a b c x y = record {
-  more = x.more ++ y.more;
-  messages = y.messages ∙ ap (λ (m : List (List ℕ)). m ++ y.more) x.messages ∙ append_assoc a.messages x.more y.more;
-  kept = y.kept ∙ x.kept;
-}
-
-rises_to : (first : View) (views : List View) (last : View) → Rises IsLater first views last → IsLater first last
-rises_to first [] last rises = rises
-rises_to first (view ∷ views) last rises = later_then first view last rises.0 (rises_to view views last rises.1)
-
-same_views : (store : Store) (view now : View) (views : List View) → OneView → RisesNowhere View IsLater → store ≡ store_of view → store ≡ store_of now → Rises IsLater view views now → views ≡ replicate (length views) view
-same_views store view now views one nowhere is at rises =
-    let long : length now.messages ≡ length view.messages = sym (ap (λ (s : Store). s.pushed) at) ∙ ap (λ (s : Store). s.pushed) is in
-    nowhere view now views rises (one view now (rises_to view views now rises) long)
-
 -- ---- To the proxy
 pub carried_up : (old new : GrpConnection) (unit : ℕ) (limits : Limits) (s : State) (k : Connection Source) (n : ℕ) (piece : List ℕ) (store store' : Store) (counter counter' : Counts) (lines lines' : List (List ℕ))
-    → OneView → RisesNowhere View IsLater → IsGrp old unit k → store ≡ store_of (record { messages = s.accepted; kept = limits.kept }) → counter.limits ≡ record { second = limits.second; minute = limits.minute; day = limits.day }
+    → StoreHasOneView → IsGrp old unit k → store ≡ store_of (record { messages = s.accepted; kept = limits.kept }) → counter.limits ≡ record { second = limits.second; minute = limits.minute; day = limits.day }
     → n ≤ length old.up.items → piece ≡ take n old.up.items → new.up.items ≡ drop n old.up.items → new.link ≡ old.link → new.server.setup ≡ old.server.setup → store' ≡ store → counter'.limits ≡ counter.limits
     → ProxyFeeds k.server piece old.server new.server true counter.limits s.spent (record { messages = s.accepted; kept = limits.kept }) (Counted counter') (λ v. store' ≡ store_of v) old.down.items new.down.items lines lines'
     → CarriedUp unit limits s n k new store store' counter counter' lines lines'
-carried_up old new unit limits s k n piece store store' counter counter' lines lines' one nowhere is stored limited few piece_is rest link setup still counts feeds =
+carried_up old new unit limits s k n piece store store' counter counter' lines lines' one is stored limited few piece_is rest link setup still counts feeds =
     let view : View = record { messages = s.accepted; kept = limits.kept } in
     let es : List (Event Source) = k.server in
     let P : List ℕ = take n (waiting k.up) in
     let l : budget.Limits = record { second = limits.second; minute = limits.minute; day = limits.day } in
     let views_are : feeds.views ≡ replicate (length (new_items es piece)) view =
-    same_views store view feeds.now feeds.views one nowhere stored (sym still ∙ feeds.shows) feeds.rises ∙ ap (λ (m : ℕ). replicate m view) feeds.each in
+    (one view feeds.now feeds.views feeds.rises (sym feeds.shows ∙ still ∙ stored)).1 ∙ ap (λ (m : ℕ). replicate m view) feeds.each in
     let source_is : record_of counter.limits s.spent feeds.views ≡ source_of limits s es piece = ap (λ (vs : List View). record_of counter.limits s.spent vs) views_are ∙ ap (λ (m : budget.Limits). record_of m s.spent (replicate (length (new_items es piece)) view)) limited in
     let at_piece : Answered es piece (source_of limits s es piece) old.server new.server (Counted counter') old.down.items new.down.items lines lines' =
     subst (λ (src : Source). Answered es piece src old.server new.server (Counted counter') old.down.items new.down.items lines lines') source_is feeds.answered in

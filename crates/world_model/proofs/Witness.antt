@@ -5,12 +5,16 @@ use Rattle.std.proofs.lemmas.Bool.{cond-false, ne_eqb}
 use Rattle.unit_packets.specs.Blocks.{Block}
 use Rattle.unit_packets.specs.Cutting.{blocks_of}
 use Rattle.pitch_model.specs.Datagrams.{IsVenueBlock, IsPiece, heard_blocks}
-use Rattle.pitch_model.specs.Heard.{heard_block, heard_messages, heard_sequenced}
-use Rattle.pitch_model.specs.History.{Entry, Raw, Message, Next}
+use Rattle.pitch_model.specs.Heard.{heard, heard_block, heard_messages, heard_sequenced, is_accepted}
+use Rattle.pitch_model.specs.History.{Entry, Raw, Message, Next, GrpUp, GapReply}
 use Rattle.pitch_model.specs.Honest.{AreVenues, Honest, message_at}
 use Rattle.pitch_model.specs.Image.{image}
 use Rattle.spin_server.specs.Served.{Served}
-use Rattle.spin_path.specs.Paths.{Hears, MayHear, IsFeed, HasWholeImages, moved}
+use Rattle.spin_path.specs.Paths.{Move, AreMoves, Hears, MayHear, IsFeed, HasWholeImages, moved, heard_all}
+use Rattle.session_ends.specs.Closing.{Setup}
+use Rattle.pitch_model.specs.declared.item.Item.{Item}
+use Rattle.pitch_model.specs.declared.item.Item.TheVariants as item
+use Rattle.world_model.specs.Hearing.{IsGapTold}
 use Rattle.spin_path.proofs.Moves.{moves_stay}
 use Rattle.spin_path.proofs.Whole.{images_are_whole}
 use Rattle.world_model.specs.Ends.{spin_server}
@@ -28,6 +32,13 @@ accepted_more unit V more c E w = record { moves = w.moves; are = moves_stay V m
 
 pub whole : (unit : ℕ) (V : List Raw) (c : Spin) (E : List Entry) → IsFeed V → Witnessed unit V c E → HasWholeImages V E
 whole unit V c E feed w = subst (λ (F : List Entry). HasWholeImages V F) (ap (λ p. p.history) w.path_is) (images_are_whole V (spin_server unit) w.moves feed w.are)
+
+a_unit : (V : List Raw) (setup : Setup) (moves : List Move) → AreMoves V setup moves → setup.unit < 256
+a_unit V setup [] are = are.unit_is
+a_unit V setup (move ∷ moves) are = a_unit V setup moves are.1
+
+pub unit_small : (unit : ℕ) (V : List Raw) (c : Spin) (E : List Entry) → Witnessed unit V c E → unit < 256
+unit_small unit V c E w = a_unit V (spin_server unit) w.moves w.are
 
 module _ (unit : ℕ) (V : List Raw) (c : Spin) where
   pub hears : (entry : Entry) (E : List Entry) → MayHear V entry → Witnessed unit V c E → Witnessed unit V c (entry ∷ E)
@@ -57,3 +68,22 @@ module _ (unit : ℕ) (V : List Raw) (c : Spin) where
   pub hears_blocks : (blocks : List Block) (E : List Entry) → AllByRecursion (IsVenueBlock V unit) blocks → Witnessed unit V c E → Witnessed unit V c (heard_blocks blocks E)
   hears_blocks [] E all w = w
   hears_blocks (block ∷ blocks) E all w = hears_blocks blocks (heard_block block E) all.1 (hears_block block E all.0 w)
+
+  -- the client hears what the link with the proxy tells
+  hears_gap_item : (x : Item) (E : List Entry) → IsGapTold x → Witnessed unit V c E → Witnessed unit V c (heard x E)
+  hears_gap_item item.GrpUp E is w = hears GrpUp E tt w
+  hears_gap_item (item.GapReply sequence count status) E is w = hears (GapReply (is_accepted status)) E tt w
+  hears_gap_item (item.Messages first raws) E is w = absurd is
+  hears_gap_item (item.Next next) E is w = absurd is
+  hears_gap_item item.Nothing E is w = absurd is
+  hears_gap_item item.GrpDown E is w = absurd is
+  hears_gap_item item.SpinUp E is w = absurd is
+  hears_gap_item item.SpinDown E is w = absurd is
+  hears_gap_item (item.Advertised sequence) E is w = absurd is
+  hears_gap_item (item.SpinReply sequence orders status) E is w = absurd is
+  hears_gap_item (item.ImageMessages raws) E is w = absurd is
+  hears_gap_item (item.SpinFinished sequence) E is w = absurd is
+
+  pub hears_gap : (items : List Item) (E : List Entry) → AllByRecursion IsGapTold items → Witnessed unit V c E → Witnessed unit V c (heard_all items E)
+  hears_gap [] E all w = w
+  hears_gap (x ∷ items) E all w = hears_gap items (heard x E) all.1 (hears_gap_item x E all.0 w)

@@ -14,7 +14,7 @@ use Rattle.pitch_model.specs.Reach.{reach, is_overflow}
 use Rattle.pitch_model.specs.Status.{status_of}
 use Rattle.feed_lines.specs.StatusText.{status_text}
 use Rattle.feed_lines.specs.Follow.{overflow_text}
-use Rattle.venue_core.specs.Causes.{error_text}
+use Rattle.venue_core.specs.Causes.{refusal_text}
 use Rattle.line_arbiter.specs.Noted.{line_count}
 use Rattle.line_arbiter.specs.declared.count.LineCount.{LineCount}
 use Rattle.world_model.specs.State.{State}
@@ -63,7 +63,7 @@ unfoldable pub outcome_text : Verb → Outcome → List ℕ
 outcome_text verb outcome.Opened = codes "opened"
 outcome_text verb outcome.AlreadyOpen = codes "already-open"
 outcome_text verb (outcome.Accepted sequence) = codes "accepted " ++ decimal sequence
-outcome_text verb (outcome.Refused error) = codes "refused " ++ error_text error
+outcome_text verb (outcome.Refused error) = codes "refused " ++ refusal_text error
 outcome_text verb (outcome.Sent datagrams) = codes "sent " ++ decimal datagrams
 outcome_text verb (outcome.Heard datagrams) = codes "heard " ++ decimal datagrams
 outcome_text verb outcome.NoDatagram = codes "no-datagram"

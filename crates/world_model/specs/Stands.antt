@@ -1,5 +1,5 @@
 -- What a world stands for.
-use Rattle.std.specs.Prelude.{◌≡◌, ◌+◌, ◌-◌, ◌||◌, ℕ, Bool, false, List, [], ◌∷◌, length, None}
+use Rattle.std.specs.Prelude.{◌≡◌, ◌+◌, ◌-◌, ◌||◌, ℕ, Bool, false, List, [], ◌∷◌, length, Option}
 use Rattle.pitch_text.specs.WellFormed.{IsVerb}
 use Rattle.pitch_text.specs.declared.verb.Verb.{Verb}
 use Rattle.pitch_text.specs.declared.verb.Verb.TheVariants as verbs
@@ -7,17 +7,17 @@ use Rattle.unit_packets.specs.Packing.{bytes_in}
 use Rattle.venue_core.specs.Stands.{Stands as VenueStands}
 use Rattle.client_core.specs.Tracks.{Tracks, Keeps}
 use Rattle.line_arbiter.specs.Noted.{HasNoted}
-use Rattle.pitch_model.specs.Advertising.{Operation, accepted_by, advertised_by}
-use Rattle.pitch_model.specs.History.{Entry, Raw}
+use Rattle.pitch_model.specs.Asking.{ask_of}
+use Rattle.pitch_model.specs.declared.ask.Ask.{Ask}
+use Rattle.pitch_model.specs.History.{Entry, Raw, Ticked}
 use Rattle.gap_store.specs.Look.{Store, store_of}
 use Rattle.grp_session.specs.Budget.{Counts, Counted, Spent}
 use Rattle.spin_server.specs.Shelves.{Shelf}
-use Rattle.spin_server.specs.Stands.{ShelfStands}
-use Rattle.world_model.specs.Connections.{HasGrp}
+use Rattle.world_model.specs.Connections.{HasGrp, HasSpin, KeepsShelf}
 use Rattle.world_model.specs.Printed.{overflowed}
 use Rattle.world_model.specs.Sound.{Sound}
 use Rattle.world_model.specs.State.{State}
-use Rattle.world_model.specs.Verbs.{state_of, Done}
+use Rattle.world_model.specs.Verbs.{state_of, Done, asked_through}
 use Rattle.world_model.specs.declared.limits.Limits.{Limits}
 use Rattle.world_model.specs.declared.world.Acted.{Acted}
 use Rattle.world_model.specs.declared.world.World.{World}
@@ -25,13 +25,6 @@ use Rattle.world_model.specs.declared.world.World.{World}
 -- limits that an `open` line can set
 abbrev pub AreLimits : Limits → Type 0
 AreLimits l = IsVerb (verbs.Setup l.hold l.kept l.second l.minute l.day)
-
--- a shelf has these messages, and these sequences were advertised
-pub record KeepsShelf (shelf : Shelf) (accepted : List Raw) (advertised : List ℕ) : Type 0 where
-  pub operations : List Operation
-  pub accepted_is : accepted_by operations ≡ accepted
-  pub advertised_is : advertised_by operations ≡ advertised
-  pub stands : ShelfStands shelf operations
 
 -- what the proxy and the spin server look up: the messages, of which the proxy keeps so many; the
 -- requests that it accepted; and the images that were advertised
@@ -54,7 +47,7 @@ pub record WorldHas (w : World) (s : State) : Type 0 where
   pub keeps : Keeps w.client s.accepted
   pub noted : HasNoted w.arbiter s.notes
   pub grp : HasGrp w.grp w.unit s.grp
-  pub no_spin : s.spin ≡ None
+  pub spin : HasSpin w.spin w.unit s.spin
   pub sound : Sound w.unit s
 
 -- the world of a unit with these limits, with which these verbs were done, the newest first
@@ -89,3 +82,8 @@ pub record Passes (old new : World) (s s' : State) : Type 0 where
   pub limits_are : new.limits ≡ old.limits
   pub quiet : Marks old.limits.hold s.heard s'.heard false
   pub has : WorldHas new s'
+
+-- the client ticked: it asks for what it lacks, and what it asks for is sent
+pub record ClientTicks (old new : World) (ask : Option Ask) (s : State) : Type 0 where
+  pub ask_is : ask ≡ ask_of old.limits.hold s.heard
+  pub passes : Passes old new s (asked_through old.unit ask (record s { heard = Ticked ask ∷ s.heard }))

@@ -205,7 +205,7 @@ views_of s before piece = replicate (length (new_items before piece)) (record { 
 -- it is asked so many times for the next block of its image
 abbrev pub pumped_times : ℕ → ℕ → Connection (List Served) → Connection (List Served)
 pumped_times unit zero c = c
-pumped_times unit (suc n) c = pumped_times unit n (at_spin_server unit Pumped c)
+pumped_times unit (suc n) c = at_spin_server unit Pumped (pumped_times unit n c)
 
 -- how often that is: until Spin Finished, and once where no image runs
 abbrev pub pumps : ℕ → List (Event (List Served)) → ℕ

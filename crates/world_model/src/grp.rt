@@ -11,14 +11,14 @@ ghost use Rattle.world_model.specs.State.{Connection};
 ghost use Rattle.world_model.specs.Verbs.{at_grp_server, at_link, shut, asked_grp};
 ghost use Rattle.world_model.specs.Ends.{the_account, gap_link};
 
+use crate::pipe::take_front;
 use client_links::{GapLink, ItemList};
 use gap_store::GapStore;
-use grp_session::{GapBudget, GrpServer};
+use grp_session::{GapBudget, GrpServer, look_laws};
 use pitch_fields::OutOfMemory;
 use pitch_model::Ask;
 use session_ends::Account;
 use std::alloc::Global;
-use std::mem::replace;
 use unit_packets::DatagramList;
 
 /// The account of both sessions.
@@ -30,24 +30,6 @@ pub(crate) fn account() -> Account
         user: *b"FEED",
         password: *b"PITCH     ",
     }
-}
-
-/// Takes so many bytes out of a pipe. After OutOfMemory the pipe is as before.
-pub(crate) fn take_front(
-    alloc: Global,
-    pipe: &mut Vec<u8>,
-    count: usize,
-) -> Result<Vec<u8>, OutOfMemory>
-    requires { count ≤ length pipe.old.items }
-    ensures piece { IfOk result (λ piece. piece.items ≡ take count pipe.old.items) }
-    ensures rest { OnOk result (pipe.new.items ≡ drop count pipe.old.items) }
-{
-    let mut piece = Vec::new(alloc);
-    piece.extend_from_slice(&pipe[..count])?;
-    let mut rest = Vec::new(alloc);
-    rest.extend_from_slice(&pipe[count..])?;
-    let _whole = replace(pipe, rest);
-    Ok(piece)
 }
 
 /// The proxy's end and the client's end, and the bytes that wait between them.
@@ -155,8 +137,7 @@ impl GrpConnection {
             → store.old ≡ store_of (record { messages = s.accepted; kept = limits.kept }) → budget.old.limits ≡ record { second = limits.second; minute = limits.minute; day = limits.day } → Counted budget.old s.spent
             → CarriedUp unit limits s count k self.new store.old store.new budget.old budget.new (bytes_in gap_line.old.items) (bytes_in gap_line.new.items)) }
     {
-        gap_store::look_laws();
-        grp_session::look_laws();
+        look_laws();
         let piece = take_front(self.alloc, &mut self.up, count)?;
         self.server
             .feed(&piece, budget, Some(store), &mut self.down, gap_line)?;

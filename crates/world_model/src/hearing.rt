@@ -1,17 +1,19 @@
-//! What the client hears of datagrams.
+//! What the client hears of datagrams, and of its links.
 
-ghost use Rattle.std.specs.Prelude.{◌≡◌, ◌||◌, ◌∷◌, [], IfOk, if◌then◌else◌, ◌==◌, length};
+ghost use Rattle.std.specs.Prelude.{◌≡◌, ◌||◌, ◌∷◌, [], IsTrue, true, OnOk, IfOk};
 ghost use Rattle.std.specs.List.{flat_map};
 ghost use Rattle.unit_packets.specs.Cutting.{blocks_of};
 ghost use Rattle.pitch_model.specs.Datagrams.{block_messages};
 ghost use Rattle.unit_packets.specs.Packing.{bytes_in};
-ghost use Rattle.world_model.specs.Hearing.{HearsBlocks};
+ghost use Rattle.pitch_model.specs.Heard.{IsItem};
+ghost use Rattle.world_model.specs.Hearing.{HearsBlocks, HearsItems, IsTold};
 
-use client_core::UnitClient;
+use client_core::{UnitClient, images_of_bytes_are_images};
 use line_arbiter::Arbiter;
 use pitch_fields::OutOfMemory;
 use pitch_io::Line;
 use pitch_messages::ByteList;
+use pitch_model::Item;
 use unit_packets::{BlockView, view_block};
 
 // How many messages of a block count: none of an unsequenced one.
@@ -88,4 +90,37 @@ fn either(one: bool, other: bool) -> bool
     ensures { result ≡ (one || other) }
 {
     one || other
+}
+
+// Whether a link can tell the item.
+fn can_be_told(item: &Item) -> bool
+    ensures item { IsTrue result → IsItem item.now }
+    ensures told { IsTold item.now → result ≡ true }
+{
+    match item {
+        Item::Messages { .. } => false,
+        Item::Next { .. } => false,
+        _ => true,
+    }
+}
+
+// The client hears an item that a link told.
+fn hear_item(client: &mut UnitClient, item: &Item) -> Result<(), OutOfMemory>
+    ensures { OnOk result (HearsItems client.old client.new (item.now ∷ [])) }
+{
+    images_of_bytes_are_images();
+    if can_be_told(item) {
+        let _change = client.hear(item)?;
+    }
+    Ok(())
+}
+
+/// The client hears what a link told, one item after another.
+pub(crate) fn hear_told(client: &mut UnitClient, items: &[Item]) -> Result<(), OutOfMemory>
+    ensures { OnOk result (HearsItems client.old client.new items.now) }
+{
+    'told: for item in items {
+        hear_item(client, item)?;
+    }
+    Ok(())
 }

@@ -9,12 +9,18 @@ ghost use Rattle.world_model.specs.State.{State, datagrams_on};
 ghost use Rattle.world_model.specs.Verbs.{tick_outcome};
 
 use crate::grp::{GrpConnection, ask_through, is_shut, tick_link, tick_server};
-use crate::hearing::{hear_all, hear_datagram};
+use crate::hearing::{hear_all, hear_datagram, hear_told};
 use crate::limits::Limits;
 use crate::outcome::{Outcome, Printed};
 use crate::passed::Passed;
+use crate::pipe::carry_count;
 use crate::showing::{append_book, append_counts};
+use crate::spin::{
+    SpinConnection, ask_spin_server, is_spin_shut, tell_spin_server, tick_spin_link,
+    tick_spin_server,
+};
 use client_core::{UnitClient, keeping_lasts_while_a_venue_accepts};
+use client_links::ItemList;
 use gap_store::GapStore;
 use grp_session::GapBudget;
 use line_arbiter::Arbiter;
@@ -46,15 +52,16 @@ pub struct World {
     shelf: ImageShelf,
     client: UnitClient,
     arbiter: Arbiter,
-    // The connection with the proxy.
+    // The connections with the proxy and with the spin server.
     grp: Option<GrpConnection>,
+    spin: Option<SpinConnection>,
     begun: bool,
     // A step had no memory.
     failed: bool,
 }
 
 impl World {
-    ghost use Rattle.std.specs.Prelude.{◌≡◌, ◌≤◌, ◌++◌, ℕ, List, [], ◌∷◌, true, false, length, take, is_err, OnOk, OnErr, IfOk, IsErr};
+    ghost use Rattle.std.specs.Prelude.{◌≡◌, ◌≤◌, ◌++◌, ℕ, List, [], ◌∷◌, true, false, length, take, OnOk, OnErr, IfOk, IsErr};
     ghost use Rattle.client_core.specs.Tracks.{Tracks, Keeps};
     ghost use Rattle.pitch_text.specs.WellFormed.{IsVerb};
     ghost use Rattle.pitch_text.specs.declared.verb.Verb.{Verb as VerbSaid};
@@ -64,9 +71,10 @@ impl World {
     ghost use Rattle.pitch_model.specs.Datagrams.{IsPiece};
     ghost use Rattle.world_model.specs.State.{State, datagrams_on};
     ghost use Rattle.spin_path.specs.Paths.{HasWholeImages};
-    ghost use Rattle.world_model.specs.Stands.{WorldHas, WorldStands, AreLimits, Acts, Passes, has_failed};
+    ghost use Rattle.world_model.specs.Stands.{WorldHas, WorldStands, AreLimits, Acts, Passes, ClientTicks, has_failed};
+    ghost use Rattle.session_ends.specs.Events.{Ticked};
     ghost use Rattle.world_model.specs.declared.limits.Limits.{Limits as LimitsSaid};
-    ghost use Rattle.world_model.specs.Verbs.{state_of, does, set_up, commanded, flushed, beaten, delivered, rest_delivered, ticked, quoted, grp_connected, grp_cut, cut_on, grp_settled};
+    ghost use Rattle.world_model.specs.Verbs.{state_of, does, set_up, commanded, flushed, beaten, delivered, rest_delivered, ticked, quoted, grp_connected, grp_cut, cut_on, grp_settled, grp_up_on, grp_down_on, spin_connected, spin_cut, spin_settled, spin_up_on, spin_down_on, advertised, budget_ticks, grp_server_ticks, spin_server_has, gap_link_ticks, spin_link_ticks};
 
     /// The world of a unit with which nothing was done. Its limits are ones that an `open` line can
     /// set.
@@ -90,6 +98,7 @@ impl World {
             client: UnitClient::make(alloc, limits.hold)?,
             arbiter: Arbiter::make(),
             grp: None,
+            spin: None,
             begun: false,
             failed: false,
         })
@@ -106,7 +115,7 @@ impl World {
         // Whatever verbs were done before, the answer is what the definition prints of this one.
         ensures printed { IfOk result (λ p. (unit : ℕ) (limits : LimitsSaid) (done : List VerbSaid) → WorldStands self.old unit limits done
             → p ≡ printed unit limits verb.now (state_of unit limits done)) }
-        ensures failed { has_failed self.new ≡ is_err result }
+        ensures failed { OnErr result (has_failed self.new ≡ true) }
         ensures failed_before { has_failed self.old ≡ true → IsErr result }
     {
         if self.failed {
@@ -225,18 +234,45 @@ impl World {
                     let acted = self.connect_grp()?;
                     Ok(acted)
                 }
-                Session::Spin => Err(OutOfMemory),
+                Session::Spin => {
+                    let acted = self.connect_spin()?;
+                    Ok(acted)
+                }
             },
             Verb::Cut(session) => match session {
                 Session::Grp => {
                     let acted = self.cut_grp()?;
                     Ok(acted)
                 }
-                Session::Spin => Err(OutOfMemory),
+                Session::Spin => {
+                    let acted = self.cut_spin()?;
+                    Ok(acted)
+                }
             },
-            Verb::Up { .. } => Err(OutOfMemory),
-            Verb::Down { .. } => Err(OutOfMemory),
-            Verb::Advertise => Err(OutOfMemory),
+            Verb::Up { session, bytes } => match session {
+                Session::Grp => {
+                    let acted = self.up_grp(*bytes)?;
+                    Ok(acted)
+                }
+                Session::Spin => {
+                    let acted = self.up_spin(*bytes)?;
+                    Ok(acted)
+                }
+            },
+            Verb::Down { session, bytes } => match session {
+                Session::Grp => {
+                    let acted = self.down_grp(*bytes)?;
+                    Ok(acted)
+                }
+                Session::Spin => {
+                    let acted = self.down_spin(*bytes)?;
+                    Ok(acted)
+                }
+            },
+            Verb::Advertise => {
+                let acted = self.advertise()?;
+                Ok(acted)
+            }
         }
     }
 
@@ -376,16 +412,210 @@ impl World {
         Ok(())
     }
 
+    // Bytes are carried to the proxy.
+    fn up_grp(&mut self, bytes: Option<u32>) -> Result<Acted, OutOfMemory>
+        ensures { IfOk result (λ acted. (s : State) → WorldHas self.old s → Acts self.old self.new acted s (grp_up_on self.old.unit self.old.limits bytes s.grp s)) }
+    {
+        match &mut self.grp {
+            None => Ok(calm(Outcome::NotOpen)),
+            Some(c) => {
+                let has = c.up_count();
+                match carry_count(bytes, has) {
+                    Err(asked) => Ok(calm(Outcome::TooFew {
+                        asked,
+                        has: has as u64,
+                    })),
+                    Ok(count) => {
+                        c.carry_up(count, &mut self.budget, &mut self.store, &mut self.replayed)?;
+                        Ok(calm(Outcome::Carried {
+                            bytes: count as u64,
+                        }))
+                    }
+                }
+            }
+        }
+    }
+
+    // Bytes are carried to the client from the proxy.
+    fn down_grp(&mut self, bytes: Option<u32>) -> Result<Acted, OutOfMemory>
+        ensures { IfOk result (λ acted. (s : State) → WorldHas self.old s → Acts self.old self.new acted s (grp_down_on bytes s.grp s)) }
+    {
+        match &mut self.grp {
+            None => Ok(calm(Outcome::NotOpen)),
+            Some(c) => {
+                let has = c.down_count();
+                match carry_count(bytes, has) {
+                    Err(asked) => Ok(calm(Outcome::TooFew {
+                        asked,
+                        has: has as u64,
+                    })),
+                    Ok(count) => {
+                        let mut items = ItemList::make(self.alloc);
+                        c.carry_down(count, &mut items)?;
+                        hear_told(&mut self.client, items.as_slice())?;
+                        self.drop_shut_grp()?;
+                        Ok(calm(Outcome::Carried {
+                            bytes: count as u64,
+                        }))
+                    }
+                }
+            }
+        }
+    }
+
+    // A new connection with the spin server.
+    fn connect_spin(&mut self) -> Result<Acted, OutOfMemory>
+        ensures { IfOk result (λ acted. (s : State) → WorldHas self.old s → Acts self.old self.new acted s (spin_connected self.old.unit s.spin s)) }
+    {
+        match self.spin {
+            Some(_) => Ok(calm(Outcome::AlreadyOpen)),
+            None => {
+                let c = SpinConnection::make(self.alloc, self.unit)?;
+                self.spin = Some(c);
+                Ok(calm(Outcome::Opened))
+            }
+        }
+    }
+
+    // The connection with the spin server ends, and the client hears it.
+    fn drop_spin(&mut self) -> Result<(), OutOfMemory>
+        ensures { OnOk result ((s : State) → WorldHas self.old s → Passes self.old self.new s (spin_cut s)) }
+    {
+        let _change = self.client.hear(&Item::SpinDown)?;
+        self.spin = None;
+        Ok(())
+    }
+
+    // The connection with the spin server is cut.
+    fn cut_spin(&mut self) -> Result<Acted, OutOfMemory>
+        ensures { IfOk result (λ acted. (s : State) → WorldHas self.old s → Acts self.old self.new acted s (cut_on s.spin (spin_cut s) s)) }
+    {
+        match self.spin {
+            None => Ok(calm(Outcome::NotOpen)),
+            Some(_) => {
+                self.drop_spin()?;
+                Ok(calm(Outcome::Cut))
+            }
+        }
+    }
+
+    // The connection with the spin server ends where the client's end of it is closed.
+    #[tactic(auto, using(crate::proofs::SpinActing::passes_spin_where, crate::proofs::SpinActing::passes_spin_still))]
+    fn drop_shut_spin(&mut self) -> Result<(), OutOfMemory>
+        ensures { OnOk result ((s : State) → WorldHas self.old s → Passes self.old self.new s (spin_settled self.old.unit s)) }
+    {
+        if is_spin_shut(&self.spin) {
+            self.drop_spin()?;
+        }
+        Ok(())
+    }
+
+    // Bytes are carried to the spin server.
+    fn up_spin(&mut self, bytes: Option<u32>) -> Result<Acted, OutOfMemory>
+        ensures { IfOk result (λ acted. (s : State) → WorldHas self.old s → Acts self.old self.new acted s (spin_up_on self.old.unit bytes s.spin s)) }
+    {
+        match &mut self.spin {
+            None => Ok(calm(Outcome::NotOpen)),
+            Some(c) => {
+                let has = c.up_count();
+                match carry_count(bytes, has) {
+                    Err(asked) => Ok(calm(Outcome::TooFew {
+                        asked,
+                        has: has as u64,
+                    })),
+                    Ok(count) => {
+                        c.carry_up(count, &mut self.shelf)?;
+                        Ok(calm(Outcome::Carried {
+                            bytes: count as u64,
+                        }))
+                    }
+                }
+            }
+        }
+    }
+
+    // Bytes are carried to the client from the spin server.
+    fn down_spin(&mut self, bytes: Option<u32>) -> Result<Acted, OutOfMemory>
+        ensures { IfOk result (λ acted. (s : State) → WorldHas self.old s → Acts self.old self.new acted s (spin_down_on self.old.unit bytes s.spin s)) }
+    {
+        match &mut self.spin {
+            None => Ok(calm(Outcome::NotOpen)),
+            Some(c) => {
+                let has = c.down_count();
+                match carry_count(bytes, has) {
+                    Err(asked) => Ok(calm(Outcome::TooFew {
+                        asked,
+                        has: has as u64,
+                    })),
+                    Ok(count) => {
+                        let mut items = ItemList::make(self.alloc);
+                        c.carry_down(count, &mut items)?;
+                        hear_told(&mut self.client, items.as_slice())?;
+                        self.drop_shut_spin()?;
+                        Ok(calm(Outcome::Carried {
+                            bytes: count as u64,
+                        }))
+                    }
+                }
+            }
+        }
+    }
+
+    // The image of all messages is advertised, and the spin server is told.
+    fn advertise(&mut self) -> Result<Acted, OutOfMemory>
+        ensures { IfOk result (λ acted. (s : State) → WorldHas self.old s → Acts self.old self.new acted s (advertised self.old.unit s)) }
+    {
+        let sequence = self.shelf.advertise()?;
+        tell_spin_server(&mut self.spin, sequence)?;
+        Ok(calm(Outcome::Advertised { sequence }))
+    }
+
+    // A second passes for the proxy and the spin server.
+    fn tick_servers(&mut self) -> Result<(), OutOfMemory>
+        ensures { OnOk result ((s : State) → WorldHas self.old s → Passes self.old self.new s (spin_server_has self.old.unit Ticked (grp_server_ticks self.old.unit (budget_ticks s)))) }
+    {
+        self.budget.tick();
+        tick_server(&mut self.grp)?;
+        tick_spin_server(&mut self.spin)?;
+        Ok(())
+    }
+
+    // A second passes at the client's end of the connection with the proxy.
+    fn tick_gap_link(&mut self) -> Result<(), OutOfMemory>
+        ensures { OnOk result ((s : State) → WorldHas self.old s → Passes self.old self.new s (gap_link_ticks s)) }
+    {
+        tick_link(&mut self.grp)?;
+        self.drop_shut_grp()?;
+        Ok(())
+    }
+
+    // A second passes at the client's end of the connection with the spin server.
+    fn tick_spin_end(&mut self) -> Result<(), OutOfMemory>
+        ensures { OnOk result ((s : State) → WorldHas self.old s → Passes self.old self.new s (spin_link_ticks self.old.unit s)) }
+    {
+        tick_spin_link(&mut self.spin)?;
+        self.drop_shut_spin()?;
+        Ok(())
+    }
+
+    // A second passes for the client, and what it asks for is sent.
+    fn tick_client(&mut self) -> Result<Option<Ask>, OutOfMemory>
+        ensures { IfOk result (λ ask. (s : State) → WorldHas self.old s → ClientTicks self.old self.new ask s) }
+    {
+        let ask = self.client.tick();
+        ask_through(&mut self.grp, self.unit, ask)?;
+        ask_spin_server(&mut self.spin, ask)?;
+        Ok(ask)
+    }
+
     // A second passes.
     fn tick(&mut self) -> Result<Acted, OutOfMemory>
         ensures { IfOk result (λ acted. (s : State) → WorldHas self.old s → Acts self.old self.new acted s (ticked self.old.unit self.old.limits s)) }
     {
-        self.budget.tick();
-        tick_server(&mut self.grp)?;
-        tick_link(&mut self.grp)?;
-        self.drop_shut_grp()?;
-        let ask = self.client.tick();
-        ask_through(&mut self.grp, self.unit, ask)?;
+        self.tick_servers()?;
+        self.tick_gap_link()?;
+        self.tick_spin_end()?;
+        let ask = self.tick_client()?;
         Ok(calm(tick_outcome(ask)))
     }
 

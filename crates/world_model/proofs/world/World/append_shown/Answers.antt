@@ -15,7 +15,7 @@ returns-clause-shown c =
     let counts : List ℕ = counts_text c.counts-a.result c.counts-b.result c.counts-gap.result in
     on_ok_map (c.append_counts.new.out.items ≡ c.append_book.new.out.items ++ counts) ((s : State) → WorldHas w s → c.append_counts.new.out.items ≡ old ++ shown_state w.unit w.limits s) c.append_counts.result c.append_counts.ensures.ok
     (λ given s has. given ∙ ap (λ (t : List ℕ). t ++ counts) c.in_ok-append_book.ensures.ok ∙ append_assoc old text counts
-    ∙ ap (λ (t : List ℕ). old ++ t) (shown_is w.unit w.limits s c.reach.result book c.counts-a.result c.counts-b.result c.counts-gap.result (c.reach.ensures w.limits.hold s.heard has.tracks)
+    ∙ ap (λ (t : List ℕ). old ++ t) (shown_is w.unit w.limits s c.reach.result book c.counts-a.result c.counts-b.result c.counts-gap.result (c.reach.ensures.reach w.limits.hold s.heard has.tracks)
     (c.book.ensures.book w.limits.hold s.heard s.accepted has.tracks has.keeps) (c.counts-a.ensures s.notes has.noted) (c.counts-b.ensures s.notes has.noted) (c.counts-gap.ensures s.notes has.noted)))
 
 pub returns-clause-behind : goal.returns-clause-behind

@@ -20,7 +20,7 @@ returns-clause-stands c = record {
     keeps = c.in_ok-make-2.ensures.keeps [];
     noted = c.make-8.ensures;
     grp = tt;
-    no_spin = refl;
+    spin = tt;
     sound = record { sent = tt; replayed = tt; witness = none_heard c.args.unit (search rules) };
   };
 }
