@@ -31,13 +31,17 @@ pub record AreAllWorlds (before : List ScheduleEntry) (worlds : List World) : Ty
   pub all : (unit : ℕ) → IsNamed before unit → is_member nat_eq units unit ≡ true
   pub each : AreWorldsOf before units worlds
 
--- the worlds of all units that a schedule's text names were put at the end of a list
-pub record AddsWorlds (text : List ℕ) (old new : List World) : Type 0 where
+-- worlds were run through the whole of a schedule: they are those of all units that its text names
+pub record AreRunThrough (text : List ℕ) (worlds : List World) : Type 0 where
   pub entries : List ScheduleEntry
   pub read : schedule_of text ≡ Ok entries
+  pub are : AreAllWorlds (reverse entries) worlds
+
+-- worlds that were run through a schedule were put at the end of a list
+pub record AddsWorlds (text : List ℕ) (old new : List World) : Type 0 where
   pub added : List World
   pub appended : new ≡ old ++ added
-  pub worlds : AreAllWorlds (reverse entries) added
+  pub run : AreRunThrough text added
 
 -- ---- The places of the worlds while lines are done
 

@@ -14,9 +14,7 @@ returns-clause-worlds c =
     let are : c.into_vec.result.items ≡ added = c.into_vec.ensures ∙ c.in_ok-added.ensures in
     on_ok_map (new ≡ old ++ c.into_vec.result.items) (AddsWorlds c.args.text.now old new) c.append.result c.append.ensures.ok
     (λ appended. record {
-      entries = runs.entries;
-      read = runs.read;
       added = added;
       appended = appended ∙ ap (λ (l : List World). old ++ l) are;
-      worlds = all_worlds_are c.run_text.new.places.items (reverse runs.entries) runs.are;
+      run = record { entries = runs.entries; read = runs.read; are = all_worlds_are c.run_text.new.places.items (reverse runs.entries) runs.are };
     })
