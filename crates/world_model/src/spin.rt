@@ -115,7 +115,11 @@ impl SpinConnection {
     }
 
     /// Carries so many bytes to the server, and then lets it send its image to the end.
-    pub(crate) fn carry_up(&mut self, count: usize, shelf: &mut ImageShelf) -> Result<(), OutOfMemory>
+    pub(crate) fn carry_up(
+        &mut self,
+        count: usize,
+        shelf: &mut ImageShelf,
+    ) -> Result<(), OutOfMemory>
         requires { count ≤ length self.old.up.items }
         ensures fed { OnOk result ((unit : ℕ) (s : State) (k : Connection (List Served)) → IsSpin self.old unit k → KeepsShelf shelf.old s.accepted s.advertised
             → IsSpin self.new unit (sent_whole unit (at_spin_server unit (Fed (take count (waiting k.up)) (views_of s k.server (take count (waiting k.up)))) (with_up (took count k.up) k)))) }
@@ -128,7 +132,11 @@ impl SpinConnection {
     }
 
     /// Carries so many bytes to the client, and appends what they tell it.
-    pub(crate) fn carry_down(&mut self, count: usize, items: &mut ItemList) -> Result<(), OutOfMemory>
+    pub(crate) fn carry_down(
+        &mut self,
+        count: usize,
+        items: &mut ItemList,
+    ) -> Result<(), OutOfMemory>
         requires { count ≤ length self.old.down.items }
         ensures stands { OnOk result ((unit : ℕ) (k : Connection (List Served)) → IsSpin self.old unit k
             → IsSpin self.new unit (at_link (spin_link unit) (Fed (take count (waiting k.down)) NoLookup) (with_down (took count k.down) k))) }

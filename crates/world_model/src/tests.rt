@@ -109,10 +109,7 @@ fn does(rt: &impl Abort, alloc: Global, world: &mut World, case: &Case) -> Resul
 
 #[test]
 fn a_gap_is_filled_by_the_proxy(rt: HostRuntime) -> Result<(), Fail> {
-    let mut world = World::make(rt.alloc(), 1, LIMITS)?;
-    for case in &GAP {
-        assert!(rt; !does(&rt, rt.alloc(), &mut world, case)?);
-    }
+    let world = run(&rt, rt.alloc(), &GAP)?;
     assert!(rt; world.datagrams(Line::A).len() == 3);
     assert!(rt; world.datagrams(Line::Gap).len() == 1);
     assert!(rt; world.client().book().len() == 3);
@@ -161,10 +158,7 @@ const OVERFLOW: [Case; 12] = [
 
 #[test]
 fn a_hold_overflows(rt: HostRuntime) -> Result<(), Fail> {
-    let mut world = World::make(rt.alloc(), 1, LIMITS)?;
-    for case in &OVERFLOW {
-        assert!(rt; !does(&rt, rt.alloc(), &mut world, case)?);
-    }
+    let mut world = run(&rt, rt.alloc(), &OVERFLOW)?;
     let behind = Status::Behind { n: 0, top: 4 };
     let last = ("1 a 4", Outcome::Heard { datagrams: 1 }, behind);
     assert!(rt; does(&rt, rt.alloc(), &mut world, &last)?);
@@ -188,10 +182,188 @@ fn a_hold_overflows(rt: HostRuntime) -> Result<(), Fail> {
     Ok(())
 }
 
+// An image is cut off in its middle, and asked for again over a new connection.
+const CUT: [Case; 25] = [
+    (
+        "1 add 1 B 10 IBM 10.00",
+        Outcome::Accepted { sequence: 1 },
+        SILENT,
+    ),
+    (
+        "1 add 2 B 10 IBM 10.00",
+        Outcome::Accepted { sequence: 2 },
+        SILENT,
+    ),
+    (
+        "1 add 3 B 10 IBM 10.00",
+        Outcome::Accepted { sequence: 3 },
+        SILENT,
+    ),
+    (
+        "1 add 4 B 10 IBM 10.00",
+        Outcome::Accepted { sequence: 4 },
+        SILENT,
+    ),
+    ("1 flush", Outcome::Sent { datagrams: 1 }, SILENT),
+    ("1 spin open", Outcome::Opened, SILENT),
+    ("1 spin up all", Outcome::Carried { bytes: 30 }, SILENT),
+    ("1 advertise", Outcome::Advertised { sequence: 4 }, SILENT),
+    (
+        "1 spin down all",
+        Outcome::Carried { bytes: 25 },
+        Status::Behind { n: 0, top: 4 },
+    ),
+    (
+        "1 add 5 S 10 IBM 11.00",
+        Outcome::Accepted { sequence: 5 },
+        Status::Behind { n: 0, top: 4 },
+    ),
+    (
+        "1 flush",
+        Outcome::Sent { datagrams: 1 },
+        Status::Behind { n: 0, top: 4 },
+    ),
+    (
+        "1 a 2",
+        Outcome::Heard { datagrams: 1 },
+        Status::Behind { n: 0, top: 5 },
+    ),
+    (
+        "1 tick",
+        Outcome::Asked(Ask::Spin { sequence: 4 }),
+        Status::Behind { n: 0, top: 5 },
+    ),
+    (
+        "1 spin up all",
+        Outcome::Carried { bytes: 14 },
+        Status::Behind { n: 0, top: 5 },
+    ),
+    (
+        "1 spin down 200",
+        Outcome::TooFew {
+            asked: 200,
+            has: 145,
+        },
+        Status::Behind { n: 0, top: 5 },
+    ),
+    (
+        "1 spin down 60",
+        Outcome::Carried { bytes: 60 },
+        Status::Behind { n: 0, top: 5 },
+    ),
+    ("1 spin cut", Outcome::Cut, Status::Behind { n: 0, top: 5 }),
+    (
+        "1 spin cut",
+        Outcome::NotOpen,
+        Status::Behind { n: 0, top: 5 },
+    ),
+    (
+        "1 spin open",
+        Outcome::Opened,
+        Status::Behind { n: 0, top: 5 },
+    ),
+    (
+        "1 spin open",
+        Outcome::AlreadyOpen,
+        Status::Behind { n: 0, top: 5 },
+    ),
+    (
+        "1 spin up all",
+        Outcome::Carried { bytes: 30 },
+        Status::Behind { n: 0, top: 5 },
+    ),
+    (
+        "1 spin down all",
+        Outcome::Carried { bytes: 25 },
+        Status::Behind { n: 0, top: 5 },
+    ),
+    (
+        "1 tick",
+        Outcome::Asked(Ask::Spin { sequence: 4 }),
+        Status::Behind { n: 0, top: 5 },
+    ),
+    (
+        "1 spin up all",
+        Outcome::Carried { bytes: 14 },
+        Status::Behind { n: 0, top: 5 },
+    ),
+    (
+        "1 spin down all",
+        Outcome::Carried { bytes: 145 },
+        Status::Current { n: 5 },
+    ),
+];
+
+// The lines bring everything before the image comes.
+const STALE: [Case; 13] = [
+    (
+        "1 add 1 B 10 IBM 10.00",
+        Outcome::Accepted { sequence: 1 },
+        SILENT,
+    ),
+    ("1 flush", Outcome::Sent { datagrams: 1 }, SILENT),
+    (
+        "1 add 2 B 10 IBM 10.00",
+        Outcome::Accepted { sequence: 2 },
+        SILENT,
+    ),
+    ("1 flush", Outcome::Sent { datagrams: 1 }, SILENT),
+    ("1 spin open", Outcome::Opened, SILENT),
+    ("1 spin up all", Outcome::Carried { bytes: 30 }, SILENT),
+    ("1 advertise", Outcome::Advertised { sequence: 2 }, SILENT),
+    (
+        "1 spin down all",
+        Outcome::Carried { bytes: 25 },
+        Status::Behind { n: 0, top: 2 },
+    ),
+    (
+        "1 tick",
+        Outcome::Asked(Ask::Spin { sequence: 2 }),
+        Status::Behind { n: 0, top: 2 },
+    ),
+    (
+        "1 spin up all",
+        Outcome::Carried { bytes: 14 },
+        Status::Behind { n: 0, top: 2 },
+    ),
+    (
+        "1 a 1",
+        Outcome::Heard { datagrams: 1 },
+        Status::Behind { n: 1, top: 2 },
+    ),
+    (
+        "1 a 2",
+        Outcome::Heard { datagrams: 1 },
+        Status::Current { n: 2 },
+    ),
+    (
+        "1 spin down all",
+        Outcome::Carried { bytes: 93 },
+        Status::Current { n: 2 },
+    ),
+];
+
+// Does each line of a table in a new world.
+fn run(rt: &impl Abort, alloc: Global, cases: &[Case]) -> Result<World, Fail> {
+    let mut world = World::make(alloc, 1, LIMITS)?;
+    for case in cases {
+        assert!(rt; !does(rt, alloc, &mut world, case)?);
+    }
+    Ok(world)
+}
+
+#[test]
+fn images_are_carried(rt: HostRuntime) -> Result<(), Fail> {
+    let joined = run(&rt, rt.alloc(), &CUT)?;
+    assert!(rt; joined.client().book().len() == 5);
+    let current = run(&rt, rt.alloc(), &STALE)?;
+    assert!(rt; current.client().book().len() == 2);
+    Ok(())
+}
+
 // The best prices of a symbol.
 #[test]
 fn prices_are_quoted(rt: HostRuntime) -> Result<(), Fail> {
-    let mut world = World::make(rt.alloc(), 1, LIMITS)?;
     let quote = Outcome::Quoted {
         bid: Some((Price::from_long(101_000), 30)),
         offer: None,
@@ -217,8 +389,6 @@ fn prices_are_quoted(rt: HostRuntime) -> Result<(), Fail> {
         ("1 b rest", Outcome::Heard { datagrams: 1 }, current),
         ("1 quote IBM", quote, current),
     ];
-    for case in &cases {
-        assert!(rt; !does(&rt, rt.alloc(), &mut world, case)?);
-    }
+    let _world = run(&rt, rt.alloc(), &cases)?;
     Ok(())
 }
