@@ -10,15 +10,21 @@ use pitch_fields::OutOfMemory;
 use std::alloc::Global;
 use unit_packets::DatagramList;
 
+/// What a gap request asks for: so many messages of a unit, from a sequence on.
+#[derive(Clone, Copy)]
+pub(crate) struct GapRange {
+    pub unit: u8,
+    pub first: u32,
+    pub count: u16,
+}
+
 // How a gap request of this unit is answered, where there is a gap source or not. One that is
 // accepted counts, and its messages are packed onto the gap line. While a limit is reached none can
 // be, so the range is only looked for.
 pub(crate) fn ask<L: GapLookup>(
     alloc: Global,
-    unit: u8,
     there: bool,
-    sequence: u32,
-    count: u16,
+    range: GapRange,
     budget: &mut GapBudget,
     lookup: &mut L,
     gap_line: &mut DatagramList,
@@ -26,25 +32,25 @@ pub(crate) fn ask<L: GapLookup>(
     ensures same { L.still ≡ true → lookup.new ≡ lookup.old }
     // Of what was spent, and of every view that the source shows before.
     ensures asked { IfOk result (λ status. (spent : Spent) (view : View) → Counted budget.old spent → L.shows lookup.old view
-        → IsAsked unit there budget.old.limits sequence count spent view status (Counted budget.new) (L.shows lookup.new) (bytes_in gap_line.old.items) (bytes_in gap_line.new.items)) }
+        → IsAsked range.unit there budget.old.limits range.first range.count spent view status (Counted budget.new) (L.shows lookup.new) (bytes_in gap_line.old.items) (bytes_in gap_line.new.items)) }
     ensures limits { budget.new.limits ≡ budget.old.limits }
 {
     if !there {
         return Ok(b'U');
     }
-    if count > 100 {
+    if range.count > 100 {
         return Ok(b'C');
     }
-    if count == 0 || sequence == 0 {
+    if range.count == 0 || range.first == 0 {
         return Ok(b'O');
     }
     match budget.limit_reached() {
-        Some(status) => match lookup.find(sequence, count)? {
+        Some(status) => match lookup.find(range.first, range.count)? {
             Found::Ahead { .. } => Ok(b'O'),
             Found::NotKept { .. } => Ok(b'O'),
             Found::Kept => Ok(status),
         },
-        None => match lookup.pack(alloc, unit, sequence, count, gap_line)? {
+        None => match lookup.pack(alloc, range.unit, range.first, range.count, gap_line)? {
             Found::Ahead { last: _ } => Ok(b'O'),
             Found::NotKept { first: _ } => Ok(b'O'),
             Found::Kept => {

@@ -14,7 +14,7 @@ ghost use Rattle.grp_session.specs.Budget.{Spent, Counted};
 ghost use Rattle.grp_session.specs.Lent.{OnLent, OnNone, Left};
 ghost use Rattle.grp_session.specs.Serving.{Source, request_answer, message_answer, said_answer, grp_answer, grp_sends, ProxyStands, ProxyFeeds};
 
-use crate::asking::ask;
+use crate::asking::{GapRange, ask};
 use crate::budget::GapBudget;
 use gap_store::{Found, GapLookup};
 use pitch_fields::OutOfMemory;
@@ -124,19 +124,17 @@ impl GrpServer {
     // Appends the reply to a gap request.
     fn put_status(
         &self,
-        unit: u8,
-        sequence: u32,
-        count: u16,
+        range: GapRange,
         status: u8,
         reply: &mut Vec<u8>,
     ) -> Result<(), OutOfMemory>
-        ensures { OnOk result (reply.new.items ≡ reply.old.items ++ sent_bytes self.now.setup (GapReply unit sequence count status)) }
+        ensures { OnOk result (reply.new.items ≡ reply.old.items ++ sent_bytes self.now.setup (GapReply range.unit range.first range.count status)) }
     {
         self.end.put(
             &SessionMessage::GapReply {
-                unit,
-                sequence,
-                count,
+                unit: range.unit,
+                sequence: range.first,
+                count: range.count,
                 status,
             },
             reply,
@@ -147,9 +145,7 @@ impl GrpServer {
     fn answer_request<L: GapLookup>(
         &self,
         there: bool,
-        unit: u8,
-        sequence: u32,
-        count: u16,
+        range: GapRange,
         budget: &mut GapBudget,
         lookup: &mut L,
         reply: &mut Vec<u8>,
@@ -158,17 +154,15 @@ impl GrpServer {
         ensures same { L.still ≡ true → lookup.new ≡ lookup.old }
         ensures limits { budget.new.limits ≡ budget.old.limits }
         ensures hears { OnOk result ((spent : Spent) (view : View) → Counted budget.old spent → L.shows lookup.old view
-            → Hears (λ v. request_answer self.now.setup there budget.old.limits v spent unit sequence count) IsLater view (Counted budget.new) (L.shows lookup.new)
+            → Hears (λ v. request_answer self.now.setup there budget.old.limits v spent range.unit range.first range.count) IsLater view (Counted budget.new) (L.shows lookup.new)
             reply.old.items reply.new.items (bytes_in gap_line.old.items) (bytes_in gap_line.new.items)) }
     {
-        if unit != self.end.unit() {
-            self.put_status(unit, sequence, count, b'I', reply)?;
+        if range.unit != self.end.unit() {
+            self.put_status(range, b'I', reply)?;
             return Ok(());
         }
-        let status = ask(
-            self.alloc, unit, there, sequence, count, budget, lookup, gap_line,
-        )?;
-        self.put_status(unit, sequence, count, status, reply)?;
+        let status = ask(self.alloc, there, range, budget, lookup, gap_line)?;
+        self.put_status(range, status, reply)?;
         Ok(())
     }
 
@@ -205,9 +199,12 @@ impl GrpServer {
                 if !self.end.logged() {
                     return Ok(());
                 }
-                self.answer_request(
-                    there, *unit, *sequence, *count, budget, lookup, reply, gap_line,
-                )?;
+                let range = GapRange {
+                    unit: *unit,
+                    first: *sequence,
+                    count: *count,
+                };
+                self.answer_request(there, range, budget, lookup, reply, gap_line)?;
                 Ok(())
             }
             SessionMessage::LoginReply { .. } => Ok(()),
