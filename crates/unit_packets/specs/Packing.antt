@@ -2,7 +2,7 @@
 use Rattle.std.specs.Prelude.{◌≡◌, ℕ, ◌+◌, ◌≤◌, ◌<◌, Bool, ◌&&◌, nat_le, nat_eq, List, [], ◌∷◌, ◌++◌, length, map, if◌then◌else◌}
 use Rattle.std.specs.List.{concat}
 use Rattle.pitch_messages.specs.Room.{Roomy}
-use Rattle.unit_packets.specs.Blocks.{most_messages, IsBlock, StaysWithin}
+use Rattle.unit_packets.specs.Blocks.{most_messages, IsBlock}
 use Rattle.unit_packets.specs.BlockBytes.{block_bytes}
 
 -- the most bytes of a datagram that a packer makes
