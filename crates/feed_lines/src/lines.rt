@@ -33,8 +33,8 @@ fn put_block_head(out: &mut [u8], at: usize, number: u64, header: Header) -> usi
     put_number(out, count, u64::from(header.count))
 }
 
-// Writes a status.
-fn put_status(out: &mut [u8], at: usize, status: Status) -> usize
+/// Writes a status.
+pub fn put_status(out: &mut [u8], at: usize, status: Status) -> usize
     requires { at + 60 ≤ length out.old }
     ensures end { result ≤ at + 60 }
     ensures text { take result out.new ≡ take at out.old ++ status_text status }
@@ -55,8 +55,8 @@ fn put_status(out: &mut [u8], at: usize, status: Status) -> usize
     }
 }
 
-// Writes that the hold overflowed.
-fn put_overflow(out: &mut [u8], at: usize, overflow: bool) -> usize
+/// Writes that the hold overflowed, where it did.
+pub fn put_overflow(out: &mut [u8], at: usize, overflow: bool) -> usize
     requires { at + 9 ≤ length out.old }
     ensures end { result ≤ at + 9 }
     ensures text { take result out.new ≡ take at out.old ++ overflow_text overflow }
