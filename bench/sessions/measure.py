@@ -197,7 +197,7 @@ def build(top, scratch):
 
 
 def cost(program, words):
-    """The processor time of a run in seconds, and the most memory that any run so far took."""
+    """The processor time of a run, in seconds."""
     before = resource.getrusage(resource.RUSAGE_CHILDREN)
     subprocess.run([program, *words], check=True)
     after = resource.getrusage(resource.RUSAGE_CHILDREN)
