@@ -1,5 +1,5 @@
 -- What carrying bytes does to a connection.
-use Rattle.std.proofs.Common.{◌≡◌, ℕ, zero, suc, ◌+◌, ◌-◌, ◌≤◌, Bool, true, false, Option, Some, None, is_some, List, [], ◌∷◌, ◌++◌, length, take, drop, replicate, refl, sym, ap, ◌∙◌, subst, arith, length-append, append_assoc}
+use Rattle.std.proofs.Common.{◌≡◌, ℕ, ◌-◌, ◌≤◌, Bool, true, false, Option, Some, None, is_some, List, [], ◌++◌, length, take, drop, replicate, refl, sym, ap, ◌∙◌, subst, arith, length-append}
 use Rattle.std.proofs.lemmas.List.{drop-append-le, length-drop}
 use Rattle.std.proofs.Math.Seq.{drop-drop}
 use Rattle.std.specs.Option.{option_map}
@@ -16,7 +16,7 @@ use Rattle.client_links.specs.Linking.{LinkStands}
 use Rattle.world_model.specs.Connections.{IsPipe, IsGrp, HasGrp, CarriedUp}
 use Rattle.world_model.specs.Ends.{grp_server, grp_says}
 use Rattle.world_model.specs.State.{State, Connection, Pipe, waiting}
-use Rattle.world_model.specs.Verbs.{put_in, took, with_up, at_grp_server, source_of, shut}
+use Rattle.world_model.specs.Verbs.{put_in, took, source_of, shut}
 use Rattle.world_model.specs.declared.limits.Limits.{Limits}
 use Rattle.world_model.specs.declared.grp.GrpConnection.{GrpConnection}
 

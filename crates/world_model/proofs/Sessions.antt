@@ -1,20 +1,17 @@
 -- Bytes are carried between the client and the proxy.
-use Rattle.std.proofs.Common.{◌≡◌, ℕ, suc, ◌+◌, ◌-◌, ◌≤◌, ◌<◌, Bool, true, false, cond, ltb, nat_lt, ◌||◌, List, [], ◌∷◌, ◌++◌, length, take, map, refl, sym, ap, ◌∙◌, subst, arith, Option, Some, None, unwrap_or}
-use Rattle.std.specs.List.{AllByRecursion}
-use Rattle.std.proofs.lemmas.Bool.{lt-ltb}
+use Rattle.std.proofs.Common.{◌≡◌, ℕ, ◌≤◌, ◌<◌, Bool, true, false, cond, nat_lt, List, [], ◌∷◌, ◌++◌, length, take, map, refl, sym, ap, ◌∙◌, subst, arith, Option, Some, None, unwrap_or}
 use Rattle.std.proofs.lemmas.Bool.Decides.{nat_tests}
 use Rattle.pitch_messages.specs.Room.{Roomy}
 use Rattle.unit_packets.specs.Packing.{bytes_in}
 use Rattle.pitch_model.specs.Heard.{heard}
-use Rattle.pitch_model.specs.History.{Entry, Raw}
+use Rattle.pitch_model.specs.History.{Entry}
 use Rattle.pitch_model.specs.Honest.{Honest}
 use Rattle.pitch_model.specs.Image.{image}
 use Rattle.pitch_model.specs.declared.item.Item.{Item}
 use Rattle.pitch_model.specs.declared.item.Item.TheVariants as item
-use Rattle.session_ends.specs.Events.{Event, Fed}
-use Rattle.gap_store.specs.Look.{Store, View, store_of}
+use Rattle.session_ends.specs.Events.{Fed}
+use Rattle.gap_store.specs.Look.{Store, store_of}
 use Rattle.grp_session.specs.Budget.{Counts, Counted}
-use Rattle.grp_session.specs.Budget as budget
 use Rattle.grp_session.specs.Serving.{Source, proxy_answer}
 use Rattle.spin_server.specs.Served.{Served}
 use Rattle.client_core.specs.Tracks.{Tracks, Keeps}
@@ -26,10 +23,9 @@ use Rattle.spin_path.proofs.Moves.{spare_is_unheard}
 use Rattle.world_model.specs.Connections.{IsGrp, HasGrp, HasSpin, CarriedUp}
 use Rattle.world_model.specs.Ends.{grp_server, gap_link}
 use Rattle.world_model.specs.Hearing.{HearsItems, IsTold}
-use Rattle.world_model.specs.Sound.{Sound}
-use Rattle.world_model.specs.Stands.{WorldHas, Keeping, Acts, Marks, Passes}
+use Rattle.world_model.specs.Stands.{WorldHas, Acts, Marks, Passes}
 use Rattle.world_model.specs.State.{State, Connection, Pipe, waiting}
-use Rattle.world_model.specs.Verbs.{done, grp_up_on, grp_down_on, grp_fed, gap_link_fed, grp_settled, carried, wanted, at_link, at_grp_server, source_of, took, with_up, with_down}
+use Rattle.world_model.specs.Verbs.{done, grp_up_on, grp_down_on, grp_fed, gap_link_fed, grp_settled, carried, wanted, at_link, source_of, took, with_up, with_down}
 use Rattle.world_model.specs.Witness.{Witnessed}
 use Rattle.world_model.specs.declared.grp.GrpConnection.{GrpConnection}
 use Rattle.world_model.specs.declared.spin.SpinConnection.{SpinConnection}

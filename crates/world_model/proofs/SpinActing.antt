@@ -1,5 +1,5 @@
 -- What the verbs of the spin connection do to a world.
-use Rattle.std.proofs.Common.{◌≡◌, ℕ, zero, suc, ◌+◌, ◌≤◌, ◌<◌, Bool, true, false, List, [], ◌∷◌, ◌++◌, length, take, map, replicate, Option, Some, None, unwrap_or, refl, sym, ap, ◌∙◌, subst, arith}
+use Rattle.std.proofs.Common.{◌≡◌, ℕ, zero, suc, ◌≤◌, ◌<◌, Bool, true, false, List, [], ◌∷◌, ◌++◌, length, take, map, replicate, Option, Some, None, unwrap_or, refl, sym, ap, ◌∙◌, subst, arith}
 use Rattle.std.specs.List.{AllByRecursion}
 use Rattle.std.specs.Option.{option_map}
 use Rattle.std.proofs.lemmas.List.{append-nil}
@@ -12,7 +12,7 @@ use Rattle.pitch_model.specs.Image.{image}
 use Rattle.pitch_model.proofs.Images.{image_book}
 use Rattle.pitch_model.specs.declared.item.Item.{Item}
 use Rattle.session_ends.specs.Answering.{Rises}
-use Rattle.session_ends.specs.Events.{Event, Fed, Told, Ticked}
+use Rattle.session_ends.specs.Events.{Event, Fed, Told}
 use Rattle.session_ends.specs.Sending.{new_items}
 use Rattle.session_ends.specs.declared.role.Role.TheVariants as roles
 use Rattle.spin_server.specs.Served.{Served, ServedLater}
@@ -30,8 +30,8 @@ use Rattle.world_model.specs.Connections.{IsSpin, HasSpin, KeepsShelf}
 use Rattle.world_model.specs.Ends.{the_account, spin_link}
 use Rattle.world_model.specs.Hearing.{HearsItems}
 use Rattle.world_model.specs.Stands.{WorldHas, Acts, Passes}
-use Rattle.world_model.specs.State.{State, Connection, Pipe, waiting}
-use Rattle.world_model.specs.Verbs.{done, spin_connected, connection, cut_on, spin_cut, spin_cut_where, spin_settled, spin_up_on, spin_down_on, spin_fed, spin_link_fed, spin_server_has, advertised, carried, wanted, at_link, at_spin_server, views_of, sent_whole, pumps, took, with_up, with_down}
+use Rattle.world_model.specs.State.{State, Connection, waiting}
+use Rattle.world_model.specs.Verbs.{spin_connected, connection, cut_on, spin_cut, spin_cut_where, spin_settled, spin_up_on, spin_down_on, spin_fed, spin_link_fed, advertised, wanted, at_link, at_spin_server, views_of, sent_whole, pumps, took, with_up, with_down}
 use Rattle.world_model.specs.Witness.{Witnessed}
 use Rattle.world_model.specs.declared.outcome.Outcome.TheVariants as outcome
 use Rattle.world_model.specs.declared.spin.SpinConnection.{SpinConnection}

@@ -33,7 +33,7 @@ pub(crate) fn account() -> Account
     }
 }
 
-/// The proxy's end and the client's end, and the bytes that wait between them.
+/// The proxy's end and the client's end, and the bytes that wait for each.
 #[derive(Drop)]
 pub(crate) struct GrpConnection {
     alloc: Global,
@@ -210,7 +210,8 @@ pub(crate) fn is_shut(grp: &Option<GrpConnection>) -> bool
     }
 }
 
-/// The client asks through the connection, where one stands. What is asked of the spin server does not go through it.
+/// The client asks the proxy through the connection, where one stands. What it asks of the spin
+/// server does not go through it.
 pub(crate) fn ask_through(
     grp: &mut Option<GrpConnection>,
     unit: u8,
