@@ -48,7 +48,7 @@ use Rattle.session_ends.specs.declared.role.Role.TheVariants as roles
 use Rattle.client_core.specs.Items.{IsImage}
 use Rattle.pitch_model.proofs.Images.{image_book}
 use Rattle.client_links.specs.Linking.{login_bytes}
-use Rattle.world_model.specs.Connections.{IsGrp, HasGrp, HasSpin}
+use Rattle.world_model.specs.Connections.{IsGrpConnection, HasGrp, HasSpin}
 use Rattle.world_model.specs.declared.grp.GrpConnection.{GrpConnection}
 use Rattle.world_model.specs.Ends.{the_account}
 use Rattle.world_model.specs.declared.limits.Limits.{Limits}
@@ -455,7 +455,7 @@ acts_passed w new acted o s s' passes calm = record {
 }
 
 -- ---- Open and cut
-pub acts_connected : (w : World) (c : GrpConnection) (acted : Acted) (s : State) → WorldHas w s → w.grp ≡ None → IsGrp c w.unit (connection (login_bytes roles.GapLink 0 the_account)) → acted ≡ calm_of outcome.Opened
+pub acts_connected : (w : World) (c : GrpConnection) (acted : Acted) (s : State) → WorldHas w s → w.grp ≡ None → IsGrpConnection c w.unit (connection (login_bytes roles.GapLink 0 the_account)) → acted ≡ calm_of outcome.Opened
     → Acts w (record w { grp = Some c }) acted s (grp_connected s.grp s)
 acts_connected w c acted s has none is calm = by s.grp (subst (λ (g : Option GrpConnection). HasGrp g w.unit s.grp) none has.grp)
   where

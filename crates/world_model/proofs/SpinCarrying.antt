@@ -16,7 +16,7 @@ use Rattle.spin_server.specs.Stands.{ShelfShows, seen_of}
 use Rattle.spin_server.proofs.Serves.{later_order}
 use Rattle.spin_server.proofs.Shelving.{one_served, later_both, shelf_seen}
 use Rattle.client_links.specs.Linking.{Lookups, LinkStands}
-use Rattle.world_model.specs.Connections.{IsPipe, IsServed, IsSpin, HasSpin, KeepsShelf}
+use Rattle.world_model.specs.Connections.{IsPipe, IsServed, IsSpinConnection, HasSpin, KeepsShelf}
 use Rattle.world_model.specs.Ends.{spin_server}
 use Rattle.world_model.specs.State.{State, Connection, Pipe, waiting}
 use Rattle.world_model.specs.Verbs.{put_in, took, with_up, at_spin_server, pumped_times, pumps, sent_whole, views_of, shut}
@@ -83,10 +83,10 @@ pumped_link unit (suc n) c = pumped_link unit n c
 
 -- ---- To the server
 pub carried_up : (old new : SpinConnection) (unit : ℕ) (s : State) (k : Connection (List Served)) (n : ℕ) (piece : List ℕ) (shelf shelf' : Shelf) (fed : Serving) (bytes : List ℕ)
-    → IsSpin old unit k → KeepsShelf shelf s.accepted s.advertised → n ≤ length old.up → piece ≡ take n old.up → new.up ≡ drop n old.up → new.link ≡ old.link → fed.end.setup ≡ old.server.end.setup → shelf' ≡ shelf
+    → IsSpinConnection old unit k → KeepsShelf shelf s.accepted s.advertised → n ≤ length old.up → piece ≡ take n old.up → new.up ≡ drop n old.up → new.link ≡ old.link → fed.end.setup ≡ old.server.end.setup → shelf' ≡ shelf
     → ((es : List (Event (List Served))) (view : Served) → SpinStands old.server es → ShelfShows shelf view → SpinFeeds es piece old.server fed view (λ v. ShelfShows shelf' v) old.down bytes)
     → ((unit : ℕ) (c : Connection (List Served)) → IsServed fed bytes unit c → IsServed new.server new.down unit (pumped_times unit (pumps unit c.server) c))
-    → IsSpin new unit (sent_whole unit (at_spin_server unit (Fed (take n (waiting k.up)) (views_of s k.server (take n (waiting k.up)))) (with_up (took n k.up) k)))
+    → IsSpinConnection new unit (sent_whole unit (at_spin_server unit (Fed (take n (waiting k.up)) (views_of s k.server (take n (waiting k.up)))) (with_up (took n k.up) k)))
 carried_up old new unit s k n piece shelf shelf' fed bytes is keeps few piece_is rest link setup same feeds pump =
     let view : Served = spin_view s.accepted s.advertised in
     let P : List ℕ = take n (waiting k.up) in
@@ -112,7 +112,7 @@ pub on_none : (unit : ℕ) (g : Option (Connection (List Served))) (f : Connecti
 on_none unit None f is = tt
 on_none unit (Some k) f is = absurd is
 
-pub on_some : (old new : SpinConnection) (unit : ℕ) (g : Option (Connection (List Served))) (f : Connection (List Served) → Connection (List Served)) → ((k : Connection (List Served)) → IsSpin old unit k → IsSpin new unit (f k)) → HasSpin (Some old) unit g
+pub on_some : (old new : SpinConnection) (unit : ℕ) (g : Option (Connection (List Served))) (f : Connection (List Served) → Connection (List Served)) → ((k : Connection (List Served)) → IsSpinConnection old unit k → IsSpinConnection new unit (f k)) → HasSpin (Some old) unit g
     → HasSpin (Some new) unit (option_map f g)
 on_some old new unit None f does is = absurd is
 on_some old new unit (Some k) f does is = does k is
@@ -121,6 +121,6 @@ pub shut_none : (unit : ℕ) (g : Option (Connection (List Served))) (s : Setup)
 shut_none unit None s is = refl
 shut_none unit (Some k) s is = absurd is
 
-pub shut_some : (c : SpinConnection) (unit : ℕ) (g : Option (Connection (List Served))) (s : Setup) (b : Bool) → ((k : Connection (List Served)) → IsSpin c unit k → b ≡ is_some (closed_of s k.link)) → HasSpin (Some c) unit g → b ≡ shut s g
+pub shut_some : (c : SpinConnection) (unit : ℕ) (g : Option (Connection (List Served))) (s : Setup) (b : Bool) → ((k : Connection (List Served)) → IsSpinConnection c unit k → b ≡ is_some (closed_of s k.link)) → HasSpin (Some c) unit g → b ≡ shut s g
 shut_some c unit None s b does is = absurd is
 shut_some c unit (Some k) s b does is = does k is

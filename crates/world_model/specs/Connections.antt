@@ -25,7 +25,7 @@ pub record IsPipe (bytes : List ℕ) (pipe : Pipe) : Type 0 where
 
 -- a connection with the proxy: both ends stand for what happened to them, and the pipes for what
 -- waits in them
-pub record IsGrp (c : GrpConnection) (unit : ℕ) (k : Connection Source) : Type 0 where
+pub record IsGrpConnection (c : GrpConnection) (unit : ℕ) (k : Connection Source) : Type 0 where
   pub server_made : c.server.setup ≡ grp_server unit
   pub server : ProxyStands c.server k.server
   pub link_made : c.link.setup ≡ gap_link
@@ -38,13 +38,13 @@ abbrev pub HasGrp : Option GrpConnection → ℕ → Option (Connection Source) 
 HasGrp None unit None = Unit {0}
 HasGrp None unit (Some k) = ⊥
 HasGrp (Some c) unit None = ⊥
-HasGrp (Some c) unit (Some k) = IsGrp c unit k
+HasGrp (Some c) unit (Some k) = IsGrpConnection c unit k
 
 -- n bytes were carried to the proxy's server, over the venue's messages and the requests that it
 -- accepted before: the connection stands for that, store and limits are as before, the budget counts
 -- what was accepted, and its datagrams are on the gap line
 pub record CarriedUp (unit : ℕ) (limits : Limits) (s : State) (n : ℕ) (k : Connection Source) (new : GrpConnection) (store store' : Store) (counter counter' : Counts) (lines lines' : List (List ℕ)) : Type 0 where
-  pub stands : IsGrp new unit (at_grp_server unit (Fed (take n (waiting k.up)) (source_of limits s k.server (take n (waiting k.up)))) (with_up (took n k.up) k))
+  pub stands : IsGrpConnection new unit (at_grp_server unit (Fed (take n (waiting k.up)) (source_of limits s k.server (take n (waiting k.up)))) (with_up (took n k.up) k))
   pub store_is : store' ≡ store
   pub limits_are : counter'.limits ≡ counter.limits
   pub counted : Counted counter' (proxy_answer (grp_server unit) k.server (take n (waiting k.up)) (source_of limits s k.server (take n (waiting k.up)))).knows
@@ -64,7 +64,7 @@ pub record IsServed (server : Serving) (bytes : List ℕ) (unit : ℕ) (k : Conn
   pub down : IsPipe bytes k.down
 
 -- a connection with the spin server, as one with the proxy
-pub record IsSpin (c : SpinConnection) (unit : ℕ) (k : Connection (List Served)) : Type 0 where
+pub record IsSpinConnection (c : SpinConnection) (unit : ℕ) (k : Connection (List Served)) : Type 0 where
   pub server_made : c.server.end.setup ≡ spin_server unit
   pub server : SpinStands c.server k.server
   pub link_made : c.link.setup ≡ spin_link unit
@@ -77,4 +77,4 @@ abbrev pub HasSpin : Option SpinConnection → ℕ → Option (Connection (List 
 HasSpin None unit None = Unit {0}
 HasSpin None unit (Some k) = ⊥
 HasSpin (Some c) unit None = ⊥
-HasSpin (Some c) unit (Some k) = IsSpin c unit k
+HasSpin (Some c) unit (Some k) = IsSpinConnection c unit k

@@ -40,11 +40,11 @@ impl SpinConnection {
     ghost use Rattle.world_model.specs.Ends.{the_account, spin_link};
     ghost use Rattle.world_model.specs.State.{State, Connection, waiting};
     ghost use Rattle.world_model.specs.Verbs.{connection, at_spin_server, at_link, took, with_up, with_down, sent_whole, views_of};
-    ghost use Rattle.world_model.specs.Connections.{IsSpin, KeepsShelf};
+    ghost use Rattle.world_model.specs.Connections.{IsSpinConnection, KeepsShelf};
 
     /// A new connection, whose login waits.
     pub(crate) fn make(alloc: Global, unit: u8) -> Result<SpinConnection, OutOfMemory>
-        ensures { IfOk result (λ c. IsSpin c unit (connection (login_bytes roles.SpinLink unit the_account))) }
+        ensures { IfOk result (λ c. IsSpinConnection c unit (connection (login_bytes roles.SpinLink unit the_account))) }
     {
         let mut login = Vec::new(alloc);
         let link = SpinLink::make(alloc, unit, &account(), &mut login)?;
@@ -62,7 +62,7 @@ impl SpinConnection {
     /// How many bytes wait for the server.
     pub(crate) fn up_count(&self) -> usize
         ensures count { result ≡ length self.now.up }
-        ensures waits { (unit : ℕ) (k : Connection (List Served)) → IsSpin self.now unit k → result ≡ length (waiting k.up) }
+        ensures waits { (unit : ℕ) (k : Connection (List Served)) → IsSpinConnection self.now unit k → result ≡ length (waiting k.up) }
     {
         self.up.len()
     }
@@ -70,21 +70,21 @@ impl SpinConnection {
     /// How many bytes wait for the client.
     pub(crate) fn down_count(&self) -> usize
         ensures count { result ≡ length self.now.down }
-        ensures waits { (unit : ℕ) (k : Connection (List Served)) → IsSpin self.now unit k → result ≡ length (waiting k.down) }
+        ensures waits { (unit : ℕ) (k : Connection (List Served)) → IsSpinConnection self.now unit k → result ≡ length (waiting k.down) }
     {
         self.down.len()
     }
 
     /// Whether the client's end is closed.
     pub(crate) fn is_closed(&self) -> bool
-        ensures { (unit : ℕ) (k : Connection (List Served)) → IsSpin self.now unit k → result ≡ is_some (closed_of (spin_link unit) k.link) }
+        ensures { (unit : ℕ) (k : Connection (List Served)) → IsSpinConnection self.now unit k → result ≡ is_some (closed_of (spin_link unit) k.link) }
     {
         self.link.closed().is_some()
     }
 
     /// A second passes at the server's end.
     pub(crate) fn tick_server(&mut self) -> Result<(), OutOfMemory>
-        ensures { OnOk result ((unit : ℕ) (k : Connection (List Served)) → IsSpin self.old unit k → IsSpin self.new unit (at_spin_server unit Ticked k)) }
+        ensures { OnOk result ((unit : ℕ) (k : Connection (List Served)) → IsSpinConnection self.old unit k → IsSpinConnection self.new unit (at_spin_server unit Ticked k)) }
     {
         let mut said = Vec::new(self.alloc);
         self.server.tick(&mut said)?;
@@ -93,7 +93,7 @@ impl SpinConnection {
 
     /// A second passes at the client's end.
     pub(crate) fn tick_link(&mut self) -> Result<(), OutOfMemory>
-        ensures { OnOk result ((unit : ℕ) (k : Connection (List Served)) → IsSpin self.old unit k → IsSpin self.new unit (at_link (spin_link unit) Ticked k)) }
+        ensures { OnOk result ((unit : ℕ) (k : Connection (List Served)) → IsSpinConnection self.old unit k → IsSpinConnection self.new unit (at_link (spin_link unit) Ticked k)) }
     {
         let mut said = Vec::new(self.alloc);
         self.link.tick(&mut said)?;
@@ -102,7 +102,7 @@ impl SpinConnection {
 
     /// The client asks for the image through a sequence.
     pub(crate) fn ask(&mut self, sequence: u32) -> Result<(), OutOfMemory>
-        ensures { OnOk result ((unit : ℕ) (k : Connection (List Served)) → IsSpin self.old unit k → IsSpin self.new unit (at_link (spin_link unit) (Asked (SpinRequest sequence)) k)) }
+        ensures { OnOk result ((unit : ℕ) (k : Connection (List Served)) → IsSpinConnection self.old unit k → IsSpinConnection self.new unit (at_link (spin_link unit) (Asked (SpinRequest sequence)) k)) }
     {
         let mut said = Vec::new(self.alloc);
         self.link.ask(sequence, &mut said)?;
@@ -111,7 +111,7 @@ impl SpinConnection {
 
     /// The server is told of a sequence that was advertised.
     pub(crate) fn tell(&mut self, sequence: u32) -> Result<(), OutOfMemory>
-        ensures { OnOk result ((unit : ℕ) (k : Connection (List Served)) → IsSpin self.old unit k → IsSpin self.new unit (at_spin_server unit (Told sequence) k)) }
+        ensures { OnOk result ((unit : ℕ) (k : Connection (List Served)) → IsSpinConnection self.old unit k → IsSpinConnection self.new unit (at_spin_server unit (Told sequence) k)) }
     {
         let mut said = Vec::new(self.alloc);
         self.server.tell(sequence, &mut said)?;
@@ -125,8 +125,8 @@ impl SpinConnection {
         shelf: &mut ImageShelf,
     ) -> Result<(), OutOfMemory>
         requires { count ≤ length self.old.up }
-        ensures fed { OnOk result ((unit : ℕ) (s : State) (k : Connection (List Served)) → IsSpin self.old unit k → KeepsShelf shelf.old s.accepted s.advertised
-            → IsSpin self.new unit (sent_whole unit (at_spin_server unit (Fed (take count (waiting k.up)) (views_of s k.server (take count (waiting k.up)))) (with_up (took count k.up) k)))) }
+        ensures fed { OnOk result ((unit : ℕ) (s : State) (k : Connection (List Served)) → IsSpinConnection self.old unit k → KeepsShelf shelf.old s.accepted s.advertised
+            → IsSpinConnection self.new unit (sent_whole unit (at_spin_server unit (Fed (take count (waiting k.up)) (views_of s k.server (take count (waiting k.up)))) (with_up (took count k.up) k)))) }
         ensures shelf { shelf.new ≡ shelf.old }
     {
         let mut said = Vec::new(self.alloc);
@@ -144,9 +144,9 @@ impl SpinConnection {
         items: &mut ItemList,
     ) -> Result<(), OutOfMemory>
         requires { count ≤ length self.old.down }
-        ensures stands { OnOk result ((unit : ℕ) (k : Connection (List Served)) → IsSpin self.old unit k
-            → IsSpin self.new unit (at_link (spin_link unit) (Fed (take count (waiting k.down)) NoLookup) (with_down (took count k.down) k))) }
-        ensures tells { OnOk result ((unit : ℕ) (k : Connection (List Served)) → IsSpin self.old unit k
+        ensures stands { OnOk result ((unit : ℕ) (k : Connection (List Served)) → IsSpinConnection self.old unit k
+            → IsSpinConnection self.new unit (at_link (spin_link unit) (Fed (take count (waiting k.down)) NoLookup) (with_down (took count k.down) k))) }
+        ensures tells { OnOk result ((unit : ℕ) (k : Connection (List Served)) → IsSpinConnection self.old unit k
             → map without_spare items.new.items ≡ map without_spare items.old.items ++ link_tells (spin_link unit) k.link (take count (waiting k.down))) }
     {
         self.link.feed(self.down.first(count), items)?;
