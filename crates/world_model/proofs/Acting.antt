@@ -34,7 +34,7 @@ use Rattle.world_model.specs.Witness.{Witnessed}
 use Rattle.world_model.proofs.Witness.{accepted_more, hears_blocks, whole}
 use Rattle.world_model.proofs.Witness as witness
 use Rattle.world_model.proofs.HeardBlocks.{overflow_step}
-use Rattle.world_model.specs.Stands.{WorldHas, Keeping, KeepsShelf, Acts, WorldStands, Marks, Passes}
+use Rattle.world_model.specs.Stands.{WorldHas, Keeping, Acts, WorldStands, Marks, Passes}
 use Rattle.world_model.specs.State.{State, Connection, datagrams_on, passed_on, passed_to}
 use Rattle.world_model.specs.Verbs.{Done, done, does, state_of, commanded_on, commanded, flushed, beaten, numbered, delivered, delivered_on, rest_delivered, hears, up_to, tick_outcome, ticked, asked_through, client_ticks, budget_ticks, grp_server_ticks, at_grp_server, spin_server_has, at_spin_server, gap_link_ticks, spin_link_ticks, at_link, connection, grp_connected, cut_on, grp_cut, grp_cut_where, grp_settled, spin_settled, shut, asked_grp, asked_spin}
 use Rattle.pitch_messages.specs.declared.session.SessionMessage.TheVariants.{GapRequest, SpinRequest}
@@ -51,7 +51,7 @@ use Rattle.session_ends.specs.declared.role.Role.TheVariants as roles
 use Rattle.client_core.specs.Items.{IsImage}
 use Rattle.pitch_model.proofs.Images.{image_book}
 use Rattle.client_links.specs.Linking.{login_bytes}
-use Rattle.world_model.specs.Connections.{IsGrp, HasGrp, HasSpin}
+use Rattle.world_model.specs.Connections.{IsGrp, HasGrp, HasSpin, KeepsShelf}
 use Rattle.world_model.specs.declared.grp.GrpConnection.{GrpConnection}
 use Rattle.world_model.specs.Ends.{the_account, gap_link, spin_link}
 use Rattle.world_model.specs.declared.limits.Limits.{Limits}

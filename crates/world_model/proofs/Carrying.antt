@@ -3,6 +3,7 @@ use Rattle.std.proofs.Common.{◌≡◌, ℕ, zero, suc, ◌+◌, ◌-◌, ◌�
 use Rattle.std.proofs.lemmas.List.{drop-append-le, length-drop}
 use Rattle.std.proofs.Math.Seq.{drop-drop}
 use Rattle.std.specs.Option.{option_map}
+use Rattle.session_ends.specs.Answering.{Answer}
 use Rattle.session_ends.specs.Closing.{Setup, closed_of}
 use Rattle.session_ends.specs.Ending.{Ending}
 use Rattle.session_ends.specs.Events.{Event, Fed}
@@ -35,39 +36,41 @@ piped_taken bytes n pipe is few =
     }
 
 -- ---- To the proxy
-pub carried_up : (old new : GrpConnection) (unit : ℕ) (limits : Limits) (s : State) (k : Connection Source) (n : ℕ) (piece : List ℕ) (store store' : Store) (counter counter' : Counts) (lines lines' : List (List ℕ))
+pub carried_up : (old new : GrpConnection) (unit : ℕ) (limits : Limits) (s : State) (k : Connection Source) (n : ℕ) (piece : List ℕ) (store store' : Store) (counter counter' : Counts) (none said : List ℕ) (nothing packed before after : List (List ℕ))
     → StoreHasOneView → IsGrp old unit k → store ≡ store_of (record { messages = s.accepted; kept = limits.kept }) → counter.limits ≡ record { second = limits.second; minute = limits.minute; day = limits.day }
-    → n ≤ length old.up.items → piece ≡ take n old.up.items → new.up.items ≡ drop n old.up.items → new.link ≡ old.link → new.server.setup ≡ old.server.setup → store' ≡ store → counter'.limits ≡ counter.limits
-    → ProxyFeeds k.server piece old.server new.server true counter.limits s.spent (record { messages = s.accepted; kept = limits.kept }) (Counted counter') (λ v. store' ≡ store_of v) old.down.items new.down.items lines lines'
-    → CarriedUp unit limits s n k new store store' counter counter' lines lines'
-carried_up old new unit limits s k n piece store store' counter counter' lines lines' one is stored limited few piece_is rest link setup still counts feeds =
+    → n ≤ length old.up → piece ≡ take n old.up → none ≡ [] → nothing ≡ []
+    → new.up ≡ drop n old.up → new.down ≡ old.down ++ said → after ≡ before ++ packed → new.link ≡ old.link → new.server.setup ≡ old.server.setup → store' ≡ store → counter'.limits ≡ counter.limits
+    → ProxyFeeds k.server piece old.server new.server true counter.limits s.spent (record { messages = s.accepted; kept = limits.kept }) (Counted counter') (λ v. store' ≡ store_of v) none said nothing packed
+    → CarriedUp unit limits s n k new store store' counter counter' before after
+carried_up old new unit limits s k n piece store store' counter counter' none said nothing packed before after one is stored limited few piece_is no_said no_lines rest put appended link setup still counts feeds =
     let view : View = record { messages = s.accepted; kept = limits.kept } in
     let es : List (Event Source) = k.server in
     let P : List ℕ = take n (waiting k.up) in
-    let l : budget.Limits = record { second = limits.second; minute = limits.minute; day = limits.day } in
     let views_are : feeds.views ≡ replicate (length (new_items es piece)) view =
     (one view feeds.now feeds.views feeds.rises (sym feeds.shows ∙ still ∙ stored)).1 ∙ ap (λ (m : ℕ). replicate m view) feeds.each in
     let source_is : record_of counter.limits s.spent feeds.views ≡ source_of limits s es piece = ap (λ (vs : List View). record_of counter.limits s.spent vs) views_are ∙ ap (λ (m : budget.Limits). record_of m s.spent (replicate (length (new_items es piece)) view)) limited in
-    let at_piece : Answered es piece (source_of limits s es piece) old.server new.server (Counted counter') old.down.items new.down.items lines lines' =
-    subst (λ (src : Source). Answered es piece src old.server new.server (Counted counter') old.down.items new.down.items lines lines') source_is feeds.answered in
+    let at_piece : Answered es piece (source_of limits s es piece) old.server new.server (Counted counter') none said nothing packed =
+    subst (λ (src : Source). Answered es piece src old.server new.server (Counted counter') none said nothing packed) source_is feeds.answered in
     let are : piece ≡ P = piece_is ∙ ap (take n) is.up.are in
-    let there : Answered es P (source_of limits s es P) old.server new.server (Counted counter') old.down.items new.down.items lines lines' =
-    subst (λ (p : List ℕ). Answered es p (source_of limits s es p) old.server new.server (Counted counter') old.down.items new.down.items lines lines') are at_piece in
-    let replied : new.down.items ≡ old.down.items ++ grp_says unit (Fed P (source_of limits s es P)) es =
-    there.replied ∙ ap (λ (m : Setup). old.down.items ++ (proxy_answer m es P (source_of limits s es P)).reply) is.server_made in
+    let there : Answered es P (source_of limits s es P) old.server new.server (Counted counter') none said nothing packed =
+    subst (λ (p : List ℕ). Answered es p (source_of limits s es p) old.server new.server (Counted counter') none said nothing packed) are at_piece in
+    let answer : Setup → Answer Spent = λ m. proxy_answer m es P (source_of limits s es P) in
+    let said_is : said ≡ grp_says unit (Fed P (source_of limits s es P)) es = there.replied ∙ ap (λ (r : List ℕ). r ++ (answer old.server.setup).reply) no_said ∙ ap (λ (m : Setup). (answer m).reply) is.server_made in
+    let packed_is : packed ≡ (answer (grp_server unit)).lines = there.lined ∙ ap (λ (ds : List (List ℕ)). ds ++ (answer old.server.setup).lines) no_lines ∙ ap (λ (m : Setup). (answer m).lines) is.server_made in
+    let replied : new.down ≡ old.down ++ grp_says unit (Fed P (source_of limits s es P)) es = put ∙ ap (λ (b : List ℕ). old.down ++ b) said_is in
     record {
       stands = record {
         server_made = setup ∙ is.server_made;
         server = there.stands;
         link_made = ap (λ (e : Ending). e.setup) link ∙ is.link_made;
         link = subst (λ (e : Ending). LinkStands e k.link) (sym link) is.link;
-        up = subst (λ (b : List ℕ). IsPipe b (took n k.up)) (sym rest) (piped_taken old.up.items n k.up is.up few);
-        down = subst (λ (b : List ℕ). IsPipe b (put_in (grp_says unit (Fed P (source_of limits s es P)) es) k.down)) (sym replied) (piped_put old.down.items _ k.down is.down);
+        up = subst (λ (b : List ℕ). IsPipe b (took n k.up)) (sym rest) (piped_taken old.up n k.up is.up few);
+        down = subst (λ (b : List ℕ). IsPipe b (put_in (grp_says unit (Fed P (source_of limits s es P)) es) k.down)) (sym replied) (piped_put old.down _ k.down is.down);
       };
       store_is = still;
       limits_are = counts;
-      counted = subst (λ (m : Setup). Counted counter' (proxy_answer m es P (source_of limits s es P)).knows) is.server_made there.counts;
-      lined = there.lined ∙ ap (λ (m : Setup). lines ++ (proxy_answer m es P (source_of limits s es P)).lines) is.server_made;
+      counted = subst (λ (m : Setup). Counted counter' (answer m).knows) is.server_made there.counts;
+      lined = appended ∙ ap (λ (ds : List (List ℕ)). before ++ ds) packed_is;
     }
   where
     record_of : budget.Limits → Spent → List View → Source

@@ -69,6 +69,14 @@ acts_carried w new acted s after pipe bytes has n many n_is few passes calm =
     subst (λ (b : Bool). Acts w new acted s (cond b (done (outcome.TooFew (wanted bytes pipe) (length (waiting pipe))) s) (done (outcome.Carried (wanted bytes pipe)) after))) (sym enough)
     (acts_passed w new acted (outcome.Carried (wanted bytes pipe)) s after passes (calm ∙ ap (λ (m : ℕ). calm_of (outcome.Carried m)) wants))
 
+pub acts_few_up : (w : World) (c : GrpConnection) (acted : Acted) (s : State) (bytes : Option ℕ) (has asked : ℕ) → WorldHas w s → w.grp ≡ Some c → ((unit : ℕ) (k : Connection Source) → IsGrp c unit k → has ≡ length (waiting k.up))
+    → asked ≡ unwrap_or bytes has → has < asked → acted ≡ calm_of (outcome.TooFew asked has) → Acts w w acted s (grp_up_on w.unit w.limits bytes s.grp s)
+acts_few_up w c acted s bytes has asked holds some many asked_is less calm = by s.grp (subst (λ (g : Option GrpConnection). HasGrp g w.unit s.grp) some holds.grp)
+  where
+    by : (g : Option (Connection Source)) → HasGrp (Some c) w.unit g → Acts w w acted s (grp_up_on w.unit w.limits bytes g s)
+    by None z = absurd z
+    by (Some k) z = acts_too_few w acted s _ k.up bytes has asked holds (many w.unit k z) asked_is less calm
+
 pub acts_few_down : (w : World) (c : GrpConnection) (acted : Acted) (s : State) (bytes : Option ℕ) (has asked : ℕ) → WorldHas w s → w.grp ≡ Some c → ((unit : ℕ) (k : Connection Source) → IsGrp c unit k → has ≡ length (waiting k.down))
     → asked ≡ unwrap_or bytes has → has < asked → acted ≡ calm_of (outcome.TooFew asked has) → Acts w w acted s (grp_down_on bytes s.grp s)
 acts_few_down w c acted s bytes has asked holds stood many asked_is less calm = by s.grp (subst (λ (g : Option GrpConnection). HasGrp g w.unit s.grp) stood holds.grp)

@@ -170,11 +170,7 @@ pub acts_spin_up : (w : World) (old new : SpinConnection) (shelf : Shelf) (acted
     → shelf ≡ w.shelf → acted ≡ calm_of (outcome.Carried n) → Acts w (record w { spin = Some new; shelf = shelf }) acted s (spin_up_on w.unit bytes s.spin s)
 acts_spin_up w old new shelf acted s bytes has n holds some many n_is few carry same calm = by s.spin (subst (λ (g : Option SpinConnection). HasSpin g w.unit s.spin) some holds.spin) holds.sound.witness
   where
-    w' : World
-    w' = record w { spin = Some new; shelf = shelf }
-
-    passes : (k : Connection (List Served)) → IsSpin old w.unit k → Witnessed w.unit s.accepted (Some k) s.heard → Passes w w' s (spin_fed w.unit (take n (waiting k.up)) (with_up (took n k.up) k) s)
-    unfolding w'
+    passes : (k : Connection (List Served)) → IsSpin old w.unit k → Witnessed w.unit s.accepted (Some k) s.heard → Passes w (record w { spin = Some new; shelf = shelf }) s (spin_fed w.unit (take n (waiting k.up)) (with_up (took n k.up) k) s)
     passes k z came =
         let piece : List ℕ = take n (waiting k.up) in
         let behind : Connection (List Served) = with_up (took n k.up) k in
@@ -191,13 +187,13 @@ acts_spin_up w old new shelf acted s bytes has n holds some many n_is few carry 
           has = with_still (record w { shelf = shelf }) (Some new) s (Some (sent_whole w.unit fed)) (with_shelf w shelf s s.advertised holds kept) (carry w.unit s k z holds.kept.shelf_is) at_end;
         }
 
-    by : (g : Option (Connection (List Served))) → HasSpin (Some old) w.unit g → Witnessed w.unit s.accepted g s.heard → Acts w w' acted s (spin_up_on w.unit bytes g s)
+    by : (g : Option (Connection (List Served))) → HasSpin (Some old) w.unit g → Witnessed w.unit s.accepted g s.heard → Acts w (record w { spin = Some new; shelf = shelf }) acted s (spin_up_on w.unit bytes g s)
     by None z came = absurd z
     by (Some k) z came =
         let count = many w.unit k z in
         let wants : n ≡ wanted bytes k.up = n_is ∙ ap (unwrap_or bytes) count in
-        acts_carried w w' acted s (spin_fed w.unit (take (wanted bytes k.up) (waiting k.up)) (with_up (took (wanted bytes k.up) k.up) k) s) k.up bytes has n count n_is few
-        (subst (λ (m : ℕ). Passes w w' s (spin_fed w.unit (take m (waiting k.up)) (with_up (took m k.up) k) s)) wants (passes k z came)) calm
+        acts_carried w (record w { spin = Some new; shelf = shelf }) acted s (spin_fed w.unit (take (wanted bytes k.up) (waiting k.up)) (with_up (took (wanted bytes k.up) k.up) k) s) k.up bytes has n count n_is few
+        (subst (λ (m : ℕ). Passes w (record w { spin = Some new; shelf = shelf }) s (spin_fed w.unit (take m (waiting k.up)) (with_up (took m k.up) k) s)) wants (passes k z came)) calm
 
 -- ---- To the client
 pub acts_spin_down : (w : World) (old new : SpinConnection) (client : UnitClient) (items : List Item) (last : World) (acted : Acted) (s : State) (bytes : Option ℕ) (has n : ℕ) → WorldHas w s → w.spin ≡ Some old

@@ -31,8 +31,8 @@ pub record IsGrp (c : GrpConnection) (unit : ℕ) (k : Connection Source) : Type
   pub server : ProxyStands c.server k.server
   pub link_made : c.link.setup ≡ gap_link
   pub link : LinkStands c.link k.link
-  pub up : IsPipe c.up.items k.up
-  pub down : IsPipe c.down.items k.down
+  pub up : IsPipe c.up k.up
+  pub down : IsPipe c.down k.down
 
 -- it stands exactly where one of the state does
 abbrev pub HasGrp : Option GrpConnection → ℕ → Option (Connection Source) → Type 0

@@ -11,7 +11,8 @@ ghost use Rattle.world_model.specs.State.{Connection};
 ghost use Rattle.world_model.specs.Verbs.{at_grp_server, at_link, shut, asked_grp};
 ghost use Rattle.world_model.specs.Ends.{the_account, gap_link};
 
-use crate::pipe::take_front;
+use crate::datagrams::append_copies;
+use crate::pipe::ByteQueue;
 use client_links::{GapLink, ItemList};
 use gap_store::GapStore;
 use grp_session::{GapBudget, GrpServer, look_laws};
@@ -38,8 +39,8 @@ pub(crate) struct GrpConnection {
     alloc: Global,
     server: GrpServer,
     link: GapLink,
-    up: Vec<u8>,
-    down: Vec<u8>,
+    up: ByteQueue,
+    down: ByteQueue,
 }
 
 impl GrpConnection {
@@ -64,22 +65,22 @@ impl GrpConnection {
     pub(crate) fn make(alloc: Global, unit: u8) -> Result<GrpConnection, OutOfMemory>
         ensures { IfOk result (λ c. IsGrp c unit (connection (login_bytes roles.GapLink 0 the_account))) }
     {
-        let mut up = Vec::new(alloc);
-        let link = GapLink::make(alloc, &account(), &mut up)?;
+        let mut login = Vec::new(alloc);
+        let link = GapLink::make(alloc, &account(), &mut login)?;
         let mut accounts = Vec::new(alloc);
         accounts.push(account())?;
         Ok(GrpConnection {
             alloc,
             server: GrpServer::make(alloc, unit, accounts, false),
             link,
-            up,
-            down: Vec::new(alloc),
+            up: ByteQueue::of_bytes(login),
+            down: ByteQueue::of_bytes(Vec::new(alloc)),
         })
     }
 
     /// How many bytes wait for the proxy.
     pub(crate) fn up_count(&self) -> usize
-        ensures count { result ≡ length self.now.up.items }
+        ensures count { result ≡ length self.now.up }
         ensures waits { (unit : ℕ) (k : Connection Source) → IsGrp self.now unit k → result ≡ length (waiting k.up) }
     {
         self.up.len()
@@ -87,7 +88,7 @@ impl GrpConnection {
 
     /// How many bytes wait for the client.
     pub(crate) fn down_count(&self) -> usize
-        ensures count { result ≡ length self.now.down.items }
+        ensures count { result ≡ length self.now.down }
         ensures waits { (unit : ℕ) (k : Connection Source) → IsGrp self.now unit k → result ≡ length (waiting k.down) }
     {
         self.down.len()
@@ -104,24 +105,27 @@ impl GrpConnection {
     pub(crate) fn tick_server(&mut self) -> Result<(), OutOfMemory>
         ensures { OnOk result ((unit : ℕ) (k : Connection Source) → IsGrp self.old unit k → IsGrp self.new unit (at_grp_server unit Ticked k)) }
     {
-        self.server.tick(&mut self.down)?;
-        Ok(())
+        let mut said = Vec::new(self.alloc);
+        self.server.tick(&mut said)?;
+        self.down.put(&said)
     }
 
     /// A second passes at the client's end.
     pub(crate) fn tick_link(&mut self) -> Result<(), OutOfMemory>
         ensures { OnOk result ((unit : ℕ) (k : Connection Source) → IsGrp self.old unit k → IsGrp self.new unit (at_link gap_link Ticked k)) }
     {
-        self.link.tick(&mut self.up)?;
-        Ok(())
+        let mut said = Vec::new(self.alloc);
+        self.link.tick(&mut said)?;
+        self.up.put(&said)
     }
 
     /// The client asks for messages.
     pub(crate) fn ask(&mut self, unit: u8, first: u32, count: u16) -> Result<(), OutOfMemory>
         ensures { OnOk result ((of : ℕ) (k : Connection Source) → IsGrp self.old of k → IsGrp self.new of (at_link gap_link (Asked (GapRequest unit first count)) k)) }
     {
-        self.link.ask(unit, first, count, &mut self.up)?;
-        Ok(())
+        let mut said = Vec::new(self.alloc);
+        self.link.ask(unit, first, count, &mut said)?;
+        self.up.put(&said)
     }
 
     /// Carries so many bytes to the proxy.
@@ -132,15 +136,20 @@ impl GrpConnection {
         store: &mut GapStore,
         gap_line: &mut DatagramList,
     ) -> Result<(), OutOfMemory>
-        requires { count ≤ length self.old.up.items }
+        requires { count ≤ length self.old.up }
         ensures { OnOk result ((unit : ℕ) (limits : LimitsSaid) (s : State) (k : Connection Source) → IsGrp self.old unit k
             → store.old ≡ store_of (record { messages = s.accepted; kept = limits.kept }) → budget.old.limits ≡ record { second = limits.second; minute = limits.minute; day = limits.day } → Counted budget.old s.spent
             → CarriedUp unit limits s count k self.new store.old store.new budget.old budget.new (bytes_in gap_line.old.items) (bytes_in gap_line.new.items)) }
     {
         look_laws();
-        let piece = take_front(self.alloc, &mut self.up, count)?;
+        let mut said = Vec::new(self.alloc);
+        let mut packed = DatagramList::make(self.alloc);
+        let piece = self.up.first(count);
         self.server
-            .feed(&piece, budget, Some(store), &mut self.down, gap_line)?;
+            .feed(piece, budget, Some(store), &mut said, &mut packed)?;
+        self.up.take(count);
+        self.down.put(&said)?;
+        append_copies(self.alloc, packed.as_slice(), gap_line)?;
         Ok(())
     }
 
@@ -150,14 +159,14 @@ impl GrpConnection {
         count: usize,
         items: &mut ItemList,
     ) -> Result<(), OutOfMemory>
-        requires { count ≤ length self.old.down.items }
+        requires { count ≤ length self.old.down }
         ensures stands { OnOk result ((unit : ℕ) (k : Connection Source) → IsGrp self.old unit k
             → IsGrp self.new unit (at_link gap_link (Fed (take count (waiting k.down)) NoLookup) (with_down (took count k.down) k))) }
         ensures tells { OnOk result ((unit : ℕ) (k : Connection Source) → IsGrp self.old unit k
             → map without_spare items.new.items ≡ map without_spare items.old.items ++ link_tells gap_link k.link (take count (waiting k.down))) }
     {
-        let piece = take_front(self.alloc, &mut self.down, count)?;
-        self.link.feed(&piece, items)?;
+        self.link.feed(self.down.first(count), items)?;
+        self.down.take(count);
         Ok(())
     }
 }

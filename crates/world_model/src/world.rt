@@ -8,6 +8,7 @@ ghost use Rattle.venue_core.specs.declared.error.VenueError.TheVariants as error
 ghost use Rattle.world_model.specs.State.{State, datagrams_on};
 ghost use Rattle.world_model.specs.Verbs.{tick_outcome};
 
+use crate::datagrams::{append_copies, datagrams_after, datagrams_on};
 use crate::grp::{GrpConnection, ask_through, is_shut, tick_link, tick_server};
 use crate::hearing::{hear_all, hear_datagram, hear_told};
 use crate::limits::Limits;
@@ -355,7 +356,7 @@ impl World {
     {
         let datagrams = datagrams_on(&self.sent, &self.replayed, line);
         let all = datagrams.len();
-        let rest = from(datagrams, self.passed.on(line));
+        let rest = datagrams_after(datagrams, self.passed.on(line));
         let count = rest.len() as u64;
         let overflow = hear_all(self.unit, line, &mut self.client, &mut self.arbiter, rest)?;
         self.passed = self.passed.up_to(line, all);
@@ -647,21 +648,6 @@ fn calm(outcome: Outcome) -> Acted
     }
 }
 
-// Appends copies of datagrams, each in as much memory as it needs: a datagram as a packer gives it has place for 1,400 bytes.
-// After OutOfMemory some may have been appended.
-fn append_copies(
-    alloc: Global,
-    datagrams: &[ByteList],
-    out: &mut DatagramList,
-) -> Result<(), OutOfMemory>
-    ensures { OnOk result (bytes_in out.new.items ≡ bytes_in out.old.items ++ bytes_in datagrams.now) }
-{
-    'lines: for datagram in datagrams {
-        out.push(ByteList::of_bytes(alloc, datagram.bytes())?)?;
-    }
-    Ok(())
-}
-
 // A refusal for want of memory.
 fn is_memory(error: &VenueError) -> bool
     ensures { IsTrue result ↔ (error.now ≡ errors.OutOfMemory) }
@@ -676,32 +662,6 @@ fn tick_outcome(ask: Option<Ask>) -> Outcome
         None => Outcome::Ticked,
         Some(ask) => Outcome::Asked(ask),
     }
-}
-
-// The datagrams of a line.
-fn datagrams_on<'a>(
-    sent: &'a DatagramList,
-    replayed: &'a DatagramList,
-    line: Line,
-) -> &'a [ByteList]
-    ensures { (s : State) → bytes_in sent.now.items ≡ s.sent → bytes_in replayed.now.items ≡ s.replayed
-        → bytes_in result.now ≡ datagrams_on s line }
-{
-    match line {
-        Line::A => sent.as_slice(),
-        Line::B => sent.as_slice(),
-        Line::Gap => replayed.as_slice(),
-    }
-}
-
-// The datagrams behind so many.
-fn from(datagrams: &[ByteList], passed: usize) -> &[ByteList]
-    ensures { result.now ≡ drop passed datagrams.now }
-{
-    if passed > datagrams.len() {
-        return &datagrams[datagrams.len()..];
-    }
-    &datagrams[passed..]
 }
 
 // The proxy's store and the shelf get the message that the venue accepted last. After OutOfMemory one of them may have it.
