@@ -1,18 +1,17 @@
 -- Going over the lines of a schedule.
 use Rattle.std.proofs.Common.{◌≡◌, ℕ, List, [], ◌∷◌, ◌++◌, map, reverse, refl, sym, ap, ◌∙◌, subst, Option, Some, None, Result, Ok, Err, append_assoc}
-use Rattle.std.specs.Result.{result_err}
 use Rattle.std.proofs.lemmas.List.{append-nil}
 use Rattle.feed_lines.proofs.Texts.{texts_none, texts_grown, reverse_more}
 use Rattle.pitch_text.specs.ScheduleGrammar.{entry, schedule_entry}
 use Rattle.pitch_text.specs.WellFormed.{IsWellFormed, AreWellFormed}
 use Rattle.pitch_text.specs.declared.verb.ScheduleEntry.{ScheduleEntry}
 use Rattle.pitch_text.specs.declared.verb.Verb.{Verb}
-use Rattle.text_lines.specs.Text.{TextFault, entries_of, items_of, all_of, with_front}
+use Rattle.text_lines.specs.Text.{TextFault, entries_of, items_of, all_of}
 use Rattle.text_lines.specs.declared.fault.TextError.{TextError}
 use Rattle.text_lines.proofs.TextLemmas.{Taken, takes_none, takes_entry, answer_of, items_answer, with_all}
 use Rattle.world_model.specs.declared.world.World.{World}
 use Rattle.schedule_replay.specs.Causes.{replay_error}
-use Rattle.schedule_replay.specs.Replay.{replay_line, replay_text, schedule_on, schedule_of}
+use Rattle.schedule_replay.specs.Replay.{replay_line, replay_text, schedule_on, schedule_of, replay_on, replay_of}
 use Rattle.schedule_replay.specs.Worlds.{ArePlaces, RunsText}
 use Rattle.schedule_replay.specs.declared.error.ReplayError.{ReplayError}
 
@@ -44,31 +43,6 @@ said_all text items entries are all =
 pub said_fault : (text : List ℕ) (items : Items) (fault : TextError) → items ≡ items_in text → all_of items ≡ Err fault → schedule_of text ≡ Err (replay_error fault)
 said_fault text items fault are first =
     fault_said (entries_of entry text) fault (sym (items_answer entry schedule_entry text) ∙ ap (λ (l : Items). all_of l) (sym are) ∙ first)
-
--- ---- The first fault
-
-pub fault_behind : (left more : Items) (e : ScheduleEntry) → left ≡ Ok e ∷ more → result_err (all_of left) ≡ result_err (all_of more)
-fault_behind left more e first = ap (λ (items : Items). result_err (all_of items)) first ∙ passed (all_of more)
-  where
-    passed : (read : Result (List ScheduleEntry) TextError) → result_err (with_front e read) ≡ result_err read
-    passed (Ok entries) = refl
-    passed (Err fault) = refl
-
-pub none_found : (text : List ℕ) (items left : Items) → items ≡ items_in text → left ≡ [] → result_err (all_of items) ≡ result_err (all_of left) → (entries : List ScheduleEntry) × (schedule_of text ≡ Ok entries)
-none_found text items left are none same = by (all_of items) refl (same ∙ ap (λ (l : Items). result_err (all_of l)) none)
-  where
-    by : (read : Result (List ScheduleEntry) TextError) → all_of items ≡ read → result_err read ≡ None → (entries : List ScheduleEntry) × (schedule_of text ≡ Ok entries)
-    by (Ok entries) is e = (entries, said_all text items entries are is)
-    by (Err fault) is e = absurd cc
-
-pub fault_found : (text : List ℕ) (items left more : Items) (item : Result ScheduleEntry TextError) (fault : TextError) → items ≡ items_in text → left ≡ item ∷ more → item ≡ Err fault → result_err (all_of items) ≡ result_err (all_of left)
-    → schedule_of text ≡ Err (replay_error fault)
-fault_found text items left more item fault are first is same =
-    by (all_of items) refl (same ∙ ap (λ (l : Items). result_err (all_of l)) first ∙ ap (λ (i : Result ScheduleEntry TextError). result_err (all_of (i ∷ more))) is)
-  where
-    by : (read : Result (List ScheduleEntry) TextError) → all_of items ≡ read → result_err read ≡ Some fault → schedule_of text ≡ Err (replay_error fault)
-    by (Ok entries) at e = absurd cc
-    by (Err other) at e = let same_fault : other ≡ fault = cc in said_fault text items fault are (at ∙ ap Err same_fault)
 
 -- ---- The lines are done one after another
 
@@ -109,16 +83,14 @@ runs_more items left more item e places places' old new new' at is goes text r =
 pub runs_all : (text : List ℕ) (items left : Items) (places : List (Option World)) (old new : List ℕ) → items ≡ items_in text → left ≡ [] → Running items left places old new → RunsText text places old new
 runs_all text items left places old new are none r = record {
   entries = r.done;
-  read = said_all text items r.done are (r.taken.same ∙ ap (λ (l : Items). with_all r.taken.front (all_of l)) none ∙ ap Ok (append-nil r.taken.front ∙ sym r.taken.appended));
+  read = said_all text items r.done are (r.taken.same ∙ ap (λ (l : Items). with_all r.taken.prefix (all_of l)) none ∙ ap Ok (append-nil r.taken.prefix ∙ sym r.taken.appended));
   are = r.are;
   written = r.written;
 }
 
--- a text without a fault has no item that is one
-pub runs_no_fault : (text : List ℕ) (items left more : Items) (item : Result ScheduleEntry TextError) (fault : TextError) (places : List (Option World)) (old new : List ℕ) → items ≡ items_in text → left ≡ item ∷ more → item ≡ Err fault
-    → (entries : List ScheduleEntry) × (schedule_of text ≡ Ok entries) → Running items left places old new → ⊥
-runs_no_fault text items left more item fault places old new are first is sound r =
-    clash (sym sound.1 ∙ said_fault text items fault are (r.taken.same ∙ ap (λ (l : Items). with_all r.taken.front (all_of l)) first ∙ ap (λ (i : Result ScheduleEntry TextError). with_all r.taken.front (all_of (i ∷ more))) is))
-  where
-    clash : ◌≡◌ {A = Result (List ScheduleEntry) ReplayError} (Ok sound.0) (Err (replay_error fault)) → ⊥
-    clash e = cc
+-- the first item that is a fault is the text's fault
+pub runs_fault : (text : List ℕ) (items left more : Items) (item : Result ScheduleEntry TextError) (fault : TextError) (places : List (Option World)) (old new : List ℕ) → items ≡ items_in text → left ≡ item ∷ more → item ≡ Err fault
+    → Running items left places old new → replay_of text ≡ Err (replay_error fault)
+runs_fault text items left more item fault places old new are first is r =
+    ap (λ (read : Result (List ScheduleEntry) ReplayError). replay_on read)
+    (said_fault text items fault are (r.taken.same ∙ ap (λ (l : Items). with_all r.taken.prefix (all_of l)) first ∙ ap (λ (i : Result ScheduleEntry TextError). with_all r.taken.prefix (all_of (i ∷ more))) is))

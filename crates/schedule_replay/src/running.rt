@@ -199,42 +199,28 @@ fn run_line(
     run_in(alloc, &mut places[usize::from(entry.unit)], entry, out)
 }
 
-// Does the lines of a text without a fault, and appends their text. After OutOfMemory some of it
+// Does the lines of a text up to its first fault, and appends their text. After an error some of it
 // may have been appended.
 fn run_text(
     alloc: Global,
     places: &mut Vec<Option<World>>,
     text: &[u8],
     out: &mut Vec<u8>,
-) -> Result<(), OutOfMemory>
+) -> Result<(), ReplayError>
     requires size { length text.now ≤ 67108864 }
-    requires sound { (entries : List EntrySaid) × (schedule_of text.now ≡ Ok entries) }
     requires none { ArePlaces [] places.old.items }
     ensures runs { OnOk result (RunsText text.now places.new.items out.old.items out.new.items) }
+    ensures cause { IfErr result (λ error. (error ≡ errors.OutOfMemory) ⊎ (replay_of text.now ≡ Err error)) }
     ensures behind { take (length out.old.items) out.new.items ≡ out.old.items }
 {
     schedules_are_well_formed();
     'lines: for item in Schedule::of_text(text) {
         match item {
             Ok(entry) => run_line(alloc, places, &entry, out)?,
-            Err(_) => unreachable!(),
+            Err(fault) => return Err(ReplayError::from(fault)),
         }
     }
     Ok(())
-}
-
-// The first fault of a schedule's text.
-fn first_fault(text: &[u8]) -> Option<TextError>
-    requires { length text.now ≤ 67108864 }
-    ensures none { IfNone result ((entries : List EntrySaid) × (schedule_of text.now ≡ Ok entries)) }
-    ensures some { IfSome result (λ fault. schedule_of text.now ≡ Err (replay_error fault)) }
-{
-    'items: for item in Schedule::of_text(text) {
-        if let Err(fault) = item {
-            return Some(fault);
-        }
-    }
-    None
 }
 
 // No unit has a world yet.
@@ -262,32 +248,33 @@ fn all_worlds(alloc: Global, places: Vec<Option<World>>) -> Result<WorldList, Ou
     Ok(worlds)
 }
 
-// Replays the lines of a text without a fault. After OutOfMemory some text may have been appended.
-fn replay_sound(
+// Replays the lines of a text. After an error some text may have been appended.
+fn replay_lines(
     alloc: Global,
     text: &[u8],
     worlds: &mut WorldList,
     out: &mut Vec<u8>,
-) -> Result<(), OutOfMemory>
-    requires size { length text.now ≤ 67108864 }
-    requires sound { (entries : List EntrySaid) × (schedule_of text.now ≡ Ok entries) }
+) -> Result<(), ReplayError>
+    requires { length text.now ≤ 67108864 }
     ensures written { OnOk result ((written : List ℕ) × (replay_of text.now ≡ Ok written) × (out.new.items ≡ out.old.items ++ written)) }
     ensures worlds { OnOk result (AddsWorlds text.now worlds.old.items worlds.new.items) }
+    ensures cause { IfErr result (λ error. (error ≡ errors.OutOfMemory) ⊎ (replay_of text.now ≡ Err error)) }
     ensures kept { OnErr result (worlds.new.items ≡ worlds.old.items) }
     ensures behind { take (length out.old.items) out.new.items ≡ out.old.items }
 {
     let mut places = no_worlds(alloc)?;
     run_text(alloc, &mut places, text, out)?;
     let added = all_worlds(alloc, places)?;
-    worlds.append(added.into_vec())
+    worlds.append(added.into_vec())?;
+    Ok(())
 }
 
 /// Replays a schedule: does each line in the world of its unit, in the text's order. Appends what
 /// the lines write to `out`, and to `worlds` the world of each unit that a line names, by rising
 /// unit, in which all the unit's lines were done.
 ///
-/// A text has at most 67,108,864 bytes. The whole text is judged before the first line is done:
-/// `Text` is its first fault. After an error `out` and `worlds` are as before.
+/// A text has at most 67,108,864 bytes, and is gone over once. `Text` is its first fault: nothing
+/// is kept of the lines before. After an error `out` and `worlds` are as before.
 pub fn replay(
     alloc: Global,
     text: &[u8],
@@ -301,15 +288,12 @@ pub fn replay(
     ensures kept_text { OnErr result (out.new.items ≡ out.old.items) }
     ensures kept_worlds { OnErr result (worlds.new.items ≡ worlds.old.items) }
 {
-    if let Some(fault) = first_fault(text) {
-        return Err(ReplayError::from(fault));
-    }
     let start = out.len();
-    match replay_sound(alloc, text, worlds, out) {
+    match replay_lines(alloc, text, worlds, out) {
         Ok(()) => Ok(()),
-        Err(_) => {
+        Err(error) => {
             out.truncate(start);
-            Err(ReplayError::OutOfMemory)
+            Err(error)
         }
     }
 }

@@ -1,6 +1,6 @@
-use Rattle.std.proofs.Common.{rules, ◌≡◌, refl, sym, subst}
+use Rattle.std.proofs.Common.{rules, ◌≡◌, refl, sym, ap, ◌∙◌, subst, inr, Err}
 use Rattle.schedule_replay.proofs.Printing.{behind_of, behind_on}
-use Rattle.schedule_replay.proofs.Reading.{Items, Running, items_in, runs_none, runs_more, runs_all, runs_no_fault}
+use Rattle.schedule_replay.proofs.Reading.{Items, Running, items_in, runs_none, runs_more, runs_all, runs_fault}
 use Rattle.schedule_replay.specs.Replay.{replay_text}
 use Rattle.schedule_replay.proofs.running.run_text.Goals as goal
 
@@ -26,10 +26,12 @@ returns-in_err-run_line-in-Ok-clause-behind c =
     behind_on c.args.out.now.items c.lines.out.items c.run_line.new.out.items c.run_line.ensures.behind
     (behind_of c.args.out.now.items c.lines.out.items (replay_text c.lines.invariant.runs.done) c.lines.invariant.runs.written)
 
-pub unreachable-requires : goal.unreachable-requires
-unreachable-requires c =
-    runs_no_fault c.args.text.now (items_in c.args.text.now) c.lines.item-iterator c.next.new.self c.in-Some.item c.in-Err.field-0 c.lines.places.items c.args.out.now.items c.lines.out.items refl c.in-Some.ensures.steps c.in-Err.is c.requires.sound
-    c.lines.invariant.runs
+pub returns-in-Err-clause-cause : goal.returns-in-Err-clause-cause
+returns-in-Err-clause-cause c = inr (runs_fault c.args.text.now (items_in c.args.text.now) c.lines.item-iterator c.next.new.self c.in-Some.item c.in-Err.fault c.lines.places.items c.args.out.now.items c.lines.out.items refl c.in-Some.ensures.steps c.in-Err.is
+    c.lines.invariant.runs ∙ ap Err (sym c.from.ensures))
+
+pub returns-in-Err-clause-behind : goal.returns-in-Err-clause-behind
+returns-in-Err-clause-behind c = behind_of c.args.out.now.items c.lines.out.items (replay_text c.lines.invariant.runs.done) c.lines.invariant.runs.written
 
 pub returns-clause-runs : goal.returns-clause-runs
 returns-clause-runs c = runs_all c.args.text.now (items_in c.args.text.now) c.lines.item-iterator c.lines.places.items c.args.out.now.items c.lines.out.items refl c.in-None.ensures.steps.0 c.lines.invariant.runs

@@ -2,8 +2,7 @@ use Rattle.std.proofs.Common.{◌≡◌, ◌++◌, List, ap, ◌∙◌, reverse}
 use Rattle.world_model.specs.declared.world.World.{World}
 use Rattle.schedule_replay.specs.Worlds.{AddsWorlds, worlds_in}
 use Rattle.schedule_replay.proofs.Places.{all_worlds_are}
-use Rattle.schedule_replay.proofs.Results.{on_ok_map}
-use Rattle.schedule_replay.proofs.running.replay_sound.Goals as goal
+use Rattle.schedule_replay.proofs.running.replay_lines.Goals as goal
 
 pub returns-clause-worlds : goal.returns-clause-worlds
 returns-clause-worlds c =
@@ -12,9 +11,8 @@ returns-clause-worlds c =
     let runs = c.in_ok-run_text.ensures.runs in
     let added : List World = worlds_in c.run_text.new.places.items in
     let are : c.into_vec.result.items ≡ added = c.into_vec.ensures ∙ c.in_ok-added.ensures in
-    on_ok_map (new ≡ old ++ c.into_vec.result.items) (AddsWorlds c.args.text.now old new) c.append.result c.append.ensures.ok
-    (λ appended. record {
+    record {
       added = added;
-      appended = appended ∙ ap (λ (l : List World). old ++ l) are;
+      appended = c.in_ok-append.ensures.ok ∙ ap (λ (l : List World). old ++ l) are;
       run = record { entries = runs.entries; read = runs.read; are = all_worlds_are c.run_text.new.places.items (reverse runs.entries) runs.are };
-    })
+    }
