@@ -2,3 +2,4 @@ pub mod Pieces
 pub mod Texts
 mod Shown
 mod Followed
+pub mod Booking

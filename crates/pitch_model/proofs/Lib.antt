@@ -20,3 +20,4 @@ pub mod ImageRaws
 pub mod Growing
 pub mod Datagrams
 pub mod Advertising
+pub mod Results

@@ -1,4 +1,3 @@
-mod Results
 mod Printing
 mod Places
 mod Reading

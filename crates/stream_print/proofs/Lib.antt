@@ -1,4 +1,3 @@
-pub mod Booking
 pub mod Feeding
 pub mod Finishing
 pub mod Flow

@@ -4,7 +4,7 @@ use Rattle.world_model.specs.Printed.{shown_state, shown_at}
 use Rattle.world_model.specs.Stands.{WorldStands}
 use Rattle.world_model.specs.Verbs.{state_of}
 use Rattle.world_model.specs.declared.limits.Limits.{Limits}
-use Rattle.schedule_replay.proofs.Results.{on_ok_map}
+use Rattle.pitch_model.proofs.Results.{on_ok_map}
 use Rattle.schedule_replay.proofs.running.append_shown.Goals as goal
 
 pub returns-in-Show-clause-shown : goal.returns-in-Show-clause-shown

@@ -7,7 +7,7 @@ use Rattle.world_model.specs.declared.world.World.{World}
 use Rattle.schedule_replay.specs.Replay.{replay_line}
 use Rattle.schedule_replay.specs.Worlds.{ArePlaces, IsPlace}
 use Rattle.schedule_replay.proofs.Places.{places_more}
-use Rattle.schedule_replay.proofs.Results.{on_ok_map}
+use Rattle.pitch_model.proofs.Results.{on_ok_map}
 use Rattle.schedule_replay.proofs.running.run_line.Goals as goal
 
 pub returns-clause-places : goal.returns-clause-places

@@ -6,7 +6,7 @@ use Rattle.world_model.specs.Stands.{WorldStands}
 use Rattle.world_model.specs.Verbs.{state_of}
 use Rattle.world_model.specs.declared.limits.Limits.{Limits}
 use Rattle.schedule_replay.proofs.Printing.{text_is, behind_on, behind_of}
-use Rattle.schedule_replay.proofs.Results.{on_ok_map}
+use Rattle.pitch_model.proofs.Results.{on_ok_map}
 use Rattle.schedule_replay.proofs.running.step_in.Goals as goal
 
 pub returns-in_ok-append_printed-in-Ok-clause-text : goal.returns-in_ok-append_printed-in-Ok-clause-text

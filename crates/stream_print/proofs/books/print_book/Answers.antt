@@ -6,8 +6,8 @@ use Rattle.pitch_model.specs.Levels.{orders_of}
 use Rattle.feed_lines.specs.BookText.{book_head, book_text}
 use Rattle.stream_print.specs.Page.{Page, Prints}
 use Rattle.stream_print.specs.Putting.{PutsSome}
-use Rattle.stream_print.proofs.Booking.{lines_of, book_text_is}
-use Rattle.unit_clients.proofs.Results.{on_ok_map, on_err_map}
+use Rattle.feed_lines.proofs.Booking.{lines_of, book_text_is}
+use Rattle.pitch_model.proofs.Results.{on_ok_map, on_err_map}
 use Rattle.stream_print.proofs.Printing.{prints_line, prints_more, puts_then}
 use Rattle.stream_print.proofs.books.print_book.Goals as goal
 

@@ -5,7 +5,7 @@ use Rattle.unit_packets.specs.Blocks.{Block}
 use Rattle.client_core.specs.declared.client.UnitClient.{UnitClient}
 use Rattle.stream_print.specs.Books.{AreFirstBooks}
 use Rattle.unit_clients.specs.Clients.{Clients, AreUnits}
-use Rattle.unit_clients.proofs.Results.{on_err}
+use Rattle.pitch_model.proofs.Results.{on_err}
 use Rattle.stream_print.proofs.Uniting.{books_start, books_more, books_fail}
 use Rattle.stream_print.proofs.books.print_books.Goals as goal
 

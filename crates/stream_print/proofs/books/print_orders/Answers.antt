@@ -5,8 +5,8 @@ use Rattle.pitch_messages.specs.declared.order.Order.{Order}
 use Rattle.feed_lines.specs.BookText.{order_line}
 use Rattle.stream_print.specs.Page.{Page, Prints}
 use Rattle.stream_print.specs.Putting.{PutsSome}
-use Rattle.stream_print.proofs.Booking.{lines_of, lines_append, lines_take}
-use Rattle.unit_clients.proofs.Results.{on_err}
+use Rattle.feed_lines.proofs.Booking.{lines_of, lines_append, lines_take}
+use Rattle.pitch_model.proofs.Results.{on_err}
 use Rattle.stream_print.proofs.Printing.{prints_line, prints_more, puts_after, puts_longer}
 use Rattle.stream_print.proofs.books.print_orders.Goals as goal
 

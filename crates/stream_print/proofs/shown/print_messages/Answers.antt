@@ -2,7 +2,7 @@ use Rattle.std.proofs.Common.{◌++◌, length, ap, arith}
 use Rattle.feed_lines.specs.Show.{message_line, message_lines}
 use Rattle.stream_print.specs.Page.{Page}
 use Rattle.stream_print.specs.Putting.{PutsSome}
-use Rattle.unit_clients.proofs.Results.{on_err}
+use Rattle.pitch_model.proofs.Results.{on_err}
 use Rattle.stream_print.proofs.Printing.{prints_line}
 use Rattle.stream_print.proofs.Showing.{shown_more, shown_all, shown_fails, within_next}
 use Rattle.stream_print.proofs.shown.print_messages.Goals as goal

@@ -7,7 +7,7 @@ use Rattle.unit_packets.specs.declared.header.Header.{Header}
 use Rattle.feed_lines.specs.Texts.{texts_after}
 use Rattle.stream_print.specs.Knowing.{task_form, HasPrinted}
 use Rattle.stream_print.specs.Putting.{PutsSome}
-use Rattle.unit_clients.proofs.Results.{on_err}
+use Rattle.pitch_model.proofs.Results.{on_err}
 use Rattle.stream_print.specs.Texts.{block_text}
 use Rattle.stream_print.proofs.Streaming.{taking_start, taking_more, taking_end, taking_fails}
 use Rattle.stream_print.proofs.stream.print_loaded.Goals as goal

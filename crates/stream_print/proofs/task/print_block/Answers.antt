@@ -3,7 +3,7 @@ use Rattle.unit_packets.specs.Blocks.{Block}
 use Rattle.stream_print.specs.Knowing.{Knows}
 use Rattle.unit_clients.specs.Clients.{HaveHeard}
 use Rattle.stream_print.specs.declared.task.Task.{Task}
-use Rattle.unit_clients.proofs.Results.{on_ok_map}
+use Rattle.pitch_model.proofs.Results.{on_ok_map}
 use Rattle.stream_print.proofs.task.print_block.Goals as goal
 
 pub returns-in-Follow-clause-knows : goal.returns-in-Follow-clause-knows

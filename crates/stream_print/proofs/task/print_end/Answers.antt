@@ -8,7 +8,7 @@ use Rattle.stream_print.specs.Books.{AreBooksBelow, AreFirstBooks}
 use Rattle.stream_print.specs.Knowing.{Knows, task_form}
 use Rattle.unit_clients.specs.Clients.{Clients}
 use Rattle.stream_print.specs.declared.task.Task.{Task}
-use Rattle.unit_clients.proofs.Results.{on_ok_map, on_err_map}
+use Rattle.pitch_model.proofs.Results.{on_ok_map, on_err_map}
 use Rattle.stream_print.proofs.Uniting.{end_of_books, prefix_of_books}
 use Rattle.stream_print.proofs.task.print_end.Goals as goal
 

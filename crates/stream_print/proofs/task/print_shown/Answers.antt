@@ -3,7 +3,7 @@ use Rattle.unit_packets.specs.declared.header.Header.{Header}
 use Rattle.feed_lines.specs.Show.{shown_head, message_lines}
 use Rattle.stream_print.specs.Page.{Page, Prints}
 use Rattle.stream_print.specs.Putting.{PutsSome}
-use Rattle.unit_clients.proofs.Results.{on_err}
+use Rattle.pitch_model.proofs.Results.{on_err}
 use Rattle.stream_print.proofs.Printing.{prints_line, prints_more, puts_then}
 use Rattle.stream_print.proofs.task.print_shown.Goals as goal
 

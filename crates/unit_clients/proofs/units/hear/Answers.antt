@@ -6,7 +6,7 @@ use Rattle.pitch_model.specs.Heard.{heard_block}
 use Rattle.pitch_model.specs.Honest.{Honest}
 use Rattle.client_core.specs.Blocks.{Carries}
 use Rattle.client_core.specs.Tracks.{Keeps}
-use Rattle.unit_clients.proofs.Results.{on_ok_map}
+use Rattle.pitch_model.proofs.Results.{on_ok_map}
 use Rattle.unit_clients.proofs.units.hear.Goals as goal
 
 pub returns-clause-keeps : goal.returns-clause-keeps

@@ -6,7 +6,7 @@ use Rattle.pitch_model.specs.Honest.{Honest}
 use Rattle.client_core.specs.Tracks.{Keeps}
 use Rattle.unit_clients.specs.Clients.{KeepsTo}
 use Rattle.unit_clients.proofs.Hearing.{new_client}
-use Rattle.unit_clients.proofs.Results.{on_ok_map}
+use Rattle.pitch_model.proofs.Results.{on_ok_map}
 use Rattle.unit_clients.proofs.units.hear_at.Goals as goal
 
 pub returns-in-Some-clause-keeps : goal.returns-in-Some-clause-keeps

@@ -4,7 +4,9 @@ use Rattle.pitch_model.specs.Book.{Book}
 use Rattle.feed_lines.specs.BookText.{book_text}
 use Rattle.pitch_model.specs.Levels.{orders_of}
 use Rattle.feed_lines.specs.BookText.{book_head}
-use Rattle.world_model.proofs.Booking.{lines_of, whole, on_ok_map}
+use Rattle.pitch_model.proofs.Results.{on_ok_map}
+use Rattle.feed_lines.proofs.Booking.{lines_of}
+use Rattle.world_model.proofs.Booking.{whole}
 use Rattle.world_model.proofs.showing.append_book.Goals as goal
 
 pub returns-clause-ok : goal.returns-clause-ok

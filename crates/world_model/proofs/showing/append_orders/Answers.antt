@@ -2,7 +2,7 @@ use Rattle.std.proofs.Common.{rules, ℕ, List, ◌++◌, length, take, refl, sy
 use Rattle.std.proofs.lemmas.List.{take_at}
 use Rattle.std.proofs.lemmas.Option.{slice_get_read}
 use Rattle.feed_lines.specs.BookText.{order_line}
-use Rattle.world_model.proofs.Booking.{lines_of, lines_take}
+use Rattle.feed_lines.proofs.Booking.{lines_of, lines_take}
 use Rattle.world_model.proofs.showing.append_orders.Goals as goal
 
 pub lines-preserved : goal.lines-preserved

@@ -11,7 +11,7 @@ use Rattle.pitch_model.specs.Honest.{Honest}
 use Rattle.client_core.specs.declared.client.UnitClient.{UnitClient}
 use Rattle.unit_clients.specs.Clients.{HaveHeard, Units, Clients, IsClient, AreUnits, AllKeep}
 use Rattle.unit_clients.proofs.Hearing.{low_more, clients_hear, clients_keep, clients_still, all_keep_still}
-use Rattle.unit_clients.proofs.Results.{on_err}
+use Rattle.pitch_model.proofs.Results.{on_err}
 use Rattle.unit_clients.proofs.units.Units.hear_block.Goals as goal
 
 -- the clients as they were at the call

@@ -3,7 +3,8 @@ use Rattle.feed_lines.specs.BookText.{book_text}
 use Rattle.world_model.specs.Printed.{counts_text, shown_state}
 use Rattle.world_model.specs.Stands.{WorldHas}
 use Rattle.world_model.specs.State.{State}
-use Rattle.world_model.proofs.Booking.{shown_is, on_ok_map, front_stays}
+use Rattle.pitch_model.proofs.Results.{on_ok_map}
+use Rattle.world_model.proofs.Booking.{shown_is, prefix_stays}
 use Rattle.world_model.proofs.world.World.append_shown.Goals as goal
 
 pub returns-clause-shown : goal.returns-clause-shown
@@ -20,5 +21,5 @@ returns-clause-shown c =
 
 pub returns-clause-behind : goal.returns-clause-behind
 returns-clause-behind c =
-    front_stays c.append_counts.result c.args.out.now.items c.append_book.new.out.items c.append_counts.new.out.items (counts_text c.counts-a.result c.counts-b.result c.counts-gap.result) c.append_counts.ensures.ok c.append_counts.ensures.err
+    prefix_stays c.append_counts.result c.args.out.now.items c.append_book.new.out.items c.append_counts.new.out.items (counts_text c.counts-a.result c.counts-b.result c.counts-gap.result) c.append_counts.ensures.ok c.append_counts.ensures.err
     c.append_book.ensures.behind
