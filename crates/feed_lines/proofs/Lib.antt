@@ -1,4 +1,4 @@
-mod Pieces
+pub mod Pieces
 pub mod Texts
 mod Shown
 mod Followed

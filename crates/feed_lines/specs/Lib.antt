@@ -4,3 +4,4 @@ pub mod BookText
 pub mod Follow
 pub mod Show
 pub mod Terms
+pub mod LineSize

@@ -10,5 +10,7 @@ mod lines;
 mod messages;
 mod terms;
 
-pub use crate::lines::{LINE, put_block_line, put_book_head, put_order_line, put_shown_head};
+pub use crate::lines::{
+    LINE, put_block_line, put_book_head, put_order_line, put_overflow, put_shown_head, put_status,
+};
 pub use crate::messages::{next_after, put_message_line};

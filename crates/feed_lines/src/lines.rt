@@ -1,6 +1,7 @@
 //! Lines written into a buffer at an index. Each function answers where the line ends.
 
 ghost use Rattle.std.specs.Prelude.{◌≡◌, ◌≤◌, ◌+◌, ◌++◌, [], ◌∷◌, take, length};
+ghost use Rattle.feed_lines.specs.LineSize.{line_size};
 ghost use Rattle.feed_lines.specs.BookText.{hidden_text, participant_text, second_text, order_head, order_tail, order_line, book_place, book_head};
 ghost use Rattle.feed_lines.specs.Follow.{block_line, overflow_text};
 ghost use Rattle.feed_lines.specs.Show.{shown_head};
@@ -32,8 +33,8 @@ fn put_block_head(out: &mut [u8], at: usize, number: u64, header: Header) -> usi
     put_number(out, count, u64::from(header.count))
 }
 
-// Writes a status.
-fn put_status(out: &mut [u8], at: usize, status: Status) -> usize
+/// Writes a status.
+pub fn put_status(out: &mut [u8], at: usize, status: Status) -> usize
     requires { at + 60 ≤ length out.old }
     ensures end { result ≤ at + 60 }
     ensures text { take result out.new ≡ take at out.old ++ status_text status }
@@ -54,8 +55,8 @@ fn put_status(out: &mut [u8], at: usize, status: Status) -> usize
     }
 }
 
-// Writes that the hold overflowed.
-fn put_overflow(out: &mut [u8], at: usize, overflow: bool) -> usize
+/// Writes that the hold overflowed, where it did.
+pub fn put_overflow(out: &mut [u8], at: usize, overflow: bool) -> usize
     requires { at + 9 ≤ length out.old }
     ensures end { result ≤ at + 9 }
     ensures text { take result out.new ≡ take at out.old ++ overflow_text overflow }
@@ -78,8 +79,8 @@ pub fn put_block_line(
     overflow: bool,
     status: Status,
 ) -> usize
-    requires { at + LINE ≤ length out.old }
-    ensures end { result ≤ at + LINE }
+    requires { at + line_size ≤ length out.old }
+    ensures end { result ≤ at + line_size }
     ensures text { take result out.new ≡ take at out.old ++ block_line number header.unit header.sequence header.count overflow status }
     ensures kept { length out.new ≡ length out.old }
 {
@@ -93,8 +94,8 @@ pub fn put_block_line(
 /// Writes the line of a block whose messages follow, each on a line of its own.
 #[tactic(auto, unfolding(crate::specs::Show::shown_head))]
 pub fn put_shown_head(out: &mut [u8], at: usize, number: u64, header: Header) -> usize
-    requires { at + LINE ≤ length out.old }
-    ensures end { result ≤ at + LINE }
+    requires { at + line_size ≤ length out.old }
+    ensures end { result ≤ at + line_size }
     ensures text { take result out.new ≡ take at out.old ++ shown_head number header.unit header.sequence header.count }
     ensures kept { length out.new ≡ length out.old }
 {
@@ -139,8 +140,8 @@ pub fn put_book_head(
     second: Option<u32>,
     count: u64,
 ) -> usize
-    requires { at + LINE ≤ length out.old }
-    ensures end { result ≤ at + LINE }
+    requires { at + line_size ≤ length out.old }
+    ensures end { result ≤ at + line_size }
     ensures text { take result out.new ≡ take at out.old ++ book_head unit reach second count }
     ensures kept { length out.new ≡ length out.old }
 {
@@ -209,8 +210,8 @@ fn put_order_tail(out: &mut [u8], at: usize, order: &Order) -> usize
 /// Writes the line of an open order.
 #[tactic(auto, unfolding(crate::specs::BookText::order_line))]
 pub fn put_order_line(out: &mut [u8], at: usize, order: &Order) -> usize
-    requires { at + LINE ≤ length out.old }
-    ensures end { result ≤ at + LINE }
+    requires { at + line_size ≤ length out.old }
+    ensures end { result ≤ at + line_size }
     ensures text { take result out.new ≡ take at out.old ++ order_line order.now.id order.now }
     ensures kept { length out.new ≡ length out.old }
 {

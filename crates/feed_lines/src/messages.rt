@@ -1,12 +1,13 @@
 //! Lines of messages, field by field.
 
-ghost use Rattle.std.specs.Prelude.{◌≡◌, ◌≤◌, ◌<◌, ◌+◌, ◌++◌, take, length, codes, Result, Err};
+ghost use Rattle.std.specs.Prelude.{◌≡◌, ◌≤◌, ◌<◌, ◌+◌, ◌++◌, take, length, codes, Result, Err, IsTrue};
 ghost use Rattle.pitch_fields.specs.Limits.{last_sequence};
 ghost use Rattle.pitch_fields.specs.Name.{name_shown};
 ghost use Rattle.pitch_messages.specs.Raw.{IsRaw, kind_of};
 ghost use Rattle.pitch_messages.specs.Reading.{reads};
+ghost use Rattle.feed_lines.specs.LineSize.{line_size};
 ghost use Rattle.feed_lines.specs.Show.{number_field, kind_text, price_text, flags_text, add_text, trade_text, reduce_text, modify_text, executed_text, message_text, short_text, bad_side_text, said_text, message_line, next_after};
-ghost use Rattle.feed_lines.specs.Terms.{shown};
+ghost use Rattle.feed_lines.specs.Terms.{shown, has_terms};
 
 use crate::fields::{
     put_byte_field, put_count_field, put_extra, put_flags, put_head, put_kind, put_number_field,
@@ -146,17 +147,17 @@ fn put_other(out: &mut [u8], at: usize, raw: &[u8]) -> usize
     put_number_field(out, typed, b" length=", raw.len() as u64)
 }
 
-// Writes the name of a message and its fields, in the order of the table.
+// Writes the name of an add or a trade and its fields.
 #[inline(always)]
 #[tactic(auto, unfolding(crate::specs::Show::message_text))]
-fn put_message(out: &mut [u8], at: usize, message: &Message) -> usize
-    requires { at + 300 ≤ length out.old }
+fn put_with_terms(out: &mut [u8], at: usize, message: &Message) -> usize
+    requires place { at + 300 ≤ length out.old }
+    requires terms { IsTrue (has_terms message.now) }
     ensures end { result ≤ at + 300 }
     ensures text { take result out.new ≡ take at out.old ++ message_text message.now }
     ensures kept { length out.new ≡ length out.old }
 {
     match *message {
-        Message::Time { second } => { put_count_field(out, at, b"time second=", second) }
         Message::AddLong {
             offset,
             id,
@@ -181,6 +182,71 @@ fn put_message(out: &mut [u8], at: usize, message: &Message) -> usize
             let terms = Terms::of_short(side, quantity, symbol, price);
             put_add(out, at, b"add-short", offset, id, terms, flags)
         }
+        Message::AddExpanded {
+            offset,
+            id,
+            side,
+            quantity,
+            symbol,
+            price,
+            flags,
+            participant,
+        } => {
+            let terms = Terms::of_expanded(side, quantity, symbol, price);
+            let added = put_add(out, at, b"add-expanded", offset, id, terms, flags);
+            put_participant(out, added, participant)
+        }
+        Message::TradeLong {
+            offset,
+            id,
+            side,
+            quantity,
+            symbol,
+            price,
+            execution,
+        } => {
+            let terms = Terms::of_long(side, quantity, symbol, price);
+            put_trade(out, at, b"trade-long", offset, id, terms, execution)
+        }
+        Message::TradeShort {
+            offset,
+            id,
+            side,
+            quantity,
+            symbol,
+            price,
+            execution,
+        } => {
+            let terms = Terms::of_short(side, quantity, symbol, price);
+            put_trade(out, at, b"trade-short", offset, id, terms, execution)
+        }
+        Message::TradeExpanded {
+            offset,
+            id,
+            side,
+            quantity,
+            symbol,
+            price,
+            execution,
+        } => {
+            let terms = Terms::of_expanded(side, quantity, symbol, price);
+            put_trade(out, at, b"trade-expanded", offset, id, terms, execution)
+        }
+        _ => unreachable!(),
+    }
+}
+
+// Writes the name of a message and its fields, in the order of the table.
+#[inline(always)]
+#[tactic(auto, unfolding(crate::specs::Show::message_text))]
+fn put_message(out: &mut [u8], at: usize, message: &Message) -> usize
+    requires { at + 300 ≤ length out.old }
+    ensures end { result ≤ at + 300 }
+    ensures text { take result out.new ≡ take at out.old ++ message_text message.now }
+    ensures kept { length out.new ≡ length out.old }
+{
+    match *message {
+        Message::Time { second } => { put_count_field(out, at, b"time second=", second) }
         Message::Executed {
             offset,
             id,
@@ -232,60 +298,11 @@ fn put_message(out: &mut [u8], at: usize, message: &Message) -> usize
             put_modified(out, counted, Price::from_short(price), flags)
         }
         Message::Delete { offset, id } => put_head(out, at, b"delete", offset, id),
-        Message::TradeLong {
-            offset,
-            id,
-            side,
-            quantity,
-            symbol,
-            price,
-            execution,
-        } => {
-            let terms = Terms::of_long(side, quantity, symbol, price);
-            put_trade(out, at, b"trade-long", offset, id, terms, execution)
-        }
-        Message::TradeShort {
-            offset,
-            id,
-            side,
-            quantity,
-            symbol,
-            price,
-            execution,
-        } => {
-            let terms = Terms::of_short(side, quantity, symbol, price);
-            put_trade(out, at, b"trade-short", offset, id, terms, execution)
-        }
         Message::TradeBreak { offset, execution } => put_trade_break(out, at, offset, execution),
         Message::EndOfSession { offset } => { put_count_field(out, at, b"end offset=", offset) }
-        Message::AddExpanded {
-            offset,
-            id,
-            side,
-            quantity,
-            symbol,
-            price,
-            flags,
-            participant,
-        } => {
-            let terms = Terms::of_expanded(side, quantity, symbol, price);
-            let added = put_add(out, at, b"add-expanded", offset, id, terms, flags);
-            put_participant(out, added, participant)
-        }
-        Message::TradeExpanded {
-            offset,
-            id,
-            side,
-            quantity,
-            symbol,
-            price,
-            execution,
-        } => {
-            let terms = Terms::of_expanded(side, quantity, symbol, price);
-            put_trade(out, at, b"trade-expanded", offset, id, terms, execution)
-        }
         Message::UnitClear { offset } => { put_count_field(out, at, b"unit-clear offset=", offset) }
         Message::Other(ref raw) => put_other(out, at, raw.bytes()),
+        _ => put_with_terms(out, at, message),
     }
 }
 
@@ -395,9 +412,9 @@ fn put_any(out: &mut [u8], at: usize, raw: &[u8], kind: u8) -> usize
 /// why it can't be read.
 #[tactic(auto, unfolding(crate::specs::Show::message_line))]
 pub fn put_message_line(out: &mut [u8], at: usize, sequence: u32, raw: &[u8]) -> usize
-    requires place { at + LINE ≤ length out.old }
+    requires place { at + line_size ≤ length out.old }
     requires raw { IsRaw raw.now }
-    ensures end { result ≤ at + LINE }
+    ensures end { result ≤ at + line_size }
     ensures text { take result out.new ≡ take at out.old ++ message_line sequence raw.now }
     ensures kept { length out.new ≡ length out.old }
 {

@@ -1,6 +1,6 @@
 -- The last messages of a growing list.
 use Rattle.std.proofs.Common.{◌≡◌, ℕ, zero, suc, ◌+◌, ◌-◌, ◌<◌, ◌≤◌, List, [], ◌∷◌, ◌++◌, length, take, drop, refl, sym, ap, ◌∙◌, arith, subst, length-append, append_assoc, Some, None, slice_get, nat_lt, nat_eq}
-use Rattle.std.proofs.lemmas.List.{length-drop, drop-drop, append-nil, take_more}
+use Rattle.std.proofs.lemmas.List.{length-drop, drop-drop, append-nil, take_more, drop-append-le}
 use Rattle.std.proofs.lemmas.Option.{slice_get_within, get_or_from_slice_get}
 use Rattle.std.proofs.lemmas.Bool.{cond-true, cond-false, lt-ltb, le-ltb, ne_eqb, eq-eqb}
 use Rattle.circular_buffer.proofs.Places.{slice_get-drop}
@@ -9,12 +9,11 @@ use Rattle.gap_store.specs.declared.found.Found.TheVariants.{Kept, Ahead, NotKep
 use Rattle.circular_buffer.specs.Buffer.{keep_last}
 use Rattle.gap_store.specs.Look.{View, IsLater, Store, store_of, first_kept, look, given, slice_of, oldest, LooksAt, FindsAt, PacksRange, PacksAt}
 use Rattle.unit_packets.specs.Packing.{packed_on}
-use Rattle.unit_packets.proofs.Cuts.{drop_append}
 
 pub keep_push : (n : ℕ) (xs : List (List ℕ)) (x : List ℕ) → keep_last n (keep_last n xs ++ x ∷ []) ≡ keep_last n (xs ++ x ∷ [])
 keep_push n xs x =
     let k : ℕ = length xs - n in
-    let e : keep_last n xs ++ x ∷ [] ≡ drop k (xs ++ x ∷ []) = sym (drop_append k xs (x ∷ []) (omega arith)) in
+    let e : keep_last n xs ++ x ∷ [] ≡ drop k (xs ++ x ∷ []) = sym (drop-append-le k xs (x ∷ []) (omega arith)) in
     ap (keep_last n) e ∙ drop-drop (length (drop k (xs ++ x ∷ [])) - n) k (xs ++ x ∷ [])
     ∙ ap (λ (m : ℕ). drop m (xs ++ x ∷ [])) (omega (arith, length-drop k (xs ++ x ∷ []), length-append xs (x ∷ [])))
 

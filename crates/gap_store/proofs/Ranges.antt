@@ -7,7 +7,8 @@ use Rattle.circular_buffer.proofs.Places.{slice_get-drop, slice_get-take}
 use Rattle.pitch_messages.specs.Raw.{IsRaw}
 use Rattle.pitch_messages.specs.Room.{Roomy}
 use Rattle.unit_packets.specs.Blocks.{StaysWithin}
-use Rattle.unit_packets.specs.Packing.{Packing, HasPacked, Finishes, GivesPacking, IsPacking, packed, bytes_in, unpacked}
+use Rattle.unit_packets.specs.Packing.{IsPacking, packed, bytes_in}
+use Rattle.unit_packets.specs.Pushing.{Packing, HasPacked, Finishes, GivesPacking, unpacked}
 use Rattle.unit_packets.proofs.PackingAll.{SoFar, none_so_far, all_packed}
 use Rattle.unit_packets.proofs.Packs.{packed_none, bytes_append}
 use Rattle.gap_store.specs.Look.{PacksRange}

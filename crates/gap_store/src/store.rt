@@ -1,7 +1,8 @@
 ghost use Rattle.std.specs.Prelude.{◌≡◌, ℕ, ◌+◌, ◌-◌, ◌≤◌, ◌<◌, List, [], ◌∷◌, ◌++◌, true, OnOk, OnErr, IfOk, length, take, drop};
 ghost use Rattle.pitch_fields.specs.Limits.{last_sequence, most_held};
 ghost use Rattle.unit_packets.specs.Blocks.{StaysWithin};
-ghost use Rattle.unit_packets.specs.Packing.{bytes_in, unpacked};
+ghost use Rattle.unit_packets.specs.Packing.{bytes_in};
+ghost use Rattle.unit_packets.specs.Pushing.{unpacked};
 ghost use Rattle.gap_store.specs.declared.found.Found.TheVariants.{Kept};
 ghost use Rattle.gap_store.specs.Look.{View, LooksAt, FindsAt, PacksAt, PacksRange, Store, store_of, look, first_kept};
 

@@ -2,12 +2,11 @@
 use Rattle.std.proofs.Common.{◌≡◌, ℕ, zero, suc, ◌+◌, ◌-◌, ◌≤◌, ◌⊎◌, Bool, true, false, cond, ◌||◌, List, [], ◌∷◌, ◌++◌, length, take, drop, refl, sym, ap, ◌∙◌, arith, subst, inl, inr, nat_eq, nat_lt, is_some, length-append}
 use Rattle.std.specs.List.{AllByRecursion}
 use Rattle.std.proofs.lemmas.Bool.{cases_eq, cases_lt, eq-eqb, ne_eqb, lt-ltb, cond-true, cond-false}
-use Rattle.std.proofs.lemmas.List.{length-take, length-drop, take-append-le}
+use Rattle.std.proofs.lemmas.List.{length-take, length-drop, take-append-le, drop-append-le}
 use Rattle.pitch_messages.specs.Raw.{IsRaw}
 use Rattle.pitch_messages.specs.declared.session.SessionMessage.{SessionMessage}
 use Rattle.pitch_messages.specs.declared.session.SessionMessage.TheVariants.{GapRequest}
 use Rattle.unit_packets.specs.Packing.{IsPacking, packed}
-use Rattle.unit_packets.proofs.Cuts.{drop_append}
 use Rattle.unit_packets.proofs.OnePacking.{packing_is_computed}
 use Rattle.gap_store.specs.Look.{View, IsLater, look, slice_of}
 use Rattle.gap_store.specs.declared.found.Found.{Found}
@@ -76,7 +75,7 @@ range_packed unit sequence count view now later are known there =
     let size : length now.messages ≡ length view.messages + length later.more = ap length later.messages ∙ length-append view.messages later.more in
     let same : take count (drop (sequence - 1) now.messages) ≡ slice_of view sequence count =
     ap (λ (m : List (List ℕ)). take count (drop (sequence - 1) m)) later.messages
-    ∙ ap (take count) (drop_append (sequence - 1) view.messages later.more (omega arith))
+    ∙ ap (take count) (drop-append-le (sequence - 1) view.messages later.more (omega arith))
     ∙ take-append-le count (drop (sequence - 1) view.messages) later.more (omega (arith, length-drop (sequence - 1) view.messages)) in
     let raws : AllByRecursion IsRaw (slice_of view sequence count) =
     subst (AllByRecursion IsRaw) same (all_take IsRaw count (drop (sequence - 1) now.messages) (all_drop IsRaw (sequence - 1) now.messages are.raws)) in

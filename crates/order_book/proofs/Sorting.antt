@@ -22,7 +22,7 @@ use Rattle.order_book.proofs.Maps.{find_lookup, absent, looks}
 use Rattle.order_book.specs.Standing.{IsKept}
 use Rattle.std.proofs.lemmas.Option.{none-some}
 
--- an order with its id in front
+-- an order after its id
 abbrev pub by_id : Order → ℕ × Order
 by_id order = (order.id, order)
 
@@ -42,7 +42,7 @@ rest_stands e es d s q order found = by (nat_eq q e.0) refl
         absurd (none-some order (sym (absent e.0 es (IsDistinct-head nat_eq e.0 (keys_of es) d)) ∙ ap (λ (k : ℕ). lookup (nat_eq k) es) (sym same) ∙ found))
     by false f = s q order (ap (λ (b : Bool). cond b (Some e.1) (lookup (nat_eq q) es)) f ∙ found)
 
--- so the entries are their orders with the ids in front
+-- so the entries are their orders, each after its id
 paired : (es : List (ℕ × Order)) → IsDistinct nat_eq (keys_of es) → StandById es → map by_id (values_of es) ≡ es
 paired [] d s = refl
 paired (e ∷ es) d s =

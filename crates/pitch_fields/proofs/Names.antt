@@ -83,7 +83,7 @@ blank_ill_formed xs e = ap (λ (b : Bool). not b && list_all is_printing (withou
 pub some_well_formed : (xs : List ℕ) → (without_spaces xs ≡ [] → ⊥) → is_well_formed xs ≡ list_all is_printing (without_spaces xs)
 some_well_formed xs other = ap (λ (b : Bool). not b && list_all is_printing (without_spaces xs)) (some_left xs other)
 
--- eight bytes whose last two are spaces have six in front
+-- eight bytes whose last two are spaces have six before them
 pub six_left : (xs : List ℕ) → length xs ≡ 8 → get_or xs 6 0 ≡ 32 → get_or xs 7 0 ≡ 32 → six_of xs ≡ Some (get_or xs 0 0 ∷ get_or xs 1 0 ∷ get_or xs 2 0 ∷ get_or xs 3 0 ∷ get_or xs 4 0 ∷ get_or xs 5 0 ∷ [])
 six_left [] size g h = absurd (omega arith)
 six_left (a ∷ []) size g h = absurd (omega arith)

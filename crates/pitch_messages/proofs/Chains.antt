@@ -95,7 +95,7 @@ raws_of-concat (r ∷ rs) tail all =
     ap (λ (body : List ℕ). raws_of (suc (length rs)) body) same
     ∙ raws_some (length rs) (r ++ after) begins
     ∙ ap (λ (n : ℕ). take n (r ++ after) ∷ raws_of (length rs) (drop n (r ++ after))) k
-    ∙ ap (λ (front : List ℕ). front ∷ raws_of (length rs) (drop (length r) (r ++ after))) (take-append_seam r after)
+    ∙ ap (λ (prefix : List ℕ). prefix ∷ raws_of (length rs) (drop (length r) (r ++ after))) (take-append_seam r after)
     ∙ ap (λ (body : List ℕ). r ∷ raws_of (length rs) body) (drop-append_seam r after)
     ∙ ap (λ (more : List (List ℕ)). r ∷ more) (raws_of-concat rs tail all.1)
 
@@ -133,7 +133,7 @@ chain_push count bytes raw chain is =
     let rs : List (List ℕ) = raws_of count bytes in
     chain_of (rs ++ raw ∷ []) (count + 1) (bytes ++ raw)
     (omega (arith, length-append rs (raw ∷ []), chain.many))
-    (concat-append rs (raw ∷ []) ∙ ap (λ (tail : List ℕ). concat rs ++ tail) (append-nil raw) ∙ ap (λ (front : List ℕ). front ++ raw) chain.whole)
+    (concat-append rs (raw ∷ []) ∙ ap (λ (tail : List ℕ). concat rs ++ tail) (append-nil raw) ∙ ap (λ (prefix : List ℕ). prefix ++ raw) chain.whole)
     (all_append rs raw chain.raws is)
 
 -- the bytes of a chain without those of its raws from the nth on
@@ -141,11 +141,11 @@ pub chain_take : (n count k : ℕ) (bytes : List ℕ) → IsChain count bytes �
     → Chain (min n count) (take k bytes) (take n (raws_of count bytes))
 chain_take n count k bytes chain rest =
     let rs : List (List ℕ) = raws_of count bytes in
-    let front : List ℕ = concat (take n rs) in
-    let back : List ℕ = concat (drop n rs) in
-    let whole : front ++ back ≡ bytes = sym (concat-append (take n rs) (drop n rs)) ∙ ap concat (take-append-drop n rs) ∙ chain.whole in
-    let size : k ≡ length front = omega (arith, rest, length-append front back, ap length whole) in
-    let cut : front ≡ take k bytes = sym (take-append_seam front back) ∙ ap (λ (m : ℕ). take m (front ++ back)) (sym size) ∙ ap (λ (xs : List ℕ). take k xs) whole in
+    let prefix : List ℕ = concat (take n rs) in
+    let suffix : List ℕ = concat (drop n rs) in
+    let whole : prefix ++ suffix ≡ bytes = sym (concat-append (take n rs) (drop n rs)) ∙ ap concat (take-append-drop n rs) ∙ chain.whole in
+    let size : k ≡ length prefix = omega (arith, rest, length-append prefix suffix, ap length whole) in
+    let cut : prefix ≡ take k bytes = sym (take-append_seam prefix suffix) ∙ ap (λ (m : ℕ). take m (prefix ++ suffix)) (sym size) ∙ ap (λ (xs : List ℕ). take k xs) whole in
     chain_of (take n rs) (min n count) (take k bytes)
     (length-take n rs ∙ ap (λ (m : ℕ). min n m) chain.many)
     cut (all_take n rs chain.raws)

@@ -10,7 +10,7 @@ use Rattle.pitch_messages.specs.Raw.{joined}
 pub record Filled (kind at : ℕ) (bytes fields : List ℕ) : Type 0 where
   pub place : at ≡ 2 + length fields
   pub size : length bytes ≡ 255
-  pub front : take at bytes ≡ 0 ∷ kind ∷ fields
+  pub prefix : take at bytes ≡ 0 ∷ kind ∷ fields
 
 -- one more field
 joined_more : (fields : List (Bor (List ℕ))) (i : ℕ) (d : Bor (List ℕ)) → i < length fields → joined (take (i + 1) fields) ≡ joined (take i fields) ++ (get_or fields i d).now
@@ -31,8 +31,8 @@ filled_more kind at i bytes field fields d filled within fits is =
     record {
       place = omega (arith, filled.place, ap length more, length-append (joined (take i fields)) (get_or fields i d).now);
       size = simp (length-append, length-drop, length-take) (omega (arith, size, filled.size));
-      front = take-put_mid at (at + length (get_or fields i d).now - at) bytes field (at + length (get_or fields i d).now) (omega (arith, size)) (omega (arith, filled.size))
-          ∙ ap (λ (xs : List ℕ). xs ++ field) filled.front
+      prefix = take-put_mid at (at + length (get_or fields i d).now - at) bytes field (at + length (get_or fields i d).now) (omega (arith, size)) (omega (arith, filled.size))
+          ∙ ap (λ (xs : List ℕ). xs ++ field) filled.prefix
           ∙ ap (λ (xs : List ℕ). 0 ∷ kind ∷ joined (take i fields) ++ xs) is
           ∙ ap (λ (xs : List ℕ). 0 ∷ kind ∷ xs) (sym more);
     }

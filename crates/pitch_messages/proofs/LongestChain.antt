@@ -21,10 +21,10 @@ raws_few (suc n) body = elim (cases_Bool (begins_raw body)) [
   | inr b ↦ omega (arith, ap length (raws_none (suc n) body b))
 ]
 
--- the raws are the front of the body
-pub raws_front : (n : ℕ) (body : List ℕ) → body ≡ concat (raws_of n body) ++ drop (length (concat (raws_of n body))) body
-raws_front zero body = unfold raws_of in refl
-raws_front (suc n) body = elim (cases_Bool (begins_raw body)) [
+-- the raws are a prefix of the body
+pub raws_prefix : (n : ℕ) (body : List ℕ) → body ≡ concat (raws_of n body) ++ drop (length (concat (raws_of n body))) body
+raws_prefix zero body = unfold raws_of in refl
+raws_prefix (suc n) body = elim (cases_Bool (begins_raw body)) [
   | inl b ↦
       let k : ℕ = slice_index body 0 in
       let more : List ℕ = concat (raws_of n (drop k body)) in
@@ -32,7 +32,7 @@ raws_front (suc n) body = elim (cases_Bool (begins_raw body)) [
       let size : length (take k body) ≡ k = length-take-le k body (begins_parts body b).1 in
       let all : length (concat (raws_of (suc n) body)) ≡ k + length more = omega (arith, ap length e, size, length-append (take k body) more) in
       sym (take-append-drop k body)
-      ∙ ap (λ (r : List ℕ). take k body ++ r) (raws_front n (drop k body) ∙ ap (λ (r : List ℕ). more ++ r) (drop-drop (length more) k body))
+      ∙ ap (λ (r : List ℕ). take k body ++ r) (raws_prefix n (drop k body) ∙ ap (λ (r : List ℕ). more ++ r) (drop-drop (length more) k body))
       ∙ sym (append_assoc (take k body) more (drop (k + length more) body))
       ∙ ap (λ (r : List ℕ). r ++ drop (k + length more) body) (sym e)
       ∙ ap (λ (m : ℕ). concat (raws_of (suc n) body) ++ drop m body) (sym all)
@@ -41,7 +41,7 @@ raws_front (suc n) body = elim (cases_Bool (begins_raw body)) [
       ap (λ (rs : List (List ℕ)). concat rs ++ drop (length (concat rs)) body) (sym e)
 ]
 
--- a raw at the front is seen
+-- a raw at the start is seen
 raw_begins : (raw rest : List ℕ) → IsRaw raw → begins_raw (raw ++ rest) ≡ true
 raw_begins raw rest raw_is =
     let k : slice_index (raw ++ rest) 0 ≡ length raw = get_or_append_left raw rest 0 0 (omega (arith, raw_is.least)) ∙ raw_is.first in
@@ -74,14 +74,14 @@ all_or_none (suc n) body = elim (cases_Bool (begins_raw body)) [
 pub raws_are_longest : RawsAreLongest
 raws_are_longest most bytes all = record {
   each = raws_are_raw most bytes (byte_at bytes all);
-  whole = raws_front most bytes;
+  whole = raws_prefix most bytes;
   few = raws_few most bytes;
   longest = all_or_none most bytes;
 }
 
 -- ---- there is no other
 
--- two raws at the front of the same bytes are one
+-- two raws at the start of the same bytes are one
 same_raw : (raw other rest left : List ℕ) → IsRaw raw → IsRaw other → raw ++ rest ≡ other ++ left → (raw ≡ other) × (rest ≡ left)
 same_raw raw other rest left is also same =
     let first : (r tail : List ℕ) → IsRaw r → slice_index (r ++ tail) 0 ≡ length r = λ r tail h. get_or_append_left r tail 0 0 (omega (arith, h.least)) ∙ h.first in

@@ -67,8 +67,8 @@ side_byte b side is = elim (side_test (b == 66) (b == 83) side is) [
 side_at : {needs type : ℕ} {raw rest : List ℕ} (side : Side) → Whole needs type raw → side_of (slice_index raw 14) ≡ Some side → 15 ≤ needs → rest ≡ drop 15 raw → byte_of side ∷ rest ≡ drop 14 raw
 side_at {raw = raw} {rest = rest} side whole is within more = ap (λ (b : ℕ). b ∷ rest) (side_byte (slice_index raw 14) side is) ∙ byte 14 whole within more
 
-front : {needs type : ℕ} {raw rest : List ℕ} → Whole needs type raw → 2 ≤ needs → rest ≡ drop 2 raw → raw ≡ needs ∷ type ∷ rest
-front {needs} {type} {raw} {rest} whole within more =
+from_head : {needs type : ℕ} {raw rest : List ℕ} → Whole needs type raw → 2 ≤ needs → rest ≡ drop 2 raw → raw ≡ needs ∷ type ∷ rest
+from_head {needs} {type} {raw} {rest} whole within more =
     sym (ap (λ (n : ℕ). n ∷ type ∷ rest) (sym whole.first) ∙ ap (λ (k : ℕ). slice_index raw 0 ∷ k ∷ rest) (sym whole.kind)
     ∙ byte 0 whole (omega (arith, within)) (byte 1 whole (omega (arith, within)) more))
 
@@ -83,71 +83,71 @@ IsSound kind row = (raw : List ℕ) → Whole row.needs kind raw → IfOk (row.s
 
 time_sound : IsSound 32 time_row
 unfolding written
-time_sound raw w = front w (lit≤ tt) (number_end 4 2 w refl)
+time_sound raw w = from_head w (lit≤ tt) (number_end 4 2 w refl)
 
 add_long_sound : IsSound 33 add_long_row
 unfolding written
-add_long_sound raw w = with_a_side (side_of (slice_index raw 14)) (slice_index raw 14) _ (λ m. raw ≡ written m) (λ side is. front w (lit≤ tt) (number 4 2 w (lit≤ tt) (number 8 6 w (lit≤ tt) (side_at side w is (lit≤ tt) (number 4 15 w (lit≤ tt) (text 6 19 w (number 8 25 w (lit≤ tt) (byte_end 33 w refl))))))))
+add_long_sound raw w = with_a_side (side_of (slice_index raw 14)) (slice_index raw 14) _ (λ m. raw ≡ written m) (λ side is. from_head w (lit≤ tt) (number 4 2 w (lit≤ tt) (number 8 6 w (lit≤ tt) (side_at side w is (lit≤ tt) (number 4 15 w (lit≤ tt) (text 6 19 w (number 8 25 w (lit≤ tt) (byte_end 33 w refl))))))))
 
 add_short_sound : IsSound 34 add_short_row
 unfolding written
-add_short_sound raw w = with_a_side (side_of (slice_index raw 14)) (slice_index raw 14) _ (λ m. raw ≡ written m) (λ side is. front w (lit≤ tt) (number 4 2 w (lit≤ tt) (number 8 6 w (lit≤ tt) (side_at side w is (lit≤ tt) (number 2 15 w (lit≤ tt) (text 6 17 w (number 2 23 w (lit≤ tt) (byte_end 25 w refl))))))))
+add_short_sound raw w = with_a_side (side_of (slice_index raw 14)) (slice_index raw 14) _ (λ m. raw ≡ written m) (λ side is. from_head w (lit≤ tt) (number 4 2 w (lit≤ tt) (number 8 6 w (lit≤ tt) (side_at side w is (lit≤ tt) (number 2 15 w (lit≤ tt) (text 6 17 w (number 2 23 w (lit≤ tt) (byte_end 25 w refl))))))))
 
 executed_sound : IsSound 35 executed_row
 unfolding written
-executed_sound raw w = front w (lit≤ tt) (number 4 2 w (lit≤ tt) (number 8 6 w (lit≤ tt) (number 4 14 w (lit≤ tt) (number_end 8 18 w refl))))
+executed_sound raw w = from_head w (lit≤ tt) (number 4 2 w (lit≤ tt) (number 8 6 w (lit≤ tt) (number 4 14 w (lit≤ tt) (number_end 8 18 w refl))))
 
 executed_at_sound : IsSound 36 executed_at_row
 unfolding written
-executed_at_sound raw w = front w (lit≤ tt) (number 4 2 w (lit≤ tt) (number 8 6 w (lit≤ tt) (number 4 14 w (lit≤ tt) (number 4 18 w (lit≤ tt) (number 8 22 w (lit≤ tt) (number_end 8 30 w refl))))))
+executed_at_sound raw w = from_head w (lit≤ tt) (number 4 2 w (lit≤ tt) (number 8 6 w (lit≤ tt) (number 4 14 w (lit≤ tt) (number 4 18 w (lit≤ tt) (number 8 22 w (lit≤ tt) (number_end 8 30 w refl))))))
 
 reduce_long_sound : IsSound 37 reduce_long_row
 unfolding written
-reduce_long_sound raw w = front w (lit≤ tt) (number 4 2 w (lit≤ tt) (number 8 6 w (lit≤ tt) (number_end 4 14 w refl)))
+reduce_long_sound raw w = from_head w (lit≤ tt) (number 4 2 w (lit≤ tt) (number 8 6 w (lit≤ tt) (number_end 4 14 w refl)))
 
 reduce_short_sound : IsSound 38 reduce_short_row
 unfolding written
-reduce_short_sound raw w = front w (lit≤ tt) (number 4 2 w (lit≤ tt) (number 8 6 w (lit≤ tt) (number_end 2 14 w refl)))
+reduce_short_sound raw w = from_head w (lit≤ tt) (number 4 2 w (lit≤ tt) (number 8 6 w (lit≤ tt) (number_end 2 14 w refl)))
 
 modify_long_sound : IsSound 39 modify_long_row
 unfolding written
-modify_long_sound raw w = front w (lit≤ tt) (number 4 2 w (lit≤ tt) (number 8 6 w (lit≤ tt) (number 4 14 w (lit≤ tt) (number 8 18 w (lit≤ tt) (byte_end 26 w refl)))))
+modify_long_sound raw w = from_head w (lit≤ tt) (number 4 2 w (lit≤ tt) (number 8 6 w (lit≤ tt) (number 4 14 w (lit≤ tt) (number 8 18 w (lit≤ tt) (byte_end 26 w refl)))))
 
 modify_short_sound : IsSound 40 modify_short_row
 unfolding written
-modify_short_sound raw w = front w (lit≤ tt) (number 4 2 w (lit≤ tt) (number 8 6 w (lit≤ tt) (number 2 14 w (lit≤ tt) (number 2 16 w (lit≤ tt) (byte_end 18 w refl)))))
+modify_short_sound raw w = from_head w (lit≤ tt) (number 4 2 w (lit≤ tt) (number 8 6 w (lit≤ tt) (number 2 14 w (lit≤ tt) (number 2 16 w (lit≤ tt) (byte_end 18 w refl)))))
 
 delete_sound : IsSound 41 delete_row
 unfolding written
-delete_sound raw w = front w (lit≤ tt) (number 4 2 w (lit≤ tt) (number_end 8 6 w refl))
+delete_sound raw w = from_head w (lit≤ tt) (number 4 2 w (lit≤ tt) (number_end 8 6 w refl))
 
 trade_long_sound : IsSound 42 trade_long_row
 unfolding written
-trade_long_sound raw w = with_a_side (side_of (slice_index raw 14)) (slice_index raw 14) _ (λ m. raw ≡ written m) (λ side is. front w (lit≤ tt) (number 4 2 w (lit≤ tt) (number 8 6 w (lit≤ tt) (side_at side w is (lit≤ tt) (number 4 15 w (lit≤ tt) (text 6 19 w (number 8 25 w (lit≤ tt) (number_end 8 33 w refl))))))))
+trade_long_sound raw w = with_a_side (side_of (slice_index raw 14)) (slice_index raw 14) _ (λ m. raw ≡ written m) (λ side is. from_head w (lit≤ tt) (number 4 2 w (lit≤ tt) (number 8 6 w (lit≤ tt) (side_at side w is (lit≤ tt) (number 4 15 w (lit≤ tt) (text 6 19 w (number 8 25 w (lit≤ tt) (number_end 8 33 w refl))))))))
 
 trade_short_sound : IsSound 43 trade_short_row
 unfolding written
-trade_short_sound raw w = with_a_side (side_of (slice_index raw 14)) (slice_index raw 14) _ (λ m. raw ≡ written m) (λ side is. front w (lit≤ tt) (number 4 2 w (lit≤ tt) (number 8 6 w (lit≤ tt) (side_at side w is (lit≤ tt) (number 2 15 w (lit≤ tt) (text 6 17 w (number 2 23 w (lit≤ tt) (number_end 8 25 w refl))))))))
+trade_short_sound raw w = with_a_side (side_of (slice_index raw 14)) (slice_index raw 14) _ (λ m. raw ≡ written m) (λ side is. from_head w (lit≤ tt) (number 4 2 w (lit≤ tt) (number 8 6 w (lit≤ tt) (side_at side w is (lit≤ tt) (number 2 15 w (lit≤ tt) (text 6 17 w (number 2 23 w (lit≤ tt) (number_end 8 25 w refl))))))))
 
 trade_break_sound : IsSound 44 trade_break_row
 unfolding written
-trade_break_sound raw w = front w (lit≤ tt) (number 4 2 w (lit≤ tt) (number_end 8 6 w refl))
+trade_break_sound raw w = from_head w (lit≤ tt) (number 4 2 w (lit≤ tt) (number_end 8 6 w refl))
 
 end_of_session_sound : IsSound 45 end_of_session_row
 unfolding written
-end_of_session_sound raw w = front w (lit≤ tt) (number_end 4 2 w refl)
+end_of_session_sound raw w = from_head w (lit≤ tt) (number_end 4 2 w refl)
 
 add_expanded_sound : IsSound 47 add_expanded_row
 unfolding written
-add_expanded_sound raw w = with_a_side (side_of (slice_index raw 14)) (slice_index raw 14) _ (λ m. raw ≡ written m) (λ side is. front w (lit≤ tt) (number 4 2 w (lit≤ tt) (number 8 6 w (lit≤ tt) (side_at side w is (lit≤ tt) (number 4 15 w (lit≤ tt) (text 8 19 w (number 8 27 w (lit≤ tt) (byte 35 w (lit≤ tt) (text_end 4 36 w refl)))))))))
+add_expanded_sound raw w = with_a_side (side_of (slice_index raw 14)) (slice_index raw 14) _ (λ m. raw ≡ written m) (λ side is. from_head w (lit≤ tt) (number 4 2 w (lit≤ tt) (number 8 6 w (lit≤ tt) (side_at side w is (lit≤ tt) (number 4 15 w (lit≤ tt) (text 8 19 w (number 8 27 w (lit≤ tt) (byte 35 w (lit≤ tt) (text_end 4 36 w refl)))))))))
 
 trade_expanded_sound : IsSound 48 trade_expanded_row
 unfolding written
-trade_expanded_sound raw w = with_a_side (side_of (slice_index raw 14)) (slice_index raw 14) _ (λ m. raw ≡ written m) (λ side is. front w (lit≤ tt) (number 4 2 w (lit≤ tt) (number 8 6 w (lit≤ tt) (side_at side w is (lit≤ tt) (number 4 15 w (lit≤ tt) (text 8 19 w (number 8 27 w (lit≤ tt) (number_end 8 35 w refl))))))))
+trade_expanded_sound raw w = with_a_side (side_of (slice_index raw 14)) (slice_index raw 14) _ (λ m. raw ≡ written m) (λ side is. from_head w (lit≤ tt) (number 4 2 w (lit≤ tt) (number 8 6 w (lit≤ tt) (side_at side w is (lit≤ tt) (number 4 15 w (lit≤ tt) (text 8 19 w (number 8 27 w (lit≤ tt) (number_end 8 35 w refl))))))))
 
 unit_clear_sound : IsSound 151 unit_clear_row
 unfolding written
-unit_clear_sound raw w = front w (lit≤ tt) (number_end 4 2 w refl)
+unit_clear_sound raw w = from_head w (lit≤ tt) (number_end 4 2 w refl)
 
 -- a row of the table, or one of those below it
 pick : (kind n : ℕ) (r : MessageRow) (others : Option MessageRow) → IsSound n r → ((row : MessageRow) → others ≡ Some row → IsSound kind row)

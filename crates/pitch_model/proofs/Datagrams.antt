@@ -94,25 +94,25 @@ slice_drop zero xs i = let e : i ≡ 0 + i = omega arith in ap (slice_get xs) e
 slice_drop (suc n) [] i = slice_get_past [] i (omega arith) ∙ sym (slice_get_past [] (suc n + i) (omega arith))
 slice_drop (suc n) (x ∷ xs) i = let e : suc (n + i) ≡ suc n + i = omega arith in slice_drop n xs i ∙ ap (slice_get (x ∷ xs)) e
 
-slice_front : (n : ℕ) (xs : List Raw) (i : ℕ) (x : Raw) → slice_get (take n xs) i ≡ Some x → slice_get xs i ≡ Some x
-slice_front n xs i x at = subst (λ (ys : List Raw). slice_get ys i ≡ Some x) (take-append-drop n xs) (slice_more (take n xs) (drop n xs) i x at)
+slice_prefix : (n : ℕ) (xs : List Raw) (i : ℕ) (x : Raw) → slice_get (take n xs) i ≡ Some x → slice_get xs i ≡ Some x
+slice_prefix n xs i x at = subst (λ (ys : List Raw). slice_get ys i ≡ Some x) (take-append-drop n xs) (slice_more (take n xs) (drop n xs) i x at)
 
 -- the messages after the first n, and some of the first of these
 pub venues_slice : (V : List Raw) (n count : ℕ) → AreVenues V (n + 1) (take count (drop n V))
 venues_slice V n count i raw at =
     let e : suc (n + i) ≡ (n + 1) + i = omega arith in
-    subst (λ (k : ℕ). message_at V k ≡ Some raw) e (sym (slice_drop n V i) ∙ slice_front count (drop n V) i raw at)
+    subst (λ (k : ℕ). message_at V k ≡ Some raw) e (sym (slice_drop n V i) ∙ slice_prefix count (drop n V) i raw at)
 
 pub venues_after : (V : List Raw) (n : ℕ) → AreVenues V (n + 1) (drop n V)
 venues_after V n i raw at = let e : suc (n + i) ≡ (n + 1) + i = omega arith in subst (λ (k : ℕ). message_at V k ≡ Some raw) e (sym (slice_drop n V i) ∙ at)
 
-venues_front : (V : List Raw) (first : ℕ) (front back : List Raw) → AreVenues V first (front ++ back) → AreVenues V first front
-venues_front V first front back are i raw at = are i raw (slice_more front back i raw at)
+venues_prefix : (V : List Raw) (first : ℕ) (prefix suffix : List Raw) → AreVenues V first (prefix ++ suffix) → AreVenues V first prefix
+venues_prefix V first prefix suffix are i raw at = are i raw (slice_more prefix suffix i raw at)
 
-venues_back : (V : List Raw) (first : ℕ) (front back : List Raw) → AreVenues V first (front ++ back) → AreVenues V (first + length front) back
-venues_back V first front back are i raw at =
-    let e : first + (length front + i) ≡ (first + length front) + i = omega arith in
-    subst (λ (k : ℕ). message_at V k ≡ Some raw) e (are (length front + i) raw (slice_later front back i ∙ at))
+venues_suffix : (V : List Raw) (first : ℕ) (prefix suffix : List Raw) → AreVenues V first (prefix ++ suffix) → AreVenues V (first + length prefix) suffix
+venues_suffix V first prefix suffix are i raw at =
+    let e : first + (length prefix + i) ≡ (first + length prefix) + i = omega arith in
+    subst (λ (k : ℕ). message_at V k ≡ Some raw) e (are (length prefix + i) raw (slice_later prefix suffix i ∙ at))
 
 -- ---- A datagram that is one block
 no_blocks : blocks_of [] ≡ []
@@ -155,14 +155,14 @@ block_piece V unit datagram block is of =
 pub packing_pieces : (V : List Raw) (unit first : ℕ) (raws : List Raw) (datagrams : List (List ℕ)) → 0 < first → first + length raws ≤ length V + 1 → AreVenues V first raws → IsPacking unit first raws datagrams
     → AllByRecursion (IsPiece V unit) datagrams
 packing_pieces V unit first raws [] known within are packing = tt
-packing_pieces V unit first raws (d ∷ datagrams) known within are (front, back, split, is, full, rest) =
-    let all : AreVenues V first (front ++ back) = subst (AreVenues V first) split are in
-    let count : length raws ≡ length front + length back = ap (λ (rs : List Raw). length rs) split ∙ length-append front back in
+packing_pieces V unit first raws (d ∷ datagrams) known within are (prefix, suffix, split, is, full, rest) =
+    let all : AreVenues V first (prefix ++ suffix) = subst (AreVenues V first) split are in
+    let count : length raws ≡ length prefix + length suffix = ap (λ (rs : List Raw). length rs) split ∙ length-append prefix suffix in
     let some : first ≢ 0 = λ e. omega (arith, e, known) in
-    let next : sequence_after first (length front) ≡ first + length front = after_known first (length front) some in (
-      block_piece V unit d (made unit first front) is.block (record { unit_is = refl; sequenced = known; messages = venues_front V first front back all; within = omega (arith, within, count) }),
-      packing_pieces V unit (first + length front) back datagrams (omega (arith, known)) (omega (arith, within, count)) (venues_back V first front back all)
-          (subst (λ (n : ℕ). IsPacking unit n back datagrams) next rest),
+    let next : sequence_after first (length prefix) ≡ first + length prefix = after_known first (length prefix) some in (
+      block_piece V unit d (made unit first prefix) is.block (record { unit_is = refl; sequenced = known; messages = venues_prefix V first prefix suffix all; within = omega (arith, within, count) }),
+      packing_pieces V unit (first + length prefix) suffix datagrams (omega (arith, known)) (omega (arith, within, count)) (venues_suffix V first prefix suffix all)
+          (subst (λ (n : ℕ). IsPacking unit n suffix datagrams) next rest),
     )
 
 -- so is a heartbeat

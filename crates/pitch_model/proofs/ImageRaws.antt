@@ -103,9 +103,9 @@ number_bytes i (suc k) n = (byte i, number_bytes (suc i) k n)
     byte zero = mod-lt n (omega arith)
     byte (suc i) = mod-lt _ (omega arith)
 
-bytes_front : (xs ys : List ℕ) → AreBytes (xs ++ ys) → AreBytes xs
-bytes_front [] ys all = tt
-bytes_front (x ∷ xs) ys all = (all.0, bytes_front xs ys all.1)
+bytes_prefix : (xs ys : List ℕ) → AreBytes (xs ++ ys) → AreBytes xs
+bytes_prefix [] ys all = tt
+bytes_prefix (x ∷ xs) ys all = (all.0, bytes_prefix xs ys all.1)
 
 side_byte : (side : Side) → byte_of side < 256
 side_byte Buy = omega arith
@@ -149,12 +149,12 @@ add_raw order fits = by (plain_symbol order) (short_price order.quantity order.p
         let plain = (plain_is order six fits s).0 in
         let size = plain.size in
         raw_by (written (add_in_form (Some six) None order 0)) 34 (omega (arith, length-append six (little 8 order.price ++ flags_of order.display ∷ []), size)) refl (omega arith) (omega arith)
-        (add_bytes 34 0x21 order.id order.side 4 order.quantity six 8 order.price (flags_of order.display ∷ []) (omega arith) (omega arith) (bytes_front six (32 ∷ 32 ∷ []) (subst AreBytes (sym plain.padded) fits.symbol_bytes)) one)
+        (add_bytes 34 0x21 order.id order.side 4 order.quantity six 8 order.price (flags_of order.display ∷ []) (omega arith) (omega arith) (bytes_prefix six (32 ∷ 32 ∷ []) (subst AreBytes (sym plain.padded) fits.symbol_bytes)) one)
     by (Some six) (Some cents) s =
         let plain = (plain_is order six fits s).0 in
         let size = plain.size in
         raw_by (written (add_in_form (Some six) (Some cents) order 0)) 26 (omega (arith, length-append six (little 2 cents ++ flags_of order.display ∷ []), size)) refl (omega arith) (omega arith)
-        (add_bytes 26 0x22 order.id order.side 2 order.quantity six 2 cents (flags_of order.display ∷ []) (omega arith) (omega arith) (bytes_front six (32 ∷ 32 ∷ []) (subst AreBytes (sym plain.padded) fits.symbol_bytes)) one)
+        (add_bytes 26 0x22 order.id order.side 2 order.quantity six 2 cents (flags_of order.display ∷ []) (omega arith) (omega arith) (bytes_prefix six (32 ∷ 32 ∷ []) (subst AreBytes (sym plain.padded) fits.symbol_bytes)) one)
 
 time_raw : (second : ℕ) → IsByteRaw (written (Time second))
 unfolding written

@@ -4,7 +4,8 @@ use Rattle.pitch_fields.specs.Limits.{last_sequence}
 use Rattle.unit_packets.specs.Blocks.{Block}
 use Rattle.pitch_model.specs.History.{Entry, Raw, image_finished, bad_image, spin_of, adds}
 use Rattle.pitch_model.specs.History as entry
-use Rattle.pitch_model.specs.Reach.{reach, is_seen, part_of, is_overflow}
+pub use Rattle.pitch_model.specs.HeardBlocks.{heard_messages, heard_sequenced, heard_block, overflowed_messages, block_overflows}
+use Rattle.pitch_model.specs.Reach.{reach, is_seen, part_of}
 use Rattle.pitch_model.specs.Status.{status_of}
 use Rattle.pitch_model.specs.declared.change.Change.{Change}
 use Rattle.pitch_model.specs.declared.change.ImageEnd.{ImageEnd}
@@ -45,20 +46,6 @@ IsItem item.SpinUp = Unit {0}
 IsItem item.SpinDown = Unit {0}
 
 -- ---- Entries
--- one entry for each raw, with rising sequence
-abbrev pub heard_messages : ℕ → List Raw → List Entry → List Entry
-heard_messages first [] E = E
-heard_messages first (raw ∷ raws) E = heard_messages (first + 1) raws (entry.Message first raw ∷ E)
-
--- a heartbeat is heard where there are no messages
-abbrev pub heard_sequenced : ℕ → List Raw → List Entry → List Entry
-heard_sequenced sequence [] E = entry.Next sequence ∷ E
-heard_sequenced sequence (raw ∷ raws) E = heard_messages sequence (raw ∷ raws) E
-
--- a history with a block that is heard after it; of an unsequenced one nothing is heard
-abbrev pub heard_block : Block → List Entry → List Entry
-heard_block block E = cond (block.sequence == 0) E (heard_sequenced block.sequence block.raws E)
-
 -- the status `A` of a Gap Response or Spin Response
 abbrev pub is_accepted : ℕ → Bool
 is_accepted status = status == 65
@@ -88,17 +75,9 @@ abbrev pub fresh_messages : ℕ → ℕ → List Raw → List Entry → ℕ
 fresh_messages H first [] E = 0
 fresh_messages H first (raw ∷ raws) E = cond (is_fresh H E first) 1 0 + fresh_messages H (first + 1) raws (entry.Message first raw ∷ E)
 
--- with how many of them the hold overflows
-abbrev pub overflowed_messages : ℕ → ℕ → List Raw → List Entry → ℕ
-overflowed_messages H first [] E = 0
-overflowed_messages H first (raw ∷ raws) E = cond (is_overflow H E (entry.Message first raw)) 1 0 + overflowed_messages H (first + 1) raws (entry.Message first raw ∷ E)
-
--- the same of a block; an unsequenced one has none
+-- how many messages of a block are fresh; an unsequenced one has none
 abbrev pub block_fresh : ℕ → List Entry → Block → ℕ
 block_fresh H E block = cond (block.sequence == 0) 0 (fresh_messages H block.sequence block.raws E)
-
-abbrev pub block_overflows : ℕ → List Entry → Block → ℕ
-block_overflows H E block = cond (block.sequence == 0) 0 (overflowed_messages H block.sequence block.raws E)
 
 abbrev pub fresh_of : ℕ → List Entry → Item → ℕ
 fresh_of H E (item.Messages first raws) = fresh_messages H first raws.items E

@@ -7,6 +7,7 @@ pub mod Reach
 pub mod Settling
 pub mod Steps
 pub mod Status
+pub mod HeardBlocks
 pub mod Heard
 pub mod Honest
 pub mod Asking

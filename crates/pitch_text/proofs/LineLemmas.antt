@@ -28,7 +28,7 @@ use Rattle.pitch_text.specs.ScheduleGrammar.{entry}
 use Rattle.text_lines.specs.Text.{line_of, lines_of, said_of, entries_of}
 use Rattle.pitch_text.specs.WellFormed.{IsVerb, IsCommand, IsOrder, IsOffset, IsSymbol, IsWellFormed}
 use Rattle.pitch_text.specs.Printing.{verb_words, command_words, number_words, at_words, hidden_words, mpid_words, order_words, name_of, count_word, line_word, session_word, spaced, entry_text}
-use Rattle.pitch_text.proofs.WordLemmas.{is_dark, IsWord, AreWords, fields_words, spaced_length, one_line}
+use Rattle.pitch_text.proofs.WordLemmas.{is_dark, IsWord, AreWords, fields_words, spaced_length, line_before_others, one_line}
 use Rattle.text_lines.proofs.KindLemmas.{decimal_digits}
 use Rattle.pitch_text.proofs.NameLemmas.{guard_is, name_again, participant_again}
 use Rattle.pitch_text.proofs.VerbLemmas.{left, entry_again}
@@ -239,3 +239,8 @@ unfolding entries_of said_of
 text_again unit v h =
     let one : lines_of (entry_text unit v) ≡ entry_text unit v ∷ [] = one_entry unit v h in
     rw (one, line_again unit v h) refl
+
+-- the line of an entry, and a line feed, is one line before others
+pub entry_before_others : (unit : ℕ) (v : Verb) (rest : List ℕ) → IsWellFormed unit v → lines_of (entry_text unit v ++ 10 ∷ rest) ≡ entry_text unit v ∷ lines_of rest
+unfolding entry_text
+entry_before_others unit v rest h = let u = h.in_range in line_before_others (decimal unit) (verb_words v) rest (number_word unit 2 (omega arith) (omega arith) (omega arith) (omega arith)) (verb_ok v h.each).words

@@ -84,6 +84,14 @@ line_stops stop w ws le h hs = by_append (λ b. eqb b stop ≡ false) w (spaced 
 keeps_return : (line : List ℕ) → 0 < length line → All (λ b. eqb b 13 ≡ false) line → strip_carriage_return line ≡ line
 keeps_return line some h = rw (h (length line - 1) 0 (omega arith)) refl
 
+-- words with a space between them, and a line feed, are one line before others
+pub line_before_others : (w : List ℕ) (ws : List (List ℕ)) (rest : List ℕ) → IsWord w → AreWords ws → lines_of ((w ++ spaced ws) ++ 10 ∷ rest) ≡ (w ++ spaced ws) ∷ lines_of rest
+line_before_others w ws rest h hs =
+    let feeds = All-from_recursion (λ b. eqb b 10 ≡ false) (w ++ spaced ws) (line_stops 10 w ws (omega arith) h hs) in
+    let returns = All-from_recursion (λ b. eqb b 13 ≡ false) (w ++ spaced ws) (line_stops 13 w ws (omega arith) h hs) in
+    ap (λ (ps : List (List ℕ)). map strip_carriage_return ps) (slice_split_at (λ b. eqb b 10) (w ++ spaced ws) 10 rest feeds refl)
+    ∙ ap (λ (l : List ℕ). l ∷ lines_of rest) (keeps_return (w ++ spaced ws) (omega (arith, length-append w (spaced ws), h.filled)) returns)
+
 pub one_line : (w : List ℕ) (ws : List (List ℕ)) → IsWord w → AreWords ws → lines_of (w ++ spaced ws) ≡ (w ++ spaced ws) ∷ []
 one_line w ws h hs =
     let feeds = All-from_recursion (λ b. eqb b 10 ≡ false) (w ++ spaced ws) (line_stops 10 w ws (omega arith) h hs) in

@@ -105,3 +105,7 @@ spaced words = flat_map (λ w. 32 ∷ w) words
 -- the line of a unit and a verb
 unfoldable pub entry_text : ℕ → Verb → List ℕ
 entry_text unit verb = decimal unit ++ spaced (verb_words verb)
+
+-- the lines of some units and verbs, each ended by a line feed
+abbrev pub lines_text : List (ℕ × Verb) → List ℕ
+lines_text entries = flat_map (λ e. entry_text e.0 e.1 ++ 10 ∷ []) entries

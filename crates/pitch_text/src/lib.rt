@@ -1,14 +1,15 @@
 //! Venue commands and schedules as text: one grammar, read and printed.
 //!
 //! `read_commands` and `read_schedule` append the entries of a text to a list, or answer the place
-//! and the cause of the text's first fault, and then leave the list as it was. `Commands` goes over
-//! the commands of a text one at a time and keeps none of them. `print_entry` appends an entry's
-//! canonical line, which reads as that entry again.
+//! and the cause of the text's first fault, and then leave the list as it was. `Commands` and
+//! `Schedule` go over the entries of a text one at a time, and keep none of them. `print_entry`
+//! appends an entry's canonical line, which reads as that entry again.
 #![tactic(auto)]
 
 mod command;
 mod command_rules;
 mod command_text;
+pub mod laws;
 mod options;
 mod print;
 mod schedule_text;
@@ -21,6 +22,6 @@ mod well_formed;
 pub use crate::command::{Command, CommandEntry};
 pub use crate::command_text::{CommandList, Commands, read_commands};
 pub use crate::print::print_entry;
-pub use crate::schedule_text::{ScheduleList, read_schedule};
+pub use crate::schedule_text::{Schedule, ScheduleList, read_schedule};
 pub use crate::verb::{ScheduleEntry, Session, Verb};
 pub use text_lines::{TextCause, TextError};

@@ -13,7 +13,7 @@ use Rattle.pitch_tool.specs.Program.{Closes, HasCauses, IsNoForm, IsWhole, IsRef
 use Rattle.pitch_tool.specs.TextForms.{text_limit, text_trouble, made}
 use Rattle.pitch_tool.specs.declared.failure.Failure.TheVariants as ending
 use Rattle.pitch_tool.specs.declared.failure.Trouble.{Trouble}
-use Rattle.pitch_tool.specs.declared.failure.Trouble.TheVariants.{Blocks, LongText, Commands}
+use Rattle.pitch_tool.specs.declared.failure.Trouble.TheVariants.{Blocks, LongText, Commands, Schedule}
 use Rattle.pitch_tool.specs.declared.job.Job.{Job}
 use Rattle.pitch_tool.specs.declared.job.Job.TheVariants.{Stream, Text}
 use Rattle.pitch_tool.specs.declared.status.ExitStatus.{ExitStatus}
@@ -40,6 +40,7 @@ not_refused (Stream form) (Blocks trouble) input out sound r =
     (ap (λ (l : List ℕ). blocks_trouble (trouble_of stream_limit l)) (same_bytes input.old sound.0 r.bytes sound.1 r.has) ∙ sound.2) (ap blocks_trouble r.trouble_is)
 not_refused (Stream form) LongText input out sound r = r
 not_refused (Stream form) (Commands error) input out sound r = r
+not_refused (Stream form) (Schedule error) input out sound r = r
 not_refused (Text form) trouble input out sound r =
     clash (text_trouble form text_limit r.text) trouble (ap (text_trouble form text_limit) (same_bytes input.old sound.0 r.text sound.1 r.has) ∙ sound.2) r.trouble_is
 

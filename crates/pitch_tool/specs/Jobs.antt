@@ -3,7 +3,7 @@ use Rattle.std.specs.Prelude.{◌≡◌, ◌≤◌, ◌+◌, ℕ, List, Option, 
 use Rattle.pitch_words.specs.declared.form.Form.{Form}
 use Rattle.pitch_words.specs.declared.form.Form.TheVariants as form
 use Rattle.stream_print.specs.Inputs.{stream_limit, trouble_of, StreamEnds}
-use Rattle.stream_print.specs.Knowing.{CanHold}
+use Rattle.stream_print.specs.Holding.{CanHold}
 use Rattle.stream_print.specs.Told.{Told}
 use Rattle.stream_print.specs.declared.failure.StreamFailure.{StreamFailure}
 use Rattle.stream_print.specs.declared.failure.StreamFailure.TheVariants as stream
@@ -16,13 +16,14 @@ use Rattle.pitch_tool.specs.declared.failure.Trouble.{Trouble}
 use Rattle.pitch_tool.specs.declared.failure.Trouble.TheVariants.{Blocks}
 use Rattle.pitch_tool.specs.declared.job.Job.{Job}
 use Rattle.pitch_tool.specs.declared.job.Job.TheVariants.{Stream, Text}
-use Rattle.pitch_tool.specs.declared.job.TextForm.TheVariants.{Pack}
+use Rattle.pitch_tool.specs.declared.job.TextForm.TheVariants.{Pack, Replay}
 
 -- the job of a form
 abbrev pub job_of : Form → Job
 job_of (form.Follow hold) = Stream (Follow hold)
 job_of form.Show = Stream Show
 job_of (form.Pack unit) = Text (Pack unit)
+job_of form.Replay = Text Replay
 
 -- the numbers of a job lie in their ranges
 abbrev pub CanDo : Job → Type 0

@@ -5,6 +5,7 @@ use Rattle.pitch_words.specs.Forms.{IsForm}
 use Rattle.pitch_words.specs.declared.form.Form.{Form}
 use Rattle.unit_packets.specs.Causes.{fault_text}
 use Rattle.command_feed.specs.Causes.{command_error_text}
+use Rattle.schedule_replay.specs.Causes.{replay_error_text}
 use Rattle.stream_print.specs.Told.{Told, IsUntouched}
 use Rattle.stream_print.specs.declared.failure.StreamTrouble.TheVariants.{Faulty, TooLong}
 use Rattle.pitch_tool.specs.Devices.{Run, Says}
@@ -12,7 +13,7 @@ use Rattle.pitch_tool.specs.Jobs.{job_of, JobEnds}
 use Rattle.pitch_tool.specs.declared.failure.Failure.{Failure}
 use Rattle.pitch_tool.specs.declared.failure.Failure.TheVariants as ending
 use Rattle.pitch_tool.specs.declared.failure.Trouble.{Trouble}
-use Rattle.pitch_tool.specs.declared.failure.Trouble.TheVariants.{Blocks, LongText, Commands}
+use Rattle.pitch_tool.specs.declared.failure.Trouble.TheVariants.{Blocks, LongText, Commands, Schedule}
 use Rattle.pitch_tool.specs.declared.status.ExitStatus.{ExitStatus}
 use Rattle.pitch_tool.specs.declared.status.ExitStatus.TheVariants.{Done, Usage, BadInput, ReadFault, WriteFault, OutOfMemory}
 
@@ -25,6 +26,7 @@ trouble_text (Blocks (Faulty fault)) = codes "pitch: bad input at " ++ (fault_te
 trouble_text (Blocks TooLong) = codes "pitch: input is longer than 1073741824 bytes\n"
 trouble_text LongText = codes "pitch: input is longer than 67108864 bytes\n"
 trouble_text (Commands error) = codes "pitch: " ++ (command_error_text error ++ codes "\n")
+trouble_text (Schedule error) = codes "pitch: " ++ (replay_error_text error ++ codes "\n")
 
 abbrev pub read_text : List ℕ
 read_text = codes "pitch: read fault\n"

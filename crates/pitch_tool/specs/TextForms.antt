@@ -6,15 +6,20 @@ use Rattle.pitch_io.specs.Putting.{Grows}
 use Rattle.command_feed.specs.Feed.{feed_of, AppendsPacking}
 use Rattle.command_feed.specs.declared.error.CommandError.{CommandError}
 use Rattle.command_feed.specs.declared.error.CommandError.TheVariants as commands
+use Rattle.schedule_replay.specs.Replay.{replay_of}
+use Rattle.schedule_replay.specs.Worlds.{AreRunThrough}
+use Rattle.schedule_replay.specs.declared.error.ReplayError.{ReplayError}
+use Rattle.schedule_replay.specs.declared.error.ReplayError.TheVariants as replays
+use Rattle.world_model.specs.declared.world.World.{World}
 use Rattle.stream_print.specs.Inputs.{ReadsAll, Has}
 use Rattle.stream_print.specs.Putting.{PutsSome}
 use Rattle.stream_print.specs.Told.{Told, IsUntouched}
 use Rattle.pitch_tool.specs.declared.failure.Failure.{Failure}
 use Rattle.pitch_tool.specs.declared.failure.Failure.TheVariants.{Usage, BadInput, Read, Write, OutOfMemory}
 use Rattle.pitch_tool.specs.declared.failure.Trouble.{Trouble}
-use Rattle.pitch_tool.specs.declared.failure.Trouble.TheVariants.{LongText, Commands}
+use Rattle.pitch_tool.specs.declared.failure.Trouble.TheVariants.{LongText, Commands, Schedule}
 use Rattle.pitch_tool.specs.declared.job.TextForm.{TextForm}
-use Rattle.pitch_tool.specs.declared.job.TextForm.TheVariants.{Pack}
+use Rattle.pitch_tool.specs.declared.job.TextForm.TheVariants.{Pack, Replay}
 
 -- how many bytes a text has at most: 2^26
 abbrev pub text_limit : ℕ
@@ -30,14 +35,26 @@ abbrev pub feed_or_trouble : Result (List ℕ) CommandError → Result (List ℕ
 feed_or_trouble (Ok feed) = Ok feed
 feed_or_trouble (Err error) = Err (Commands error)
 
+-- why a schedule was not replayed, as why the program ends
+abbrev pub of_schedule : ReplayError → Failure
+of_schedule replays.OutOfMemory = OutOfMemory
+of_schedule error = BadInput (Schedule error)
+
+-- what a schedule writes, or what is wrong with its text
+abbrev pub replay_or_trouble : Result (List ℕ) ReplayError → Result (List ℕ) Trouble
+replay_or_trouble (Ok written) = Ok written
+replay_or_trouble (Err error) = Err (Schedule error)
+
 -- what a form makes of a text, or what is wrong with the text
 abbrev pub made : TextForm → List ℕ → Result (List ℕ) Trouble
 made (Pack unit) text = feed_or_trouble (feed_of unit text)
+made Replay text = replay_or_trouble (replay_of text)
 
--- the same by a relation: what is packed of a text is a packing of the messages that a venue
--- accepts of it
+-- what it was made of: what is packed of a text is a packing of the messages that a venue accepts
+-- of it, and for what a schedule writes the worlds of its units were run through all its lines
 abbrev pub IsMadeOf : TextForm → (text bytes : List ℕ) → Type 0
 IsMadeOf (Pack unit) text bytes = AppendsPacking unit text [] bytes
+IsMadeOf Replay text bytes = (worlds : List World) × AreRunThrough text worlds
 
 -- what is wrong with a text of which at most `most` bytes are read: that it has more, or else what
 -- the form finds

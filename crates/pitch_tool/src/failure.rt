@@ -1,5 +1,6 @@
 use command_feed::CommandError;
 use pitch_fields::OutOfMemory;
+use schedule_replay::ReplayError;
 use stream_print::{PutFailed, StreamFailure, StreamTrouble};
 
 /// What is wrong with an input.
@@ -11,6 +12,8 @@ pub enum Trouble {
     LongText,
     /// A text of commands has a fault, or the venue refuses one of them.
     Commands(CommandError),
+    /// A schedule's text has a fault.
+    Schedule(ReplayError),
 }
 
 /// Why the program ends before its whole text.
@@ -76,6 +79,20 @@ impl From<CommandError> for Failure {
         match error {
             CommandError::OutOfMemory => Failure::OutOfMemory,
             error => Failure::BadInput(Trouble::Commands(error)),
+        }
+    }
+}
+
+impl From<ReplayError> for Failure {
+    ghost use Rattle.std.specs.Prelude.{◌≡◌};
+    ghost use Rattle.pitch_tool.specs.TextForms.{of_schedule};
+
+    ghost from_gives = { λ error failure. failure ≡ of_schedule error };
+
+    fn from(error: ReplayError) -> Failure {
+        match error {
+            ReplayError::OutOfMemory => Failure::OutOfMemory,
+            error => Failure::BadInput(Trouble::Schedule(error)),
         }
     }
 }

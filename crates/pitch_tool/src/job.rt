@@ -10,6 +10,8 @@ use stream_print::StreamForm;
 pub enum TextForm {
     /// Of venue commands, the datagrams of this unit.
     Pack { unit: u8 },
+    /// Of a schedule, what its lines write.
+    Replay,
 }
 
 /// What a form of the words asks for.
@@ -31,5 +33,6 @@ pub fn job_of(form: Form) -> Job
         Form::Follow { hold } => Job::Stream(StreamForm::Follow { hold }),
         Form::Show => Job::Stream(StreamForm::Show),
         Form::Pack { unit } => Job::Text(TextForm::Pack { unit }),
+        Form::Replay => Job::Text(TextForm::Replay),
     }
 }

@@ -89,6 +89,7 @@ fn trouble_line(alloc: Global, trouble: Trouble) -> Result<String, OutOfMemory>
             "pitch: input is longer than 67108864 bytes\n",
         )?),
         Trouble::Commands(error) => Ok(format!(in alloc; "pitch: {error}\n")?),
+        Trouble::Schedule(error) => Ok(format!(in alloc; "pitch: {error}\n")?),
     }
 }
 
@@ -144,16 +145,19 @@ fn close<I: Source, O: Sink, E: Sink>(
 /// The program: does what the words ask for, and says on `err` why it ends before its whole text.
 ///
 /// `words` are those after the program's name: `follow`, and perhaps `--hold H` with H from 1 to
-/// 65,536 (4,096 where it isn't given), `show`, or `pack --unit U` with U from 1 to 255. The first
-/// two read a stream of Sequenced Unit Header blocks from `input`, of at most 1,073,741,824 bytes.
-/// `follow` writes to `out` a line for each block, and at the stream's end the books of all units
-/// that a block named; `show` writes a line for each block and for each message. `pack` reads venue
-/// commands, a text of at most 67,108,864 bytes, and writes their datagrams, back to back, once the
-/// venue has accepted all.
+/// 65,536 (4,096 where it isn't given), `show`, `pack --unit U` with U from 1 to 255, or `replay`.
+/// The first two read a stream of Sequenced Unit Header blocks from `input`, of at most
+/// 1,073,741,824 bytes. `follow` writes to `out` a line for each block, and at the stream's end the
+/// books of all units that a block named; `show` writes a line for each block and for each message.
+/// The other two read a text of at most 67,108,864 bytes, and write nothing before it was read
+/// whole. `pack` reads venue commands, and writes their datagrams, back to back, once the venue has
+/// accepted all. `replay` reads a schedule, and writes what each of its lines does in the world of
+/// its unit: venue, lines, servers and client.
 ///
 /// At `Done` the whole text was written and nothing was said. At `Usage` nothing was read or
 /// written. At `BadInput` the texts of the whole blocks before the trouble were written, and no
-/// book; by `pack` nothing was. At `ReadFault` the source had failed, and at `WriteFault` the sink.
+/// book; by `pack` and `replay` nothing was. At `ReadFault` the source had failed, and at
+/// `WriteFault` the sink.
 pub fn pitch<I: Source, O: Sink, E: Sink>(
     alloc: Global,
     words: &[String],
@@ -169,8 +173,7 @@ pub fn pitch<I: Source, O: Sink, E: Sink>(
     // A read or a write fault was counted by its device.
     ensures causes { HasCauses result
         (record { input = device I.left I.faults input.old input.new; out = device O.written O.faults out.old out.new; err = device E.written E.faults err.old err.new }) }
-    // Whatever the status, the source was asked for no more than one byte past the limit of the
-    // form.
+    // Whatever the status, the source gave no more than one byte past the limit of the form.
     ensures reads { (form : Form) → IsForm (map string_bytes words.now) form → TakesAtMost (most_taken (the_job form)) (told I.left input.old input.new) }
     // Where the words are no form, that is the answer, or memory ran out.
     ensures unknown { IsNoForm (map string_bytes words.now) → (result ≡ ExitStatus.Usage) ⊎ (result ≡ ExitStatus.OutOfMemory) }

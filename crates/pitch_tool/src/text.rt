@@ -6,6 +6,7 @@ ghost use Rattle.stream_print.specs.Told.{told, TakesAtMost};
 ghost use Rattle.pitch_tool.specs.TextForms.{text_limit, made, IsMadeOf, IsUnmade, IsUnread, TextEnds};
 
 use crate::commands::pack::pack;
+use crate::commands::replay::replay;
 use crate::failure::{Failure, Trouble};
 use crate::job::TextForm;
 use pitch_io::{Sink, Source, Taken};
@@ -51,6 +52,7 @@ fn make(alloc: Global, form: TextForm, text: &[u8]) -> Result<Vec<u8>, Failure>
 {
     match form {
         TextForm::Pack { unit } => pack(alloc, unit, text),
+        TextForm::Replay => replay(alloc, text),
     }
 }
 

@@ -13,7 +13,7 @@ use Rattle.long_options.proofs.Program.{calls_taken, takes_calls}
 use Rattle.pitch_words.specs.Numbers.{IsGivenNumber, IsGivenOr}
 use Rattle.pitch_words.specs.Forms.{HasForm, HasNumbers, IsForm, command_of, commands, pitch}
 use Rattle.pitch_words.specs.declared.form.Form.{Form}
-use Rattle.pitch_words.specs.declared.form.Form.TheVariants.{Follow, Show, Pack}
+use Rattle.pitch_words.specs.declared.form.Form.TheVariants.{Follow, Show, Pack, Replay}
 
 -- ---- a line for each form
 
@@ -22,6 +22,7 @@ command_is : (form : Form) → described commands (command_of form).0 ≡ Some (
 command_is (Follow hold) = refl
 command_is Show = refl
 command_is (Pack unit) = refl
+command_is Replay = refl
 
 given_or_same : (default least most : ℕ) (o : Option Text) (m n : ℕ) → IsGivenOr default least most o m → IsGivenOr default least most o n → m ≡ n
 given_or_same default least most None m n a b = a ∙ sym b
@@ -36,6 +37,7 @@ numbers_same : (options : Options) (a b : Form) → bytes_eq (command_of a).0 (c
 numbers_same options (Follow m) (Follow n) e a b = ap Follow (given_or_same 4096 1 65536 (options.value (codes "hold")) m n a b)
 numbers_same options Show Show e a b = refl
 numbers_same options (Pack m) (Pack n) e a b = ap Pack (given_same 1 255 (options.value (codes "unit")) m n a b)
+numbers_same options Replay Replay e a b = refl
 numbers_same options _ _ e a b = cc
 
 -- ---- whatever the forms are

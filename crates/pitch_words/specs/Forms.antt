@@ -8,7 +8,7 @@ use Rattle.long_options.specs.Apps.{program}
 use Rattle.long_options.specs.Found.{Options, found_options, given_options}
 use Rattle.pitch_words.specs.Numbers.{IsGivenNumber, IsGivenOr}
 use Rattle.pitch_words.specs.declared.form.Form.{Form}
-use Rattle.pitch_words.specs.declared.form.Form.TheVariants.{Follow, Show, Pack}
+use Rattle.pitch_words.specs.declared.form.Form.TheVariants.{Follow, Show, Pack, Replay}
 
 -- `follow [--hold H]`
 abbrev pub follow : Described
@@ -22,22 +22,28 @@ show = (codes "show", [])
 abbrev pub pack : Described
 pack = (codes "pack", must_have (codes "unit") ∷ [])
 
+-- `replay`
+abbrev pub replay : Described
+replay = (codes "replay", [])
+
 -- the program's commands
 abbrev pub commands : List Described
-commands = follow ∷ show ∷ pack ∷ []
+commands = follow ∷ show ∷ pack ∷ replay ∷ []
 
 -- the command that a form gives
 abbrev pub command_of : Form → Described
 command_of (Follow hold) = follow
 command_of Show = show
 command_of (Pack unit) = pack
+command_of Replay = replay
 
--- the options have the form's numbers: H is 1 to 65,536, and 4,096 where it isn't given; `show` has
--- none, and U is 1 to 255
+-- the options have the form's numbers: H is 1 to 65,536, and 4,096 where it isn't given; U is
+-- 1 to 255; `show` and `replay` have none
 abbrev pub HasNumbers : Options → Form → Type 0
 HasNumbers options (Follow hold) = IsGivenOr 4096 1 most_held (options.value (codes "hold")) hold
 HasNumbers options Show = Unit {0}
 HasNumbers options (Pack unit) = IsGivenNumber 1 255 (options.value (codes "unit")) unit
+HasNumbers options Replay = Unit {0}
 
 -- the words are this form: its command, then that command's options, with its numbers
 abbrev pub IsForm : List Text → Form → Type 0
@@ -48,6 +54,7 @@ abbrev pub IsInRange : Form → Type 0
 IsInRange (Follow hold) = (1 ≤ hold) × (hold ≤ most_held)
 IsInRange Show = Unit {0}
 IsInRange (Pack unit) = (1 ≤ unit) × (unit ≤ 255)
+IsInRange Replay = Unit {0}
 
 -- the program as clap's builders make it
 abbrev pub pitch : App

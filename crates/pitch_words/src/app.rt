@@ -1,10 +1,10 @@
 //! The program's commands, as `clap` reads them.
-ghost use Rattle.std.specs.Prelude.{◌≡◌, IfOk, false, [], codes};
+ghost use Rattle.std.specs.Prelude.{◌≡◌, IfOk, false, [], ◌∷◌, codes};
 ghost use Rattle.clap.specs.Walk.{rule_of};
 ghost use Rattle.clap.specs.Simple.{app_of, with_rule};
 ghost use Rattle.clap.specs.declared.builder.command.Command.TheViews.{out-Command as fields_of};
-ghost use Rattle.long_options.specs.Apps.{command_app, empty_program, option_rule};
-ghost use Rattle.pitch_words.specs.Forms.{follow as follow_words, pack as pack_words, pitch};
+ghost use Rattle.long_options.specs.Apps.{command_app, empty_program, option_rule, program};
+ghost use Rattle.pitch_words.specs.Forms.{follow as follow_words, show as show_words, pack as pack_words, pitch};
 
 use clap::{Arg, ArgAction, Command};
 use std::alloc::{AllocError, Global};
@@ -72,11 +72,18 @@ fn top<'a>(alloc: Global) -> Command<'a>
         .subcommand_required(true)
 }
 
-// The program with its commands.
-pub(crate) fn app<'a>(alloc: Global) -> Result<Command<'a>, AllocError>
-    ensures app { IfOk result (λ r. app_of r ≡ pitch) }
+// The program with the commands whose input is no schedule.
+fn without_schedules<'a>(alloc: Global) -> Result<Command<'a>, AllocError>
+    ensures app { IfOk result (λ r. app_of r ≡ program (codes "pitch") (follow_words ∷ show_words ∷ pack_words ∷ [])) }
 {
     let with_follow = top(alloc).subcommand(follow(alloc)?)?;
     let with_show = with_follow.subcommand(command(alloc, "show"))?;
     with_show.subcommand(pack(alloc)?)
+}
+
+// The program with its commands.
+pub(crate) fn app<'a>(alloc: Global) -> Result<Command<'a>, AllocError>
+    ensures app { IfOk result (λ r. app_of r ≡ pitch) }
+{
+    without_schedules(alloc)?.subcommand(command(alloc, "replay"))
 }

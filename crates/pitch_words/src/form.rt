@@ -15,4 +15,6 @@ pub enum Form {
         /// The unit of the datagrams: 1 to 255.
         unit: u8,
     },
+    /// `replay`: read a schedule, and write what its lines do.
+    Replay,
 }

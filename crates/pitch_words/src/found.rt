@@ -88,6 +88,7 @@ fn form_in(name: &str, matches: &ArgMatches) -> Option<Form>
         "follow" => follow(matches),
         "show" => Some(Form::Show),
         "pack" => pack(matches),
+        "replay" => Some(Form::Replay),
         _ => None,
     }
 }

@@ -31,6 +31,7 @@ fn words_and_their_forms(rt: HostRuntime) -> Result<(), Fail> {
         let got = form_of_line(rt.alloc(), line)?;
         assert!(rt; got == Some(Form::Pack { unit }), "words {line}");
     }
+    assert!(rt; form_of_line(rt.alloc(), "replay")? == Some(Form::Replay));
     let refused = [
         "follow --hold 0",
         "follow --hold 65537",
@@ -69,6 +70,11 @@ fn words_and_their_forms(rt: HostRuntime) -> Result<(), Fail> {
         "show --",
         "show -h",
         "show ",
+        "replay x",
+        "replay --",
+        "replay --workers",
+        "replay --workers 2",
+        "replay --unit 1",
         "fol",
         "FOLLOW",
         "help",

@@ -42,6 +42,11 @@ abbrev pub pumped : Option Spin → Option Spin
 pumped None = None
 pumped (Some spin) = spin_left spin.sequence spin.left
 
+-- how many blocks of its image are left; none where no spin runs
+abbrev pub blocks_left : Option Spin → ℕ
+blocks_left None = 0
+blocks_left (Some spin) = length spin.left
+
 -- ---- One message
 -- the newest advertised sequence, where there is one ("Spin Image Available Message")
 abbrev pub available_bytes : Setup → Option ℕ → List ℕ

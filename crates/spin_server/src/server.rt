@@ -1,4 +1,4 @@
-ghost use Rattle.std.specs.Prelude.{◌≡◌, ℕ, ◌||◌, Bool, true, false, List, [], ◌∷◌, ◌++◌, OnOk, OnErr, IsOk, IfOk, IfSome, None, Some, is_some, is_none, if◌then◌else◌};
+ghost use Rattle.std.specs.Prelude.{◌≡◌, ◌<◌, ℕ, ◌||◌, Bool, true, false, List, [], ◌∷◌, ◌++◌, OnOk, OnErr, IsOk, IfOk, IfSome, None, Some, is_some, is_none, if◌then◌else◌};
 ghost use Rattle.std.specs.List.{list_any};
 ghost use Rattle.pitch_messages.specs.declared.session.SessionMessage.TheVariants.{SpinReply};
 ghost use Rattle.session_ends.specs.declared.closed.CloseCause.TheVariants.{Memory};
@@ -9,7 +9,7 @@ ghost use Rattle.session_ends.specs.Events.{Event, Ticked, Pumped, Told};
 ghost use Rattle.session_ends.specs.Items.{closed_at};
 ghost use Rattle.session_ends.specs.Sending.{sent_bytes, sent_at_tick};
 ghost use Rattle.spin_server.specs.Served.{Served, ServedLater};
-ghost use Rattle.spin_server.specs.Serving.{pump_bytes, pumped, available_bytes, spin_login_answer, spin_request_answer, spin_message_answer, spin_said_answer, spin_answer, spin_sends, runs, SpinStands, SpinFeeds};
+ghost use Rattle.spin_server.specs.Serving.{pump_bytes, pumped, blocks_left, available_bytes, spin_login_answer, spin_request_answer, spin_message_answer, spin_said_answer, spin_answer, spin_sends, runs, SpinStands, SpinFeeds};
 
 use crate::lookup::{ImageLookup, Imaged};
 use crate::spin::Spin;
@@ -378,6 +378,8 @@ impl SpinServer {
         ensures says { OnOk result ((es : List (Event (List Served))) → SpinStands self.old es → reply.new.items ≡ reply.old.items ++ spin_sends self.old.end.setup Pumped es) }
         // Of everything that happened before: true exactly where a spin runs after the call.
         ensures more { IfOk result (λ more. (es : List (Event (List Served))) → SpinStands self.old es → more ≡ runs self.old.end.setup (Pumped ∷ es)) }
+        // A spin that still runs has fewer blocks left, so calls in a row end it.
+        ensures fewer { IfOk result (λ more. more ≡ true → blocks_left self.new.spin < blocks_left self.old.spin) }
         ensures setup { self.new.end.setup ≡ self.old.end.setup }
         ensures err { OnErr result ((self.new ≡ self.old) × (reply.new.items ≡ reply.old.items)) }
         ensures shut { IfSome self.old.end.closed (λ c. IsOk result × ((self.new ≡ self.old) × (reply.new.items ≡ reply.old.items))) }

@@ -43,7 +43,7 @@ texts_split form bytes piece =
     ap (texts_after (block_text form) []) ((appends bytes piece).blocks) ∙ texts_append (block_text form) [] (blocks_of bytes) (blocks_of (rest_of bytes ++ piece))
     ∙ ap (λ (bs : List Block). texts_for form bytes ++ texts_after (block_text form) bs (blocks_of (rest_of bytes ++ piece))) (append-nil (reverse (blocks_of bytes)))
 
--- some front of the texts of fewer bytes is some front of those of more
+-- some prefix of the texts of fewer bytes is some prefix of those of more
 pub puts_texts : (form : StreamForm) (a b : Option (List ℕ)) (bytes piece : List ℕ) → PutsSome a b (texts_for form bytes) → PutsSome a b (texts_for form (bytes ++ piece))
 puts_texts form a b bytes piece p = subst (PutsSome a b) (sym (texts_split form bytes piece)) (puts_longer a b (texts_for form bytes) (more_texts form bytes piece) p)
 
@@ -146,10 +146,10 @@ lasting_trouble : (most : ℕ) (bytes more : List ℕ) (e : BlockError) → leng
     → (trouble_of most (bytes ++ more) ≡ Some (Faulty (record { place = place_of bytes; error = e }))) × (blocks_of (take most (bytes ++ more)) ≡ blocks_of bytes)
 unfolding trouble_of
 lasting_trouble most bytes more e le judged lasts =
-    let front = take_prefix most bytes more le in
+    let prefix = take_prefix most bytes more le in
     let stays = fault_stays bytes (take (most - length bytes) more) e judged lasts in (
-      ap (λ (o : Option BlockFault). faulty o (cond (nat_lt most (length (bytes ++ more))) (Some TooLong) (faulty (fault_at_end (bytes ++ more)) None))) (ap fault_of front ∙ stays.fault),
-      ap blocks_of front ∙ stays.blocks,
+      ap (λ (o : Option BlockFault). faulty o (cond (nat_lt most (length (bytes ++ more))) (Some TooLong) (faulty (fault_at_end (bytes ++ more)) None))) (ap fault_of prefix ∙ stays.fault),
+      ap blocks_of prefix ∙ stays.blocks,
     )
 
 -- too many bytes
@@ -157,11 +157,11 @@ long_trouble : (most : ℕ) (bytes more : List ℕ) (e : BlockError) → length 
     → (trouble_of most (bytes ++ more) ≡ Some TooLong) × (take most (bytes ++ more) ≡ bytes)
 unfolding trouble_of
 long_trouble most bytes more e size some judged cut =
-    let front : take most (bytes ++ more) ≡ bytes = take_at bytes more most size in
+    let prefix : take most (bytes ++ more) ≡ bytes = take_at bytes more most size in
     let long : nat_lt most (length (bytes ++ more)) ≡ true = lt-ltb most (length (bytes ++ more)) (omega (arith, length-append bytes more, size, some)) in (
-      ap (λ (o : Option BlockFault). faulty o (cond (nat_lt most (length (bytes ++ more))) (Some TooLong) (faulty (fault_at_end (bytes ++ more)) None))) (ap fault_of front ∙ fault_open bytes e judged cut)
+      ap (λ (o : Option BlockFault). faulty o (cond (nat_lt most (length (bytes ++ more))) (Some TooLong) (faulty (fault_at_end (bytes ++ more)) None))) (ap fault_of prefix ∙ fault_open bytes e judged cut)
           ∙ ap (λ (b : Bool). cond b (Some TooLong) (faulty (fault_at_end (bytes ++ more)) None)) long,
-      front,
+      prefix,
     )
 
 ended : (most : ℕ) (bytes : List ℕ) (e : BlockError) → length bytes ≤ most → judge (rest_of bytes) ≡ Err e → is_truncated e ≡ true → trouble_of most bytes ≡ faulty (fault_at_end bytes) None
@@ -241,7 +241,7 @@ is_prefix (Follow hold) bytes end are = record {
 }
 is_prefix Show bytes end is = ap (λ (t : List ℕ). texts_for Show bytes ++ t) is ∙ append-nil (texts_for Show bytes)
 
--- the end is a front of itself
+-- the end is a prefix of itself
 pub whole_prefix : (form : StreamForm) (before : List Block) (end : List ℕ) → IsEnd form before end → IsPrefixOfEnd form before end
 whole_prefix (Follow hold) before end is = λ Image Vs honest. ([], sym (is Image Vs honest) ∙ sym (append-nil end))
 whole_prefix Show before end is = is
@@ -265,11 +265,11 @@ writes_whole form most first before now start written bytes end r e le read ends
     nothing [] z = refl
     nothing (x ∷ l) z = absurd (omega arith)
 
--- a front of the texts was written
+-- a prefix of the texts was written
 pub writes_texts : (form : StreamForm) (first now start written : Option (List ℕ)) (bytes : List ℕ) → Consumes first now bytes → PutsSome start written (texts_for form bytes) → WritesSome form (between first now) (between start written)
 writes_texts form first now start written bytes read puts = record { bytes = bytes; read = read; text = texts_for form bytes; wrote = puts; is_prefix = inl refl }
 
--- a front of the whole text was written
+-- a prefix of the whole text was written
 pub writes_prefix : (form : StreamForm) (first before now start written : Option (List ℕ)) (bytes end : List ℕ) → Consumes first now bytes → Consumes first before bytes → IsAtEnd before × Keeps before now
     → IsPrefixOfEnd form (reverse (blocks_of bytes)) end → PutsSome start written (texts_for form bytes ++ end) → WritesSome form (between first now) (between start written)
 writes_prefix form first before now start written bytes end read so_far ends are puts = record {

@@ -1,4 +1,4 @@
--- A piece of which a front is kept, as far as the limit of an input goes.
+-- A piece of which a prefix is kept, as far as the limit of an input goes.
 use Rattle.std.proofs.Common.{◌≡◌, ℕ, ◌+◌, ◌-◌, ◌≤◌, ◌<◌, true, false, true≢false, min, List, [], ◌++◌, length, take, drop, sym, ap, ◌∙◌, subst, arith, append_assoc, length-append, Option, Result, Ok, Err}
 use Rattle.std.specs.Io.KnownBytes.{Consumes}
 use Rattle.std.specs.Result.{IsErr, IsErrAnd}
@@ -35,7 +35,7 @@ pub fed_kept : (k : ℕ) (f g h : Printer) (start u v w : Option (List ℕ)) (r 
 fed_kept k f g h start u v w r s d e bytes piece small fed hears grows emptied =
     fed_piece (task_form f.task) start u v w f g h r s d e bytes (take k piece) fed (omega (arith, length-append bytes (take k piece), length-take k piece, small)) hears grows emptied
 
--- some front of the texts of what was kept is some front of those of the piece
+-- some prefix of the texts of what was kept is some prefix of those of the piece
 writes_kept : (k : ℕ) (form : StreamForm) (first now start v : Option (List ℕ)) (bytes piece : List ℕ) → Consumes first now (bytes ++ piece) → PutsSome start v (texts_for form (bytes ++ take k piece)) → WritesSome form (between first now) (between start v)
 writes_kept k form first now start v bytes piece read puts =
     writes_texts form first now start v (bytes ++ piece) read

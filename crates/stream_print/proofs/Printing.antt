@@ -38,17 +38,17 @@ prints_more a b c t u v x y p q =
     let p_within = p.within in
     let q_within = q.within in
     let left : u ++ y ≡ drop n (t ++ (x ++ y)) = ap (λ (l : List ℕ). l ++ y) p.rest ∙ sym (drop-append-le n all y p.within) ∙ ap (drop n) (sym whole) in
-    let front : take n (t ++ (x ++ y)) ≡ take n all = ap (take n) whole ∙ take-append-le n all y p.within in
+    let prefix : take n (t ++ (x ++ y)) ≡ take n all = ap (take n) whole ∙ take-append-le n all y p.within in
     let size = length-drop n (t ++ (x ++ y)) in
     record {
       count = n + m;
       within = omega (arith, p_within, q_within, ap length left, size, ap length whole, length-append all y);
-      written = subst (Grows a c) (sym (take-add n m (t ++ (x ++ y)) ∙ ap (λ (l : List ℕ). l ++ take m (drop n (t ++ (x ++ y)))) front ∙ ap (λ (l : List ℕ). take n all ++ take m l) (sym left)))
+      written = subst (Grows a c) (sym (take-add n m (t ++ (x ++ y)) ∙ ap (λ (l : List ℕ). l ++ take m (drop n (t ++ (x ++ y)))) prefix ∙ ap (λ (l : List ℕ). take n all ++ take m l) (sym left)))
           (grows_more a b c (take n all) (take m (u ++ y)) p.written q.written);
       rest = q.rest ∙ ap (drop m) left ∙ drop-drop m n (t ++ (x ++ y)) ∙ ap (λ (k : ℕ). drop k (t ++ (x ++ y))) (omega arith);
     }
 
--- a sink that failed has some front
+-- a sink that failed has some prefix
 pub puts_after : (a b c : Option (List ℕ)) (t u x : List ℕ) → Prints a t b u x → PutsSome b c u → PutsSome a c (t ++ x)
 puts_after a b c t u x p q =
     let n : ℕ = p.count in
@@ -67,7 +67,7 @@ puts_after a b c t u x p q =
 pub puts_so_far : (a b : Option (List ℕ)) (t u x : List ℕ) → Prints a t b u x → PutsSome a b (t ++ x)
 puts_so_far a b t u x p = record { count = p.count; within = p.within; grows = p.written }
 
--- some front of a text is some front of a longer one
+-- some prefix of a text is some prefix of a longer one
 pub puts_longer : (a b : Option (List ℕ)) (t x : List ℕ) → PutsSome a b t → PutsSome a b (t ++ x)
 puts_longer a b t x p =
     let within = p.within in

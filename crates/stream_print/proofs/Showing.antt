@@ -39,7 +39,7 @@ pub shown_all : (w : Option (List ℕ)) (t : List ℕ) (v : Option (List ℕ)) (
 shown_all w t v u first sequence all left so_far none =
     subst (Prints w t v u) (sym (so_far.rest ∙ ap (λ (l : List (List ℕ)). so_far.done ++ message_lines sequence l) none ∙ ap (λ (l : List ℕ). so_far.done ++ l) (lines_none sequence) ∙ append-nil so_far.done)) so_far.printed
 
--- a sink that failed has a front of the lines
+-- a sink that failed has a prefix of the lines
 pub shown_fails : (w : Option (List ℕ)) (t : List ℕ) (v : Option (List ℕ)) (u : List ℕ) (x : Option (List ℕ)) (first sequence : ℕ) (all left : List (List ℕ)) → Shown w t v u first all sequence left → PutsSome v x u
     → PutsSome w x (t ++ message_lines first all)
 shown_fails w t v u x first sequence all left so_far puts =

@@ -115,7 +115,7 @@ taking_end f g r s u v error so_far judged =
       few = so_far.few;
     }
 
--- a sink that fails at a block has some front of the texts
+-- a sink that fails at a block has some prefix of the texts
 pub taking_fails : (f g : Printer) (r s : Reading) (u v w : Option (List ℕ)) (before : List Block) (block : Block) → Taking f g r s u v → HasPrinted f before → StandsFirst s.rest block
     → ((earlier : List Block) → HasPrinted g earlier → PutsSome v w (g.page.text ++ block_text (task_form g.task) earlier block))
     → PutsSome u w (f.page.text ++ texts_after (block_text (task_form f.task)) before (blocks_of r.rest))

@@ -96,7 +96,7 @@ later_cause a b c failed wanted le cause gives =
 pub own_form : (form : StreamForm) (start u : Option (List ℕ)) (f : Printer) (r : Reading) (e : BlockError) (bytes : List ℕ) → Fed form start u f r e bytes → Fed (task_form f.task) start u f r e bytes
 own_form form start u f r e bytes fed = subst (λ (k : StreamForm). Fed k start u f r e bytes) (sym fed.form_is) fed
 
--- the bytes that a source gave, where a buffer has them at its front
+-- the bytes that a source gave, where a buffer begins with them
 pub given_bytes : (count len : ℕ) (into items buffer : List ℕ) → count ≤ length into → length into ≤ len → buffer ≡ take len (into ++ drop (length into) items) → take count buffer ≡ take count into
 given_bytes count len into items buffer le fits is =
     ap (take count) (is ∙ take_prefix len into (drop (length into) items) fits) ∙ take-append-le count into (take (len - length into) (drop (length into) items)) le

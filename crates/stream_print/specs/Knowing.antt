@@ -1,6 +1,5 @@
 -- What a printer knows once some blocks were printed. Blocks stand newest first.
-use Rattle.std.specs.Prelude.{◌≡◌, ◌≤◌, List, length}
-use Rattle.pitch_fields.specs.Limits.{most_held}
+use Rattle.std.specs.Prelude.{◌≡◌, List, length}
 use Rattle.unit_packets.specs.Blocks.{Block}
 use Rattle.unit_clients.specs.Clients.{HaveHeard}
 use Rattle.stream_print.specs.declared.stream_form.StreamForm.{StreamForm}
@@ -8,11 +7,6 @@ use Rattle.stream_print.specs.declared.stream_form.StreamForm.TheVariants as for
 use Rattle.stream_print.specs.declared.printer.Printer.{Printer}
 use Rattle.stream_print.specs.declared.task.Task.{Task}
 use Rattle.stream_print.specs.declared.task.Task.TheVariants.{Follow, Show}
-
--- the hold has a place at least, and at most 65,536
-abbrev pub CanHold : StreamForm → Type 0
-CanHold (form.Follow hold) = (1 ≤ hold) × (hold ≤ most_held)
-CanHold form.Show = Unit {0}
 
 -- the form that a task does
 abbrev pub task_form : Task → StreamForm

@@ -1,6 +1,7 @@
 pub mod Books
 pub mod Failures
 pub mod Feeding
+pub mod Holding
 pub mod Inputs
 pub mod Knowing
 pub mod Page

@@ -1,6 +1,7 @@
 ghost use Rattle.std.specs.Prelude.{◌≡◌, ◌≤◌, ◌<◌, ◌+◌, ◌++◌, [], ◌∷◌, length, OnOk, OnErr, IfOk, IsErr};
 ghost use Rattle.pitch_io.specs.Causes.{HasCause};
 ghost use Rattle.pitch_io.specs.Putting.{Grows};
+ghost use Rattle.feed_lines.specs.LineSize.{line_size};
 ghost use Rattle.feed_lines.specs.BookText.{book_head, order_line};
 ghost use Rattle.feed_lines.specs.Follow.{block_line};
 ghost use Rattle.feed_lines.specs.Show.{shown_head, message_line};
@@ -29,20 +30,20 @@ pub struct Page {
 
 impl Model for Page {
     ghost use Rattle.std.specs.Prelude.{◌≤◌, take, vec_len};
-    ghost use Rattle.feed_lines.specs.declared.lines.TheConstants.{LINE};
+    ghost use Rattle.feed_lines.specs.LineSize.{line_size};
     ghost use Rattle.stream_print.specs.Page.{Page};
 
     ghost Value = { Page };
 
     ghost view = { λ p. record { text = take p.at p.bytes.items; size = vec_len p.bytes } };
 
-    ghost invariant = { λ p. (p.at ≤ vec_len p.bytes) × (LINE ≤ vec_len p.bytes) };
+    ghost invariant = { λ p. (p.at ≤ vec_len p.bytes) × (line_size ≤ vec_len p.bytes) };
 }
 
 impl Page {
     /// An empty page with room for so many bytes.
     pub fn make(alloc: Global, size: usize) -> Result<Page, OutOfMemory>
-        requires { LINE ≤ size }
+        requires { line_size ≤ size }
         ensures { IfOk result (λ page. page ≡ record { text = []; size = size }) }
     {
         Ok(Page {
@@ -68,7 +69,7 @@ impl Page {
         ensures ok { OnOk result (Prints (O.written out.old) self.old.text (O.written out.new) self.new.text []) }
         ensures err { OnErr result (PutsSome (O.written out.old) (O.written out.new) self.old.text) }
         ensures cause { HasCause (O.faults out.old) (O.faults out.new) (IsErr result) }
-        ensures place { OnOk result (length self.new.text + LINE ≤ self.new.size) }
+        ensures place { OnOk result (length self.new.text + line_size ≤ self.new.size) }
     {
         if self.bytes.len() - self.at < LINE {
             self.flush(out)?;
@@ -78,7 +79,7 @@ impl Page {
 
     /// Adds the line of a block.
     pub fn add_block(&mut self, number: u64, header: Header, overflow: bool, status: Status)
-        requires { length self.old.text + LINE ≤ self.old.size }
+        requires { length self.old.text + line_size ≤ self.old.size }
         ensures { self.new ≡ record self.old { text = self.old.text ++ block_line number header.unit header.sequence header.count overflow status } }
     {
         self.at = put_block_line(&mut self.bytes, self.at, number, header, overflow, status);
@@ -86,7 +87,7 @@ impl Page {
 
     /// Adds the line of a block whose messages follow.
     pub fn add_shown_head(&mut self, number: u64, header: Header)
-        requires { length self.old.text + LINE ≤ self.old.size }
+        requires { length self.old.text + line_size ≤ self.old.size }
         ensures { self.new ≡ record self.old { text = self.old.text ++ shown_head number header.unit header.sequence header.count } }
     {
         self.at = put_shown_head(&mut self.bytes, self.at, number, header);
@@ -95,7 +96,7 @@ impl Page {
     /// Adds the line of a message.
     #[inline]
     pub fn add_message(&mut self, sequence: u32, raw: &[u8])
-        requires place { length self.old.text + LINE ≤ self.old.size }
+        requires place { length self.old.text + line_size ≤ self.old.size }
         requires raw { IsRaw raw.now }
         ensures { self.new ≡ record self.old { text = self.old.text ++ message_line sequence raw.now } }
     {
@@ -104,7 +105,7 @@ impl Page {
 
     /// Adds the first line of a unit's book.
     pub fn add_book(&mut self, unit: u8, reach: u32, second: Option<u32>, count: u64)
-        requires { length self.old.text + LINE ≤ self.old.size }
+        requires { length self.old.text + line_size ≤ self.old.size }
         ensures { self.new ≡ record self.old { text = self.old.text ++ book_head unit reach second count } }
     {
         self.at = put_book_head(&mut self.bytes, self.at, unit, reach, second, count);
@@ -112,7 +113,7 @@ impl Page {
 
     /// Adds the line of an open order.
     pub fn add_order(&mut self, order: &Order)
-        requires { length self.old.text + LINE ≤ self.old.size }
+        requires { length self.old.text + line_size ≤ self.old.size }
         ensures { self.new ≡ record self.old { text = self.old.text ++ order_line order.now.id order.now } }
     {
         self.at = put_order_line(&mut self.bytes, self.at, order);

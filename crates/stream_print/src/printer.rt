@@ -23,7 +23,8 @@ impl Printer {
     ghost use Rattle.std.specs.Prelude.{◌≡◌, ◌≤◌, ◌<◌, ◌+◌, ◌^◌, ◌++◌, [], ◌∷◌, List, length, OnOk, OnErr, IfOk, Err};
     ghost use Rattle.unit_packets.specs.Blocks.{Block};
     ghost use Rattle.pitch_io.specs.Causes.{HasCause};
-    ghost use Rattle.stream_print.specs.Knowing.{CanHold, task_form, HasPrinted};
+    ghost use Rattle.stream_print.specs.Holding.{CanHold};
+    ghost use Rattle.stream_print.specs.Knowing.{task_form, HasPrinted};
     ghost use Rattle.stream_print.specs.Printing.{PrintsBlock};
     ghost use Rattle.stream_print.specs.Putting.{PutsSuch, PutsSome};
     ghost use Rattle.stream_print.specs.Texts.{block_text, IsEnd, IsPrefixOfEnd};

@@ -9,7 +9,8 @@ ghost use Rattle.pitch_io.specs.Causes.{HasCause};
 ghost use Rattle.stream_print.specs.Feeding.{Fed, StreamFeeds};
 ghost use Rattle.stream_print.specs.Inputs.{stream_limit, StreamEnds};
 ghost use Rattle.stream_print.specs.Told.{between, told, TakesAtMost};
-ghost use Rattle.stream_print.specs.Knowing.{CanHold, task_form, HasPrinted};
+ghost use Rattle.stream_print.specs.Holding.{CanHold};
+ghost use Rattle.stream_print.specs.Knowing.{task_form, HasPrinted};
 ghost use Rattle.stream_print.specs.Printing.{PrintsAll};
 ghost use Rattle.stream_print.specs.Putting.{PutsSome};
 ghost use Rattle.stream_print.specs.Texts.{block_text};
@@ -41,7 +42,7 @@ fn print_loaded<O: Sink>(
         → PutsSome (O.written out.old) (O.written out.new) (printer.old.page.text ++ texts_after (block_text (task_form printer.old.task)) before (blocks_of reader.old.rest))) }
     ensures cause { HasCause (O.faults out.old) (O.faults out.new) (result ≡ Err PrintError.Write) }
 {
-    'front: loop {
+    'block: loop {
         let length = match view_block(reader.rest()) {
             Ok(block) => {
                 printer.print(alloc, &block, out)?;

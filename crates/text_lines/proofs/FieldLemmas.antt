@@ -9,7 +9,7 @@ use Rattle.text_lines.specs.Fields.{Field, placed, fields_from}
 abbrev pub is_space : ℕ → Bool
 is_space b = eqb b 32
 
--- a space in front is passed over
+-- a leading space is passed over
 pub skips : (c : ℕ) (bs : List ℕ) → fields_from c (32 ∷ bs) ≡ fields_from (c + 1) bs
 skips c bs = let e : c + 0 + 1 ≡ c + 1 = omega arith in rw e refl
 
@@ -71,6 +71,6 @@ first_field c [] len some e l = absurd (omega arith)
 first_field c (b ∷ bs) len some e l = rw l (first_cons c b bs e)
 
 -- the same, of the two parts that the code has
-pub scanned : (c : ℕ) (bs : List ℕ) (len : ℕ) (front back : List ℕ) → 0 < length bs → get_or bs 0 0 ≢ 32 → len ≡ position_or_len is_space bs → front ≡ take len bs → back ≡ drop len bs → length front ≡ len
-    → record { column = c; bytes = front } ∷ fields_from (c + length front) back ≡ fields_from c bs
-scanned c bs len front back some ne l f b size = rw (size, f, b) (sym (first_field c bs len some (ne_eqb _ _ ne) l))
+pub scanned : (c : ℕ) (bs : List ℕ) (len : ℕ) (prefix suffix : List ℕ) → 0 < length bs → get_or bs 0 0 ≢ 32 → len ≡ position_or_len is_space bs → prefix ≡ take len bs → suffix ≡ drop len bs → length prefix ≡ len
+    → record { column = c; bytes = prefix } ∷ fields_from (c + length prefix) suffix ≡ fields_from c bs
+scanned c bs len prefix suffix some ne l f b size = rw (size, f, b) (sym (first_field c bs len some (ne_eqb _ _ ne) l))

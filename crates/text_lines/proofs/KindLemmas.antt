@@ -66,8 +66,8 @@ none_if false v h = refl
 pub twenty_digits : (most : ℕ) (bytes : List ℕ) (d value : ℕ) → 19 < length bytes → d ≡ get_or bytes 19 0 → most ≤ 20 → length bytes ≤ most
     → Some value ≡ (if list_all is_ascii_digit (take 19 bytes) then Some (digits_value 10 (take 19 bytes)) else None)
     → (if is_ascii_digit d then Some (value * 10 + digit_value d) else None) ≡ digits_of most bytes
-twenty_digits most bytes d value has at small short front =
-    let number = some_if (list_all is_ascii_digit (take 19 bytes)) (digits_value 10 (take 19 bytes)) value front in
+twenty_digits most bytes d value has at small short prefix =
+    let number = some_if (list_all is_ascii_digit (take 19 bytes)) (digits_value 10 (take 19 bytes)) value prefix in
     let filled : ltb 0 (length bytes) ≡ true = lt-ltb _ _ (omega arith) in
     let fits : leb (length bytes) most ≡ true = le-leb _ _ short in
     rw (filled, fits, tests_twenty bytes d has at (omega arith), number.0, value_twenty bytes d has at (omega arith), number.1) refl
@@ -75,12 +75,12 @@ twenty_digits most bytes d value has at small short front =
 -- digits are no number where some of the first ones are none
 pub no_digits : (most : ℕ) (bytes : List ℕ) (k : ℕ) → 0 < length bytes → length bytes ≤ most
     → None ≡ (if list_all is_ascii_digit (take k bytes) then Some (digits_value 10 (take k bytes)) else None) → None ≡ digits_of most bytes
-no_digits most bytes k some short front =
+no_digits most bytes k some short prefix =
     let filled : ltb 0 (length bytes) ≡ true = lt-ltb _ _ some in
     let fits : leb (length bytes) most ≡ true = le-leb _ _ short in
     let split : list_all is_ascii_digit bytes ≡ (list_all is_ascii_digit (take k bytes) && list_all is_ascii_digit (drop k bytes))
     = ap (list_all is_ascii_digit) (sym (take-append-drop k bytes)) ∙ list_all-append is_ascii_digit (take k bytes) (drop k bytes) in
-    rw (filled, fits, split, none_if (list_all is_ascii_digit (take k bytes)) (digits_value 10 (take k bytes)) front) refl
+    rw (filled, fits, split, none_if (list_all is_ascii_digit (take k bytes)) (digits_value 10 (take k bytes)) prefix) refl
 
 digits_again : (most n : ℕ) → n < 2 ^ 64 → length (decimal n) ≤ most → digits_of most (decimal n) ≡ Some n
 digits_again most n small short =
@@ -120,12 +120,12 @@ point_place n f small =
 
 price_of_parts : (whole f : List ℕ) (q m : ℕ) → position_or_len is_point (whole ++ 46 ∷ f) ≡ length whole → digits_of 16 whole ≡ Some q → fraction_of f ≡ Some m → q * 10000 + m < 2 ^ 64 → price_in (whole ++ 46 ∷ f) ≡ Some (q * 10000 + m)
 price_of_parts whole f q m place w r small =
-    let front : before_first is_point (whole ++ 46 ∷ f) ≡ whole = rw place (take_at whole (46 ∷ f) (length whole) refl) in
-    let back : after_first is_point (whole ++ 46 ∷ f) ≡ f = rw place (ap (drop (length whole + 1)) (sym (append_assoc whole (46 ∷ []) f)) ∙ drop_at (whole ++ 46 ∷ []) f (length whole + 1) (length-append whole (46 ∷ []))) in
+    let prefix : before_first is_point (whole ++ 46 ∷ f) ≡ whole = rw place (take_at whole (46 ∷ f) (length whole) refl) in
+    let suffix : after_first is_point (whole ++ 46 ∷ f) ≡ f = rw place (ap (drop (length whole + 1)) (sym (append_assoc whole (46 ∷ []) f)) ∙ drop_at (whole ++ 46 ∷ []) f (length whole + 1) (length-append whole (46 ∷ []))) in
     let has : ltb (position_or_len is_point (whole ++ 46 ∷ f)) (length (whole ++ 46 ∷ f)) ≡ true = rw place (lt-ltb _ _ (omega (arith, length-append whole (46 ∷ f)))) in
     let fits : leb (q * 10000 + m) (2 ^ 64 - 1) ≡ true = le-leb _ _ (omega arith) in
     let low : leb 0 (q * 10000 + m) ≡ true = le-leb _ _ (omega arith) in
-    rw (has, back, r, front, w, fits, low) refl
+    rw (has, suffix, r, prefix, w, fits, low) refl
 
 pub price_again : (p : ℕ) → p < 2 ^ 64 → price_in (price_digits p) ≡ Some p
 price_again p small =

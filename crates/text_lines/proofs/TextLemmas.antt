@@ -94,44 +94,44 @@ items_answer grammar entry text = all_items entry (said_of grammar text)
 
 -- these before them, or the fault among them
 abbrev pub with_all : {X E : Type 0} → List X → Result (List X) E → Result (List X) E
-with_all front (Ok xs) = Ok (front ++ xs)
-with_all front (Err f) = Err f
+with_all prefix (Ok xs) = Ok (prefix ++ xs)
+with_all prefix (Err f) = Err f
 
 pub record Taken {Y : Type 0} (items left : List (Result Y TextError)) (old now : List Y) : Type 0 where
-  pub front : List Y
-  pub appended : now ≡ old ++ front
-  pub same : all_of items ≡ with_all front (all_of left)
+  pub prefix : List Y
+  pub appended : now ≡ old ++ prefix
+  pub same : all_of items ≡ with_all prefix (all_of left)
 
 with_none : {Y : Type 0} (read : Result (List Y) TextError) → read ≡ with_all [] read
 with_none (Ok xs) = refl
 with_none (Err f) = refl
 
-with_more : {Y : Type 0} (front : List Y) (y : Y) (read : Result (List Y) TextError) → with_all front (with_front y read) ≡ with_all (front ++ y ∷ []) read
-with_more {Y = Y} front y (Ok xs) = ap (λ (zs : List Y). Ok zs) (sym (append_assoc front (y ∷ []) xs))
-with_more front y (Err f) = refl
+with_more : {Y : Type 0} (prefix : List Y) (y : Y) (read : Result (List Y) TextError) → with_all prefix (with_front y read) ≡ with_all (prefix ++ y ∷ []) read
+with_more {Y = Y} prefix y (Ok xs) = ap (λ (zs : List Y). Ok zs) (sym (append_assoc prefix (y ∷ []) xs))
+with_more prefix y (Err f) = refl
 
 -- before the first item
 pub takes_none : {Y : Type 0} (items : List (Result Y TextError)) (old : List Y) → Taken items items old old
-takes_none items old = record { front = []; appended = sym (append-nil old); same = with_none (all_of items) }
+takes_none items old = record { prefix = []; appended = sym (append-nil old); same = with_none (all_of items) }
 
 -- an entry was appended
 pub takes_entry : {Y : Type 0} (items left more : List (Result Y TextError)) (y : Y) (old mid new : List Y) → left ≡ Ok y ∷ more → new ≡ mid ++ y ∷ [] → Taken items left old mid → Taken items more old new
 takes_entry {Y = Y} items left more y old mid new first grown taken = record {
-  front = taken.front ++ y ∷ [];
-  appended = grown ∙ ap (λ (l : List Y). l ++ y ∷ []) taken.appended ∙ append_assoc old taken.front (y ∷ []);
-  same = taken.same ∙ ap (λ (l : List (Result Y TextError)). with_all taken.front (all_of l)) first ∙ with_more taken.front y (all_of more);
+  prefix = taken.prefix ++ y ∷ [];
+  appended = grown ∙ ap (λ (l : List Y). l ++ y ∷ []) taken.appended ∙ append_assoc old taken.prefix (y ∷ []);
+  same = taken.same ∙ ap (λ (l : List (Result Y TextError)). with_all taken.prefix (all_of l)) first ∙ with_more taken.prefix y (all_of more);
 }
 
-appends : {X Y : Type 0} (entry : X → Y) (read : Result (List X) TextFault) (old now front : List Y) → now ≡ old ++ front → answer_of entry read ≡ Ok front → AppendsEntries entry read old now
-appends {Y = Y} entry (Ok xs) old now front appended e = let same : map entry xs ≡ front = cc in (xs, refl, appended ∙ ap (λ (l : List Y). old ++ l) (sym same))
-appends entry (Err at) old now front appended e = absurd cc
+appends : {X Y : Type 0} (entry : X → Y) (read : Result (List X) TextFault) (old now prefix : List Y) → now ≡ old ++ prefix → answer_of entry read ≡ Ok prefix → AppendsEntries entry read old now
+appends {Y = Y} entry (Ok xs) old now prefix appended e = let same : map entry xs ≡ prefix = cc in (xs, refl, appended ∙ ap (λ (l : List Y). old ++ l) (sym same))
+appends entry (Err at) old now prefix appended e = absurd cc
 
 -- no item is left
 pub takes_all : {A Y : Type 0} (grammar : LineReading A) (entry : ℕ × A → Y) (text : List ℕ) (items left : List (Result Y TextError)) (old now : List Y) → items ≡ items_of grammar entry text → left ≡ [] → Taken items left old now
     → AppendsEntries entry (entries_of grammar text) old now
 takes_all {Y = Y} grammar entry text items left old now are none taken =
-    appends entry (entries_of grammar text) old now (taken.front ++ []) (taken.appended ∙ ap (λ (l : List Y). old ++ l) (sym (append-nil taken.front)))
-    (sym (items_answer grammar entry text) ∙ ap (λ (l : List (Result Y TextError)). all_of l) (sym are) ∙ taken.same ∙ ap (λ (l : List (Result Y TextError)). with_all taken.front (all_of l)) none)
+    appends entry (entries_of grammar text) old now (taken.prefix ++ []) (taken.appended ∙ ap (λ (l : List Y). old ++ l) (sym (append-nil taken.prefix)))
+    (sym (items_answer grammar entry text) ∙ ap (λ (l : List (Result Y TextError)). all_of l) (sym are) ∙ taken.same ∙ ap (λ (l : List (Result Y TextError)). with_all taken.prefix (all_of l)) none)
 
 first_fault : {X Y : Type 0} (entry : X → Y) (read : Result (List X) TextFault) (e : TextError) → answer_of entry read ≡ Err e → IsFirstFault read e
 first_fault entry (Ok xs) e h = absurd cc
@@ -144,5 +144,5 @@ pub takes_fault : {A Y : Type 0} (grammar : LineReading A) (entry : ℕ × A →
     → left ≡ item ∷ more → item ≡ Err e → Taken items left old now → IsFirstFault (entries_of grammar text) e
 takes_fault {Y = Y} grammar entry text items left more item old now e are first is taken =
     first_fault entry (entries_of grammar text) e
-    (sym (items_answer grammar entry text) ∙ ap (λ (l : List (Result Y TextError)). all_of l) (sym are) ∙ taken.same ∙ ap (λ (l : List (Result Y TextError)). with_all taken.front (all_of l)) first
-    ∙ ap (λ (i : Result Y TextError). with_all taken.front (all_of (i ∷ more))) is)
+    (sym (items_answer grammar entry text) ∙ ap (λ (l : List (Result Y TextError)). all_of l) (sym are) ∙ taken.same ∙ ap (λ (l : List (Result Y TextError)). with_all taken.prefix (all_of l)) first
+    ∙ ap (λ (i : Result Y TextError). with_all taken.prefix (all_of (i ∷ more))) is)

@@ -125,7 +125,7 @@ fn take_lines<G: Grammar>(text: &[u8], out: &mut List<G::Entry>) -> Result<(), T
     requires { length text.now ≤ 67108864 }
     ensures entries { OnOk result (AppendsEntries G.entry_of (entries_of G.reading text.now) out.old.items out.new.items) }
     ensures bad { IfErr result (IsFirstFault (entries_of G.reading text.now)) }
-    ensures front { take (length out.old.items) out.new.items ≡ out.old.items }
+    ensures kept { take (length out.old.items) out.new.items ≡ out.old.items }
 {
     'lines: for item in Lines::<G>::new(text) {
         match item {

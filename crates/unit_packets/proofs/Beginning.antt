@@ -2,7 +2,7 @@
 use Rattle.std.proofs.Common.{◌≡◌, ℕ, ◌+◌, ◌<◌, ◌≤◌, ◌↔◌, IsTrue, List, [], ◌∷◌, ◌++◌, length, take, drop, refl, sym, ap, ◌∙◌, arith, subst, length-append, inl, inr}
 use Rattle.std.specs.List.{concat}
 use Rattle.std.proofs.lemmas.Bool.{cases_eq}
-use Rattle.std.proofs.lemmas.List.{append-nil, length-drop, take_at}
+use Rattle.std.proofs.lemmas.List.{append-nil, length-drop, take_at, drop-append-le}
 use Rattle.std.proofs.lemmas.List.Folds.{concat-append}
 use Rattle.pitch_messages.specs.Raw.{IsRaw, IsChain, raws_of}
 use Rattle.pitch_messages.proofs.Chains.{chain_of, chain_push, empty_chain}
@@ -10,9 +10,9 @@ use Rattle.unit_packets.specs.Blocks.{StaysWithin}
 use Rattle.unit_packets.specs.Begun.{IsBegun}
 use Rattle.unit_packets.specs.BlockBytes.{header_bytes, block_bytes}
 use Rattle.unit_packets.specs.Lending.{header_for}
-use Rattle.unit_packets.specs.Packing.{sequence_after, fits_datagram, Packing, next_sequence}
+use Rattle.unit_packets.specs.Packing.{sequence_after, fits_datagram}
+use Rattle.unit_packets.specs.Pushing.{Packing, next_sequence}
 use Rattle.unit_packets.specs.declared.header.Header.{Header}
-use Rattle.unit_packets.proofs.Cuts.{drop_append}
 use Rattle.unit_packets.proofs.Packs.{fits_true, fits_of, after_known}
 
 -- nothing is begun
@@ -44,7 +44,7 @@ pub more_begun : (sequence count : ℕ) (bytes raw : List ℕ) → IsBegun seque
     → sequence_after sequence (length (raws_of count (drop 8 bytes))) ≤ 4294967294 → Begins sequence (count + 1) (bytes ++ raw) (raws_of count (drop 8 bytes) ++ raw ∷ [])
 more_begun sequence count bytes raw begun is some few short least =
     let eight : 8 ≤ length bytes = begun.header some in
-    let cut : drop 8 (bytes ++ raw) ≡ drop 8 bytes ++ raw = drop_append 8 bytes raw eight in
+    let cut : drop 8 (bytes ++ raw) ≡ drop 8 bytes ++ raw = drop-append-le 8 bytes raw eight in
     let chain = chain_push count (drop 8 bytes) raw begun.chain is in
     let long = length-append bytes raw in
     record {

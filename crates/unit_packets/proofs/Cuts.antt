@@ -1,6 +1,6 @@
 -- The longest list of blocks.
 use Rattle.std.proofs.Common.{◌≡◌, ℕ, zero, suc, ◌+◌, ◌≤◌, ◌⊎◌, List, [], ◌∷◌, ◌++◌, length, take, drop, refl, sym, ap, ◌∙◌, arith, Ok, Err, Result, subst, inl, inr}
-use Rattle.std.proofs.lemmas.List.{take-append-le, length-drop, get_or-take, length-take-le}
+use Rattle.std.proofs.lemmas.List.{take-append-le, length-drop, get_or-take, length-take-le, drop-append-le}
 use Rattle.unit_packets.specs.Blocks.{Block}
 use Rattle.unit_packets.specs.declared.header.Header.{Header}
 use Rattle.unit_packets.specs.declared.header.BlockError.{BlockError}
@@ -88,11 +88,6 @@ pub record Appends (fed more : List ℕ) : Type 0 where
   pub blocks : blocks_of (fed ++ more) ≡ blocks_of fed ++ blocks_of (rest_of fed ++ more)
   pub rest : rest_of (fed ++ more) ≡ rest_of (rest_of fed ++ more)
 
-pub drop_append : {A : Type 0} (n : ℕ) (xs ys : List A) → n ≤ length xs → drop n (xs ++ ys) ≡ drop n xs ++ ys
-drop_append zero xs ys le = refl
-drop_append (suc n) [] ys le = absurd (omega arith)
-drop_append (suc n) (x ∷ xs) ys le = drop_append n xs ys (omega arith)
-
 at_more : (h : Header) (bytes more : List ℕ) → h.length ≤ length bytes → block_at h (bytes ++ more) ≡ block_at h bytes
 at_more h bytes more fits = ap (λ (r : List ℕ). record { unit = h.unit; sequence = h.sequence; raws = raws_of h.count (drop 8 r) }) (take-append-le h.length bytes more fits)
 
@@ -116,7 +111,7 @@ appends_by (suc n) fed more le = elim (cases_Result (judge fed)) [
       let first = first_of fed h found.1 in
       let longer = first_of (fed ++ more) h (judge_more fed more (subst (λ r. IsFinal r) (sym found.1) tt) ∙ found.1) in
       let again = appends_by n (drop h.length fed) more (omega (arith, shorter fed h found.1)) in
-      let cut : drop h.length (fed ++ more) ≡ drop h.length fed ++ more = drop_append h.length fed more s.fits in
+      let cut : drop h.length (fed ++ more) ≡ drop h.length fed ++ more = drop-append-le h.length fed more s.fits in
       record {
         blocks = longer.blocks
             ∙ ap (λ (b : Block). b ∷ blocks_of (drop h.length (fed ++ more))) (at_more h fed more s.fits)
@@ -147,14 +142,14 @@ rest_short_by (suc n) bytes le = elim (cases_Result (judge bytes)) [
 pub rest_short : (bytes : List ℕ) → length (rest_of bytes) ≤ length bytes
 rest_short bytes = rest_short_by (length bytes) bytes (omega arith)
 
--- what a block at the front needs to be taken out
+-- what a block at the start needs to be taken out
 pub record Takes (bytes : List ℕ) (h : Header) : Type 0 where
   pub header : 8 ≤ h.length
   pub fits : h.length ≤ length bytes
   pub stand : length (raws_of h.count (drop 8 (take h.length bytes))) ≡ h.count
 
-pub front_takes : (bytes : List ℕ) (h : Header) → BeginsWithBlock bytes h → Takes bytes h
-front_takes bytes h f =
+pub begins_takes : (bytes : List ℕ) (h : Header) → BeginsWithBlock bytes h → Takes bytes h
+begins_takes bytes h f =
     let size : length (take h.length bytes) ≡ h.length = length-take-le h.length bytes f.fits in
     let head = f.block.header in
     record {

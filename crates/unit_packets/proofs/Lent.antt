@@ -1,4 +1,4 @@
--- A block at the front of some bytes, by its header and messages.
+-- A block at the start of some bytes, by its header and messages.
 use Rattle.std.proofs.Common.{◌≡◌, ℕ, ◌+◌, ◌-◌, List, length, take, drop, sym, ap, ◌∙◌, subst, arith, Ok}
 use Rattle.std.specs.List.{concat}
 use Rattle.std.proofs.lemmas.List.{length-take-le, length-drop, get_or-take, drop-take}
@@ -15,9 +15,9 @@ header_made n k h = record { length = n; count = k; unit = h.unit; sequence = h.
 same_header : (h : Header) (n k : ℕ) → n ≡ h.length → k ≡ h.count → header_made n k h ≡ h
 same_header h n k a b = ap (λ (v : ℕ). header_made v k h) a ∙ ap (λ (v : ℕ). header_made h.length v h) b
 
--- the header of a block that stands at the front is the one that was read
-pub front_header : (bytes : List ℕ) (h : Header) → BeginsWithBlock bytes h → header_for (block_at h bytes) ≡ h
-front_header bytes h f =
+-- the header of a block that stands at the start is the one that was read
+pub begins_header : (bytes : List ℕ) (h : Header) → BeginsWithBlock bytes h → header_for (block_at h bytes) ≡ h
+begins_header bytes h f =
     let raws : List (List ℕ) = raws_of h.count (drop 8 (take h.length bytes)) in
     let size : length (take h.length bytes) ≡ h.length = length-take-le h.length bytes f.fits in
     let head = f.block.header in
@@ -28,11 +28,11 @@ front_header bytes h f =
 pub lent : (bytes : List ℕ) (h : Header) (raws : List (List ℕ)) → BeginsWithBlock bytes h → Ok h ≡ judge bytes → raws ≡ raws_of h.count (drop 8 (take h.length bytes)) → StandsFirst bytes (block_of h raws)
 lent bytes h raws f judged are =
     let block : Block = block_at h bytes in
-    let header = front_header bytes h f in
+    let header = begins_header bytes h f in
     let there : StandsFirst bytes block = record {
       judged = sym judged ∙ ap (λ (g : Header). Ok g) (sym header);
       block_is = ap (λ (g : Header). block_at g bytes) (sym header);
-      front = subst (λ (g : Header). IsBlock (take g.length bytes) block) (sym header) f.block;
+      prefix = subst (λ (g : Header). IsBlock (take g.length bytes) block) (sym header) f.block;
     } in
     subst (λ (rs : List (List ℕ)). StandsFirst bytes (block_of h rs)) (sym are) there
 

@@ -9,7 +9,7 @@ use Rattle.unit_packets.specs.declared.header.BlockError.{BlockError}
 use Rattle.unit_packets.specs.Judging.{judge, block_at, header_of}
 use Rattle.unit_packets.specs.Cutting.{blocks_of, rest_of}
 use Rattle.unit_packets.specs.CuttingLaws.{CutsAreComputed, CutsAreOne}
-use Rattle.unit_packets.proofs.Judged.{judged_front, fault_none, front_stands}
+use Rattle.unit_packets.proofs.Judged.{judged_begins, fault_none, front_stands}
 use Rattle.unit_packets.proofs.Stable.{judge_found}
 use Rattle.unit_packets.proofs.Cuts.{first_of, none_of, cases_Result}
 
@@ -35,11 +35,11 @@ whole_by (suc n) bytes le small = elim (cases_Result (judge bytes)) [
       let h : Header = found.0 in
       let s = judge_found bytes h found.1 in
       let f = first_of bytes h found.1 in
-      let front = judged_front bytes h small found.1 in
+      let prefix = judged_begins bytes h small found.1 in
       let more = whole_by n (drop h.length bytes) (omega (arith, s.header, s.fits, length-drop h.length bytes)) (drop_small h.length bytes small) in
       subst (λ (bs : List Block). Cuts bytes bs (rest_of bytes)) (sym f.blocks)
       (subst (λ (r : List ℕ). Cuts bytes (block_at h bytes ∷ blocks_of (drop h.length bytes)) r) (sym f.rest)
-      (record { whole = (take h.length bytes, drop h.length bytes, sym (take-append-drop h.length bytes), front.block, more.whole); longest = more.longest }))
+      (record { whole = (take h.length bytes, drop h.length bytes, sym (take-append-drop h.length bytes), prefix.block, more.whole); longest = more.longest }))
   | inr none ↦ no_block bytes none.0 none.1
 ]
 
@@ -54,30 +54,30 @@ same_block : (u s : ℕ) (rs : List (List ℕ)) (block : Block) → u ≡ block.
 same_block u s rs block a b c =
     ap (λ (v : ℕ). made v s rs) a ∙ ap (λ (v : ℕ). made block.unit v rs) b ∙ ap (λ (v : List (List ℕ)). made block.unit block.sequence v) c
 
-one_block : (front back : List ℕ) (block : Block) → IsBlock front block → block_at (header_of (front ++ back)) (front ++ back) ≡ block
-one_block front back block is =
-    let s = front_stands front back block is in
-    let raws : raws_of (header_of (front ++ back)).count (drop 8 (take (header_of (front ++ back)).length (front ++ back))) ≡ block.raws =
-    ap (λ (n : ℕ). raws_of n (drop 8 (take (header_of (front ++ back)).length (front ++ back)))) s.count_is
+one_block : (prefix suffix : List ℕ) (block : Block) → IsBlock prefix block → block_at (header_of (prefix ++ suffix)) (prefix ++ suffix) ≡ block
+one_block prefix suffix block is =
+    let s = front_stands prefix suffix block is in
+    let raws : raws_of (header_of (prefix ++ suffix)).count (drop 8 (take (header_of (prefix ++ suffix)).length (prefix ++ suffix))) ≡ block.raws =
+    ap (λ (n : ℕ). raws_of n (drop 8 (take (header_of (prefix ++ suffix)).length (prefix ++ suffix)))) s.count_is
     ∙ ap (λ (r : List ℕ). raws_of (length block.raws) (drop 8 r)) s.cut ∙ s.raws_are in
     same_block _ _ _ block s.unit_is s.sequence_is raws
 
--- blocks that stand at the front of the same bytes are one
-same_front : (front back fore after : List ℕ) (block other : Block) → IsBlock front block → IsBlock fore other → front ++ back ≡ fore ++ after → (block ≡ other) × (back ≡ after)
-same_front front back fore after block other is also same =
-    let behind : (front back : List ℕ) (block : Block) → IsBlock front block → drop (header_of (front ++ back)).length (front ++ back) ≡ back =
-    λ front back block is. ap (λ (k : ℕ). drop k (front ++ back)) (front_stands front back block is).length_is ∙ drop_at front back (length front) refl in (
-      sym (one_block front back block is) ∙ ap (λ (bytes : List ℕ). block_at (header_of bytes) bytes) same ∙ one_block fore after other also,
-      sym (behind front back block is) ∙ ap (λ (bytes : List ℕ). drop (header_of bytes).length bytes) same ∙ behind fore after other also,
+-- blocks that stand at the start of the same bytes are one
+same_prefix : (prefix suffix fore after : List ℕ) (block other : Block) → IsBlock prefix block → IsBlock fore other → prefix ++ suffix ≡ fore ++ after → (block ≡ other) × (suffix ≡ after)
+same_prefix prefix suffix fore after block other is also same =
+    let behind : (prefix suffix : List ℕ) (block : Block) → IsBlock prefix block → drop (header_of (prefix ++ suffix)).length (prefix ++ suffix) ≡ suffix =
+    λ prefix suffix block is. ap (λ (k : ℕ). drop k (prefix ++ suffix)) (front_stands prefix suffix block is).length_is ∙ drop_at prefix suffix (length prefix) refl in (
+      sym (one_block prefix suffix block is) ∙ ap (λ (bytes : List ℕ). block_at (header_of bytes) bytes) same ∙ one_block fore after other also,
+      sym (behind prefix suffix block is) ∙ ap (λ (bytes : List ℕ). drop (header_of bytes).length bytes) same ∙ behind fore after other also,
     )
 
 one_by : (bytes : List ℕ) (blocks others : List Block) (rest left : List ℕ) → AreBlocks bytes blocks rest → AreBlocks bytes others left → BeginsNoBlock rest → BeginsNoBlock left → (blocks ≡ others) × (rest ≡ left)
 one_by bytes [] [] rest left one other none no_more = (refl, sym one ∙ other)
 one_by bytes [] (o ∷ others) rest left one (fore, after, cut, also, more) none no_more = absurd (none fore after o (sym one ∙ cut) also)
-one_by bytes (b ∷ blocks) [] rest left (front, back, split, is, more) other none no_more = absurd (no_more front back b (sym other ∙ split) is)
-one_by bytes (b ∷ blocks) (o ∷ others) rest left (front, back, split, is, more) (fore, after, cut, also, also_more) none no_more =
-    let first = same_front front back fore after b o is also (sym split ∙ cut) in
-    let again = one_by back blocks others rest left more (subst (λ (r : List ℕ). AreBlocks r others left) (sym first.1) also_more) none no_more in
+one_by bytes (b ∷ blocks) [] rest left (prefix, suffix, split, is, more) other none no_more = absurd (no_more prefix suffix b (sym other ∙ split) is)
+one_by bytes (b ∷ blocks) (o ∷ others) rest left (prefix, suffix, split, is, more) (fore, after, cut, also, also_more) none no_more =
+    let first = same_prefix prefix suffix fore after b o is also (sym split ∙ cut) in
+    let again = one_by suffix blocks others rest left more (subst (λ (r : List ℕ). AreBlocks r others left) (sym first.1) also_more) none no_more in
     (ap (λ (x : Block). x ∷ blocks) first.0 ∙ ap (λ (xs : List Block). o ∷ xs) again.0, again.1)
 
 -- no cutting is another

@@ -11,7 +11,8 @@ use Rattle.pitch_messages.specs.Raw.{IsRaw}
 use Rattle.pitch_messages.specs.Room.{Roomy}
 use Rattle.unit_packets.specs.Blocks.{Block, IsBlock, StaysWithin}
 use Rattle.unit_packets.specs.BlockBytes.{block_bytes}
-use Rattle.unit_packets.specs.Packing.{FitsDatagram, sequence_after, IsDatagram, IsFull, IsPacking, fits_datagram, begun_datagrams, packed_on, packed, Packing, Finishes, GivesPacking, bytes_in, PackingIsComputed, PackingIsOne}
+use Rattle.unit_packets.specs.Packing.{FitsDatagram, sequence_after, IsDatagram, IsFull, IsPacking, fits_datagram, begun_datagrams, packed_on, packed, bytes_in}
+use Rattle.unit_packets.specs.Pushing.{Packing, Finishes, GivesPacking, PackingIsComputed, PackingIsOne}
 use Rattle.unit_packets.proofs.OneCutting.{AreSmall, drop_small}
 use Rattle.pitch_fields.proofs.Bytes.{byte_at}
 use Rattle.unit_packets.proofs.Packs.{bytes_append, fits_true, fits_of, one_fits, after_known, packed_takes}
@@ -61,9 +62,9 @@ datagram_is unit sequence raws small are reach some fits =
       fits = fits;
     }
 
-all_split : (front back : List (List ℕ)) → AllByRecursion IsRaw (front ++ back) → AllByRecursion IsRaw front × AllByRecursion IsRaw back
-all_split [] back all = (tt, all)
-all_split (raw ∷ front) back (is, all) = let s = all_split front back all in ((is, s.0), s.1)
+all_split : (prefix suffix : List (List ℕ)) → AllByRecursion IsRaw (prefix ++ suffix) → AllByRecursion IsRaw prefix × AllByRecursion IsRaw suffix
+all_split [] suffix all = (tt, all)
+all_split (raw ∷ prefix) suffix (is, all) = let s = all_split prefix suffix all in ((is, s.0), s.1)
 
 on_end : (unit sequence : ℕ) (begun : List (List ℕ)) → packed_on unit sequence begun [] ≡ begun_datagrams unit sequence begun
 unfolding packed_on
@@ -94,15 +95,15 @@ full_packing unit sequence [] raws raw small are reach fits not more = absurd (f
 full_packing unit sequence (b ∷ begun) raws raw small are reach fits not more =
     let apart = all_split (b ∷ begun) (raw ∷ raws) are in
     let long = length-append (b ∷ begun) (raw ∷ raws) in
-    let front : InReach sequence (length (b ∷ begun)) = reach_less sequence (length ((b ∷ begun) ++ raw ∷ raws)) (length (b ∷ begun)) (omega (arith, long)) reach in
-    let back : InReach (sequence_after sequence (length (b ∷ begun))) (length (raw ∷ raws)) = reach_after sequence (length (b ∷ begun)) (length (raw ∷ raws)) (subst (λ (n : ℕ). InReach sequence n) long reach) in
+    let prefix : InReach sequence (length (b ∷ begun)) = reach_less sequence (length ((b ∷ begun) ++ raw ∷ raws)) (length (b ∷ begun)) (omega (arith, long)) reach in
+    let suffix : InReach (sequence_after sequence (length (b ∷ begun))) (length (raw ∷ raws)) = reach_after sequence (length (b ∷ begun)) (length (raw ∷ raws)) (subst (λ (n : ℕ). InReach sequence n) long reach) in
     subst (λ (ds : List (List ℕ)). IsPacking unit sequence ((b ∷ begun) ++ raw ∷ raws) ds) (sym (on_full unit sequence b raw begun raws not)) (
       b ∷ begun,
       raw ∷ raws,
       refl,
-      datagram_is unit sequence (b ∷ begun) small apart.0 front (omega arith) fits,
+      datagram_is unit sequence (b ∷ begun) small apart.0 prefix (omega arith) fits,
       (λ fit. false≢true (sym not ∙ fits_true ((b ∷ begun) ++ raw ∷ []) fit)),
-      more (sequence_after sequence (length (b ∷ begun))) apart.1 back (fits_of (raw ∷ []) (one_fits raw apart.1.0)),
+      more (sequence_after sequence (length (b ∷ begun))) apart.1 suffix (fits_of (raw ∷ []) (one_fits raw apart.1.0)),
     )
 
 is_packing : (raws : List (List ℕ)) (unit sequence : ℕ) (begun : List (List ℕ)) → unit < 256 → AllByRecursion IsRaw (begun ++ raws) → InReach sequence (length (begun ++ raws)) → FitsDatagram begun
@@ -144,40 +145,40 @@ gives_packing old new before after small done unit first raws datagrams given ha
     subst (λ (ds : List (List ℕ)). IsPacking unit first raws ds) (sym whole) (packing_is_computed unit first raws (subst (λ (u : ℕ). u < 256) has.unit_is small) are within)
 
 -- ---- There is no other
-fits_less : (front : List (List ℕ)) (raw : List ℕ) (more : List (List ℕ)) → FitsDatagram (front ++ raw ∷ more) → FitsDatagram (front ++ raw ∷ [])
-fits_less front raw more fits =
-    let join : (front ++ raw ∷ []) ++ more ≡ front ++ raw ∷ more = append_assoc front (raw ∷ []) more in
+fits_less : (prefix : List (List ℕ)) (raw : List ℕ) (more : List (List ℕ)) → FitsDatagram (prefix ++ raw ∷ more) → FitsDatagram (prefix ++ raw ∷ [])
+fits_less prefix raw more fits =
+    let join : (prefix ++ raw ∷ []) ++ more ≡ prefix ++ raw ∷ more = append_assoc prefix (raw ∷ []) more in
     let size = fits.size in
     let count = fits.count in
-    let bytes = ap (λ (rs : List (List ℕ)). length (concat rs)) (sym join) ∙ ap length (concat-append (front ++ raw ∷ []) more) ∙ length-append (concat (front ++ raw ∷ [])) (concat more) in
-    let many = ap length (sym join) ∙ length-append (front ++ raw ∷ []) more in
+    let bytes = ap (λ (rs : List (List ℕ)). length (concat rs)) (sym join) ∙ ap length (concat-append (prefix ++ raw ∷ []) more) ∙ length-append (concat (prefix ++ raw ∷ [])) (concat more) in
+    let many = ap length (sym join) ∙ length-append (prefix ++ raw ∷ []) more in
     record { size = omega (arith, size, bytes); count = omega (arith, count, many) }
 
--- of two ways to cut a list, both are one, or one front is longer by a message at least
-record Longer (front more back less : List (List ℕ)) : Type 0 where
+-- of two ways to cut a list, both are one, or one prefix is longer by a message at least
+record Longer (prefix more suffix less : List (List ℕ)) : Type 0 where
   raw : List ℕ
   between : List (List ℕ)
-  front_is : more ≡ front ++ raw ∷ between
-  back_is : back ≡ raw ∷ (between ++ less)
+  prefix_is : more ≡ prefix ++ raw ∷ between
+  suffix_is : suffix ≡ raw ∷ (between ++ less)
 
-two_ways : (front more back less : List (List ℕ)) → front ++ back ≡ more ++ less → ((front ≡ more) × (back ≡ less)) ⊎ ((Longer front more back less) ⊎ (Longer more front less back))
-two_ways [] [] back less same = inl (refl, same)
-two_ways [] (m ∷ more) back less same = inr (inl (record { raw = m; between = more; front_is = refl; back_is = same }))
-two_ways (f ∷ front) [] back less same = inr (inr (record { raw = f; between = front; front_is = refl; back_is = sym same }))
-two_ways (f ∷ front) (m ∷ more) back less same =
+two_ways : (prefix more suffix less : List (List ℕ)) → prefix ++ suffix ≡ more ++ less → ((prefix ≡ more) × (suffix ≡ less)) ⊎ ((Longer prefix more suffix less) ⊎ (Longer more prefix less suffix))
+two_ways [] [] suffix less same = inl (refl, same)
+two_ways [] (m ∷ more) suffix less same = inr (inl (record { raw = m; between = more; prefix_is = refl; suffix_is = same }))
+two_ways (f ∷ prefix) [] suffix less same = inr (inr (record { raw = f; between = prefix; prefix_is = refl; suffix_is = sym same }))
+two_ways (f ∷ prefix) (m ∷ more) suffix less same =
     let head : f ≡ m = cc in
-    let tail : front ++ back ≡ more ++ less = cc in
-    elim (two_ways front more back less tail) [
-      | inl both ↦ inl (ap (λ (x : List ℕ). x ∷ front) head ∙ ap (λ (xs : List (List ℕ)). m ∷ xs) both.0, both.1)
+    let tail : prefix ++ suffix ≡ more ++ less = cc in
+    elim (two_ways prefix more suffix less tail) [
+      | inl both ↦ inl (ap (λ (x : List ℕ). x ∷ prefix) head ∙ ap (λ (xs : List (List ℕ)). m ∷ xs) both.0, both.1)
       | inr other ↦ elim other [
-        | inl l ↦ inr (inl (record { raw = l.raw; between = l.between; front_is = ap (λ (x : List ℕ). x ∷ more) (sym head) ∙ ap (λ (xs : List (List ℕ)). f ∷ xs) l.front_is; back_is = l.back_is }))
-        | inr l ↦ inr (inr (record { raw = l.raw; between = l.between; front_is = ap (λ (x : List ℕ). x ∷ front) head ∙ ap (λ (xs : List (List ℕ)). m ∷ xs) l.front_is; back_is = l.back_is }))
+        | inl l ↦ inr (inl (record { raw = l.raw; between = l.between; prefix_is = ap (λ (x : List ℕ). x ∷ more) (sym head) ∙ ap (λ (xs : List (List ℕ)). f ∷ xs) l.prefix_is; suffix_is = l.suffix_is }))
+        | inr l ↦ inr (inr (record { raw = l.raw; between = l.between; prefix_is = ap (λ (x : List ℕ). x ∷ prefix) head ∙ ap (λ (xs : List (List ℕ)). m ∷ xs) l.prefix_is; suffix_is = l.suffix_is }))
       ]
     ]
 
-too_early : (front more back less : List (List ℕ)) → Longer front more back less → IsFull front back → FitsDatagram more → ⊥
-too_early front more back less l full fits =
-    subst (λ (bs : List (List ℕ)). IsFull front bs) l.back_is full (fits_less front l.raw l.between (subst (λ (rs : List (List ℕ)). FitsDatagram rs) l.front_is fits))
+too_early : (prefix more suffix less : List (List ℕ)) → Longer prefix more suffix less → IsFull prefix suffix → FitsDatagram more → ⊥
+too_early prefix more suffix less l full fits =
+    subst (λ (bs : List (List ℕ)). IsFull prefix bs) l.suffix_is full (fits_less prefix l.raw l.between (subst (λ (rs : List (List ℕ)). FitsDatagram rs) l.prefix_is fits))
 
 -- ---- The bytes of a block
 bytes_are : (bytes : List ℕ) (block : Block) → AreSmall bytes → IsBlock bytes block → bytes ≡ block_bytes block
@@ -205,24 +206,24 @@ bytes_are (a ∷ b ∷ c ∷ d ∷ e ∷ f ∷ g ∷ h ∷ body) block small is 
 pub same_block_bytes : (one other : List ℕ) (block : Block) → AreBytes one → AreBytes other → IsBlock one block → IsBlock other block → one ≡ other
 same_block_bytes one other block a b is also = bytes_are one block (byte_at one a) is ∙ sym (bytes_are other block (byte_at other b) also)
 
-none_and_some : (raws front back : List (List ℕ)) → raws ≡ [] → raws ≡ front ++ back → 0 < length front → ⊥
-none_and_some raws front back none split some = omega (arith, some, length-append front back, ap length none, ap length split)
+none_and_some : (raws prefix suffix : List (List ℕ)) → raws ≡ [] → raws ≡ prefix ++ suffix → 0 < length prefix → ⊥
+none_and_some raws prefix suffix none split some = omega (arith, some, length-append prefix suffix, ap length none, ap length split)
 
 one_by : (datagrams others : List (List ℕ)) (unit first : ℕ) (raws : List (List ℕ)) → AllByRecursion AreBytes datagrams → AllByRecursion AreBytes others → IsPacking unit first raws datagrams → IsPacking unit first raws others → datagrams ≡ others
 one_by [] [] unit first raws bytes more one other = refl
-one_by [] (o ∷ others) unit first raws bytes more none (front, back, split, is, full, rest) = absurd (none_and_some raws front back none split is.some)
-one_by (d ∷ datagrams) [] unit first raws bytes more (front, back, split, is, full, rest) none = absurd (none_and_some raws front back none split is.some)
-one_by (d ∷ datagrams) (o ∷ others) unit first raws bytes more (front, back, split, is, full, rest) (fore, left, cut, also, whole, tail) = elim (two_ways front fore back left (sym split ∙ cut)) [
+one_by [] (o ∷ others) unit first raws bytes more none (prefix, suffix, split, is, full, rest) = absurd (none_and_some raws prefix suffix none split is.some)
+one_by (d ∷ datagrams) [] unit first raws bytes more (prefix, suffix, split, is, full, rest) none = absurd (none_and_some raws prefix suffix none split is.some)
+one_by (d ∷ datagrams) (o ∷ others) unit first raws bytes more (prefix, suffix, split, is, full, rest) (fore, left, cut, also, whole, tail) = elim (two_ways prefix fore suffix left (sym split ∙ cut)) [
   | inl both ↦
-      let there : IsDatagram unit first front o = subst (λ (rs : List (List ℕ)). IsDatagram unit first rs o) (sym both.0) also in
+      let there : IsDatagram unit first prefix o = subst (λ (rs : List (List ℕ)). IsDatagram unit first rs o) (sym both.0) also in
       let head : d ≡ o = same_block_bytes d o _ bytes.0 more.0 is.block there.block in
-      let follow : IsPacking unit (sequence_after first (length front)) back others =
-      subst (λ (rs : List (List ℕ)). IsPacking unit (sequence_after first (length front)) rs others) (sym both.1)
+      let follow : IsPacking unit (sequence_after first (length prefix)) suffix others =
+      subst (λ (rs : List (List ℕ)). IsPacking unit (sequence_after first (length prefix)) rs others) (sym both.1)
       (subst (λ (rs : List (List ℕ)). IsPacking unit (sequence_after first (length rs)) left others) (sym both.0) tail) in
-      ap (λ (x : List ℕ). x ∷ datagrams) head ∙ ap (λ (xs : List (List ℕ)). o ∷ xs) (one_by datagrams others unit (sequence_after first (length front)) back bytes.1 more.1 rest follow)
+      ap (λ (x : List ℕ). x ∷ datagrams) head ∙ ap (λ (xs : List (List ℕ)). o ∷ xs) (one_by datagrams others unit (sequence_after first (length prefix)) suffix bytes.1 more.1 rest follow)
   | inr either ↦ elim either [
-    | inl l ↦ absurd (too_early front fore back left l full also.fits)
-    | inr l ↦ absurd (too_early fore front left back l whole is.fits)
+    | inl l ↦ absurd (too_early prefix fore suffix left l full also.fits)
+    | inr l ↦ absurd (too_early fore prefix left suffix l whole is.fits)
   ]
 ]
 

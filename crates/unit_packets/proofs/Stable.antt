@@ -8,8 +8,8 @@ use Rattle.unit_packets.specs.declared.header.BlockError.{BlockError}
 use Rattle.unit_packets.specs.declared.header.BlockError.TheVariants.{Truncated, LengthBelowHeader, SequencePast, Spare}
 use Rattle.unit_packets.specs.Judging.{header_of, messages_end, judge, judge_end, passes_last}
 use Rattle.pitch_messages.specs.Raw.{raws_of}
-use Rattle.pitch_messages.proofs.LongestChain.{raws_front}
-use Rattle.unit_packets.proofs.Judged.{guard_ok, number_front, end_ok}
+use Rattle.pitch_messages.proofs.LongestChain.{raws_prefix}
+use Rattle.unit_packets.proofs.Judged.{guard_ok, number_in_prefix, end_ok}
 use Rattle.pitch_fields.specs.Fields.{number_at}
 use Rattle.unit_packets.specs.Cutting.{is_truncated}
 
@@ -62,7 +62,7 @@ pub header_more : (bytes more : List ℕ) → 8 ≤ length bytes → header_of (
 header_more bytes more long =
     let cut : take (length bytes) (bytes ++ more) ≡ bytes = take_at bytes more (length bytes) refl in
     let one : (i : ℕ) → i < 8 → get_or (bytes ++ more) i 0 ≡ get_or bytes i 0 = λ i lt. sym (get_or-take (length bytes) (bytes ++ more) i 0 (omega arith)) ∙ ap (λ (r : List ℕ). get_or r i 0) cut in
-    let number : (n at : ℕ) → at + n ≤ 8 → number_at n at (bytes ++ more) ≡ number_at n at bytes = λ n at fits. sym (number_front n at (length bytes) (bytes ++ more) (omega arith)) ∙ ap (λ (r : List ℕ). number_at n at r) cut in
+    let number : (n at : ℕ) → at + n ≤ 8 → number_at n at (bytes ++ more) ≡ number_at n at bytes = λ n at fits. sym (number_in_prefix n at (length bytes) (bytes ++ more) (omega arith)) ∙ ap (λ (r : List ℕ). number_at n at r) cut in
     let l = number 2 0 (omega arith) in
     let c = one 2 (omega arith) in
     let u = one 3 (omega arith) in
@@ -114,7 +114,7 @@ judge_found bytes h is =
     let raws : List (List ℕ) = raws_of g.count (drop 8 block) in
     let there = end_ok g.count ends.0 block ends.1 in
     let size : length block ≡ g.length = length-take-le g.length bytes fits in
-    let body : length (drop 8 block) ≡ length (concat raws) + length (drop (length (concat raws)) (drop 8 block)) = ap length (raws_front g.count (drop 8 block)) ∙ length-append (concat raws) (drop (length (concat raws)) (drop 8 block)) in
+    let body : length (drop 8 block) ≡ length (concat raws) + length (drop (length (concat raws)) (drop 8 block)) = ap length (raws_prefix g.count (drop 8 block)) ∙ length-append (concat raws) (drop (length (concat raws)) (drop 8 block)) in
     let past = ends.2 in
     let is_place = there.1 in
     subst (Stands bytes) same (record { header = eight; fits = fits; size = omega (arith, past, is_place, size, body, length-drop 8 block, eight) })

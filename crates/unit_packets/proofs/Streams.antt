@@ -14,7 +14,7 @@ use Rattle.unit_packets.proofs.Stable.{judge_found, judge_more, IsFinal}
 use Rattle.unit_packets.proofs.Cuts.{first_of, none_of, appends, rest_short}
 
 -- ---- A block more
--- a block that stands at the front is the first, and the others follow it
+-- a block that stands at the start is the first, and the others follow it
 pub record Leads (rest : List ℕ) (block : Block) : Type 0 where
   pub header : 8 ≤ (header_for block).length
   pub fits : (header_for block).length ≤ length rest

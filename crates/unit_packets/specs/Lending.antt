@@ -13,4 +13,4 @@ header_for block = record { length = 8 + length (concat block.raws); count = len
 pub record StandsFirst (bytes : List ℕ) (block : Block) : Type 0 where
   pub judged : judge bytes ≡ Ok (header_for block)
   pub block_is : block ≡ block_at (header_for block) bytes
-  pub front : IsBlock (take (header_for block).length bytes) block
+  pub prefix : IsBlock (take (header_for block).length bytes) block

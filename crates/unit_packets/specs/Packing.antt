@@ -1,16 +1,18 @@
 -- How messages are packed into datagrams.
 use Rattle.std.specs.Prelude.{◌≡◌, ℕ, ◌+◌, ◌≤◌, ◌<◌, Bool, ◌&&◌, nat_le, nat_eq, List, [], ◌∷◌, ◌++◌, length, map, if◌then◌else◌}
-use Rattle.std.specs.List.{concat, AllByRecursion}
-use Rattle.pitch_messages.specs.Raw.{IsRaw}
+use Rattle.std.specs.List.{concat}
 use Rattle.pitch_messages.specs.Room.{Roomy}
-use Rattle.unit_packets.specs.Blocks.{IsBlock, StaysWithin}
+use Rattle.unit_packets.specs.Blocks.{most_messages, IsBlock}
 use Rattle.unit_packets.specs.BlockBytes.{block_bytes}
-use Rattle.pitch_fields.specs.Fields.{AreBytes}
 
--- the messages go into one datagram: 1,400 bytes with the header, and 255 messages, at most
+-- the most bytes of a datagram that a packer makes
+abbrev pub datagram_size : ℕ
+datagram_size = 1400
+
+-- the messages go into one datagram, with the header
 pub record FitsDatagram (raws : List (List ℕ)) : Type 0 where
-  pub size : 8 + length (concat raws) ≤ 1400
-  pub count : length raws ≤ 255
+  pub size : 8 + length (concat raws) ≤ datagram_size
+  pub count : length raws ≤ most_messages
 
 -- the sequence after so many messages; unsequenced stays unsequenced
 abbrev pub sequence_after : ℕ → ℕ → ℕ
@@ -32,11 +34,12 @@ IsFull raws (raw ∷ following) = FitsDatagram (raws ++ raw ∷ []) → ⊥
 abbrev pub IsPacking : ℕ → ℕ → List (List ℕ) → List (List ℕ) → Type 0
 IsPacking unit first raws [] = raws ≡ []
 IsPacking unit first raws (datagram ∷ datagrams) =
-    (front back : List (List ℕ)) × (raws ≡ front ++ back) × IsDatagram unit first front datagram × IsFull front back × IsPacking unit (sequence_after first (length front)) back datagrams
+    (prefix suffix : List (List ℕ)) × (raws ≡ prefix ++ suffix) × IsDatagram unit first prefix datagram × IsFull prefix suffix
+    × IsPacking unit (sequence_after first (length prefix)) suffix datagrams
 
 -- ---- The same, computed
 unfoldable pub fits_datagram : List (List ℕ) → Bool
-fits_datagram raws = nat_le (8 + length (concat raws)) 1400 && nat_le (length raws) 255
+fits_datagram raws = nat_le (8 + length (concat raws)) datagram_size && nat_le (length raws) most_messages
 
 -- the datagram of a block that was begun, if any
 abbrev pub begun_datagrams : ℕ → ℕ → List (List ℕ) → List (List ℕ)
@@ -54,58 +57,6 @@ packed_on unit sequence begun (raw ∷ raws) =
 abbrev pub packed : ℕ → ℕ → List (List ℕ) → List (List ℕ)
 packed unit first raws = packed_on unit first [] raws
 
--- ---- What a packer knows
--- its unit, and the block that was begun: the sequence of its first message, and its messages
-pub record Packing : Type 0 where
-  pub unit : ℕ
-  pub sequence : ℕ
-  pub begun : List (List ℕ)
-
--- nothing was packed yet
-abbrev pub unpacked : ℕ → ℕ → Packing
-unpacked unit first = record { unit = unit; sequence = first; begun = [] }
-
--- the sequence of the next message
-abbrev pub next_sequence : Packing → ℕ
-next_sequence packing = sequence_after packing.sequence (length packing.begun)
-
--- the messages from a sequence on were pushed, and the datagrams given out: whatever messages
--- follow, the packing of all is these datagrams and those that the packer will give
-pub record HasPacked (packing : Packing) (unit first : ℕ) (raws datagrams : List (List ℕ)) : Type 0 where
-  pub unit_is : packing.unit ≡ unit
-  pub next_is : next_sequence packing ≡ sequence_after first (length raws)
-  pub goes_on : (more : List (List ℕ)) → packed unit first (raws ++ more) ≡ datagrams ++ packed_on packing.unit packing.sequence packing.begun more
-
 -- the bytes of the datagrams in a list
 abbrev pub bytes_in : List (Roomy ℕ) → List (List ℕ)
 bytes_in lists = map (λ (list : Roomy ℕ). list.items) lists
-
--- one message more was pushed, and the datagram that it did not go into, if any, given out
-pub record Pushes (old : Packing) (raw : List ℕ) (new : Packing) (before after : List (Roomy ℕ)) : Type 0 where
-  pub added : List (Roomy ℕ)
-  pub given : after ≡ before ++ added
-  pub stands : (unit first : ℕ) (raws datagrams : List (List ℕ)) → HasPacked old unit first raws datagrams → HasPacked new unit first (raws ++ raw ∷ []) (datagrams ++ bytes_in added)
-
--- all that was pushed is given out, and the next message begins a packing of its own
-pub record Finishes (old new : Packing) (before after : List (Roomy ℕ)) : Type 0 where
-  pub added : List (Roomy ℕ)
-  pub given : after ≡ before ++ added
-  pub gives : bytes_in added ≡ begun_datagrams old.unit old.sequence old.begun
-  pub whole : (unit first : ℕ) (raws datagrams : List (List ℕ)) → HasPacked old unit first raws datagrams → datagrams ++ bytes_in added ≡ packed unit first raws
-  pub stands : (unit first : ℕ) (raws datagrams : List (List ℕ)) → HasPacked old unit first raws datagrams → HasPacked new unit (sequence_after first (length raws)) [] []
-
--- what was given out before and what is given out now are the packing of all that was pushed, where
--- these are raws whose sequences messages can have
-abbrev pub GivesPacking : Packing → List (Roomy ℕ) → List (Roomy ℕ) → Type 0
-GivesPacking old before after = (unit first : ℕ) (raws datagrams given : List (List ℕ)) → HasPacked old unit first raws datagrams → bytes_in after ≡ bytes_in before ++ given
-    → AllByRecursion IsRaw raws → StaysWithin first (length raws) → IsPacking unit first raws (datagrams ++ given)
-
--- ---- Laws
--- the computed packing is one
-abbrev pub PackingIsComputed : Type 0
-PackingIsComputed = (unit first : ℕ) (raws : List (List ℕ)) → unit < 256 → AllByRecursion IsRaw raws → StaysWithin first (length raws) → IsPacking unit first raws (packed unit first raws)
-
--- two packings of the same messages, in bytes, are one
-abbrev pub PackingIsOne : Type 0
-PackingIsOne = (unit first : ℕ) (raws datagrams others : List (List ℕ)) → AllByRecursion AreBytes datagrams → AllByRecursion AreBytes others
-    → IsPacking unit first raws datagrams → IsPacking unit first raws others → datagrams ≡ others

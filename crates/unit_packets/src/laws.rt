@@ -2,7 +2,7 @@ ghost use Rattle.std.specs.Prelude.{[]};
 ghost use Rattle.unit_packets.specs.CuttingLaws.{CutsAreComputed, CutsAreOne};
 ghost use Rattle.unit_packets.specs.Feeding.{StandsFor, PiecesAreCut, PiecesDoNotMatter};
 ghost use Rattle.unit_packets.specs.Reading.{unread};
-ghost use Rattle.unit_packets.specs.Packing.{PackingIsComputed, PackingIsOne};
+ghost use Rattle.unit_packets.specs.Pushing.{PackingIsComputed, PackingIsOne};
 
 /// The laws of cutting a stream into blocks: the cutting that the definitions compute is a longest
 /// list of blocks with what follows it, and no other cutting of the same bytes is one.

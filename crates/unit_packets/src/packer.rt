@@ -2,8 +2,9 @@ ghost use Rattle.std.specs.Prelude.{◌≡◌, ◌+◌, ◌≤◌, ◌<◌, ◌+
 ghost use Rattle.pitch_fields.specs.Limits.{last_sequence};
 ghost use Rattle.pitch_messages.specs.Raw.{IsRaw};
 ghost use Rattle.unit_packets.specs.BlockBytes.{header_bytes, block_bytes};
-ghost use Rattle.unit_packets.specs.Blocks.{StaysWithin};
-ghost use Rattle.unit_packets.specs.Packing.{unpacked, next_sequence, sequence_after, fits_datagram, HasPacked, Pushes, Finishes, GivesPacking};
+ghost use Rattle.unit_packets.specs.Blocks.{most_messages, StaysWithin};
+ghost use Rattle.unit_packets.specs.Packing.{datagram_size, sequence_after, fits_datagram};
+ghost use Rattle.unit_packets.specs.Pushing.{unpacked, next_sequence, HasPacked, Pushes, Finishes, GivesPacking};
 
 use crate::header::Header;
 use crate::writing::header_bytes;
@@ -35,7 +36,7 @@ pub struct Packer {
 impl Model for Packer {
     ghost use Rattle.std.specs.Prelude.{drop};
     ghost use Rattle.pitch_messages.specs.Raw.{raws_of};
-    ghost use Rattle.unit_packets.specs.Packing.{Packing};
+    ghost use Rattle.unit_packets.specs.Pushing.{Packing};
     ghost use Rattle.unit_packets.specs.Begun.{IsBegun};
 
     ghost Value = { Packing };
@@ -48,7 +49,7 @@ impl Model for Packer {
 // A block of some messages takes one more, which brings it to this size.
 #[inline]
 fn is_taken(count: u8, size: usize) -> bool
-    ensures { IsTrue result ↔ ((0 < count) × ((count < 255) × (size ≤ 1400))) }
+    ensures { IsTrue result ↔ ((0 < count) × ((count < most_messages) × (size ≤ datagram_size))) }
 {
     count > 0 && count < 255 && size <= DATAGRAM_SIZE
 }

@@ -40,7 +40,7 @@ modify_goes_on : (cents : Option ℕ) (id quantity price : ℕ) (display : Bool)
 modify_goes_on (Some cents) id quantity price display offset = refl
 modify_goes_on None id quantity price display offset = refl
 
-ends_by_message : (command : Command) → is_end (message_of command) ≡ ends_session command
+pub ends_by_message : (command : Command) → is_end (message_of command) ≡ ends_session command
 unfolding add_message trade_message reduce_message modify_message
 ends_by_message (commands.Time second) = refl
 ends_by_message (commands.Add order offset) = add_goes_on (plain_symbol order) (short_price order.quantity order.price) order offset
@@ -55,7 +55,7 @@ ends_by_message (commands.Break execution offset) = refl
 ends_by_message (commands.Clear offset) = refl
 ends_by_message (commands.EndSession offset) = refl
 
-or_false : (b : Bool) → (b || false) ≡ b
+pub or_false : (b : Bool) → (b || false) ≡ b
 or_false true = refl
 or_false false = refl
 

@@ -1,6 +1,8 @@
 pub mod Causes
 pub mod Coding
 pub mod Commands
+pub mod Losses
+pub mod Plan
 pub mod Refusals
 pub mod Standing
 pub mod Stands

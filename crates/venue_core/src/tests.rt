@@ -1,4 +1,4 @@
-use crate::{Venue, VenueError};
+use crate::{Venue, VenueError, lost, plan_command};
 use pitch_fields::{Price, Side, Symbol};
 use pitch_messages::{Order, Raw};
 use pitch_text::{Command, CommandList, read_commands};
@@ -181,4 +181,85 @@ fn a_full_datagram_is_followed_by_another(rt: HostRuntime) -> Result<(), Fail> {
     }
     assert!(rt; venue.beat() == *b"\x08\0\0\x01\xd2\x01\0\0");
     Ok(())
+}
+
+// Some commands of the plan, as text says them.
+const PLAN: [(u64, u8, u32, &str); 10] = [
+    (0, 1, 1, "time 34200"),
+    (0, 1, 2, "add 2 B 175 GAMMADLT 10.02"),
+    (0, 1, 3, "add 3 S 212 ALPHA 11.03"),
+    (0, 1, 4, "exec 2 50 4"),
+    (0, 1, 5, "reduce 3 20"),
+    (0, 1, 6, "modify 2 323 10.06"),
+    (0, 1, 7, "add 7 B 360 BETA 10.0701"),
+    (0, 1, 8, "delete 7"),
+    (0, 1, 16, "trade 16 B 293 BETA 10.16 16"),
+    (
+        u64::MAX,
+        255,
+        400_000,
+        "trade 400000 B 370 BETA 10.15 400000",
+    ),
+];
+
+#[test]
+fn the_plan_is_made_of_its_number_unit_and_index(rt: HostRuntime) -> Result<(), Fail> {
+    for (number, unit, index, text) in PLAN {
+        let mut commands = CommandList::make(rt.alloc());
+        assert!(rt; text.len() < 1000 && index >= 1);
+        read_commands(text.as_bytes(), &mut commands)?;
+        assert!(rt; commands.len() == 1);
+        for entry in commands.as_slice() {
+            assert!(rt;
+                plan_command(number, unit, index) == entry.command,
+                "command {text}"
+            );
+        }
+    }
+    Ok(())
+}
+
+// The orders and the shares that the first commands leave.
+#[test]
+fn a_venue_accepts_the_plan(rt: HostRuntime) {
+    let cases = [
+        (0, 1, 16, 5, 1078),
+        (0, 2, 16, 5, 1083),
+        (0, 1, 200, 62, 18_219),
+        (1, 1, 2000, 625, 181_375),
+        (1, 2, 2000, 625, 182_000),
+    ];
+    for (number, unit, count, orders, shares) in cases {
+        let mut venue = Venue::make(rt.alloc(), unit);
+        for index in 1..=count {
+            assert!(rt; venue.accept(&plan_command(number, unit, index)) == Ok(index));
+        }
+        assert!(rt; venue.book().len() == orders && venue.book().shares() == shares);
+    }
+}
+
+// How many copies of the first 2,000 datagrams are lost on both lines, and the first of them.
+#[test]
+fn a_copy_of_twenty_is_lost(rt: HostRuntime) {
+    let cases = [
+        (0, 1, 202, 2, 2),
+        (1, 2, 185, 5, 1),
+        (7, 16, 211, 1, 2),
+        (u64::MAX, 255, 189, 3, 2),
+    ];
+    for (number, unit, all, first, on) in cases {
+        let mut count = 0i32;
+        for index in 1..=2000 {
+            for line in [1, 2] {
+                if lost(number, unit, index, line) {
+                    if count == 0 {
+                        assert!(rt; (index, line) == (first, on));
+                    }
+                    count = count.wrapping_add(1);
+                }
+            }
+        }
+        assert!(rt; count == all);
+    }
+    assert!(rt; !lost(u64::MAX, 255, u32::MAX, 255));
 }

@@ -2,11 +2,11 @@ use Rattle.std.proofs.Common.{◌≤◌, length}
 use Rattle.stream_print.proofs.Streaming.{Taking}
 use Rattle.stream_print.proofs.stream.print_loaded.Given as goal
 
-abbrev pub invariant-front : goal.invariant-front
-invariant-front g l = record {
+abbrev pub invariant-block : goal.invariant-block
+invariant-block g l = record {
   taking : Taking l.fn.printer l.printer l.fn.reader l.reader (g.O.Sink.written l.fn.out) (g.O.Sink.written l.out);
   later : g.O.Sink.faults l.fn.out ≤ g.O.Sink.faults l.out;
 }
 
-abbrev pub decreases-front : goal.decreases-front
-decreases-front g l = length l.reader.rest
+abbrev pub decreases-block : goal.decreases-block
+decreases-block g l = length l.reader.rest

@@ -1,7 +1,8 @@
 use Rattle.std.proofs.Common.{◌≡◌, ℕ, ◌<◌, List, drop, ap, sym, ◌∙◌, arith, length, subst, Vec, Global, []}
 use Rattle.pitch_messages.proofs.Chains.{no_raws}
 use Rattle.unit_packets.specs.BlockBytes.{block_bytes}
-use Rattle.unit_packets.specs.Packing.{Packing, sequence_after, next_sequence}
+use Rattle.unit_packets.specs.Packing.{sequence_after}
+use Rattle.unit_packets.specs.Pushing.{Packing, next_sequence}
 use Rattle.unit_packets.proofs.Beginning.{none_begun, closed}
 use Rattle.unit_packets.proofs.packer.Packer.close.Goals as goal
 

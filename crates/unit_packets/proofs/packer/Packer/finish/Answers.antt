@@ -3,7 +3,7 @@ use Rattle.std.proofs.lemmas.List.{append-nil}
 use Rattle.pitch_messages.specs.Raw.{raws_of}
 use Rattle.pitch_messages.proofs.Chains.{no_raws}
 use Rattle.pitch_messages.specs.Room.{Roomy}
-use Rattle.unit_packets.specs.Packing.{Packing}
+use Rattle.unit_packets.specs.Pushing.{Packing}
 use Rattle.unit_packets.proofs.OnePacking.{gives_packing}
 use Rattle.unit_packets.proofs.Packs.{finishes, nothing_begun, none_given, one_given}
 use Rattle.unit_packets.proofs.packer.Packer.finish.Goals as goal

@@ -1,5 +1,6 @@
 use Rattle.std.proofs.Common.{ap, sym, ◌∙◌}
-use Rattle.unit_packets.specs.Packing.{sequence_after, next_sequence}
+use Rattle.unit_packets.specs.Packing.{sequence_after}
+use Rattle.unit_packets.specs.Pushing.{next_sequence}
 use Rattle.unit_packets.proofs.packer.Packer.next_sequence.Goals as goal
 
 pub returns : goal.returns

@@ -1,6 +1,6 @@
 use Rattle.std.proofs.Common.{◌≡◌, ℕ, ◌≤◌, ap, sym, ◌∙◌, subst, refl, arith}
 use Rattle.std.proofs.lemmas.Bool.{both_ways}
-use Rattle.unit_packets.specs.Packing.{Packing, next_sequence}
+use Rattle.unit_packets.specs.Pushing.{Packing, next_sequence}
 use Rattle.unit_packets.proofs.Beginning.{took, one_begun}
 use Rattle.unit_packets.proofs.Packs.{takes_more, begins_block}
 use Rattle.unit_packets.proofs.packer.Packer.push_bytes.Goals as goal

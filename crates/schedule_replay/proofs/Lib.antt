@@ -1,0 +1,5 @@
+mod Results
+mod Printing
+mod Places
+mod Reading
+mod Splitting

@@ -1,0 +1,20 @@
+use Rattle.std.proofs.Common.{◌≡◌, ◌++◌, List, ap, ◌∙◌, reverse}
+use Rattle.world_model.specs.declared.world.World.{World}
+use Rattle.schedule_replay.specs.Worlds.{AddsWorlds, worlds_in}
+use Rattle.schedule_replay.proofs.Places.{all_worlds_are}
+use Rattle.schedule_replay.proofs.Results.{on_ok_map}
+use Rattle.schedule_replay.proofs.running.replay_sound.Goals as goal
+
+pub returns-clause-worlds : goal.returns-clause-worlds
+returns-clause-worlds c =
+    let old : List World = c.args.worlds.now.items in
+    let new : List World = c.append.new.self.items in
+    let runs = c.in_ok-run_text.ensures.runs in
+    let added : List World = worlds_in c.run_text.new.places.items in
+    let are : c.into_vec.result.items ≡ added = c.into_vec.ensures ∙ c.in_ok-added.ensures in
+    on_ok_map (new ≡ old ++ c.into_vec.result.items) (AddsWorlds c.args.text.now old new) c.append.result c.append.ensures.ok
+    (λ appended. record {
+      added = added;
+      appended = appended ∙ ap (λ (l : List World). old ++ l) are;
+      run = record { entries = runs.entries; read = runs.read; are = all_worlds_are c.run_text.new.places.items (reverse runs.entries) runs.are };
+    })

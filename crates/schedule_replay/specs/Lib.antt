@@ -1,0 +1,4 @@
+pub mod Apart
+pub mod Causes
+pub mod Replay
+pub mod Worlds

@@ -1,0 +1,16 @@
+//! A whole schedule, done line by line in the worlds of its units.
+//!
+//! `replay` appends what a schedule's lines write, and hands back the world of each unit that a
+//! line names; or it answers the first fault of the schedule's text. The entries are read one at a
+//! time, and none is kept.
+#![tactic(auto)]
+
+mod error;
+pub mod laws;
+mod lines;
+mod running;
+#[cfg(test)]
+mod tests;
+
+pub use crate::error::ReplayError;
+pub use crate::running::{WorldList, replay};

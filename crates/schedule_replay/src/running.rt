@@ -1,0 +1,302 @@
+//! A schedule, line by line.
+
+ghost use Rattle.std.specs.Prelude.{◌≡◌, ◌≤◌, ◌++◌, ◌⊎◌, [], ◌∷◌, List, ℕ, length, take, OnOk, OnErr, IfOk, IfErr, IfSome, IfNone, IsSome, Ok, Err};
+ghost use Rattle.pitch_text.specs.WellFormed.{IsVerb, IsWellFormed};
+ghost use Rattle.pitch_text.specs.declared.verb.ScheduleEntry.{ScheduleEntry as EntrySaid};
+ghost use Rattle.pitch_text.specs.declared.verb.Verb.{Verb as VerbSaid};
+ghost use Rattle.world_model.specs.Printed.{verb_text, shown_at};
+ghost use Rattle.world_model.specs.Stands.{WorldStands, AreLimits};
+ghost use Rattle.world_model.specs.Verbs.{state_of};
+ghost use Rattle.world_model.specs.declared.limits.Limits.{Limits as LimitsSaid};
+ghost use Rattle.schedule_replay.specs.Causes.{replay_error};
+ghost use Rattle.schedule_replay.specs.Replay.{verbs_of, default_limits, limits_at, limits_of, replay_line, replay_of, schedule_of};
+ghost use Rattle.schedule_replay.specs.Worlds.{AddsWorlds, ArePlaces, IsPlace, IsReady, RunsText, worlds_in};
+ghost use Rattle.schedule_replay.specs.declared.error.ReplayError.TheVariants as errors;
+
+use crate::error::ReplayError;
+use crate::lines::append_printed;
+use pitch_fields::OutOfMemory;
+use pitch_text::laws::schedules_are_well_formed;
+use pitch_text::{Schedule, ScheduleEntry, TextError, Verb};
+use std::alloc::Global;
+use world_model::{Limits, World};
+
+/// A list of worlds.
+pub type WorldList = pitch_messages::List<World>;
+
+// The number of places: a schedule's units go from 1 to 64.
+const PLACES: usize = 65;
+
+// The limits of a unit that does not begin with an `open` line.
+fn default_limits() -> Limits
+    ensures limits { result ≡ default_limits }
+    ensures can { AreLimits result }
+{
+    Limits {
+        hold: 4096,
+        kept: 65_536,
+        second: 10,
+        minute: 100,
+        day: 10_000,
+    }
+}
+
+// The limits of a unit that begins with this verb.
+fn limits_at(verb: &Verb) -> Limits
+    requires { IsVerb verb.now }
+    ensures limits { result ≡ limits_at verb.now }
+    ensures can { AreLimits result }
+{
+    match *verb {
+        Verb::Setup {
+            hold,
+            kept,
+            second,
+            minute,
+            day,
+        } => Limits {
+            hold,
+            kept,
+            second,
+            minute,
+            day,
+        },
+        Verb::Command(_) => default_limits(),
+        Verb::Flush => default_limits(),
+        Verb::Beat => default_limits(),
+        Verb::Deliver { .. } => default_limits(),
+        Verb::Rest { .. } => default_limits(),
+        Verb::Connect(_) => default_limits(),
+        Verb::Cut(_) => default_limits(),
+        Verb::Up { .. } => default_limits(),
+        Verb::Down { .. } => default_limits(),
+        Verb::Advertise => default_limits(),
+        Verb::Tick => default_limits(),
+        Verb::Show => default_limits(),
+        Verb::Quote { .. } => default_limits(),
+    }
+}
+
+// Makes the world of a unit that has none.
+fn make_known(
+    alloc: Global,
+    unit: u8,
+    verb: &Verb,
+    place: &mut Option<World>,
+) -> Result<(), OutOfMemory>
+    requires { IsVerb verb.now }
+    // Whatever lines came before, the place then has a world for all that they did with the unit.
+    ensures ready { OnOk result ((before : List EntrySaid) → IsPlace before unit place.old
+        → IsReady unit (limits_of (verb.now ∷ verbs_of unit before)) (verbs_of unit before) place.new) }
+    ensures some { OnOk result (IsSome place.new) }
+{
+    match place {
+        Some(_) => Ok(()),
+        None => {
+            *place = Some(World::make(alloc, unit, limits_at(verb))?);
+            Ok(())
+        }
+    }
+}
+
+// Appends what `show` prints after its line. The text is as before after OutOfMemory.
+fn append_shown(world: &World, verb: &Verb, out: &mut Vec<u8>) -> Result<(), OutOfMemory>
+    ensures shown { OnOk result ((unit : ℕ) (limits : LimitsSaid) (done : List VerbSaid) → WorldStands world.now unit limits (verb.now ∷ done)
+        → out.new.items ≡ out.old.items ++ shown_at unit limits verb.now (state_of unit limits (verb.now ∷ done))) }
+    ensures behind { take (length out.old.items) out.new.items ≡ out.old.items }
+{
+    match verb {
+        Verb::Show => world.show(out),
+        Verb::Command(_) => Ok(()),
+        Verb::Setup { .. } => Ok(()),
+        Verb::Flush => Ok(()),
+        Verb::Beat => Ok(()),
+        Verb::Deliver { .. } => Ok(()),
+        Verb::Rest { .. } => Ok(()),
+        Verb::Connect(_) => Ok(()),
+        Verb::Cut(_) => Ok(()),
+        Verb::Up { .. } => Ok(()),
+        Verb::Down { .. } => Ok(()),
+        Verb::Advertise => Ok(()),
+        Verb::Tick => Ok(()),
+        Verb::Quote { .. } => Ok(()),
+    }
+}
+
+// Does the verb of a line in a world, and appends its text. After OutOfMemory some of it may have
+// been appended.
+fn step_in(world: &mut World, entry: &ScheduleEntry, out: &mut Vec<u8>) -> Result<(), OutOfMemory>
+    requires { IsVerb entry.now.verb }
+    // Whatever verbs were done in the world, it then stands for these and this one.
+    ensures stands { OnOk result ((limits : LimitsSaid) (done : List VerbSaid) → WorldStands world.old entry.now.unit limits done
+        → WorldStands world.new entry.now.unit limits (entry.now.verb ∷ done)) }
+    ensures text { OnOk result ((limits : LimitsSaid) (done : List VerbSaid) → WorldStands world.old entry.now.unit limits done
+        → out.new.items ≡ out.old.items ++ verb_text entry.now.line entry.now.unit limits entry.now.verb (state_of entry.now.unit limits done)) }
+    ensures behind { take (length out.old.items) out.new.items ≡ out.old.items }
+{
+    match world.step(&entry.verb) {
+        Ok(printed) => {
+            append_printed(entry.line, entry.unit, &entry.verb, &printed, out)?;
+            append_shown(world, &entry.verb, out)
+        }
+        Err(error) => Err(error),
+    }
+}
+
+// Does a line in the world of its unit, which is made where it is the unit's first, and appends its
+// text.
+fn run_in(
+    alloc: Global,
+    place: &mut Option<World>,
+    entry: &ScheduleEntry,
+    out: &mut Vec<u8>,
+) -> Result<(), OutOfMemory>
+    requires { IsVerb entry.now.verb }
+    // Whatever lines came before, the place is then the unit's after these and this one.
+    ensures world { OnOk result ((before : List EntrySaid) → IsPlace before entry.now.unit place.old
+        → IsPlace (entry.now ∷ before) entry.now.unit place.new) }
+    ensures text { OnOk result ((before : List EntrySaid) → IsPlace before entry.now.unit place.old
+        → out.new.items ≡ out.old.items ++ replay_line before entry.now) }
+    ensures behind { take (length out.old.items) out.new.items ≡ out.old.items }
+{
+    make_known(alloc, entry.unit, &entry.verb, place)?;
+    match place {
+        Some(world) => step_in(world, entry, out),
+        None => unreachable!(),
+    }
+}
+
+// Does a line, and appends its text.
+fn run_line(
+    alloc: Global,
+    places: &mut Vec<Option<World>>,
+    entry: &ScheduleEntry,
+    out: &mut Vec<u8>,
+) -> Result<(), OutOfMemory>
+    requires given { IsWellFormed entry.now.unit entry.now.verb }
+    requires many { length places.old.items ≡ 65 }
+    // Whatever lines came before, the places are then those after these and this one.
+    ensures places { OnOk result ((before : List EntrySaid) → ArePlaces before places.old.items
+        → ArePlaces (entry.now ∷ before) places.new.items) }
+    ensures text { OnOk result ((before : List EntrySaid) → ArePlaces before places.old.items
+        → out.new.items ≡ out.old.items ++ replay_line before entry.now) }
+    ensures many { length places.new.items ≡ 65 }
+    ensures behind { take (length out.old.items) out.new.items ≡ out.old.items }
+{
+    run_in(alloc, &mut places[usize::from(entry.unit)], entry, out)
+}
+
+// Does the lines of a text without a fault, and appends their text. After OutOfMemory some of it
+// may have been appended.
+fn run_text(
+    alloc: Global,
+    places: &mut Vec<Option<World>>,
+    text: &[u8],
+    out: &mut Vec<u8>,
+) -> Result<(), OutOfMemory>
+    requires size { length text.now ≤ 67108864 }
+    requires sound { (entries : List EntrySaid) × (schedule_of text.now ≡ Ok entries) }
+    requires none { ArePlaces [] places.old.items }
+    ensures runs { OnOk result (RunsText text.now places.new.items out.old.items out.new.items) }
+    ensures behind { take (length out.old.items) out.new.items ≡ out.old.items }
+{
+    schedules_are_well_formed();
+    'lines: for item in Schedule::of_text(text) {
+        match item {
+            Ok(entry) => run_line(alloc, places, &entry, out)?,
+            Err(_) => unreachable!(),
+        }
+    }
+    Ok(())
+}
+
+// The first fault of a schedule's text.
+fn first_fault(text: &[u8]) -> Option<TextError>
+    requires { length text.now ≤ 67108864 }
+    ensures none { IfNone result ((entries : List EntrySaid) × (schedule_of text.now ≡ Ok entries)) }
+    ensures some { IfSome result (λ fault. schedule_of text.now ≡ Err (replay_error fault)) }
+{
+    'items: for item in Schedule::of_text(text) {
+        if let Err(fault) = item {
+            return Some(fault);
+        }
+    }
+    None
+}
+
+// No unit has a world yet.
+fn no_worlds(alloc: Global) -> Result<Vec<Option<World>>, OutOfMemory>
+    ensures { IfOk result (λ places. ArePlaces [] places.items) }
+{
+    let mut places = Vec::with_capacity(alloc, PLACES)?;
+    'places: for _ in 0..PLACES {
+        places.push(None)?;
+    }
+    Ok(places)
+}
+
+// The worlds by rising unit.
+fn all_worlds(alloc: Global, places: Vec<Option<World>>) -> Result<WorldList, OutOfMemory>
+    ensures { IfOk result (λ worlds. worlds.items ≡ worlds_in places.items) }
+{
+    let mut worlds = WorldList::make(alloc);
+    'places: for place in places {
+        match place {
+            Some(world) => worlds.push(world)?,
+            None => {}
+        }
+    }
+    Ok(worlds)
+}
+
+// Replays the lines of a text without a fault. After OutOfMemory some text may have been appended.
+fn replay_sound(
+    alloc: Global,
+    text: &[u8],
+    worlds: &mut WorldList,
+    out: &mut Vec<u8>,
+) -> Result<(), OutOfMemory>
+    requires size { length text.now ≤ 67108864 }
+    requires sound { (entries : List EntrySaid) × (schedule_of text.now ≡ Ok entries) }
+    ensures written { OnOk result ((written : List ℕ) × (replay_of text.now ≡ Ok written) × (out.new.items ≡ out.old.items ++ written)) }
+    ensures worlds { OnOk result (AddsWorlds text.now worlds.old.items worlds.new.items) }
+    ensures kept { OnErr result (worlds.new.items ≡ worlds.old.items) }
+    ensures behind { take (length out.old.items) out.new.items ≡ out.old.items }
+{
+    let mut places = no_worlds(alloc)?;
+    run_text(alloc, &mut places, text, out)?;
+    let added = all_worlds(alloc, places)?;
+    worlds.append(added.into_vec())
+}
+
+/// Replays a schedule: does each line in the world of its unit, in the text's order. Appends what
+/// the lines write to `out`, and to `worlds` the world of each unit that a line names, by rising
+/// unit, in which all the unit's lines were done.
+///
+/// A text has at most 67,108,864 bytes. The whole text is judged before the first line is done:
+/// `Text` is its first fault. After an error `out` and `worlds` are as before.
+pub fn replay(
+    alloc: Global,
+    text: &[u8],
+    worlds: &mut WorldList,
+    out: &mut Vec<u8>,
+) -> Result<(), ReplayError>
+    requires { length text.now ≤ 67108864 }
+    ensures written { OnOk result ((written : List ℕ) × (replay_of text.now ≡ Ok written) × (out.new.items ≡ out.old.items ++ written)) }
+    ensures worlds { OnOk result (AddsWorlds text.now worlds.old.items worlds.new.items) }
+    ensures cause { IfErr result (λ error. (error ≡ errors.OutOfMemory) ⊎ (replay_of text.now ≡ Err error)) }
+    ensures kept_text { OnErr result (out.new.items ≡ out.old.items) }
+    ensures kept_worlds { OnErr result (worlds.new.items ≡ worlds.old.items) }
+{
+    if let Some(fault) = first_fault(text) {
+        return Err(ReplayError::from(fault));
+    }
+    let start = out.len();
+    match replay_sound(alloc, text, worlds, out) {
+        Ok(()) => Ok(()),
+        Err(_) => {
+            out.truncate(start);
+            Err(ReplayError::OutOfMemory)
+        }
+    }
+}

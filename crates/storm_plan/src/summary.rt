@@ -1,0 +1,58 @@
+//! The lines of a storm's summary, each written into a lent buffer at an index. Each function
+//! answers where its line ends.
+
+ghost use Rattle.std.specs.Prelude.{◌≡◌, ◌≤◌, ◌+◌, ◌++◌, [], ◌∷◌, take, length};
+ghost use Rattle.feed_lines.specs.LineSize.{line_size};
+ghost use Rattle.storm_plan.specs.StormText.{number_after, storm_line, unit_line};
+
+use feed_lines::put_status;
+use pitch_fields::{put_byte, put_number, put_text};
+use pitch_model::Status;
+
+// Writes some words, and a number after them.
+#[tactic(auto, unfolding(crate::specs::StormText::number_after))]
+fn put_number_after(out: &mut [u8], at: usize, words: &[u8], number: u64) -> usize
+    requires { at + length words.now + 20 ≤ length out.old }
+    ensures end { result ≤ at + length words.now + 20 }
+    ensures text { take result out.new ≡ take at out.old ++ number_after words.now number }
+    ensures kept { length out.new ≡ length out.old }
+{
+    let told = put_text(out, at, words);
+    put_number(out, told, number)
+}
+
+/// Writes the first line of a storm's summary: what the storm was made of.
+pub fn put_storm_line(out: &mut [u8], at: usize, number: u64, units: u8, steps: u32) -> usize
+    requires { at + line_size ≤ length out.old }
+    ensures end { result ≤ at + line_size }
+    ensures text { take result out.new ≡ take at out.old ++ storm_line number units steps }
+    ensures kept { length out.new ≡ length out.old }
+{
+    let numbered = put_number_after(out, at, b"storm number ", number);
+    let counted = put_number_after(out, numbered, b" units ", u64::from(units));
+    let stepped = put_number_after(out, counted, b" steps ", u64::from(steps));
+    put_byte(out, stepped, b'\n')
+}
+
+/// Writes the line of a unit: its status, and the number of orders and the shares of its book.
+#[tactic(auto, unfolding(crate::specs::StormText::unit_line))]
+pub fn put_unit_line(
+    out: &mut [u8],
+    at: usize,
+    unit: u8,
+    status: Status,
+    orders: u32,
+    shares: u64,
+) -> usize
+    requires { at + line_size ≤ length out.old }
+    ensures end { result ≤ at + line_size }
+    ensures text { take result out.new ≡ take at out.old ++ unit_line unit status orders shares }
+    ensures kept { length out.new ≡ length out.old }
+{
+    let named = put_number_after(out, at, b"unit ", u64::from(unit));
+    let spaced = put_text(out, named, b" ");
+    let placed = put_status(out, spaced, status);
+    let counted = put_number_after(out, placed, b" orders ", u64::from(orders));
+    let summed = put_number_after(out, counted, b" shares ", shares);
+    put_byte(out, summed, b'\n')
+}

@@ -1,0 +1,16 @@
+mod Witness
+mod Pieces
+mod HeardBlocks
+mod HeardItems
+mod LinkItems
+mod Replies
+mod Booking
+mod Carrying
+mod SpinWitness
+mod SpinCarrying
+mod Pumping
+mod Acting
+mod Sessions
+mod SpinActing
+mod Ticking
+mod Examples

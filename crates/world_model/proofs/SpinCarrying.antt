@@ -1,0 +1,113 @@
+-- What carrying bytes does to a connection with the spin server.
+use Rattle.std.proofs.Common.{◌≡◌, ℕ, zero, suc, ◌+◌, ◌-◌, ◌≤◌, Bool, true, false, Option, Some, None, is_some, List, [], ◌∷◌, ◌++◌, length, take, drop, replicate, refl, sym, ap, ◌∙◌, subst, arith, length-append}
+use Rattle.std.specs.Option.{option_map}
+use Rattle.pitch_model.specs.Advertising.{Operation, accepted_by, advertised_by, last_ten}
+use Rattle.pitch_model.specs.History.{Raw}
+use Rattle.session_ends.specs.Answering.{Rises}
+use Rattle.session_ends.specs.Closing.{Setup, closed_of}
+use Rattle.session_ends.specs.Ending.{Ending}
+use Rattle.session_ends.specs.Events.{Event, Fed}
+use Rattle.session_ends.specs.Sending.{new_items}
+use Rattle.session_ends.proofs.Runs.{rises_to, rises_nowhere}
+use Rattle.spin_server.specs.Served.{Served, ServedLater}
+use Rattle.spin_server.specs.Serving.{Serving, SpinStands, SpinFeeds, spin_sends}
+use Rattle.spin_server.specs.Shelves.{Shelf}
+use Rattle.spin_server.specs.Stands.{ShelfStands, ShelfShows, seen_of}
+use Rattle.spin_server.proofs.Serves.{later_order}
+use Rattle.spin_server.proofs.Shelving.{one_served, later_both, shelf_seen}
+use Rattle.client_links.specs.Linking.{Lookups, LinkStands}
+use Rattle.world_model.specs.Connections.{IsPipe, IsServed, IsSpin, HasSpin, KeepsShelf}
+use Rattle.world_model.specs.Ends.{spin_server, spin_link}
+use Rattle.world_model.specs.State.{State, Connection, Pipe, waiting}
+use Rattle.world_model.specs.Verbs.{put_in, took, with_up, at_spin_server, pumped_times, pumps, sent_whole, views_of, shut}
+use Rattle.world_model.specs.declared.spin.SpinConnection.{SpinConnection}
+use Rattle.world_model.proofs.Carrying.{piped_put, piped_taken}
+
+-- ---- The shelf is seen at one view
+-- the messages that were accepted, and the sequences that are served
+abbrev spin_view : List Raw → List ℕ → Served
+spin_view accepted advertised = record { messages = accepted; advertised = last_ten advertised }
+
+one_view : (shelf : Shelf) (accepted : List Raw) (advertised : List ℕ) (views : List Served) (now : Served) → (is : KeepsShelf shelf accepted advertised) → Rises ServedLater (spin_view accepted advertised) views now → ShelfShows shelf now
+    → views ≡ replicate (length views) (spin_view accepted advertised)
+one_view shelf accepted advertised views now is rises shows =
+    let view : Served = spin_view accepted advertised in
+    let seen : seen_of is.operations ≡ view = ap (λ (raws : List Raw). spin_view raws (advertised_by is.operations)) is.accepted_is ∙ ap (λ (ns : List ℕ). spin_view accepted ns) is.advertised_is in
+    let first : ShelfShows shelf view = subst (ShelfShows shelf) seen (shelf_seen shelf is.operations is.stands) in
+    let same : now ≡ view = one_served shelf view now first shows (rises_to ServedLater later_order view views now rises) in
+    rises_nowhere ServedLater later_order later_both view now views rises same
+
+-- it shows that view
+pub shows_view : (shelf : Shelf) (accepted : List Raw) (advertised : List ℕ) → KeepsShelf shelf accepted advertised → ShelfShows shelf (spin_view accepted advertised)
+shows_view shelf accepted advertised is =
+    subst (ShelfShows shelf) (ap (λ (raws : List Raw). spin_view raws (advertised_by is.operations)) is.accepted_is ∙ ap (λ (ns : List ℕ). spin_view accepted ns) is.advertised_is) (shelf_seen shelf is.operations is.stands)
+
+-- ---- The server is fed
+pub is_fed : (unit : ℕ) (accepted : List Raw) (advertised : List ℕ) (k : Connection (List Served)) (up : Pipe) (piece : List ℕ) (old new : Serving) (shelf : Shelf) (bytes bytes' : List ℕ)
+    → KeepsShelf shelf accepted advertised → old.end.setup ≡ spin_server unit → new.end.setup ≡ old.end.setup → IsPipe bytes k.down
+    → SpinFeeds k.server piece old new (spin_view accepted advertised) (λ v. ShelfShows shelf v) bytes bytes'
+    → IsServed new bytes' unit (at_spin_server unit (Fed piece (replicate (length (new_items k.server piece)) (spin_view accepted advertised))) (with_up up k))
+is_fed unit accepted advertised k up piece old new shelf bytes bytes' is made still down f =
+    let view : Served = spin_view accepted advertised in
+    let views_are : f.views ≡ replicate (length (new_items k.server piece)) view = one_view shelf accepted advertised f.views f.now is f.rises f.shows ∙ ap (λ (n : ℕ). replicate n view) f.each in
+    let views : List Served = replicate (length (new_items k.server piece)) view in
+    let said : bytes' ≡ bytes ++ spin_sends (spin_server unit) (Fed piece views) k.server =
+    f.replied ∙ ap (λ (s : Setup). bytes ++ spin_sends s (Fed piece f.views) k.server) made ∙ ap (λ (vs : List Served). bytes ++ spin_sends (spin_server unit) (Fed piece vs) k.server) views_are in
+    record {
+      made = still ∙ made;
+      stands = subst (λ (vs : List Served). SpinStands new (Fed piece vs ∷ k.server)) views_are f.stands;
+      down = subst (λ (b : List ℕ). IsPipe b (put_in (spin_sends (spin_server unit) (Fed piece views) k.server) k.down)) (sym said) (piped_put bytes _ k.down down);
+    }
+
+-- calls for the next block change nothing else
+pumped_up : (unit n : ℕ) (c : Connection (List Served)) → (pumped_times unit n c).up ≡ c.up
+pumped_up unit zero c = refl
+pumped_up unit (suc n) c = pumped_up unit n c
+
+pumped_link : (unit n : ℕ) (c : Connection (List Served)) → (pumped_times unit n c).link ≡ c.link
+pumped_link unit zero c = refl
+pumped_link unit (suc n) c = pumped_link unit n c
+
+-- ---- To the server
+pub carried_up : (old new : SpinConnection) (unit : ℕ) (s : State) (k : Connection (List Served)) (n : ℕ) (piece : List ℕ) (shelf shelf' : Shelf) (fed : Serving) (bytes : List ℕ)
+    → IsSpin old unit k → KeepsShelf shelf s.accepted s.advertised → n ≤ length old.up.items → piece ≡ take n old.up.items → new.up.items ≡ drop n old.up.items → new.link ≡ old.link → fed.end.setup ≡ old.server.end.setup → shelf' ≡ shelf
+    → ((es : List (Event (List Served))) (view : Served) → SpinStands old.server es → ShelfShows shelf view → SpinFeeds es piece old.server fed view (λ v. ShelfShows shelf' v) old.down.items bytes)
+    → ((unit : ℕ) (c : Connection (List Served)) → IsServed fed bytes unit c → IsServed new.server new.down.items unit (pumped_times unit (pumps unit c.server) c))
+    → IsSpin new unit (sent_whole unit (at_spin_server unit (Fed (take n (waiting k.up)) (views_of s k.server (take n (waiting k.up)))) (with_up (took n k.up) k)))
+carried_up old new unit s k n piece shelf shelf' fed bytes is keeps few piece_is rest link setup same feeds pump =
+    let view : Served = spin_view s.accepted s.advertised in
+    let P : List ℕ = take n (waiting k.up) in
+    let c : Connection (List Served) = at_spin_server unit (Fed P (replicate (length (new_items k.server P)) view)) (with_up (took n k.up) k) in
+    let at : piece ≡ P = piece_is ∙ ap (take n) is.up.are in
+    let first : SpinFeeds k.server piece old.server fed view (λ v. ShelfShows shelf' v) old.down.items bytes = feeds k.server view is.server (shows_view shelf s.accepted s.advertised keeps) in
+    let there : SpinFeeds k.server P old.server fed view (λ v. ShelfShows shelf v) old.down.items bytes =
+    subst (λ (p : List ℕ). SpinFeeds k.server p old.server fed view (λ v. ShelfShows shelf v) old.down.items bytes) at
+    (subst (λ (x : Shelf). SpinFeeds k.server piece old.server fed view (λ v. ShelfShows x v) old.down.items bytes) same first) in
+    let served : IsServed new.server new.down.items unit (pumped_times unit (pumps unit c.server) c) =
+    pump unit c (is_fed unit s.accepted s.advertised k (took n k.up) P old.server fed shelf old.down.items bytes keeps is.server_made setup is.down there) in
+    record {
+      server_made = served.made;
+      server = served.stands;
+      link_made = ap (λ (e : Ending). e.setup) link ∙ is.link_made;
+      link = subst (λ (es : List (Event Lookups)). LinkStands new.link es) (sym (pumped_link unit (pumps unit c.server) c)) (subst (λ (e : Ending). LinkStands e k.link) (sym link) is.link);
+      up = subst (λ (p : Pipe). IsPipe new.up.items p) (sym (pumped_up unit (pumps unit c.server) c)) (subst (λ (b : List ℕ). IsPipe b (took n k.up)) (sym rest) (piped_taken old.up.items n k.up is.up few));
+      down = served.down;
+    }
+
+-- ---- Where a connection may stand
+pub on_none : (unit : ℕ) (g : Option (Connection (List Served))) (f : Connection (List Served) → Connection (List Served)) → HasSpin None unit g → HasSpin None unit (option_map f g)
+on_none unit None f is = tt
+on_none unit (Some k) f is = absurd is
+
+pub on_some : (old new : SpinConnection) (unit : ℕ) (g : Option (Connection (List Served))) (f : Connection (List Served) → Connection (List Served)) → ((k : Connection (List Served)) → IsSpin old unit k → IsSpin new unit (f k)) → HasSpin (Some old) unit g
+    → HasSpin (Some new) unit (option_map f g)
+on_some old new unit None f does is = absurd is
+on_some old new unit (Some k) f does is = does k is
+
+pub shut_none : (unit : ℕ) (g : Option (Connection (List Served))) (s : Setup) → HasSpin None unit g → false ≡ shut s g
+shut_none unit None s is = refl
+shut_none unit (Some k) s is = absurd is
+
+pub shut_some : (c : SpinConnection) (unit : ℕ) (g : Option (Connection (List Served))) (s : Setup) (b : Bool) → ((k : Connection (List Served)) → IsSpin c unit k → b ≡ is_some (closed_of s k.link)) → HasSpin (Some c) unit g → b ≡ shut s g
+shut_some c unit None s b does is = absurd is
+shut_some c unit (Some k) s b does is = does k is

@@ -1,0 +1,14 @@
+use Rattle.std.proofs.Common.{rules, List, length, take, ◌∷◌, [], refl, sym, subst, ◌+◌}
+use Rattle.std.proofs.lemmas.Option.{slice_get_read}
+use Rattle.pitch_model.specs.declared.item.Item.{Item}
+use Rattle.world_model.specs.Hearing.{HearsItems}
+use Rattle.world_model.proofs.HeardItems.{hears_then, items_more}
+use Rattle.world_model.proofs.hearing.hear_told.Goals as goal
+
+pub told-preserved : goal.told-preserved
+told-preserved c =
+    let i = c.told.item-index in
+    let all : List Item = c.args.items.now in
+    let at = slice_get_read all (length all) i c.item-item.result refl (search rules) c.item-item.is in
+    subst (λ (items : List Item). HearsItems c.args.client.now c.hear_item.new.client items) (sym (items_more all i c.item-item.result at))
+    (hears_then c.args.client.now c.told.client c.hear_item.new.client (take i all) (c.item-item.result ∷ []) c.told.invariant c.in_ok-hear_item.ensures)

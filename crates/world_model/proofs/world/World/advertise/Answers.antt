@@ -1,0 +1,6 @@
+use Rattle.world_model.proofs.SpinActing.{acts_advertised}
+use Rattle.world_model.proofs.world.World.advertise.Goals as goal
+
+pub returns : goal.returns
+returns c = λ s has.
+    acts_advertised c.args.self.now c.advertise.new.self c.tell_spin_server.new.spin c.in_ok-sequence.sequence c.calm.result s has c.in_ok-sequence.ensures.sequence c.in_ok-sequence.ensures.ok c.in_ok-tell_spin_server.ensures c.calm.ensures

@@ -1,0 +1,18 @@
+use Rattle.std.proofs.Common.{ℕ, List, sym, subst}
+use Rattle.std.specs.List.{AllByRecursion}
+use Rattle.unit_packets.specs.Packing.{bytes_in}
+use Rattle.pitch_model.specs.Datagrams.{IsPiece}
+use Rattle.world_model.specs.State.{State, datagrams_on}
+use Rattle.world_model.specs.Verbs.{state_of}
+use Rattle.world_model.proofs.Acting.{line_pieces}
+use Rattle.world_model.proofs.world.World.datagrams.Goals as goal
+
+pub returns-clause-datagrams : goal.returns-clause-datagrams
+returns-clause-datagrams c = λ unit limits done stands. c.datagrams_on.ensures (state_of unit limits done) stands.has.sent stands.has.replayed
+
+pub returns-clause-pieces : goal.returns-clause-pieces
+returns-clause-pieces c = λ unit limits done stands.
+    let s : State = state_of unit limits done in
+    let are = c.datagrams_on.ensures s stands.has.sent stands.has.replayed in
+    subst (λ (u : ℕ). AllByRecursion (IsPiece s.accepted u) (bytes_in c.datagrams_on.result.now)) stands.unit_is
+    (subst (λ (ds : List (List ℕ)). AllByRecursion (IsPiece s.accepted c.args.self.now.unit) ds) (sym are) (line_pieces c.args.self.now s c.args.line stands.has))

@@ -1,0 +1,17 @@
+use Rattle.std.proofs.Common.{Option, subst}
+use Rattle.world_model.specs.Stands.{Acts}
+use Rattle.world_model.specs.Verbs.{spin_up_on}
+use Rattle.world_model.specs.declared.spin.SpinConnection.{SpinConnection}
+use Rattle.world_model.proofs.SpinActing.{acts_spin_few_up, acts_spin_up}
+use Rattle.world_model.proofs.world.World.up_spin.Goals as goal
+
+pub returns-in-Err : goal.returns-in-Err
+returns-in-Err c = λ s has.
+    let w = c.args.self.now in
+    subst (λ (g : Option SpinConnection). Acts w (record w { spin = g }) c.calm-in-Err.result s (spin_up_on w.unit c.args.bytes s.spin s)) c.in-Some.is
+    (acts_spin_few_up w c.in-Some.c c.calm-in-Err.result s c.args.bytes c.up_count-has.result c.in-Err.asked has c.in-Some.is c.up_count-has.ensures.waits c.in-Err.ensures.few.0 c.in-Err.ensures.few.1 c.calm-in-Err.ensures)
+
+pub returns-in_ok-carry_up-in-Ok : goal.returns-in_ok-carry_up-in-Ok
+returns-in_ok-carry_up-in-Ok c = λ s has.
+    acts_spin_up c.args.self.now c.in-Some.c c.carry_up.new.self c.carry_up.new.shelf c.calm-in-Ok.result s c.args.bytes c.up_count-has.result c.in-Ok.count has c.in-Some.is
+    c.up_count-has.ensures.waits c.in-Ok.ensures.count.0 c.in-Ok.ensures.count.1 c.in_ok-carry_up-in-Ok.ensures.fed c.carry_up.ensures.shelf c.calm-in-Ok.ensures

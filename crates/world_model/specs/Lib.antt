@@ -1,0 +1,9 @@
+pub mod State
+pub mod Ends
+pub mod Verbs
+pub mod Printed
+pub mod Witness
+pub mod Sound
+pub mod Connections
+pub mod Hearing
+pub mod Stands

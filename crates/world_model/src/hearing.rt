@@ -1,0 +1,126 @@
+//! What the client hears of datagrams, and of its links.
+
+ghost use Rattle.std.specs.Prelude.{◌≡◌, ◌||◌, ◌∷◌, [], IsTrue, true, OnOk, IfOk};
+ghost use Rattle.std.specs.List.{flat_map};
+ghost use Rattle.unit_packets.specs.Cutting.{blocks_of};
+ghost use Rattle.pitch_model.specs.Datagrams.{block_messages};
+ghost use Rattle.unit_packets.specs.Packing.{bytes_in};
+ghost use Rattle.pitch_model.specs.Heard.{IsItem};
+ghost use Rattle.world_model.specs.Hearing.{HearsBlocks, HearsItems, IsTold};
+
+use client_core::{UnitClient, images_of_bytes_are_images};
+use line_arbiter::Arbiter;
+use pitch_fields::OutOfMemory;
+use pitch_io::Line;
+use pitch_messages::ByteList;
+use pitch_model::Item;
+use unit_packets::{BlockView, view_block};
+
+// How many messages of a block count: none of an unsequenced one.
+fn messages_of(block: &BlockView<'_>) -> u32
+    ensures { result ≡ block_messages block.now }
+{
+    let header = block.header();
+    if header.sequence == 0 {
+        0
+    } else {
+        u32::from(header.count)
+    }
+}
+
+// The client hears a block that comes on a line. Answers whether the hold overflowed.
+fn hear_block(
+    unit: u8,
+    line: Line,
+    client: &mut UnitClient,
+    arbiter: &mut Arbiter,
+    block: &BlockView<'_>,
+) -> Result<bool, OutOfMemory>
+    ensures { IfOk result (λ overflow. HearsBlocks unit line client.old client.new arbiter.old arbiter.new (block.now ∷ []) overflow) }
+{
+    let change = client.hear_block(block.header().sequence, block.raws())?;
+    arbiter.note(line, unit, messages_of(block), change.fresh);
+    Ok(change.overflows > 0)
+}
+
+/// The client hears the blocks of a datagram that comes on a line. Answers whether the hold overflowed.
+pub(crate) fn hear_datagram(
+    unit: u8,
+    line: Line,
+    client: &mut UnitClient,
+    arbiter: &mut Arbiter,
+    datagram: &[u8],
+) -> Result<bool, OutOfMemory>
+    ensures { IfOk result (λ overflow. HearsBlocks unit line client.old client.new arbiter.old arbiter.new (blocks_of datagram.now) overflow) }
+{
+    let mut at = 0;
+    let mut overflow = false;
+    'next: while at < datagram.len() {
+        match view_block(&datagram[at..]) {
+            Ok(block) => {
+                let marked = hear_block(unit, line, client, arbiter, &block)?;
+                overflow = either(overflow, marked);
+                at += usize::from(block.header().length);
+            }
+            Err(_) => return Ok(overflow),
+        }
+    }
+    Ok(overflow)
+}
+
+/// The client hears datagrams that come on a line, one after another. Answers whether the hold overflowed.
+pub(crate) fn hear_all(
+    unit: u8,
+    line: Line,
+    client: &mut UnitClient,
+    arbiter: &mut Arbiter,
+    datagrams: &[ByteList],
+) -> Result<bool, OutOfMemory>
+    ensures { IfOk result (λ overflow. HearsBlocks unit line client.old client.new arbiter.old arbiter.new (flat_map blocks_of (bytes_in datagrams.now)) overflow) }
+{
+    let mut overflow = false;
+    'lines: for datagram in datagrams {
+        let marked = hear_datagram(unit, line, client, arbiter, datagram.bytes())?;
+        overflow = either(overflow, marked);
+    }
+    Ok(overflow)
+}
+
+fn either(one: bool, other: bool) -> bool
+    ensures { result ≡ (one || other) }
+{
+    one || other
+}
+
+// Whether a link can tell the item.
+fn can_be_told(item: &Item) -> bool
+    ensures item { IsTrue result → IsItem item.now }
+    ensures told { IsTold item.now → result ≡ true }
+{
+    match item {
+        Item::Messages { .. } => false,
+        Item::Next { .. } => false,
+        _ => true,
+    }
+}
+
+// The client hears an item that a link told.
+fn hear_item(client: &mut UnitClient, item: &Item) -> Result<(), OutOfMemory>
+    ensures { OnOk result (HearsItems client.old client.new (item.now ∷ [])) }
+{
+    images_of_bytes_are_images();
+    if can_be_told(item) {
+        let _change = client.hear(item)?;
+    }
+    Ok(())
+}
+
+/// The client hears what a link told, one item after another.
+pub(crate) fn hear_told(client: &mut UnitClient, items: &[Item]) -> Result<(), OutOfMemory>
+    ensures { OnOk result (HearsItems client.old client.new items.now) }
+{
+    'told: for item in items {
+        hear_item(client, item)?;
+    }
+    Ok(())
+}

@@ -1,0 +1,45 @@
+ghost use Rattle.std.specs.Prelude.{◌≡◌};
+
+use pitch_io::Line;
+
+// How many datagrams of each line are behind.
+#[derive(Clone, Copy, Debug, PartialEq, Eq)]
+pub(crate) struct Passed {
+    pub(crate) a: usize,
+    pub(crate) b: usize,
+    pub(crate) gap: usize,
+}
+
+impl Passed {
+    ghost use Rattle.world_model.specs.State.{passed_on, passed_to};
+
+    pub(crate) fn on(&self, line: Line) -> usize
+        ensures { result ≡ passed_on self.now line }
+    {
+        match line {
+            Line::A => self.a,
+            Line::B => self.b,
+            Line::Gap => self.gap,
+        }
+    }
+
+    // So many of a line are behind, if no more were.
+    pub(crate) fn up_to(&self, line: Line, number: usize) -> Passed
+        ensures { result ≡ passed_to line number self.now }
+    {
+        match line {
+            Line::A => Passed {
+                a: number.max(self.a),
+                ..*self
+            },
+            Line::B => Passed {
+                b: number.max(self.b),
+                ..*self
+            },
+            Line::Gap => Passed {
+                gap: number.max(self.gap),
+                ..*self
+            },
+        }
+    }
+}
