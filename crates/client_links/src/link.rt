@@ -5,6 +5,7 @@ ghost use Rattle.session_ends.specs.declared.inbox.Heard.{Heard};
 ghost use Rattle.session_ends.specs.Closing.{cause_of, first_cause, logs_in};
 ghost use Rattle.session_ends.specs.Ending.{EndKnows, nothing_known};
 ghost use Rattle.session_ends.specs.Events.{Event, Fed, Ticked, Asked};
+ghost use Rattle.session_ends.specs.Hearing.{reader_items, IsThrough};
 ghost use Rattle.session_ends.specs.Items.{closed_at};
 ghost use Rattle.session_ends.specs.Sending.{sent_at_tick};
 ghost use Rattle.client_links.specs.Linking.{Lookups, NoLookup, link_setup, login_bytes, link_sends, link_tells, LinkStands};
@@ -12,13 +13,14 @@ ghost use Rattle.client_links.specs.Telling.{without_spare, run_of, told_of, tel
 
 use crate::items::ItemList;
 use pitch_fields::OutOfMemory;
+use pitch_messages::RawList;
 use pitch_messages::session::SessionMessage;
-use pitch_messages::{Raw, RawList};
 use pitch_model::Item;
-use session_ends::{Account, Closed, End, Heard, Role, Said};
+use session_ends::{Account, Closed, End, Heard, LentRaw, Role, Said, Sayings};
 use std::alloc::Global;
 use std::marker::Model;
 use std::mem::replace;
+use unit_packets::BlockReader;
 
 // What both links are made of.
 #[derive(Drop)]
@@ -155,7 +157,7 @@ impl Link {
     fn hear_message(
         &self,
         said: &Said,
-        raw: &Raw,
+        raw: &LentRaw<'_>,
         run: &mut RawList,
         told: &mut Vec<Item>,
     ) -> Result<(), OutOfMemory>
@@ -164,7 +166,7 @@ impl Link {
     {
         match said {
             Said::Skipped => {
-                run.push(raw)?;
+                run.push_bytes(raw.bytes())?;
                 Ok(())
             }
             Said::TooShort => {
@@ -180,7 +182,12 @@ impl Link {
     }
 
     // Hears what the stream says next.
-    fn hear(&self, item: &Heard, run: &mut RawList, told: &mut Vec<Item>) -> Result<(), OutOfMemory>
+    fn hear(
+        &self,
+        item: &Heard<'_>,
+        run: &mut RawList,
+        told: &mut Vec<Item>,
+    ) -> Result<(), OutOfMemory>
         ensures { OnOk result ((rest : List Heard) → map without_spare told.new.items ++ tells_on self.now.setup.role run.new.items rest
             ≡ map without_spare told.old.items ++ tells_on self.now.setup.role run.old.items (item.now ∷ rest)) }
     {
@@ -201,28 +208,31 @@ impl Link {
         }
     }
 
-    // Hears what the stream says, until the link closes.
+    // Hears what the bytes of a reader say, until the link closes, and answers how many bytes the
+    // whole blocks have.
     fn hear_all(
         &mut self,
-        items: &[Heard],
+        reader: &BlockReader,
         run: &mut RawList,
         told: &mut Vec<Item>,
-    ) -> Result<(), OutOfMemory>
+    ) -> Result<usize, OutOfMemory>
         requires open { self.old.closed ≡ None }
         requires no_run { run.old.items ≡ [] }
-        ensures closed { OnOk result (self.new.closed ≡ first_cause self.old.setup self.old.logged items.now) }
-        ensures logged { OnOk result (self.new.closed ≡ None → self.new.logged ≡ (self.old.logged || list_any (logs_in self.old.setup.role) items.now)) }
+        ensures through { IfOk result (λ count. IsThrough reader.now.rest count) }
+        ensures closed { OnOk result (self.new.closed ≡ first_cause self.old.setup self.old.logged (reader_items reader.now)) }
+        ensures logged { OnOk result (self.new.closed ≡ None → self.new.logged ≡ (self.old.logged || list_any (logs_in self.old.setup.role) (reader_items reader.now))) }
         ensures rest { self.new ≡ record self.old { closed = self.new.closed; logged = self.new.logged } }
-        ensures tells { OnOk result (map without_spare told.new.items ++ run_of self.old.setup.role run.new.items ≡ map without_spare told.old.items ++ tells self.old.setup self.old.logged items.now) }
+        ensures tells { OnOk result (map without_spare told.new.items ++ run_of self.old.setup.role run.new.items ≡ map without_spare told.old.items ++ tells self.old.setup self.old.logged (reader_items reader.now)) }
     {
-        'items: for i in 0..items.len() {
-            self.hear(&items[i], run, told)?;
-            self.end.judge(&items[i]);
+        let mut items = Sayings::of(reader);
+        'items: while let Some(item) = items.next_item() {
+            self.hear(&item, run, told)?;
+            self.end.judge(&item);
             if self.end.is_closed() {
-                return Ok(());
+                return Ok(items.finish());
             }
         }
-        Ok(())
+        Ok(items.finish())
     }
 
     // Hears a piece while the link is open; what it tells is put into an empty list.
@@ -233,10 +243,10 @@ impl Link {
         ensures tells { OnOk result ((es : List (Event Lookups)) → LinkStands self.old es → map without_spare told.new.items ≡ link_tells self.old.setup es piece.now) }
         ensures setup { self.new.setup ≡ self.old.setup }
     {
-        let mut items: Vec<Heard> = Vec::new(self.alloc);
-        self.end.take(piece, &mut items)?;
+        let reader = self.end.take(piece)?;
         let mut run = RawList::make(self.alloc);
-        self.hear_all(&items, &mut run, told)?;
+        let count = self.hear_all(&reader, &mut run, told)?;
+        self.end.put_back(reader, count);
         self.put_run(&mut run, told)?;
         Ok(())
     }

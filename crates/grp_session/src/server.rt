@@ -1,4 +1,4 @@
-ghost use Rattle.std.specs.Prelude.{◌≡◌, ℕ, ◌||◌, Bool, true, false, List, [], ◌∷◌, ◌++◌, OnOk, OnErr, IsOk, IfSome, None, Some, is_some};
+ghost use Rattle.std.specs.Prelude.{◌≡◌, ℕ, ◌||◌, Bool, true, false, List, [], ◌∷◌, ◌++◌, OnOk, OnErr, IsOk, IfOk, IfSome, None, Some, is_some};
 ghost use Rattle.std.specs.List.{list_any};
 ghost use Rattle.unit_packets.specs.Packing.{bytes_in};
 ghost use Rattle.pitch_messages.specs.declared.session.SessionMessage.TheVariants.{GapReply};
@@ -8,6 +8,7 @@ ghost use Rattle.session_ends.specs.declared.role.Role.TheVariants.{GrpServer as
 ghost use Rattle.session_ends.specs.Answering.{Hears, HearsAll};
 ghost use Rattle.session_ends.specs.Closing.{cause_of, closed_of, first_cause, logs_in};
 ghost use Rattle.session_ends.specs.Events.{Event, Ticked};
+ghost use Rattle.session_ends.specs.Hearing.{reader_items, IsThrough};
 ghost use Rattle.session_ends.specs.Items.{closed_at};
 ghost use Rattle.session_ends.specs.Sending.{sent_bytes, sent_at_tick};
 ghost use Rattle.grp_session.specs.Budget.{Spent, Counted};
@@ -20,10 +21,10 @@ use gap_store::{Found, GapLookup};
 use pitch_fields::OutOfMemory;
 use pitch_messages::RawList;
 use pitch_messages::session::SessionMessage;
-use session_ends::{Account, Closed, End, Heard, Role, Said};
+use session_ends::{Account, Closed, End, Heard, Role, Said, Sayings};
 use std::alloc::Global;
 use std::marker::Model;
-use unit_packets::DatagramList;
+use unit_packets::{BlockReader, DatagramList};
 
 /// The Gap Request Proxy's end of a session of one unit.
 #[derive(Drop)]
@@ -246,7 +247,7 @@ impl GrpServer {
     fn hear<L: GapLookup>(
         &mut self,
         there: bool,
-        item: &Heard,
+        item: &Heard<'_>,
         budget: &mut GapBudget,
         lookup: &mut L,
         reply: &mut Vec<u8>,
@@ -268,33 +269,36 @@ impl GrpServer {
         Ok(())
     }
 
-    // Hears what the stream says, until the session closes.
+    // Hears what the bytes of a reader say, until the session closes, and answers how many bytes
+    // the whole blocks have.
     fn hear_all<L: GapLookup>(
         &mut self,
         there: bool,
-        items: &[Heard],
+        reader: &BlockReader,
         budget: &mut GapBudget,
         lookup: &mut L,
         reply: &mut Vec<u8>,
         gap_line: &mut DatagramList,
-    ) -> Result<(), OutOfMemory>
+    ) -> Result<usize, OutOfMemory>
         requires { self.old.closed ≡ None }
         ensures same { L.still ≡ true → lookup.new ≡ lookup.old }
-        ensures closed { OnOk result (self.new.closed ≡ first_cause self.old.setup self.old.logged items.now) }
-        ensures logged { OnOk result (self.new.closed ≡ None → self.new.logged ≡ (self.old.logged || list_any (logs_in self.old.setup.role) items.now)) }
+        ensures through { IfOk result (λ count. IsThrough reader.now.rest count) }
+        ensures closed { OnOk result (self.new.closed ≡ first_cause self.old.setup self.old.logged (reader_items reader.now)) }
+        ensures logged { OnOk result (self.new.closed ≡ None → self.new.logged ≡ (self.old.logged || list_any (logs_in self.old.setup.role) (reader_items reader.now))) }
         ensures rest { self.new ≡ record self.old { closed = self.new.closed; logged = self.new.logged } }
         ensures limits { budget.new.limits ≡ budget.old.limits }
         ensures hears { OnOk result ((spent : Spent) (view : View) → Counted budget.old spent → L.shows lookup.old view
-            → HearsAll self.old.setup (grp_answer self.old.setup there budget.old.limits) IsLater self.old.logged items.now spent view (Counted budget.new) (L.shows lookup.new)
+            → HearsAll self.old.setup (grp_answer self.old.setup there budget.old.limits) IsLater self.old.logged (reader_items reader.now) spent view (Counted budget.new) (L.shows lookup.new)
             reply.old.items reply.new.items (bytes_in gap_line.old.items) (bytes_in gap_line.new.items)) }
     {
-        'items: for i in 0..items.len() {
-            self.hear(there, &items[i], budget, lookup, reply, gap_line)?;
+        let mut items = Sayings::of(reader);
+        'items: while let Some(item) = items.next_item() {
+            self.hear(there, &item, budget, lookup, reply, gap_line)?;
             if self.is_closed() {
-                return Ok(());
+                return Ok(items.finish());
             }
         }
-        Ok(())
+        Ok(items.finish())
     }
 
     // Hears a piece while the session is open; what it says is put into empty lists.
@@ -316,9 +320,9 @@ impl GrpServer {
         ensures setup { self.new.setup ≡ self.old.setup }
         ensures limits { budget.new.limits ≡ budget.old.limits }
     {
-        let mut items: Vec<Heard> = Vec::new(self.alloc);
-        self.end.take(piece, &mut items)?;
-        self.hear_all(there, &items, budget, lookup, said, lines)?;
+        let reader = self.end.take(piece)?;
+        let count = self.hear_all(there, &reader, budget, lookup, said, lines)?;
+        self.end.put_back(reader, count);
         self.end.note_sent(said);
         Ok(())
     }

@@ -1,4 +1,5 @@
 pub mod Ends
 pub mod Inboxes
 pub mod Runs
+pub mod Through
 pub mod Cuts

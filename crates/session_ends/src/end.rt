@@ -1,11 +1,13 @@
-ghost use Rattle.std.specs.Prelude.{◌≡◌, ℕ, ◌+◌, ◌≤◌, ◌||◌, Bool, List, ◌++◌, OnOk, OnErr, IsOk, IfSome, None, Some, is_some, if◌then◌else◌};
+ghost use Rattle.std.specs.Prelude.{◌≡◌, ℕ, ◌+◌, ◌≤◌, ◌||◌, Bool, List, ◌++◌, OnOk, OnErr, IsOk, IfOk, length, IfSome, None, Some, is_some, if◌then◌else◌};
 ghost use Rattle.std.specs.List.{list_any};
-ghost use Rattle.unit_packets.specs.Feeding.{fed_fault};
+ghost use Rattle.unit_packets.specs.Causes.{counted};
+ghost use Rattle.unit_packets.specs.Reading.{loaded, passed};
+ghost use Rattle.session_ends.specs.declared.inbox.Heard.TheVariants.{Message};
+ghost use Rattle.std.specs.Option.{option_map};
 ghost use Rattle.pitch_messages.specs.declared.session.SessionMessage.{SessionMessage};
 ghost use Rattle.session_ends.specs.declared.closed.CloseCause.TheVariants.{Memory};
 ghost use Rattle.session_ends.specs.Closing.{has_sub, is_theirs, login_status, cause_of, cause_of_said, logs_in, refused, too_early};
 ghost use Rattle.session_ends.specs.Ending.{EndKnows, Known, known_ticked, tick_bytes, nothing_known};
-ghost use Rattle.session_ends.specs.Inboxes.{HasTaken, TakesPiece};
 ghost use Rattle.session_ends.specs.Items.{closed_at};
 ghost use Rattle.session_ends.specs.Saying.{heard_by};
 ghost use Rattle.session_ends.specs.Sending.{header_unit, sent_bytes, heartbeat_bytes, some_bytes};
@@ -13,12 +15,13 @@ ghost use Rattle.session_ends.specs.Sending.{header_unit, sent_bytes, heartbeat_
 use crate::account::Account;
 use crate::closed::{CloseCause, Closed};
 use crate::inbox::{Heard, Inbox};
+use crate::lent::LentRaw;
 use crate::role::{Role, Said};
 use pitch_fields::OutOfMemory;
 use pitch_messages::session::{SessionMessage, write};
 use std::alloc::Global;
 use std::marker::Model;
-use unit_packets::{heartbeat, put_session};
+use unit_packets::{BlockReader, heartbeat, put_session};
 
 /// An end of a session, apart from what it answers: what closes it, its silence and its
 /// heartbeats.
@@ -119,6 +122,16 @@ fn either(first: bool, second: bool) -> bool
     first || second
 }
 
+// The cause at a place, if there is one.
+fn closed_by(cause: Option<CloseCause>, place: u64) -> Option<Closed>
+    ensures { result ≡ option_map (λ cause. closed_at cause place) cause }
+{
+    match cause {
+        Some(cause) => Some(Closed { cause, place }),
+        None => None,
+    }
+}
+
 impl End {
     /// An end to which nothing happened yet. A link has no accounts. It takes no memory.
     pub fn make(alloc: Global, role: Role, unit: u8, accounts: Vec<Account>, in_use: bool) -> End
@@ -195,7 +208,7 @@ impl End {
     }
 
     /// What the stream says next, as a message to this end.
-    pub fn said(&self, item: &Heard) -> Said
+    pub fn said(&self, item: &Heard<'_>) -> Said
         ensures { result ≡ heard_by self.now.setup.role item.now }
     {
         match item {
@@ -229,50 +242,52 @@ impl End {
         }
     }
 
-    // Why what the stream says next closes the end, and where.
-    fn cause_at(&self, item: &Heard) -> Option<Closed>
-        ensures { result ≡ cause_of self.now.setup self.now.logged item.now }
+    // Why a message closes the end, and where; an accepted login is noted.
+    fn judge_message(&mut self, place: u64, raw: &LentRaw<'_>)
+        requires { self.old.closed ≡ None }
+        ensures closed { self.new.closed ≡ cause_of self.old.setup self.old.logged (Message place raw.now) }
+        ensures logged { self.new.logged ≡ (self.old.logged || logs_in self.old.setup.role (Message place raw.now)) }
+        ensures rest { self.new ≡ record self.old { closed = self.new.closed; logged = self.new.logged } }
     {
-        match item {
-            Heard::Message { place, raw } => {
-                match self.cause(&self.role.said(raw)) {
-                    Some(cause) => Some(Closed {
-                        cause,
-                        place: *place,
-                    }),
-                    None => None,
-                }
-            }
-            Heard::BlockEnd => None,
-            Heard::Broken(closed) => Some(*closed),
-        }
+        let said = self.role.said(raw);
+        self.closed = closed_by(self.cause(&said), place);
+        self.logged = either(self.logged, said.is_login());
     }
 
     /// Judges what the stream says next: the end closes where it has a cause, and notes an accepted
     /// login.
-    pub fn judge(&mut self, item: &Heard)
+    pub fn judge(&mut self, item: &Heard<'_>)
         requires { self.old.closed ≡ None }
         ensures closed { self.new.closed ≡ cause_of self.old.setup self.old.logged item.now }
         ensures logged { self.new.logged ≡ (self.old.logged || logs_in self.old.setup.role item.now) }
         ensures rest { self.new ≡ record self.old { closed = self.new.closed; logged = self.new.logged } }
     {
-        self.closed = self.cause_at(item);
-        self.logged = either(self.logged, self.said(item).is_login());
+        match item {
+            Heard::Message { place, raw } => self.judge_message(*place, raw),
+            Heard::BlockEnd => {}
+            Heard::Broken(closed) => self.closed = Some(*closed),
+        }
     }
 
-    /// Takes in a piece, and appends what the stream says more by it. After OutOfMemory some of
-    /// that may be appended, and the end has to be closed by [`End::fail`].
-    pub fn take(&mut self, piece: &[u8], out: &mut Vec<Heard>) -> Result<(), OutOfMemory>
-        // Of all the bytes that were fed before, while they had no fault: the piece was fed too,
-        // and what the stream says more by it was appended.
-        ensures taken { OnOk result ((fed : List ℕ) → HasTaken self.old.inbox fed → fed_fault fed ≡ None
-            → TakesPiece fed piece.now self.new.inbox out.old.items out.new.items) }
+    /// Takes in a piece, and hands out the reader that has it, which has to come back by
+    /// [`End::put_back`]. After OutOfMemory the end has to be closed by [`End::fail`].
+    pub fn take(&mut self, piece: &[u8]) -> Result<BlockReader, OutOfMemory>
+        ensures reader { IfOk result (λ reader. reader ≡ loaded self.old.inbox.reading piece.now) }
+        ensures fed { self.new.inbox.fed ≡ counted (self.old.inbox.fed + length piece.now) }
         ensures heard { OnOk result (self.new.heard ≡ (self.old.heard || some_bytes piece.now)) }
         ensures rest { self.new ≡ record self.old { inbox = self.new.inbox; heard = self.new.heard } }
     {
-        self.inbox.take(piece, out)?;
+        let reader = self.inbox.take(piece)?;
         self.heard = either(self.heard, any_bytes(piece));
-        Ok(())
+        Ok(reader)
+    }
+
+    /// Takes the reader back, the first bytes of which were passed.
+    pub fn put_back(&mut self, reader: BlockReader, count: usize)
+        requires { count ≤ length reader.rest }
+        ensures { self.new ≡ record self.old { inbox = record { reading = passed reader count; fed = self.old.inbox.fed } } }
+    {
+        self.inbox.put_back(reader, count);
     }
 
     /// Notes bytes that were sent; none are nothing sent.

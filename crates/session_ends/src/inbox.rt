@@ -1,118 +1,29 @@
-ghost use Rattle.std.specs.Prelude.{◌≡◌, ℕ, ◌+◌, ◌≤◌, List, [], ◌∷◌, ◌++◌, OnOk, IfOk, length, None, Err, true, false};
-ghost use Rattle.unit_packets.specs.Cutting.{fault_from};
-ghost use Rattle.unit_packets.specs.Feeding.{fed_fault};
-ghost use Rattle.session_ends.specs.Inboxes.{nothing_fed, HasTaken, TakesPiece, HearsBlocks};
-ghost use Rattle.session_ends.specs.Items.{onward, messages_from, block_items, trouble};
+ghost use Rattle.std.specs.Prelude.{◌≡◌, ◌+◌, ◌≤◌, length, IfOk, OnOk};
+ghost use Rattle.unit_packets.specs.Causes.{counted};
+ghost use Rattle.unit_packets.specs.Reading.{unread, loaded, passed};
+ghost use Rattle.session_ends.specs.Inboxes.{nothing_fed};
 
-use crate::closed::{CloseCause, Closed};
+use crate::closed::Closed;
+use crate::lent::LentRaw;
 use pitch_fields::OutOfMemory;
-use pitch_messages::{Raw, Raws};
 use std::alloc::Global;
 use std::marker::Model;
-use unit_packets::{BlockError, BlockFault, BlockReader, BlockView, view_block};
+use std::mem::replace;
+use unit_packets::BlockReader;
 
 /// What a stream says next to an end: a message with its place, that its block ends, or what breaks
 /// the stream.
 #[derive(Drop)]
-pub enum Heard {
-    Message { place: u64, raw: Raw },
+pub enum Heard<'a> {
+    Message { place: u64, raw: LentRaw<'a> },
     BlockEnd,
     Broken(Closed),
 }
 
-// The place so many bytes further on; it stays at the type's end.
-fn onward(place: u64, size: usize) -> u64
-    ensures { result ≡ onward place size }
-{
-    place.saturating_add(size as u64)
-}
-
-// Appends the messages of a block from a place on, and the block's end.
-fn push_messages(start: u64, raws: Raws<'_>, out: &mut Vec<Heard>) -> Result<(), OutOfMemory>
-    ensures { OnOk result (out.new.items ≡ out.old.items ++ messages_from start raws.entry) }
-{
-    let mut raws = raws;
-    let mut place = start;
-    'messages: while let Some(raw) = raws.next_raw() {
-        out.push(Heard::Message {
-            place,
-            raw: Raw::of(raw),
-        })?;
-        place = onward(place, raw.len());
-    }
-    out.push(Heard::BlockEnd)?;
-    Ok(())
-}
-
-// Appends what a block says.
-fn push_block(place: u64, block: &BlockView<'_>, out: &mut Vec<Heard>) -> Result<(), OutOfMemory>
-    ensures { OnOk result (out.new.items ≡ out.old.items ++ block_items place block.now) }
-{
-    if block.header().sequence != 0 {
-        out.push(Heard::Broken(Closed {
-            cause: CloseCause::Sequenced,
-            place,
-        }))?;
-        return Ok(());
-    }
-    push_messages(onward(place, 8), block.raws(), out)
-}
-
-// Appends what the blocks say with which the bytes begin, the first of which stands at a place of
-// the stream. Answers how many bytes they have, and why no block follows them.
-fn push_blocks(
-    start: u64,
-    bytes: &[u8],
-    out: &mut Vec<Heard>,
-) -> Result<(usize, BlockError), OutOfMemory>
-    ensures { IfOk result (λ cut. HearsBlocks start bytes.now cut.0 cut.1 out.old.items out.new.items) }
-{
-    let mut place = start;
-    let mut at = 0;
-    'next: while at <= bytes.len() {
-        let rest = &bytes[at..];
-        match view_block(rest) {
-            Ok(block) => {
-                push_block(place, &block, out)?;
-                let size = block.header().length as usize;
-                place = onward(place, size);
-                at += size;
-            }
-            Err(error) => return Ok((at, error)),
-        }
-    }
-    unreachable!()
-}
-
-// The fault at a place where no block follows, unless more bytes may mend it.
-fn fault_from(place: u64, error: BlockError) -> Option<BlockFault>
-    ensures { result ≡ fault_from false place (Err error) }
-{
-    if error.is_truncated() {
-        return None;
-    }
-    Some(BlockFault { place, error })
-}
-
-// Appends the fault that breaks the stream, if there is one.
-fn push_trouble(fault: Option<BlockFault>, out: &mut Vec<Heard>) -> Result<(), OutOfMemory>
-    ensures { OnOk result (out.new.items ≡ out.old.items ++ trouble fault) }
-{
-    match fault {
-        None => Ok(()),
-        Some(fault) => {
-            out.push(Heard::Broken(Closed {
-                cause: CloseCause::Block(fault.error),
-                place: fault.place,
-            }))?;
-            Ok(())
-        }
-    }
-}
-
-/// Takes in the bytes of a stream, in whatever pieces they come, and says what they are to an end.
+/// Takes in the bytes of a stream, in whatever pieces they come.
 #[derive(Drop)]
 pub struct Inbox {
+    alloc: Global,
     reader: BlockReader,
     fed: u64,
 }
@@ -131,6 +42,7 @@ impl Inbox {
         ensures { result ≡ nothing_fed }
     {
         Inbox {
+            alloc,
             reader: BlockReader::make(alloc),
             fed: 0,
         }
@@ -143,20 +55,22 @@ impl Inbox {
         self.fed
     }
 
-    /// Takes in a piece, and appends what the stream says more by it. After OutOfMemory some of
-    /// that may be appended.
-    pub fn take(&mut self, piece: &[u8], out: &mut Vec<Heard>) -> Result<(), OutOfMemory>
-        // Of all the bytes that were fed before, while they had no fault: the piece was fed too,
-        // and what the stream says more by it was appended.
-        ensures { OnOk result ((fed : List ℕ) → HasTaken self.old fed → fed_fault fed ≡ None
-            → TakesPiece fed piece.now self.new out.old.items out.new.items) }
+    /// Takes in a piece, and hands out the reader that has it.
+    pub fn take(&mut self, piece: &[u8]) -> Result<BlockReader, OutOfMemory>
+        ensures reader { IfOk result (λ reader. reader ≡ loaded self.old.reading piece.now) }
+        ensures fed { self.new.fed ≡ counted (self.old.fed + length piece.now) }
     {
         self.fed = self.fed.saturating_add(piece.len() as u64);
-        let start = self.reader.place();
         self.reader.load(piece)?;
-        let (passed, error) = push_blocks(start, self.reader.rest(), out)?;
-        self.reader.pass(passed);
-        push_trouble(fault_from(self.reader.place(), error), out)?;
-        Ok(())
+        Ok(replace(&mut self.reader, BlockReader::make(self.alloc)))
+    }
+
+    /// Takes the reader back, the first bytes of which were passed.
+    pub fn put_back(&mut self, reader: BlockReader, count: usize)
+        requires { count ≤ length reader.rest }
+        ensures { self.new ≡ record { reading = passed reader count; fed = self.old.fed } }
+    {
+        self.reader = reader;
+        self.reader.pass(count);
     }
 }

@@ -3,15 +3,18 @@
 //! end, bytes in whatever pieces among it, so that other pieces of the same bytes change nothing.
 //!
 //! A server or a link keeps an [`End`]. It takes in a piece with [`End::take`], goes through what
-//! was heard with [`End::judge`], answers what [`End::said`] tells while the end is open, and
-//! notes with [`End::note_sent`] what it sent. A second that passes is [`End::tick`].
+//! the reader's bytes say by [`Sayings`], answers what [`End::said`] tells while the end is open,
+//! judges it with [`End::judge`], and hands the reader back with [`End::put_back`]. With
+//! [`End::note_sent`] it notes what it sent. A second that passes is [`End::tick`].
 #![tactic(auto)]
 
 mod account;
 mod closed;
 mod end;
 mod inbox;
+mod lent;
 mod role;
+mod sayings;
 #[cfg(test)]
 mod tests;
 
@@ -19,4 +22,6 @@ pub use crate::account::Account;
 pub use crate::closed::{CloseCause, Closed};
 pub use crate::end::End;
 pub use crate::inbox::Heard;
+pub use crate::lent::LentRaw;
 pub use crate::role::{Role, Said};
+pub use crate::sayings::Sayings;

@@ -1,4 +1,4 @@
-use crate::{CloseCause, Closed, End, Role, Said};
+use crate::{CloseCause, Closed, End, Role, Said, Sayings};
 use pitch_messages::session::SessionMessage;
 use std::process::Abort;
 
@@ -10,21 +10,25 @@ fn end(rt: &HostRuntime, role: Role) -> End {
 #[test]
 fn memory_is_enough(rt: HostRuntime) {
     let mut link = end(&rt, Role::GapLink);
-    let mut heard = Vec::new(rt.alloc());
-    link.take(b"\x0e\0\x02\x01\0\0\0\0\x03\x99\x07\x03\x02N", &mut heard)
+    let reader = link
+        .take(b"\x0e\0\x02\x01\0\0\0\0\x03\x99\x07\x03\x02N")
         .expect(&rt, "memory");
-    assert_eq!(rt; heard.len(), 3);
-    for item in heard.iter() {
+    let mut items = Sayings::of(&reader);
+    let mut said = Vec::new(rt.alloc());
+    while let Some(item) = items.next_item() {
+        said.push(link.said(&item)).expect(&rt, "memory");
         if !link.is_closed() {
-            link.judge(item);
+            link.judge(&item);
         }
     }
+    assert_eq!(rt; said.len(), 3);
+    assert_eq!(rt; said[0], Said::Skipped);
+    assert_eq!(rt; items.finish(), 14);
     let closed = Closed {
         cause: CloseCause::Refused { status: b'N' },
         place: 11,
     };
     assert_eq!(rt; link.closed(), Some(closed));
-    assert_eq!(rt; link.said(&heard[0]), Said::Skipped);
     let mut sent = Vec::new(rt.alloc());
     link.put(&SessionMessage::SpinFinished { sequence: 7 }, &mut sent)
         .expect(&rt, "memory");

@@ -6,6 +6,7 @@ ghost use Rattle.session_ends.specs.declared.role.Role.TheVariants.{SpinServer a
 ghost use Rattle.session_ends.specs.Answering.{Hears, HearsAll};
 ghost use Rattle.session_ends.specs.Closing.{cause_of, closed_of, first_cause, logs_in, login_status};
 ghost use Rattle.session_ends.specs.Events.{Event, Ticked, Pumped, Told};
+ghost use Rattle.session_ends.specs.Hearing.{reader_items, IsThrough};
 ghost use Rattle.session_ends.specs.Items.{closed_at};
 ghost use Rattle.session_ends.specs.Sending.{sent_bytes, sent_at_tick};
 ghost use Rattle.spin_server.specs.Served.{Served, ServedLater};
@@ -16,9 +17,10 @@ use crate::spin::Spin;
 use pitch_fields::OutOfMemory;
 use pitch_messages::RawList;
 use pitch_messages::session::SessionMessage;
-use session_ends::{Account, Closed, End, Heard, Role, Said};
+use session_ends::{Account, Closed, End, Heard, Role, Said, Sayings};
 use std::alloc::Global;
 use std::marker::Model;
+use unit_packets::BlockReader;
 
 /// The Spin Server's end of a session.
 #[derive(Drop)]
@@ -257,7 +259,7 @@ impl SpinServer {
     // Hears what the stream says next.
     fn hear<L: ImageLookup>(
         &mut self,
-        item: &Heard,
+        item: &Heard<'_>,
         lookup: &mut L,
         reply: &mut Vec<u8>,
     ) -> Result<(), OutOfMemory>
@@ -278,31 +280,34 @@ impl SpinServer {
         Ok(())
     }
 
-    // Hears what the stream says, until the session closes.
+    // Hears what the bytes of a reader say, until the session closes, and answers how many bytes
+    // the whole blocks have.
     fn hear_all<L: ImageLookup>(
         &mut self,
-        items: &[Heard],
+        reader: &BlockReader,
         lookup: &mut L,
         reply: &mut Vec<u8>,
-    ) -> Result<(), OutOfMemory>
+    ) -> Result<usize, OutOfMemory>
         requires { self.old.end.closed ≡ None }
         ensures same { L.still ≡ true → lookup.new ≡ lookup.old }
-        ensures closed { OnOk result (self.new.end.closed ≡ first_cause self.old.end.setup self.old.end.logged items.now) }
-        ensures logged { OnOk result (self.new.end.closed ≡ None → self.new.end.logged ≡ (self.old.end.logged || list_any (logs_in self.old.end.setup.role) items.now)) }
+        ensures through { IfOk result (λ count. IsThrough reader.now.rest count) }
+        ensures closed { OnOk result (self.new.end.closed ≡ first_cause self.old.end.setup self.old.end.logged (reader_items reader.now)) }
+        ensures logged { OnOk result (self.new.end.closed ≡ None → self.new.end.logged ≡ (self.old.end.logged || list_any (logs_in self.old.end.setup.role) (reader_items reader.now))) }
         ensures rest { self.new.end ≡ record self.old.end { closed = self.new.end.closed; logged = self.new.end.logged } }
         // Of every view that the look-up shows before: each message is answered right at its view,
         // and these rise from that before to one that it shows after.
         ensures hears { OnOk result ((view : Served) → L.shows lookup.old view
-            → HearsAll self.old.end.setup (spin_answer self.old.end.setup) ServedLater self.old.end.logged items.now self.old.spin view (λ spin. spin ≡ self.new.spin) (L.shows lookup.new)
+            → HearsAll self.old.end.setup (spin_answer self.old.end.setup) ServedLater self.old.end.logged (reader_items reader.now) self.old.spin view (λ spin. spin ≡ self.new.spin) (L.shows lookup.new)
             reply.old.items reply.new.items [] []) }
     {
-        'items: for i in 0..items.len() {
-            self.hear(&items[i], lookup, reply)?;
+        let mut items = Sayings::of(reader);
+        'items: while let Some(item) = items.next_item() {
+            self.hear(&item, lookup, reply)?;
             if self.is_closed() {
-                return Ok(());
+                return Ok(items.finish());
             }
         }
-        Ok(())
+        Ok(items.finish())
     }
 
     // Hears a piece while the session is open, and puts what it says into an empty list.
@@ -322,9 +327,9 @@ impl SpinServer {
             → SpinFeeds es piece.now self.old self.new view (L.shows lookup.new) [] said.new.items) }
         ensures setup { self.new.end.setup ≡ self.old.end.setup }
     {
-        let mut items: Vec<Heard> = Vec::new(self.alloc);
-        self.end.take(piece, &mut items)?;
-        self.hear_all(&items, lookup, said)?;
+        let reader = self.end.take(piece)?;
+        let count = self.hear_all(&reader, lookup, said)?;
+        self.end.put_back(reader, count);
         self.end.note_sent(said);
         Ok(())
     }

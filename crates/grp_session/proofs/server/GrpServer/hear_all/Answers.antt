@@ -1,12 +1,13 @@
-use Rattle.std.proofs.Common.{◌≡◌, ◌+◌, ◌||◌, ◌∷◌, drop, length, None, Some, Bool, ap, ◌∙◌, sym, subst, refl, arith}
-use Rattle.std.proofs.lemmas.Option.{slice_get_read}
+use Rattle.std.proofs.Common.{◌≡◌, ◌||◌, ◌∷◌, None, Some, Bool, List, ap, ◌∙◌, sym, subst, refl}
+use Rattle.unit_packets.specs.Packing.{bytes_in}
 use Rattle.gap_store.specs.Look.{IsLater}
 use Rattle.session_ends.specs.declared.inbox.Heard.{Heard}
 use Rattle.session_ends.specs.Closing.{Setup, cause_of, logs_in}
 use Rattle.session_ends.specs.Ending.{Ending}
 use Rattle.session_ends.proofs.Ends.{none_is, some_is}
-use Rattle.session_ends.proofs.Inboxes.{drop_one, drop_all}
-use Rattle.session_ends.proofs.Runs.{Left, left_none, left_more, left_stop, left_end, going_none, going_more, going_stop, going_end, going_at}
+use Rattle.session_ends.specs.Hearing.{reader_items, says}
+use Rattle.session_ends.proofs.Runs.{Left, Going, left_none, left_more, left_stop, left_end, going_none, going_more, going_stop, going_end, going_at}
+use Rattle.grp_session.specs.Budget.{Counted}
 use Rattle.grp_session.specs.Serving.{grp_answer}
 use Rattle.grp_session.proofs.Asked.{later_order}
 use Rattle.grp_session.proofs.Serves.{hears_at}
@@ -18,22 +19,26 @@ items-init g c = record {
   rest = refl;
   same = λ on. refl;
   limits = refl;
-  left = left_none _ _ _;
-  going = λ spent view counted shows. going_none _ _ IsLater later_order _ _ spent view _ _ _ _ counted shows;
+  bytes = c.of-items.ensures.bytes;
+  left = subst (λ (l : List Heard). Left c.args.self.now.setup c.args.self.now.logged (reader_items c.args.reader.now) c.args.self.now.logged l) (sym c.of-items.ensures.says) (left_none _ _ _);
+  going = λ spent view counted shows.
+      subst (λ (l : List Heard). Going c.args.self.now.setup (grp_answer c.args.self.now.setup c.args.there c.args.budget.now.limits) IsLater c.args.self.now.logged (reader_items c.args.reader.now) spent view c.args.self.now.logged l
+      (Counted c.args.budget.now) (g.L.GapLookup.shows c.args.lookup.now) c.args.reply.now.items c.args.reply.now.items (bytes_in c.args.gap_line.now.items) (bytes_in c.args.gap_line.now.items)) (sym c.of-items.ensures.says)
+      (going_none _ _ IsLater later_order _ _ spent view _ _ _ _ counted shows);
 }
 
 pub returns-then-is_closed-clause-closed : goal.returns-then-is_closed-clause-closed
 returns-then-is_closed-clause-closed g c =
-    let item : Heard = c.index-items-i.result in
-    let d : drop c.items.i c.args.items.now ≡ item ∷ drop (c.items.i + 1) c.args.items.now = drop_one c.args.items.now c.items.i item (slice_get_read c.args.items.now (length c.args.items.now) c.items.i item refl (omega arith) c.index-items-i.is) in
+    let item : Heard = c.in-Some.item in
+    let d : says c.items.items ≡ item ∷ says c.next_item.new.self = c.in-Some.ensures.says in
     let some = some_is c.hear.new.self.closed (sym c.if-is_closed.ensures) in
     let cause : cause_of c.args.self.now.setup c.items.self.logged item ≡ Some some.0 = ap (λ (v : Ending). cause_of v.setup c.items.self.logged item) (sym c.items.invariant.rest) ∙ sym c.in_ok-hear.ensures.closed ∙ some.1 in
     some.1 ∙ left_stop _ _ _ _ item _ _ c.items.invariant.left d some.0 cause
 
 pub returns-then-is_closed-clause-hears : goal.returns-then-is_closed-clause-hears
 returns-then-is_closed-clause-hears g c = λ spent view counted shows.
-    let item : Heard = c.index-items-i.result in
-    let d : drop c.items.i c.args.items.now ≡ item ∷ drop (c.items.i + 1) c.args.items.now = drop_one c.args.items.now c.items.i item (slice_get_read c.args.items.now (length c.args.items.now) c.items.i item refl (omega arith) c.index-items-i.is) in
+    let item : Heard = c.in-Some.item in
+    let d : says c.items.items ≡ item ∷ says c.next_item.new.self = c.in-Some.ensures.says in
     let some = some_is c.hear.new.self.closed (sym c.if-is_closed.ensures) in
     let same : c.items.self.setup ≡ c.args.self.now.setup = ap (λ (v : Ending). v.setup) c.items.invariant.rest in
     let cause : cause_of c.args.self.now.setup c.items.self.logged item ≡ Some some.0 = ap (λ (s : Setup). cause_of s c.items.self.logged item) (sym same) ∙ sym c.in_ok-hear.ensures.closed ∙ some.1 in
@@ -43,8 +48,8 @@ returns-then-is_closed-clause-hears g c = λ spent view counted shows.
 
 pub items-preserved : goal.items-preserved
 items-preserved g c =
-    let item : Heard = c.index-items-i.result in
-    let d : drop c.items.i c.args.items.now ≡ item ∷ drop (c.items.i + 1) c.args.items.now = drop_one c.args.items.now c.items.i item (slice_get_read c.args.items.now (length c.args.items.now) c.items.i item refl (omega arith) c.index-items-i.is) in
+    let item : Heard = c.in-Some.item in
+    let d : says c.items.items ≡ item ∷ says c.next_item.new.self = c.in-Some.ensures.says in
     let none = none_is c.hear.new.self.closed (sym c.if-is_closed.ensures) in
     let same : c.items.self.setup ≡ c.args.self.now.setup = ap (λ (v : Ending). v.setup) c.items.invariant.rest in
     let cause : cause_of c.args.self.now.setup c.items.self.logged item ≡ None = ap (λ (s : Setup). cause_of s c.items.self.logged item) (sym same) ∙ sym c.in_ok-hear.ensures.closed ∙ none in
@@ -54,8 +59,9 @@ items-preserved g c =
       still = none;
       rest = c.in_ok-hear.ensures.rest ∙ ap (λ (v : Ending). record v { closed = c.hear.new.self.closed; logged = c.hear.new.self.logged }) c.items.invariant.rest;
       same = λ on. c.in_ok-hear.ensures.same on ∙ c.items.invariant.same on;
+      bytes = c.in-Some.ensures.bytes ∙ c.items.invariant.bytes;
       limits = c.in_ok-hear.ensures.limits ∙ c.items.invariant.limits;
-      left = subst (λ (b : Bool). Left c.args.self.now.setup c.args.self.now.logged c.args.items.now b (drop (c.items.i + 1) c.args.items.now)) logged (left_more _ _ _ _ item _ _ c.items.invariant.left d cause);
+      left = subst (λ (b : Bool). Left c.args.self.now.setup c.args.self.now.logged (reader_items c.args.reader.now) b (says c.next_item.new.self)) logged (left_more _ _ _ _ item _ _ c.items.invariant.left d cause);
       going = λ spent view counted shows.
           let on = c.items.invariant.going spent view counted shows in
           let h = hears_at _ _ c.args.there _ _ _ on.state on.now item _ _ _ _ _ _ same c.items.invariant.limits (c.in_ok-hear.ensures.hears on.state on.now on.state_is on.shows) in
@@ -64,11 +70,11 @@ items-preserved g c =
     }
 
 pub returns-clause-closed : goal.returns-clause-closed
-returns-clause-closed g c = c.items.invariant.still ∙ (left_end _ _ _ _ _ c.items.invariant.left (drop_all c.args.items.now c.items.i (omega arith))).0
+returns-clause-closed g c = c.items.invariant.still ∙ (left_end _ _ _ _ _ c.items.invariant.left c.in_default.ensures.says.0).0
 
 pub returns-clause-logged : goal.returns-clause-logged
-returns-clause-logged g c = λ still. (left_end _ _ _ _ _ c.items.invariant.left (drop_all c.args.items.now c.items.i (omega arith))).1
+returns-clause-logged g c = λ still. (left_end _ _ _ _ _ c.items.invariant.left c.in_default.ensures.says.0).1
 
 pub returns-clause-hears : goal.returns-clause-hears
 returns-clause-hears g c = λ spent view counted shows.
-    going_end _ _ IsLater _ _ spent view _ _ _ _ _ _ _ _ (c.items.invariant.going spent view counted shows) (drop_all c.args.items.now c.items.i (omega arith))
+    going_end _ _ IsLater _ _ spent view _ _ _ _ _ _ _ _ (c.items.invariant.going spent view counted shows) c.in_default.ensures.says.0

@@ -1,4 +1,5 @@
-use Rattle.std.proofs.Common.{◌≡◌, drop, true, None, [], Option}
+use Rattle.std.proofs.Common.{◌≡◌, length, true, None, [], Option}
+use Rattle.session_ends.specs.Hearing.{reader_items, says}
 use Rattle.session_ends.proofs.Runs.{Going, Left}
 use Rattle.spin_server.specs.Served.{Served, ServedLater}
 use Rattle.spin_server.specs.Serving.{Spin, spin_answer}
@@ -9,8 +10,12 @@ invariant-items g l = record {
   still : l.self.end.closed ≡ None;
   rest : l.self.end ≡ record l.fn.self.end { closed = l.self.end.closed; logged = l.self.end.logged };
   same : g.L.ImageLookup.still ≡ true → l.lookup ≡ l.fn.lookup;
-  left : Left l.fn.self.end.setup l.fn.self.end.logged l.items l.self.end.logged (drop l.i l.items);
+  bytes : l.items.bytes ≡ l.reader.rest;
+  left : Left l.fn.self.end.setup l.fn.self.end.logged (reader_items l.reader) l.self.end.logged (says l.items);
   going : (view : Served) → g.L.ImageLookup.shows l.fn.lookup view
-      → Going l.fn.self.end.setup (spin_answer l.fn.self.end.setup) ServedLater l.fn.self.end.logged l.items l.fn.self.spin view l.self.end.logged (drop l.i l.items)
+      → Going l.fn.self.end.setup (spin_answer l.fn.self.end.setup) ServedLater l.fn.self.end.logged (reader_items l.reader) l.fn.self.spin view l.self.end.logged (says l.items)
       (λ (spin : Option Spin). spin ≡ l.self.spin) (g.L.ImageLookup.shows l.lookup) l.fn.reply.items l.reply.items [] [];
 }
+
+abbrev pub decreases-items : goal.decreases-items
+decreases-items g l = length (says l.items)
