@@ -208,6 +208,7 @@ impl End {
     }
 
     /// What the stream says next, as a message to this end.
+    #[inline(always)]
     pub fn said(&self, item: &Heard<'_>) -> Said
         ensures { result ≡ heard_by self.now.setup.role item.now }
     {
@@ -219,6 +220,7 @@ impl End {
     }
 
     // Why what was said closes the end.
+    #[inline(always)]
     fn cause(&self, said: &Said) -> Option<CloseCause>
         ensures { result ≡ cause_of_said self.now.setup self.now.logged said.now }
     {
@@ -243,6 +245,7 @@ impl End {
     }
 
     // Why a message closes the end, and where; an accepted login is noted.
+    #[inline(always)]
     fn judge_message(&mut self, place: u64, raw: &LentRaw<'_>)
         requires { self.old.closed ≡ None }
         ensures closed { self.new.closed ≡ cause_of self.old.setup self.old.logged (Message place raw.now) }
@@ -256,6 +259,7 @@ impl End {
 
     /// Judges what the stream says next: the end closes where it has a cause, and notes an accepted
     /// login.
+    #[inline(always)]
     pub fn judge(&mut self, item: &Heard<'_>)
         requires { self.old.closed ≡ None }
         ensures closed { self.new.closed ≡ cause_of self.old.setup self.old.logged item.now }
