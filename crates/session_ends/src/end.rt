@@ -162,6 +162,7 @@ impl End {
     }
 
     /// Whether the end has closed.
+    #[inline(always)]
     pub fn is_closed(&self) -> bool
         ensures { result ≡ is_some self.now.closed }
     {
@@ -275,6 +276,7 @@ impl End {
 
     /// Takes in a piece, and hands out the reader that has it, which has to come back by
     /// [`End::put_back`]. After OutOfMemory the end has to be closed by [`End::fail`].
+    #[inline(always)]
     pub fn take(&mut self, piece: &[u8]) -> Result<BlockReader, OutOfMemory>
         ensures reader { IfOk result (λ reader. reader ≡ loaded self.old.inbox.reading piece.now) }
         ensures fed { self.new.inbox.fed ≡ counted (self.old.inbox.fed + length piece.now) }
@@ -287,6 +289,7 @@ impl End {
     }
 
     /// Takes the reader back, the first bytes of which were passed.
+    #[inline(always)]
     pub fn put_back(&mut self, reader: BlockReader, count: usize)
         requires { count ≤ length reader.rest }
         ensures { self.new ≡ record self.old { inbox = record { reading = passed reader count; fed = self.old.inbox.fed } } }
@@ -295,6 +298,7 @@ impl End {
     }
 
     /// Notes bytes that were sent; none are nothing sent.
+    #[inline(always)]
     pub fn note_sent(&mut self, bytes: &[u8])
         ensures { self.new ≡ record self.old { sent = (self.old.sent || some_bytes bytes.now) } }
     {
