@@ -162,6 +162,7 @@ impl End {
     }
 
     /// Whether the end has closed.
+    #[inline(always)]
     pub fn is_closed(&self) -> bool
         ensures { result ≡ is_some self.now.closed }
     {
@@ -208,6 +209,7 @@ impl End {
     }
 
     /// What the stream says next, as a message to this end.
+    #[inline(always)]
     pub fn said(&self, item: &Heard<'_>) -> Said
         ensures { result ≡ heard_by self.now.setup.role item.now }
     {
@@ -219,6 +221,7 @@ impl End {
     }
 
     // Why what was said closes the end.
+    #[inline(always)]
     fn cause(&self, said: &Said) -> Option<CloseCause>
         ensures { result ≡ cause_of_said self.now.setup self.now.logged said.now }
     {
@@ -243,6 +246,7 @@ impl End {
     }
 
     // Why a message closes the end, and where; an accepted login is noted.
+    #[inline(always)]
     fn judge_message(&mut self, place: u64, raw: &LentRaw<'_>)
         requires { self.old.closed ≡ None }
         ensures closed { self.new.closed ≡ cause_of self.old.setup self.old.logged (Message place raw.now) }
@@ -256,6 +260,7 @@ impl End {
 
     /// Judges what the stream says next: the end closes where it has a cause, and notes an accepted
     /// login.
+    #[inline(always)]
     pub fn judge(&mut self, item: &Heard<'_>)
         requires { self.old.closed ≡ None }
         ensures closed { self.new.closed ≡ cause_of self.old.setup self.old.logged item.now }
@@ -271,6 +276,7 @@ impl End {
 
     /// Takes in a piece, and hands out the reader that has it, which has to come back by
     /// [`End::put_back`]. After OutOfMemory the end has to be closed by [`End::fail`].
+    #[inline(always)]
     pub fn take(&mut self, piece: &[u8]) -> Result<BlockReader, OutOfMemory>
         ensures reader { IfOk result (λ reader. reader ≡ loaded self.old.inbox.reading piece.now) }
         ensures fed { self.new.inbox.fed ≡ counted (self.old.inbox.fed + length piece.now) }
@@ -283,6 +289,7 @@ impl End {
     }
 
     /// Takes the reader back, the first bytes of which were passed.
+    #[inline(always)]
     pub fn put_back(&mut self, reader: BlockReader, count: usize)
         requires { count ≤ length reader.rest }
         ensures { self.new ≡ record self.old { inbox = record { reading = passed reader count; fed = self.old.inbox.fed } } }
@@ -291,6 +298,7 @@ impl End {
     }
 
     /// Notes bytes that were sent; none are nothing sent.
+    #[inline(always)]
     pub fn note_sent(&mut self, bytes: &[u8])
         ensures { self.new ≡ record self.old { sent = (self.old.sent || some_bytes bytes.now) } }
     {

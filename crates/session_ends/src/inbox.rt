@@ -56,6 +56,7 @@ impl Inbox {
     }
 
     /// Takes in a piece, and hands out the reader that has it.
+    #[inline(always)]
     pub fn take(&mut self, piece: &[u8]) -> Result<BlockReader, OutOfMemory>
         ensures reader { IfOk result (λ reader. reader ≡ loaded self.old.reading piece.now) }
         ensures fed { self.new.fed ≡ counted (self.old.fed + length piece.now) }
@@ -66,6 +67,7 @@ impl Inbox {
     }
 
     /// Takes the reader back, the first bytes of which were passed.
+    #[inline(always)]
     pub fn put_back(&mut self, reader: BlockReader, count: usize)
         requires { count ≤ length reader.rest }
         ensures { self.new ≡ record { reading = passed reader count; fed = self.old.fed } }

@@ -20,6 +20,7 @@ fn onward(place: u64, size: usize) -> u64
 }
 
 // What a fault says that more bytes do not mend.
+#[inline(always)]
 fn trouble<'a>(place: u64, error: BlockError) -> Option<Heard<'a>>
     ensures { MatchOption result (trouble (fault_from false place (Err error)) ≡ []) (λ item. trouble (fault_from false place (Err error)) ≡ item ∷ []) }
 {
@@ -69,6 +70,7 @@ impl<'a> Model for Sayings<'a> {
 
 impl<'a> Sayings<'a> {
     /// What the bytes say that a reader has.
+    #[inline(always)]
     pub fn of(reader: &'a BlockReader) -> Sayings<'a>
         ensures says { says result ≡ reader_items reader.now }
         ensures bytes { result.bytes ≡ reader.now.rest }
@@ -177,6 +179,7 @@ impl<'a> Sayings<'a> {
     }
 
     /// Goes through what is left, and answers how many bytes the whole blocks have.
+    #[inline(always)]
     pub fn finish(&mut self) -> usize
         ensures { IsThrough self.old.bytes result }
     {
