@@ -1,22 +1,21 @@
 -- What a stream says, and what a piece adds to it.
-use Rattle.std.proofs.Common.{◌≡◌, ℕ, zero, suc, ◌+◌, ◌≤◌, List, [], ◌∷◌, ◌++◌, length, drop, refl, sym, ap, ◌∙◌, arith, false, subst, length-append, append_assoc, inl, inr, Option, Some, None, Err, slice_get}
-use Rattle.std.proofs.lemmas.List.{append-nil, length-drop, drop-drop}
+use Rattle.std.proofs.Common.{◌≡◌, ℕ, zero, suc, ◌+◌, ◌≤◌, List, [], ◌∷◌, ◌++◌, length, drop, refl, sym, ap, ◌∙◌, arith, false, subst, length-append, append_assoc, inl, inr, Option, Some, None, Err}
+use Rattle.std.proofs.lemmas.List.{append-nil, length-drop}
 use Rattle.unit_packets.specs.Blocks.{Block}
 use Rattle.unit_packets.specs.Causes.{counted}
 use Rattle.unit_packets.specs.declared.header.Header.{Header}
 use Rattle.unit_packets.specs.declared.header.BlockFault.{BlockFault}
 use Rattle.unit_packets.specs.Judging.{judge}
 use Rattle.unit_packets.specs.Cutting.{blocks_of, blocks_by, rest_of, rest_by, place_of, fault_in, fault_from}
-use Rattle.unit_packets.specs.Lending.{StandsFirst}
 use Rattle.unit_packets.specs.declared.header.BlockError.{BlockError}
-use Rattle.unit_packets.specs.Feeding.{Feeds, fed_answer, fed_fault, kept_fault}
+use Rattle.unit_packets.specs.Feeding.{Feeds, CutsTo, fed_answer, fed_fault, kept_fault}
 use Rattle.unit_packets.proofs.Stable.{judge_found}
 use Rattle.unit_packets.proofs.Cuts.{first_of, none_of, cases_Result, rest_short, appends}
 use Rattle.unit_packets.proofs.Feeds.{stands_unread, stands_fault, fed_on}
-use Rattle.unit_packets.proofs.Streams.{leads, lasting_of, lasting_more, fault_stays}
+use Rattle.unit_packets.proofs.Streams.{lasting_of, lasting_more, fault_stays}
 use Rattle.session_ends.specs.declared.inbox.Heard.{Heard}
 use Rattle.session_ends.specs.Items.{onward, block_size, block_items, stream_items_from, stream_items, trouble}
-use Rattle.session_ends.specs.Inboxes.{Inboxed, nothing_fed, HasTaken, TakesPiece, HearsBlocks}
+use Rattle.session_ends.specs.Inboxes.{Inboxed, nothing_fed, HasTaken, TakesPiece}
 
 -- ---- Places
 pub counted_on : (a b : ℕ) → counted (counted a + b) ≡ counted (a + b)
@@ -100,13 +99,13 @@ answer_one (Some f) None is = cc
 answer_one (Some f) (Some g) is = cc
 
 pub taken_in : (fed piece all : List ℕ) (old new : Inboxed) (passed : ℕ) (error : BlockError) (fault : Option BlockFault) (start : ℕ) (before mid after : List Heard)
-    → HasTaken old fed → fed_fault fed ≡ None → all ≡ old.reading.rest ++ piece → start ≡ old.reading.place → HearsBlocks start all passed error before mid
+    → HasTaken old fed → fed_fault fed ≡ None → all ≡ old.reading.rest ++ piece → start ≡ old.reading.place → CutsTo all passed error [] (blocks_of all) → mid ≡ before ++ stream_items_from start (blocks_of all)
     → new.reading.place ≡ counted (old.reading.place + passed) → new.reading.rest ≡ drop passed all → fault ≡ fault_from false new.reading.place (Err error)
     → new.fed ≡ counted (old.fed + length piece) → after ≡ mid ++ trouble fault → TakesPiece fed piece new before after
-taken_in fed piece all old new passed error fault start before mid after old_is unspoiled are place hears on rest why count a =
+taken_in fed piece all old new passed error fault start before mid after old_is unspoiled are place cut heard on rest why count a =
     let none : kept_fault old.reading ≡ None = stands_fault false old.reading fed old_is.reads ∙ unspoiled in
     let f : Feeds fed piece new.reading [] (blocks_of all) (fed_answer fault) =
-    fed_on fed piece all passed error old.reading new.reading [] (blocks_of all) (fed_answer fault) old_is.reads none are hears.cut on rest (ap fed_answer why) in
+    fed_on fed piece all passed error old.reading new.reading [] (blocks_of all) (fed_answer fault) old_is.reads none are cut on rest (ap fed_answer why) in
     let here : start ≡ counted (place_of fed) = place ∙ old_is.reads.place_is in
     let same : fault ≡ fed_fault (fed ++ piece) = answer_one fault (fed_fault (fed ++ piece)) f.fault in
     let given : blocks_of all ≡ f.added = f.given in
@@ -117,7 +116,7 @@ taken_in fed piece all old new passed error fault start before mid after old_is 
       };
       added = stream_items_from (counted (place_of fed)) f.added ++ trouble (fed_fault (fed ++ piece));
       are = items_more fed piece f.added f.blocks unspoiled;
-      appended = a ∙ ap (λ (l : List Heard). l ++ trouble fault) hears.heard ∙ append_assoc before (stream_items_from start (blocks_of all)) (trouble fault)
+      appended = a ∙ ap (λ (l : List Heard). l ++ trouble fault) heard ∙ append_assoc before (stream_items_from start (blocks_of all)) (trouble fault)
           ∙ ap (λ (n : ℕ). before ++ (stream_items_from n (blocks_of all) ++ trouble fault)) here
           ∙ ap (λ (bs : List Block). before ++ (stream_items_from (counted (place_of fed)) bs ++ trouble fault)) given
           ∙ ap (λ (o : Option BlockFault). before ++ (stream_items_from (counted (place_of fed)) f.added ++ trouble o)) same;
@@ -130,51 +129,3 @@ items_none = refl
 
 pub nothing_taken : (inbox : Inboxed) → inbox ≡ nothing_fed → HasTaken inbox []
 nothing_taken inbox is = subst (λ (i : Inboxed). HasTaken i []) (sym is) (record { reads = stands_unread; count = refl })
-
--- ---- Loops over lists
-pub drop_one : {A : Type 0} (xs : List A) (i : ℕ) (x : A) → slice_get xs i ≡ Some x → drop i xs ≡ x ∷ drop (i + 1) xs
-drop_one [] i x is = cc
-drop_one (y ∷ xs) zero x is = cc
-drop_one (y ∷ xs) (suc i) x is =
-    let e : suc (i + 1) ≡ suc i + 1 = omega arith in
-    drop_one xs i x is ∙ ap (λ (n : ℕ). x ∷ drop n (y ∷ xs)) e
-
-pub drop_all : {A : Type 0} (xs : List A) (i : ℕ) → i ≡ length xs → drop i xs ≡ []
-drop_all [] zero is = refl
-drop_all [] (suc i) is = absurd (omega arith)
-drop_all (x ∷ xs) zero is = absurd (omega arith)
-drop_all (x ∷ xs) (suc i) is = drop_all xs i (omega arith)
-
--- ---- Going through the blocks of a piece
--- so many bytes were passed; what they and the others say is what all do
-pub record Going (start : ℕ) (bytes : List ℕ) (at place : ℕ) (before so_far : List Heard) : Type 0 where
-  pub within : at ≤ length bytes
-  pub rest : rest_of bytes ≡ rest_of (drop at bytes)
-  pub says : so_far ++ stream_items_from place (blocks_of (drop at bytes)) ≡ before ++ stream_items_from start (blocks_of bytes)
-
-pub going_more : (start : ℕ) (bytes rest : List ℕ) (at place place' size : ℕ) (before so_far longer : List Heard) (block : Block) → Going start bytes at place before so_far → rest ≡ drop at bytes
-    → StandsFirst rest block → size ≡ block_size block → place' ≡ onward place size → longer ≡ so_far ++ block_items place block → Going start bytes (at + size) place' before longer
-going_more start bytes rest at place place' size before so_far longer block g is stands fits on more =
-    let l = leads (drop at bytes) block (subst (λ (r : List ℕ). StandsFirst r block) is stands) in
-    let cut : drop (block_size block) (drop at bytes) ≡ drop (at + size) bytes = drop-drop (block_size block) at bytes ∙ ap (λ (k : ℕ). drop (at + k) bytes) (sym fits) in
-    let next : blocks_of (drop at bytes) ≡ block ∷ blocks_of (drop (at + size) bytes) = l.blocks ∙ ap (λ (r : List ℕ). block ∷ blocks_of r) cut in
-    let there : place' ≡ onward place (block_size block) = on ∙ ap (onward place) fits in
-    record {
-      within = omega (arith, l.fits, length-drop at bytes, g.within, fits);
-      rest = g.rest ∙ l.rest_is ∙ ap rest_of cut;
-      says = ap (λ (n : ℕ). longer ++ stream_items_from n (blocks_of (drop (at + size) bytes))) there
-          ∙ ap (λ (h : List Heard). h ++ stream_items_from (onward place (block_size block)) (blocks_of (drop (at + size) bytes))) more
-          ∙ append_assoc so_far (block_items place block) (stream_items_from (onward place (block_size block)) (blocks_of (drop (at + size) bytes)))
-          ∙ ap (λ (bs : List Block). so_far ++ stream_items_from place bs) (sym next)
-          ∙ g.says;
-    }
-
-pub going_end : (start : ℕ) (bytes rest : List ℕ) (at place : ℕ) (before so_far : List Heard) (e : BlockError) → Going start bytes at place before so_far → rest ≡ drop at bytes → judge rest ≡ Err e
-    → HearsBlocks start bytes at e before so_far
-going_end start bytes rest at place before so_far e g is stop =
-    let there : judge (drop at bytes) ≡ Err e = ap judge (sym is) ∙ stop in
-    let none = none_of (drop at bytes) e there in
-    record {
-      cut = record { within = g.within; rest = g.rest ∙ none.rest; blocks = refl; stop = there };
-      heard = sym (append-nil so_far) ∙ ap (λ (bs : List Block). so_far ++ stream_items_from place bs) (sym none.blocks) ∙ g.says;
-    }

@@ -120,7 +120,7 @@ reader_through fed piece old new count taken none t is =
     ∙ ap (λ r. says ++ trouble (fault_from false (counted (start + count)) r)) (ap judge t.rest ∙ t.stop) in
     subst (λ (i : Inboxed). TakesPiece fed piece i [] (reader_items (loaded old.reading piece))) (sym is)
     (taken_in fed piece all old (record { reading = passed (loaded old.reading piece) count; fed = counted (old.fed + length piece) }) count t.error fault start [] says (says ++ trouble (fault_from false (counted (start + place_of all)) (judge (rest_of all))))
-    taken none refl refl (record { cut = record { within = t.within; rest = t.rest; blocks = refl; stop = t.stop }; heard = refl }) refl refl refl refl after)
+    taken none refl refl (record { within = t.within; rest = t.rest; blocks = refl; stop = t.stop }) refl refl refl refl refl after)
 
 -- an end took a piece in, heard all that its reader says, took the reader back, and noted what it
 -- said

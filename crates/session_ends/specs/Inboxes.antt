@@ -1,12 +1,10 @@
 -- What an inbox knows.
-use Rattle.std.specs.Prelude.{◌≡◌, ℕ, List, [], ◌++◌, length}
+use Rattle.std.specs.Prelude.{◌≡◌, ℕ, List, ◌++◌, length}
 use Rattle.unit_packets.specs.Causes.{counted}
-use Rattle.unit_packets.specs.Cutting.{blocks_of}
-use Rattle.unit_packets.specs.Feeding.{StandsFor, CutsTo}
+use Rattle.unit_packets.specs.Feeding.{StandsFor}
 use Rattle.unit_packets.specs.Reading.{Reading, unread}
-use Rattle.unit_packets.specs.declared.header.BlockError.{BlockError}
 use Rattle.session_ends.specs.declared.inbox.Heard.{Heard}
-use Rattle.session_ends.specs.Items.{stream_items, stream_items_from}
+use Rattle.session_ends.specs.Items.{stream_items}
 
 -- what it read, and how many bytes it was fed
 pub record Inboxed : Type 0 where
@@ -28,8 +26,3 @@ pub record TakesPiece (fed piece : List ℕ) (new : Inboxed) (before after : Lis
   pub added : List Heard
   pub are : stream_items (fed ++ piece) ≡ stream_items fed ++ added
   pub appended : after ≡ before ++ added
-
--- bytes were cut into blocks, and what these say, the first of which stands at a place, was appended
-pub record HearsBlocks (start : ℕ) (bytes : List ℕ) (passed : ℕ) (error : BlockError) (before after : List Heard) : Type 0 where
-  pub cut : CutsTo bytes passed error [] (blocks_of bytes)
-  pub heard : after ≡ before ++ stream_items_from start (blocks_of bytes)
