@@ -5,6 +5,8 @@ ghost use Rattle.pitch_tool.specs.Jobs.{Judges, job_of};
 ghost use Rattle.pitch_tool.specs.Program.{IsWhole, IsRefusal};
 ghost use Rattle.pitch_tool.specs.declared.failure.Trouble.{Trouble};
 
+mod schedules;
+
 use crate::{ExitStatus, pitch};
 use pitch_fields::OutOfMemory;
 use pitch_io::{MemorySink, MemorySource, Source, SteadySink, SteadySource, Taken};
