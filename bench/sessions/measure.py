@@ -24,9 +24,11 @@ LINE = CRATE + ": pitch_fields pitch_messages unit_packets session_ends gap_stor
 PROGRAM = r'''//! Feeds ends of sessions, and makes images, for a benchmark.
 #![tactic(auto)]
 
+ghost use Rattle.std.specs.Prelude.{◌≤◌};
+
 use gap_store::GapStore;
 use grp_session::{GapBudget, GrpServer};
-use pitch_messages::{Message, Raw, RawList, write};
+use pitch_messages::{Raw, RawList};
 use spin_server::{ImageLookup, ImageShelf, SpinServer};
 use std::alloc::Global;
 use std::env;
@@ -195,7 +197,7 @@ def build(top, scratch):
 
 
 def cost(program, words):
-    """The processor time of a run in seconds, and the most memory that any run so far took."""
+    """The processor time of a run, in seconds."""
     before = resource.getrusage(resource.RUSAGE_CHILDREN)
     subprocess.run([program, *words], check=True)
     after = resource.getrusage(resource.RUSAGE_CHILDREN)

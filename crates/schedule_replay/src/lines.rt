@@ -1,6 +1,7 @@
 //! The printed line of a verb.
 
 ghost use Rattle.std.specs.Prelude.{◌≡◌, ◌≤◌, ◌+◌, ◌++◌, ◌∷◌, [], length, take, OnOk, OnErr, codes, decimal};
+ghost use Rattle.feed_lines.specs.LineSize.{line_size};
 ghost use Rattle.feed_lines.specs.Follow.{overflow_text};
 ghost use Rattle.feed_lines.specs.StatusText.{status_text};
 ghost use Rattle.venue_core.specs.Causes.{refusal_text};
@@ -235,8 +236,8 @@ fn put_printed(
     verb: &Verb,
     printed: &Printed,
 ) -> usize
-    requires { at + LINE ≤ length out.old }
-    ensures end { result ≤ at + LINE }
+    requires { at + line_size ≤ length out.old }
+    ensures end { result ≤ at + line_size }
     ensures text { take result out.new ≡ take at out.old ++ printed_line line unit verb.now printed.now }
     ensures kept { length out.new ≡ length out.old }
 {

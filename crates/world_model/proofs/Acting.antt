@@ -1,24 +1,23 @@
 -- What a verb does to the parts of a world.
-use Rattle.std.proofs.Common.{get_or, ◌≡◌, ℕ, zero, suc, ◌+◌, ◌-◌, ◌≤◌, ◌<◌, Bool, true, false, true≢false, List, [], ◌∷◌, ◌++◌, length, drop, refl, sym, ap, ◌∙◌, subst, arith, Option, Some, None, Result, Ok, Err, length-append, eqb, ltb, cond, ◌||◌, ◌⊎◌, inl, inr, take, unwrap_or}
+use Rattle.std.proofs.Common.{get_or, ◌≡◌, ℕ, zero, suc, ◌+◌, ◌-◌, ◌≤◌, ◌<◌, Bool, true, false, List, [], ◌∷◌, ◌++◌, length, drop, refl, sym, ap, ◌∙◌, subst, arith, Option, Some, None, Result, Ok, Err, length-append, eqb, ltb, cond, ◌||◌, take}
 use Rattle.std.specs.List.{AllByRecursion, slice_get, flat_map}
 use Rattle.std.specs.Option.{option_map}
 use Rattle.std.proofs.lemmas.Option.{slice_get-map, slice_get_within, get_or_from_slice_get}
 use Rattle.unit_packets.specs.Cutting.{blocks_of}
-use Rattle.std.proofs.lemmas.Bool.{eq-eqb, cases_lt, lt-ltb}
-use Rattle.std.proofs.lemmas.List.{map-append, take_more, drop-map, take-append-le, length-drop}
-use Rattle.pitch_messages.specs.Raw.{IsRaw}
+use Rattle.std.proofs.lemmas.Bool.{lt-ltb}
+use Rattle.std.proofs.lemmas.List.{map-append, take_more, drop-map}
 use Rattle.pitch_messages.specs.Room.{Roomy}
 use Rattle.pitch_text.specs.declared.command.Command.{Command}
 use Rattle.pitch_text.specs.declared.verb.Verb.{Verb}
 use Rattle.unit_packets.specs.BlockBytes.{block_bytes, heartbeat_block}
-use Rattle.unit_packets.specs.Packing.{IsPacking, packed, bytes_in}
+use Rattle.unit_packets.specs.Packing.{packed, bytes_in}
 use Rattle.pitch_model.specs.History.{Raw, Entry, Message, Next}
 use Rattle.pitch_model.specs.History as entry
-use Rattle.pitch_model.specs.Honest.{Honest, message_at}
+use Rattle.pitch_model.specs.Honest.{Honest}
 use Rattle.pitch_model.specs.Image.{image}
 use Rattle.pitch_fields.specs.Fields.{AreBytes}
 use Rattle.venue_core.specs.Commands.{raw_of}
-use Rattle.venue_core.specs.Refusals.{refusal, refused_if, first_refusal, are_spent, is_ended, has_no_shares, has_bad_name, adds_open_order, names_no_order, takes_too_much, overfills, IsAnswer}
+use Rattle.venue_core.specs.Refusals.{refusal, IsAnswer}
 use Rattle.venue_core.specs.Standing.{VenueState}
 use Rattle.venue_core.specs.Stands.{Stands as VenueStands, last_of}
 use Rattle.venue_core.specs.declared.error.VenueError.{VenueError}
@@ -26,7 +25,7 @@ use Rattle.venue_core.specs.declared.error.VenueError.TheVariants as errors
 use Rattle.client_core.specs.Tracks.{Tracks, Keeps}
 use Rattle.client_core.specs.declared.client.UnitClient.{UnitClient}
 use Rattle.world_model.specs.Printed.{overflowed}
-use Rattle.pitch_model.specs.Datagrams.{IsPiece, IsVenueBlock, heard_blocks, overflows_in}
+use Rattle.pitch_model.specs.Datagrams.{IsPiece, IsVenueBlock, heard_blocks}
 use Rattle.world_model.proofs.Pieces.{pieces_more, pieces_append, pieces_after, piece_at, blocks_of_pieces}
 use Rattle.world_model.specs.Sound.{Sound}
 use Rattle.spin_path.specs.Paths.{HasWholeImages}
@@ -36,9 +35,7 @@ use Rattle.world_model.proofs.Witness as witness
 use Rattle.world_model.proofs.HeardBlocks.{overflow_step}
 use Rattle.world_model.specs.Stands.{WorldHas, Keeping, Acts, WorldStands, Marks, Passes}
 use Rattle.world_model.specs.State.{State, Connection, datagrams_on, passed_on, passed_to}
-use Rattle.world_model.specs.Verbs.{Done, done, does, state_of, commanded_on, commanded, flushed, beaten, numbered, delivered, delivered_on, rest_delivered, hears, up_to, tick_outcome, ticked, asked_through, client_ticks, budget_ticks, grp_server_ticks, at_grp_server, spin_server_has, at_spin_server, gap_link_ticks, spin_link_ticks, at_link, connection, grp_connected, cut_on, grp_cut, grp_cut_where, grp_settled, spin_settled, shut, asked_grp, asked_spin}
-use Rattle.pitch_messages.specs.declared.session.SessionMessage.TheVariants.{GapRequest, SpinRequest}
-use Rattle.session_ends.specs.Events.{Event, Ticked, Asked}
+use Rattle.world_model.specs.Verbs.{Done, done, does, state_of, commanded_on, commanded, flushed, beaten, numbered, delivered, delivered_on, rest_delivered, hears, up_to, budget_ticks, connection, grp_connected, cut_on, grp_cut, grp_cut_where}
 use Rattle.grp_session.specs.Budget as budget
 use Rattle.grp_session.specs.Budget.{Counts, Counted, Spent}
 use Rattle.gap_store.specs.Look.{Store, View, store_of}
@@ -51,20 +48,16 @@ use Rattle.session_ends.specs.declared.role.Role.TheVariants as roles
 use Rattle.client_core.specs.Items.{IsImage}
 use Rattle.pitch_model.proofs.Images.{image_book}
 use Rattle.client_links.specs.Linking.{login_bytes}
-use Rattle.world_model.specs.Connections.{IsGrp, HasGrp, HasSpin, KeepsShelf}
+use Rattle.world_model.specs.Connections.{IsGrpConnection, HasGrp, HasSpin}
 use Rattle.world_model.specs.declared.grp.GrpConnection.{GrpConnection}
-use Rattle.world_model.specs.Ends.{the_account, gap_link, spin_link}
+use Rattle.world_model.specs.Ends.{the_account}
 use Rattle.world_model.specs.declared.limits.Limits.{Limits}
-use Rattle.pitch_model.specs.declared.ask.Ask.TheVariants as asks
 use Rattle.world_model.specs.Hearing.{HearsBlocks, overflow_in}
 use Rattle.world_model.specs.declared.passed.Passed.{Passed}
 use Rattle.pitch_io.specs.declared.line.Line.{Line}
 use Rattle.pitch_io.specs.declared.line.Line.TheVariants.{A, B, Gap}
 use Rattle.unit_packets.specs.Blocks.{Block}
 use Rattle.line_arbiter.specs.declared.arbiter.Arbiter.{Arbiter}
-use Rattle.pitch_model.specs.Asking.{ask_of}
-use Rattle.pitch_model.specs.declared.ask.Ask.{Ask}
-use Rattle.pitch_model.specs.Book.{book_after}
 use Rattle.pitch_model.specs.Heard.{heard_block, heard_messages, heard_sequenced, overflowed_messages, block_overflows}
 use Rattle.pitch_model.specs.Reach.{is_overflow}
 use Rattle.pitch_model.proofs.Honesty.{honest_top}
@@ -462,7 +455,7 @@ acts_passed w new acted o s s' passes calm = record {
 }
 
 -- ---- Open and cut
-pub acts_connected : (w : World) (c : GrpConnection) (acted : Acted) (s : State) → WorldHas w s → w.grp ≡ None → IsGrp c w.unit (connection (login_bytes roles.GapLink 0 the_account)) → acted ≡ calm_of outcome.Opened
+pub acts_connected : (w : World) (c : GrpConnection) (acted : Acted) (s : State) → WorldHas w s → w.grp ≡ None → IsGrpConnection c w.unit (connection (login_bytes roles.GapLink 0 the_account)) → acted ≡ calm_of outcome.Opened
     → Acts w (record w { grp = Some c }) acted s (grp_connected s.grp s)
 acts_connected w c acted s has none is calm = by s.grp (subst (λ (g : Option GrpConnection). HasGrp g w.unit s.grp) none has.grp)
   where

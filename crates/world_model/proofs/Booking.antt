@@ -1,5 +1,5 @@
 -- The orders of a book by their ids, and its text.
-use Rattle.std.proofs.Common.{◌≡◌, ℕ, ◌+◌, Bool, true, false, cond, List, [], ◌∷◌, ◌++◌, map, refl, sym, ap, ◌∙◌, Option, Some, None, decimal, codes, append_assoc, arith, take, length, length-take, ◌≤◌, slice_get, Result, Ok, Err, OnOk, OnErr}
+use Rattle.std.proofs.Common.{◌≡◌, ℕ, ◌+◌, Bool, true, false, cond, List, [], ◌∷◌, ◌++◌, map, refl, sym, ap, ◌∙◌, Option, Some, None, append_assoc, arith, take, length, length-take, ◌≤◌, slice_get, Result, Ok, Err, OnOk, OnErr}
 use Rattle.std.proofs.Math.Dec.{T}
 use Rattle.std.specs.List.{flat_map}
 use Rattle.std.proofs.lemmas.List.{append-nil, take_more, take-append-le}
@@ -12,7 +12,7 @@ use Rattle.std.proofs.lemmas.Bool.Decides.{nat_tests}
 use Rattle.pitch_messages.specs.declared.order.Order.{Order}
 use Rattle.pitch_model.specs.Book.{Book, IsBook}
 use Rattle.pitch_model.specs.Levels.{orders_of}
-use Rattle.feed_lines.specs.BookText.{book_text, order_line, second_text, book_head}
+use Rattle.feed_lines.specs.BookText.{book_text, order_line, book_head}
 use Rattle.pitch_io.specs.declared.line.Line.TheVariants.{A, B, Gap}
 use Rattle.pitch_model.specs.Reach.{reach}
 use Rattle.line_arbiter.specs.Noted.{line_count}

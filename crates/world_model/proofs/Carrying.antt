@@ -1,5 +1,5 @@
 -- What carrying bytes does to a connection.
-use Rattle.std.proofs.Common.{◌≡◌, ℕ, zero, suc, ◌+◌, ◌-◌, ◌≤◌, Bool, true, false, Option, Some, None, is_some, List, [], ◌∷◌, ◌++◌, length, take, drop, replicate, refl, sym, ap, ◌∙◌, subst, arith, length-append, append_assoc}
+use Rattle.std.proofs.Common.{◌≡◌, ℕ, ◌-◌, ◌≤◌, Bool, true, false, Option, Some, None, is_some, List, [], ◌++◌, length, take, drop, replicate, refl, sym, ap, ◌∙◌, subst, arith, length-append}
 use Rattle.std.proofs.lemmas.List.{drop-append-le, length-drop}
 use Rattle.std.proofs.Math.Seq.{drop-drop}
 use Rattle.std.specs.Option.{option_map}
@@ -13,10 +13,10 @@ use Rattle.grp_session.specs.Budget.{Counts, Counted, Spent}
 use Rattle.grp_session.specs.Budget as budget
 use Rattle.grp_session.specs.Serving.{Source, Answered, ProxyFeeds, StoreHasOneView, proxy_answer}
 use Rattle.client_links.specs.Linking.{LinkStands}
-use Rattle.world_model.specs.Connections.{IsPipe, IsGrp, HasGrp, CarriedUp}
+use Rattle.world_model.specs.Connections.{IsPipe, IsGrpConnection, HasGrp, CarriedUp}
 use Rattle.world_model.specs.Ends.{grp_server, grp_says}
 use Rattle.world_model.specs.State.{State, Connection, Pipe, waiting}
-use Rattle.world_model.specs.Verbs.{put_in, took, with_up, at_grp_server, source_of, shut}
+use Rattle.world_model.specs.Verbs.{put_in, took, source_of, shut}
 use Rattle.world_model.specs.declared.limits.Limits.{Limits}
 use Rattle.world_model.specs.declared.grp.GrpConnection.{GrpConnection}
 
@@ -37,7 +37,7 @@ piped_taken bytes n pipe is few =
 
 -- ---- To the proxy
 pub carried_up : (old new : GrpConnection) (unit : ℕ) (limits : Limits) (s : State) (k : Connection Source) (n : ℕ) (piece : List ℕ) (store store' : Store) (counter counter' : Counts) (none said : List ℕ) (nothing packed before after : List (List ℕ))
-    → StoreHasOneView → IsGrp old unit k → store ≡ store_of (record { messages = s.accepted; kept = limits.kept }) → counter.limits ≡ record { second = limits.second; minute = limits.minute; day = limits.day }
+    → StoreHasOneView → IsGrpConnection old unit k → store ≡ store_of (record { messages = s.accepted; kept = limits.kept }) → counter.limits ≡ record { second = limits.second; minute = limits.minute; day = limits.day }
     → n ≤ length old.up → piece ≡ take n old.up → none ≡ [] → nothing ≡ []
     → new.up ≡ drop n old.up → new.down ≡ old.down ++ said → after ≡ before ++ packed → new.link ≡ old.link → new.server.setup ≡ old.server.setup → store' ≡ store → counter'.limits ≡ counter.limits
     → ProxyFeeds k.server piece old.server new.server true counter.limits s.spent (record { messages = s.accepted; kept = limits.kept }) (Counted counter') (λ v. store' ≡ store_of v) none said nothing packed
@@ -81,7 +81,7 @@ pub on_none : (unit : ℕ) (g : Option (Connection Source)) (f : Connection Sour
 on_none unit None f is = tt
 on_none unit (Some k) f is = absurd is
 
-pub on_some : (old new : GrpConnection) (unit : ℕ) (g : Option (Connection Source)) (f : Connection Source → Connection Source) → ((k : Connection Source) → IsGrp old unit k → IsGrp new unit (f k)) → HasGrp (Some old) unit g
+pub on_some : (old new : GrpConnection) (unit : ℕ) (g : Option (Connection Source)) (f : Connection Source → Connection Source) → ((k : Connection Source) → IsGrpConnection old unit k → IsGrpConnection new unit (f k)) → HasGrp (Some old) unit g
     → HasGrp (Some new) unit (option_map f g)
 on_some old new unit None f does is = absurd is
 on_some old new unit (Some k) f does is = does k is
@@ -90,6 +90,6 @@ pub shut_none : (unit : ℕ) (g : Option (Connection Source)) (s : Setup) → Ha
 shut_none unit None s is = refl
 shut_none unit (Some k) s is = absurd is
 
-pub shut_some : (c : GrpConnection) (unit : ℕ) (g : Option (Connection Source)) (s : Setup) (b : Bool) → ((k : Connection Source) → IsGrp c unit k → b ≡ is_some (closed_of s k.link)) → HasGrp (Some c) unit g → b ≡ shut s g
+pub shut_some : (c : GrpConnection) (unit : ℕ) (g : Option (Connection Source)) (s : Setup) (b : Bool) → ((k : Connection Source) → IsGrpConnection c unit k → b ≡ is_some (closed_of s k.link)) → HasGrp (Some c) unit g → b ≡ shut s g
 shut_some c unit None s b does is = absurd is
 shut_some c unit (Some k) s b does is = does k is

@@ -1,5 +1,5 @@
 -- Worked examples of worlds, computed by the definitions. Verbs stand newest first.
-use Rattle.std.proofs.Common.{◌≡◌, ℕ, Bool, true, false, List, [], ◌∷◌, ◌++◌, refl, length, zero, suc, map}
+use Rattle.std.proofs.Common.{◌≡◌, ℕ, Bool, true, false, List, [], ◌∷◌, refl, zero, suc, map}
 use Rattle.pitch_io.specs.declared.line.Line.TheVariants.{A, B, Gap}
 use Rattle.pitch_text.specs.declared.command.Command.TheVariants as commands
 use Rattle.pitch_text.specs.declared.verb.Verb.{Verb}
@@ -16,9 +16,7 @@ use Rattle.pitch_model.specs.declared.status.Status.{Status}
 use Rattle.pitch_model.specs.declared.status.Status.TheVariants.{Silent, Current, Behind}
 use Rattle.venue_core.specs.declared.error.VenueError.TheVariants as errors
 use Rattle.line_arbiter.specs.Noted.{line_count}
-use Rattle.line_arbiter.specs.declared.count.LineCount.{LineCount}
 use Rattle.world_model.specs.Printed.{printed}
-use Rattle.world_model.specs.State.{State}
 use Rattle.world_model.specs.Verbs.{state_of}
 use Rattle.world_model.specs.declared.limits.Limits.{Limits}
 use Rattle.world_model.specs.declared.outcome.Outcome.{Outcome}

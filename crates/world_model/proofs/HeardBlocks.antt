@@ -1,5 +1,5 @@
 -- What a client hears, one block after another.
-use Rattle.std.proofs.Common.{◌≡◌, ℕ, ◌+◌, ◌≤◌, Bool, true, false, ◌||◌, List, [], ◌∷◌, ◌++◌, length, drop, cond, eqb, nat_lt, refl, sym, ap, ◌∙◌, subst, arith, append_assoc, Err, Some, take}
+use Rattle.std.proofs.Common.{◌≡◌, ℕ, ◌+◌, ◌≤◌, Bool, true, false, ◌||◌, List, [], ◌∷◌, ◌++◌, length, drop, nat_lt, refl, sym, ap, ◌∙◌, subst, arith, append_assoc, Err, Some, take}
 use Rattle.std.proofs.lemmas.List.{append-nil, length-drop, drop-drop, drop_all, take_more}
 use Rattle.std.proofs.lemmas.Bool.Decides.{nat_tests}
 use Rattle.std.proofs.lemmas.Option.{get_or_from_slice_get, slice_get_within}

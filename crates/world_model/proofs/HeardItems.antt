@@ -1,5 +1,5 @@
 -- What a client hears of its links, one item after another.
-use Rattle.std.proofs.Common.{◌≡◌, ℕ, suc, ◌+◌, ◌≤◌, Bool, true, false, cond, List, [], ◌∷◌, ◌++◌, length, take, map, refl, sym, ap, ◌∙◌, subst, arith, Option, Some, None, get_or}
+use Rattle.std.proofs.Common.{◌≡◌, ℕ, ◌+◌, Bool, true, false, List, [], ◌∷◌, ◌++◌, take, refl, sym, ap, ◌∙◌, subst, Some}
 use Rattle.std.specs.List.{AllByRecursion, slice_get}
 use Rattle.std.proofs.lemmas.List.{take_more}
 use Rattle.std.proofs.lemmas.Option.{slice_get_within, get_or_from_slice_get}
@@ -13,7 +13,6 @@ use Rattle.pitch_model.specs.declared.item.Item.TheVariants as item
 use Rattle.client_core.specs.Tracks.{Tracks, Keeps}
 use Rattle.client_core.specs.Items.{IsImage}
 use Rattle.client_core.specs.declared.client.UnitClient.{UnitClient}
-use Rattle.client_links.specs.Telling.{without_spare}
 use Rattle.spin_path.specs.Paths.{heard_all}
 use Rattle.world_model.specs.Hearing.{IsTold, HearsItems}
 

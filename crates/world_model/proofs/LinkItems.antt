@@ -1,8 +1,8 @@
--- What a link tells: the link with the proxy of logins and gap replies alone, and no link of messages
--- with sequences.
-use Rattle.std.proofs.Common.{◌≡◌, ℕ, ◌<◌, Bool, true, false, ◌||◌, cond, eqb, ltb, nat_lt, List, [], ◌∷◌, ◌++◌, length, map, refl, sym, ap, ◌∙◌, subst, Option, Some, None, is_some, slice_index, Ok, Err, Result, inl, inr}
+-- What a link tells: the link with the proxy of logins and gap replies alone, and no link of
+-- messages with sequences.
+use Rattle.std.proofs.Common.{◌≡◌, ℕ, Bool, true, false, ◌||◌, cond, eqb, nat_lt, List, [], ◌∷◌, ◌++◌, length, map, refl, sym, subst, Option, Some, None, is_some, slice_index, Ok, Err, Result}
 use Rattle.std.specs.List.{AllByRecursion}
-use Rattle.std.proofs.lemmas.Bool.{cases_Bool, eqb-true}
+use Rattle.std.proofs.lemmas.Bool.{eqb-true}
 use Rattle.pitch_messages.specs.Raw.{kind_of}
 use Rattle.pitch_fields.specs.Fields.{number_at}
 use Rattle.pitch_messages.specs.Session.{session_reads, session_row_of}
@@ -15,7 +15,7 @@ use Rattle.pitch_model.specs.declared.item.Item.{Item}
 use Rattle.pitch_model.specs.declared.item.Item.TheVariants as item
 use Rattle.session_ends.specs.Closing.{Setup, closed_of, logged_in}
 use Rattle.session_ends.specs.Events.{Event}
-use Rattle.session_ends.specs.Saying.{said_to, said_by, heard_by, is_read}
+use Rattle.session_ends.specs.Saying.{said_by, heard_by}
 use Rattle.session_ends.specs.Sending.{new_items}
 use Rattle.session_ends.specs.declared.inbox.Heard.{Heard}
 use Rattle.session_ends.specs.declared.inbox.Heard.TheVariants as heard
@@ -24,7 +24,7 @@ use Rattle.session_ends.specs.declared.role.Role.TheVariants.{GrpServer, SpinSer
 use Rattle.session_ends.specs.declared.role.Said.{Said}
 use Rattle.session_ends.specs.declared.role.Said.TheVariants.{Skipped, TooShort, Message}
 use Rattle.client_links.specs.Linking.{Lookups, link_tells}
-use Rattle.client_links.specs.Telling.{without_spare, told_of, told_said, hands_out, other_of, others, run_of, or_items, after_others, tells_on, tells, until}
+use Rattle.client_links.specs.Telling.{without_spare, told_of, told_said, hands_out, other_of, others, run_of, or_items, after_others, tells, until}
 use Rattle.world_model.specs.Ends.{gap_link}
 use Rattle.world_model.specs.Hearing.{IsTold, IsGapTold}
 use Rattle.world_model.proofs.HeardItems.{AreTold}

@@ -1,8 +1,7 @@
 -- Lists of pieces of a venue's feed.
-use Rattle.std.proofs.Common.{◌≡◌, ℕ, zero, suc, ◌≤◌, List, [], ◌∷◌, ◌++◌, drop, sym, ◌∙◌, subst, arith, Option, Some, None}
+use Rattle.std.proofs.Common.{◌≡◌, ℕ, zero, suc, List, [], ◌∷◌, ◌++◌, drop, sym, ◌∙◌, subst, arith, Option, Some, None}
 use Rattle.std.specs.List.{AllByRecursion, slice_get, flat_map}
 use Rattle.std.proofs.lemmas.Option.{slice_get_past}
-use Rattle.unit_packets.specs.Blocks.{Block}
 use Rattle.unit_packets.specs.Cutting.{blocks_of}
 use Rattle.pitch_model.specs.History.{Raw}
 use Rattle.pitch_model.specs.Datagrams.{IsPiece, IsVenueBlock}

@@ -1,5 +1,5 @@
 -- A spin server that is called until its image is sent.
-use Rattle.std.proofs.Common.{◌≡◌, ℕ, zero, suc, ◌+◌, ◌&&◌, Bool, true, false, cond, Option, None, Some, is_some, is_none, List, [], ◌∷◌, ◌++◌, length, refl, sym, ap, ◌∙◌, subst, arith}
+use Rattle.std.proofs.Common.{◌≡◌, ℕ, suc, ◌+◌, ◌&&◌, Bool, true, false, cond, Option, None, Some, is_some, is_none, List, [], ◌∷◌, ◌++◌, length, sym, ap, ◌∙◌, subst, arith}
 use Rattle.session_ends.specs.Closing.{Setup, or_else, closed_of}
 use Rattle.session_ends.specs.Events.{Event, Pumped}
 use Rattle.session_ends.specs.declared.closed.Closed.{Closed}
@@ -7,8 +7,8 @@ use Rattle.spin_server.specs.Served.{Served}
 use Rattle.spin_server.specs.Serving.{Serving, Spin, SpinStands, spin_sends, running_spin, runs, blocks_left, spin_left, pumped}
 use Rattle.world_model.specs.Connections.{IsPipe, IsServed}
 use Rattle.world_model.specs.Ends.{spin_server}
-use Rattle.world_model.specs.State.{Connection, Pipe}
-use Rattle.world_model.specs.Verbs.{put_in, pumps, pumped_times, at_spin_server}
+use Rattle.world_model.specs.State.{Connection}
+use Rattle.world_model.specs.Verbs.{put_in, pumps, pumped_times}
 use Rattle.world_model.proofs.Carrying.{piped_put}
 
 -- some calls were made, and if one more is to be made, so many in all

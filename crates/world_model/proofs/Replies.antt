@@ -1,22 +1,21 @@
 -- What the proxy sends on the gap line are pieces of the venue's feed.
-use Rattle.std.proofs.Common.{◌≡◌, ℕ, zero, suc, ◌+◌, ◌-◌, ◌≤◌, ◌<◌, Bool, true, false, not, ◌||◌, cond, eqb, ltb, nat_lt, List, [], ◌∷◌, ◌++◌, length, take, drop, replicate, min, refl, sym, ap, ◌∙◌, subst, arith, Option, Some, None, is_some, unwrap_or, inl, inr}
+use Rattle.std.proofs.Common.{◌≡◌, ℕ, zero, suc, ◌+◌, ◌-◌, ◌≤◌, ◌<◌, Bool, true, false, not, ◌||◌, cond, eqb, nat_lt, List, [], ◌∷◌, length, take, drop, replicate, refl, sym, ap, ◌∙◌, subst, arith, is_some, inr}
 use Rattle.std.specs.List.{AllByRecursion}
-use Rattle.std.proofs.lemmas.Bool.{cases_Bool, eqb-true}
+use Rattle.std.proofs.lemmas.Bool.{eqb-true}
 use Rattle.std.proofs.lemmas.Bool.Decides.{nat_tests}
-use Rattle.std.proofs.lemmas.List.{length-take, length-drop, append-nil}
+use Rattle.std.proofs.lemmas.List.{length-take}
 use Rattle.pitch_messages.specs.Raw.{IsRaw}
 use Rattle.pitch_messages.specs.declared.session.SessionMessage.{SessionMessage}
 use Rattle.pitch_messages.specs.declared.session.SessionMessage.TheVariants.{Login, LoginReply, GapRequest, GapReply, SpinAvailable, SpinRequest, SpinReply, SpinFinished}
 use Rattle.unit_packets.specs.Packing.{packed}
 use Rattle.unit_packets.proofs.OnePacking.{packing_is_computed}
 use Rattle.pitch_model.specs.History.{Raw}
-use Rattle.pitch_model.specs.Datagrams.{IsPiece}
 use Rattle.pitch_model.specs.Honest.{AreVenues}
 use Rattle.pitch_model.proofs.Datagrams.{packing_pieces, venues_slice}
 use Rattle.gap_store.specs.Look.{View, look, slice_of, oldest}
 use Rattle.gap_store.specs.declared.found.Found.{Found}
 use Rattle.gap_store.specs.declared.found.Found.TheVariants.{Kept, Ahead, NotKept}
-use Rattle.session_ends.specs.Answering.{Answer, answers, followed, no_answer}
+use Rattle.session_ends.specs.Answering.{Answer, answers, no_answer}
 use Rattle.session_ends.specs.Closing.{Setup, cause_of, closed_of, logged_in, logs_in}
 use Rattle.session_ends.specs.Events.{Event}
 use Rattle.session_ends.specs.Saying.{heard_by}
@@ -24,8 +23,8 @@ use Rattle.session_ends.specs.Sending.{new_items}
 use Rattle.session_ends.specs.declared.inbox.Heard.{Heard}
 use Rattle.session_ends.specs.declared.role.Said.{Said}
 use Rattle.session_ends.specs.declared.role.Said.TheVariants.{Skipped, TooShort, Message}
-use Rattle.grp_session.specs.Asking.{status_found, status_here, gap_status, datagrams_of}
-use Rattle.grp_session.specs.Budget.{Limits, Spent, limit_reached}
+use Rattle.grp_session.specs.Asking.{status_found, status_here, gap_status}
+use Rattle.grp_session.specs.Budget.{Limits, Spent}
 use Rattle.grp_session.specs.Serving.{Source, request_answer, message_answer, said_answer, grp_answer, proxy_answer}
 use Rattle.world_model.proofs.Pieces.{Pieces, pieces_append}
 

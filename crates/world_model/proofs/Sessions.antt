@@ -1,20 +1,17 @@
 -- Bytes are carried between the client and the proxy.
-use Rattle.std.proofs.Common.{◌≡◌, ℕ, suc, ◌+◌, ◌-◌, ◌≤◌, ◌<◌, Bool, true, false, cond, ltb, nat_lt, ◌||◌, List, [], ◌∷◌, ◌++◌, length, take, map, refl, sym, ap, ◌∙◌, subst, arith, Option, Some, None, unwrap_or}
-use Rattle.std.specs.List.{AllByRecursion}
-use Rattle.std.proofs.lemmas.Bool.{lt-ltb}
+use Rattle.std.proofs.Common.{◌≡◌, ℕ, ◌≤◌, ◌<◌, Bool, true, false, cond, nat_lt, List, [], ◌∷◌, ◌++◌, length, take, map, refl, sym, ap, ◌∙◌, subst, arith, Option, Some, None, unwrap_or}
 use Rattle.std.proofs.lemmas.Bool.Decides.{nat_tests}
 use Rattle.pitch_messages.specs.Room.{Roomy}
 use Rattle.unit_packets.specs.Packing.{bytes_in}
 use Rattle.pitch_model.specs.Heard.{heard}
-use Rattle.pitch_model.specs.History.{Entry, Raw}
+use Rattle.pitch_model.specs.History.{Entry}
 use Rattle.pitch_model.specs.Honest.{Honest}
 use Rattle.pitch_model.specs.Image.{image}
 use Rattle.pitch_model.specs.declared.item.Item.{Item}
 use Rattle.pitch_model.specs.declared.item.Item.TheVariants as item
-use Rattle.session_ends.specs.Events.{Event, Fed}
-use Rattle.gap_store.specs.Look.{Store, View, store_of}
+use Rattle.session_ends.specs.Events.{Fed}
+use Rattle.gap_store.specs.Look.{Store, store_of}
 use Rattle.grp_session.specs.Budget.{Counts, Counted}
-use Rattle.grp_session.specs.Budget as budget
 use Rattle.grp_session.specs.Serving.{Source, proxy_answer}
 use Rattle.spin_server.specs.Served.{Served}
 use Rattle.client_core.specs.Tracks.{Tracks, Keeps}
@@ -23,13 +20,12 @@ use Rattle.client_links.specs.Linking.{NoLookup, link_tells}
 use Rattle.client_links.specs.Telling.{without_spare}
 use Rattle.spin_path.specs.Paths.{heard_all}
 use Rattle.spin_path.proofs.Moves.{spare_is_unheard}
-use Rattle.world_model.specs.Connections.{IsGrp, HasGrp, HasSpin, CarriedUp}
+use Rattle.world_model.specs.Connections.{IsGrpConnection, HasGrp, HasSpin, CarriedUp}
 use Rattle.world_model.specs.Ends.{grp_server, gap_link}
 use Rattle.world_model.specs.Hearing.{HearsItems, IsTold}
-use Rattle.world_model.specs.Sound.{Sound}
-use Rattle.world_model.specs.Stands.{WorldHas, Keeping, Acts, Marks, Passes}
+use Rattle.world_model.specs.Stands.{WorldHas, Acts, Marks, Passes}
 use Rattle.world_model.specs.State.{State, Connection, Pipe, waiting}
-use Rattle.world_model.specs.Verbs.{done, grp_up_on, grp_down_on, grp_fed, gap_link_fed, grp_settled, carried, wanted, at_link, at_grp_server, source_of, took, with_up, with_down}
+use Rattle.world_model.specs.Verbs.{done, grp_up_on, grp_down_on, grp_fed, gap_link_fed, grp_settled, carried, wanted, at_link, source_of, took, with_up, with_down}
 use Rattle.world_model.specs.Witness.{Witnessed}
 use Rattle.world_model.specs.declared.grp.GrpConnection.{GrpConnection}
 use Rattle.world_model.specs.declared.spin.SpinConnection.{SpinConnection}
@@ -69,7 +65,7 @@ acts_carried w new acted s after pipe bytes has n many n_is few passes calm =
     subst (λ (b : Bool). Acts w new acted s (cond b (done (outcome.TooFew (wanted bytes pipe) (length (waiting pipe))) s) (done (outcome.Carried (wanted bytes pipe)) after))) (sym enough)
     (acts_passed w new acted (outcome.Carried (wanted bytes pipe)) s after passes (calm ∙ ap (λ (m : ℕ). calm_of (outcome.Carried m)) wants))
 
-pub acts_few_up : (w : World) (c : GrpConnection) (acted : Acted) (s : State) (bytes : Option ℕ) (has asked : ℕ) → WorldHas w s → w.grp ≡ Some c → ((unit : ℕ) (k : Connection Source) → IsGrp c unit k → has ≡ length (waiting k.up))
+pub acts_few_up : (w : World) (c : GrpConnection) (acted : Acted) (s : State) (bytes : Option ℕ) (has asked : ℕ) → WorldHas w s → w.grp ≡ Some c → ((unit : ℕ) (k : Connection Source) → IsGrpConnection c unit k → has ≡ length (waiting k.up))
     → asked ≡ unwrap_or bytes has → has < asked → acted ≡ calm_of (outcome.TooFew asked has) → Acts w w acted s (grp_up_on w.unit w.limits bytes s.grp s)
 acts_few_up w c acted s bytes has asked holds some many asked_is less calm = by s.grp (subst (λ (g : Option GrpConnection). HasGrp g w.unit s.grp) some holds.grp)
   where
@@ -77,7 +73,7 @@ acts_few_up w c acted s bytes has asked holds some many asked_is less calm = by 
     by None z = absurd z
     by (Some k) z = acts_too_few w acted s _ k.up bytes has asked holds (many w.unit k z) asked_is less calm
 
-pub acts_few_down : (w : World) (c : GrpConnection) (acted : Acted) (s : State) (bytes : Option ℕ) (has asked : ℕ) → WorldHas w s → w.grp ≡ Some c → ((unit : ℕ) (k : Connection Source) → IsGrp c unit k → has ≡ length (waiting k.down))
+pub acts_few_down : (w : World) (c : GrpConnection) (acted : Acted) (s : State) (bytes : Option ℕ) (has asked : ℕ) → WorldHas w s → w.grp ≡ Some c → ((unit : ℕ) (k : Connection Source) → IsGrpConnection c unit k → has ≡ length (waiting k.down))
     → asked ≡ unwrap_or bytes has → has < asked → acted ≡ calm_of (outcome.TooFew asked has) → Acts w w acted s (grp_down_on bytes s.grp s)
 acts_few_down w c acted s bytes has asked holds stood many asked_is less calm = by s.grp (subst (λ (g : Option GrpConnection). HasGrp g w.unit s.grp) stood holds.grp)
   where
@@ -87,14 +83,14 @@ acts_few_down w c acted s bytes has asked holds stood many asked_is less calm = 
 
 -- ---- To the proxy
 pub acts_up : (w : World) (old new : GrpConnection) (store : Store) (counter : Counts) (replayed : Roomy (Roomy ℕ)) (acted : Acted) (s : State) (bytes : Option ℕ) (has n : ℕ) → WorldHas w s → w.grp ≡ Some old
-    → ((unit : ℕ) (k : Connection Source) → IsGrp old unit k → has ≡ length (waiting k.up)) → n ≡ unwrap_or bytes has → n ≤ has
-    → ((unit : ℕ) (limits : Limits) (s : State) (k : Connection Source) → IsGrp old unit k → w.store ≡ store_of (record { messages = s.accepted; kept = limits.kept })
+    → ((unit : ℕ) (k : Connection Source) → IsGrpConnection old unit k → has ≡ length (waiting k.up)) → n ≡ unwrap_or bytes has → n ≤ has
+    → ((unit : ℕ) (limits : Limits) (s : State) (k : Connection Source) → IsGrpConnection old unit k → w.store ≡ store_of (record { messages = s.accepted; kept = limits.kept })
     → w.budget.limits ≡ record { second = limits.second; minute = limits.minute; day = limits.day } → Counted w.budget s.spent
     → CarriedUp unit limits s n k new w.store store w.budget counter (bytes_in w.replayed.items) (bytes_in replayed.items)) → acted ≡ calm_of (outcome.Carried n)
     → Acts w (record w { grp = Some new; store = store; budget = counter; replayed = replayed }) acted s (grp_up_on w.unit w.limits bytes s.grp s)
 acts_up w old new store counter replayed acted s bytes has n holds stood many n_is few carry calm = by s.grp (subst (λ (g : Option GrpConnection). HasGrp g w.unit s.grp) stood holds.grp)
   where
-    passes : (k : Connection Source) → IsGrp old w.unit k → Passes w (record w { grp = Some new; store = store; budget = counter; replayed = replayed }) s (grp_fed w.unit w.limits (take n (waiting k.up)) (with_up (took n k.up) k) s)
+    passes : (k : Connection Source) → IsGrpConnection old w.unit k → Passes w (record w { grp = Some new; store = store; budget = counter; replayed = replayed }) s (grp_fed w.unit w.limits (take n (waiting k.up)) (with_up (took n k.up) k) s)
     passes k z =
         let up = carry w.unit w.limits s k z holds.kept.store_is holds.kept.limits_are holds.kept.counted in
         let piece : List ℕ = take n (waiting k.up) in
@@ -172,15 +168,15 @@ passes_then a b c s t u one two = record {
 }
 
 pub acts_down : (w : World) (old new : GrpConnection) (client : UnitClient) (items : List Item) (last : World) (acted : Acted) (s : State) (bytes : Option ℕ) (has n : ℕ) → WorldHas w s → w.grp ≡ Some old
-    → ((unit : ℕ) (k : Connection Source) → IsGrp old unit k → has ≡ length (waiting k.down)) → n ≡ unwrap_or bytes has → n ≤ has
-    → ((unit : ℕ) (k : Connection Source) → IsGrp old unit k → IsGrp new unit (at_link gap_link (Fed (take n (waiting k.down)) NoLookup) (with_down (took n k.down) k)))
-    → ((unit : ℕ) (k : Connection Source) → IsGrp old unit k → map without_spare items ≡ link_tells gap_link k.link (take n (waiting k.down)))
+    → ((unit : ℕ) (k : Connection Source) → IsGrpConnection old unit k → has ≡ length (waiting k.down)) → n ≡ unwrap_or bytes has → n ≤ has
+    → ((unit : ℕ) (k : Connection Source) → IsGrpConnection old unit k → IsGrpConnection new unit (at_link gap_link (Fed (take n (waiting k.down)) NoLookup) (with_down (took n k.down) k)))
+    → ((unit : ℕ) (k : Connection Source) → IsGrpConnection old unit k → map without_spare items ≡ link_tells gap_link k.link (take n (waiting k.down)))
     → HearsItems w.client client items
     → ((t : State) → WorldHas (record w { grp = Some new; client = client }) t → Passes (record w { grp = Some new; client = client }) last t (grp_settled t))
     → acted ≡ calm_of (outcome.Carried n) → Acts w last acted s (grp_down_on bytes s.grp s)
 acts_down w old new client items last acted s bytes has n holds stood many n_is few link tells hears settles calm = by s.grp (subst (λ (g : Option GrpConnection). HasGrp g w.unit s.grp) stood holds.grp)
   where
-    passes : (k : Connection Source) → IsGrp old w.unit k → Passes w last s (gap_link_fed (take n (waiting k.down)) (with_down (took n k.down) k) s)
+    passes : (k : Connection Source) → IsGrpConnection old w.unit k → Passes w last s (gap_link_fed (take n (waiting k.down)) (with_down (took n k.down) k) s)
     passes k z =
         let piece : List ℕ = take n (waiting k.down) in
         let told : List Item = link_tells gap_link k.link piece in

@@ -1,5 +1,5 @@
 -- What the verbs of the spin connection do to a world.
-use Rattle.std.proofs.Common.{◌≡◌, ℕ, zero, suc, ◌+◌, ◌≤◌, ◌<◌, Bool, true, false, List, [], ◌∷◌, ◌++◌, length, take, map, replicate, Option, Some, None, unwrap_or, refl, sym, ap, ◌∙◌, subst, arith}
+use Rattle.std.proofs.Common.{◌≡◌, ℕ, zero, suc, ◌≤◌, ◌<◌, Bool, true, false, List, [], ◌∷◌, ◌++◌, length, take, map, replicate, Option, Some, None, unwrap_or, refl, sym, ap, ◌∙◌, subst, arith}
 use Rattle.std.specs.List.{AllByRecursion}
 use Rattle.std.specs.Option.{option_map}
 use Rattle.std.proofs.lemmas.List.{append-nil}
@@ -12,7 +12,7 @@ use Rattle.pitch_model.specs.Image.{image}
 use Rattle.pitch_model.proofs.Images.{image_book}
 use Rattle.pitch_model.specs.declared.item.Item.{Item}
 use Rattle.session_ends.specs.Answering.{Rises}
-use Rattle.session_ends.specs.Events.{Event, Fed, Told, Ticked}
+use Rattle.session_ends.specs.Events.{Event, Fed, Told}
 use Rattle.session_ends.specs.Sending.{new_items}
 use Rattle.session_ends.specs.declared.role.Role.TheVariants as roles
 use Rattle.spin_server.specs.Served.{Served, ServedLater}
@@ -26,12 +26,12 @@ use Rattle.client_links.specs.Linking.{NoLookup, link_tells, login_bytes}
 use Rattle.client_links.specs.Telling.{without_spare}
 use Rattle.spin_path.specs.Paths.{IsShown, MayServe, heard_all}
 use Rattle.spin_path.proofs.Pumps.{views_are_shown}
-use Rattle.world_model.specs.Connections.{IsSpin, HasSpin, KeepsShelf}
+use Rattle.world_model.specs.Connections.{IsSpinConnection, HasSpin, KeepsShelf}
 use Rattle.world_model.specs.Ends.{the_account, spin_link}
 use Rattle.world_model.specs.Hearing.{HearsItems}
 use Rattle.world_model.specs.Stands.{WorldHas, Acts, Passes}
-use Rattle.world_model.specs.State.{State, Connection, Pipe, waiting}
-use Rattle.world_model.specs.Verbs.{done, spin_connected, connection, cut_on, spin_cut, spin_cut_where, spin_settled, spin_up_on, spin_down_on, spin_fed, spin_link_fed, spin_server_has, advertised, carried, wanted, at_link, at_spin_server, views_of, sent_whole, pumps, took, with_up, with_down}
+use Rattle.world_model.specs.State.{State, Connection, waiting}
+use Rattle.world_model.specs.Verbs.{spin_connected, connection, cut_on, spin_cut, spin_cut_where, spin_settled, spin_up_on, spin_down_on, spin_fed, spin_link_fed, advertised, wanted, at_link, at_spin_server, views_of, sent_whole, pumps, took, with_up, with_down}
 use Rattle.world_model.specs.Witness.{Witnessed}
 use Rattle.world_model.specs.declared.outcome.Outcome.TheVariants as outcome
 use Rattle.world_model.specs.declared.spin.SpinConnection.{SpinConnection}
@@ -72,7 +72,7 @@ passes_spin_still w s b is has = subst (λ (x : Bool). Passes w w s (spin_cut_wh
 
 -- ---- Open and cut
 
-pub acts_spin_connected : (w : World) (c : SpinConnection) (acted : Acted) (s : State) → WorldHas w s → w.spin ≡ None → IsSpin c w.unit (connection (login_bytes roles.SpinLink w.unit the_account)) → acted ≡ calm_of outcome.Opened
+pub acts_spin_connected : (w : World) (c : SpinConnection) (acted : Acted) (s : State) → WorldHas w s → w.spin ≡ None → IsSpinConnection c w.unit (connection (login_bytes roles.SpinLink w.unit the_account)) → acted ≡ calm_of outcome.Opened
     → Acts w (record w { spin = Some c }) acted s (spin_connected w.unit s.spin s)
 acts_spin_connected w c acted s has none is calm = by s.spin (subst (λ (g : Option SpinConnection). HasSpin g w.unit s.spin) none has.spin) has.sound.witness
   where
@@ -117,7 +117,7 @@ acts_spin_unopened_down w acted s bytes has none calm = by s.spin (subst (λ (g 
     by None z = acts_passed w w acted outcome.NotOpen s s (passes_none w s has) calm
     by (Some k) z = absurd z
 
-pub acts_spin_few_up : (w : World) (c : SpinConnection) (acted : Acted) (s : State) (bytes : Option ℕ) (has asked : ℕ) → WorldHas w s → w.spin ≡ Some c → ((unit : ℕ) (k : Connection (List Served)) → IsSpin c unit k → has ≡ length (waiting k.up))
+pub acts_spin_few_up : (w : World) (c : SpinConnection) (acted : Acted) (s : State) (bytes : Option ℕ) (has asked : ℕ) → WorldHas w s → w.spin ≡ Some c → ((unit : ℕ) (k : Connection (List Served)) → IsSpinConnection c unit k → has ≡ length (waiting k.up))
     → asked ≡ unwrap_or bytes has → has < asked → acted ≡ calm_of (outcome.TooFew asked has) → Acts w w acted s (spin_up_on w.unit bytes s.spin s)
 acts_spin_few_up w c acted s bytes has asked holds some many asked_is less calm = by s.spin (subst (λ (g : Option SpinConnection). HasSpin g w.unit s.spin) some holds.spin)
   where
@@ -125,7 +125,7 @@ acts_spin_few_up w c acted s bytes has asked holds some many asked_is less calm 
     by None z = absurd z
     by (Some k) z = acts_too_few w acted s _ k.up bytes has asked holds (many w.unit k z) asked_is less calm
 
-pub acts_spin_few_down : (w : World) (c : SpinConnection) (acted : Acted) (s : State) (bytes : Option ℕ) (has asked : ℕ) → WorldHas w s → w.spin ≡ Some c → ((unit : ℕ) (k : Connection (List Served)) → IsSpin c unit k → has ≡ length (waiting k.down))
+pub acts_spin_few_down : (w : World) (c : SpinConnection) (acted : Acted) (s : State) (bytes : Option ℕ) (has asked : ℕ) → WorldHas w s → w.spin ≡ Some c → ((unit : ℕ) (k : Connection (List Served)) → IsSpinConnection c unit k → has ≡ length (waiting k.down))
     → asked ≡ unwrap_or bytes has → has < asked → acted ≡ calm_of (outcome.TooFew asked has) → Acts w w acted s (spin_down_on w.unit bytes s.spin s)
 acts_spin_few_down w c acted s bytes has asked holds some many asked_is less calm = by s.spin (subst (λ (g : Option SpinConnection). HasSpin g w.unit s.spin) some holds.spin)
   where
@@ -164,13 +164,13 @@ with_shelf w shelf s sequences has is = record {
 }
 
 pub acts_spin_up : (w : World) (old new : SpinConnection) (shelf : Shelf) (acted : Acted) (s : State) (bytes : Option ℕ) (has n : ℕ) → WorldHas w s → w.spin ≡ Some old
-    → ((unit : ℕ) (k : Connection (List Served)) → IsSpin old unit k → has ≡ length (waiting k.up)) → n ≡ unwrap_or bytes has → n ≤ has
-    → ((unit : ℕ) (s : State) (k : Connection (List Served)) → IsSpin old unit k → KeepsShelf w.shelf s.accepted s.advertised
-    → IsSpin new unit (sent_whole unit (at_spin_server unit (Fed (take n (waiting k.up)) (views_of s k.server (take n (waiting k.up)))) (with_up (took n k.up) k))))
+    → ((unit : ℕ) (k : Connection (List Served)) → IsSpinConnection old unit k → has ≡ length (waiting k.up)) → n ≡ unwrap_or bytes has → n ≤ has
+    → ((unit : ℕ) (s : State) (k : Connection (List Served)) → IsSpinConnection old unit k → KeepsShelf w.shelf s.accepted s.advertised
+    → IsSpinConnection new unit (sent_whole unit (at_spin_server unit (Fed (take n (waiting k.up)) (views_of s k.server (take n (waiting k.up)))) (with_up (took n k.up) k))))
     → shelf ≡ w.shelf → acted ≡ calm_of (outcome.Carried n) → Acts w (record w { spin = Some new; shelf = shelf }) acted s (spin_up_on w.unit bytes s.spin s)
 acts_spin_up w old new shelf acted s bytes has n holds some many n_is few carry same calm = by s.spin (subst (λ (g : Option SpinConnection). HasSpin g w.unit s.spin) some holds.spin) holds.sound.witness
   where
-    passes : (k : Connection (List Served)) → IsSpin old w.unit k → Witnessed w.unit s.accepted (Some k) s.heard → Passes w (record w { spin = Some new; shelf = shelf }) s (spin_fed w.unit (take n (waiting k.up)) (with_up (took n k.up) k) s)
+    passes : (k : Connection (List Served)) → IsSpinConnection old w.unit k → Witnessed w.unit s.accepted (Some k) s.heard → Passes w (record w { spin = Some new; shelf = shelf }) s (spin_fed w.unit (take n (waiting k.up)) (with_up (took n k.up) k) s)
     passes k z came =
         let piece : List ℕ = take n (waiting k.up) in
         let behind : Connection (List Served) = with_up (took n k.up) k in
@@ -197,16 +197,16 @@ acts_spin_up w old new shelf acted s bytes has n holds some many n_is few carry 
 
 -- ---- To the client
 pub acts_spin_down : (w : World) (old new : SpinConnection) (client : UnitClient) (items : List Item) (last : World) (acted : Acted) (s : State) (bytes : Option ℕ) (has n : ℕ) → WorldHas w s → w.spin ≡ Some old
-    → ((unit : ℕ) (k : Connection (List Served)) → IsSpin old unit k → has ≡ length (waiting k.down)) → n ≡ unwrap_or bytes has → n ≤ has
-    → ((unit : ℕ) (k : Connection (List Served)) → IsSpin old unit k → IsSpin new unit (at_link (spin_link unit) (Fed (take n (waiting k.down)) NoLookup) (with_down (took n k.down) k)))
-    → ((unit : ℕ) (k : Connection (List Served)) → IsSpin old unit k → map without_spare items ≡ link_tells (spin_link unit) k.link (take n (waiting k.down)))
+    → ((unit : ℕ) (k : Connection (List Served)) → IsSpinConnection old unit k → has ≡ length (waiting k.down)) → n ≡ unwrap_or bytes has → n ≤ has
+    → ((unit : ℕ) (k : Connection (List Served)) → IsSpinConnection old unit k → IsSpinConnection new unit (at_link (spin_link unit) (Fed (take n (waiting k.down)) NoLookup) (with_down (took n k.down) k)))
+    → ((unit : ℕ) (k : Connection (List Served)) → IsSpinConnection old unit k → map without_spare items ≡ link_tells (spin_link unit) k.link (take n (waiting k.down)))
     → HearsItems w.client client items
     → ((t : State) → WorldHas (record w { client = client; spin = Some new }) t → Passes (record w { client = client; spin = Some new }) last t (spin_settled w.unit t))
     → acted ≡ calm_of (outcome.Carried n) → Acts w last acted s (spin_down_on w.unit bytes s.spin s)
 acts_spin_down w old new client items last acted s bytes has n holds some many n_is few link tells hears settles calm =
     by s.spin (subst (λ (g : Option SpinConnection). HasSpin g w.unit s.spin) some holds.spin) holds.sound.witness
   where
-    passes : (k : Connection (List Served)) → IsSpin old w.unit k → Witnessed w.unit s.accepted (Some k) s.heard → Passes w last s (spin_link_fed w.unit (take n (waiting k.down)) (with_down (took n k.down) k) s)
+    passes : (k : Connection (List Served)) → IsSpinConnection old w.unit k → Witnessed w.unit s.accepted (Some k) s.heard → Passes w last s (spin_link_fed w.unit (take n (waiting k.down)) (with_down (took n k.down) k) s)
     passes k z came =
         let piece : List ℕ = take n (waiting k.down) in
         let told : List Item = link_tells (spin_link w.unit) k.link piece in

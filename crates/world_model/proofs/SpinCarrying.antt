@@ -1,7 +1,7 @@
 -- What carrying bytes does to a connection with the spin server.
-use Rattle.std.proofs.Common.{◌≡◌, ℕ, zero, suc, ◌+◌, ◌-◌, ◌≤◌, Bool, true, false, Option, Some, None, is_some, List, [], ◌∷◌, ◌++◌, length, take, drop, replicate, refl, sym, ap, ◌∙◌, subst, arith, length-append}
+use Rattle.std.proofs.Common.{◌≡◌, ℕ, zero, suc, ◌≤◌, Bool, false, Option, Some, None, is_some, List, [], ◌∷◌, ◌++◌, length, take, drop, replicate, refl, sym, ap, ◌∙◌, subst}
 use Rattle.std.specs.Option.{option_map}
-use Rattle.pitch_model.specs.Advertising.{Operation, accepted_by, advertised_by, last_ten}
+use Rattle.pitch_model.specs.Advertising.{advertised_by, last_ten}
 use Rattle.pitch_model.specs.History.{Raw}
 use Rattle.session_ends.specs.Answering.{Rises}
 use Rattle.session_ends.specs.Closing.{Setup, closed_of}
@@ -12,12 +12,12 @@ use Rattle.session_ends.proofs.Runs.{rises_to, rises_nowhere}
 use Rattle.spin_server.specs.Served.{Served, ServedLater}
 use Rattle.spin_server.specs.Serving.{Serving, SpinStands, SpinFeeds, spin_sends}
 use Rattle.spin_server.specs.Shelves.{Shelf}
-use Rattle.spin_server.specs.Stands.{ShelfStands, ShelfShows, seen_of}
+use Rattle.spin_server.specs.Stands.{ShelfShows, seen_of}
 use Rattle.spin_server.proofs.Serves.{later_order}
 use Rattle.spin_server.proofs.Shelving.{one_served, later_both, shelf_seen}
 use Rattle.client_links.specs.Linking.{Lookups, LinkStands}
-use Rattle.world_model.specs.Connections.{IsPipe, IsServed, IsSpin, HasSpin, KeepsShelf}
-use Rattle.world_model.specs.Ends.{spin_server, spin_link}
+use Rattle.world_model.specs.Connections.{IsPipe, IsServed, IsSpinConnection, HasSpin, KeepsShelf}
+use Rattle.world_model.specs.Ends.{spin_server}
 use Rattle.world_model.specs.State.{State, Connection, Pipe, waiting}
 use Rattle.world_model.specs.Verbs.{put_in, took, with_up, at_spin_server, pumped_times, pumps, sent_whole, views_of, shut}
 use Rattle.world_model.specs.declared.spin.SpinConnection.{SpinConnection}
@@ -59,6 +59,19 @@ is_fed unit accepted advertised k up piece old new shelf bytes bytes' is made st
       down = subst (λ (b : List ℕ). IsPipe b (put_in (spin_sends (spin_server unit) (Fed piece views) k.server) k.down)) (sym said) (piped_put bytes _ k.down down);
     }
 
+-- what the server said is put behind what waited
+pub feeds_behind : (es : List (Event (List Served))) (piece : List ℕ) (old fed : Serving) (view : Served) (shown : Served → Type 0) (none said bytes bytes' : List ℕ) → none ≡ [] → bytes' ≡ bytes ++ said → SpinFeeds es piece old fed view shown none said
+    → SpinFeeds es piece old fed view shown bytes bytes'
+feeds_behind es piece old fed view shown none said bytes bytes' nothing put f = record {
+  views = f.views;
+  each = f.each;
+  now = f.now;
+  rises = f.rises;
+  shows = f.shows;
+  stands = f.stands;
+  replied = put ∙ ap (λ (b : List ℕ). bytes ++ b) (f.replied ∙ ap (λ (b : List ℕ). b ++ spin_sends old.end.setup (Fed piece f.views) es) nothing);
+}
+
 -- calls for the next block change nothing else
 pumped_up : (unit n : ℕ) (c : Connection (List Served)) → (pumped_times unit n c).up ≡ c.up
 pumped_up unit zero c = refl
@@ -70,27 +83,27 @@ pumped_link unit (suc n) c = pumped_link unit n c
 
 -- ---- To the server
 pub carried_up : (old new : SpinConnection) (unit : ℕ) (s : State) (k : Connection (List Served)) (n : ℕ) (piece : List ℕ) (shelf shelf' : Shelf) (fed : Serving) (bytes : List ℕ)
-    → IsSpin old unit k → KeepsShelf shelf s.accepted s.advertised → n ≤ length old.up.items → piece ≡ take n old.up.items → new.up.items ≡ drop n old.up.items → new.link ≡ old.link → fed.end.setup ≡ old.server.end.setup → shelf' ≡ shelf
-    → ((es : List (Event (List Served))) (view : Served) → SpinStands old.server es → ShelfShows shelf view → SpinFeeds es piece old.server fed view (λ v. ShelfShows shelf' v) old.down.items bytes)
-    → ((unit : ℕ) (c : Connection (List Served)) → IsServed fed bytes unit c → IsServed new.server new.down.items unit (pumped_times unit (pumps unit c.server) c))
-    → IsSpin new unit (sent_whole unit (at_spin_server unit (Fed (take n (waiting k.up)) (views_of s k.server (take n (waiting k.up)))) (with_up (took n k.up) k)))
+    → IsSpinConnection old unit k → KeepsShelf shelf s.accepted s.advertised → n ≤ length old.up → piece ≡ take n old.up → new.up ≡ drop n old.up → new.link ≡ old.link → fed.end.setup ≡ old.server.end.setup → shelf' ≡ shelf
+    → ((es : List (Event (List Served))) (view : Served) → SpinStands old.server es → ShelfShows shelf view → SpinFeeds es piece old.server fed view (λ v. ShelfShows shelf' v) old.down bytes)
+    → ((unit : ℕ) (c : Connection (List Served)) → IsServed fed bytes unit c → IsServed new.server new.down unit (pumped_times unit (pumps unit c.server) c))
+    → IsSpinConnection new unit (sent_whole unit (at_spin_server unit (Fed (take n (waiting k.up)) (views_of s k.server (take n (waiting k.up)))) (with_up (took n k.up) k)))
 carried_up old new unit s k n piece shelf shelf' fed bytes is keeps few piece_is rest link setup same feeds pump =
     let view : Served = spin_view s.accepted s.advertised in
     let P : List ℕ = take n (waiting k.up) in
     let c : Connection (List Served) = at_spin_server unit (Fed P (replicate (length (new_items k.server P)) view)) (with_up (took n k.up) k) in
     let at : piece ≡ P = piece_is ∙ ap (take n) is.up.are in
-    let first : SpinFeeds k.server piece old.server fed view (λ v. ShelfShows shelf' v) old.down.items bytes = feeds k.server view is.server (shows_view shelf s.accepted s.advertised keeps) in
-    let there : SpinFeeds k.server P old.server fed view (λ v. ShelfShows shelf v) old.down.items bytes =
-    subst (λ (p : List ℕ). SpinFeeds k.server p old.server fed view (λ v. ShelfShows shelf v) old.down.items bytes) at
-    (subst (λ (x : Shelf). SpinFeeds k.server piece old.server fed view (λ v. ShelfShows x v) old.down.items bytes) same first) in
-    let served : IsServed new.server new.down.items unit (pumped_times unit (pumps unit c.server) c) =
-    pump unit c (is_fed unit s.accepted s.advertised k (took n k.up) P old.server fed shelf old.down.items bytes keeps is.server_made setup is.down there) in
+    let first : SpinFeeds k.server piece old.server fed view (λ v. ShelfShows shelf' v) old.down bytes = feeds k.server view is.server (shows_view shelf s.accepted s.advertised keeps) in
+    let there : SpinFeeds k.server P old.server fed view (λ v. ShelfShows shelf v) old.down bytes =
+    subst (λ (p : List ℕ). SpinFeeds k.server p old.server fed view (λ v. ShelfShows shelf v) old.down bytes) at
+    (subst (λ (x : Shelf). SpinFeeds k.server piece old.server fed view (λ v. ShelfShows x v) old.down bytes) same first) in
+    let served : IsServed new.server new.down unit (pumped_times unit (pumps unit c.server) c) =
+    pump unit c (is_fed unit s.accepted s.advertised k (took n k.up) P old.server fed shelf old.down bytes keeps is.server_made setup is.down there) in
     record {
       server_made = served.made;
       server = served.stands;
       link_made = ap (λ (e : Ending). e.setup) link ∙ is.link_made;
       link = subst (λ (es : List (Event Lookups)). LinkStands new.link es) (sym (pumped_link unit (pumps unit c.server) c)) (subst (λ (e : Ending). LinkStands e k.link) (sym link) is.link);
-      up = subst (λ (p : Pipe). IsPipe new.up.items p) (sym (pumped_up unit (pumps unit c.server) c)) (subst (λ (b : List ℕ). IsPipe b (took n k.up)) (sym rest) (piped_taken old.up.items n k.up is.up few));
+      up = subst (λ (p : Pipe). IsPipe new.up p) (sym (pumped_up unit (pumps unit c.server) c)) (subst (λ (b : List ℕ). IsPipe b (took n k.up)) (sym rest) (piped_taken old.up n k.up is.up few));
       down = served.down;
     }
 
@@ -99,7 +112,7 @@ pub on_none : (unit : ℕ) (g : Option (Connection (List Served))) (f : Connecti
 on_none unit None f is = tt
 on_none unit (Some k) f is = absurd is
 
-pub on_some : (old new : SpinConnection) (unit : ℕ) (g : Option (Connection (List Served))) (f : Connection (List Served) → Connection (List Served)) → ((k : Connection (List Served)) → IsSpin old unit k → IsSpin new unit (f k)) → HasSpin (Some old) unit g
+pub on_some : (old new : SpinConnection) (unit : ℕ) (g : Option (Connection (List Served))) (f : Connection (List Served) → Connection (List Served)) → ((k : Connection (List Served)) → IsSpinConnection old unit k → IsSpinConnection new unit (f k)) → HasSpin (Some old) unit g
     → HasSpin (Some new) unit (option_map f g)
 on_some old new unit None f does is = absurd is
 on_some old new unit (Some k) f does is = does k is
@@ -108,6 +121,6 @@ pub shut_none : (unit : ℕ) (g : Option (Connection (List Served))) (s : Setup)
 shut_none unit None s is = refl
 shut_none unit (Some k) s is = absurd is
 
-pub shut_some : (c : SpinConnection) (unit : ℕ) (g : Option (Connection (List Served))) (s : Setup) (b : Bool) → ((k : Connection (List Served)) → IsSpin c unit k → b ≡ is_some (closed_of s k.link)) → HasSpin (Some c) unit g → b ≡ shut s g
+pub shut_some : (c : SpinConnection) (unit : ℕ) (g : Option (Connection (List Served))) (s : Setup) (b : Bool) → ((k : Connection (List Served)) → IsSpinConnection c unit k → b ≡ is_some (closed_of s k.link)) → HasSpin (Some c) unit g → b ≡ shut s g
 shut_some c unit None s b does is = absurd is
 shut_some c unit (Some k) s b does is = does k is

@@ -1,30 +1,20 @@
 -- What happens at a spin connection adds moves to the witness of the client's history.
-use Rattle.std.proofs.Common.{◌≡◌, ℕ, zero, suc, ◌+◌, ◌-◌, ◌≤◌, ◌<◌, eqb, Bool, false, List, [], ◌∷◌, ◌++◌, length, take, drop, replicate, Option, None, Some, refl, sym, ap, ◌∙◌, subst, arith, append_assoc, length-append}
-use Rattle.std.specs.List.{AllByRecursion}
-use Rattle.std.proofs.lemmas.Bool.{cond-false, ne_eqb}
-use Rattle.std.proofs.lemmas.List.{append-nil, take-append-le, take-append-drop, length-drop}
+use Rattle.std.proofs.Common.{◌≡◌, ℕ, zero, suc, ◌+◌, ◌≤◌, ◌<◌, List, [], ◌∷◌, ◌++◌, length, take, drop, Option, None, Some, refl, sym, ap, ◌∙◌, subst, arith, append_assoc, length-append}
+use Rattle.std.proofs.lemmas.List.{take-append-le, take-append-drop, length-drop}
 use Rattle.std.proofs.Math.Seq.{take-add}
-use Rattle.unit_packets.specs.Blocks.{Block}
-use Rattle.unit_packets.specs.Cutting.{blocks_of}
 use Rattle.pitch_messages.specs.declared.session.SessionMessage.{SessionMessage}
 use Rattle.pitch_model.specs.declared.item.Item.{Item}
-use Rattle.pitch_model.specs.Datagrams.{heard_blocks, IsVenueBlock, IsPiece}
-use Rattle.pitch_model.specs.Heard.{heard_block, heard_messages, heard_sequenced}
-use Rattle.pitch_model.specs.History.{Entry, Raw, Message, SpinDown}
-use Rattle.pitch_model.specs.Honest.{AreVenues, Honest}
-use Rattle.pitch_model.specs.Image.{image}
-use Rattle.pitch_model.proofs.Honesty.{venues_first, venues_rest}
+use Rattle.pitch_model.specs.History.{Entry, Raw, SpinDown}
 use Rattle.session_ends.specs.Closing.{Setup}
-use Rattle.session_ends.specs.Events.{Event, Fed, Ticked, Asked, Pumped, Told, fed_of}
+use Rattle.session_ends.specs.Events.{Event, Fed, Ticked, Asked, Pumped, fed_of}
 use Rattle.spin_server.specs.Served.{Served}
 use Rattle.client_links.specs.Linking.{Lookups, NoLookup, link_tells}
-use Rattle.spin_path.specs.Paths.{Path, Move, Serves, Links, Takes, Cuts, Hears, path_of, moved, all_said, says_at, heard_all, takes_all, IsSpinServer, MayServe, MayLink, MayHear, AreMoves, IsFeed, HasWholeImages}
-use Rattle.spin_path.proofs.Moves.{moves_stay, all_are_taken}
-use Rattle.spin_path.proofs.Whole.{images_are_whole}
+use Rattle.spin_path.specs.Paths.{Path, Move, Serves, Links, Cuts, path_of, moved, all_said, says_at, heard_all, takes_all, MayServe, MayLink}
+use Rattle.spin_path.proofs.Moves.{all_are_taken}
 use Rattle.world_model.specs.Ends.{spin_server, spin_link}
 use Rattle.world_model.specs.State.{Connection, Pipe, waiting}
-use Rattle.world_model.specs.Verbs.{put_in, took, connection, at_server, at_link, with_up, with_down, at_spin_server, pumped_times}
-use Rattle.world_model.specs.Witness.{served_of, linked_of, IsDownPipe, HasDownPipe, Witnessed}
+use Rattle.world_model.specs.Verbs.{took, connection, at_link, with_up, with_down, at_spin_server, pumped_times}
+use Rattle.world_model.specs.Witness.{Witnessed}
 
 -- ---- A connection begins and ends
 pub opens : (unit : ℕ) (V : List Raw) (E : List Entry) (login : List ℕ) → Witnessed unit V None E → Witnessed unit V (Some (connection login)) E

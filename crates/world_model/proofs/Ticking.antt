@@ -1,5 +1,5 @@
 -- A second passes: the servers tick, then the client's ends of the connections, then the client.
-use Rattle.std.proofs.Common.{◌≡◌, ℕ, false, List, ◌∷◌, Option, Some, None, refl, sym, ap, ◌∙◌, subst}
+use Rattle.std.proofs.Common.{◌≡◌, ℕ, List, ◌∷◌, Option, Some, None, refl, ap, ◌∙◌, subst}
 use Rattle.std.specs.Option.{option_map}
 use Rattle.pitch_model.specs.Asking.{ask_of}
 use Rattle.pitch_model.specs.declared.ask.Ask.{Ask}
@@ -7,7 +7,7 @@ use Rattle.pitch_model.specs.declared.ask.Ask.TheVariants as asks
 use Rattle.pitch_messages.specs.declared.session.SessionMessage.TheVariants.{SpinRequest}
 use Rattle.pitch_model.specs.History.{Entry, Raw}
 use Rattle.pitch_model.specs.History as entry
-use Rattle.session_ends.specs.Events.{Ticked, Asked}
+use Rattle.session_ends.specs.Events.{Ticked}
 use Rattle.grp_session.specs.Budget.{Counts, Counted, Spent}
 use Rattle.grp_session.specs.Budget as budget
 use Rattle.grp_session.specs.Serving.{Source}
@@ -16,9 +16,9 @@ use Rattle.client_core.specs.Tracks.{Tracks, Keeps}
 use Rattle.client_core.specs.declared.client.UnitClient.{UnitClient}
 use Rattle.world_model.specs.Connections.{HasGrp, HasSpin}
 use Rattle.world_model.specs.Ends.{gap_link, spin_link}
-use Rattle.world_model.specs.Stands.{WorldHas, Acts, Passes, ClientTicks, Marks}
+use Rattle.world_model.specs.Stands.{WorldHas, Acts, Passes, ClientTicks}
 use Rattle.world_model.specs.State.{State, Connection}
-use Rattle.world_model.specs.Verbs.{done, ticked, tick_outcome, client_ticks, asked_through, asked_grp, asked_spin, budget_ticks, grp_server_ticks, spin_server_has, gap_link_ticks, spin_link_ticks, grp_settled, spin_settled, at_grp_server, at_spin_server, at_link}
+use Rattle.world_model.specs.Verbs.{done, ticked, tick_outcome, asked_through, asked_grp, asked_spin, budget_ticks, grp_server_ticks, spin_server_has, gap_link_ticks, spin_link_ticks, grp_settled, spin_settled, at_grp_server, at_spin_server, at_link}
 use Rattle.world_model.specs.Witness.{Witnessed}
 use Rattle.world_model.specs.declared.grp.GrpConnection.{GrpConnection}
 use Rattle.world_model.specs.declared.limits.Limits.{Limits}

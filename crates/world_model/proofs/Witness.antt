@@ -1,14 +1,12 @@
 -- Histories that came about by moves.
-use Rattle.std.proofs.Common.{◌≡◌, ◌≢◌, ℕ, zero, suc, ◌+◌, ◌≤◌, ◌<◌, eqb, cond, List, [], ◌∷◌, ◌++◌, length, refl, sym, ap, ◌∙◌, subst, arith, Option, Some, None, slice_get}
+use Rattle.std.proofs.Common.{◌≡◌, ℕ, suc, ◌+◌, ◌≤◌, ◌<◌, eqb, List, [], ◌∷◌, ◌++◌, length, refl, sym, ap, subst, arith, Option, Some, None}
 use Rattle.std.specs.List.{AllByRecursion}
 use Rattle.std.proofs.lemmas.Bool.{cond-false, ne_eqb}
 use Rattle.unit_packets.specs.Blocks.{Block}
-use Rattle.unit_packets.specs.Cutting.{blocks_of}
-use Rattle.pitch_model.specs.Datagrams.{IsVenueBlock, IsPiece, heard_blocks}
+use Rattle.pitch_model.specs.Datagrams.{IsVenueBlock, heard_blocks}
 use Rattle.pitch_model.specs.Heard.{heard, heard_block, heard_messages, heard_sequenced, is_accepted}
 use Rattle.pitch_model.specs.History.{Entry, Raw, Message, Next, GrpUp, GapReply}
-use Rattle.pitch_model.specs.Honest.{AreVenues, Honest, message_at}
-use Rattle.pitch_model.specs.Image.{image}
+use Rattle.pitch_model.specs.Honest.{AreVenues, message_at}
 use Rattle.spin_server.specs.Served.{Served}
 use Rattle.spin_path.specs.Paths.{Move, AreMoves, Hears, MayHear, IsFeed, HasWholeImages, moved, heard_all}
 use Rattle.session_ends.specs.Closing.{Setup}

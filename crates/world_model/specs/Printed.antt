@@ -1,8 +1,7 @@
 -- What is printed for a line of a schedule.
-use Rattle.std.specs.Prelude.{◌≡◌, ℕ, zero, suc, ◌+◌, ◌-◌, Bool, true, false, ◌||◌, List, [], ◌∷◌, ◌++◌, length, take, codes, decimal, Option, None, Some, if◌then◌else◌}
+use Rattle.std.specs.Prelude.{ℕ, zero, suc, ◌-◌, Bool, false, ◌||◌, List, [], ◌∷◌, ◌++◌, length, codes, decimal, Option, None, Some}
 use Rattle.pitch_fields.specs.Price.{price_digits}
 use Rattle.pitch_fields.specs.Name.{name_shown}
-use Rattle.pitch_io.specs.declared.line.Line.{Line}
 use Rattle.pitch_io.specs.declared.line.Line.TheVariants.{A, B, Gap}
 use Rattle.pitch_text.specs.declared.verb.Verb.{Verb}
 use Rattle.pitch_text.specs.declared.verb.Verb.TheVariants as verbs
@@ -18,7 +17,7 @@ use Rattle.venue_core.specs.Causes.{refusal_text}
 use Rattle.line_arbiter.specs.Noted.{line_count}
 use Rattle.line_arbiter.specs.declared.count.LineCount.{LineCount}
 use Rattle.world_model.specs.State.{State}
-use Rattle.world_model.specs.Verbs.{Done, does, client_book}
+use Rattle.world_model.specs.Verbs.{does, client_book}
 use Rattle.world_model.specs.declared.limits.Limits.{Limits}
 use Rattle.world_model.specs.declared.outcome.Outcome.{Outcome}
 use Rattle.world_model.specs.declared.outcome.Outcome.TheVariants as outcome

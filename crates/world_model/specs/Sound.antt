@@ -1,6 +1,6 @@
 -- What holds of every world: what venue and proxy sent are pieces of the venue's feed, and the
 -- client heard nothing but these, the proxy's replies and what spin servers said.
-use Rattle.std.specs.Prelude.{ℕ, List}
+use Rattle.std.specs.Prelude.{ℕ}
 use Rattle.std.specs.List.{AllByRecursion}
 use Rattle.pitch_model.specs.Datagrams.{IsPiece}
 use Rattle.world_model.specs.State.{State}

@@ -33,7 +33,7 @@ pub(crate) fn account() -> Account
     }
 }
 
-/// The proxy's end and the client's end, and the bytes that wait between them.
+/// The proxy's end and the client's end, and the bytes that wait for each.
 #[derive(Drop)]
 pub(crate) struct GrpConnection {
     alloc: Global,
@@ -58,12 +58,12 @@ impl GrpConnection {
     ghost use Rattle.world_model.specs.Ends.{the_account, gap_link};
     ghost use Rattle.world_model.specs.State.{State, Connection, waiting};
     ghost use Rattle.world_model.specs.Verbs.{connection, at_grp_server, at_link, took, with_down};
-    ghost use Rattle.world_model.specs.Connections.{IsGrp, CarriedUp};
+    ghost use Rattle.world_model.specs.Connections.{IsGrpConnection, CarriedUp};
     ghost use Rattle.world_model.specs.declared.limits.Limits.{Limits as LimitsSaid};
 
     /// A new connection, whose login waits.
     pub(crate) fn make(alloc: Global, unit: u8) -> Result<GrpConnection, OutOfMemory>
-        ensures { IfOk result (λ c. IsGrp c unit (connection (login_bytes roles.GapLink 0 the_account))) }
+        ensures { IfOk result (λ c. IsGrpConnection c unit (connection (login_bytes roles.GapLink 0 the_account))) }
     {
         let mut login = Vec::new(alloc);
         let link = GapLink::make(alloc, &account(), &mut login)?;
@@ -81,7 +81,7 @@ impl GrpConnection {
     /// How many bytes wait for the proxy.
     pub(crate) fn up_count(&self) -> usize
         ensures count { result ≡ length self.now.up }
-        ensures waits { (unit : ℕ) (k : Connection Source) → IsGrp self.now unit k → result ≡ length (waiting k.up) }
+        ensures waits { (unit : ℕ) (k : Connection Source) → IsGrpConnection self.now unit k → result ≡ length (waiting k.up) }
     {
         self.up.len()
     }
@@ -89,21 +89,21 @@ impl GrpConnection {
     /// How many bytes wait for the client.
     pub(crate) fn down_count(&self) -> usize
         ensures count { result ≡ length self.now.down }
-        ensures waits { (unit : ℕ) (k : Connection Source) → IsGrp self.now unit k → result ≡ length (waiting k.down) }
+        ensures waits { (unit : ℕ) (k : Connection Source) → IsGrpConnection self.now unit k → result ≡ length (waiting k.down) }
     {
         self.down.len()
     }
 
     /// Whether the client's end is closed.
     pub(crate) fn is_closed(&self) -> bool
-        ensures { (unit : ℕ) (k : Connection Source) → IsGrp self.now unit k → result ≡ is_some (closed_of gap_link k.link) }
+        ensures { (unit : ℕ) (k : Connection Source) → IsGrpConnection self.now unit k → result ≡ is_some (closed_of gap_link k.link) }
     {
         self.link.closed().is_some()
     }
 
     /// A second passes at the proxy's end.
     pub(crate) fn tick_server(&mut self) -> Result<(), OutOfMemory>
-        ensures { OnOk result ((unit : ℕ) (k : Connection Source) → IsGrp self.old unit k → IsGrp self.new unit (at_grp_server unit Ticked k)) }
+        ensures { OnOk result ((unit : ℕ) (k : Connection Source) → IsGrpConnection self.old unit k → IsGrpConnection self.new unit (at_grp_server unit Ticked k)) }
     {
         let mut said = Vec::new(self.alloc);
         self.server.tick(&mut said)?;
@@ -112,7 +112,7 @@ impl GrpConnection {
 
     /// A second passes at the client's end.
     pub(crate) fn tick_link(&mut self) -> Result<(), OutOfMemory>
-        ensures { OnOk result ((unit : ℕ) (k : Connection Source) → IsGrp self.old unit k → IsGrp self.new unit (at_link gap_link Ticked k)) }
+        ensures { OnOk result ((unit : ℕ) (k : Connection Source) → IsGrpConnection self.old unit k → IsGrpConnection self.new unit (at_link gap_link Ticked k)) }
     {
         let mut said = Vec::new(self.alloc);
         self.link.tick(&mut said)?;
@@ -121,7 +121,7 @@ impl GrpConnection {
 
     /// The client asks for messages.
     pub(crate) fn ask(&mut self, unit: u8, first: u32, count: u16) -> Result<(), OutOfMemory>
-        ensures { OnOk result ((of : ℕ) (k : Connection Source) → IsGrp self.old of k → IsGrp self.new of (at_link gap_link (Asked (GapRequest unit first count)) k)) }
+        ensures { OnOk result ((of : ℕ) (k : Connection Source) → IsGrpConnection self.old of k → IsGrpConnection self.new of (at_link gap_link (Asked (GapRequest unit first count)) k)) }
     {
         let mut said = Vec::new(self.alloc);
         self.link.ask(unit, first, count, &mut said)?;
@@ -137,7 +137,7 @@ impl GrpConnection {
         gap_line: &mut DatagramList,
     ) -> Result<(), OutOfMemory>
         requires { count ≤ length self.old.up }
-        ensures { OnOk result ((unit : ℕ) (limits : LimitsSaid) (s : State) (k : Connection Source) → IsGrp self.old unit k
+        ensures { OnOk result ((unit : ℕ) (limits : LimitsSaid) (s : State) (k : Connection Source) → IsGrpConnection self.old unit k
             → store.old ≡ store_of (record { messages = s.accepted; kept = limits.kept }) → budget.old.limits ≡ record { second = limits.second; minute = limits.minute; day = limits.day } → Counted budget.old s.spent
             → CarriedUp unit limits s count k self.new store.old store.new budget.old budget.new (bytes_in gap_line.old.items) (bytes_in gap_line.new.items)) }
     {
@@ -160,9 +160,9 @@ impl GrpConnection {
         items: &mut ItemList,
     ) -> Result<(), OutOfMemory>
         requires { count ≤ length self.old.down }
-        ensures stands { OnOk result ((unit : ℕ) (k : Connection Source) → IsGrp self.old unit k
-            → IsGrp self.new unit (at_link gap_link (Fed (take count (waiting k.down)) NoLookup) (with_down (took count k.down) k))) }
-        ensures tells { OnOk result ((unit : ℕ) (k : Connection Source) → IsGrp self.old unit k
+        ensures stands { OnOk result ((unit : ℕ) (k : Connection Source) → IsGrpConnection self.old unit k
+            → IsGrpConnection self.new unit (at_link gap_link (Fed (take count (waiting k.down)) NoLookup) (with_down (took count k.down) k))) }
+        ensures tells { OnOk result ((unit : ℕ) (k : Connection Source) → IsGrpConnection self.old unit k
             → map without_spare items.new.items ≡ map without_spare items.old.items ++ link_tells gap_link k.link (take count (waiting k.down))) }
     {
         self.link.feed(self.down.first(count), items)?;
@@ -210,7 +210,8 @@ pub(crate) fn is_shut(grp: &Option<GrpConnection>) -> bool
     }
 }
 
-/// The client asks through the connection, where one stands. What is asked of the spin server does not go through it.
+/// The client asks the proxy through the connection, where one stands. What it asks of the spin
+/// server does not go through it.
 pub(crate) fn ask_through(
     grp: &mut Option<GrpConnection>,
     unit: u8,

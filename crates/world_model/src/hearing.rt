@@ -43,7 +43,8 @@ fn hear_block(
     Ok(change.overflows > 0)
 }
 
-/// The client hears the blocks of a datagram that comes on a line. Answers whether the hold overflowed.
+/// The client hears the blocks of a datagram that comes on a line. Answers whether the hold
+/// overflowed.
 pub(crate) fn hear_datagram(
     unit: u8,
     line: Line,
@@ -68,7 +69,8 @@ pub(crate) fn hear_datagram(
     Ok(overflow)
 }
 
-/// The client hears datagrams that come on a line, one after another. Answers whether the hold overflowed.
+/// The client hears datagrams that come on a line, one after another. Answers whether the hold
+/// overflowed.
 pub(crate) fn hear_all(
     unit: u8,
     line: Line,

@@ -2,7 +2,7 @@ ghost use Rattle.std.specs.Prelude.{◌≡◌};
 
 use pitch_io::Line;
 
-// How many datagrams of each line are behind.
+// Of each line, the greatest number of a datagram that the client got; 0 before the first.
 #[derive(Clone, Copy, Debug, PartialEq, Eq)]
 pub(crate) struct Passed {
     pub(crate) a: usize,
@@ -23,7 +23,7 @@ impl Passed {
         }
     }
 
-    // So many of a line are behind, if no more were.
+    // The client got a datagram of this number.
     pub(crate) fn up_to(&self, line: Line, number: usize) -> Passed
         ensures { result ≡ passed_to line number self.now }
     {

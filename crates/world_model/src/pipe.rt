@@ -3,9 +3,7 @@
 ghost use Rattle.std.specs.Prelude.{◌≡◌, ◌≤◌, ◌<◌, length, take, drop, unwrap_or, IfOk, IfErr, OnOk};
 
 use pitch_fields::OutOfMemory;
-use std::alloc::Global;
 use std::marker::Model;
-use std::mem::replace;
 
 /// Bytes that wait, in the order in which they were put. A piece is read where it lies: what was
 /// taken stays in the memory until no more bytes wait.
@@ -86,22 +84,4 @@ pub(crate) fn carry_count(asked: Option<u32>, waiting: usize) -> Result<usize, u
             Ok(n as usize)
         }
     }
-}
-
-/// Takes so many bytes out of a pipe. After OutOfMemory the pipe is as before.
-pub(crate) fn take_front(
-    alloc: Global,
-    pipe: &mut Vec<u8>,
-    count: usize,
-) -> Result<Vec<u8>, OutOfMemory>
-    requires { count ≤ length pipe.old.items }
-    ensures piece { IfOk result (λ piece. piece.items ≡ take count pipe.old.items) }
-    ensures rest { OnOk result (pipe.new.items ≡ drop count pipe.old.items) }
-{
-    let mut piece = Vec::new(alloc);
-    piece.extend_from_slice(&pipe[..count])?;
-    let mut rest = Vec::new(alloc);
-    rest.extend_from_slice(&pipe[count..])?;
-    let _whole = replace(pipe, rest);
-    Ok(piece)
 }

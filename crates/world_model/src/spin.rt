@@ -11,21 +11,21 @@ ghost use Rattle.world_model.specs.Verbs.{at_spin_server, at_link, sent_whole, s
 ghost use Rattle.world_model.specs.Connections.{IsServed, HasSpin};
 
 use crate::grp::account;
-use crate::pipe::take_front;
+use crate::pipe::ByteQueue;
 use client_links::{ItemList, SpinLink};
 use pitch_fields::OutOfMemory;
 use pitch_model::Ask;
 use spin_server::{ImageShelf, SpinServer};
 use std::alloc::Global;
 
-/// The server's end and the client's end, and the bytes that wait between them.
+/// The server's end and the client's end, and the bytes that wait for each.
 #[derive(Drop)]
 pub(crate) struct SpinConnection {
     alloc: Global,
     server: SpinServer,
     link: SpinLink,
-    up: Vec<u8>,
-    down: Vec<u8>,
+    up: ByteQueue,
+    down: ByteQueue,
 }
 
 impl SpinConnection {
@@ -40,78 +40,82 @@ impl SpinConnection {
     ghost use Rattle.world_model.specs.Ends.{the_account, spin_link};
     ghost use Rattle.world_model.specs.State.{State, Connection, waiting};
     ghost use Rattle.world_model.specs.Verbs.{connection, at_spin_server, at_link, took, with_up, with_down, sent_whole, views_of};
-    ghost use Rattle.world_model.specs.Connections.{IsSpin, KeepsShelf};
+    ghost use Rattle.world_model.specs.Connections.{IsSpinConnection, KeepsShelf};
 
     /// A new connection, whose login waits.
     pub(crate) fn make(alloc: Global, unit: u8) -> Result<SpinConnection, OutOfMemory>
-        ensures { IfOk result (λ c. IsSpin c unit (connection (login_bytes roles.SpinLink unit the_account))) }
+        ensures { IfOk result (λ c. IsSpinConnection c unit (connection (login_bytes roles.SpinLink unit the_account))) }
     {
-        let mut up = Vec::new(alloc);
-        let link = SpinLink::make(alloc, unit, &account(), &mut up)?;
+        let mut login = Vec::new(alloc);
+        let link = SpinLink::make(alloc, unit, &account(), &mut login)?;
         let mut accounts = Vec::new(alloc);
         accounts.push(account())?;
         Ok(SpinConnection {
             alloc,
             server: SpinServer::make(alloc, unit, accounts, false),
             link,
-            up,
-            down: Vec::new(alloc),
+            up: ByteQueue::of_bytes(login),
+            down: ByteQueue::of_bytes(Vec::new(alloc)),
         })
     }
 
     /// How many bytes wait for the server.
     pub(crate) fn up_count(&self) -> usize
-        ensures count { result ≡ length self.now.up.items }
-        ensures waits { (unit : ℕ) (k : Connection (List Served)) → IsSpin self.now unit k → result ≡ length (waiting k.up) }
+        ensures count { result ≡ length self.now.up }
+        ensures waits { (unit : ℕ) (k : Connection (List Served)) → IsSpinConnection self.now unit k → result ≡ length (waiting k.up) }
     {
         self.up.len()
     }
 
     /// How many bytes wait for the client.
     pub(crate) fn down_count(&self) -> usize
-        ensures count { result ≡ length self.now.down.items }
-        ensures waits { (unit : ℕ) (k : Connection (List Served)) → IsSpin self.now unit k → result ≡ length (waiting k.down) }
+        ensures count { result ≡ length self.now.down }
+        ensures waits { (unit : ℕ) (k : Connection (List Served)) → IsSpinConnection self.now unit k → result ≡ length (waiting k.down) }
     {
         self.down.len()
     }
 
     /// Whether the client's end is closed.
     pub(crate) fn is_closed(&self) -> bool
-        ensures { (unit : ℕ) (k : Connection (List Served)) → IsSpin self.now unit k → result ≡ is_some (closed_of (spin_link unit) k.link) }
+        ensures { (unit : ℕ) (k : Connection (List Served)) → IsSpinConnection self.now unit k → result ≡ is_some (closed_of (spin_link unit) k.link) }
     {
         self.link.closed().is_some()
     }
 
     /// A second passes at the server's end.
     pub(crate) fn tick_server(&mut self) -> Result<(), OutOfMemory>
-        ensures { OnOk result ((unit : ℕ) (k : Connection (List Served)) → IsSpin self.old unit k → IsSpin self.new unit (at_spin_server unit Ticked k)) }
+        ensures { OnOk result ((unit : ℕ) (k : Connection (List Served)) → IsSpinConnection self.old unit k → IsSpinConnection self.new unit (at_spin_server unit Ticked k)) }
     {
-        self.server.tick(&mut self.down)?;
-        Ok(())
+        let mut said = Vec::new(self.alloc);
+        self.server.tick(&mut said)?;
+        self.down.put(&said)
     }
 
     /// A second passes at the client's end.
     pub(crate) fn tick_link(&mut self) -> Result<(), OutOfMemory>
-        ensures { OnOk result ((unit : ℕ) (k : Connection (List Served)) → IsSpin self.old unit k → IsSpin self.new unit (at_link (spin_link unit) Ticked k)) }
+        ensures { OnOk result ((unit : ℕ) (k : Connection (List Served)) → IsSpinConnection self.old unit k → IsSpinConnection self.new unit (at_link (spin_link unit) Ticked k)) }
     {
-        self.link.tick(&mut self.up)?;
-        Ok(())
+        let mut said = Vec::new(self.alloc);
+        self.link.tick(&mut said)?;
+        self.up.put(&said)
     }
 
     /// The client asks for the image through a sequence.
     pub(crate) fn ask(&mut self, sequence: u32) -> Result<(), OutOfMemory>
-        ensures { OnOk result ((unit : ℕ) (k : Connection (List Served)) → IsSpin self.old unit k → IsSpin self.new unit (at_link (spin_link unit) (Asked (SpinRequest sequence)) k)) }
+        ensures { OnOk result ((unit : ℕ) (k : Connection (List Served)) → IsSpinConnection self.old unit k → IsSpinConnection self.new unit (at_link (spin_link unit) (Asked (SpinRequest sequence)) k)) }
     {
-        self.link.ask(sequence, &mut self.up)?;
-        Ok(())
+        let mut said = Vec::new(self.alloc);
+        self.link.ask(sequence, &mut said)?;
+        self.up.put(&said)
     }
 
     /// The server is told of a sequence that was advertised.
     pub(crate) fn tell(&mut self, sequence: u32) -> Result<(), OutOfMemory>
-        ensures { OnOk result ((unit : ℕ) (k : Connection (List Served)) → IsSpin self.old unit k → IsSpin self.new unit (at_spin_server unit (Told sequence) k)) }
+        ensures { OnOk result ((unit : ℕ) (k : Connection (List Served)) → IsSpinConnection self.old unit k → IsSpinConnection self.new unit (at_spin_server unit (Told sequence) k)) }
     {
-        self.server.tell(sequence, &mut self.down)?;
-        Ok(())
+        let mut said = Vec::new(self.alloc);
+        self.server.tell(sequence, &mut said)?;
+        self.down.put(&said)
     }
 
     /// Carries so many bytes to the server, and then lets it send its image to the end.
@@ -120,14 +124,16 @@ impl SpinConnection {
         count: usize,
         shelf: &mut ImageShelf,
     ) -> Result<(), OutOfMemory>
-        requires { count ≤ length self.old.up.items }
-        ensures fed { OnOk result ((unit : ℕ) (s : State) (k : Connection (List Served)) → IsSpin self.old unit k → KeepsShelf shelf.old s.accepted s.advertised
-            → IsSpin self.new unit (sent_whole unit (at_spin_server unit (Fed (take count (waiting k.up)) (views_of s k.server (take count (waiting k.up)))) (with_up (took count k.up) k)))) }
+        requires { count ≤ length self.old.up }
+        ensures fed { OnOk result ((unit : ℕ) (s : State) (k : Connection (List Served)) → IsSpinConnection self.old unit k → KeepsShelf shelf.old s.accepted s.advertised
+            → IsSpinConnection self.new unit (sent_whole unit (at_spin_server unit (Fed (take count (waiting k.up)) (views_of s k.server (take count (waiting k.up)))) (with_up (took count k.up) k)))) }
         ensures shelf { shelf.new ≡ shelf.old }
     {
-        let piece = take_front(self.alloc, &mut self.up, count)?;
-        self.server.feed(&piece, shelf, &mut self.down)?;
-        pump(&mut self.server, &mut self.down)?;
+        let mut said = Vec::new(self.alloc);
+        self.server.feed(self.up.first(count), shelf, &mut said)?;
+        self.up.take(count);
+        self.down.put(&said)?;
+        pump(self.alloc, &mut self.server, &mut self.down)?;
         Ok(())
     }
 
@@ -137,25 +143,27 @@ impl SpinConnection {
         count: usize,
         items: &mut ItemList,
     ) -> Result<(), OutOfMemory>
-        requires { count ≤ length self.old.down.items }
-        ensures stands { OnOk result ((unit : ℕ) (k : Connection (List Served)) → IsSpin self.old unit k
-            → IsSpin self.new unit (at_link (spin_link unit) (Fed (take count (waiting k.down)) NoLookup) (with_down (took count k.down) k))) }
-        ensures tells { OnOk result ((unit : ℕ) (k : Connection (List Served)) → IsSpin self.old unit k
+        requires { count ≤ length self.old.down }
+        ensures stands { OnOk result ((unit : ℕ) (k : Connection (List Served)) → IsSpinConnection self.old unit k
+            → IsSpinConnection self.new unit (at_link (spin_link unit) (Fed (take count (waiting k.down)) NoLookup) (with_down (took count k.down) k))) }
+        ensures tells { OnOk result ((unit : ℕ) (k : Connection (List Served)) → IsSpinConnection self.old unit k
             → map without_spare items.new.items ≡ map without_spare items.old.items ++ link_tells (spin_link unit) k.link (take count (waiting k.down))) }
     {
-        let piece = take_front(self.alloc, &mut self.down, count)?;
-        self.link.feed(&piece, items)?;
+        self.link.feed(self.down.first(count), items)?;
+        self.down.take(count);
         Ok(())
     }
 }
 
 // The server sends its image to the end, where it sends one.
-fn pump(server: &mut SpinServer, down: &mut Vec<u8>) -> Result<(), OutOfMemory>
-    ensures { OnOk result ((unit : ℕ) (k : Connection (List Served)) → IsServed server.old down.old.items unit k → IsServed server.new down.new.items unit (sent_whole unit k)) }
+fn pump(alloc: Global, server: &mut SpinServer, down: &mut ByteQueue) -> Result<(), OutOfMemory>
+    ensures { OnOk result ((unit : ℕ) (k : Connection (List Served)) → IsServed server.old down.old unit k → IsServed server.new down.new unit (sent_whole unit k)) }
 {
     let mut more = true;
     while more {
-        more = server.pump(down)?;
+        let mut said = Vec::new(alloc);
+        more = server.pump(&mut said)?;
+        down.put(&said)?;
     }
     Ok(())
 }

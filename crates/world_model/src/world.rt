@@ -36,18 +36,23 @@ use std::alloc::Global;
 use unit_packets::DatagramList;
 use venue_core::{Venue, VenueError};
 
-/// One unit's world: its venue, every datagram that was sent, and its client.
+/// One unit's world: a venue with its Gap Request Proxy and Spin Server, every datagram that they
+/// sent, and one client, whose connections carry bytes only as verbs say.
+///
+/// Standard: "Gap Request Proxy", "Spin Servers". Verbs, limits and printed lines are this project's
+/// own.
 #[derive(Drop)]
 pub struct World {
     alloc: Global,
     unit: u8,
     limits: Limits,
     venue: Venue,
-    // The datagrams of line A, which are those of line B, and of the gap line.
+    // The datagrams of lines A and B, which are the same, and of the gap line; and how far the
+    // client got on each line.
     sent: DatagramList,
     replayed: DatagramList,
     passed: Passed,
-    // What the proxy and the spin server look up.
+    // What the proxy and the spin server look up, and what the proxy may still accept.
     store: GapStore,
     budget: GapBudget,
     shelf: ImageShelf,
@@ -186,6 +191,7 @@ impl World {
         datagrams_on(&self.sent, &self.replayed, line)
     }
 
+    // Appends what `show` prints. After OutOfMemory some may have been appended.
     fn append_shown(&self, out: &mut Vec<u8>) -> Result<(), OutOfMemory>
         ensures shown { OnOk result ((s : State) → WorldHas self.now s → out.new.items ≡ out.old.items ++ shown_state self.now.unit self.now.limits s) }
         ensures behind { take (length out.old.items) out.new.items ≡ out.old.items }
@@ -198,6 +204,7 @@ impl World {
         append_counts(a, b, gap, out)
     }
 
+    // Does a verb.
     fn act(&mut self, verb: &Verb) -> Result<Acted, OutOfMemory>
         requires verb { IsVerb verb.now }
         ensures { IfOk result (λ acted. (s : State) → WorldHas self.old s → Acts self.old self.new acted s (does self.old.unit self.old.limits verb.now s)) }
@@ -350,7 +357,7 @@ impl World {
         })
     }
 
-    // The client hears the datagrams of a line behind the last that it got.
+    // The client hears the datagrams of a line after the last of them that it got.
     fn rest(&mut self, line: Line) -> Result<Acted, OutOfMemory>
         ensures { IfOk result (λ acted. (s : State) → WorldHas self.old s → Acts self.old self.new acted s (rest_delivered self.old.unit self.old.limits line s)) }
     {
@@ -632,13 +639,14 @@ impl World {
     }
 }
 
-// What a verb did: its outcome, and whether the hold overflowed.
+// What a verb did: its outcome, and whether the hold overflowed with what was heard.
 #[derive(Clone, Copy, Debug, PartialEq, Eq)]
 struct Acted {
     outcome: Outcome,
     overflow: bool,
 }
 
+// An outcome at which the hold did not overflow.
 fn calm(outcome: Outcome) -> Acted
     ensures { result ≡ record { outcome = outcome; overflow = false } }
 {
@@ -655,6 +663,7 @@ fn is_memory(error: &VenueError) -> bool
     matches!(error, VenueError::OutOfMemory)
 }
 
+// The outcome of a tick at which the client asks so.
 fn tick_outcome(ask: Option<Ask>) -> Outcome
     ensures { result ≡ tick_outcome ask }
 {
@@ -664,7 +673,8 @@ fn tick_outcome(ask: Option<Ask>) -> Outcome
     }
 }
 
-// The proxy's store and the shelf get the message that the venue accepted last. After OutOfMemory one of them may have it.
+// The proxy's store and the shelf get the message that the venue accepted last. After OutOfMemory
+// one of them may have it.
 fn keep_last(venue: &Venue, store: &mut GapStore, shelf: &mut ImageShelf) -> Result<(), OutOfMemory>
     ensures store { OnOk result ((accepted : List (List ℕ)) (sent : ℕ) (raw : List ℕ) (v : View) → VenueStands venue.now accepted sent → last_of accepted ≡ Some raw
         → store.old ≡ store_of v → store.new ≡ store_of (record { messages = v.messages ++ raw ∷ []; kept = v.kept })) }

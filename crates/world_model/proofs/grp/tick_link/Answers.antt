@@ -1,10 +1,9 @@
 use Rattle.std.proofs.Common.{Option, subst}
-use Rattle.pitch_messages.specs.declared.session.SessionMessage.TheVariants.{GapRequest}
-use Rattle.session_ends.specs.Events.{Ticked, Asked}
+use Rattle.session_ends.specs.Events.{Ticked}
 use Rattle.world_model.specs.Connections.{HasGrp}
 use Rattle.world_model.specs.declared.grp.GrpConnection.{GrpConnection}
 use Rattle.world_model.specs.Ends.{gap_link}
-use Rattle.world_model.specs.Verbs.{at_grp_server, at_link}
+use Rattle.world_model.specs.Verbs.{at_link}
 use Rattle.world_model.proofs.Carrying.{on_some}
 use Rattle.world_model.proofs.grp.tick_link.Goals as goal
 

@@ -1,4 +1,4 @@
-use Rattle.std.proofs.Common.{rules, List, length, take, ◌∷◌, [], refl, sym, subst, ◌+◌}
+use Rattle.std.proofs.Common.{rules, List, length, take, ◌∷◌, [], refl, sym, subst}
 use Rattle.std.proofs.lemmas.Option.{slice_get_read}
 use Rattle.pitch_model.specs.declared.item.Item.{Item}
 use Rattle.world_model.specs.Hearing.{HearsItems}

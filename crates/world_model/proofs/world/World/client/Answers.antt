@@ -1,6 +1,3 @@
-use Rattle.std.proofs.Common.{ℕ, List, ap, subst}
-use Rattle.spin_path.specs.Paths.{HasWholeImages}
-use Rattle.world_model.specs.State.{State}
 use Rattle.world_model.specs.Verbs.{state_of}
 use Rattle.world_model.proofs.Acting.{images_whole}
 use Rattle.world_model.proofs.world.World.client.Goals as goal

@@ -1,4 +1,4 @@
-use Rattle.std.proofs.Common.{◌≡◌, ℕ, List, [], ◌++◌, Option, Some, map, take, ap, ◌∙◌, subst}
+use Rattle.std.proofs.Common.{List, ◌++◌, Option, map, take, ap, ◌∙◌, subst}
 use Rattle.pitch_model.specs.declared.item.Item.{Item}
 use Rattle.client_links.specs.Linking.{link_tells}
 use Rattle.client_links.specs.Telling.{without_spare}
