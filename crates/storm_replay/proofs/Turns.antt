@@ -13,7 +13,7 @@ use Rattle.pitch_text.specs.declared.verb.ScheduleEntry.{ScheduleEntry}
 use Rattle.pitch_text.specs.declared.verb.Verb.{Verb}
 use Rattle.text_lines.specs.Text.{TextFault, entries_of}
 use Rattle.pitch_text.specs.ScheduleGrammar.{entry as entry_grammar, schedule_entry}
-use Rattle.schedule_replay.specs.Replay.{schedule_on, schedule_of}
+use Rattle.schedule_replay.specs.Replay.{schedule_on, schedule_of, replay_on, replay_of, replay_text}
 use Rattle.schedule_replay.specs.Worlds.{IsNamed, IsWorldOf, AreWorldsOf, AreAllWorlds, AreRunThrough, AddsWorlds}
 use Rattle.schedule_replay.specs.declared.error.ReplayError.{ReplayError}
 use Rattle.storm_plan.specs.Storm.{storm_entries, storm_schedule}
@@ -118,3 +118,18 @@ storm_worlds number units steps worlds reads run =
       many = turns_many before 1 units worlds each;
       each = λ index world at. let e : 1 + index ≡ index + 1 = omega arith in subst (λ (u : ℕ). IsWorldOf before u world) e (turns_each before 1 units worlds index world each at);
     }
+
+-- worlds that were put at the end of an empty list
+pub run_added : (text text' : List ℕ) (old new : List World) → text ≡ text' → old ≡ [] → AddsWorlds text old new → AreRunThrough text' new
+run_added text text' old new same none adds =
+    let is : adds.added ≡ new = sym (adds.appended ∙ ap (λ (l : List World). l ++ adds.added) none) in
+    subst (λ (t : List ℕ). AreRunThrough t new) same (subst (λ (ws : List World). AreRunThrough text ws) is adds.run)
+
+-- a storm's schedule has no fault
+pub no_fault : (number units steps : ℕ) (text : List ℕ) (error : ReplayError) → entries_of entry_grammar (storm_schedule number units steps) ≡ Ok (enumerate_from 1 (storm_entries number units steps)) → text ≡ storm_schedule number units steps
+    → replay_of text ≡ Err error → ⊥
+no_fault number units steps text error reads is fault =
+    clash (sym (ap (λ (r : Read). replay_on (schedule_on r)) reads) ∙ sym (ap (λ (t : List ℕ). replay_of t) is) ∙ fault)
+  where
+    clash : ◌≡◌ {A = Result (List ℕ) ReplayError} (Ok (replay_text (storm_lines number units steps))) (Err error) → ⊥
+    clash e = cc
