@@ -20,6 +20,7 @@ use std::alloc::Global;
 use stream_print::{StreamTrouble, print_stream, put_all};
 
 // Does a job.
+#[tactic(auto, using(crate::proofs::Storms::takes_none, crate::proofs::Storms::no_read_fault))]
 fn do_job<I: Source, O: Sink>(
     alloc: Global,
     job: Job,

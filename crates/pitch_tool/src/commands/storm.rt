@@ -11,6 +11,7 @@ use storm_replay::storm;
 use stream_print::put_all;
 
 /// Writes the summary of a storm, once all its units have ended.
+#[tactic(auto, using(crate::proofs::Storms::storm_is_run, crate::proofs::Storms::writes_summary, crate::proofs::Storms::writes_some))]
 pub fn print_storm<O: Sink>(
     alloc: Global,
     number: u64,
