@@ -39,11 +39,11 @@ pub known : (unit : ℕ) (verb : Verb) (before : List ScheduleEntry) (place : Op
 known unit verb before None some is = absurd (true≢false (sym some))
 known unit verb before (Some world) some is = subst (λ (l : Limits). WorldStands world unit l (verbs_of unit before)) (sym (limits_more verb (verbs_of unit before) is.0)) is.1
 
-pub new_world : (unit : ℕ) (verb : Verb) (before : List ScheduleEntry) (place : Option World) (world : World) → place ≡ None → WorldStands world unit (limits_at verb) [] → IsPlace before unit place
-    → WorldStands world unit (limits_of (verb ∷ verbs_of unit before)) (verbs_of unit before)
-new_world unit verb before place world none fresh is =
+pub new_world : (unit : ℕ) (verb : Verb) (before : List ScheduleEntry) (place made : Option World) → place ≡ None → IsReady unit (limits_at verb) [] made → IsPlace before unit place
+    → IsReady unit (limits_of (verb ∷ verbs_of unit before)) (verbs_of unit before) made
+new_world unit verb before place made none fresh is =
     let empty : verbs_of unit before ≡ [] = subst (IsPlace before unit) none is in
-    subst (λ (done : List Verb). WorldStands world unit (limits_of (verb ∷ done)) done) (sym empty) fresh
+    subst (λ (done : List Verb). IsReady unit (limits_of (verb ∷ done)) done made) (sym empty) fresh
 
 pub world_more : (e : ScheduleEntry) (before : List ScheduleEntry) (world : World) → WorldStands world e.unit (limits_of (e.verb ∷ verbs_of e.unit before)) (e.verb ∷ verbs_of e.unit before) → IsPlace (e ∷ before) e.unit (Some world)
 world_more e before world stands =

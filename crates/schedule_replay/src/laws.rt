@@ -3,8 +3,8 @@
 
 ghost use Rattle.schedule_replay.specs.Apart.{LinesStandApart, UnitsRunApart};
 
-/// A line writes what it writes after the lines of its own unit alone. So a schedule writes what its
-/// units write, each alone, put together in the schedule's order, whoever ran them.
+/// A line writes what it writes after the lines of its own unit alone. So a schedule writes what
+/// its units write, each alone, put together in the schedule's order, whoever ran them.
 #[tactic(auto, using(crate::proofs::Splitting::lines_stand_apart, crate::proofs::Splitting::units_run_apart))]
 pub fn units_run_apart()
     ensures lines { LinesStandApart }

@@ -1,8 +1,8 @@
 //! The printed line of a verb.
 
 ghost use Rattle.std.specs.Prelude.{◌≡◌, ◌≤◌, ◌+◌, ◌++◌, ◌∷◌, [], length, take, OnOk, OnErr, codes, decimal};
-ghost use Rattle.feed_lines.specs.LineSize.{line_size};
 ghost use Rattle.feed_lines.specs.Follow.{overflow_text};
+ghost use Rattle.feed_lines.specs.LineSize.{line_size};
 ghost use Rattle.feed_lines.specs.StatusText.{status_text};
 ghost use Rattle.venue_core.specs.Causes.{refusal_text};
 ghost use Rattle.world_model.specs.Printed.{ask_text, best_text, outcome_text, printed_line, quoted_symbol};

@@ -77,6 +77,22 @@ fn limits_at(verb: &Verb) -> Limits
     }
 }
 
+// Makes a unit's world, where it begins with this verb. A world is large, and a function pays at
+// each call for its own ones: so no line pays but a unit's first.
+fn make_world(
+    alloc: Global,
+    unit: u8,
+    verb: &Verb,
+    place: &mut Option<World>,
+) -> Result<(), OutOfMemory>
+    requires { IsVerb verb.now }
+    ensures ready { OnOk result (IsReady unit (limits_at verb.now) [] place.new) }
+    ensures some { OnOk result (IsSome place.new) }
+{
+    *place = Some(World::make(alloc, unit, limits_at(verb))?);
+    Ok(())
+}
+
 // Makes the world of a unit that has none.
 fn make_known(
     alloc: Global,
@@ -92,10 +108,7 @@ fn make_known(
 {
     match place {
         Some(_) => Ok(()),
-        None => {
-            *place = Some(World::make(alloc, unit, limits_at(verb))?);
-            Ok(())
-        }
+        None => make_world(alloc, unit, verb, place),
     }
 }
 

@@ -1,19 +1,18 @@
 -- The book after each command of a round of the plan.
-use Rattle.std.proofs.Common.{◌≡◌, ◌≢◌, ℕ, zero, suc, ◌+◌, ◌-◌, ◌*◌, ◌/◌, ◌%◌, ◌^◌, ◌<◌, ◌≤◌, Bool, true, false, not, cond, ◌==◌, ◌&&◌, ◌||◌, nat_le, nat_lt, List, [], ◌∷◌, ◌++◌, length, codes, Option, None, Some, is_some, Result, Ok, refl, sym, ap, ◌∙◌, subst, arith, option_map, length-append}
-use Rattle.std.proofs.lemmas.Bool.{cond_both, cond-true, cond-false}
+use Rattle.std.proofs.Common.{◌≡◌, ◌≢◌, ℕ, zero, suc, ◌+◌, ◌-◌, ◌*◌, ◌/◌, ◌%◌, ◌<◌, ◌≤◌, Bool, true, false, cond, ◌==◌, [], ◌∷◌, ◌++◌, length, Option, Some, refl, sym, ap, ◌∙◌, arith, option_map, length-append}
+use Rattle.std.proofs.lemmas.Bool.{cond-true, cond-false}
 use Rattle.std.proofs.lemmas.Bool.Decides.{nat_tests}
 use Rattle.std.proofs.lemmas.Cmp.{nat_cmp_total}
 use Rattle.std.specs.Ordering.{nat_cmp, eq_by_cmp}
 use Rattle.std.specs.FinMap as finite
-use Rattle.pitch_fields.specs.declared.side.Side.{Side}
 use Rattle.pitch_fields.specs.declared.side.Side.TheVariants.{Buy, Sell}
 use Rattle.pitch_messages.specs.declared.order.Order.{Order}
-use Rattle.pitch_model.specs.Book.{Book, empty_book, at_second, added, with_order, changed, reformed, reduced_by, modified, without_order, after, book_after}
+use Rattle.pitch_model.specs.Book.{Book, at_second, added, with_order, changed, reformed, reduced_by, modified, without_order, after, book_after}
 use Rattle.pitch_model.proofs.Folding.{book_after-append}
 use Rattle.pitch_text.specs.declared.command.Command.{Command}
 use Rattle.pitch_text.specs.declared.command.Command.TheVariants as commands
-use Rattle.venue_core.specs.Commands.{message_of, raw_of}
-use Rattle.venue_core.specs.Plan.{plan_quantity, plan_price, plan_symbol, plan_order, plan_at, plan_command, plan, buy_left, sell_left, second_buy, second_buy_left, orders_left}
+use Rattle.venue_core.specs.Commands.{raw_of}
+use Rattle.venue_core.specs.Plan.{plan_quantity, plan_price, plan_order, plan_at, plan_command, plan, buy_left, sell_left, second_buy}
 use Rattle.venue_core.proofs.PlanEffects.{Does, done, quantity_least, quantity_most, price_most, price_cents, fits_wire, time_does, add_does, exec_does, reduce_does, modify_does, delete_does, trade_does}
 
 abbrev pub Orders : Type 0

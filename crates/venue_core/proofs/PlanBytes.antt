@@ -1,25 +1,23 @@
 -- The messages of the plan are bytes, and each stands at its place.
-use Rattle.std.proofs.Common.{◌≡◌, ◌≢◌, ℕ, zero, suc, ◌+◌, ◌-◌, ◌*◌, ◌/◌, ◌%◌, ◌^◌, ◌<◌, ◌≤◌, Bool, true, false, cond, ◌==◌, List, [], ◌∷◌, ◌++◌, length, take, codes, Option, None, Some, refl, sym, ap, ◌∙◌, subst, arith, append_assoc, length-append}
+use Rattle.std.proofs.Common.{◌≡◌, ◌≢◌, ℕ, zero, suc, ◌+◌, ◌*◌, ◌/◌, ◌%◌, ◌^◌, ◌<◌, ◌≤◌, Bool, true, false, cond, ◌==◌, List, [], ◌∷◌, ◌++◌, length, take, codes, Option, None, Some, refl, sym, ap, ◌∙◌, subst, arith}
 use Rattle.std.specs.Prelude.{IfSome}
 use Rattle.std.specs.List.{AllByRecursion, slice_get}
 use Rattle.std.specs.Int.{byte_at, bytes_low_first}
-use Rattle.std.proofs.lemmas.Bool.{cond_both, eqb-true}
+use Rattle.std.proofs.lemmas.Bool.{eqb-true}
 use Rattle.std.proofs.lemmas.Bool.Decides.{nat_tests}
 use Rattle.std.proofs.lemmas.List.{take-append-le, take_all}
-use Rattle.pitch_fields.specs.Name.{six_of}
 use Rattle.pitch_fields.specs.Side.{byte_of}
 use Rattle.pitch_fields.specs.declared.side.Side.{Side}
 use Rattle.pitch_fields.specs.declared.side.Side.TheVariants.{Buy, Sell}
 use Rattle.pitch_messages.specs.declared.order.Order.{Order}
-use Rattle.pitch_messages.specs.declared.message.Message.{Message}
-use Rattle.pitch_messages.specs.Forms.{add_in_form, add_message, plain_symbol, short_price, trade_in_form, trade_message, reduce_message, modify_in_form, modify_message}
+use Rattle.pitch_messages.specs.Forms.{add_in_form, add_message, short_price, trade_in_form, trade_message, reduce_message, modify_in_form, modify_message}
 use Rattle.pitch_messages.specs.Writing.{written}
 use Rattle.pitch_fields.specs.Fields.{AreBytes}
 use Rattle.pitch_model.proofs.Widths.{bytes_append}
 use Rattle.pitch_text.specs.declared.command.Command.{Command}
 use Rattle.pitch_text.specs.declared.command.Command.TheVariants as commands
 use Rattle.venue_core.specs.Commands.{raw_of}
-use Rattle.venue_core.specs.Plan.{plan_quantity, plan_price, plan_symbol, plan_order, plan_command, plan, second_buy}
+use Rattle.venue_core.specs.Plan.{plan_quantity, plan_price, plan_order, plan_command, plan}
 use Rattle.venue_core.proofs.Accepting.{all_more}
 use Rattle.venue_core.proofs.PlanEffects.{symbol_case, alpha, beta, gamma, blank, alpha_six, beta_six}
 use Rattle.venue_core.proofs.PlanBooks.{plan_length, first_command, second_command, third_command, fourth_command, fifth_command, sixth_command, seventh_command, eighth_even, eighth_odd}

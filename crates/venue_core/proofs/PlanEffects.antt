@@ -1,5 +1,5 @@
 -- What the message of each kind of command of the plan says and does.
-use Rattle.std.proofs.Common.{◌≡◌, ℕ, ◌+◌, ◌*◌, ◌/◌, ◌%◌, ◌^◌, ◌<◌, ◌≤◌, Bool, true, false, cond, ◌==◌, ◌&&◌, nat_le, List, [], ◌∷◌, length, codes, Option, None, Some, Result, Ok, refl, sym, ap, ◌∙◌, subst, arith}
+use Rattle.std.proofs.Common.{◌≡◌, ℕ, ◌/◌, ◌%◌, ◌^◌, ◌<◌, ◌≤◌, Bool, true, cond, ◌==◌, ◌&&◌, nat_le, List, length, codes, Option, None, Some, Ok, refl, sym, ap, ◌∙◌, subst, arith}
 use Rattle.std.proofs.lemmas.Bool.{cond_both}
 use Rattle.std.proofs.lemmas.Bool.Decides.{nat_tests}
 use Rattle.pitch_fields.specs.Fields.{AreBytes}
@@ -10,7 +10,6 @@ use Rattle.pitch_fields.specs.declared.side.Side.TheVariants.{Buy}
 use Rattle.pitch_messages.specs.declared.order.Order.{Order}
 use Rattle.pitch_messages.specs.declared.message.Message.{Message}
 use Rattle.pitch_messages.specs.declared.message.Message.TheVariants.{ModifyShort, TradeShort, TradeExpanded}
-use Rattle.pitch_messages.specs.declared.message.ReadError.{ReadError}
 use Rattle.pitch_messages.specs.Forms.{short_price, trade_in_form, trade_message, reduce_message, modify_in_form, modify_message}
 use Rattle.pitch_messages.specs.Reading.{reads}
 use Rattle.pitch_messages.specs.Writing.{written}

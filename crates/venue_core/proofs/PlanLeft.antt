@@ -1,19 +1,19 @@
 -- The orders that whole rounds of the plan leave.
-use Rattle.std.proofs.Common.{◌≡◌, ◌≢◌, ℕ, zero, suc, ◌+◌, ◌-◌, ◌*◌, ◌/◌, ◌%◌, ◌<◌, ◌≤◌, Bool, true, false, not, cond, ◌==◌, eqb, List, [], ◌∷◌, ◌++◌, map, length, Option, None, Some, refl, sym, ap, ◌∙◌, subst, arith, append_assoc, length-append, sum_by}
+use Rattle.std.proofs.Common.{◌≡◌, ◌≢◌, ℕ, zero, suc, ◌+◌, ◌*◌, ◌/◌, ◌%◌, ◌<◌, ◌≤◌, Bool, true, false, cond, ◌==◌, eqb, List, [], ◌∷◌, ◌++◌, map, length, Option, None, Some, refl, sym, ap, ◌∙◌, subst, arith, append_assoc, length-append, sum_by}
 use Rattle.std.specs.List.{AllByRecursion}
 use Rattle.std.proofs.lemmas.Bool.{cond_both, cond-true, cond-false, eqb-true}
 use Rattle.std.proofs.lemmas.Bool.Decides.{nat_tests}
 use Rattle.std.proofs.lemmas.Cmp.{nat_cmp_total}
 use Rattle.std.specs.Ordering.{nat_cmp, is_eq, eq_by_cmp}
 use Rattle.std.specs.declared.cmp.Ordering.{Ordering}
-use Rattle.std.specs.declared.cmp.Ordering.TheVariants.{Less, Equal, Greater}
+use Rattle.std.specs.declared.cmp.Ordering.TheVariants.{Greater}
 use Rattle.std.specs.FinMap as finite
 use Rattle.std.specs.FinMap.Entries.{put, find, by_order}
 use Rattle.pitch_messages.specs.declared.order.Order.{Order}
-use Rattle.pitch_model.specs.Book.{Book, empty_book, reduced_by, book_after}
+use Rattle.pitch_model.specs.Book.{Book, reduced_by, book_after}
 use Rattle.pitch_model.specs.Levels.{shares}
 use Rattle.venue_core.specs.Plan.{plan, plan_quantity, plan_price, buy_left, sell_left, second_buy, second_buy_left, orders_left}
-use Rattle.venue_core.proofs.PlanBooks.{Orders, get_other, first_order, second_order, orders_2, orders_3, orders_4, orders_5, orders_6, orders_7, orders_8, book_of, clock, stands_1, stands_2, stands_3, stands_4, stands_5, stands_6, stands_7, stands_8}
+use Rattle.venue_core.proofs.PlanBooks.{Orders, first_order, second_order, orders_2, orders_3, orders_4, orders_5, orders_6, orders_7, orders_8, book_of, stands_1, stands_2, stands_3, stands_4, stands_5, stands_6, stands_7, stands_8}
 
 -- ---- Maps that answer alike
 tied : (q x : ℕ) → eq_by_cmp nat_cmp q x ≡ true → q ≡ x
