@@ -109,7 +109,7 @@ runs_more items left more item e places places' old new new' at is goes text r =
 pub runs_all : (text : List ℕ) (items left : Items) (places : List (Option World)) (old new : List ℕ) → items ≡ items_in text → left ≡ [] → Running items left places old new → RunsText text places old new
 runs_all text items left places old new are none r = record {
   entries = r.done;
-  read = said_all text items r.done are (r.taken.same ∙ ap (λ (l : Items). with_all r.taken.front (all_of l)) none ∙ ap Ok (append-nil r.taken.front ∙ sym r.taken.appended));
+  read = said_all text items r.done are (r.taken.same ∙ ap (λ (l : Items). with_all r.taken.prefix (all_of l)) none ∙ ap Ok (append-nil r.taken.prefix ∙ sym r.taken.appended));
   are = r.are;
   written = r.written;
 }
@@ -118,7 +118,7 @@ runs_all text items left places old new are none r = record {
 pub runs_no_fault : (text : List ℕ) (items left more : Items) (item : Result ScheduleEntry TextError) (fault : TextError) (places : List (Option World)) (old new : List ℕ) → items ≡ items_in text → left ≡ item ∷ more → item ≡ Err fault
     → (entries : List ScheduleEntry) × (schedule_of text ≡ Ok entries) → Running items left places old new → ⊥
 runs_no_fault text items left more item fault places old new are first is sound r =
-    clash (sym sound.1 ∙ said_fault text items fault are (r.taken.same ∙ ap (λ (l : Items). with_all r.taken.front (all_of l)) first ∙ ap (λ (i : Result ScheduleEntry TextError). with_all r.taken.front (all_of (i ∷ more))) is))
+    clash (sym sound.1 ∙ said_fault text items fault are (r.taken.same ∙ ap (λ (l : Items). with_all r.taken.prefix (all_of l)) first ∙ ap (λ (i : Result ScheduleEntry TextError). with_all r.taken.prefix (all_of (i ∷ more))) is))
   where
     clash : ◌≡◌ {A = Result (List ScheduleEntry) ReplayError} (Ok sound.0) (Err (replay_error fault)) → ⊥
     clash e = cc
