@@ -1,14 +1,14 @@
 -- The lines of a storm's summary.
-use Rattle.std.proofs.Common.{◌≡◌, ℕ, suc, List, [], ◌++◌, refl, sym, ap, ◌∙◌, append_assoc}
+use Rattle.std.proofs.Common.{◌≡◌, ℕ, suc, List, [], ◌++◌, reverse, refl, sym, ap, ◌∙◌, append_assoc}
 use Rattle.std.specs.FinMap.{len}
 use Rattle.std.proofs.lemmas.List.{append-nil}
-use Rattle.order_book.specs.Totals.{shares}
+use Rattle.pitch_model.specs.Levels.{shares}
 use Rattle.pitch_model.specs.Book.{Book}
 use Rattle.pitch_model.specs.Status.{status_of}
 use Rattle.pitch_model.specs.declared.status.Status.{Status}
 use Rattle.pitch_text.specs.declared.verb.ScheduleEntry.{ScheduleEntry}
-use Rattle.storm_plan.specs.StormText.{unit_line}
-use Rattle.storm_replay.specs.Summary.{state_line, ended_line, ended_lines}
+use Rattle.storm_plan.specs.StormText.{storm_line, unit_line}
+use Rattle.storm_replay.specs.Summary.{state_line, ended_line, ended_lines, storm_lines, storm_text}
 use Rattle.world_model.specs.State.{State}
 use Rattle.world_model.specs.Verbs.{client_book}
 use Rattle.world_model.specs.declared.limits.Limits.{Limits}
@@ -33,3 +33,8 @@ unfolding ended_lines
 lines_next before unit next old new more e is put =
     put ∙ ap (λ (l : List ℕ). l ++ ended_line before next) is ∙ append_assoc old (ended_lines before unit) (ended_line before next)
     ∙ ap (λ (n : ℕ). old ++ (ended_lines before unit ++ ended_line before n)) e ∙ ap (λ (n : ℕ). old ++ ended_lines before n) (sym e)
+
+-- the lines of a summary, one after another
+pub summary_is : (number units steps : ℕ) (empty made text : List ℕ) → empty ≡ [] → made ≡ empty ++ storm_line number units steps → text ≡ made ++ ended_lines (reverse (storm_lines number units steps)) units → text ≡ storm_text number units steps
+summary_is number units steps empty made text none first rest =
+    rest ∙ ap (λ (l : List ℕ). l ++ ended_lines (reverse (storm_lines number units steps)) units) (first ∙ ap (λ (l : List ℕ). l ++ storm_line number units steps) none)

@@ -83,16 +83,16 @@ within_for units unit verbs low high other some = elim (cases_eq unit other) [
 within_each : (units : ℕ) (part : ℕ → List Verb) (count : ℕ) → count ≤ units → AreWithin units (by_each part count)
 unfolding by_each unit_verbs
 within_each units part zero few unit some = absurd (omega (arith, some))
-within_each units part (suc count) few =
+within_each units part (suc count) few unit some =
     within_joined units (by_each part count) (entries_for (suc count) (part (suc count))) (within_each units part count (omega (arith, few)))
-    (within_for units (suc count) (part (suc count)) (omega arith) few)
+    (within_for units (suc count) (part (suc count)) (omega arith) few) unit some
 
 within_steps : (number units steps : ℕ) → AreWithin units (storm_steps number units steps)
 unfolding storm_steps unit_verbs
 within_steps number units zero unit some = absurd (omega (arith, some))
-within_steps number units (suc index) =
+within_steps number units (suc index) unit some =
     within_joined units (storm_steps number units index) (by_each (λ unit. step_verbs number unit (suc index)) units) (within_steps number units index)
-    (within_each units (λ unit. step_verbs number unit (suc index)) units (omega arith))
+    (within_each units (λ unit. step_verbs number unit (suc index)) units (omega arith)) unit some
 
 within_storm : (number units steps : ℕ) → AreWithin units (storm_entries number units steps)
 within_storm number units steps =

@@ -3,7 +3,7 @@
 use Rattle.std.specs.Prelude.{◌≡◌, ℕ, zero, suc, ◌+◌, List, [], ◌++◌, length, map, reverse, Some, slice_get}
 use Rattle.std.specs.List.{enumerate_from}
 use Rattle.std.specs.FinMap.{len}
-use Rattle.order_book.specs.Totals.{shares}
+use Rattle.pitch_model.specs.Levels.{shares}
 use Rattle.pitch_model.specs.Book.{Book}
 use Rattle.pitch_model.specs.Status.{status_of}
 use Rattle.pitch_text.specs.ScheduleGrammar.{schedule_entry}

@@ -5,8 +5,8 @@
 //! shares of that client's book. It hands the worlds back.
 #![tactic(auto)]
 
-mod storm;
+mod running;
 #[cfg(test)]
 mod tests;
 
-pub use crate::storm::storm;
+pub use crate::running::storm;

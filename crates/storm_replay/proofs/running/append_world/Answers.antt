@@ -10,7 +10,7 @@ use Rattle.storm_replay.proofs.Lines.{line_of}
 use Rattle.world_model.specs.State.{State}
 use Rattle.world_model.specs.Verbs.{state_of}
 use Rattle.world_model.specs.declared.limits.Limits.{Limits}
-use Rattle.storm_replay.proofs.storm.append_world.Goals as goal
+use Rattle.storm_replay.proofs.running.append_world.Goals as goal
 
 pub returns : goal.returns
 returns c =
@@ -21,7 +21,7 @@ returns c =
     let done : List Verb = verbs_of unit before in
     let limits : Limits = limits_of done in
     let s : State = state_of unit limits done in
-    let tracks = c.client.ensures.tracks unit limits done is.1 in
-    let keeps = c.client.ensures.keeps unit limits done is.1 in
+    let tracks = c.client-client.ensures.tracks unit limits done is.1 in
+    let keeps = c.client-client.ensures.keeps unit limits done is.1 in
     line ∙ ap (λ (t : List ℕ). old ++ t)
-    (line_of unit limits s c.status.result c.len.result c.shares.result c.book.result.now.book (c.status.ensures limits.hold s.heard tracks) (c.book.ensures.book limits.hold s.heard s.accepted tracks keeps) c.len.ensures.count c.shares.ensures)) c.append_line.ensures
+    (line_of unit limits s c.status.result c.len.result c.shares.result c.book-book.result.now.book (c.status.ensures limits.hold s.heard tracks) (c.book-book.ensures.book limits.hold s.heard s.accepted tracks keeps) c.len.ensures.count c.shares.ensures)) c.append_line.ensures
