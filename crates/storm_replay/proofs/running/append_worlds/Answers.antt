@@ -13,10 +13,10 @@ pub units-preserved : goal.units-preserved
 units-preserved c = λ before are.
     let worlds : List World = c.args.worlds.now in
     let within : c.units.index < length worlds = omega (arith, c.units-test.true, c.requires) in
-    let at : slice_get worlds c.units.index ≡ Some c.index-worlds-from.result.now =
-    subst (λ (i : ℕ). slice_get worlds i ≡ Some c.index-worlds-from.result.now) c.from.ensures
-    (slice_get_read worlds (length worlds) c.from.result c.index-worlds-from.result.now refl (omega (arith, within, c.from.ensures)) c.index-worlds-from.ensures.value) in
-    lines_next before c.units.index (c.units.index + 1) c.args.out.now.items c.units.out.items _ (omega arith) (c.units.invariant before are) (c.in_ok-append_world.ensures before (are c.units.index c.index-worlds-from.result.now at))
+    let at : slice_get worlds c.units.index ≡ Some c.index-worlds-from.result =
+    subst (λ (i : ℕ). slice_get worlds i ≡ Some c.index-worlds-from.result) c.from.ensures
+    (slice_get_read worlds (length worlds) c.from.result c.index-worlds-from.result refl (omega (arith, within, c.from.ensures)) c.index-worlds-from.is) in
+    lines_next before c.units.index (c.units.index + 1) c.args.out.now.items c.units.out.items _ (omega arith) (c.units.invariant before are) (c.in_ok-append_world.ensures before (are c.units.index c.index-worlds-from.result at))
 
 pub returns : goal.returns
 returns c =
