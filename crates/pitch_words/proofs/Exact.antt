@@ -1,5 +1,5 @@
 -- The words are a form exactly where clap takes them and finds the form.
-use Rattle.std.proofs.Common.{◌≡◌, ◌∙◌, ℕ, ◌-◌, ◌^◌, ap₃, Bool, true, false, refl, sym, ap, subst, List, [], Option, Some, None, true≢false}
+use Rattle.std.proofs.Common.{◌≡◌, ◌∙◌, ℕ, ◌-◌, ◌^◌, Bool, true, false, refl, sym, ap, subst, List, [], Option, Some, None, true≢false}
 use Rattle.std.specs.Prelude.{MatchOption, codes}
 use Rattle.std.specs.List.{All, list_all}
 use Rattle.std.specs.Str.{IsUtf8, bytes_eq}
@@ -40,8 +40,9 @@ numbers_same options Show Show e a b = refl
 numbers_same options (Pack m) (Pack n) e a b = ap Pack (given_same 1 255 (options.value (codes "unit")) m n a b)
 numbers_same options Replay Replay e a b = refl
 numbers_same options (Storm number units steps) (Storm number' units' steps') e a b =
-    ap₃ Storm (given_same 0 (2 ^ 64 - 1) (options.value (codes "number")) number number' a.0 b.0) (given_same 1 16 (options.value (codes "units")) units units' a.1 b.1)
-    (given_same 1 10000 (options.value (codes "steps")) steps steps' a.2 b.2)
+    ap (λ (n : ℕ). Storm n units steps) (given_same 0 (2 ^ 64 - 1) (options.value (codes "number")) number number' a.0 b.0)
+    ∙ ap (λ (n : ℕ). Storm number' n steps) (given_same 1 16 (options.value (codes "units")) units units' a.1 b.1)
+    ∙ ap (λ (n : ℕ). Storm number' units' n) (given_same 1 10000 (options.value (codes "steps")) steps steps' a.2 b.2)
 numbers_same options _ _ e a b = cc
 
 -- ---- whatever the forms are
