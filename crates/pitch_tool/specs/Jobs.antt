@@ -4,18 +4,19 @@ use Rattle.pitch_words.specs.declared.form.Form.{Form}
 use Rattle.pitch_words.specs.declared.form.Form.TheVariants as form
 use Rattle.stream_print.specs.Inputs.{stream_limit, trouble_of, StreamEnds}
 use Rattle.stream_print.specs.Holding.{CanHold}
-use Rattle.stream_print.specs.Told.{Told}
+use Rattle.stream_print.specs.Told.{Told, IsUntouched}
 use Rattle.stream_print.specs.declared.failure.StreamFailure.{StreamFailure}
 use Rattle.stream_print.specs.declared.failure.StreamFailure.TheVariants as stream
 use Rattle.stream_print.specs.declared.failure.StreamTrouble.{StreamTrouble}
 use Rattle.stream_print.specs.declared.stream_form.StreamForm.TheVariants.{Follow, Show}
+use Rattle.pitch_tool.specs.StormForm.{IsStorm, StormEnds}
 use Rattle.pitch_tool.specs.TextForms.{text_limit, text_trouble, TextEnds}
 use Rattle.pitch_tool.specs.declared.failure.Failure.{Failure}
 use Rattle.pitch_tool.specs.declared.failure.Failure.TheVariants.{BadInput, Read, Write, OutOfMemory}
 use Rattle.pitch_tool.specs.declared.failure.Trouble.{Trouble}
 use Rattle.pitch_tool.specs.declared.failure.Trouble.TheVariants.{Blocks}
 use Rattle.pitch_tool.specs.declared.job.Job.{Job}
-use Rattle.pitch_tool.specs.declared.job.Job.TheVariants.{Stream, Text}
+use Rattle.pitch_tool.specs.declared.job.Job.TheVariants.{Stream, Text, Storm}
 use Rattle.pitch_tool.specs.declared.job.TextForm.TheVariants.{Pack, Replay}
 
 -- the job of a form
@@ -24,32 +25,37 @@ job_of (form.Follow hold) = Stream (Follow hold)
 job_of form.Show = Stream Show
 job_of (form.Pack unit) = Text (Pack unit)
 job_of form.Replay = Text Replay
+job_of (form.Storm number units steps) = Storm number units steps
 
 -- the numbers of a job lie in their ranges
 abbrev pub CanDo : Job → Type 0
 CanDo (Stream form) = CanHold form
 CanDo (Text form) = Unit {0}
+CanDo (Storm number units steps) = IsStorm units steps
 
 -- how many bytes of the source a job takes at most: one more than it reads
 abbrev pub most_taken : Job → ℕ
 most_taken (Stream form) = stream_limit + 1
 most_taken (Text form) = text_limit + 1
+most_taken (Storm number units steps) = 0
 
 -- what is wrong with a stream, as the trouble of a job
 abbrev pub blocks_trouble : Option StreamTrouble → Option Trouble
 blocks_trouble None = None
 blocks_trouble (Some trouble) = Some (Blocks trouble)
 
--- what is wrong with the input of a job
+-- what is wrong with the input of a job: nothing, where it reads none
 abbrev pub trouble_in : Job → List ℕ → Option Trouble
 trouble_in (Stream form) bytes = blocks_trouble (trouble_of stream_limit bytes)
 trouble_in (Text form) bytes = text_trouble form text_limit bytes
+trouble_in (Storm number units steps) bytes = None
 
--- a source tells its bytes, and a job has this to say of them; of a job that reads nothing it would
--- be a unit type, whatever the source tells
+-- a source tells its bytes, and a job has this to say of them; a job that reads nothing finds
+-- nothing wrong, whatever the source tells
 abbrev pub Judges : Job → Option (List ℕ) → Option Trouble → Type 0
 Judges (Stream form) left trouble = (bytes : List ℕ) × (left ≡ Some bytes) × (trouble_in (Stream form) bytes ≡ trouble)
 Judges (Text form) left trouble = (bytes : List ℕ) × (left ≡ Some bytes) × (trouble_in (Text form) bytes ≡ trouble)
+Judges (Storm number units steps) left trouble = trouble ≡ None
 
 -- why a stream ended, as why the program ends
 abbrev pub of_stream : StreamFailure → Failure
@@ -67,3 +73,4 @@ JobEnds (Stream form) (Err Write) input out = StreamEnds form stream_limit (Err 
 JobEnds (Stream form) (Err OutOfMemory) input out = StreamEnds form stream_limit (Err stream.OutOfMemory) input out
 JobEnds (Stream form) (Err _) input out = ⊥
 JobEnds (Text form) result input out = TextEnds form text_limit result input out
+JobEnds (Storm number units steps) result input out = IsUntouched input × StormEnds number units steps result out

@@ -2,4 +2,5 @@ pub mod Devices
 pub mod Jobs
 pub mod Program
 pub mod Statuses
+pub mod StormForm
 pub mod TextForms

@@ -1,4 +1,5 @@
-//! The commands that make bytes of a text, each in a module of its own.
+//! The commands that make bytes of a text or of numbers, each in a module of its own.
 
 pub mod pack;
 pub mod replay;
+pub mod storm;

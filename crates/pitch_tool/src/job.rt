@@ -21,6 +21,8 @@ pub enum Job {
     Stream(StreamForm),
     /// A whole text is read, and what it makes is written.
     Text(TextForm),
+    /// Nothing is read, and the summary of a storm is written.
+    Storm { number: u64, units: u8, steps: u32 },
 }
 
 /// The job of a form.
@@ -34,5 +36,14 @@ pub fn job_of(form: Form) -> Job
         Form::Show => Job::Stream(StreamForm::Show),
         Form::Pack { unit } => Job::Text(TextForm::Pack { unit }),
         Form::Replay => Job::Text(TextForm::Replay),
+        Form::Storm {
+            number,
+            units,
+            steps,
+        } => Job::Storm {
+            number,
+            units,
+            steps,
+        },
     }
 }

@@ -8,6 +8,7 @@ ghost use Rattle.pitch_tool.specs.Devices.{device};
 ghost use Rattle.pitch_tool.specs.Jobs.{CanDo, JobEnds, Judges, most_taken, job_of as the_job};
 ghost use Rattle.pitch_tool.specs.Program.{memory_text, trouble_text, IsNoForm, RunEnds, Closes, HasCauses, IsWhole, IsRefusal};
 
+use crate::commands::storm::print_storm;
 use crate::failure::{Failure, Trouble};
 use crate::job::{Job, job_of};
 use crate::status::ExitStatus;
@@ -19,6 +20,7 @@ use std::alloc::Global;
 use stream_print::{StreamTrouble, print_stream, put_all};
 
 // Does a job.
+#[tactic(auto, using(crate::proofs::Storms::takes_none, crate::proofs::Storms::no_read_fault))]
 fn do_job<I: Source, O: Sink>(
     alloc: Global,
     job: Job,
@@ -37,6 +39,11 @@ fn do_job<I: Source, O: Sink>(
             Ok(())
         }
         Job::Text(form) => print_text(alloc, form, input, out),
+        Job::Storm {
+            number,
+            units,
+            steps,
+        } => print_storm(alloc, number, units, steps, out),
     }
 }
 
@@ -145,18 +152,20 @@ fn close<I: Source, O: Sink, E: Sink>(
 /// The program: does what the words ask for, and says on `err` why it ends before its whole text.
 ///
 /// `words` are those after the program's name: `follow`, and perhaps `--hold H` with H from 1 to
-/// 65,536 (4,096 where it isn't given), `show`, `pack --unit U` with U from 1 to 255, or `replay`.
-/// The first two read a stream of Sequenced Unit Header blocks from `input`, of at most
+/// 65,536 (4,096 where it isn't given), `show`, `pack --unit U` with U from 1 to 255, `replay`, or
+/// `storm` with `--number S`, `--units N` with N from 1 to 16 and `--steps M` with M from 1 to
+/// 10,000. The first two read a stream of Sequenced Unit Header blocks from `input`, of at most
 /// 1,073,741,824 bytes. `follow` writes to `out` a line for each block, and at the stream's end the
 /// books of all units that a block named; `show` writes a line for each block and for each message.
-/// The other two read a text of at most 67,108,864 bytes, and write nothing before it was read
+/// The next two read a text of at most 67,108,864 bytes, and write nothing before it was read
 /// whole. `pack` reads venue commands, and writes their datagrams, back to back, once the venue has
 /// accepted all. `replay` reads a schedule, and writes what each of its lines does in the world of
-/// its unit: venue, lines, servers and client.
+/// its unit: venue, lines, servers and client. `storm` reads nothing: it makes a schedule, does all
+/// its lines in the worlds of its units, and writes where each unit ended.
 ///
 /// At `Done` the whole text was written and nothing was said. At `Usage` nothing was read or
 /// written. At `BadInput` the texts of the whole blocks before the trouble were written, and no
-/// book; by `pack` and `replay` nothing was. At `ReadFault` the source had failed, and at
+/// book; by `pack` and `replay` nothing was, and `storm` never ends so. At `ReadFault` the source had failed, and at
 /// `WriteFault` the sink.
 pub fn pitch<I: Source, O: Sink, E: Sink>(
     alloc: Global,

@@ -6,6 +6,7 @@ ghost use Rattle.pitch_tool.specs.Program.{IsWhole, IsRefusal};
 ghost use Rattle.pitch_tool.specs.declared.failure.Trouble.{Trouble};
 
 mod schedules;
+mod storms;
 
 use crate::{ExitStatus, pitch};
 use pitch_fields::OutOfMemory;

@@ -1,5 +1,5 @@
 -- The words are a form exactly where clap takes them and finds the form.
-use Rattle.std.proofs.Common.{◌≡◌, ◌∙◌, ℕ, Bool, true, false, refl, sym, ap, subst, List, [], Option, Some, None, true≢false}
+use Rattle.std.proofs.Common.{◌≡◌, ◌∙◌, ℕ, ◌-◌, ◌^◌, Bool, true, false, refl, sym, ap, subst, List, [], Option, Some, None, true≢false}
 use Rattle.std.specs.Prelude.{MatchOption, codes}
 use Rattle.std.specs.List.{All, list_all}
 use Rattle.std.specs.Str.{IsUtf8, bytes_eq}
@@ -13,7 +13,7 @@ use Rattle.long_options.proofs.Program.{calls_taken, takes_calls}
 use Rattle.pitch_words.specs.Numbers.{IsGivenNumber, IsGivenOr}
 use Rattle.pitch_words.specs.Forms.{HasForm, HasNumbers, IsForm, command_of, commands, pitch}
 use Rattle.pitch_words.specs.declared.form.Form.{Form}
-use Rattle.pitch_words.specs.declared.form.Form.TheVariants.{Follow, Show, Pack, Replay}
+use Rattle.pitch_words.specs.declared.form.Form.TheVariants.{Follow, Show, Pack, Replay, Storm}
 
 -- ---- a line for each form
 
@@ -23,6 +23,7 @@ command_is (Follow hold) = refl
 command_is Show = refl
 command_is (Pack unit) = refl
 command_is Replay = refl
+command_is (Storm number units steps) = refl
 
 given_or_same : (default least most : ℕ) (o : Option Text) (m n : ℕ) → IsGivenOr default least most o m → IsGivenOr default least most o n → m ≡ n
 given_or_same default least most None m n a b = a ∙ sym b
@@ -38,6 +39,10 @@ numbers_same options (Follow m) (Follow n) e a b = ap Follow (given_or_same 4096
 numbers_same options Show Show e a b = refl
 numbers_same options (Pack m) (Pack n) e a b = ap Pack (given_same 1 255 (options.value (codes "unit")) m n a b)
 numbers_same options Replay Replay e a b = refl
+numbers_same options (Storm number units steps) (Storm number' units' steps') e a b =
+    ap (λ (n : ℕ). Storm n units steps) (given_same 0 (2 ^ 64 - 1) (options.value (codes "number")) number number' a.0 b.0)
+    ∙ ap (λ (n : ℕ). Storm number' n steps) (given_same 1 16 (options.value (codes "units")) units units' a.1 b.1)
+    ∙ ap (λ (n : ℕ). Storm number' units' n) (given_same 1 10000 (options.value (codes "steps")) steps steps' a.2 b.2)
 numbers_same options _ _ e a b = cc
 
 -- ---- whatever the forms are

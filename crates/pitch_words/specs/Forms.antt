@@ -1,5 +1,5 @@
 -- The forms of the program's words.
-use Rattle.std.specs.Prelude.{◌≡◌, ◌≤◌, List, [], ◌∷◌, Option, Some, None, codes}
+use Rattle.std.specs.Prelude.{◌≡◌, ◌-◌, ◌^◌, ◌≤◌, List, [], ◌∷◌, Option, Some, None, codes}
 use Rattle.pitch_fields.specs.Limits.{most_held}
 use Rattle.clap.specs.Simple.{App}
 use Rattle.clap.specs.Walk.{Row}
@@ -8,7 +8,7 @@ use Rattle.long_options.specs.Apps.{program}
 use Rattle.long_options.specs.Found.{Options, found_options, given_options}
 use Rattle.pitch_words.specs.Numbers.{IsGivenNumber, IsGivenOr}
 use Rattle.pitch_words.specs.declared.form.Form.{Form}
-use Rattle.pitch_words.specs.declared.form.Form.TheVariants.{Follow, Show, Pack, Replay}
+use Rattle.pitch_words.specs.declared.form.Form.TheVariants.{Follow, Show, Pack, Replay, Storm}
 
 -- `follow [--hold H]`
 abbrev pub follow : Described
@@ -26,9 +26,13 @@ pack = (codes "pack", must_have (codes "unit") ∷ [])
 abbrev pub replay : Described
 replay = (codes "replay", [])
 
+-- `storm --number S --units N --steps M`
+abbrev pub storm : Described
+storm = (codes "storm", must_have (codes "number") ∷ must_have (codes "units") ∷ must_have (codes "steps") ∷ [])
+
 -- the program's commands
 abbrev pub commands : List Described
-commands = follow ∷ show ∷ pack ∷ replay ∷ []
+commands = follow ∷ show ∷ pack ∷ replay ∷ storm ∷ []
 
 -- the command that a form gives
 abbrev pub command_of : Form → Described
@@ -36,14 +40,18 @@ command_of (Follow hold) = follow
 command_of Show = show
 command_of (Pack unit) = pack
 command_of Replay = replay
+command_of (Storm number units steps) = storm
 
 -- the options have the form's numbers: H is 1 to 65,536, and 4,096 where it isn't given; U is
--- 1 to 255; `show` and `replay` have none
+-- 1 to 255; S is any number of 64 bits, N 1 to 16 and M 1 to 10,000; `show` and `replay` have none
 abbrev pub HasNumbers : Options → Form → Type 0
 HasNumbers options (Follow hold) = IsGivenOr 4096 1 most_held (options.value (codes "hold")) hold
 HasNumbers options Show = Unit {0}
 HasNumbers options (Pack unit) = IsGivenNumber 1 255 (options.value (codes "unit")) unit
 HasNumbers options Replay = Unit {0}
+HasNumbers options (Storm number units steps) =
+    IsGivenNumber 0 (2 ^ 64 - 1) (options.value (codes "number")) number × IsGivenNumber 1 16 (options.value (codes "units")) units
+    × IsGivenNumber 1 10000 (options.value (codes "steps")) steps
 
 -- the words are this form: its command, then that command's options, with its numbers
 abbrev pub IsForm : List Text → Form → Type 0
@@ -55,6 +63,7 @@ IsInRange (Follow hold) = (1 ≤ hold) × (hold ≤ most_held)
 IsInRange Show = Unit {0}
 IsInRange (Pack unit) = (1 ≤ unit) × (unit ≤ 255)
 IsInRange Replay = Unit {0}
+IsInRange (Storm number units steps) = (1 ≤ units × units ≤ 16) × (1 ≤ steps × steps ≤ 10000)
 
 -- the program as clap's builders make it
 abbrev pub pitch : App

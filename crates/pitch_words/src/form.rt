@@ -17,4 +17,14 @@ pub enum Form {
     },
     /// `replay`: read a schedule, and write what its lines do.
     Replay,
+    /// `storm --number S --units N --steps M`: make a schedule and replay it, and write where its
+    /// units ended.
+    Storm {
+        /// What the storm is made from.
+        number: u64,
+        /// How many units it has: 1 to 16.
+        units: u8,
+        /// How many steps each unit takes: 1 to 10,000.
+        steps: u32,
+    },
 }

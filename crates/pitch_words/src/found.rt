@@ -78,6 +78,22 @@ fn pack(matches: &ArgMatches) -> Option<Form>
     Some(Form::Pack { unit: unit as u8 })
 }
 
+// `storm --number S --units N --steps M`
+fn storm(matches: &ArgMatches) -> Option<Form>
+    ensures form { MatchOption result ((form : Form) → ¬ HasForm (Some (codes "storm", rows_of (found_of matches.now))) form)
+        (HasForm (Some (codes "storm", rows_of (found_of matches.now)))) }
+    ensures range { IfSome result IsInRange }
+{
+    let number = given(matches, "number", 0, u64::MAX)?;
+    let units = given(matches, "units", 1, 16)?;
+    let steps = given(matches, "steps", 1, 10_000)?;
+    Some(Form::Storm {
+        number,
+        units: units as u8,
+        steps: steps as u32,
+    })
+}
+
 // The form of the command of this name.
 fn form_in(name: &str, matches: &ArgMatches) -> Option<Form>
     ensures form { MatchOption result ((form : Form) → ¬ HasForm (Some (name.now, rows_of (found_of matches.now))) form)
@@ -89,6 +105,7 @@ fn form_in(name: &str, matches: &ArgMatches) -> Option<Form>
         "show" => Some(Form::Show),
         "pack" => pack(matches),
         "replay" => Some(Form::Replay),
+        "storm" => storm(matches),
         _ => None,
     }
 }

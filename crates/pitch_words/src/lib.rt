@@ -8,6 +8,7 @@
 //! | `show` | | |
 //! | `pack --unit U` | U is 1 to 255 | |
 //! | `replay` | | |
+//! | `storm --number S --units N --steps M` | S is below 2^64, N is 1 to 16, M is 1 to 10,000 | |
 //!
 //! The first word is a command's name. The options follow in any order, each at most once, as
 //! `--name value` or `--name=value`; those in brackets may be left out. A value is 1 to 20 digits

@@ -32,6 +32,15 @@ fn words_and_their_forms(rt: HostRuntime) -> Result<(), Fail> {
         assert!(rt; got == Some(Form::Pack { unit }), "words {line}");
     }
     assert!(rt; form_of_line(rt.alloc(), "replay")? == Some(Form::Replay));
+    let storms = [
+        ("storm --number 7 --units 16 --steps 10000", (7, 16, 10_000)),
+        ("storm --steps 1 --number 0 --units 1", (0, 1, 1)),
+        ("storm --units=2 --number=18446744073709551615 --steps 3", (u64::MAX, 2, 3)),
+    ];
+    for (line, (number, units, steps)) in storms {
+        let got = form_of_line(rt.alloc(), line)?;
+        assert!(rt; got == Some(Form::Storm { number, units, steps }), "words {line}");
+    }
     let refused = [
         "follow --hold 0",
         "follow --hold 65537",
@@ -75,6 +84,19 @@ fn words_and_their_forms(rt: HostRuntime) -> Result<(), Fail> {
         "replay --workers",
         "replay --workers 2",
         "replay --unit 1",
+        "storm",
+        "storm --number 0 --units 1",
+        "storm --units 1 --steps 1",
+        "storm --number 0 --steps 1",
+        "storm --number 18446744073709551616 --units 1 --steps 1",
+        "storm --number -1 --units 1 --steps 1",
+        "storm --number 0 --units 0 --steps 1",
+        "storm --number 0 --units 17 --steps 1",
+        "storm --number 0 --units 1 --steps 0",
+        "storm --number 0 --units 1 --steps 10001",
+        "storm --number 0 --units 1 --steps 1 --steps 1",
+        "storm --number 0 --units 1 --steps 1 --workers 2",
+        "storm --number 0 --units 1 --steps 1 --",
         "fol",
         "FOLLOW",
         "help",

@@ -1,0 +1,32 @@
+ghost use Rattle.std.specs.Prelude.{◌≡◌, ◌≢◌, Err};
+ghost use Rattle.pitch_io.specs.Causes.{HasCause};
+ghost use Rattle.stream_print.specs.Told.{told};
+ghost use Rattle.pitch_tool.specs.StormForm.{IsStorm, StormEnds};
+
+use crate::failure::Failure;
+use pitch_io::Sink;
+use schedule_replay::WorldList;
+use std::alloc::Global;
+use storm_replay::storm;
+use stream_print::put_all;
+
+/// Writes the summary of a storm, once all its units have ended.
+#[tactic(auto, using(crate::proofs::Storms::storm_is_run, crate::proofs::Storms::writes_summary, crate::proofs::Storms::writes_some))]
+pub fn print_storm<O: Sink>(
+    alloc: Global,
+    number: u64,
+    units: u8,
+    steps: u32,
+    out: &mut O,
+) -> Result<(), Failure>
+    requires { IsStorm units steps }
+    ensures ends { StormEnds number units steps result (told O.written out.old out.new) }
+    ensures unread { result ≢ Err Failure.Read }
+    ensures write_cause { HasCause (O.faults out.old) (O.faults out.new) (result ≡ Err Failure.Write) }
+{
+    let mut worlds = WorldList::make(alloc);
+    let mut summary = Vec::new(alloc);
+    storm(alloc, number, units, steps, &mut worlds, &mut summary)?;
+    put_all(out, &summary)?;
+    Ok(())
+}

@@ -1,0 +1,27 @@
+use Rattle.std.proofs.Common.{◌≡◌, ℕ, List, ◌++◌, ap, ◌∙◌}
+use Rattle.pitch_text.specs.declared.verb.ScheduleEntry.{ScheduleEntry}
+use Rattle.pitch_text.specs.declared.verb.Verb.{Verb}
+use Rattle.schedule_replay.specs.Replay.{verbs_of, limits_of}
+use Rattle.schedule_replay.specs.Worlds.{IsWorldOf}
+use Rattle.std.proofs.lemmas.Result.{on_ok_weaker}
+use Rattle.storm_plan.specs.StormText.{unit_line}
+use Rattle.storm_replay.specs.Summary.{ended_line}
+use Rattle.storm_replay.proofs.Lines.{line_of}
+use Rattle.world_model.specs.State.{State}
+use Rattle.world_model.specs.Verbs.{state_of}
+use Rattle.world_model.specs.declared.limits.Limits.{Limits}
+use Rattle.storm_replay.proofs.running.append_world.Goals as goal
+
+pub returns : goal.returns
+returns c =
+    let unit : ℕ = c.args.unit in
+    let old : List ℕ = c.args.out.now.items in
+    on_ok_weaker c.append_line.result
+    (λ line before is.
+    let done : List Verb = verbs_of unit before in
+    let limits : Limits = limits_of done in
+    let s : State = state_of unit limits done in
+    let tracks = c.client-client.ensures.tracks unit limits done is.1 in
+    let keeps = c.client-client.ensures.keeps unit limits done is.1 in
+    line ∙ ap (λ (t : List ℕ). old ++ t)
+    (line_of unit limits s c.status.result c.len.result c.shares.result c.book-book.result.now.book (c.status.ensures limits.hold s.heard tracks) (c.book-book.ensures.book limits.hold s.heard s.accepted tracks keeps) c.len.ensures.count c.shares.ensures)) c.append_line.ensures

@@ -1,0 +1,146 @@
+//! What became of a storm's units.
+
+ghost use Rattle.std.specs.Prelude.{◌≡◌, ◌≤◌, ◌++◌, List, ℕ, [], length, OnOk, OnErr, IfOk};
+ghost use Rattle.pitch_text.specs.declared.verb.ScheduleEntry.{ScheduleEntry as EntrySaid};
+ghost use Rattle.schedule_replay.specs.Worlds.{AddsWorlds, AreRunThrough, IsWorldOf};
+ghost use Rattle.storm_plan.specs.Storm.{most_units, most_steps, storm_schedule};
+ghost use Rattle.storm_plan.specs.StormText.{storm_line, unit_line};
+ghost use Rattle.storm_replay.specs.Summary.{AreInTurn, AreStormWorlds, ended_line, ended_lines, storm_text};
+
+use feed_lines::LINE;
+use pitch_fields::OutOfMemory;
+use pitch_model::Status;
+use schedule_replay::{ReplayError, WorldList, replay};
+use std::alloc::Global;
+use storm_plan::{generate, put_storm_line, put_unit_line, storms_are_read};
+use world_model::World;
+
+// Appends the line that says what a storm was made of.
+fn append_made(
+    number: u64,
+    units: u8,
+    steps: u32,
+    out: &mut Vec<u8>,
+) -> Result<(), OutOfMemory>
+    ensures { OnOk result (out.new.items ≡ out.old.items ++ storm_line number units steps) }
+{
+    let mut line = [0u8; LINE];
+    let end = put_storm_line(&mut line, 0, number, units, steps);
+    out.extend_from_slice(&line[..end])?;
+    Ok(())
+}
+
+// Appends the line of a unit.
+fn append_line(
+    unit: u8,
+    status: Status,
+    orders: u32,
+    shares: u64,
+    out: &mut Vec<u8>,
+) -> Result<(), OutOfMemory>
+    ensures { OnOk result (out.new.items ≡ out.old.items ++ unit_line unit status orders shares) }
+{
+    let mut line = [0u8; LINE];
+    let end = put_unit_line(&mut line, 0, unit, status, orders, shares);
+    out.extend_from_slice(&line[..end])?;
+    Ok(())
+}
+
+// Appends the line of a unit by its world.
+fn append_world(world: &World, unit: u8, out: &mut Vec<u8>) -> Result<(), OutOfMemory>
+    // Whatever lines were done in the world, it is the unit's line after them.
+    ensures { OnOk result ((before : List EntrySaid) → IsWorldOf before unit world.now → out.new.items ≡ out.old.items ++ ended_line before unit) }
+{
+    let client = world.client();
+    let book = client.book();
+    append_line(unit, client.status(), book.len(), book.shares(), out)
+}
+
+// Appends the lines of all units by their worlds.
+fn append_worlds(worlds: &[World], units: u8, out: &mut Vec<u8>) -> Result<(), OutOfMemory>
+    requires { length worlds.now ≡ units }
+    // Whatever lines were done in the worlds, they are the units' lines after them.
+    ensures { OnOk result ((before : List EntrySaid) → AreInTurn before worlds.now → out.new.items ≡ out.old.items ++ ended_lines before units) }
+{
+    'units: for index in 0..units {
+        append_world(&worlds[usize::from(index)], index + 1, out)?;
+    }
+    Ok(())
+}
+
+// The summary of a storm by its worlds.
+fn summary_of(
+    alloc: Global,
+    number: u64,
+    units: u8,
+    steps: u32,
+    worlds: &WorldList,
+) -> Result<Vec<u8>, OutOfMemory>
+    requires { AreStormWorlds number units steps worlds.now.items }
+    ensures { IfOk result (λ text. text.items ≡ storm_text number units steps) }
+{
+    let mut text = Vec::new(alloc);
+    append_made(number, units, steps, &mut text)?;
+    append_worlds(worlds.as_slice(), units, &mut text)?;
+    Ok(text)
+}
+
+// The worlds of a storm's units, in which all lines of its schedule were done. The schedule's text
+// is dropped.
+fn worlds_of(
+    alloc: Global,
+    number: u64,
+    units: u8,
+    steps: u32,
+) -> Result<WorldList, OutOfMemory>
+    requires units { (1 ≤ units) × (units ≤ most_units) }
+    requires steps { (1 ≤ steps) × (steps ≤ most_steps) }
+    ensures run { IfOk result (λ worlds. AreRunThrough (storm_schedule number units steps) worlds.items) }
+    ensures each { IfOk result (λ worlds. AreStormWorlds number units steps worlds.items) }
+{
+    storms_are_read();
+    let mut text = Vec::new(alloc);
+    generate(number, units, steps, &mut text)?;
+    let mut worlds = WorldList::make(alloc);
+    let mut printed = Vec::new(alloc);
+    match replay(alloc, &text, &mut worlds, &mut printed) {
+        Ok(()) => Ok(worlds),
+        Err(ReplayError::OutOfMemory) => Err(OutOfMemory),
+        Err(ReplayError::Text { .. }) => unreachable!(),
+    }
+}
+
+/// Makes the schedule of a storm, and does all its lines in the worlds of its units. Appends the
+/// storm's summary to `out`: a line that says what it was made of, and by rising unit a line with
+/// the status of the unit's client and the orders and shares of its book. Appends the worlds to
+/// `worlds`, as `replay` does for the same schedule.
+///
+/// A storm has 1 to 16 units and 1 to 10,000 steps, and its summary is the same at each run. After
+/// OutOfMemory `out` and `worlds` are as before.
+pub fn storm(
+    alloc: Global,
+    number: u64,
+    units: u8,
+    steps: u32,
+    worlds: &mut WorldList,
+    out: &mut Vec<u8>,
+) -> Result<(), OutOfMemory>
+    requires units { (1 ≤ units) × (units ≤ most_units) }
+    requires steps { (1 ≤ steps) × (steps ≤ most_steps) }
+    ensures written { OnOk result (out.new.items ≡ out.old.items ++ storm_text number units steps) }
+    ensures worlds { OnOk result (AddsWorlds (storm_schedule number units steps) worlds.old.items worlds.new.items) }
+    ensures kept_text { OnErr result (out.new.items ≡ out.old.items) }
+    ensures kept_worlds { OnErr result (worlds.new.items ≡ worlds.old.items) }
+{
+    let run = worlds_of(alloc, number, units, steps)?;
+    let summary = summary_of(alloc, number, units, steps, &run)?;
+    let start = out.len();
+    out.extend_from_slice(&summary)?;
+    match worlds.append(run.into_vec()) {
+        Ok(()) => Ok(()),
+        Err(error) => {
+            out.truncate(start);
+            Err(error)
+        }
+    }
+}

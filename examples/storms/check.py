@@ -1,0 +1,45 @@
+#!/usr/bin/env python3
+"""Runs each storm of this folder, NAME.words, and compares what is written with NAME.out.
+
+    examples/storms/check.py PROGRAM
+
+PROGRAM is the path of the built program, or ./pitch. The last line is `N passed, M failed`; the
+exit status is 0 only where none failed.
+"""
+import os
+import subprocess
+import sys
+
+HERE = os.path.dirname(os.path.abspath(__file__))
+
+
+def text_of(name):
+    with open(os.path.join(HERE, name)) as file:
+        return file.read()
+
+
+def fault_of(program, name):
+    """What is wrong with the run of a storm; None where nothing is."""
+    words = text_of(name + '.words').split()
+    done = subprocess.run([program] + words, stdin=subprocess.DEVNULL, capture_output=True, text=True)
+    if done.returncode != 0 or done.stderr:
+        return 'status %d, standard error %r' % (done.returncode, done.stderr.strip())
+    return None if done.stdout == text_of(name + '.out') else 'the text differs'
+
+
+def main():
+    if len(sys.argv) != 2:
+        sys.exit('usage: check.py PROGRAM')
+    names = sorted(name[:-6] for name in os.listdir(HERE) if name.endswith('.words'))
+    failed = 0
+    for name in names:
+        fault = fault_of(sys.argv[1], name)
+        if fault:
+            failed += 1
+            print('FAIL %s: %s' % (name, fault))
+    print('%d passed, %d failed' % (len(names) - failed, failed))
+    sys.exit(1 if failed else 0)
+
+
+if __name__ == '__main__':
+    main()
