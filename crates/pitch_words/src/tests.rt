@@ -35,11 +35,21 @@ fn words_and_their_forms(rt: HostRuntime) -> Result<(), Fail> {
     let storms = [
         ("storm --number 7 --units 16 --steps 10000", (7, 16, 10_000)),
         ("storm --steps 1 --number 0 --units 1", (0, 1, 1)),
-        ("storm --units=2 --number=18446744073709551615 --steps 3", (u64::MAX, 2, 3)),
+        (
+            "storm --units=2 --number=18446744073709551615 --steps 3",
+            (u64::MAX, 2, 3),
+        ),
     ];
     for (line, (number, units, steps)) in storms {
         let got = form_of_line(rt.alloc(), line)?;
-        assert!(rt; got == Some(Form::Storm { number, units, steps }), "words {line}");
+        assert!(rt;
+            got == Some(Form::Storm {
+                number,
+                units,
+                steps
+            }),
+            "words {line}"
+        );
     }
     let refused = [
         "follow --hold 0",

@@ -16,12 +16,7 @@ use storm_plan::{generate, put_storm_line, put_unit_line, storms_are_read};
 use world_model::World;
 
 // Appends the line that says what a storm was made of.
-fn append_made(
-    number: u64,
-    units: u8,
-    steps: u32,
-    out: &mut Vec<u8>,
-) -> Result<(), OutOfMemory>
+fn append_made(number: u64, units: u8, steps: u32, out: &mut Vec<u8>) -> Result<(), OutOfMemory>
     ensures { OnOk result (out.new.items ≡ out.old.items ++ storm_line number units steps) }
 {
     let mut line = [0u8; LINE];
@@ -87,12 +82,7 @@ fn summary_of(
 
 // The worlds of a storm's units, in which all lines of its schedule were done. The schedule's text
 // is dropped.
-fn worlds_of(
-    alloc: Global,
-    number: u64,
-    units: u8,
-    steps: u32,
-) -> Result<WorldList, OutOfMemory>
+fn worlds_of(alloc: Global, number: u64, units: u8, steps: u32) -> Result<WorldList, OutOfMemory>
     requires units { (1 ≤ units) × (units ≤ most_units) }
     requires steps { (1 ≤ steps) × (steps ≤ most_steps) }
     ensures run { IfOk result (λ worlds. AreRunThrough (storm_schedule number units steps) worlds.items) }
