@@ -36,7 +36,7 @@ fn place_of(line: Line, unit: u8) -> usize
 }
 
 impl Arbiter {
-    /// An arbiter that has capped nothing. It takes no memory.
+    /// An arbiter that has counted nothing. It takes no memory.
     pub fn make() -> Arbiter
         ensures { HasNoted result [] }
     {
