@@ -1,5 +1,5 @@
 -- A sound input is done whole, and a faulty one is refused.
-use Rattle.std.proofs.Common.{◌≡◌, ◌⊎◌, inl, inr, ℕ, List, refl, sym, ap, ◌∙◌, subst, Option, None, Some, Ok, Err, Result, length, nat_lt, cond, ◌≤◌, arith}
+use Rattle.std.proofs.Common.{◌≡◌, ◌⊎◌, inl, inr, ℕ, List, refl, sym, ap, ◌∙◌, subst, Option, None, Some, Ok, Err, length, cond, arith}
 use Rattle.std.proofs.lemmas.Bool.{le-ltb}
 use Rattle.std.specs.Result.{result_err}
 use Rattle.pitch_io.specs.Causes.{Rose}

@@ -1,5 +1,5 @@
 -- A storm reads nothing, and writes its summary.
-use Rattle.std.proofs.Common.{◌≡◌, ◌≢◌, ◌≤◌, ℕ, List, [], ◌++◌, Option, Result, Err, arith, subst}
+use Rattle.std.proofs.Common.{◌≡◌, ◌≢◌, ℕ, List, [], Option, Result, Err, arith, subst}
 use Rattle.pitch_io.specs.Causes.{HasCause}
 use Rattle.pitch_io.specs.Putting.{Grows}
 use Rattle.schedule_replay.specs.Worlds.{AddsWorlds}

@@ -1,5 +1,5 @@
 -- A storm: what is written of it, and how it ends. It reads nothing.
-use Rattle.std.specs.Prelude.{◌≡◌, ◌≤◌, ℕ, List, Result, Ok, Err}
+use Rattle.std.specs.Prelude.{◌≤◌, ℕ, List, Result, Ok, Err}
 use Rattle.pitch_io.specs.Putting.{Grows}
 use Rattle.schedule_replay.specs.Worlds.{AreRunThrough}
 use Rattle.storm_plan.specs.Storm.{most_steps, most_units, storm_schedule}

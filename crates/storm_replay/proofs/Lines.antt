@@ -1,5 +1,5 @@
 -- The lines of a storm's summary.
-use Rattle.std.proofs.Common.{◌≡◌, ℕ, suc, List, [], ◌++◌, reverse, refl, sym, ap, ◌∙◌, append_assoc}
+use Rattle.std.proofs.Common.{◌≡◌, ℕ, suc, List, [], ◌++◌, reverse, sym, ap, ◌∙◌, append_assoc}
 use Rattle.std.specs.FinMap.{len}
 use Rattle.std.proofs.lemmas.List.{append-nil}
 use Rattle.pitch_model.specs.Levels.{shares}

@@ -1,23 +1,23 @@
 -- The worlds of a storm stand by rising unit, from 1 on.
-use Rattle.std.proofs.Common.{◌≡◌, ◌≢◌, ◌⊎◌, ℕ, zero, suc, ◌+◌, ◌≤◌, ◌<◌, inl, inr, Bool, true, false, true≢false, ◌||◌, eqb, List, [], ◌∷◌, ◌++◌, length, map, reverse, refl, sym, ap, ◌∙◌, subst, arith, Option, Some, None, Result, Ok, Err}
+use Rattle.std.proofs.Common.{◌≡◌, ◌≢◌, ◌⊎◌, ℕ, zero, suc, ◌+◌, ◌≤◌, ◌<◌, inl, inr, Bool, true, false, true≢false, ◌||◌, eqb, List, [], ◌∷◌, ◌++◌, length, reverse, refl, sym, ap, ◌∙◌, subst, arith, Some, Result, Ok, Err}
 use Rattle.std.specs.List.{AllByRecursion, slice_get, enumerate_from}
 use Rattle.std.specs.List.Sorted.{IsStrictlySortedBy}
 use Rattle.std.specs.Ordering.{nat_cmp}
 use Rattle.std.specs.Set.{is_member}
 use Rattle.std.specs.declared.cmp.Ordering.TheVariants.{Less}
-use Rattle.std.proofs.lemmas.Bool.{eq-eqb, ne_eqb, cases_eq, cases_Bool}
+use Rattle.std.proofs.lemmas.Bool.{eq-eqb}
 use Rattle.std.proofs.lemmas.Bool.Decides.{nat_tests}
 use Rattle.std.proofs.lemmas.Map.Keys.{sorted_from_strictly_increasing}
 use Rattle.std.proofs.lemmas.Option.{none-some, slice_get_past}
 use Rattle.pitch_text.specs.declared.verb.ScheduleEntry.{ScheduleEntry}
 use Rattle.pitch_text.specs.declared.verb.Verb.{Verb}
 use Rattle.text_lines.specs.Text.{TextFault, entries_of}
-use Rattle.pitch_text.specs.ScheduleGrammar.{entry as entry_grammar, schedule_entry}
+use Rattle.pitch_text.specs.ScheduleGrammar.{entry as entry_grammar}
 use Rattle.schedule_replay.specs.Replay.{schedule_on, schedule_of, replay_on, replay_of, replay_text}
 use Rattle.schedule_replay.specs.Worlds.{IsNamed, IsWorldOf, AreWorldsOf, AreAllWorlds, AreRunThrough, AddsWorlds}
 use Rattle.schedule_replay.specs.declared.error.ReplayError.{ReplayError}
 use Rattle.storm_plan.specs.Storm.{storm_entries, storm_schedule}
-use Rattle.storm_replay.specs.Summary.{storm_lines, AreInTurn, AreStormWorlds}
+use Rattle.storm_replay.specs.Summary.{storm_lines, AreStormWorlds}
 use Rattle.storm_replay.proofs.Naming.{named_within, each_named}
 use Rattle.world_model.specs.declared.world.World.{World}
 

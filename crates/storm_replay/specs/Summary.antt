@@ -4,11 +4,9 @@ use Rattle.std.specs.Prelude.{◌≡◌, ℕ, zero, suc, ◌+◌, List, [], ◌+
 use Rattle.std.specs.List.{enumerate_from}
 use Rattle.std.specs.FinMap.{len}
 use Rattle.pitch_model.specs.Levels.{shares}
-use Rattle.pitch_model.specs.Book.{Book}
 use Rattle.pitch_model.specs.Status.{status_of}
 use Rattle.pitch_text.specs.ScheduleGrammar.{schedule_entry}
 use Rattle.pitch_text.specs.declared.verb.ScheduleEntry.{ScheduleEntry}
-use Rattle.pitch_text.specs.declared.verb.Verb.{Verb}
 use Rattle.schedule_replay.specs.Replay.{verbs_of, limits_of}
 use Rattle.schedule_replay.specs.Worlds.{IsWorldOf}
 use Rattle.storm_plan.specs.Storm.{storm_entries}

@@ -1,11 +1,7 @@
-use Rattle.std.proofs.Common.{◌≡◌, ℕ, List, ◌++◌, ap, ◌∙◌}
-use Rattle.pitch_text.specs.declared.verb.ScheduleEntry.{ScheduleEntry}
+use Rattle.std.proofs.Common.{ℕ, List, ◌++◌, ap, ◌∙◌}
 use Rattle.pitch_text.specs.declared.verb.Verb.{Verb}
 use Rattle.schedule_replay.specs.Replay.{verbs_of, limits_of}
-use Rattle.schedule_replay.specs.Worlds.{IsWorldOf}
 use Rattle.std.proofs.lemmas.Result.{on_ok_weaker}
-use Rattle.storm_plan.specs.StormText.{unit_line}
-use Rattle.storm_replay.specs.Summary.{ended_line}
 use Rattle.storm_replay.proofs.Lines.{line_of}
 use Rattle.world_model.specs.State.{State}
 use Rattle.world_model.specs.Verbs.{state_of}
