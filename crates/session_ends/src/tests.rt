@@ -15,10 +15,12 @@ fn memory_is_enough(rt: HostRuntime) {
         .expect(&rt, "memory");
     let mut items = Sayings::of(&reader);
     let mut said = Vec::new(rt.alloc());
-    while let Some(item) = items.next_item() {
-        said.push(link.said(&item)).expect(&rt, "memory");
-        if !link.is_closed() {
-            link.judge(&item);
+    for _ in 0..4 {
+        if let Some(item) = items.next_item() {
+            said.push(link.said(&item)).expect(&rt, "memory");
+            if !link.is_closed() {
+                link.judge(&item);
+            }
         }
     }
     assert_eq!(rt; said.len(), 3);
