@@ -12,8 +12,8 @@ Says answer verb calls number = (answer ≡ true) ↔ Contains calls (record { v
 -- src/memory_net.rt:113:5
 pub returns-clause-listed : goal.returns-clause-listed
 returns-clause-listed c =
-  let field : Says c.holds_call.result c.args.verb _ c.count-number.result
-      = subst (λ (calls : List NetCall). Says c.holds_call.result c.args.verb calls c.count-number.result) c.deref.ensures.value c.holds_call.ensures in
-  let list : Says c.holds_call.result c.args.verb c.args.self.now.failing c.count-number.result
-      = subst (λ (calls : List NetCall). Says c.holds_call.result c.args.verb calls c.count-number.result) (ap (λ (net : Carried). net.failing) c.self.view_is) field in
-  subst (λ (number : ℕ). Says c.holds_call.result c.args.verb c.args.self.now.failing number) c.count-number.ensures.number list
+    let field : Says c.holds_call.result c.args.verb _ c.count-number.result
+    = subst (λ (calls : List NetCall). Says c.holds_call.result c.args.verb calls c.count-number.result) c.deref.ensures.value c.holds_call.ensures in
+    let list : Says c.holds_call.result c.args.verb c.args.self.now.failing c.count-number.result
+    = subst (λ (calls : List NetCall). Says c.holds_call.result c.args.verb calls c.count-number.result) (ap (λ (net : Carried). net.failing) c.self.view_is) field in
+    subst (λ (number : ℕ). Says c.holds_call.result c.args.verb c.args.self.now.failing number) c.count-number.ensures.number list
