@@ -1,9 +1,10 @@
-use crate::session::{self, SessionError, SessionMessage};
-use crate::{
+use pitch_fields::{Price, Side, Symbol};
+use pitch_messages::session::{self, SessionError, SessionMessage};
+use pitch_messages::{
     ByteList, Message, Order, Raw, RawList, add_raw, modify_raw, read, reduce_raw, trade_raw, write,
 };
-use pitch_fields::{Price, Side, Symbol};
 use std::process::Abort;
+use std::test::Fail;
 
 fn raw_of(rt: &impl Abort, bytes: &[u8]) -> Raw {
     Raw::from_bytes(bytes).expect(rt, "a raw")
@@ -92,28 +93,25 @@ fn orders_take_the_form_in_which_they_fit(rt: HostRuntime) {
 }
 
 #[test]
-fn lists_lend_what_was_put_in(rt: HostRuntime) {
+fn lists_lend_what_was_put_in(rt: HostRuntime) -> Result<(), Fail> {
     let mut list = RawList::make(rt.alloc());
-    list.reserve(2).expect(&rt, "memory");
-    list.push(&raw_of(&rt, &GROWN)).expect(&rt, "memory");
-    list.push(&raw_of(&rt, b"\x03\x99\x07"))
-        .expect(&rt, "memory");
-    list.push(&raw_of(&rt, &IN_CENTS)).expect(&rt, "memory");
-    let copy = RawList::of_raws(rt.alloc(), list.raws().after(1)).expect(&rt, "memory");
-    assert_eq!(rt; copy.len(), 2);
-    assert!(rt; copy.get(1) == Some(IN_CENTS.as_slice()));
-    assert!(rt; copy.get(2).is_none());
-    list.truncate(2);
-    let mut joined = ByteList::of_bytes(rt.alloc(), b"\x2d").expect(&rt, "memory");
-    joined.reserve(40).expect(&rt, "memory");
-    joined.push(0).expect(&rt, "memory");
-    for raw in list.raws() {
-        joined.push_all(raw).expect(&rt, "memory");
+    list.reserve(2)?;
+    for bytes in [&GROWN[..], b"\x03\x99\x07", &IN_CENTS[..]] {
+        list.push(&raw_of(&rt, bytes))?;
     }
-    assert_eq!(rt; joined.len(), 41);
-    assert_eq!(rt; &joined.bytes()[38..], b"\x03\x99\x07".as_slice());
+    let copy = RawList::of_raws(rt.alloc(), list.raws().after(1))?;
+    assert!(rt; copy.len() == 2 && copy.get(1) == Some(IN_CENTS.as_slice()));
+    list.truncate(2);
+    let mut joined = ByteList::of_bytes(rt.alloc(), b"\x2d")?;
+    joined.reserve(40)?;
+    joined.push(0)?;
+    for raw in list.raws() {
+        joined.push_all(raw)?;
+    }
+    assert!(rt; joined.len() == 41 && &joined.bytes()[38..] == b"\x03\x99\x07".as_slice());
     joined.truncate(1);
     assert!(rt; joined.get(0) == Some(&0x2d) && joined.get(1).is_none());
+    Ok(())
 }
 
 #[test]

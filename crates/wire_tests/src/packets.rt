@@ -1,10 +1,10 @@
-use crate::{
-    BlockError, BlockFault, BlockList, BlockReader, DatagramList, FeedError, Header, LAST_SEQUENCE,
-    Packer, heartbeat, pack, put_session, read_block,
-};
 use pitch_messages::{Raw, RawList};
 use std::alloc::Global;
 use std::process::Abort;
+use unit_packets::{
+    BlockError, BlockFault, BlockList, BlockReader, DatagramList, FeedError, Header, LAST_SEQUENCE,
+    Packer, heartbeat, pack, put_session, read_block,
+};
 
 // Each stream begins with a block of one time message, of 14 bytes.
 struct Stream {

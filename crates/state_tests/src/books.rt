@@ -1,4 +1,4 @@
-use crate::{OrderList, UnitBook};
+use order_book::{OrderList, UnitBook};
 use pitch_fields::{Price, Side, Symbol};
 use pitch_messages::{Order, Raw};
 use std::alloc::Global;

@@ -1,5 +1,5 @@
-use crate::{Account, CloseCause, Closed, GapBudget, GrpServer};
 use gap_store::GapStore;
+use grp_session::{Account, CloseCause, Closed, GapBudget, GrpServer};
 use pitch_messages::Raw;
 use pitch_messages::session::{SessionMessage, write};
 use std::alloc::Global;

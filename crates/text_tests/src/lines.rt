@@ -1,6 +1,6 @@
-use crate::{Fault, Grammar, LineFields, TextCause, TextError, read_number, read_text};
 use pitch_messages::List;
 use std::test::*;
+use text_lines::{Fault, Grammar, LineFields, TextCause, TextError, read_number, read_text};
 
 // A line begins with a number of one digit.
 struct Digits;

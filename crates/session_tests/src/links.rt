@@ -1,4 +1,4 @@
-use crate::{Account, CloseCause, Closed, GapLink, ItemList, SpinLink};
+use client_links::{Account, CloseCause, Closed, GapLink, ItemList, SpinLink};
 use pitch_model::Item;
 use std::alloc::Global;
 use std::process::Abort;

@@ -1,10 +1,10 @@
-use crate::{Limits, World};
 use line_arbiter::Line;
 use pitch_model::Status;
 use pitch_text::{ScheduleList, read_schedule};
 use std::alloc::Global;
 use std::process::Abort;
 use std::test::*;
+use world_model::{Limits, World};
 
 // Does the lines of a schedule in a new world, whose hold has two places.
 fn run(rt: &impl Abort, alloc: Global, text: &[u8]) -> Result<World, Fail> {

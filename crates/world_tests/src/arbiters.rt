@@ -1,4 +1,4 @@
-use crate::{Arbiter, DatagramFault, HeardList, Line, LineCount};
+use line_arbiter::{Arbiter, DatagramFault, HeardList, Line, LineCount};
 use pitch_model::Item;
 use std::process::Abort;
 use std::test::*;

@@ -1,5 +1,5 @@
-use crate::{CloseCause, Closed, End, Role, Said, Sayings};
 use pitch_messages::session::SessionMessage;
+use session_ends::{CloseCause, Closed, End, Role, Said, Sayings};
 use std::process::Abort;
 
 fn end(rt: &HostRuntime, role: Role) -> End {

@@ -1,5 +1,5 @@
-use crate::Item;
 use pitch_messages::{Raw, RawList};
+use pitch_model::Item;
 use unit_packets::{Block, Header};
 
 #[test]

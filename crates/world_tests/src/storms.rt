@@ -1,7 +1,7 @@
-use crate::{generate, put_storm_line, put_unit_line};
 use feed_lines::LINE;
 use pitch_model::Status;
 use std::test::*;
+use storm_plan::{generate, put_storm_line, put_unit_line};
 
 // The schedule of one unit and four steps for the number 0, whose first lost copy is that of
 // datagram 2 on line B.
