@@ -16,6 +16,3 @@ pub use crate::laws::{cutting_laws, feeding_laws};
 pub use crate::payload::{payload_in, payload_of};
 pub use crate::reader::CaptureReader;
 pub use crate::record::{Record, RecordList, RecordView, view_record};
-
-#[cfg(test)]
-mod tests;

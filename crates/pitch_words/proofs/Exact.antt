@@ -10,10 +10,9 @@ use Rattle.clap.specs.Faults.{fault_of}
 use Rattle.long_options.specs.Words.{Described, IsCall, Text, described, has_dashes, is_plain}
 use Rattle.long_options.specs.Found.{Options, found_options}
 use Rattle.long_options.proofs.Program.{calls_taken, takes_calls}
-use Rattle.pitch_words.specs.Numbers.{IsGivenNumber, IsGivenOr}
+use Rattle.pitch_words.specs.Numbers.{IsGivenNumber, IsGivenOr, IsGivenMaybe}
 use Rattle.pitch_words.specs.Forms.{HasForm, HasNumbers, IsForm, command_of, commands, pitch}
 use Rattle.pitch_words.specs.declared.form.Form.{Form}
-use Rattle.pitch_words.proofs.Follows.{maybe_same}
 use Rattle.pitch_words.specs.declared.form.Form.TheVariants.{Follow, FollowCapture, Show, Pack, Replay, Storm}
 
 -- ---- a line for each form
@@ -34,6 +33,12 @@ given_or_same default least most (Some t) m n a b = sym a.2 ∙ b.2
 given_same : (least most : ℕ) (o : Option Text) (m n : ℕ) → IsGivenNumber least most o m → IsGivenNumber least most o n → m ≡ n
 given_same least most None m n a b = absurd a
 given_same least most (Some t) m n a b = sym a.2 ∙ b.2
+
+maybe_same : (least most : ℕ) (o : Option Text) (m n : Option ℕ) → IsGivenMaybe least most o m → IsGivenMaybe least most o n → m ≡ n
+maybe_same least most None m n a b = a ∙ sym b
+maybe_same least most (Some t) None n a b = absurd a
+maybe_same least most (Some t) (Some m) None a b = absurd b
+maybe_same least most (Some t) (Some m) (Some n) a b = ap (λ (k : ℕ). Some k) (sym a.2 ∙ b.2)
 
 -- options have the numbers of one form of a command
 numbers_same : (options : Options) (a b : Form) → bytes_eq (command_of a).0 (command_of b).0 ≡ true → HasNumbers options a → HasNumbers options b → a ≡ b

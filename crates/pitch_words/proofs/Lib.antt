@@ -1,4 +1,3 @@
 pub mod Pitch
 pub mod Rows
 pub mod Exact
-pub mod Follows

@@ -33,7 +33,10 @@ fn words_and_their_forms(rt: HostRuntime) -> Result<(), Fail> {
     ];
     for (line, port, hold) in captures {
         let got = form_of_line(rt.alloc(), line)?;
-        assert!(rt; got == Some(Form::FollowCapture { port, hold }), "words {line}");
+        assert!(rt;
+            got == Some(Form::FollowCapture { port, hold }),
+            "words {line}"
+        );
     }
     assert!(rt; form_of_line(rt.alloc(), "show")? == Some(Form::Show));
     for (line, unit) in [("pack --unit 1", 1), ("pack --unit=255", 255)] {

@@ -1,9 +1,8 @@
-use crate::{
+use pcap_feed::{
     CaptureError, CaptureFault, CaptureFeedError, CaptureReader, RecordList, payload_in,
     payload_of, view_record,
 };
 use std::alloc::Global;
-use std::process::Abort;
 
 // A header, and a record of 60 bytes with one block.
 const FILE: &[u8] = b"\xd4\xc3\xb2\xa1\x02\0\x04\0\0\0\0\0\0\0\0\0\0\0\x04\0\x01\0\0\0\
