@@ -3,9 +3,9 @@
 
     bench/live.py PROGRAM
 
-PROGRAM is the path of the built program: `crates/pitch/out/pitch` after `./pitch` or `rt run`. Both forms that read a stream,
-`follow` and `show`, are given three blocks, one after another, down a pipe that stays open meanwhile. After each of them the
-program's text so far has to be there. The exit status is 0 where all of it came in time.
+PROGRAM is the path of the built program: `crates/pitch/out/pitch` after `./pitch` or `rt run`. The forms that read a stream,
+`follow`, `show` and `follow --pcap`, are given three blocks, one after another, down a pipe that stays open meanwhile; the last
+gets each in a packet of a capture. After each of them the program's text so far has to be there. The exit status is 0 where all of it came in time.
 
 Python 3, the standard library alone.
 """
@@ -15,6 +15,8 @@ import struct
 import subprocess
 import sys
 import time
+
+import pcap
 
 UNIT = 1
 BLOCKS = 3
@@ -42,13 +44,20 @@ def lines_within(pipe, count, patience):
     return text
 
 
-def is_live(program, form, lines):
+def packet(sequence):
+    """The block in a packet of a capture, and before the first the capture's header."""
+    frame = pcap.frame(block(sequence))
+    head = struct.pack("<IHHiIII", 0xA1B2C3D4, 2, 4, 0, 0, 65535, 1) if sequence == 1 else b""
+    return head + struct.pack("<IIII", 0, 0, len(frame), len(frame)) + frame
+
+
+def is_live(program, form, lines, piece=block):
     """Whether each block has its lines within the time, `lines` of them for a block."""
-    run = subprocess.Popen([program, form], stdin=subprocess.PIPE, stdout=subprocess.PIPE)
+    run = subprocess.Popen([program] + form.split(), stdin=subprocess.PIPE, stdout=subprocess.PIPE)
     try:
         for number in range(1, BLOCKS + 1):
             begun = time.monotonic()
-            run.stdin.write(block(number))
+            run.stdin.write(piece(number))
             run.stdin.flush()
             text = lines_within(run.stdout, lines, PATIENCE)
             took = time.monotonic() - begun
@@ -66,7 +75,7 @@ def main():
     if len(sys.argv) != 2:
         sys.exit(__doc__)
     program = sys.argv[1]
-    answers = [is_live(program, "follow", 1), is_live(program, "show", 2)]
+    answers = [is_live(program, "follow", 1), is_live(program, "show", 2), is_live(program, "follow --pcap", 1, packet)]
     sys.exit(0 if all(answers) else 1)
 
 
