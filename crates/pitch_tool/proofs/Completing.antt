@@ -35,12 +35,12 @@ clash o trouble none some = no (sym none ∙ some)
 
 -- ---- A sound input is not refused
 not_refused : (job : Job) (trouble : Trouble) (input out : Told) → Judges job input.old None → JobEnds job (Err (ending.BadInput trouble)) input out → ⊥
-not_refused (Stream form) (Blocks trouble) input out sound r =
-    clash (blocks_trouble (trouble_of stream_limit r.bytes)) (Blocks trouble)
-    (ap (λ (l : List ℕ). blocks_trouble (trouble_of stream_limit l)) (same_bytes input.old sound.0 r.bytes sound.1 r.has) ∙ sound.2) (ap blocks_trouble r.trouble_is)
-not_refused (Stream form) LongText input out sound r = r
-not_refused (Stream form) (Commands error) input out sound r = r
-not_refused (Stream form) (Schedule error) input out sound r = r
+not_refused (Stream carrier form) (Blocks trouble) input out sound r =
+    clash (blocks_trouble (trouble_of carrier stream_limit r.bytes)) (Blocks trouble)
+    (ap (λ (l : List ℕ). blocks_trouble (trouble_of carrier stream_limit l)) (same_bytes input.old sound.0 r.bytes sound.1 r.has) ∙ sound.2) (ap blocks_trouble r.trouble_is)
+not_refused (Stream carrier form) LongText input out sound r = r
+not_refused (Stream carrier form) (Commands error) input out sound r = r
+not_refused (Stream carrier form) (Schedule error) input out sound r = r
 not_refused (Storm number units steps) trouble input out sound r = r.1
 not_refused (Text form) trouble input out sound r =
     clash (text_trouble form text_limit r.text) trouble (ap (text_trouble form text_limit) (same_bytes input.old sound.0 r.text sound.1 r.has) ∙ sound.2) r.trouble_is
@@ -58,9 +58,9 @@ closes_whole words BadInput run form (trouble, does, said) causes is sound =
 
 -- ---- A faulty input is not done
 not_done : (job : Job) (trouble : Trouble) (input out : Told) → Judges job input.old (Some trouble) → JobEnds job (Ok tt) input out → ⊥
-not_done (Stream form) trouble input out wrong r =
-    clash (blocks_trouble (trouble_of stream_limit r.bytes)) trouble (ap blocks_trouble r.sound)
-    (ap (λ (l : List ℕ). blocks_trouble (trouble_of stream_limit l)) (all_bytes input.old input.new wrong.0 r.bytes wrong.1 r.read) ∙ wrong.2)
+not_done (Stream carrier form) trouble input out wrong r =
+    clash (blocks_trouble (trouble_of carrier stream_limit r.bytes)) trouble (ap blocks_trouble r.sound)
+    (ap (λ (l : List ℕ). blocks_trouble (trouble_of carrier stream_limit l)) (all_bytes input.old input.new wrong.0 r.bytes wrong.1 r.read) ∙ wrong.2)
 not_done (Storm number units steps) trouble input out wrong r = clash None trouble refl (sym wrong)
 not_done (Text form) trouble input out wrong r =
     let text : List ℕ = r.makes.text in

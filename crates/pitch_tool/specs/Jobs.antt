@@ -5,6 +5,7 @@ use Rattle.pitch_words.specs.declared.form.Form.TheVariants as form
 use Rattle.stream_print.specs.Inputs.{stream_limit, trouble_of, StreamEnds}
 use Rattle.stream_print.specs.Holding.{CanHold}
 use Rattle.stream_print.specs.Told.{Told, IsUntouched}
+use Rattle.stream_print.specs.declared.carrier.Carrier.TheVariants.{Bare, Capture}
 use Rattle.stream_print.specs.declared.failure.StreamFailure.{StreamFailure}
 use Rattle.stream_print.specs.declared.failure.StreamFailure.TheVariants as stream
 use Rattle.stream_print.specs.declared.failure.StreamTrouble.{StreamTrouble}
@@ -21,21 +22,22 @@ use Rattle.pitch_tool.specs.declared.job.TextForm.TheVariants.{Pack, Replay}
 
 -- the job of a form
 abbrev pub job_of : Form → Job
-job_of (form.Follow hold) = Stream (Follow hold)
-job_of form.Show = Stream Show
+job_of (form.Follow hold) = Stream Bare (Follow hold)
+job_of (form.FollowCapture port hold) = Stream (Capture port) (Follow hold)
+job_of form.Show = Stream Bare Show
 job_of (form.Pack unit) = Text (Pack unit)
 job_of form.Replay = Text Replay
 job_of (form.Storm number units steps) = Storm number units steps
 
 -- the numbers of a job lie in their ranges
 abbrev pub CanDo : Job → Type 0
-CanDo (Stream form) = CanHold form
+CanDo (Stream carrier form) = CanHold form
 CanDo (Text form) = Unit {0}
 CanDo (Storm number units steps) = IsStorm units steps
 
 -- how many bytes of the source a job takes at most: one more than it reads
 abbrev pub most_taken : Job → ℕ
-most_taken (Stream form) = stream_limit + 1
+most_taken (Stream carrier form) = stream_limit + 1
 most_taken (Text form) = text_limit + 1
 most_taken (Storm number units steps) = 0
 
@@ -46,14 +48,14 @@ blocks_trouble (Some trouble) = Some (Blocks trouble)
 
 -- what is wrong with the input of a job: nothing, where it reads none
 abbrev pub trouble_in : Job → List ℕ → Option Trouble
-trouble_in (Stream form) bytes = blocks_trouble (trouble_of stream_limit bytes)
+trouble_in (Stream carrier form) bytes = blocks_trouble (trouble_of carrier stream_limit bytes)
 trouble_in (Text form) bytes = text_trouble form text_limit bytes
 trouble_in (Storm number units steps) bytes = None
 
 -- a source tells its bytes, and a job has this to say of them; a job that reads nothing finds
 -- nothing wrong, whatever the source tells
 abbrev pub Judges : Job → Option (List ℕ) → Option Trouble → Type 0
-Judges (Stream form) left trouble = (bytes : List ℕ) × (left ≡ Some bytes) × (trouble_in (Stream form) bytes ≡ trouble)
+Judges (Stream carrier form) left trouble = (bytes : List ℕ) × (left ≡ Some bytes) × (trouble_in (Stream carrier form) bytes ≡ trouble)
 Judges (Text form) left trouble = (bytes : List ℕ) × (left ≡ Some bytes) × (trouble_in (Text form) bytes ≡ trouble)
 Judges (Storm number units steps) left trouble = trouble ≡ None
 
@@ -66,11 +68,11 @@ of_stream stream.OutOfMemory = OutOfMemory
 
 -- how a job ends: what was read of the source and written to the sink
 abbrev pub JobEnds : Job → Result (Unit {0}) Failure → (input out : Told) → Type 0
-JobEnds (Stream form) (Ok done) input out = StreamEnds form stream_limit (Ok done) input out
-JobEnds (Stream form) (Err (BadInput (Blocks trouble))) input out = StreamEnds form stream_limit (Err (stream.BadInput trouble)) input out
-JobEnds (Stream form) (Err Read) input out = StreamEnds form stream_limit (Err stream.Read) input out
-JobEnds (Stream form) (Err Write) input out = StreamEnds form stream_limit (Err stream.Write) input out
-JobEnds (Stream form) (Err OutOfMemory) input out = StreamEnds form stream_limit (Err stream.OutOfMemory) input out
-JobEnds (Stream form) (Err _) input out = ⊥
+JobEnds (Stream carrier form) (Ok done) input out = StreamEnds carrier form stream_limit (Ok done) input out
+JobEnds (Stream carrier form) (Err (BadInput (Blocks trouble))) input out = StreamEnds carrier form stream_limit (Err (stream.BadInput trouble)) input out
+JobEnds (Stream carrier form) (Err Read) input out = StreamEnds carrier form stream_limit (Err stream.Read) input out
+JobEnds (Stream carrier form) (Err Write) input out = StreamEnds carrier form stream_limit (Err stream.Write) input out
+JobEnds (Stream carrier form) (Err OutOfMemory) input out = StreamEnds carrier form stream_limit (Err stream.OutOfMemory) input out
+JobEnds (Stream carrier form) (Err _) input out = ⊥
 JobEnds (Text form) result input out = TextEnds form text_limit result input out
 JobEnds (Storm number units steps) result input out = IsUntouched input × StormEnds number units steps result out

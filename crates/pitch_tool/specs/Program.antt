@@ -4,10 +4,11 @@ use Rattle.pitch_io.specs.Causes.{HasCause}
 use Rattle.pitch_words.specs.Forms.{IsForm}
 use Rattle.pitch_words.specs.declared.form.Form.{Form}
 use Rattle.unit_packets.specs.Causes.{fault_text}
+use Rattle.pcap_feed.specs.Causes.{capture_fault_text}
 use Rattle.command_feed.specs.Causes.{command_error_text}
 use Rattle.schedule_replay.specs.Causes.{replay_error_text}
 use Rattle.stream_print.specs.Told.{Told, IsUntouched}
-use Rattle.stream_print.specs.declared.failure.StreamTrouble.TheVariants.{Faulty, TooLong}
+use Rattle.stream_print.specs.declared.failure.StreamTrouble.TheVariants.{Faulty, BadCapture, TooLong}
 use Rattle.pitch_tool.specs.Devices.{Run, Says}
 use Rattle.pitch_tool.specs.Jobs.{job_of, JobEnds}
 use Rattle.pitch_tool.specs.declared.failure.Failure.{Failure}
@@ -23,6 +24,7 @@ usage_text = codes "pitch: usage: follow | show | pack | replay | storm | drill 
 
 abbrev pub trouble_text : Trouble → List ℕ
 trouble_text (Blocks (Faulty fault)) = codes "pitch: bad input at " ++ (fault_text fault ++ codes "\n")
+trouble_text (Blocks (BadCapture fault)) = codes "pitch: bad input at " ++ (capture_fault_text fault ++ codes "\n")
 trouble_text (Blocks TooLong) = codes "pitch: input is longer than 1073741824 bytes\n"
 trouble_text LongText = codes "pitch: input is longer than 67108864 bytes\n"
 trouble_text (Commands error) = codes "pitch: " ++ (command_error_text error ++ codes "\n")

@@ -3,7 +3,7 @@ ghost use Rattle.pitch_words.specs.Forms.{IsInRange};
 ghost use Rattle.pitch_tool.specs.Jobs.{job_of as the_job, CanDo};
 
 use pitch_words::Form;
-use stream_print::StreamForm;
+use stream_print::{Carrier, StreamForm};
 
 /// What is made of a whole text.
 #[derive(Clone, Copy, Debug, PartialEq, Eq)]
@@ -17,8 +17,8 @@ pub enum TextForm {
 /// What a form of the words asks for.
 #[derive(Clone, Copy, Debug, PartialEq, Eq)]
 pub enum Job {
-    /// A stream of blocks is read, and printed as it comes.
-    Stream(StreamForm),
+    /// A stream of blocks is read, bare or in a capture, and printed as it comes.
+    Stream(Carrier, StreamForm),
     /// A whole text is read, and what it makes is written.
     Text(TextForm),
     /// Nothing is read, and the summary of a storm is written.
@@ -32,8 +32,11 @@ pub fn job_of(form: Form) -> Job
     ensures can { CanDo result }
 {
     match form {
-        Form::Follow { hold } => Job::Stream(StreamForm::Follow { hold }),
-        Form::Show => Job::Stream(StreamForm::Show),
+        Form::Follow { hold } => Job::Stream(Carrier::Bare, StreamForm::Follow { hold }),
+        Form::FollowCapture { port, hold } => {
+            Job::Stream(Carrier::Capture { port }, StreamForm::Follow { hold })
+        }
+        Form::Show => Job::Stream(Carrier::Bare, StreamForm::Show),
         Form::Pack { unit } => Job::Text(TextForm::Pack { unit }),
         Form::Replay => Job::Text(TextForm::Replay),
         Form::Storm {

@@ -34,8 +34,8 @@ fn do_job<I: Source, O: Sink>(
     ensures write_cause { HasCause (O.faults out.old) (O.faults out.new) (result ≡ Err Failure.Write) }
 {
     match job {
-        Job::Stream(form) => {
-            print_stream(alloc, form, input, out)?;
+        Job::Stream(carrier, form) => {
+            print_stream(alloc, carrier, form, input, out)?;
             Ok(())
         }
         Job::Text(form) => print_text(alloc, form, input, out),
@@ -85,6 +85,9 @@ fn trouble_line(alloc: Global, trouble: Trouble) -> Result<String, OutOfMemory>
 {
     match trouble {
         Trouble::Blocks(StreamTrouble::Faulty(fault)) => {
+            Ok(format!(in alloc; "pitch: bad input at {fault}\n")?)
+        }
+        Trouble::Blocks(StreamTrouble::BadCapture(fault)) => {
             Ok(format!(in alloc; "pitch: bad input at {fault}\n")?)
         }
         Trouble::Blocks(StreamTrouble::TooLong) => Ok(String::from_str(
@@ -152,11 +155,15 @@ fn close<I: Source, O: Sink, E: Sink>(
 /// The program: does what the words ask for, and says on `err` why it ends before its whole text.
 ///
 /// `words` are those after the program's name: `follow`, and perhaps `--hold H` with H from 1 to
-/// 65,536 (4,096 where it isn't given), `show`, `pack --unit U` with U from 1 to 255, `replay`, or
+/// 65,536 (4,096 where it isn't given), `follow --pcap`, and perhaps `--port P` with P from 0 to
+/// 65,535 and `--hold H`, `show`, `pack --unit U` with U from 1 to 255, `replay`, or
 /// `storm` with `--number S`, `--units N` with N from 1 to 16 and `--steps M` with M from 1 to
-/// 10,000. The first two read a stream of Sequenced Unit Header blocks from `input`, of at most
-/// 1,073,741,824 bytes. `follow` writes to `out` a line for each block, and at the stream's end the
-/// books of all units that a block named; `show` writes a line for each block and for each message.
+/// 10,000. The first three read a stream of at most 1,073,741,824 bytes from `input`: Sequenced Unit
+/// Header blocks, or with `--pcap` a classic capture file, of which the blocks are those that stand
+/// whole at the start of each UDP datagram, or of each to port P. `follow` writes to `out` a line
+/// for each block, and at the stream's end the books of all units that a block named, and of a
+/// capture how many packets it has, how many of them carried a datagram, and how many of these were
+/// faulty; `show` writes a line for each block and for each message.
 /// The next two read a text of at most 67,108,864 bytes, and write nothing before it was read
 /// whole. `pack` reads venue commands, and writes their datagrams, back to back, once the venue has
 /// accepted all. `replay` reads a schedule, and writes what each of its lines does in the world of

@@ -10,16 +10,17 @@ use Rattle.clap.specs.Faults.{fault_of}
 use Rattle.long_options.specs.Words.{Described, IsCall, Text, described, has_dashes, is_plain}
 use Rattle.long_options.specs.Found.{Options, found_options}
 use Rattle.long_options.proofs.Program.{calls_taken, takes_calls}
-use Rattle.pitch_words.specs.Numbers.{IsGivenNumber, IsGivenOr}
+use Rattle.pitch_words.specs.Numbers.{IsGivenNumber, IsGivenOr, IsGivenMaybe}
 use Rattle.pitch_words.specs.Forms.{HasForm, HasNumbers, IsForm, command_of, commands, pitch}
 use Rattle.pitch_words.specs.declared.form.Form.{Form}
-use Rattle.pitch_words.specs.declared.form.Form.TheVariants.{Follow, Show, Pack, Replay, Storm}
+use Rattle.pitch_words.specs.declared.form.Form.TheVariants.{Follow, FollowCapture, Show, Pack, Replay, Storm}
 
 -- ---- a line for each form
 
 -- a form's command is one of the program's
 command_is : (form : Form) → described commands (command_of form).0 ≡ Some (command_of form)
 command_is (Follow hold) = refl
+command_is (FollowCapture port hold) = refl
 command_is Show = refl
 command_is (Pack unit) = refl
 command_is Replay = refl
@@ -33,9 +34,20 @@ given_same : (least most : ℕ) (o : Option Text) (m n : ℕ) → IsGivenNumber 
 given_same least most None m n a b = absurd a
 given_same least most (Some t) m n a b = sym a.2 ∙ b.2
 
+maybe_same : (least most : ℕ) (o : Option Text) (m n : Option ℕ) → IsGivenMaybe least most o m → IsGivenMaybe least most o n → m ≡ n
+maybe_same least most None m n a b = a ∙ sym b
+maybe_same least most (Some t) None n a b = absurd a
+maybe_same least most (Some t) (Some m) None a b = absurd b
+maybe_same least most (Some t) (Some m) (Some n) a b = ap (λ (k : ℕ). Some k) (sym a.2 ∙ b.2)
+
 -- options have the numbers of one form of a command
 numbers_same : (options : Options) (a b : Form) → bytes_eq (command_of a).0 (command_of b).0 ≡ true → HasNumbers options a → HasNumbers options b → a ≡ b
-numbers_same options (Follow m) (Follow n) e a b = ap Follow (given_or_same 4096 1 65536 (options.value (codes "hold")) m n a b)
+numbers_same options (Follow m) (Follow n) e a b = ap Follow (given_or_same 4096 1 65536 (options.value (codes "hold")) m n a.2 b.2)
+numbers_same options (FollowCapture p m) (FollowCapture q n) e a b =
+    ap (λ (k : Option ℕ). FollowCapture k m) (maybe_same 0 65535 (options.value (codes "port")) p q a.1 b.1)
+    ∙ ap (λ (k : ℕ). FollowCapture q k) (given_or_same 4096 1 65536 (options.value (codes "hold")) m n a.2 b.2)
+numbers_same options (Follow m) (FollowCapture q n) e a b = absurd (true≢false (sym b.0 ∙ a.0))
+numbers_same options (FollowCapture p m) (Follow n) e a b = absurd (true≢false (sym a.0 ∙ b.0))
 numbers_same options Show Show e a b = refl
 numbers_same options (Pack m) (Pack n) e a b = ap Pack (given_same 1 255 (options.value (codes "unit")) m n a b)
 numbers_same options Replay Replay e a b = refl

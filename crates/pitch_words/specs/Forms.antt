@@ -1,18 +1,18 @@
 -- The forms of the program's words.
-use Rattle.std.specs.Prelude.{◌≡◌, ◌-◌, ◌^◌, ◌≤◌, List, [], ◌∷◌, Option, Some, None, codes}
+use Rattle.std.specs.Prelude.{◌≡◌, ℕ, ◌-◌, ◌^◌, ◌≤◌, Bool, true, false, List, [], ◌∷◌, Option, Some, None, codes}
 use Rattle.pitch_fields.specs.Limits.{most_held}
 use Rattle.clap.specs.Simple.{App}
 use Rattle.clap.specs.Walk.{Row}
-use Rattle.long_options.specs.Words.{Described, Given, IsCall, Text, may_have, must_have}
+use Rattle.long_options.specs.Words.{Described, Given, IsCall, Text, may_have, may_set, must_have}
 use Rattle.long_options.specs.Apps.{program}
 use Rattle.long_options.specs.Found.{Options, found_options, given_options}
-use Rattle.pitch_words.specs.Numbers.{IsGivenNumber, IsGivenOr}
+use Rattle.pitch_words.specs.Numbers.{IsGivenNumber, IsGivenOr, IsGivenMaybe}
 use Rattle.pitch_words.specs.declared.form.Form.{Form}
-use Rattle.pitch_words.specs.declared.form.Form.TheVariants.{Follow, Show, Pack, Replay, Storm}
+use Rattle.pitch_words.specs.declared.form.Form.TheVariants.{Follow, FollowCapture, Show, Pack, Replay, Storm}
 
--- `follow [--hold H]`
+-- `follow [--hold H]`, and `follow --pcap [--port P] [--hold H]`
 abbrev pub follow : Described
-follow = (codes "follow", may_have (codes "hold") ∷ [])
+follow = (codes "follow", may_have (codes "hold") ∷ may_set (codes "pcap") ∷ may_have (codes "port") ∷ [])
 
 -- `show`
 abbrev pub show : Described
@@ -37,21 +37,32 @@ commands = follow ∷ show ∷ pack ∷ replay ∷ storm ∷ []
 -- the command that a form gives
 abbrev pub command_of : Form → Described
 command_of (Follow hold) = follow
+command_of (FollowCapture port hold) = follow
 command_of Show = show
 command_of (Pack unit) = pack
 command_of Replay = replay
 command_of (Storm number units steps) = storm
 
--- the options have the form's numbers: H is 1 to 65,536, and 4,096 where it isn't given; U is
--- 1 to 255; S is any number of 64 bits, N 1 to 16 and M 1 to 10,000; `show` and `replay` have none
+-- the options have the form's numbers: H is 1 to 65,536, and 4,096 where it isn't given; P is 0 to
+-- 65,535, and is given only where `--pcap` is; U is 1 to 255; S is any number of 64 bits, N 1 to 16
+-- and M 1 to 10,000; `show` and `replay` have none
 abbrev pub HasNumbers : Options → Form → Type 0
-HasNumbers options (Follow hold) = IsGivenOr 4096 1 most_held (options.value (codes "hold")) hold
+HasNumbers options (Follow hold) =
+    (options.has (codes "pcap") ≡ false) × IsGivenMaybe 0 65535 (options.value (codes "port")) None × IsGivenOr 4096 1 most_held (options.value (codes "hold")) hold
+HasNumbers options (FollowCapture port hold) =
+    (options.has (codes "pcap") ≡ true) × IsGivenMaybe 0 65535 (options.value (codes "port")) port × IsGivenOr 4096 1 most_held (options.value (codes "hold")) hold
 HasNumbers options Show = Unit {0}
 HasNumbers options (Pack unit) = IsGivenNumber 1 255 (options.value (codes "unit")) unit
 HasNumbers options Replay = Unit {0}
 HasNumbers options (Storm number units steps) =
     IsGivenNumber 0 (2 ^ 64 - 1) (options.value (codes "number")) number × IsGivenNumber 1 16 (options.value (codes "units")) units
     × IsGivenNumber 1 10000 (options.value (codes "steps")) steps
+
+-- the form of `follow` with this switch and these numbers, if they are one
+abbrev pub follow_form : Bool → Option ℕ → ℕ → Option Form
+follow_form true port hold = Some (FollowCapture port hold)
+follow_form false None hold = Some (Follow hold)
+follow_form false (Some port) hold = None
 
 -- the words are this form: its command, then that command's options, with its numbers
 abbrev pub IsForm : List Text → Form → Type 0
@@ -60,6 +71,7 @@ IsForm words form = (given : List Given) × IsCall (command_of form) words given
 -- a form's numbers lie within their ranges
 abbrev pub IsInRange : Form → Type 0
 IsInRange (Follow hold) = (1 ≤ hold) × (hold ≤ most_held)
+IsInRange (FollowCapture port hold) = (1 ≤ hold) × (hold ≤ most_held)
 IsInRange Show = Unit {0}
 IsInRange (Pack unit) = (1 ≤ unit) × (unit ≤ 255)
 IsInRange Replay = Unit {0}

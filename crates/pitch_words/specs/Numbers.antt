@@ -16,3 +16,9 @@ IsGivenNumber least most None n = ⊥
 abbrev pub IsGivenOr : ℕ → ℕ → ℕ → Option Text → ℕ → Type 0
 IsGivenOr default least most (Some text) n = IsNumber least most text n
 IsGivenOr default least most None n = n ≡ default
+
+-- an option was given with this number, or wasn't given and there is none
+abbrev pub IsGivenMaybe : ℕ → ℕ → Option Text → Option ℕ → Type 0
+IsGivenMaybe least most (Some text) (Some n) = IsNumber least most text n
+IsGivenMaybe least most (Some text) None = ⊥
+IsGivenMaybe least most None n = n ≡ None

@@ -1,5 +1,5 @@
 //! The program's commands, as `clap` reads them.
-ghost use Rattle.std.specs.Prelude.{◌≡◌, IfOk, false, [], ◌∷◌, codes};
+ghost use Rattle.std.specs.Prelude.{◌≡◌, IfOk, false, true, [], ◌∷◌, codes};
 ghost use Rattle.clap.specs.Walk.{rule_of};
 ghost use Rattle.clap.specs.Simple.{app_of, with_rule};
 ghost use Rattle.clap.specs.declared.builder.command.Command.TheViews.{out-Command as fields_of};
@@ -20,6 +20,14 @@ fn option<'a>(alloc: Global, name: &'a str, required: bool) -> Arg<'a>
         .required(required)
 }
 
+// An option `--name` without a value.
+fn switch<'a>(alloc: Global, name: &'a str) -> Arg<'a>
+    ensures rule { rule_of result ≡ option_rule (name.now, false, true) }
+    ensures local { result.global ≡ false }
+{
+    Arg::new(alloc, name).long(name).action(ArgAction::SetTrue)
+}
+
 // The command with one option more.
 fn with_option<'a>(
     alloc: Global,
@@ -33,6 +41,18 @@ fn with_option<'a>(
     command.arg(option(alloc, name, required))
 }
 
+// The command with one option more, which has no value.
+fn with_switch<'a>(
+    alloc: Global,
+    command: Command<'a>,
+    name: &'a str,
+) -> Result<Command<'a>, AllocError>
+    ensures app { IfOk result (λ r. app_of r ≡ with_rule (app_of command.entry) (option_rule (name.now, false, true))) }
+    ensures local { IfOk result (λ r. (fields_of command.entry).has_globals ≡ false → (fields_of r).has_globals ≡ false) }
+{
+    command.arg(switch(alloc, name))
+}
+
 // A command without options.
 fn command<'a>(alloc: Global, name: &'a str) -> Command<'a>
     ensures app { app_of result ≡ command_app (name.now, []) }
@@ -43,12 +63,14 @@ fn command<'a>(alloc: Global, name: &'a str) -> Command<'a>
         .disable_version_flag(true)
 }
 
-// `follow [--hold H]`
+// `follow [--hold H]`, and `follow --pcap [--port P] [--hold H]`
 fn follow<'a>(alloc: Global) -> Result<Command<'a>, AllocError>
     ensures app { IfOk result (λ r. app_of r ≡ command_app follow_words) }
     ensures local { IfOk result (λ r. (fields_of r).has_globals ≡ false) }
 {
-    with_option(alloc, command(alloc, "follow"), "hold", false)
+    let hold = with_option(alloc, command(alloc, "follow"), "hold", false)?;
+    let pcap = with_switch(alloc, hold, "pcap")?;
+    with_option(alloc, pcap, "port", false)
 }
 
 // `pack --unit U`

@@ -8,6 +8,13 @@ pub enum Form {
         /// How many messages a unit's hold has room for: 1 to 65,536.
         hold: u32,
     },
+    /// `follow --pcap [--port P] [--hold H]`: likewise of the blocks in a capture's datagrams.
+    FollowCapture {
+        /// The destination port of the datagrams that are read, where it is not any.
+        port: Option<u16>,
+        /// How many messages a unit's hold has room for: 1 to 65,536.
+        hold: u32,
+    },
     /// `show`: read a block stream, and print its blocks and messages.
     Show,
     /// `pack --unit U`: read venue commands, and write their datagrams.

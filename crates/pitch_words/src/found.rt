@@ -1,10 +1,11 @@
 //! The form in what `clap` found.
-ghost use Rattle.std.specs.Prelude.{◌≡◌, ℕ, ◌≤◌, IfNone, IfSome, MatchOption, Some, codes, option_map};
+ghost use Rattle.std.specs.Prelude.{◌≡◌, ℕ, ◌≤◌, IfNone, IfSome, MatchOption, Option, Some, codes, option_map};
 ghost use Rattle.clap.specs.Matches.{found_of};
 ghost use Rattle.clap.specs.Simple.{subcommand_rows_of};
+ghost use Rattle.long_options.specs.Found.{is_set};
 ghost use Rattle.clap.specs.Walk.{first_of, rows_of};
-ghost use Rattle.pitch_words.specs.Numbers.{IsGivenNumber, IsGivenOr, IsNumber};
-ghost use Rattle.pitch_words.specs.Forms.{HasForm, IsInRange};
+ghost use Rattle.pitch_words.specs.Numbers.{IsGivenNumber, IsGivenOr, IsGivenMaybe, IsNumber};
+ghost use Rattle.pitch_words.specs.Forms.{HasForm, IsInRange, follow_form};
 ghost use Rattle.pitch_words.specs.declared.form.Form.{Form};
 
 use crate::form::Form;
@@ -58,14 +59,66 @@ fn given_or(matches: &ArgMatches, name: &str, default: u64, least: u64, most: u6
     }
 }
 
-// `follow [--hold H]`
+// The number of an option that may be left out, if it was given.
+fn given_maybe(matches: &ArgMatches, name: &str, least: u64, most: u64) -> Option<Option<u64>>
+    ensures some { IfSome result (λ n. IsGivenMaybe least most (first_of name.now (rows_of (found_of matches.now))) n) }
+    ensures none { IfNone result ((n : Option ℕ) → ¬ IsGivenMaybe least most (first_of name.now (rows_of (found_of matches.now))) n) }
+    ensures range { IfSome result (λ n. IfSome n (λ m. m ≤ most)) }
+{
+    match text_of(matches, name) {
+        Some(text) => match number(text, least, most) {
+            Some(n) => Some(Some(n)),
+            None => None,
+        },
+        None => Some(None),
+    }
+}
+
+// An option without a value was given.
+fn is_given(matches: &ArgMatches, name: &str) -> bool
+    ensures { result ≡ is_set (first_of name.now (rows_of (found_of matches.now))) }
+{
+    match text_of(matches, name) {
+        Some(text) => text == "true",
+        None => false,
+    }
+}
+
+// The form of `follow`: a port is given only for a capture.
+fn follow_form(pcap: bool, port: Option<u16>, hold: u32) -> Option<Form>
+    requires hold { 1 ≤ hold × hold ≤ 65536 }
+    ensures form { result ≡ follow_form pcap port hold }
+    ensures range { IfSome result IsInRange }
+{
+    if pcap {
+        return Some(Form::FollowCapture { port, hold });
+    }
+    match port {
+        Some(_) => None,
+        None => Some(Form::Follow { hold }),
+    }
+}
+
+// A port of 16 bits, if there is one.
+fn as_port(port: Option<u64>) -> Option<u16>
+    requires { IfSome port (λ p. p ≤ 65535) }
+    ensures { result ≡ port }
+{
+    match port {
+        Some(port) => Some(port as u16),
+        None => None,
+    }
+}
+
+// `follow [--hold H]`, and `follow --pcap [--port P] [--hold H]`
 fn follow(matches: &ArgMatches) -> Option<Form>
     ensures form { MatchOption result ((form : Form) → ¬ HasForm (Some (codes "follow", rows_of (found_of matches.now))) form)
         (HasForm (Some (codes "follow", rows_of (found_of matches.now)))) }
     ensures range { IfSome result IsInRange }
 {
     let hold = given_or(matches, "hold", 4096, 1, 65536)?;
-    Some(Form::Follow { hold: hold as u32 })
+    let port = given_maybe(matches, "port", 0, 65535)?;
+    follow_form(is_given(matches, "pcap"), as_port(port), hold as u32)
 }
 
 // `pack --unit U`

@@ -5,6 +5,7 @@
 //! | Words | Range | Default |
 //! |---|---|---|
 //! | `follow [--hold H]` | H is 1 to 65,536 | 4,096 |
+//! | `follow --pcap [--port P] [--hold H]` | P is 0 to 65,535, H as above | any port; 4,096 |
 //! | `show` | | |
 //! | `pack --unit U` | U is 1 to 255 | |
 //! | `replay` | | |

@@ -5,6 +5,7 @@ ghost use Rattle.pitch_tool.specs.Jobs.{Judges, job_of};
 ghost use Rattle.pitch_tool.specs.Program.{IsWhole, IsRefusal};
 ghost use Rattle.pitch_tool.specs.declared.failure.Trouble.{Trouble};
 
+mod captures;
 mod schedules;
 mod storms;
 

@@ -26,6 +26,18 @@ fn words_and_their_forms(rt: HostRuntime) -> Result<(), Fail> {
         let got = form_of_line(rt.alloc(), line)?;
         assert!(rt; got == Some(Form::Follow { hold }), "words {line}");
     }
+    let captures = [
+        ("follow --pcap", None, 4096),
+        ("follow --port 0 --pcap", Some(0), 4096),
+        ("follow --hold=2 --pcap --port=65535", Some(65535), 2),
+    ];
+    for (line, port, hold) in captures {
+        let got = form_of_line(rt.alloc(), line)?;
+        assert!(rt;
+            got == Some(Form::FollowCapture { port, hold }),
+            "words {line}"
+        );
+    }
     assert!(rt; form_of_line(rt.alloc(), "show")? == Some(Form::Show));
     for (line, unit) in [("pack --unit 1", 1), ("pack --unit=255", 255)] {
         let got = form_of_line(rt.alloc(), line)?;
@@ -73,6 +85,14 @@ fn words_and_their_forms(rt: HostRuntime) -> Result<(), Fail> {
         "follow -",
         "follow x",
         "follow --port 5",
+        "follow --pcap=",
+        "follow --pcap=1",
+        "follow --pcap 1",
+        "follow --pcap --pcap",
+        "follow --pcap --port",
+        "follow --pcap --port=",
+        "follow --pcap --port 65536",
+        "show --pcap",
         "follow --hol 5",
         "follow ",
         "--hold 2 follow",

@@ -1,8 +1,12 @@
+pub mod Carriers
 pub mod Feeding
+pub mod Few
 pub mod Finishing
 pub mod Flow
 pub mod Keeping
 pub mod Naming
+pub mod Packeting
+pub mod Piecing
 pub mod Printing
 pub mod Showing
 pub mod Streaming

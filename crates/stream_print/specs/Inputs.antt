@@ -1,9 +1,11 @@
 -- A stream of blocks: what is wrong with it, and what is written for it.
-use Rattle.std.specs.Prelude.{◌≡◌, ℕ, List, [], length, take, nat_lt, cond, Option, Some, None, Result, Ok, Err, ◌⊎◌}
+use Rattle.std.specs.Prelude.{◌≡◌, ℕ, List, [], length, take, nat_lt, cond, option_map, Option, Some, None, Result, Ok, Err, ◌⊎◌}
 use Rattle.std.specs.Io.KnownBytes.{Consumes}
 use Rattle.pitch_io.specs.Putting.{Grows}
 use Rattle.unit_packets.specs.Cutting.{fault_of, fault_at_end}
-use Rattle.unit_packets.specs.declared.header.BlockFault.{BlockFault}
+use Rattle.pcap_feed.specs.Capture.{capture_fault, capture_end_fault}
+use Rattle.stream_print.specs.declared.carrier.Carrier.{Carrier}
+use Rattle.stream_print.specs.declared.carrier.Carrier.TheVariants.{Bare, Capture}
 use Rattle.stream_print.specs.declared.stream_form.StreamForm.{StreamForm}
 use Rattle.stream_print.specs.Putting.{PutsSome}
 use Rattle.stream_print.specs.Texts.{texts_for, IsText, IsPrefixOfText}
@@ -11,21 +13,32 @@ use Rattle.stream_print.specs.Told.{Told}
 use Rattle.stream_print.specs.declared.failure.StreamFailure.{StreamFailure}
 use Rattle.stream_print.specs.declared.failure.StreamFailure.TheVariants.{BadInput, Read, Write, OutOfMemory}
 use Rattle.stream_print.specs.declared.failure.StreamTrouble.{StreamTrouble}
-use Rattle.stream_print.specs.declared.failure.StreamTrouble.TheVariants.{Faulty, TooLong}
+use Rattle.stream_print.specs.declared.failure.StreamTrouble.TheVariants.{Faulty, BadCapture, TooLong}
 
 -- how many bytes of a stream of blocks are read at most: 2^30
 abbrev pub stream_limit : ℕ
 stream_limit = 1073741824
 
--- a fault, or else something else
-abbrev pub faulty : Option BlockFault → Option StreamTrouble → Option StreamTrouble
-faulty (Some fault) other = Some (Faulty fault)
-faulty None other = other
+-- what is wrong with a stream so far, which more bytes do not mend
+abbrev pub lasting_trouble : Carrier → List ℕ → Option StreamTrouble
+lasting_trouble Bare bytes = option_map Faulty (fault_of bytes)
+lasting_trouble (Capture port) bytes = option_map BadCapture (capture_fault bytes)
 
--- what is wrong with a stream of which at most `most` bytes are read: a fault among the first of
--- them that more bytes do not mend, or else more bytes than that, or else an end inside a block
-unfoldable pub trouble_of : ℕ → List ℕ → Option StreamTrouble
-trouble_of most bytes = faulty (fault_of (take most bytes)) (cond (nat_lt most (length bytes)) (Some TooLong) (faulty (fault_at_end bytes) None))
+-- what is wrong with a stream that ends here
+abbrev pub end_trouble : Carrier → List ℕ → Option StreamTrouble
+end_trouble Bare bytes = option_map Faulty (fault_at_end bytes)
+end_trouble (Capture port) bytes = option_map BadCapture (capture_end_fault bytes)
+
+-- a trouble, or else something else
+abbrev pub or_else : Option StreamTrouble → Option StreamTrouble → Option StreamTrouble
+or_else (Some trouble) other = Some trouble
+or_else None other = other
+
+-- what is wrong with a stream of which at most `most` bytes are read: a trouble among the first of
+-- them that more bytes do not mend, or else more bytes than that, or else an end inside a block or
+-- a packet
+unfoldable pub trouble_of : Carrier → ℕ → List ℕ → Option StreamTrouble
+trouble_of carrier most bytes = or_else (lasting_trouble carrier (take most bytes)) (cond (nat_lt most (length bytes)) (Some TooLong) (end_trouble carrier bytes))
 
 -- ---- How a stream ends
 -- where a source told its bytes, these are all of them, and nothing is left
@@ -43,40 +56,40 @@ Has None bytes = Unit {0}
 Has (Some all) bytes = all ≡ bytes
 
 -- the whole stream was read and has no fault, and its text was written
-pub record WritesAll (form : StreamForm) (most : ℕ) (input out : Told) : Type 0 where
+pub record WritesAll (carrier : Carrier) (form : StreamForm) (most : ℕ) (input out : Told) : Type 0 where
   pub bytes : List ℕ
   pub read : ReadsAll input bytes
-  pub sound : trouble_of most bytes ≡ None
+  pub sound : trouble_of carrier most bytes ≡ None
   pub text : List ℕ
-  pub is_text : IsText form bytes text
+  pub is_text : IsText carrier form bytes text
   pub wrote : Grows out.old out.new text
 
 -- the stream has this trouble, and the texts of the whole blocks before were written, and no book
-pub record Refuses (form : StreamForm) (most : ℕ) (trouble : StreamTrouble) (input out : Told) : Type 0 where
+pub record Refuses (carrier : Carrier) (form : StreamForm) (most : ℕ) (trouble : StreamTrouble) (input out : Told) : Type 0 where
   pub bytes : List ℕ
   pub has : Has input.old bytes
-  pub trouble_is : trouble_of most bytes ≡ Some trouble
-  pub wrote : Grows out.old out.new (texts_for form (take most bytes))
+  pub trouble_is : trouble_of carrier most bytes ≡ Some trouble
+  pub wrote : Grows out.old out.new (texts_for carrier form (take most bytes))
 
 -- the source failed after some bytes, and the texts of their whole blocks were written
-pub record ReadsSome (form : StreamForm) (input out : Told) : Type 0 where
+pub record ReadsSome (carrier : Carrier) (form : StreamForm) (input out : Told) : Type 0 where
   pub bytes : List ℕ
   pub read : Consumes input.old input.new bytes
-  pub wrote : Grows out.old out.new (texts_for form bytes)
+  pub wrote : Grows out.old out.new (texts_for carrier form bytes)
 
 -- some bytes were read, and a prefix of the texts of their blocks was written, or, where they are
 -- all, of the whole text
-pub record WritesSome (form : StreamForm) (input out : Told) : Type 0 where
+pub record WritesSome (carrier : Carrier) (form : StreamForm) (input out : Told) : Type 0 where
   pub bytes : List ℕ
   pub read : Consumes input.old input.new bytes
   pub text : List ℕ
   pub wrote : PutsSome out.old out.new text
-  pub is_prefix : (text ≡ texts_for form bytes) ⊎ (ReadsAll input bytes × IsPrefixOfText form bytes text)
+  pub is_prefix : (text ≡ texts_for carrier form bytes) ⊎ (ReadsAll input bytes × IsPrefixOfText carrier form bytes text)
 
 -- how a stream ends
-abbrev pub StreamEnds : StreamForm → ℕ → Result (Unit {0}) StreamFailure → (input out : Told) → Type 0
-StreamEnds form most (Ok done) input out = WritesAll form most input out
-StreamEnds form most (Err (BadInput trouble)) input out = Refuses form most trouble input out
-StreamEnds form most (Err Read) input out = ReadsSome form input out
-StreamEnds form most (Err Write) input out = WritesSome form input out
-StreamEnds form most (Err OutOfMemory) input out = WritesSome form input out
+abbrev pub StreamEnds : Carrier → StreamForm → ℕ → Result (Unit {0}) StreamFailure → (input out : Told) → Type 0
+StreamEnds carrier form most (Ok done) input out = WritesAll carrier form most input out
+StreamEnds carrier form most (Err (BadInput trouble)) input out = Refuses carrier form most trouble input out
+StreamEnds carrier form most (Err Read) input out = ReadsSome carrier form input out
+StreamEnds carrier form most (Err Write) input out = WritesSome carrier form input out
+StreamEnds carrier form most (Err OutOfMemory) input out = WritesSome carrier form input out

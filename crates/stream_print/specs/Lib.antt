@@ -1,4 +1,6 @@
 pub mod Books
+pub mod Carriers
+pub mod Counting
 pub mod Failures
 pub mod Feeding
 pub mod Holding
@@ -8,6 +10,7 @@ pub mod Page
 pub mod Pieces
 pub mod Printing
 pub mod Putting
+pub mod Readers
 pub mod Rising
 pub mod Texts
 pub mod Told

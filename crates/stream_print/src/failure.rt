@@ -1,4 +1,5 @@
 use crate::putting::PutFailed;
+use pcap_feed::CaptureFault;
 use pitch_fields::OutOfMemory;
 use unit_packets::BlockFault;
 
@@ -7,6 +8,8 @@ use unit_packets::BlockFault;
 pub enum StreamTrouble {
     /// A block has a fault, or the stream ends inside one.
     Faulty(BlockFault),
+    /// A capture's header or a packet of it has a fault, or the capture ends inside one.
+    BadCapture(CaptureFault),
     /// The stream has more bytes than are read.
     TooLong,
 }

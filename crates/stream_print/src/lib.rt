@@ -6,17 +6,23 @@
 //! memory failed. Give it a form, a source and a sink; a command with a new form adds a `Task`.
 #![tactic(auto)]
 
+mod blocks;
 mod books;
+mod carrier;
+mod counts;
 mod failure;
+mod packets;
 mod page;
 mod pieces;
 mod printer;
 mod putting;
+mod reader;
 mod shown;
 mod stream;
 mod stream_form;
 mod task;
 
+pub use crate::carrier::Carrier;
 pub use crate::failure::{StreamFailure, StreamTrouble};
 pub use crate::pieces::{PIECE, piece_buffer, take_at_most};
 pub use crate::putting::{PutFailed, put_all};

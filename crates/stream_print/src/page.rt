@@ -6,9 +6,11 @@ ghost use Rattle.feed_lines.specs.BookText.{book_head, order_line};
 ghost use Rattle.feed_lines.specs.Follow.{block_line};
 ghost use Rattle.feed_lines.specs.Show.{shown_head, message_line};
 ghost use Rattle.pitch_messages.specs.Raw.{IsRaw};
+ghost use Rattle.stream_print.specs.Carriers.{counts_line};
 ghost use Rattle.stream_print.specs.Page.{Prints};
 ghost use Rattle.stream_print.specs.Putting.{PutsSome};
 
+use crate::counts::{PacketCounts, put_counts_line};
 use crate::putting::{PutFailed, put_all};
 use feed_lines::{
     LINE, put_block_line, put_book_head, put_message_line, put_order_line, put_shown_head,
@@ -109,6 +111,14 @@ impl Page {
         ensures { self.new ≡ record self.old { text = self.old.text ++ book_head unit reach second count } }
     {
         self.at = put_book_head(&mut self.bytes, self.at, unit, reach, second, count);
+    }
+
+    /// Adds the line of what was counted of a capture's packets.
+    pub fn add_counts(&mut self, counts: PacketCounts)
+        requires { length self.old.text + line_size ≤ self.old.size }
+        ensures { self.new ≡ record self.old { text = self.old.text ++ counts_line counts } }
+    {
+        self.at = put_counts_line(&mut self.bytes, self.at, counts);
     }
 
     /// Adds the line of an open order.

@@ -4,7 +4,7 @@ use Rattle.stream_print.proofs.stream.print_stream.Given as goal
 
 abbrev pub invariant-takes : goal.invariant-takes
 invariant-takes g l = record {
-  taken : Taken l.fn.form l.printer l.reader l.stopped l.fed (g.I.Source.left l.fn.input) (g.I.Source.left l.input) (g.O.Sink.written l.fn.out) (g.O.Sink.written l.out);
+  taken : Taken l.fn.carrier l.fn.form l.printer l.reader l.fed (g.I.Source.left l.fn.input) (g.I.Source.left l.input) (g.O.Sink.written l.fn.out) (g.O.Sink.written l.out);
   turns : l.turn ≤ l.fed;
   place : length l.piece.items ≡ 65536;
   read_later : g.I.Source.faults l.fn.input ≤ g.I.Source.faults l.input;

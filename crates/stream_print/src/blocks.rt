@@ -1,0 +1,35 @@
+ghost use Rattle.std.specs.Prelude.{◌≡◌, ◌≤◌, ◌+◌, ◌*◌, length, OnErr, IfOk, Err};
+ghost use Rattle.unit_packets.specs.Cutting.{blocks_of};
+ghost use Rattle.pitch_io.specs.Causes.{HasCause};
+ghost use Rattle.stream_print.specs.Printing.{PrintsWhole, FailsBlocks};
+
+use crate::failure::PrintError;
+use crate::printer::Printer;
+use pitch_io::Sink;
+use std::alloc::Global;
+use unit_packets::view_block;
+
+/// Prints the blocks that are whole at the start of some bytes. Answers how many bytes they have.
+pub fn print_blocks<O: Sink>(
+    alloc: Global,
+    bytes: &[u8],
+    printer: &mut Printer,
+    out: &mut O,
+) -> Result<usize, PrintError>
+    requires few { 8 * printer.old.number + length bytes.now ≤ 1073741824 }
+    ensures prints { IfOk result (λ n. PrintsWhole printer.old printer.new bytes.now n (O.written out.old) (O.written out.new)) }
+    ensures err { OnErr result (FailsBlocks printer.old (O.written out.old) (O.written out.new) (blocks_of bytes.now)) }
+    ensures cause { HasCause (O.faults out.old) (O.faults out.new) (result ≡ Err PrintError.Write) }
+{
+    let mut at = 0;
+    'block: while at <= bytes.len() {
+        match view_block(&bytes[at..]) {
+            Ok(block) => {
+                printer.print(alloc, &block, out)?;
+                at += block.header().length as usize;
+            }
+            Err(_) => return Ok(at),
+        }
+    }
+    unreachable!()
+}
