@@ -5,12 +5,12 @@ use Rattle.pcap_feed.specs.Capture.{Packet}
 use Rattle.pcap_feed.specs.Payload.{payload}
 
 -- the bytes of a packet's datagram by its place and length, as a list of one or none
-abbrev pub bytes_at : List ℕ → Option (ℕ × ℕ) → List (List ℕ)
-bytes_at bytes None = []
-bytes_at bytes (Some span) = take span.1 (drop span.0 bytes) ∷ []
+abbrev pub span_bytes : List ℕ → Option (ℕ × ℕ) → List (List ℕ)
+span_bytes bytes None = []
+span_bytes bytes (Some span) = take span.1 (drop span.0 bytes) ∷ []
 
 abbrev pub payloads_in : Option ℕ → Packet → List (List ℕ)
-payloads_in port packet = bytes_at packet.bytes (payload packet port)
+payloads_in port packet = span_bytes packet.bytes (payload packet port)
 
 -- the datagrams of the wanted port, or of all, in file order
 abbrev pub payloads_of : Option ℕ → List Packet → List (List ℕ)

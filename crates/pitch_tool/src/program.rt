@@ -158,22 +158,22 @@ fn close<I: Source, O: Sink, E: Sink>(
 /// 65,536 (4,096 where it isn't given), `follow --pcap`, and perhaps `--port P` with P from 0 to
 /// 65,535 and `--hold H`, `show`, `pack --unit U` with U from 1 to 255, `replay`, or
 /// `storm` with `--number S`, `--units N` with N from 1 to 16 and `--steps M` with M from 1 to
-/// 10,000. The first three read a stream of at most 1,073,741,824 bytes from `input`: Sequenced Unit
-/// Header blocks, or with `--pcap` a classic capture file, of which the blocks are those that stand
-/// whole at the start of each UDP datagram, or of each to port P. `follow` writes to `out` a line
-/// for each block, and at the stream's end the books of all units that a block named, and of a
+/// 10,000. The first three read a stream of at most 1,073,741,824 bytes from `input`: Sequenced
+/// Unit Header blocks, or with `--pcap` a classic capture file, of which the blocks are those that
+/// stand whole at the start of each UDP datagram, or of each to port P. `follow` writes to `out` a
+/// line for each block, and at the stream's end the books of all units that a block named, and of a
 /// capture how many packets it has, how many of them carried a datagram, and how many of these were
-/// faulty; `show` writes a line for each block and for each message.
-/// The next two read a text of at most 67,108,864 bytes, and write nothing before it was read
-/// whole. `pack` reads venue commands, and writes their datagrams, back to back, once the venue has
-/// accepted all. `replay` reads a schedule, and writes what each of its lines does in the world of
-/// its unit: venue, lines, servers and client. `storm` reads nothing: it makes a schedule, does all
-/// its lines in the worlds of its units, and writes where each unit ended.
+/// faulty; `show` writes a line for each block and for each message. The next two read a text of at
+/// most 67,108,864 bytes, and write nothing before it was read whole. `pack` reads venue commands,
+/// and writes their datagrams, back to back, once the venue has accepted all. `replay` reads a
+/// schedule, and writes what each of its lines does in the world of its unit: venue, lines, servers
+/// and client. `storm` reads nothing: it makes a schedule, does all its lines in the worlds of its
+/// units, and writes where each unit ended.
 ///
 /// At `Done` the whole text was written and nothing was said. At `Usage` nothing was read or
 /// written. At `BadInput` the texts of the whole blocks before the trouble were written, and no
-/// book; by `pack` and `replay` nothing was, and `storm` never ends so. At `ReadFault` the source had failed, and at
-/// `WriteFault` the sink.
+/// book; by `pack` and `replay` nothing was, and `storm` never ends so. At `ReadFault` the source
+/// had failed, and at `WriteFault` the sink.
 pub fn pitch<I: Source, O: Sink, E: Sink>(
     alloc: Global,
     words: &[String],

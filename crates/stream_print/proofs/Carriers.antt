@@ -1,5 +1,5 @@
 -- What a reader of a stream stands for, whatever carries the blocks.
-use Rattle.std.proofs.Common.{◌≡◌, ℕ, ◌+◌, ◌-◌, ◌≤◌, Bool, true, false, List, [], ◌∷◌, ◌++◌, length, drop, refl, sym, ap, ◌∙◌, subst, arith, Option, Some, None, length-append, length-drop}
+use Rattle.std.proofs.Common.{◌≡◌, ℕ, ◌+◌, ◌≤◌, Bool, true, false, List, [], ◌++◌, length, drop, refl, sym, ap, ◌∙◌, subst, arith, Option, Some, None, length-append, length-drop}
 use Rattle.std.specs.Prelude.{option_map}
 use Rattle.std.specs.List.{flat_map, count_by}
 use Rattle.std.proofs.lemmas.Grind.{flat_map-append}
@@ -13,17 +13,17 @@ use Rattle.unit_packets.specs.declared.header.BlockError.TheVariants.{Truncated}
 use Rattle.unit_packets.specs.declared.header.BlockFault.{BlockFault}
 use Rattle.unit_packets.proofs.Cuts.{none_of, appends, rest_short}
 use Rattle.unit_packets.proofs.Streams.{judge_nothing, lasting_of, fault_open, fault_stays}
-use Rattle.pcap_feed.specs.Capture.{Packet, packets_of, packets_from, left_from, left_of, order_told, order_told_from, capture_place, capture_fault, capture_end_fault}
+use Rattle.pcap_feed.specs.Capture.{Packet, packets_of, packets_from, left_from, left_of, order_told, order_told_from, capture_place, capture_fault}
 use Rattle.pcap_feed.specs.Datagrams.{payloads_in, payloads_of}
-use Rattle.pcap_feed.specs.Feeding.{Capturing, unfed, held_fault}
+use Rattle.pcap_feed.specs.Feeding.{unfed, held_fault}
 use Rattle.pcap_feed.specs.declared.fault.CaptureFault.{CaptureFault}
 use Rattle.pcap_feed.proofs.Feeding.{goes_on_fault, stands_unfed, no_packets}
 use Rattle.pcap_feed.proofs.Files.{grows, fault_lasts}
 use Rattle.stream_print.specs.Carriers.{blocks_in, carried_blocks, is_faulty, counts_of, counts_line, with_counts}
-use Rattle.stream_print.specs.Counting.{IsCount, CountsMore}
+use Rattle.stream_print.specs.Counting.{IsCount}
 use Rattle.stream_print.specs.Inputs.{lasting_trouble, end_trouble}
 use Rattle.stream_print.specs.Printing.{PrintsWhole, PrintsLoaded}
-use Rattle.stream_print.specs.Readers.{IsBehindBlocks, IsBehindPackets, HasRead, blocks_with, counts_text}
+use Rattle.stream_print.specs.Readers.{IsBehindBlocks, IsBehindPackets, HasRead, blocks_with, packets_text}
 use Rattle.stream_print.specs.declared.carrier.Carrier.{Carrier}
 use Rattle.stream_print.specs.declared.carrier.Carrier.TheVariants.{Bare, Capture}
 use Rattle.stream_print.specs.declared.counts.PacketCounts.{PacketCounts}
@@ -191,7 +191,7 @@ counted_few : (n m k : ℕ) → n ≡ counted m → m ≤ k → k ≤ 1073741824
 counted_few n m k is le small = omega (arith, is, le, small)
 
 -- what was counted is the line behind the text
-pub counts_are : (carrier : Carrier) (r : StreamReader) (bytes text : List ℕ) → length bytes ≤ 1073741824 → HasRead carrier r bytes → with_counts carrier bytes text ≡ text ++ counts_text r
+pub counts_are : (carrier : Carrier) (r : StreamReader) (bytes text : List ℕ) → length bytes ≤ 1073741824 → HasRead carrier r bytes → with_counts carrier bytes text ≡ text ++ packets_text r
 counts_are Bare (Blocks r) bytes text small read = sym (append-nil text)
 counts_are Bare (Packets r) bytes text small read = absurd read
 counts_are (Capture port) (Blocks r) bytes text small read = absurd read

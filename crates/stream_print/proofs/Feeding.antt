@@ -1,5 +1,5 @@
 -- A stream that comes in pieces, from its start to its end.
-use Rattle.std.proofs.Common.{◌≡◌, ℕ, zero, suc, ◌+◌, ◌-◌, ◌*◌, ◌≤◌, ◌<◌, inl, inr, Bool, true, false, cond, List, [], ◌∷◌, ◌++◌, length, take, drop, reverse, refl, sym, ap, ◌∙◌, subst, arith, append_assoc, length-append, nat_lt, Option, Some, None}
+use Rattle.std.proofs.Common.{◌≡◌, ℕ, zero, suc, ◌-◌, ◌≤◌, ◌<◌, inl, inr, Bool, true, cond, List, [], ◌∷◌, ◌++◌, length, take, drop, reverse, refl, sym, ap, ◌∙◌, subst, arith, append_assoc, length-append, nat_lt, Option, Some, None}
 use Rattle.std.specs.Io.KnownBytes.{Consumes, Keeps, IsAtEnd}
 use Rattle.std.proofs.lemmas.List.{append-nil, reverse-append, take-append-le, take_at}
 use Rattle.std.proofs.Math.Seq.{take-length, drop-length}
@@ -13,12 +13,12 @@ use Rattle.stream_print.specs.declared.carrier.Carrier.{Carrier}
 use Rattle.stream_print.specs.declared.stream_form.StreamForm.{StreamForm}
 use Rattle.stream_print.specs.declared.stream_form.StreamForm.TheVariants.{Follow, Show}
 use Rattle.stream_print.specs.Feeding.{Fed}
-use Rattle.stream_print.specs.Inputs.{lasting_trouble, end_trouble, or_else, trouble_of, AreAll, WritesAll, Has, Refuses, WritesSome}
-use Rattle.stream_print.specs.Knowing.{task_form, HasPrinted}
+use Rattle.stream_print.specs.Inputs.{lasting_trouble, end_trouble, or_trouble, trouble_of, AreAll, WritesAll, Has, Refuses, WritesSome}
+use Rattle.stream_print.specs.Knowing.{HasPrinted}
 use Rattle.stream_print.specs.Page.{Prints}
-use Rattle.stream_print.specs.Printing.{PrintsBlocks, PrintsPiece, FailsBlocks}
+use Rattle.stream_print.specs.Printing.{PrintsPiece, FailsBlocks}
 use Rattle.stream_print.specs.Putting.{PutsSome}
-use Rattle.stream_print.specs.Readers.{rest_size, blocks_with}
+use Rattle.stream_print.specs.Readers.{blocks_with}
 use Rattle.stream_print.specs.Texts.{block_text, texts_for, IsText, IsPrefixOfText, IsEnd, IsPrefixOfEnd}
 use Rattle.stream_print.specs.declared.printer.Printer.{Printer}
 use Rattle.stream_print.specs.declared.reader.StreamReader.{StreamReader}
@@ -131,7 +131,7 @@ unfolding trouble_of
 long_trouble carrier most bytes more size some none =
     let long : nat_lt most (length (bytes ++ more)) ≡ true = lt-ltb most (length (bytes ++ more)) (omega (arith, length-append bytes more, size, some)) in
     let rest = cond (nat_lt most (length (bytes ++ more))) (Some TooLong) (end_trouble carrier (bytes ++ more)) in
-    ap (λ (o : Option StreamTrouble). or_else o rest) (ap (lasting_trouble carrier) (take_at bytes more most size) ∙ none)
+    ap (λ (o : Option StreamTrouble). or_trouble o rest) (ap (lasting_trouble carrier) (take_at bytes more most size) ∙ none)
     ∙ ap (λ (b : Bool). cond b (Some TooLong) (end_trouble carrier (bytes ++ more))) long
 
 -- a trouble that lasts
@@ -142,7 +142,7 @@ lasts_trouble carrier most bytes more trouble le is =
     let prefix = take_prefix most bytes more le in
     let stays = trouble_lasts carrier bytes (take (most - length bytes) more) trouble is in
     let rest = cond (nat_lt most (length (bytes ++ more))) (Some TooLong) (end_trouble carrier (bytes ++ more)) in (
-      ap (λ (o : Option StreamTrouble). or_else o rest) (ap (lasting_trouble carrier) prefix ∙ stays.0),
+      ap (λ (o : Option StreamTrouble). or_trouble o rest) (ap (lasting_trouble carrier) prefix ∙ stays.0),
       ap (carried_blocks carrier) prefix ∙ stays.1,
     )
 
@@ -151,7 +151,7 @@ ended : (carrier : Carrier) (most : ℕ) (bytes : List ℕ) → length bytes ≤
 unfolding trouble_of
 ended carrier most bytes le none =
     let rest = cond (nat_lt most (length bytes)) (Some TooLong) (end_trouble carrier bytes) in
-    ap (λ (o : Option StreamTrouble). or_else o rest) (ap (lasting_trouble carrier) (take_all most bytes le) ∙ none)
+    ap (λ (o : Option StreamTrouble). or_trouble o rest) (ap (lasting_trouble carrier) (take_all most bytes le) ∙ none)
     ∙ ap (λ (b : Bool). cond b (Some TooLong) (end_trouble carrier bytes)) (le-ltb most (length bytes) le)
 
 -- where the source tells its bytes, it has those that were taken and those that are left

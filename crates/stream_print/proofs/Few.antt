@@ -1,10 +1,10 @@
 -- A capture has no more packets than bytes, nor more datagrams than packets.
-use Rattle.std.proofs.Common.{◌≡◌, ℕ, zero, suc, ◌+◌, ◌≤◌, List, [], ◌∷◌, ◌++◌, length, drop, sym, ap, ◌∙◌, arith, Option, Some, None, Ok, Err, Result, length-append, length-drop}
+use Rattle.std.proofs.Common.{ℕ, zero, suc, ◌≤◌, List, [], ◌∷◌, length, drop, ap, arith, Option, Some, None, Ok, Err, Result, length-append, length-drop}
 use Rattle.std.specs.List.{count_by}
 use Rattle.std.proofs.lemmas.List.Concat.{flat_map-cons}
 use Rattle.std.proofs.lemmas.List.Sums.{count_by-le-length}
 use Rattle.pcap_feed.specs.Capture.{Packet, ordered, front_of, packets_on, packets_from, packets_of}
-use Rattle.pcap_feed.specs.Datagrams.{bytes_at, payloads_in, payloads_of}
+use Rattle.pcap_feed.specs.Datagrams.{span_bytes, payloads_in, payloads_of}
 use Rattle.pcap_feed.specs.Payload.{payload}
 use Rattle.pcap_feed.specs.Stream.{Front, items_found, items_within_by, items_within}
 use Rattle.pcap_feed.specs.declared.fault.ByteOrder.{ByteOrder}
@@ -33,7 +33,7 @@ datagrams_few port [] = omega arith
 datagrams_few port (packet ∷ packets) =
     omega (arith, ap length (flat_map-cons (payloads_in port) packet packets), length-append (payloads_in port packet) (payloads_of port packets), one packet.bytes (payload packet port), datagrams_few port packets)
   where
-    one : (bytes : List ℕ) (span : Option (ℕ × ℕ)) → length (bytes_at bytes span) ≤ 1
+    one : (bytes : List ℕ) (span : Option (ℕ × ℕ)) → length (span_bytes bytes span) ≤ 1
     one bytes None = omega arith
     one bytes (Some span) = omega arith
 

@@ -1,9 +1,9 @@
 -- The end of a stream.
-use Rattle.std.proofs.Common.{◌≡◌, ◌≤◌, ℕ, true, false, true≢false, List, [], ◌++◌, length, reverse, sym, ap, ◌∙◌, subst, arith, Option, None, Result, Ok, Err}
+use Rattle.std.proofs.Common.{◌≡◌, ◌≤◌, ℕ, true≢false, List, [], ◌++◌, length, reverse, sym, ◌∙◌, subst, arith, Option, None, Result, Ok, Err}
 use Rattle.std.specs.Result.{IsErr, IsErrAnd}
 use Rattle.std.specs.Io.KnownBytes.{Consumes, Keeps, IsAtEnd}
 use Rattle.pitch_io.specs.Putting.{Grows}
-use Rattle.stream_print.specs.Carriers.{carried_blocks, with_counts}
+use Rattle.stream_print.specs.Carriers.{carried_blocks}
 use Rattle.stream_print.specs.Told.{between}
 use Rattle.stream_print.specs.declared.carrier.Carrier.{Carrier}
 use Rattle.stream_print.specs.declared.stream_form.StreamForm.{StreamForm}
@@ -11,7 +11,7 @@ use Rattle.stream_print.specs.Feeding.{Fed}
 use Rattle.stream_print.specs.Inputs.{lasting_trouble, end_trouble, StreamEnds, WritesAll, WritesSome}
 use Rattle.stream_print.specs.Page.{PrintsSuch, Prints}
 use Rattle.stream_print.specs.Putting.{PutsSuch, PutsSome}
-use Rattle.stream_print.specs.Readers.{counts_text}
+use Rattle.stream_print.specs.Readers.{packets_text}
 use Rattle.stream_print.specs.Texts.{texts_for, IsEnd, IsPrefixOfEnd}
 use Rattle.stream_print.specs.declared.printer.Printer.{Printer}
 use Rattle.stream_print.specs.declared.reader.StreamReader.{StreamReader}
@@ -28,29 +28,29 @@ end_printed carrier form p start u v t r bytes fed q = prints_more start u v [] 
 -- all was written
 pub ends_whole : (carrier : Carrier) (form : StreamForm) (most : ℕ) (first before now start u v w x : Option (List ℕ)) (p : Printer) (t t' : List ℕ) (r : StreamReader) (bytes : List ℕ) → length bytes ≤ most → most ≤ 1073741824
     → Fed carrier form start u p r bytes → lasting_trouble carrier bytes ≡ None → end_trouble carrier bytes ≡ None → Consumes first before bytes → IsAtEnd before × Keeps before now
-    → PrintsSuch (IsEnd form (reverse (carried_blocks carrier bytes))) u p.page.text v t → Prints v t w t' (counts_text r) → Grows w x t' → WritesAll carrier form most (between first now) (between start x)
+    → PrintsSuch (IsEnd form (reverse (carried_blocks carrier bytes))) u p.page.text v t → Prints v t w t' (packets_text r) → Grows w x t' → WritesAll carrier form most (between first now) (between start x)
 ends_whole carrier form most first before now start u v w x p t t' r bytes small few fed none sound read end q counts wrote =
     let texts : List ℕ = texts_for carrier form bytes ++ q.text in
-    writes_whole carrier form most first before now start x bytes q.text (counts_text r) small read end none sound q.such (counts_are carrier r bytes texts (omega (arith, small, few)) fed.read)
-    (prints_out start w x t' (texts ++ counts_text r) (prints_more start v w [] t t' texts (counts_text r) (end_printed carrier form p start u v t r bytes fed q) counts) wrote)
+    writes_whole carrier form most first before now start x bytes q.text (packets_text r) small read end none sound q.such (counts_are carrier r bytes texts (omega (arith, small, few)) fed.read)
+    (prints_out start w x t' (texts ++ packets_text r) (prints_more start v w [] t t' texts (packets_text r) (end_printed carrier form p start u v t r bytes fed q) counts) wrote)
 
 -- the sink failed at the last page
 pub ends_unflushed : (carrier : Carrier) (form : StreamForm) (first before now start u v w x : Option (List ℕ)) (p : Printer) (t t' : List ℕ) (r : StreamReader) (bytes : List ℕ) → length bytes ≤ 1073741824
     → Fed carrier form start u p r bytes → Consumes first now bytes → Consumes first before bytes → IsAtEnd before × Keeps before now
-    → PrintsSuch (IsEnd form (reverse (carried_blocks carrier bytes))) u p.page.text v t → Prints v t w t' (counts_text r) → PutsSome w x t' → WritesSome carrier form (between first now) (between start x)
+    → PrintsSuch (IsEnd form (reverse (carried_blocks carrier bytes))) u p.page.text v t → Prints v t w t' (packets_text r) → PutsSome w x t' → WritesSome carrier form (between first now) (between start x)
 ends_unflushed carrier form first before now start u v w x p t t' r bytes small fed all read end q counts puts =
     let texts : List ℕ = texts_for carrier form bytes ++ q.text in
-    writes_counts carrier form first before now start x bytes q.text (counts_text r) all read end q.such (counts_are carrier r bytes texts small fed.read)
-    (puts_after start w x [] t' (texts ++ counts_text r) (prints_more start v w [] t t' texts (counts_text r) (end_printed carrier form p start u v t r bytes fed q) counts) puts)
+    writes_counts carrier form first before now start x bytes q.text (packets_text r) all read end q.such (counts_are carrier r bytes texts small fed.read)
+    (puts_after start w x [] t' (texts ++ packets_text r) (prints_more start v w [] t t' texts (packets_text r) (end_printed carrier form p start u v t r bytes fed q) counts) puts)
 
 -- the sink failed at the line of the packets
 pub ends_uncounted : (carrier : Carrier) (form : StreamForm) (first before now start u v w : Option (List ℕ)) (p : Printer) (t : List ℕ) (r : StreamReader) (bytes : List ℕ) → length bytes ≤ 1073741824
     → Fed carrier form start u p r bytes → Consumes first now bytes → Consumes first before bytes → IsAtEnd before × Keeps before now
-    → PrintsSuch (IsEnd form (reverse (carried_blocks carrier bytes))) u p.page.text v t → PutsSome v w (t ++ counts_text r) → WritesSome carrier form (between first now) (between start w)
+    → PrintsSuch (IsEnd form (reverse (carried_blocks carrier bytes))) u p.page.text v t → PutsSome v w (t ++ packets_text r) → WritesSome carrier form (between first now) (between start w)
 ends_uncounted carrier form first before now start u v w p t r bytes small fed all read end q puts =
     let texts : List ℕ = texts_for carrier form bytes ++ q.text in
-    writes_counts carrier form first before now start w bytes q.text (counts_text r) all read end q.such (counts_are carrier r bytes texts small fed.read)
-    (puts_then start v w [] t texts (counts_text r) (end_printed carrier form p start u v t r bytes fed q) puts)
+    writes_counts carrier form first before now start w bytes q.text (packets_text r) all read end q.such (counts_are carrier r bytes texts small fed.read)
+    (puts_then start v w [] t texts (packets_text r) (end_printed carrier form p start u v t r bytes fed q) puts)
 
 -- the sink failed while the end was printed
 pub ends_unprinted : (carrier : Carrier) (form : StreamForm) (first before now start u v : Option (List ℕ)) (p : Printer) (r : StreamReader) (bytes : List ℕ)

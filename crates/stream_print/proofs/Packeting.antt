@@ -2,7 +2,7 @@
 use Rattle.std.proofs.Common.{◌≡◌, ℕ, ◌+◌, ◌-◌, ◌*◌, ◌≤◌, ◌<◌, ◌⊎◌, inl, inr, Bool, true, false, ◌||◌, ◌==◌, cond, nat_lt, List, [], ◌∷◌, ◌++◌, length, take, drop, refl, sym, ap, ◌∙◌, subst, arith, append_assoc, Option, Some, None, Ok, Err, Result, length-append, length-drop}
 use Rattle.std.specs.List.{flat_map, count_by}
 use Rattle.std.proofs.lemmas.Grind.{flat_map-append}
-use Rattle.std.proofs.lemmas.Bool.{cases_Bool, lt-ltb, le-ltb}
+use Rattle.std.proofs.lemmas.Bool.{cases_Bool, lt-ltb}
 use Rattle.std.proofs.lemmas.List.{append-nil, drop-drop}
 use Rattle.std.proofs.lemmas.List.Concat.{flat_map-cons}
 use Rattle.std.proofs.lemmas.List.Sums.{sum_by_push}
@@ -10,7 +10,7 @@ use Rattle.unit_packets.specs.Blocks.{Block}
 use Rattle.unit_packets.specs.Causes.{counted}
 use Rattle.unit_packets.specs.Cutting.{blocks_of, rest_of}
 use Rattle.pcap_feed.specs.Capture.{Packet, is_cut_off, judge_head, judge_record, ordered, begin_of, front_of, packets_from, left_from, order_told_from}
-use Rattle.pcap_feed.specs.Datagrams.{bytes_at, payloads_in, payloads_of}
+use Rattle.pcap_feed.specs.Datagrams.{span_bytes, payloads_in, payloads_of}
 use Rattle.pcap_feed.specs.Feeding.{Capturing, headed, past_head_by, past_head}
 use Rattle.pcap_feed.specs.Lent.{StandsAtFront}
 use Rattle.pcap_feed.specs.Payload.{payload}
@@ -118,7 +118,7 @@ count_datagram before n counts d false is c =
     }
 
 count_span : (bytes : List ℕ) (span : Option (ℕ × ℕ)) (before : List (List ℕ)) (n : ℕ) (counts : PacketCounts) → CountsTo before n counts
-    → CountsTo (before ++ bytes_at bytes span) (n + 1) (counts_with (use_of (bytes_at bytes span)) counts)
+    → CountsTo (before ++ span_bytes bytes span) (n + 1) (counts_with (use_of (span_bytes bytes span)) counts)
 count_span bytes None before n counts c =
     subst (λ (ds : List (List ℕ)). CountsTo ds (n + 1) (counts_with PassedOver counts)) (sym (append-nil before))
     (record { packets = counted_more counts.packets n c.packets; used = c.used; faulty = c.faulty })

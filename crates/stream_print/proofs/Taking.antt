@@ -6,7 +6,6 @@ use Rattle.pitch_io.specs.Causes.{HasCause}
 use Rattle.pitch_io.specs.Putting.{Grows}
 use Rattle.feed_lines.specs.Texts.{texts_after}
 use Rattle.feed_lines.proofs.Texts.{texts_none}
-use Rattle.stream_print.specs.Carriers.{carried_blocks}
 use Rattle.stream_print.specs.Told.{between}
 use Rattle.stream_print.specs.declared.carrier.Carrier.{Carrier}
 use Rattle.stream_print.specs.declared.stream_form.StreamForm.{StreamForm}

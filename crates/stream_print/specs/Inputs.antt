@@ -30,15 +30,15 @@ end_trouble Bare bytes = option_map Faulty (fault_at_end bytes)
 end_trouble (Capture port) bytes = option_map BadCapture (capture_end_fault bytes)
 
 -- a trouble, or else something else
-abbrev pub or_else : Option StreamTrouble → Option StreamTrouble → Option StreamTrouble
-or_else (Some trouble) other = Some trouble
-or_else None other = other
+abbrev pub or_trouble : Option StreamTrouble → Option StreamTrouble → Option StreamTrouble
+or_trouble (Some trouble) other = Some trouble
+or_trouble None other = other
 
 -- what is wrong with a stream of which at most `most` bytes are read: a trouble among the first of
 -- them that more bytes do not mend, or else more bytes than that, or else an end inside a block or
 -- a packet
 unfoldable pub trouble_of : Carrier → ℕ → List ℕ → Option StreamTrouble
-trouble_of carrier most bytes = or_else (lasting_trouble carrier (take most bytes)) (cond (nat_lt most (length bytes)) (Some TooLong) (end_trouble carrier bytes))
+trouble_of carrier most bytes = or_trouble (lasting_trouble carrier (take most bytes)) (cond (nat_lt most (length bytes)) (Some TooLong) (end_trouble carrier bytes))
 
 -- ---- How a stream ends
 -- where a source told its bytes, these are all of them, and nothing is left

@@ -44,6 +44,6 @@ blocks_with (Blocks r) piece = blocks_of (r.rest ++ piece)
 blocks_with (Packets r) piece = blocks_in r.port (packets_from r.reader.told (r.reader.rest ++ piece))
 
 -- the line of the packets that were counted
-abbrev pub counts_text : StreamReader → List ℕ
-counts_text (Blocks r) = []
-counts_text (Packets r) = counts_line r.counts
+abbrev pub packets_text : StreamReader → List ℕ
+packets_text (Blocks r) = []
+packets_text (Packets r) = counts_line r.counts

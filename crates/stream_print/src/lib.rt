@@ -1,9 +1,11 @@
 //! A stream of blocks read from a source and printed to a sink: a text for each block as soon as it
-//! has come, and one at the stream's end.
+//! has come, and one at the stream's end. The blocks stand back to back, or in the datagrams of a
+//! capture file, whose packets are counted.
 //!
 //! `print_stream` says for each way to end what was written, whatever pieces the source gives: the
 //! whole text, the texts of the blocks before a fault, or some prefix of the text where a device or
-//! memory failed. Give it a form, a source and a sink; a command with a new form adds a `Task`.
+//! memory failed. Give it a carrier, a form, a source and a sink; a command with a new form adds a
+//! `Task`, and one whose blocks come otherwise a `Carrier` with its reader.
 #![tactic(auto)]
 
 mod blocks;

@@ -2,7 +2,7 @@ ghost use Rattle.std.specs.Prelude.{◌≡◌, ◌≤◌, ◌+◌, ◌*◌, ◌+
 ghost use Rattle.std.specs.List.{flat_map};
 ghost use Rattle.unit_packets.specs.Cutting.{blocks_of};
 ghost use Rattle.pcap_feed.specs.Capture.{packets_from, front_of};
-ghost use Rattle.pcap_feed.specs.Datagrams.{bytes_at, payloads_in};
+ghost use Rattle.pcap_feed.specs.Datagrams.{span_bytes, payloads_in};
 ghost use Rattle.pcap_feed.specs.Stream.{items_within};
 ghost use Rattle.pitch_io.specs.Causes.{HasCause};
 ghost use Rattle.stream_print.specs.Carriers.{blocks_in};
@@ -48,8 +48,8 @@ fn print_datagram<O: Sink>(
 ) -> Result<PacketUse, PrintError>
     requires within { IfSome datagram (λ found. found.0 + found.1 ≤ length frame.now) }
     requires few { 8 * printer.old.number + length frame.now ≤ 1073741824 }
-    ensures prints { IfOk result (λ is. PrintsDatagrams printer.old printer.new (length frame.now) (bytes_at frame.now datagram) is (O.written out.old) (O.written out.new)) }
-    ensures err { OnErr result (FailsBlocks printer.old (O.written out.old) (O.written out.new) (flat_map blocks_of (bytes_at frame.now datagram))) }
+    ensures prints { IfOk result (λ is. PrintsDatagrams printer.old printer.new (length frame.now) (span_bytes frame.now datagram) is (O.written out.old) (O.written out.new)) }
+    ensures err { OnErr result (FailsBlocks printer.old (O.written out.old) (O.written out.new) (flat_map blocks_of (span_bytes frame.now datagram))) }
     ensures cause { HasCause (O.faults out.old) (O.faults out.new) (result ≡ Err PrintError.Write) }
 {
     match datagram {

@@ -94,7 +94,7 @@ impl StreamReader {
     ghost use Rattle.stream_print.specs.Page.{Prints};
     ghost use Rattle.stream_print.specs.Printing.{PrintsPiece, FailsBlocks};
     ghost use Rattle.stream_print.specs.Putting.{PutsSome};
-    ghost use Rattle.stream_print.specs.Readers.{HasRead, rest_size, blocks_with, counts_text};
+    ghost use Rattle.stream_print.specs.Readers.{HasRead, rest_size, blocks_with, packets_text};
     ghost use Rattle.stream_print.specs.declared.carrier.Carrier.{Carrier};
 
     /// A reader for a carrier, which has read nothing.
@@ -149,8 +149,8 @@ impl StreamReader {
 
     /// Prints the line of the packets of a capture.
     pub fn print_counts<O: Sink>(&self, page: &mut Page, out: &mut O) -> Result<(), PutFailed>
-        ensures ok { OnOk result (Prints (O.written out.old) page.old.text (O.written out.new) page.new.text (counts_text self.now)) }
-        ensures err { OnErr result (PutsSome (O.written out.old) (O.written out.new) (page.old.text ++ counts_text self.now)) }
+        ensures ok { OnOk result (Prints (O.written out.old) page.old.text (O.written out.new) page.new.text (packets_text self.now)) }
+        ensures err { OnErr result (PutsSome (O.written out.old) (O.written out.new) (page.old.text ++ packets_text self.now)) }
         ensures cause { HasCause (O.faults out.old) (O.faults out.new) (IsErr result) }
     {
         match self {

@@ -1,4 +1,4 @@
-use Rattle.std.proofs.Common.{◌≤◌, ℕ, List, length, ap, sym, subst, ◌∙◌, arith, refl}
+use Rattle.std.proofs.Common.{ap, arith}
 use Rattle.std.proofs.lemmas.List.{take_rest}
 use Rattle.pitch_model.proofs.Results.{on_err}
 use Rattle.unit_packets.specs.Cutting.{blocks_of}

@@ -1,4 +1,4 @@
-use Rattle.std.proofs.Common.{◌≤◌, ℕ, List, length, arith}
+use Rattle.std.proofs.Common.{arith}
 use Rattle.std.proofs.lemmas.List.{take_rest}
 use Rattle.pcap_feed.specs.Capture.{front_of}
 use Rattle.pcap_feed.specs.Stream.{items_within}

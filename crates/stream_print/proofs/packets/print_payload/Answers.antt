@@ -1,4 +1,4 @@
-use Rattle.std.proofs.Common.{◌≡◌, ◌≤◌, ◌<◌, ◌==◌, ℕ, List, [], ◌∷◌, length, false, inl, inr, arith, sym, ◌∙◌}
+use Rattle.std.proofs.Common.{[], ◌∷◌, length, inl, inr, arith, sym, ◌∙◌}
 use Rattle.std.specs.List.{flat_map}
 use Rattle.std.proofs.lemmas.Bool.{eqb-true}
 use Rattle.pitch_model.proofs.Results.{on_err}

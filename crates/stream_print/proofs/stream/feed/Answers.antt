@@ -1,8 +1,8 @@
-use Rattle.std.proofs.Common.{rules, ◌≤◌, ◌+◌, ◌-◌, ◌++◌, min, ℕ, length, take, None, sym, ap, ◌∙◌, subst, arith, length-append, length-take}
+use Rattle.std.proofs.Common.{rules, ◌≤◌, ◌+◌, ◌-◌, ◌++◌, min, ℕ, length, take, sym, ap, ◌∙◌, arith, length-append, length-take}
 use Rattle.stream_print.specs.Page.{Page}
 use Rattle.stream_print.specs.declared.failure.PrintError.TheVariants.{Write}
 use Rattle.stream_print.specs.Knowing.{task_form}
-use Rattle.stream_print.specs.Inputs.{stream_limit, lasting_trouble}
+use Rattle.stream_print.specs.Inputs.{stream_limit}
 use Rattle.stream_print.proofs.Keeping.{feeds_unprinted, fed_kept, kept_fails, kept_unflushed, kept_faulty, kept_long, kept_all}
 use Rattle.stream_print.proofs.stream.feed.Goals as goal
 

@@ -1,9 +1,8 @@
-use Rattle.std.proofs.Common.{List, length, None, sym, subst, ◌∙◌, ◌≤◌, ◌≡◌, ℕ, arith}
+use Rattle.std.proofs.Common.{sym, ◌∙◌, arith}
 use Rattle.std.specs.Prelude.{reverse}
 use Rattle.stream_print.specs.Carriers.{carried_blocks}
 use Rattle.stream_print.specs.Knowing.{task_form}
 use Rattle.stream_print.specs.Inputs.{stream_limit}
-use Rattle.stream_print.specs.declared.failure.PrintError.TheVariants.{Write}
 use Rattle.stream_print.proofs.Feeding.{refuses_end, consumes_kept}
 use Rattle.stream_print.proofs.Finishing.{ends_whole, ends_uncounted, ends_unflushed, ends_unprinted, ends_same}
 use Rattle.stream_print.proofs.Unprinted.{ends_unwritten}
