@@ -1,7 +1,7 @@
 use Rattle.std.proofs.Common.{◌∙◌, sym}
 use Rattle.gap_store.specs.declared.found.Found.TheVariants.{Ahead, NotKept}
 use Rattle.gap_store.proofs.Keeping.{packs_none}
-use Rattle.gap_store.proofs.store.GapStoreGapLookup.pack.Goals as goal
+use Rattle.gap_store.proofs.store.GapStore.pack_range.Goals as goal
 
 pub returns-in-Ahead-clause-found : goal.returns-in-Ahead-clause-found
 returns-in-Ahead-clause-found c = λ v is.

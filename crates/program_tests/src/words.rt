@@ -1,5 +1,5 @@
-use crate::{Form, read};
 use pitch_fields::OutOfMemory;
+use pitch_words::{Form, read};
 use std::test::*;
 
 // The answer to the words of the line, which single spaces part.

@@ -4,12 +4,13 @@ use std::str::from_utf8;
 use std::test::*;
 
 // The header of a capture, little endian with microseconds, and big endian with nanoseconds.
-const LITTLE: &[u8] =
-    b"\xd4\xc3\xb2\xa1\x02\0\x04\0\0\0\0\0\0\0\0\0\0\0\x04\0\x01\0\0\0";
+const LITTLE: &[u8] = b"\xd4\xc3\xb2\xa1\x02\0\x04\0\0\0\0\0\0\0\0\0\0\0\x04\0\x01\0\0\0";
+
 const BIG: &[u8] = b"\xa1\xb2\x3c\x4d\0\x02\0\x04\0\0\0\0\0\0\0\0\0\x04\0\0\0\0\0\x01";
 
 // The head of a packet of 60 bytes.
 const LITTLE_PACKET: &[u8] = b"\0\0\0\0\0\0\0\0\x3c\0\0\0\x3c\0\0\0";
+
 const BIG_PACKET: &[u8] = b"\0\0\0\0\0\0\0\0\0\0\0\x3c\0\0\0\x3c";
 
 // A frame of IPv4 and UDP to port 30,001, which carries the second 34,200 at sequence 1 of unit 1.

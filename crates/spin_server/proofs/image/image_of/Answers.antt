@@ -3,7 +3,7 @@ use Rattle.pitch_messages.specs.Writing.{written}
 use Rattle.pitch_model.specs.Image.{clock_of}
 use Rattle.pitch_model.proofs.ImageRaws.{adds_image}
 use Rattle.spin_server.proofs.Imaging.{image_whole}
-use Rattle.spin_server.proofs.image.append_image.Goals as goal
+use Rattle.spin_server.proofs.image.image_of.Goals as goal
 
 pub returns-clause-ok : goal.returns-clause-ok
 returns-clause-ok c =
