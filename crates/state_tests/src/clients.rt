@@ -26,7 +26,9 @@ fn item_of(rt: &impl Abort, alloc: Global, sequence: u32, bytes: &[u8]) -> Item
 #[test]
 fn tells_what_was_applied(rt: HostRuntime) -> Result<(), Fail> {
     let mut client = UnitClient::make(rt.alloc(), 4)?;
-    assert!(rt; client.reserve(2).is_ok() && client.spare() >= 2);
+    assert!(rt; client.book().len() == 0);
+    assert!(rt; client.reserve(2).is_ok());
+    assert!(rt; client.spare() >= 2);
     let mut applied = RawList::make(rt.alloc());
     for (sequence, bytes, length) in [(2, ADD, 0), (1, OTHER, 2)] {
         let item = item_of(&rt, rt.alloc(), sequence, bytes);
