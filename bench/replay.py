@@ -4,13 +4,16 @@
     bench/replay.py PROGRAM [--rounds R] [--only NAME]
     bench/replay.py PROGRAM --print NAME [--tenth]
 
-PROGRAM is the path of the built program. There are three schedules, and a tenth of each:
+PROGRAM is the path of the built program. There are four schedules, and a tenth of each:
 
     storm   16 units with 10,000 steps each, some 688,000 lines and 9 MB: a command and a flush a
             step; one datagram in 20 is lost on each line; gaps are asked for at every tenth step,
             and at the end an image, where a unit is still behind
     long    4 units, 5,120,000 lines and 65 MB: orders that are added, flushed and heard on
-            both lines, and then deleted in the same way; no sessions
+            both lines, and then deleted in the same way; no sessions. Its books grow to 160,000
+            orders each, and those of its tenth to 16,000
+    steady  the same units, and as many lines and orders: but each order is executed or deleted once
+            1,000 more were added, so that the books of the whole are as large as those of the tenth
     pieces  an image of 100,000 orders, of which 20 bytes are carried at a line; some 230,000 lines
 
 All runs are made in turn, R times (3 where it isn't given), those of a tenth five times as often.
@@ -109,6 +112,27 @@ def long_text(units, steps):
                     yield u, '%s %d' % (line, number), None, number
 
 
+# ---- A text whose books keep their size
+def steady(units, steps, most):
+    """The same of orders of which no more than so many are open at a time."""
+    number = 0
+    for i in range(1, steps + most + 1):
+        commands = []
+        if i <= steps:
+            commands.append(('add %d B 100 IBM 10.00', i, ''))
+        if i > most:
+            taken = i - most
+            # One order in three is executed as a whole.
+            commands.append(('exec %d 100', taken, ' %d' % taken) if taken % 3 == 0 else ('delete %d', taken, ''))
+        for command, order, rest in commands:
+            number += 1
+            for u in range(1, units + 1):
+                yield u, command % order + rest, command % (u * 10 ** 8 + order) + rest, None
+                yield u, 'flush', None, None
+                for line in 'ab':
+                    yield u, '%s %d' % (line, number), None, number
+
+
 # ---- An image in pieces
 def pieces(orders):
     """The same of a client that takes an image 20 bytes at a time."""
@@ -127,6 +151,7 @@ def pieces(orders):
 SCHEDULES = {
     'storm': lambda part: storm(16, 10000 // part),
     'long': lambda part: long_text(4, 160000 // part),
+    'steady': lambda part: steady(4, 160000 // part, 1000),
     'pieces': lambda part: pieces(100000 // part),
 }
 

@@ -17,7 +17,7 @@ use Rattle.pitch_model.specs.Image.{image, image_of}
 use Rattle.pitch_model.specs.Reach.{reach_of}
 use Rattle.pitch_fields.specs.Fields.{AreBytes}
 use Rattle.pitch_model.specs.declared.ask.Ask.TheVariants.{Spin}
-use Rattle.pitch_model.specs.declared.change.ImageEnd.TheVariants.{Taken}
+use Rattle.pitch_model.specs.declared.change.ImageEnd.TheVariants.{Taken, Bad}
 use Rattle.pitch_model.specs.declared.item.Item.TheVariants as item
 use Rattle.pitch_model.proofs.Images.{image_book}
 use Rattle.client_core.specs.Items.{IsImage}
@@ -58,3 +58,8 @@ kept : (c c' : UnitClient) → Tracks c 4 image_heard → Keeps c opening
     → ((Image : List Raw → ℕ → List Raw) (V : List Raw) → IsImage Image V → (H : ℕ) (E : List Entry) → Tracks c H E → Honest Image V (heard (item.SpinFinished 1) E) → Keeps c V → Keeps c' V)
     → Keeps c' opening
 kept c c' T K hears = hears image opening (λ s. image_book opening s bytes) 4 image_heard T honest K
+
+-- an image is bad where two orders were promised and none came
+bad : image_end 4 (ImageMessages opening ∷ SpinReply 2 2 true ∷ Ticked (Some (Spin 2)) ∷ Advertised 2 ∷ SpinUp ∷ []) (item.SpinFinished 2) ≡ Bad 2 0
+unfolding reach_of
+bad = refl

@@ -13,8 +13,6 @@ mod items;
 mod laws;
 mod link;
 mod spin_link;
-#[cfg(test)]
-mod tests;
 
 pub use crate::gap_link::GapLink;
 pub use crate::items::ItemList;

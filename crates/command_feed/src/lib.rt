@@ -7,8 +7,6 @@
 
 mod error;
 mod feed;
-#[cfg(test)]
-mod tests;
 
 pub use crate::error::CommandError;
 pub use crate::feed::append_feed;

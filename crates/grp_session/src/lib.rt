@@ -11,8 +11,6 @@ mod asking;
 mod budget;
 mod laws;
 mod server;
-#[cfg(test)]
-mod tests;
 
 pub use crate::budget::GapBudget;
 pub use crate::laws::{cutting_laws, look_laws};

@@ -8,8 +8,6 @@
 mod arbiter;
 mod count;
 mod heard;
-#[cfg(test)]
-mod tests;
 
 pub use crate::arbiter::Arbiter;
 pub use crate::count::LineCount;

@@ -10,8 +10,6 @@ mod adding;
 mod change;
 mod naming;
 mod order_list;
-#[cfg(test)]
-mod tests;
 mod totals;
 mod unit_book;
 

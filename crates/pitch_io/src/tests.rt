@@ -1,9 +1,11 @@
 use crate::{
-    MemorySink, MemorySource, Put, Sink, Source, StdSink, StdSource, SteadySink, SteadySource,
-    Taken,
+    FreeGate, Gate, Line, LinkEnd, MeetGate, MemoryNet, MemorySink, MemorySource, Net, NetCall,
+    NetDone, NetTaken, NetVerb, Put, Role, Sink, Source, StdSink, StdSource, SteadySink,
+    SteadySource, Taken, Work,
 };
 use std::io::{Error, ErrorKind, Read};
 use std::process::Abort;
+use std::thread::join;
 
 // Takes five times into a slice of 4 bytes, and answers what was taken and each answer's letter.
 fn five_takes<R: Abort + AllocGlobal, S: Source>(rt: &R, source: &mut S) -> (Vec<u8>, String) {
@@ -131,4 +133,108 @@ fn a_sink_over_a_writer_writes_what_it_takes(rt: HostRuntime) {
         answers.as_slice(),
         [Put::Wrote(3), Put::Wrote(3), Put::Wrote(1)].as_slice(),
     );
+}
+
+// Goes through the gate with one piece of work.
+fn pass<G: Gate + Sync>(gate: &G, role: Role, unit: u8, step: u32) {
+    let work = Work { unit, role, step };
+    gate.before(work);
+    gate.after(work);
+}
+
+#[test]
+fn a_gate_tells_what_met_and_what_did_not(rt: HostRuntime) {
+    pass(&FreeGate, Role::Replay, 1, 1);
+    let gate = MeetGate::looking(3);
+    for (role, unit, step) in [
+        (Role::Replay, 3, 1),
+        (Role::Publisher, 1, 49),
+        (Role::Publisher, 2, 50),
+        (Role::Client, 1, 2),
+        (Role::Service, 1, 50),
+    ] {
+        pass(&gate, role, unit, step);
+    }
+    assert_eq!(rt; (gate.spent(), gate.met()), (false, 0));
+    assert_eq!(rt;
+        (gate.most(Role::Publisher), gate.most(Role::Service)),
+        (50, 50)
+    );
+    assert_eq!(rt; (gate.most(Role::Client), gate.most(Role::Replay)), (2, 1));
+    pass(&gate, Role::Replay, 1, 1);
+    assert_eq!(rt; (gate.spent(), gate.met()), (true, 0));
+    pass(&gate, Role::Replay, 2, 1);
+    assert_eq!(rt; (gate.spent(), gate.met()), (true, 1));
+}
+
+#[test]
+fn work_that_runs_beside_other_work_meets_it(rt: HostRuntime) {
+    let gate = MeetGate::make();
+    let shared = &gate;
+    join(
+        &rt,
+        || pass(shared, Role::Replay, 1, 1),
+        || pass(shared, Role::Replay, 2, 1),
+    );
+    assert_eq!(rt; (gate.spent(), gate.met()), (false, 2));
+    join(
+        &rt,
+        || pass(shared, Role::Publisher, 1, 50),
+        || pass(shared, Role::Client, 1, 1),
+    );
+    assert_eq!(rt; (gate.spent(), gate.met()), (false, 4));
+    assert_eq!(rt; MeetGate::make().most(Role::Client), 0);
+}
+
+#[test]
+fn a_net_in_memory_carries_in_order(rt: HostRuntime) {
+    let mut net = MemoryNet::make(rt.alloc(), Vec::new(rt.alloc()));
+    let mut into = [0u8; 4];
+    assert_eq!(rt; net.begin(), NetDone::Done);
+    for datagram in [b"abc".as_slice(), b"", b"defgh"] {
+        assert_eq!(rt; net.send(Line::A, datagram), NetDone::Done);
+    }
+    assert_eq!(rt; net.next(Line::B, &mut into), NetTaken::Quiet);
+    for (want, bytes) in [(3, b"abc".as_slice()), (4, b"defg")] {
+        assert_eq!(rt; net.next(Line::A, &mut into), NetTaken::Got(want));
+        assert_eq!(rt; &into[..want.min(4)], bytes);
+    }
+    assert_eq!(rt; net.next(Line::A, &mut into), NetTaken::Quiet);
+    assert_eq!(rt; net.put(LinkEnd::SpinClient, b"01234"), Put::Wrote(5));
+    assert_eq!(rt; net.take(LinkEnd::SpinClient, &mut into), NetTaken::Quiet);
+    for (want, bytes) in [(4, b"0123".as_slice()), (1, b"4")] {
+        assert_eq!(rt;
+            net.take(LinkEnd::SpinServer, &mut into),
+            NetTaken::Got(want)
+        );
+        assert_eq!(rt; &into[..want.min(4)], bytes);
+    }
+    assert_eq!(rt; net.take(LinkEnd::SpinServer, &mut into), NetTaken::Quiet);
+}
+
+#[test]
+fn a_net_in_memory_fails_where_listed(rt: HostRuntime) {
+    let listed = [
+        NetCall {
+            verb: NetVerb::Send,
+            number: 2,
+        },
+        NetCall {
+            verb: NetVerb::Take,
+            number: 1,
+        },
+    ];
+    let failing = Vec::from_slice(rt.alloc(), &listed).expect(&rt, "memory");
+    let mut net = MemoryNet::make(rt.alloc(), failing);
+    let mut into = [0u8; 4];
+    assert_eq!(rt; net.begin(), NetDone::Done);
+    assert_eq!(rt; net.send(Line::Gap, b"a"), NetDone::Done);
+    assert_eq!(rt; net.send(Line::Gap, b"b"), NetDone::Failed);
+    assert_eq!(rt; net.send(Line::Gap, b"c"), NetDone::Done);
+    for want in [b'a', b'c'] {
+        assert_eq!(rt; net.next(Line::Gap, &mut into), NetTaken::Got(1));
+        assert_eq!(rt; into[0], want);
+    }
+    assert_eq!(rt; net.take(LinkEnd::GrpClient, &mut into), NetTaken::Failed);
+    assert_eq!(rt; net.take(LinkEnd::GrpClient, &mut into), NetTaken::Quiet);
 }

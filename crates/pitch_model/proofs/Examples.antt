@@ -14,7 +14,7 @@ use Rattle.pitch_messages.specs.Forms.{add_message}
 use Rattle.pitch_messages.specs.Reading.{reads}
 use Rattle.pitch_messages.specs.Writing.{written}
 use Rattle.pitch_model.specs.Book.{Book, with_order, without_order, reformed, reduced_by, modified, after, book_after}
-use Rattle.pitch_model.specs.History.{Entry, Message, Next, GrpUp, SpinUp, Advertised, SpinReply, ImageMessages, SpinFinished, Ticked}
+use Rattle.pitch_model.specs.History.{Entry, Message, Next, GrpUp, GapReply, SpinUp, Advertised, SpinReply, ImageMessages, SpinFinished, Ticked}
 use Rattle.pitch_model.specs.Advertising.{Accept, Advertise, advertised_by}
 use Rattle.pitch_model.specs.Asking.{ask_of}
 use Rattle.pitch_model.specs.Honest.{Honest}
@@ -228,6 +228,10 @@ gap_before_the_first_held = refl
 nothing_while_a_reply_is_owed : ask_of 4096 (Ticked (Some (Gap 2 1)) ∷ message 3 ∷ message 1 ∷ GrpUp ∷ []) ≡ None
 unfolding reach_of held_count
 nothing_while_a_reply_is_owed = refl
+
+gap_again_after_a_refusal : ask_of 4096 (GapReply false ∷ Ticked (Some (Gap 2 1)) ∷ message 3 ∷ message 1 ∷ GrpUp ∷ []) ≡ Some (Gap 2 1)
+unfolding reach_of held_count
+gap_again_after_a_refusal = refl
 
 -- the Gap Request Proxy is down, and an image through 4 is advertised
 image_where_no_gap_can_be_asked : ask_of 4096 (message 5 ∷ Advertised 4 ∷ SpinUp ∷ []) ≡ Some (Spin 4)

@@ -11,8 +11,6 @@ mod change;
 mod item;
 pub mod laws;
 mod status;
-#[cfg(test)]
-mod tests;
 
 pub use crate::ask::Ask;
 pub use crate::change::{Change, ImageEnd};

@@ -13,8 +13,6 @@ pub mod laws;
 mod options;
 mod print;
 mod schedule_text;
-#[cfg(test)]
-mod tests;
 mod verb;
 mod verb_rules;
 mod well_formed;

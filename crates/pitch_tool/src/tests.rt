@@ -347,7 +347,7 @@ fn each_message_is_shown(rt: HostRuntime) -> Result<(), Fail> {
 }
 
 // Texts of commands, the bytes that `pack` writes of them for unit 1, and what is said.
-const TEXTS: [(&[u8], &[u8], &str); 5] = [
+const TEXTS: [(&[u8], &[u8], &str); 6] = [
     (b"", b"", ""),
     (b"add 1 B 100 IBM 655.35\nadd 2 B 100 IBM 655.36", ADDS, ""),
     (
@@ -364,6 +364,12 @@ const TEXTS: [(&[u8], &[u8], &str); 5] = [
         b"\nadd 1 X 100 IBM 10.00\n",
         b"",
         "pitch: bad input at line 2 column 7: bad-word\n",
+    ),
+    // a fault comes before a refusal, wherever it stands
+    (
+        b"delete 1\n\nclear x\n",
+        b"",
+        "pitch: bad input at line 3 column 7: bad-word\n",
     ),
 ];
 

@@ -15,8 +15,6 @@ mod inbox;
 mod lent;
 mod role;
 mod sayings;
-#[cfg(test)]
-mod tests;
 
 pub use crate::account::Account;
 pub use crate::closed::{CloseCause, Closed};

@@ -1,5 +1,5 @@
 -- What a spin server does over a shelf.
-use Rattle.std.proofs.Common.{◌≡◌, ℕ, zero, suc, ◌-◌, ◌≤◌, List, [], ◌∷◌, ◌++◌, length, drop, replicate, sym, ap, ◌∙◌, subst, append_assoc}
+use Rattle.std.proofs.Common.{◌≡◌, Bool, ℕ, zero, suc, ◌-◌, ◌≤◌, List, [], ◌∷◌, ◌++◌, length, drop, replicate, sym, ap, ◌∙◌, subst, append_assoc}
 use Rattle.std.specs.List.{AllByRecursion}
 use Rattle.std.proofs.lemmas.List.{append-nil}
 use Rattle.pitch_model.specs.Advertising.{Operation, accepted_by, advertised_by}
@@ -10,7 +10,7 @@ use Rattle.session_ends.specs.Closing.{Setup}
 use Rattle.session_ends.specs.Events.{Event, Fed, Pumped}
 use Rattle.session_ends.proofs.Runs.{rises_to, rises_nowhere}
 use Rattle.spin_server.specs.Served.{Served, ServedLater}
-use Rattle.spin_server.specs.Serving.{Serving, SpinStands, SpinFeeds, spin_sends}
+use Rattle.spin_server.specs.Serving.{Serving, SpinStands, SpinFeeds, runs, spin_sends}
 use Rattle.spin_server.specs.Shelves.{Shelf}
 use Rattle.spin_server.specs.Stands.{ShelfStands, ShelfShows, seen_of}
 use Rattle.spin_server.proofs.Serves.{later_order}
@@ -41,21 +41,22 @@ views_are_shown shelf operations views now stands rises shows =
     subst (AllByRecursion (IsShown (accepted_by operations))) (sym (rises_nowhere ServedLater later_order later_both first now views rises same)) (all_of (accepted_by operations) first (length views) (seen_is_shown operations))
 
 -- the two moves of a server that was fed and then pumped
-pub served_on : (V : List Raw) (setup : Setup) (moves : List Move) (piece : List ℕ) (old fed new : Serving) (before middle after : List ℕ) (view : Served) (shown : Served → Type 0) (f : SpinFeeds (path_of setup moves).served piece old fed view shown before middle)
+pub served_on : (V : List Raw) (setup : Setup) (moves : List Move) (piece : List ℕ) (old fed new : Serving) (before middle after : List ℕ) (view : Served) (shown : Served → Type 0) (more : Bool) (f : SpinFeeds (path_of setup moves).served piece old fed view shown before middle)
     → AllByRecursion (IsShown V) f.views → AreMoves V setup moves → old.end.setup ≡ (path_of setup moves).setup → fed.end.setup ≡ old.end.setup → SpinStands new (Pumped ∷ Fed piece f.views ∷ (path_of setup moves).served)
-    → after ≡ middle ++ spin_sends fed.end.setup Pumped (Fed piece f.views ∷ (path_of setup moves).served) → ServesOn V setup moves piece new before after
-served_on V setup moves piece old fed new before middle after view shown f all are same still stands pumps =
+    → after ≡ middle ++ spin_sends fed.end.setup Pumped (Fed piece f.views ∷ (path_of setup moves).served) → more ≡ runs fed.end.setup (Pumped ∷ Fed piece f.views ∷ (path_of setup moves).served) → ServesOn V setup moves piece new before after more
+served_on V setup moves piece old fed new before middle after view shown more f all are same still stands pumps goes =
     let es : List (Event (List Served)) = (path_of setup moves).served in
     let s : Setup = (path_of setup moves).setup in
     let says : List ℕ = spin_sends s (Fed piece f.views) es in
-    let more : List ℕ = spin_sends s Pumped (Fed piece f.views ∷ es) in
+    let block : List ℕ = spin_sends s Pumped (Fed piece f.views ∷ es) in
     record {
       views = f.views;
       are = (_, (all, are));
       stands = stands;
-      said = says ++ more;
+      said = says ++ block;
       appended = pumps ∙ ap (λ (x : Setup). middle ++ spin_sends x Pumped (Fed piece f.views ∷ es)) (still ∙ same)
-          ∙ ap (λ (x : List ℕ). x ++ more) (f.replied ∙ ap (λ (x : Setup). before ++ spin_sends x (Fed piece f.views) es) same)
-          ∙ append_assoc before says more;
-      says = append_assoc (all_said s es) says more;
+          ∙ ap (λ (x : List ℕ). x ++ block) (f.replied ∙ ap (λ (x : Setup). before ++ spin_sends x (Fed piece f.views) es) same)
+          ∙ append_assoc before says block;
+      says = append_assoc (all_said s es) says block;
+      goes_on = goes ∙ ap (λ (x : Setup). runs x (Pumped ∷ Fed piece f.views ∷ es)) (still ∙ same);
     }

@@ -1,6 +1,6 @@
 -- A client's history over its connections to spin servers, one after another, whose bytes are only
 -- delayed or cut.
-use Rattle.std.specs.Prelude.{◌≡◌, ℕ, ◌+◌, ◌≤◌, ◌<◌, List, [], ◌∷◌, ◌++◌, length, map, replicate, Some}
+use Rattle.std.specs.Prelude.{◌≡◌, Bool, ℕ, ◌+◌, ◌≤◌, ◌<◌, List, [], ◌∷◌, ◌++◌, length, map, replicate, Some}
 use Rattle.pitch_fields.specs.Limits.{last_sequence}
 use Rattle.std.specs.List.{AllByRecursion}
 use Rattle.pitch_model.specs.declared.item.Item.{Item}
@@ -17,7 +17,7 @@ use Rattle.session_ends.specs.Events.{Event, Fed, Asked, Pumped, Told, fed_of}
 use Rattle.session_ends.specs.Events as event
 use Rattle.session_ends.specs.Sending.{sent_at_tick}
 use Rattle.spin_server.specs.Served.{Served}
-use Rattle.spin_server.specs.Serving.{Serving, SpinStands, spin_sends}
+use Rattle.spin_server.specs.Serving.{Serving, SpinStands, runs, spin_sends}
 use Rattle.client_links.specs.Telling.{without_spare}
 use Rattle.client_links.specs.Linking.{Lookups, NoLookup, LinkStands, link_setup, link_tells}
 
@@ -170,15 +170,16 @@ abbrev pub SpareIsUnheard : Type 0
 SpareIsUnheard = (items : List Item) (E : List Entry) → heard_all (map without_spare items) E ≡ heard_all items E
 
 -- ---- What the two ends do
--- it was fed a piece, and then asked for the next block: these are moves, it stands for them, and
--- what it says by them was appended
-pub record ServesOn (V : List Raw) (setup : Setup) (moves : List Move) (piece : List ℕ) (new : Serving) (before after : List ℕ) : Type 0 where
+-- it was fed a piece, and then asked for the next block: these are moves, it stands for them, what
+-- it says by them was appended, and there is more to come where a spin still runs
+pub record ServesOn (V : List Raw) (setup : Setup) (moves : List Move) (piece : List ℕ) (new : Serving) (before after : List ℕ) (more : Bool) : Type 0 where
   pub views : List Served
   pub are : AreMoves V setup (Serves Pumped ∷ Serves (Fed piece views) ∷ moves)
   pub stands : SpinStands new (path_of setup (Serves Pumped ∷ Serves (Fed piece views) ∷ moves)).served
   pub said : List ℕ
   pub appended : after ≡ before ++ said
   pub says : all_said (path_of setup moves).setup (path_of setup (Serves Pumped ∷ Serves (Fed piece views) ∷ moves)).served ≡ all_said (path_of setup moves).setup (path_of setup moves).served ++ said
+  pub goes_on : more ≡ runs (path_of setup moves).setup (path_of setup (Serves Pumped ∷ Serves (Fed piece views) ∷ moves)).served
 
 -- a link was fed a piece, and the client heard all that it told
 abbrev pub carries : Setup → List Move → List ℕ → List Move

@@ -1,4 +1,4 @@
-ghost use Rattle.std.specs.Prelude.{◌≡◌, OnOk, List};
+ghost use Rattle.std.specs.Prelude.{◌≡◌, IfOk, OnOk, List};
 ghost use Rattle.pitch_model.specs.Advertising.{Operation, accepted_by};
 ghost use Rattle.session_ends.specs.Closing.{Setup};
 ghost use Rattle.spin_server.specs.Serving.{SpinStands};
@@ -17,10 +17,11 @@ pub fn serve(
     down: &mut Vec<u8>,
 ) -> Result<bool, OutOfMemory>
     // Of everything that was pushed and advertised, and all moves so far, where the server stands
-    // for those at its end: what it did are moves too, and what it says by them was appended.
-    ensures serves { OnOk result ((operations : List Operation) (setup : Setup) (moves : List Move) → ShelfStands shelf.old operations → AreMoves (accepted_by operations) setup moves
+    // for those at its end: what it did are moves too, what it says by them was appended, and true
+    // is answered exactly where a spin runs after them.
+    ensures serves { IfOk result (λ more. (operations : List Operation) (setup : Setup) (moves : List Move) → ShelfStands shelf.old operations → AreMoves (accepted_by operations) setup moves
         → server.old.end.setup ≡ (path_of setup moves).setup → SpinStands server.old (path_of setup moves).served
-        → ServesOn (accepted_by operations) setup moves piece.now server.new down.old.items down.new.items) }
+        → ServesOn (accepted_by operations) setup moves piece.now server.new down.old.items down.new.items more) }
     ensures setup { OnOk result (server.new.end.setup ≡ server.old.end.setup) }
     ensures shelf { shelf.new ≡ shelf.old }
 {

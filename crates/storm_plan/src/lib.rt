@@ -9,8 +9,6 @@
 mod laws;
 mod schedule;
 mod summary;
-#[cfg(test)]
-mod tests;
 
 pub use crate::laws::storms_are_read;
 pub use crate::schedule::generate;

@@ -17,8 +17,6 @@ pub mod kinds;
 mod lines;
 mod options;
 mod reading;
-#[cfg(test)]
-mod tests;
 
 pub use crate::fault::{Fault, TextCause, TextError};
 pub use crate::fields::{FoundField, LineFields, length_before};

@@ -392,6 +392,28 @@ const ID_USED_AGAIN: (&[u8], &str) = (
     lines a 2/2 b 0/0 g 0/0\n",
 );
 
+// An image of one order is all that a client ever hears.
+const IMAGE_ALONE: (&[u8], &str) = (
+    b"1 add 1 B 10 IBM 10.00\n\
+    1 flush\n\
+    1 spin open\n\
+    1 spin up all\n\
+    1 advertise\n\
+    1 spin down all\n\
+    1 tick\n\
+    1 spin up all\n\
+    1 spin down all\n",
+    "1 1 accepted 1; silent\n\
+    2 1 sent 1; silent\n\
+    3 1 opened; silent\n\
+    4 1 carried 30; silent\n\
+    5 1 advertised 1; silent\n\
+    6 1 carried 25; behind 0 of 1\n\
+    7 1 asked spin 1; behind 0 of 1\n\
+    8 1 carried 14; behind 0 of 1\n\
+    9 1 carried 67; current 1\n",
+);
+
 // Each has its text, however its bytes come.
 #[test]
 fn each_schedule_has_its_text(rt: HostRuntime) -> Result<(), Fail> {
@@ -406,6 +428,7 @@ fn each_schedule_has_its_text(rt: HostRuntime) -> Result<(), Fail> {
         IMAGE_CUT,
         IMAGE_STALE,
         ID_USED_AGAIN,
+        IMAGE_ALONE,
     ];
     for piece in [7, 65536] {
         for (schedule, text) in schedules {

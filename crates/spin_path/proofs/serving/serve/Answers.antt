@@ -11,5 +11,5 @@ pub returns-clause-serves : goal.returns-clause-serves
 returns-clause-serves c = λ operations setup moves stands are same serves.
     let f = c.in_ok-feed.ensures.fed (path_of setup moves).served (seen_of operations) serves (shelf_seen c.args.shelf.now operations stands) in
     let shows = subst (λ (shelf : Shelf). ShelfShows shelf f.now) (c.in_ok-feed.ensures.same refl) f.shows in
-    served_on (accepted_by operations) setup moves c.args.piece.now c.args.server.now c.feed.new.self c.pump.new.self c.args.down.now.items c.feed.new.reply.items c.pump.new.reply.items (seen_of operations) _ f
-    (views_are_shown c.args.shelf.now operations f.views f.now stands f.rises shows) are same c.in_ok-feed.ensures.setup (c.in_ok-more.ensures.stands _ f.stands) (c.in_ok-more.ensures.says _ f.stands)
+    served_on (accepted_by operations) setup moves c.args.piece.now c.args.server.now c.feed.new.self c.pump.new.self c.args.down.now.items c.feed.new.reply.items c.pump.new.reply.items (seen_of operations) _ c.in_ok-more.more f
+    (views_are_shown c.args.shelf.now operations f.views f.now stands f.rises shows) are same c.in_ok-feed.ensures.setup (c.in_ok-more.ensures.stands _ f.stands) (c.in_ok-more.ensures.says _ f.stands) (c.in_ok-more.ensures.more _ f.stands)

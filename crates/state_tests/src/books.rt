@@ -1,0 +1,108 @@
+use order_book::{OrderList, UnitBook};
+use pitch_fields::{Price, Side, Symbol};
+use pitch_messages::{Order, Raw};
+use std::alloc::Global;
+use std::process::Abort;
+
+// Messages on order 5, and two of order 3.
+const TIME: &[u8] = b"\x06\x20\x98\x85\0\0";
+
+const ADD: &[u8] = b"\x22\x21\0\0\0\0\x05\0\0\0\0\0\0\0B\x64\0\0\0IBM   \xa0\x86\x01\0\0\0\0\0\x01";
+
+const ADD_NONE: &[u8] = b"\x1a\x22\0\0\0\0\x05\0\0\0\0\0\0\0B\0\0IBM   \xe8\x03\x01";
+
+const ADD_AGAIN: &[u8] = b"\x1a\x22\0\0\0\0\x05\0\0\0\0\0\0\0B\x0a\0IBM   \xe7\x03\x01";
+
+const ADD_OTHER: &[u8] =
+    b"\x28\x2f\0\0\0\0\x03\0\0\0\0\0\0\0B\x0a\0\0\0IBM     \xb0\xad\x01\0\0\0\0\0\0MPID";
+
+const EXECUTED: &[u8] = b"\x1a\x23\0\0\0\0\x05\0\0\0\0\0\0\0\x1e\0\0\0\x09\0\0\0\0\0\0\0";
+
+const EXECUTED_AT: &[u8] =
+    b"\x26\x24\0\0\0\0\x05\0\0\0\0\0\0\0\x1e\0\0\0\x14\0\0\0\x09\0\0\0\0\0\0\0\xa0\x86\x01\0\0\0\0\0";
+
+const REDUCE_ALL: &[u8] = b"\x12\x25\0\0\0\0\x05\0\0\0\0\0\0\0\x64\0\0\0";
+
+const REDUCE: &[u8] = b"\x10\x26\0\0\0\0\x05\0\0\0\0\0\0\0\x03\0";
+
+const REDUCE_REST: &[u8] = b"\x10\x26\0\0\0\0\x05\0\0\0\0\0\0\0\x04\0";
+
+const MODIFY: &[u8] = b"\x1b\x27\0\0\0\0\x05\0\0\0\0\0\0\0\x07\0\0\0\xb0\xad\x01\0\0\0\0\0\0";
+
+const MODIFY_NONE: &[u8] = b"\x13\x28\0\0\0\0\x05\0\0\0\0\0\0\0\0\0\xe8\x03\x01";
+
+const DELETE: &[u8] = b"\x0e\x29\0\0\0\0\x05\0\0\0\0\0\0\0";
+
+const CLEAR: &[u8] = b"\x06\x97\0\0\0\0";
+
+const SHORT_ADD: &[u8] = b"\x06\x21\0\0\0\0";
+
+// The book that messages leave, in ample memory.
+fn book_after(rt: &impl Abort, alloc: Global, raws: &[&[u8]]) -> UnitBook {
+    let mut book = UnitBook::make(alloc);
+    for bytes in raws {
+        let raw = Raw::from_bytes(bytes).expect(rt, "a raw");
+        assert!(rt; book.len() < 100);
+        assert!(rt; book.apply(&raw).is_ok());
+    }
+    book
+}
+
+#[test]
+fn messages_change_a_book(rt: HostRuntime) {
+    // Messages, whether the second is known, and quantity, price and display of order 5.
+    let rows: [(&[&[u8]], bool, Option<(u32, u64, bool)>); 15] = [
+        (&[TIME, ADD], true, Some((100, 100_000, true))),
+        (&[ADD, MODIFY, REDUCE], false, Some((4, 110_000, false))),
+        (&[ADD, MODIFY, REDUCE, REDUCE_REST], false, None),
+        (&[ADD, REDUCE_ALL], false, None),
+        (&[ADD, EXECUTED], false, Some((70, 100_000, true))),
+        (&[ADD, EXECUTED_AT], false, Some((20, 100_000, true))),
+        (&[TIME, ADD, CLEAR], true, None),
+        (&[ADD, MODIFY_NONE], false, None),
+        (&[ADD_NONE], false, None),
+        (&[ADD, ADD_NONE], false, Some((100, 100_000, true))),
+        (&[ADD, ADD_AGAIN], false, Some((10, 99_900, true))),
+        (&[ADD, DELETE], false, None),
+        (&[ADD_OTHER, REDUCE], false, None),
+        (&[SHORT_ADD], false, None),
+        (&[DELETE, CLEAR], false, None),
+    ];
+    for (raws, second, want) in rows {
+        let book = book_after(&rt, rt.alloc(), raws);
+        let got = book.order(5).map(|order: Order| {
+            (order.quantity, order.price.ten_thousandths(), order.display)
+        });
+        assert!(rt; got == want);
+        assert!(rt; book.second() == if second { Some(34200) } else { None });
+    }
+}
+
+#[test]
+fn levels_and_best_prices(rt: HostRuntime) {
+    let ibm = Symbol::from_six(*b"IBM   ");
+    let high = Price::from_long(110_000);
+    let book = book_after(&rt, rt.alloc(), &[ADD, MODIFY, REDUCE]);
+    assert!(rt; book.level(ibm, Side::Buy, high) == 4);
+    assert!(rt; book.level(ibm, Side::Buy, Price::from_long(100_000)) == 0);
+    assert!(rt; book.level(ibm, Side::Sell, high) == 0);
+    assert!(rt; book.best(ibm, Side::Buy) == Some((high, 4)));
+    let empty = book_after(&rt, rt.alloc(), &[ADD, MODIFY, REDUCE, REDUCE_REST]);
+    assert!(rt; empty.best(ibm, Side::Buy).is_none());
+}
+
+#[test]
+fn a_copy_and_its_orders_by_id(rt: HostRuntime) {
+    let mut book = book_after(&rt, rt.alloc(), &[ADD, ADD_OTHER]);
+    assert!(rt; book.len() == 2);
+    assert!(rt; book.reserve(10).is_ok());
+    assert!(rt; book.spare() >= 10);
+    let copy = book.copy().expect(&rt, "memory");
+    assert!(rt; copy.shares() == 110);
+    let mut orders = OrderList::make(rt.alloc());
+    assert!(rt; copy.orders_by_id(&mut orders).is_ok());
+    assert!(rt; orders.len() == 2);
+    for (order, id) in orders.as_slice().iter().zip([3, 5]) {
+        assert!(rt; order.id == id);
+    }
+}

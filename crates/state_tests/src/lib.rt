@@ -1,0 +1,13 @@
+//! Worked examples of what is kept for a unit: books, holds and clients.
+//!
+//! There are tests alone here, in a crate of their own for the reason that `wire_tests` gives.
+#![tactic(auto)]
+
+#[cfg(test)]
+mod books;
+#[cfg(test)]
+mod clients;
+#[cfg(test)]
+mod holds;
+#[cfg(test)]
+mod items;

@@ -1,0 +1,40 @@
+use pitch_messages::List;
+use std::test::*;
+use text_lines::{Fault, Grammar, LineFields, TextCause, TextError, read_number, read_text};
+
+// A line begins with a number of one digit.
+struct Digits;
+
+impl Grammar for Digits {
+    ghost use Rattle.text_lines.specs.Reading.{number};
+
+    type Said = u64;
+
+    type Entry = (u32, u64);
+
+    ghost reading = { number 0 9 };
+
+    ghost entry_of = { λ p. p };
+
+    fn read(fields: &mut LineFields) -> Result<u64, Fault> {
+        read_number(fields, 0, 9)
+    }
+
+    fn entry(line: u32, said: u64) -> (u32, u64) {
+        (line, said)
+    }
+}
+
+#[test]
+fn numbers_with_their_lines(rt: HostRuntime) {
+    let mut out = List::make(rt.alloc());
+    assert!(rt; read_text::<Digits>(b"7\r\n\n# none\n  3", &mut out) == Ok(()));
+    assert!(rt; out.as_slice() == [(1, 7), (4, 3)].as_slice());
+    let fault = TextError::Bad {
+        line: 2,
+        column: 2,
+        cause: TextCause::BadNumber,
+    };
+    assert!(rt; read_text::<Digits>(b"8\n 12", &mut out) == Err(fault));
+    assert!(rt; out.len() == 2);
+}
