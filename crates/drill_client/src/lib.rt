@@ -11,8 +11,6 @@
 mod ending;
 mod following;
 mod sure;
-#[cfg(test)]
-mod tests;
 
 pub use crate::ending::{append_end, ask_for_all, hear_all};
 pub use crate::following::{

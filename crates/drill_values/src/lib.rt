@@ -9,8 +9,6 @@
 
 mod hearing;
 mod run;
-#[cfg(test)]
-mod tests;
 mod values;
 mod words;
 

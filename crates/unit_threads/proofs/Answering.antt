@@ -1,6 +1,6 @@
 -- What the client of a side is answered.
-use Rattle.std.proofs.Common.{◌≡◌, ℕ, zero, suc, ◌+◌, ◌-◌, ◌≤◌, ◌<◌, ◌==◌, Bool, true, false, List, [], ◌∷◌, ◌++◌, length, take, drop, cond, nat_lt, nat_eq, Some, None, Option, refl, sym, ap, ◌∙◌, subst, arith}
-use Rattle.std.proofs.lemmas.Bool.{cond-true, cond-false}
+use Rattle.std.proofs.Common.{◌≡◌, ℕ, zero, suc, ◌+◌, ◌-◌, ◌≤◌, ◌<◌, ◌==◌, Bool, true, false, ◌||◌, List, [], ◌∷◌, ◌++◌, length, take, drop, cond, nat_lt, nat_eq, Some, None, Option, inl, inr, ◌⊎◌, refl, sym, ap, ◌∙◌, subst, arith}
+use Rattle.std.proofs.lemmas.Bool.{cases_lt, cond-true, cond-false}
 use Rattle.std.proofs.lemmas.Bool.Decides.{nat_tests}
 use Rattle.std.proofs.lemmas.List.{length-append, length-take, length-drop}
 use Rattle.std.specs.List.{AllByRecursion, list_any}
@@ -8,7 +8,7 @@ use Rattle.std.specs.Set.{is_member}
 use Rattle.unit_packets.specs.Packing.{IsPacking, packed}
 use Rattle.pitch_model.specs.Advertising.{Operation, Advertise, accepted_by, advertised_by, last_ten, newest_of}
 use Rattle.pitch_model.specs.Datagrams.{IsPiece}
-use Rattle.pitch_model.specs.History.{Raw, adds}
+use Rattle.pitch_model.specs.History.{Entry, Raw, Ticked, adds}
 use Rattle.pitch_model.specs.Honest.{AreVenues}
 use Rattle.pitch_model.specs.Image.{image}
 use Rattle.pitch_model.proofs.Datagrams.{packing_pieces, venues_slice, piece_more}
@@ -21,7 +21,10 @@ use Rattle.spin_server.specs.Shelves.{Shelf}
 use Rattle.spin_server.specs.Stands.{ShelfStands, ShelfShows, OneServed, seen_of}
 use Rattle.spin_server.specs.declared.lookup.Imaged.{Imaged}
 use Rattle.spin_server.specs.declared.lookup.Imaged.TheVariants as answers
-use Rattle.drill_client.specs.Following.{IsImageOf}
+use Rattle.pitch_model.specs.Asking.{ask_of}
+use Rattle.pitch_model.specs.declared.ask.Ask.{Ask}
+use Rattle.client_core.specs.declared.client.UnitClient.{UnitClient}
+use Rattle.drill_client.specs.Following.{Follows, FollowsOn, GoesOn, IsImageOf}
 use Rattle.unit_threads.specs.Turns.{KeepsLast, HasImages}
 
 -- ---- Gaps
@@ -67,11 +70,11 @@ any_within P [] k all any = absurd (apart any)
   where
     apart : false ≡ true → ⊥
     apart e = cc
-any_within P (n ∷ ns) k all any = by (n == k) refl
+any_within P (n ∷ ns) k all any = by (any_within P ns k all.1) (n == k) refl
   where
-    by : (b : Bool) → (n == k) ≡ b → P k
-    by true t = let e : n ≡ k = grind (arith, nat_tests, t) in subst P e all.0
-    by false f = any_within P ns k all.1 (sym (cond-false (n == k) true (list_any (λ n. n == k) ns) f) ∙ any)
+    by : (list_any (λ n. n == k) ns ≡ true → P k) → (b : Bool) → (n == k) ≡ b → P k
+    by later true t = let e : n ≡ k = grind (arith, nat_tests, t) in subst P e all.0
+    by later false f = later (sym (ap (λ (b : Bool). b || list_any (λ n. n == k) ns) f) ∙ any)
 
 all_after : (P : ℕ → Type 0) (i : ℕ) (ns : List ℕ) → AllByRecursion P ns → AllByRecursion P (drop i ns)
 all_after P zero ns all = all
@@ -85,7 +88,7 @@ pub record ShelfLaws : Type 0 where
   pub one : OneServed
   pub within : (operations : List Operation) → AllByRecursion (λ sequence. sequence ≤ length (accepted_by operations)) (advertised_by operations)
 
-module _ (laws : ShelfLaws) (shelf shelf' : Shelf) (operations : List Operation) (stands : ShelfStands shelf operations) (same : shelf' ≡ shelf) (sequence : ℕ) (answer : Imaged) (before after : List Raw) (looks : LooksUpImage (ShelfShows shelf') (seen_of operations) sequence answer before after) (none : before ≡ []) where
+module _ (laws : ShelfLaws) (shelf shelf' : Shelf) (operations : List Operation) (stands : ShelfStands shelf operations) (same : shelf' ≡ shelf) (sequence : ℕ) (answer : Imaged) (before after : List Raw) (looks : LooksUpImage (ShelfShows shelf') (seen_of operations) sequence answer before after) where
   seen_is : looks.now ≡ seen_of operations
   seen_is = laws.one shelf (seen_of operations) looks.now (laws.shows shelf operations stands) (subst (λ (s : Shelf). ShelfShows s looks.now) same looks.shows) looks.later
 
@@ -98,15 +101,15 @@ module _ (laws : ShelfLaws) (shelf shelf' : Shelf) (operations : List Operation)
   answer_is : answer ≡ imaged (seen_of operations) sequence
   answer_is = looks.answer_is ∙ ap (λ (v : Served). imaged v sequence) seen_is
 
-  given_is : after ≡ image_given (seen_of operations) sequence
-  given_is = looks.given ∙ ap (λ (v : Served). before ++ image_given v sequence) seen_is ∙ ap (λ (raws : List Raw). raws ++ image_given (seen_of operations) sequence) none
+  given_is : before ≡ [] → after ≡ image_given (seen_of operations) sequence
+  given_is none = looks.given ∙ ap (λ (v : Served). before ++ image_given v sequence) seen_is ∙ ap (λ (raws : List Raw). raws ++ image_given (seen_of operations) sequence) none
 
-  pub image_is : (orders : ℕ) → answer ≡ answers.Image orders → IsImageOf V (record { sequence = sequence; orders = orders; raws = after })
-  image_is orders e = by served refl
+  pub image_is : (orders : ℕ) → before ≡ [] → answer ≡ answers.Image orders → IsImageOf V (record { sequence = sequence; orders = orders; raws = after })
+  image_is orders none e = by served refl
     where
       by : (b : Bool) → served ≡ b → IsImageOf V (record { sequence = sequence; orders = orders; raws = after })
       by true t =
-          let raws : after ≡ image V sequence = given_is ∙ cond-true served (image V sequence) [] t in
+          let raws : after ≡ image V sequence = given_is none ∙ cond-true served (image V sequence) [] t in
           let promised : orders ≡ adds (image V sequence) = promise (sym e ∙ answer_is ∙ cond-true served (answers.Image (adds (image V sequence))) answers.NotAdvertised t) in
           record {
             within = any_within (λ n. n ≤ length V) (last_ten (advertised_by operations)) sequence (all_after (λ n. n ≤ length V) (length (advertised_by operations) - 10) (advertised_by operations) (laws.within operations)) (sym (laws.served operations sequence) ∙ t);
@@ -134,3 +137,24 @@ image_of_more V more sequence orders raws is = record {
   raws_are = is.raws_are ∙ sym (image_more V more sequence is.within);
   orders_are = is.orders_are;
 }
+
+-- the newest sequence that was advertised is served
+pub newest_there : (ns : List ℕ) (k : ℕ) → is_member nat_eq ns k ≡ true → list_any (λ n. n == k) ns ≡ true
+newest_there [] k e = e
+newest_there (n ∷ ns) k e = by (newest_there ns k) (n == k) refl
+  where
+    by : (is_member nat_eq ns k ≡ true → list_any (λ n. n == k) ns ≡ true) → (b : Bool) → (n == k) ≡ b → list_any (λ n. n == k) (n ∷ ns) ≡ true
+    by later true t = ap (λ (b : Bool). b || list_any (λ n. n == k) ns) t
+    by later false f =
+        let g : nat_eq k n ≡ false = grind (arith, nat_tests, f) in
+        ap (λ (b : Bool). b || list_any (λ n. n == k) ns) f ∙ later (sym (ap (λ (b : Bool). b || is_member nat_eq ns k) g) ∙ e)
+
+-- ---- Counting
+-- a client goes on following with a datagram that is counted
+pub counted_goes : (old new : UnitClient) (n n' : ℕ) (ask : Option Ask) → (n < 9 → (n' ≡ n + 1) × (ask ≡ None) × (new ≡ old))
+    → (9 ≤ n → (V : List Raw) (H : ℕ) (E : List Entry) → Follows old H V E → (ask ≡ ask_of H E) × Follows new H V (Ticked ask ∷ E)) → (V : List Raw) → GoesOn old new V
+counted_goes old new n n' ask more asks V H p = by (cases_lt n 9)
+  where
+    by : (n < 9) ⊎ (9 ≤ n) → FollowsOn new H V
+    by (inl low) = subst (λ (c : UnitClient). FollowsOn c H V) (sym (more low).2) p
+    by (inr high) = (Ticked ask ∷ p.0, (asks high V H p.0 p.1).1)

@@ -6,7 +6,5 @@
 #![tactic(auto)]
 
 mod plain;
-#[cfg(test)]
-mod tests;
 
 pub use crate::plain::drill_plain;

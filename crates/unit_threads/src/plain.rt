@@ -3,14 +3,13 @@
 
 ghost use Rattle.std.specs.Prelude.{◌≡◌, ◌+◌, ◌-◌, ◌≤◌, ◌<◌, ◌++◌, ◌∷◌, ℕ, List, [], length, OnOk, OnErr, IfOk};
 ghost use Rattle.std.specs.List.{AllByRecursion};
-ghost use Rattle.gap_store.specs.Look.{store_of};
-ghost use Rattle.pitch_fields.specs.Limits.{last_sequence};
 ghost use Rattle.pitch_model.specs.Datagrams.{IsPiece};
 ghost use Rattle.pitch_model.specs.History.{Raw as RawSaid};
 ghost use Rattle.unit_packets.specs.Packing.{bytes_in};
 ghost use Rattle.venue_core.specs.Plan.{plan, most_planned};
+ghost use Rattle.venue_core.specs.Stands.{Stands};
 ghost use Rattle.drill_client.specs.Ending.{IsAtEnd};
-ghost use Rattle.drill_client.specs.Following.{Follows, GoesOn, ImageParts, IsImageOf};
+ghost use Rattle.drill_client.specs.Following.{FollowsOn, GoesOn, ImageParts, IsImageOf};
 ghost use Rattle.unit_threads.specs.DrillText.{most_drilled, drill_kept, drill_line};
 ghost use Rattle.unit_threads.specs.Turns.{KeepsLast, HasImages, Serves};
 
@@ -73,7 +72,14 @@ impl Side {
         ensures { OnOk result (Serves self.new unit (plan number unit index) (index - 1)) }
     {
         accept_command(&mut self.venue, number, unit, index)?;
-        keep_last(&self.venue, &mut self.store, &mut self.shelf, number, unit, index)?;
+        keep_last(
+            &self.venue,
+            &mut self.store,
+            &mut self.shelf,
+            number,
+            unit,
+            index,
+        )?;
         Ok(())
     }
 
@@ -98,12 +104,7 @@ impl Side {
 }
 
 // The venue accepts command `index` of the plan.
-fn accept_command(
-    venue: &mut Venue,
-    number: u64,
-    unit: u8,
-    index: u32,
-) -> Result<(), OutOfMemory>
+fn accept_command(venue: &mut Venue, number: u64, unit: u8, index: u32) -> Result<(), OutOfMemory>
     requires index { (1 ≤ index) × (index ≤ most_planned) }
     requires stands { Stands venue.old (plan number unit (index - 1)) (index - 1) }
     ensures stands { OnOk result (Stands venue.new (plan number unit index) (index - 1)) }
@@ -283,7 +284,8 @@ fn hear_copy(
     }
     hear_datagrams(client, datagrams)?;
     let ask = count_datagram(client, heard);
-    answer(alloc, side, client, unit, ask)
+    answer(alloc, side, client, unit, ask)?;
+    Ok(())
 }
 
 // Command `index` of the plan: it is accepted and sent on both lines, and the client hears what is
@@ -328,7 +330,8 @@ fn play(
         datagrams,
         lost(number, unit, index, 2),
     )?;
-    advertise(&mut side.shelf, client, index, count)
+    advertise(&mut side.shelf, client, index, count)?;
+    Ok(())
 }
 
 // The client hears of all messages of the side, and takes the image of all where it lacks some.
@@ -340,7 +343,7 @@ fn end(
 ) -> Result<(), OutOfMemory>
     requires count { course.count ≤ most_drilled }
     requires serves { Serves side.old course.unit (plan course.number course.unit course.count) course.count }
-    ensures { OnOk result ((H : ℕ) → Follows client.old H (plan course.number course.unit course.count)
+    ensures { OnOk result ((H : ℕ) → FollowsOn client.old H (plan course.number course.unit course.count)
         → IsAtEnd client.new H (plan course.number course.unit course.count)) }
 {
     plan_is_in_order();
@@ -349,7 +352,8 @@ fn end(
     }
     let mut raws = RawList::make(alloc);
     let orders = append_last(&mut side.shelf, &mut raws)?;
-    hear_all(client, course.count, orders, raws)
+    hear_all(client, course.count, orders, raws)?;
+    Ok(())
 }
 
 // Plays all commands, and the end. The client then has all messages.
@@ -400,5 +404,6 @@ pub fn drill_plain(
             count,
         },
     )?;
-    append_end(&client, unit, out)
+    append_end(&client, unit, out)?;
+    Ok(())
 }

@@ -1,4 +1,4 @@
-use crate::drill_plain;
+use unit_threads::drill_plain;
 use std::test::*;
 
 // Sixteen commands of the number 0 leave five orders in unit 1; four are a clock, a buy of 175

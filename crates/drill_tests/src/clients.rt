@@ -1,4 +1,4 @@
-use crate::{append_end, ask_for_all, begin, hear_all, hear_datagram};
+use drill_client::{append_end, ask_for_all, begin, hear_all, hear_datagram};
 use pitch_messages::RawList;
 use std::test::*;
 

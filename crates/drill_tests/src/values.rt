@@ -1,4 +1,4 @@
-use crate::{Datagram, DrillRun, Reached, Reply, Word, hear_reply, hear_word};
+use drill_values::{Datagram, DrillRun, Reached, Reply, Word, hear_reply, hear_word};
 use drill_client::begin;
 use pitch_model::Status;
 use std::test::*;
