@@ -1,4 +1,4 @@
-//! Worked examples of a drill: its clients, what crosses between its threads, and its units.
+//! Worked examples of a drill: its clients, and its units.
 //!
 //! There are tests alone here, in a crate of their own for the reason that `wire_tests` gives.
 #![tactic(auto)]
@@ -7,5 +7,3 @@
 mod clients;
 #[cfg(test)]
 mod units;
-#[cfg(test)]
-mod values;
