@@ -122,8 +122,8 @@ def steady(units, steps, most):
             commands.append(('add %d B 100 IBM 10.00', i, ''))
         if i > most:
             taken = i - most
-            # One order in three is executed as a whole.
-            commands.append(('exec %d 100', taken, ' %d' % taken) if taken % 3 == 0 else ('delete %d', taken, ''))
+            # One order in four is executed as a whole.
+            commands.append(('exec %d 100', taken, ' %d' % taken) if taken % 4 == 0 else ('delete %d', taken, ''))
         for command, order, rest in commands:
             number += 1
             for u in range(1, units + 1):

@@ -1,13 +1,13 @@
 -- The last messages of a growing list.
 use Rattle.std.proofs.Common.{◌≡◌, ℕ, zero, suc, ◌+◌, ◌-◌, ◌<◌, ◌≤◌, List, [], ◌∷◌, ◌++◌, length, take, drop, refl, sym, ap, ◌∙◌, arith, subst, length-append, append_assoc, Some, None, slice_get, nat_lt, nat_eq}
-use Rattle.std.proofs.lemmas.List.{length-drop, drop-drop, append-nil, take_more, drop-append-le}
+use Rattle.std.proofs.lemmas.List.{length-drop, length-take, drop-drop, append-nil, take_more, drop-append-le}
 use Rattle.std.proofs.lemmas.Option.{slice_get_within, get_or_from_slice_get}
 use Rattle.std.proofs.lemmas.Bool.{cond-true, cond-false, lt-ltb, le-ltb, ne_eqb, eq-eqb}
 use Rattle.circular_buffer.proofs.Places.{slice_get-drop}
 use Rattle.gap_store.specs.declared.found.Found.{Found}
 use Rattle.gap_store.specs.declared.found.Found.TheVariants.{Kept, Ahead, NotKept}
 use Rattle.circular_buffer.specs.Buffer.{keep_last}
-use Rattle.gap_store.specs.Look.{View, IsLater, Store, store_of, first_kept, look, given, slice_of, oldest, LooksAt, FindsAt, PacksRange, PacksAt}
+use Rattle.gap_store.specs.Look.{View, IsLater, Store, store_of, first_kept, look, given, slice_of, oldest, LooksAt, FindsAt, PacksRange, PacksAt, AnswersLook, AnswersPack}
 use Rattle.unit_packets.specs.Packing.{packed_on}
 
 pub keep_push : (n : ℕ) (xs : List (List ℕ)) (x : List ℕ) → keep_last n (keep_last n xs ++ x ∷ []) ≡ keep_last n (xs ++ x ∷ [])
@@ -44,6 +44,15 @@ copies_more items before so_far so_far' at i x are there more =
     more ∙ ap (λ (l : List (List ℕ)). l ++ x ∷ []) are ∙ append_assoc before (take i (drop at items)) (x ∷ [])
     ∙ ap (λ (y : List ℕ). before ++ (take i (drop at items) ++ y ∷ [])) (sym (get_or_from_slice_get (drop at items) i x x here))
     ∙ ap (λ (l : List (List ℕ)). before ++ l) (sym (take_more (drop at items) i x lt))
+
+-- a ring with room for all takes one more of them
+pub ring_more : (items so_far : List (List ℕ)) (room i : ℕ) (x : List ℕ) → so_far ≡ take i items → slice_get items i ≡ Some x → length items ≤ room → keep_last room (so_far ++ x ∷ []) ≡ take (i + 1) items
+ring_more items so_far room i x are there fits =
+    let there' : slice_get items (0 + i) ≡ Some x = subst (λ (n : ℕ). slice_get items n ≡ Some x) (omega arith) there in
+    let more : so_far ++ x ∷ [] ≡ take (i + 1) items = copies_more items [] so_far (so_far ++ x ∷ []) 0 i x are there' refl in
+    let size : length (take (i + 1) items) ≤ room = omega (arith, length-take (i + 1) items) in
+    let none : length (take (i + 1) items) - room ≡ 0 = omega (arith, size) in
+    ap (keep_last room) more ∙ ap (λ (n : ℕ). drop n (take (i + 1) items)) none
 
 -- ---- Ranges
 pub found_ahead : (v : View) (s : Store) (first count last : ℕ) → s ≡ store_of v → last ≡ s.pushed → s.pushed < first + count - 1 → Ahead last ≡ look v first count
@@ -93,21 +102,15 @@ none_given v first count (Ahead last) answer other = ap (λ (f : Found). given f
 none_given v first count (NotKept least) answer other = ap (λ (f : Found). given f v first count) (sym answer)
 
 pub looks_none : (v : View) (s : Store) (first count : ℕ) (found : Found) (before : List (List ℕ)) → s ≡ store_of v → found ≡ look v first count → (found ≡ Kept → ⊥)
-    → LooksAt (λ w. s ≡ store_of w) v first count found before before
+    → AnswersLook v first count found before before
 looks_none v s first count found before is answer other = record {
-  now = v;
-  later = same_view v;
-  shows = is;
   answer = answer;
   given = sym (append-nil before) ∙ ap (λ (g : List (List ℕ)). before ++ g) (sym (none_given v first count found answer other));
 }
 
 pub looks_kept : (v : View) (s : Store) (first count at : ℕ) (before after : List (List ℕ)) → s ≡ store_of v → Kept ≡ look v first count → at ≡ first - (s.pushed - length s.items + 1) → s.pushed - length s.items + 1 ≤ first
-    → after ≡ before ++ take count (drop at s.items) → LooksAt (λ w. s ≡ store_of w) v first count Kept before after
+    → after ≡ before ++ take count (drop at s.items) → AnswersLook v first count Kept before after
 looks_kept v s first count at before after is answer place kept copied = record {
-  now = v;
-  later = same_view v;
-  shows = is;
   answer = answer;
   given = copied ∙ ap (λ (g : List (List ℕ)). before ++ g) (range_is v s first at count is place kept ∙ ap (λ (f : Found). given f v first count) answer);
 }
@@ -117,24 +120,25 @@ unfolding packed_on
 packs_nothing unit first raws lines none = subst (λ (r : List (List ℕ)). PacksRange unit first r lines lines) (sym none) (record { packing = refl; appended = sym (append-nil lines) })
 
 pub packs_none : (v : View) (s : Store) (unit first count : ℕ) (found : Found) (before : List (List ℕ)) → s ≡ store_of v → found ≡ look v first count → (found ≡ Kept → ⊥)
-    → PacksAt (λ w. s ≡ store_of w) v unit first count found before before
+    → AnswersPack v unit first count found before before
 packs_none v s unit first count found before is answer other = record {
-  now = v;
-  later = same_view v;
-  shows = is;
   answer = answer;
   packs = packs_nothing unit first _ before (none_given v first count found answer other);
 }
 
 pub packs_kept : (v : View) (s : Store) (unit first count at : ℕ) (before after : List (List ℕ)) → s ≡ store_of v → Kept ≡ look v first count → at ≡ first - (s.pushed - length s.items + 1) → s.pushed - length s.items + 1 ≤ first
-    → PacksRange unit first (take count (drop at s.items)) before after → PacksAt (λ w. s ≡ store_of w) v unit first count Kept before after
+    → PacksRange unit first (take count (drop at s.items)) before after → AnswersPack v unit first count Kept before after
 packs_kept v s unit first count at before after is answer place kept packs = record {
-  now = v;
-  later = same_view v;
-  shows = is;
   answer = answer;
   packs = subst (λ (r : List (List ℕ)). PacksRange unit first r before after) (range_is v s first at count is place kept ∙ ap (λ (f : Found). given f v first count) answer) packs;
 }
+
+-- the answer of a store that shows this view
+pub looks_by : (v : View) (s : Store) (first count : ℕ) (found : Found) (before after : List (List ℕ)) → s ≡ store_of v → AnswersLook v first count found before after → LooksAt (λ w. s ≡ store_of w) v first count found before after
+looks_by v s first count found before after is answers = record { now = v; later = same_view v; shows = is; answer = answers.answer; given = answers.given }
+
+pub packs_by : (v : View) (s : Store) (unit first count : ℕ) (found : Found) (before after : List (List ℕ)) → s ≡ store_of v → AnswersPack v unit first count found before after → PacksAt (λ w. s ≡ store_of w) v unit first count found before after
+packs_by v s unit first count found before after is answers = record { now = v; later = same_view v; shows = is; answer = answers.answer; packs = answers.packs }
 
 pub first_is : (s : Store) (v : View) (n : ℕ) → s ≡ store_of v → 1 ≤ s.room → 0 < s.pushed → n ≡ s.pushed - length s.items + 1 → Some n ≡ first_kept v
 first_is s v n is fits some e =

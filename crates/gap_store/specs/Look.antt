@@ -32,6 +32,11 @@ given Kept v first count = slice_of v first count
 given (Ahead last) v first count = []
 given (NotKept least) v first count = []
 
+-- the answer is that at a view, and what is handed out was appended
+pub record AnswersLook (v : View) (first count : ℕ) (found : Found) (before after : List (List ℕ)) : Type 0 where
+  pub answer : found ≡ look v first count
+  pub given : after ≡ before ++ given (look v first count) v first count
+
 -- a later view has more messages, and keeps as many
 pub record IsLater (old new : View) : Type 0 where
   pub more : List (List ℕ)
@@ -59,7 +64,13 @@ pub record PacksRange (unit first : ℕ) (raws : List (List ℕ)) (before after 
   pub packing : IsPacking unit first raws (packed unit first raws)
   pub appended : after ≡ before ++ packed unit first raws
 
--- the same where what is handed out is packed, from the range's first sequence on
+-- the answer is that at a view, and what is handed out was packed, from the range's first sequence
+-- on, and appended
+pub record AnswersPack (v : View) (unit first count : ℕ) (found : Found) (before after : List (List ℕ)) : Type 0 where
+  pub answer : found ≡ look v first count
+  pub packs : PacksRange unit first (given (look v first count) v first count) before after
+
+-- the same at a view after the call, which is not before that of the call
 pub record PacksAt (shown : View → Type 0) (old : View) (unit first count : ℕ) (found : Found) (before after : List (List ℕ)) : Type 0 where
   pub now : View
   pub later : IsLater old now

@@ -4,7 +4,7 @@ ghost use Rattle.unit_packets.specs.Blocks.{StaysWithin};
 ghost use Rattle.unit_packets.specs.Packing.{bytes_in};
 ghost use Rattle.unit_packets.specs.Pushing.{unpacked};
 ghost use Rattle.gap_store.specs.declared.found.Found.TheVariants.{Kept};
-ghost use Rattle.gap_store.specs.Look.{View, LooksAt, FindsAt, PacksAt, PacksRange, Store, store_of, look, first_kept};
+ghost use Rattle.gap_store.specs.Look.{View, LooksAt, FindsAt, PacksAt, PacksRange, AnswersLook, AnswersPack, Store, store_of, look, first_kept};
 
 use crate::found::{Found, GapLookup};
 use circular_buffer::HeapCircularBuffer;
@@ -137,8 +137,9 @@ impl GapStore {
         self.pushed - self.ring.len() as u32 + 1
     }
 
-    // Whether the messages of a range are kept.
-    fn found(&self, first: u32, count: u16) -> Found
+    /// Whether the messages of a range are kept, as [`GapLookup::find`], of a store that is only
+    /// read. It takes no memory.
+    pub fn found(&self, first: u32, count: u16) -> Found
         requires first { 1 ≤ first }
         requires count { 1 ≤ count }
         // Of all messages of which the store keeps the last.
@@ -178,12 +179,23 @@ impl GapStore {
     }
 }
 
-impl GapLookup for GapStore {
-    ghost shows = { λ s v. s ≡ store_of v };
-
-    ghost still = { true };
-
-    fn look(&mut self, first: u32, count: u16, out: &mut RawList) -> Result<Found, OutOfMemory> {
+impl GapStore {
+    /// Looks up a range as [`GapLookup::look`] does, of a store that is only read. `out` is as
+    /// before after all but Kept.
+    pub fn copy_range(
+        &self,
+        first: u32,
+        count: u16,
+        out: &mut RawList,
+    ) -> Result<Found, OutOfMemory>
+        requires first { 1 ≤ first }
+        requires count { 1 ≤ count }
+        // Of all messages of which the store keeps the last.
+        ensures found { IfOk result (λ found. (v : View) → self.now ≡ store_of v → AnswersLook v first count found out.old.items out.new.items) }
+        // A range ends at the last sequence that a message can have.
+        ensures within { OnOk result (first + length out.new.items ≤ (last_sequence + 1) + length out.old.items) }
+        ensures err { OnErr result (out.new.items ≡ out.old.items) }
+    {
         match self.found(first, count) {
             Found::Ahead { last } => return Ok(Found::Ahead { last }),
             Found::NotKept { first } => return Ok(Found::NotKept { first }),
@@ -192,6 +204,60 @@ impl GapLookup for GapStore {
         let at = (first - self.oldest()) as usize;
         copy_out(&self.ring, at, count, out)?;
         Ok(Found::Kept)
+    }
+
+    /// Looks up a range and packs it as [`GapLookup::pack`] does, of a store that is only read.
+    /// `out` is as before after all but Kept.
+    pub fn pack_range(
+        &self,
+        alloc: Global,
+        unit: u8,
+        first: u32,
+        count: u16,
+        out: &mut DatagramList,
+    ) -> Result<Found, OutOfMemory>
+        requires first { 1 ≤ first }
+        requires count { 1 ≤ count }
+        // Of all messages of which the store keeps the last.
+        ensures found { IfOk result (λ found. (v : View) → self.now ≡ store_of v → AnswersPack v unit first count found (bytes_in out.old.items) (bytes_in out.new.items)) }
+        ensures err { OnErr result (out.new.items ≡ out.old.items) }
+    {
+        match self.found(first, count) {
+            Found::Ahead { last } => return Ok(Found::Ahead { last }),
+            Found::NotKept { first } => return Ok(Found::NotKept { first }),
+            Found::Kept => {}
+        }
+        let at = (first - self.oldest()) as usize;
+        let packer = Packer::make(alloc, unit, first);
+        pack_out(&self.ring, at, count, packer, out)?;
+        Ok(Found::Kept)
+    }
+
+    /// A store that keeps the same, with memory of its own. This store stays as it was.
+    pub fn copy(&self, alloc: Global) -> Result<GapStore, OutOfMemory>
+        ensures { IfOk result (λ store. store ≡ self.now) }
+    {
+        let mut ring = HeapCircularBuffer::with_capacity(alloc, self.ring.capacity())?;
+        'kept: for i in 0..self.ring.len() {
+            let Some(raw) = self.ring.get(i) else {
+                unreachable!();
+            };
+            let _ = ring.push_back(raw.copy());
+        }
+        Ok(GapStore {
+            ring,
+            pushed: self.pushed,
+        })
+    }
+}
+
+impl GapLookup for GapStore {
+    ghost shows = { λ s v. s ≡ store_of v };
+
+    ghost still = { true };
+
+    fn look(&mut self, first: u32, count: u16, out: &mut RawList) -> Result<Found, OutOfMemory> {
+        self.copy_range(first, count, out)
     }
 
     fn find(&mut self, first: u32, count: u16) -> Result<Found, OutOfMemory> {
@@ -206,14 +272,6 @@ impl GapLookup for GapStore {
         count: u16,
         out: &mut DatagramList,
     ) -> Result<Found, OutOfMemory> {
-        match self.found(first, count) {
-            Found::Ahead { last } => return Ok(Found::Ahead { last }),
-            Found::NotKept { first } => return Ok(Found::NotKept { first }),
-            Found::Kept => {}
-        }
-        let at = (first - self.oldest()) as usize;
-        let packer = Packer::make(alloc, unit, first);
-        pack_out(&self.ring, at, count, packer, out)?;
-        Ok(Found::Kept)
+        self.pack_range(alloc, unit, first, count, out)
     }
 }

@@ -14,6 +14,7 @@ fn the_last_are_kept(rt: HostRuntime) {
         store.push(&raw);
     }
     assert_eq!(rt; (store.first(), store.last()), (Some(101), 300));
+    let mut copy = store.copy(rt.alloc()).expect(&rt, "memory");
     let looks = [
         (299, 2, Found::Kept),
         (300, 2, Found::Ahead { last: 300 }),
@@ -25,6 +26,15 @@ fn the_last_are_kept(rt: HostRuntime) {
         assert_eq!(rt; store.look(first, count, &mut out).ok(), Some(found));
     }
     assert_eq!(rt; (out.len(), out.get(1)), (2, Some([2, 44].as_slice())));
+    // a copy has the same, and goes on by itself
+    assert!(rt; store.last() < 4294967294);
+    store.push(&Raw::from_bytes(&[2, 45]).expect(&rt, "a raw"));
+    assert_eq!(rt; copy.look(299, 2, &mut out).ok(), Some(Found::Kept));
+    assert_eq!(rt;
+        (out.get(2), out.get(3)),
+        (Some([2, 43].as_slice()), Some([2, 44].as_slice()))
+    );
+    let mut store = copy;
     let mut lines = DatagramList::make(rt.alloc());
     for (first, count, found) in looks {
         assert!(rt; first >= 1 && count >= 1);

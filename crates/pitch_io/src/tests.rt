@@ -186,55 +186,77 @@ fn work_that_runs_beside_other_work_meets_it(rt: HostRuntime) {
     assert_eq!(rt; MeetGate::make().most(Role::Client), 0);
 }
 
-#[test]
-fn a_net_in_memory_carries_in_order(rt: HostRuntime) {
-    let mut net = MemoryNet::make(rt.alloc(), Vec::new(rt.alloc()));
-    let mut into = [0u8; 4];
-    assert_eq!(rt; net.begin(), NetDone::Done);
-    for datagram in [b"abc".as_slice(), b"", b"defgh"] {
-        assert_eq!(rt; net.send(Line::A, datagram), NetDone::Done);
+// Makes calls on line A and from the spin client's end to the server's. Answers what each said: what
+// came and a full stop, a stop alone where nothing came or the call was done, `f` where it failed.
+fn answers_of_calls<R: Abort + AllocGlobal>(
+    rt: &R,
+    net: &mut MemoryNet,
+    calls: &[(NetVerb, &[u8])],
+) -> Vec<u8> {
+    let mut answers = Vec::new(rt.alloc());
+    for (verb, bytes) in calls {
+        let mut into = [0u8; 4];
+        let failed = match verb {
+            NetVerb::Begin => net.begin() == NetDone::Failed,
+            NetVerb::Send => net.send(Line::A, bytes) == NetDone::Failed,
+            NetVerb::Next => add_came(rt, &mut answers, net.next(Line::A, &mut into), &into),
+            NetVerb::Put if bytes.is_empty() => true,
+            NetVerb::Put => net.put(LinkEnd::SpinClient, bytes) == Put::Failed,
+            NetVerb::Take => {
+                let answer = net.take(LinkEnd::SpinServer, &mut into);
+                add_came(rt, &mut answers, answer, &into)
+            }
+        };
+        answers
+            .push(if failed { b'f' } else { b'.' })
+            .expect(rt, "memory");
     }
-    assert_eq!(rt; net.next(Line::B, &mut into), NetTaken::Quiet);
-    for (want, bytes) in [(3, b"abc".as_slice()), (4, b"defg")] {
-        assert_eq!(rt; net.next(Line::A, &mut into), NetTaken::Got(want));
-        assert_eq!(rt; &into[..want.min(4)], bytes);
+    answers
+}
+
+// Adds what came. Answers whether the call failed.
+fn add_came<R: Abort + AllocGlobal>(
+    rt: &R,
+    answers: &mut Vec<u8>,
+    answer: NetTaken,
+    into: &[u8],
+) -> bool {
+    if let NetTaken::Got(count) = answer {
+        for byte in into.iter().take(count) {
+            answers.push(*byte).expect(rt, "memory");
+        }
     }
-    assert_eq!(rt; net.next(Line::A, &mut into), NetTaken::Quiet);
-    assert_eq!(rt; net.put(LinkEnd::SpinClient, b"01234"), Put::Wrote(5));
-    assert_eq!(rt; net.take(LinkEnd::SpinClient, &mut into), NetTaken::Quiet);
-    for (want, bytes) in [(4, b"0123".as_slice()), (1, b"4")] {
-        assert_eq!(rt;
-            net.take(LinkEnd::SpinServer, &mut into),
-            NetTaken::Got(want)
-        );
-        assert_eq!(rt; &into[..want.min(4)], bytes);
-    }
-    assert_eq!(rt; net.take(LinkEnd::SpinServer, &mut into), NetTaken::Quiet);
+    answer == NetTaken::Failed
 }
 
 #[test]
-fn a_net_in_memory_fails_where_listed(rt: HostRuntime) {
-    let listed = [
-        NetCall {
-            verb: NetVerb::Send,
-            number: 2,
-        },
-        NetCall {
-            verb: NetVerb::Take,
-            number: 1,
-        },
+fn a_net_in_memory_carries_in_order_and_fails_where_listed(rt: HostRuntime) {
+    let calls: [(NetVerb, &[u8]); 13] = [
+        (NetVerb::Begin, b""),
+        (NetVerb::Send, b"abc"),
+        (NetVerb::Send, b""),
+        (NetVerb::Send, b"defgh"),
+        (NetVerb::Next, b""),
+        (NetVerb::Next, b""),
+        (NetVerb::Next, b""),
+        (NetVerb::Put, b"01234"),
+        (NetVerb::Put, b"5"),
+        (NetVerb::Take, b""),
+        (NetVerb::Take, b""),
+        (NetVerb::Take, b""),
+        (NetVerb::Next, b""),
     ];
-    let failing = Vec::from_slice(rt.alloc(), &listed).expect(&rt, "memory");
-    let mut net = MemoryNet::make(rt.alloc(), failing);
-    let mut into = [0u8; 4];
-    assert_eq!(rt; net.begin(), NetDone::Done);
-    assert_eq!(rt; net.send(Line::Gap, b"a"), NetDone::Done);
-    assert_eq!(rt; net.send(Line::Gap, b"b"), NetDone::Failed);
-    assert_eq!(rt; net.send(Line::Gap, b"c"), NetDone::Done);
-    for want in [b'a', b'c'] {
-        assert_eq!(rt; net.next(Line::Gap, &mut into), NetTaken::Got(1));
-        assert_eq!(rt; into[0], want);
+    let cases: [(NetVerb, u64, &[u8]); 4] = [
+        (NetVerb::Begin, 2, b"....abc.defg....0123.45..."),
+        (NetVerb::Send, 3, b"...fabc.....0123.45..."),
+        (NetVerb::Put, 1, b"....abc.defg..f.5...."),
+        (NetVerb::Take, 2, b"....abc.defg....0123.f45.."),
+    ];
+    for (verb, number, want) in cases {
+        let mut failing = Vec::new(rt.alloc());
+        failing.push(NetCall { verb, number }).expect(&rt, "memory");
+        let mut net = MemoryNet::make(rt.alloc(), failing);
+        let answers = answers_of_calls(&rt, &mut net, &calls);
+        assert_eq!(rt; answers.as_slice(), want, "call {number}");
     }
-    assert_eq!(rt; net.take(LinkEnd::GrpClient, &mut into), NetTaken::Failed);
-    assert_eq!(rt; net.take(LinkEnd::GrpClient, &mut into), NetTaken::Quiet);
 }

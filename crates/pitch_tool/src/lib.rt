@@ -10,8 +10,6 @@ mod failure;
 mod job;
 mod program;
 mod status;
-#[cfg(test)]
-mod tests;
 mod text;
 
 pub use crate::program::{pitch, say_out_of_memory};

@@ -28,8 +28,6 @@ mod form;
 mod found;
 mod parse;
 mod reading;
-#[cfg(test)]
-mod tests;
 
 pub use crate::form::Form;
 pub use crate::reading::{one_form, read};

@@ -43,7 +43,7 @@ fn push_adds(orders: &[Order], out: &mut RawList)
 /// Appends the image of a book ("Spin Server"): a Time message where its second is known, and the
 /// add of each open order by rising id, with offset 0. Answers the number of adds. The list is as
 /// before after OutOfMemory.
-pub fn append_image(alloc: Global, book: &UnitBook, out: &mut RawList) -> Result<u32, OutOfMemory>
+pub fn image_of(alloc: Global, book: &UnitBook, out: &mut RawList) -> Result<u32, OutOfMemory>
     ensures ok { OnOk result (out.new.items ≡ out.old.items ++ image_of book.now.book) }
     ensures count { IfOk result (λ count. count ≡ adds (image_of book.now.book)) }
     ensures err { OnErr result (out.new.items ≡ out.old.items) }

@@ -17,7 +17,7 @@ mod spin;
 #[cfg(test)]
 mod tests;
 
-pub use crate::image::append_image;
+pub use crate::image::image_of;
 pub use crate::laws::{image_look_laws, shelves_show_what_was_pushed, spin_cutting_laws};
 pub use crate::lookup::{ImageLookup, Imaged};
 pub use crate::server::SpinServer;

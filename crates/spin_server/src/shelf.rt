@@ -8,7 +8,7 @@ ghost use Rattle.pitch_model.specs.Advertising.{Operation, Accept, Advertise, ac
 ghost use Rattle.spin_server.specs.Shelves.{ShelfKeeps, base_at, is_number};
 ghost use Rattle.spin_server.specs.Stands.{ShelfStands, retained};
 
-use crate::image::append_image;
+use crate::image::image_of;
 use crate::lookup::{ImageLookup, Imaged};
 use arrayvec::ArrayVec;
 use order_book::UnitBook;
@@ -252,7 +252,7 @@ impl ImageLookup for ImageShelf {
             return Ok(Imaged::NotAdvertised);
         }
         let book = self.book_at(sequence)?;
-        let orders = append_image(self.alloc, &book, out)?;
+        let orders = image_of(self.alloc, &book, out)?;
         Ok(Imaged::Image { orders })
     }
 }

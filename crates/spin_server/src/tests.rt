@@ -1,5 +1,6 @@
-use crate::{Account, CloseCause, Closed, ImageShelf, SpinServer};
-use pitch_messages::Raw;
+use crate::{Account, CloseCause, Closed, ImageShelf, SpinServer, image_of};
+use order_book::UnitBook;
+use pitch_messages::{Raw, RawList};
 use std::alloc::Global;
 use std::process::Abort;
 use unit_packets::BlockError;
@@ -182,4 +183,12 @@ fn hostile_and_refused(rt: HostRuntime) {
         let closed = case.closed.map(|(cause, place)| Closed { cause, place });
         assert_eq!(rt; server.closed(), closed);
     }
+}
+
+#[test]
+fn the_image_of_the_empty_book_is_empty(rt: HostRuntime) {
+    let book = UnitBook::make(rt.alloc());
+    let mut out = RawList::make(rt.alloc());
+    assert_eq!(rt; image_of(rt.alloc(), &book, &mut out).ok(), Some(0));
+    assert_eq!(rt; out.len(), 0);
 }

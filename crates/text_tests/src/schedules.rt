@@ -142,21 +142,26 @@ fn first_faults(rt: HostRuntime) -> Result<(), Fail> {
     Ok(())
 }
 
+// A place of a line and the byte that is put there, how much of the line is read, and the answer.
+static LONG: [(usize, u8, usize, &str); 6] = [
+    (7, b' ', 202, "line 1 column 201: long-line"),
+    (7, b' ', 200, "read"),
+    (200, b'x', 202, "line 1 column 201: long-line"),
+    (8, b'x', 202, "line 1 column 9: extra-field"),
+    (0, b'#', 202, "line 1 column 201: long-line"),
+    (200, b'\r', 201, "read"),
+];
+
 #[test]
 fn long_lines(rt: HostRuntime) -> Result<(), Fail> {
     let mut line = [b' '; 202];
-    assert!(rt; answer(rt.alloc(), &line)?.as_str() == "line 1 column 201: long-line");
-    assert!(rt; answer(rt.alloc(), &line[..200])?.as_str() == "read");
     line[..7].copy_from_slice(b"1 flush");
-    assert!(rt; answer(rt.alloc(), &line)?.as_str() == "line 1 column 201: long-line");
-    line[200] = b'x';
-    assert!(rt; answer(rt.alloc(), &line)?.as_str() == "line 1 column 201: long-line");
-    line[8] = b'x';
-    assert!(rt; answer(rt.alloc(), &line)?.as_str() == "line 1 column 9: extra-field");
-    line[0] = b'#';
-    assert!(rt; answer(rt.alloc(), &line)?.as_str() == "line 1 column 201: long-line");
-    line[200] = b'\r';
-    assert!(rt; answer(rt.alloc(), &line[..201])?.as_str() == "read");
+    for (at, byte, length, expected) in &LONG {
+        assert!(rt; *at < 202 && *length <= 202);
+        line[*at] = *byte;
+        let got = answer(rt.alloc(), &line[..*length])?;
+        assert!(rt; got.as_str() == *expected, "{byte} at {at}");
+    }
     Ok(())
 }
 

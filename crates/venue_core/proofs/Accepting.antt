@@ -59,14 +59,15 @@ pub or_false : (b : Bool) → (b || false) ≡ b
 or_false true = refl
 or_false false = refl
 
-ended_more : (accepted : List (List ℕ)) (command : Command) → is_ended accepted ≡ false → reads (raw_of command) ≡ Ok (message_of command)
-    → ends_session command ≡ is_ended (accepted ++ raw_of command ∷ [])
-ended_more accepted command goes_on known = sym
-    (list_any-append (λ (raw : List ℕ). reads_end (reads raw)) accepted (raw_of command ∷ [])
-    ∙ ap (λ (b : Bool). b || (reads_end (reads (raw_of command)) || false)) goes_on
-    ∙ or_false (reads_end (reads (raw_of command)))
-    ∙ ap reads_end known
-    ∙ ends_by_message command)
+-- the message of a command says whether the command ends the session
+pub ends_as_command : (command : Command) → reads (raw_of command) ≡ Ok (message_of command) → ends_session command ≡ reads_end (reads (raw_of command))
+ends_as_command command known = sym (ap reads_end known ∙ ends_by_message command)
+
+ended_more : (accepted : List (List ℕ)) (raw : List ℕ) → is_ended accepted ≡ false → reads_end (reads raw) ≡ is_ended (accepted ++ raw ∷ [])
+ended_more accepted raw goes_on = sym
+    (list_any-append (λ (raw : List ℕ). reads_end (reads raw)) accepted (raw ∷ [])
+    ∙ ap (λ (b : Bool). b || (reads_end (reads raw) || false)) goes_on
+    ∙ or_false (reads_end (reads raw)))
 
 -- ---- The last message
 last_there : (accepted : List (List ℕ)) (raw : List ℕ) → slice_get (accepted ++ raw ∷ []) (length accepted) ≡ Some raw
@@ -84,32 +85,46 @@ all_more P [] raw all is = (is, tt)
 all_more P (m ∷ messages) raw all is = (all.0, all_more P messages raw all.1 is)
 
 -- ---- The whole venue
-pub stands_on : (old new : VenueState) (accepted : List (List ℕ)) (sent : ℕ) (command : Command) → Stands old accepted sent → Advances old command new → old.ended ≡ false → old.pending.next ≤ 4294967294 → reads (raw_of command) ≡ Ok (message_of command)
-    → Stands new (accepted ++ raw_of command ∷ []) sent
-stands_on old new accepted sent command stands advances goes_on room known = record {
-  book = advances.book ∙ ap (λ (b : Book). after b (raw_of command)) stands.book ∙ sym (book_after-append accepted (raw_of command ∷ []));
-  next = advances.next ∙ ap (λ (n : ℕ). n + 1) (stands.next ∙ sym (length-append accepted (raw_of command ∷ [])));
-  ended = advances.ended ∙ ended_more accepted command (sym stands.ended ∙ goes_on) known;
-  last = advances.last ∙ last_more accepted (raw_of command);
+pub stands_on : (old new : VenueState) (accepted : List (List ℕ)) (sent : ℕ) (raw : List ℕ) → Stands old accepted sent → Advances old raw new → old.ended ≡ false → old.pending.next ≤ 4294967294 → Stands new (accepted ++ raw ∷ []) sent
+stands_on old new accepted sent raw stands advances goes_on room = record {
+  book = advances.book ∙ ap (λ (b : Book). after b raw) stands.book ∙ sym (book_after-append accepted (raw ∷ []));
+  next = advances.next ∙ ap (λ (n : ℕ). n + 1) (stands.next ∙ sym (length-append accepted (raw ∷ [])));
+  ended = advances.ended ∙ ended_more accepted raw (sym stands.ended ∙ goes_on);
+  last = advances.last ∙ last_more accepted raw;
   pending =
-      let waits : Waits new.pending old.unit (sent + 1) (drop sent accepted ++ raw_of command ∷ []) = advances.waits old.unit (sent + 1) (drop sent accepted) stands.pending in
-      let same : Waits new.pending new.unit (sent + 1) (drop sent accepted ++ raw_of command ∷ []) = subst (λ (u : ℕ). Waits new.pending u (sent + 1) (drop sent accepted ++ raw_of command ∷ [])) (sym advances.unit) waits in
-      subst (Waits new.pending new.unit (sent + 1)) (sym (drop-append-le sent accepted (raw_of command ∷ []) stands.within)) same;
-  within = let w = stands.within in omega (arith, w, length-append accepted (raw_of command ∷ []));
-  raws = all_more IsRaw accepted (raw_of command) stands.raws advances.raw;
-  bytes = all_more AreBytes accepted (raw_of command) stands.bytes advances.bytes;
-  few = let n = stands.next in omega (arith, n, room, length-append accepted (raw_of command ∷ []));
+      let waits : Waits new.pending old.unit (sent + 1) (drop sent accepted ++ raw ∷ []) = advances.waits old.unit (sent + 1) (drop sent accepted) stands.pending in
+      let same : Waits new.pending new.unit (sent + 1) (drop sent accepted ++ raw ∷ []) = subst (λ (u : ℕ). Waits new.pending u (sent + 1) (drop sent accepted ++ raw ∷ [])) (sym advances.unit) waits in
+      subst (Waits new.pending new.unit (sent + 1)) (sym (drop-append-le sent accepted (raw ∷ []) stands.within)) same;
+  within = let w = stands.within in omega (arith, w, length-append accepted (raw ∷ []));
+  raws = all_more IsRaw accepted raw stands.raws advances.is_raw;
+  bytes = all_more AreBytes accepted raw stands.bytes advances.bytes;
+  few = let n = stands.next in omega (arith, n, room, length-append accepted (raw ∷ []));
+}
+
+-- the same messages wait, however they are kept
+pub stands_still : (old new : VenueState) (accepted : List (List ℕ)) (sent : ℕ) → Stands old accepted sent → new.unit ≡ old.unit → new.book ≡ old.book → new.ended ≡ old.ended → new.last ≡ old.last → new.pending.next ≡ old.pending.next
+    → ((unit first : ℕ) (messages : List (List ℕ)) → Waits old.pending unit first messages → Waits new.pending unit first messages) → Stands new accepted sent
+stands_still old new accepted sent stands unit book ended last next waits = record {
+  book = book ∙ stands.book;
+  next = next ∙ stands.next;
+  ended = ended ∙ stands.ended;
+  last = last ∙ stands.last;
+  pending = subst (λ (u : ℕ). Waits new.pending u (sent + 1) (drop sent accepted)) (sym unit) (waits old.unit (sent + 1) (drop sent accepted) stands.pending);
+  within = stands.within;
+  raws = stands.raws;
+  bytes = stands.bytes;
+  few = stands.few;
 }
 
 -- all that was accepted is sent
-pub stands_sent : (venue : VenueState) (pending : Waiting) (accepted : List (List ℕ)) (sent : ℕ) → Stands venue accepted sent → pending.next ≡ venue.pending.next
+pub stands_sent : (venue : VenueState) (pending : Waiting) (accepted : List (List ℕ)) (sent : ℕ) → Stands venue accepted sent → pending.next ≡ venue.pending.next → pending.last ≡ venue.pending.last → venue.last ≡ venue.pending.last
     → ((unit first : ℕ) (messages : List (List ℕ)) → Waits venue.pending unit first messages → Waits pending unit (first + length messages) [])
-    → Stands (record { unit = venue.unit; book = venue.book; ended = venue.ended; last = venue.last; pending = pending }) accepted (length accepted)
-stands_sent venue pending accepted sent stands next sends = record {
+    → Stands (record { unit = venue.unit; book = venue.book; ended = venue.ended; last = pending.last; ready = None; pending = pending }) accepted (length accepted)
+stands_sent venue pending accepted sent stands next last was sends = record {
   book = stands.book;
   next = next ∙ stands.next;
   ended = stands.ended;
-  last = stands.last;
+  last = last ∙ sym was ∙ stands.last;
   pending =
       let waits : Waits pending venue.unit ((sent + 1) + length (drop sent accepted)) [] = sends venue.unit (sent + 1) (drop sent accepted) stands.pending in
       let within = stands.within in

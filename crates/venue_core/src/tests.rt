@@ -84,6 +84,23 @@ fn each_command_of_a_session_is_answered(rt: HostRuntime) -> Result<(), Fail> {
     Ok(())
 }
 
+#[test]
+fn a_message_is_made_ready_and_taken(rt: HostRuntime) -> Result<(), Fail> {
+    let mut venue = Venue::make(rt.alloc(), 1);
+    accept_all(&rt, rt.alloc(), &mut venue, "add 1 B 100 IBM 10.00")?;
+    let delete = Command::Delete { id: 1, offset: 0 };
+    let raw = venue.prepare(&delete).ok().ok_or("refused")?;
+    assert!(rt; raw.bytes() == b"\x0e\x29\0\0\0\0\x01\0\0\0\0\0\0\0".as_slice());
+    assert!(rt; venue.next_sequence() == 2);
+    assert!(rt; venue.take_ready() == 2);
+    assert!(rt; venue.prepare(&delete).err() == Some(VenueError::UnknownId));
+    let mut out = DatagramList::make(rt.alloc());
+    assert!(rt; venue.flush(&mut out)? == 1);
+    let datagram = out.get(0).ok_or("a datagram")?;
+    assert!(rt; datagram.bytes().len() == 8 + 26 + 14);
+    Ok(())
+}
+
 // Symbols and participants, and whether an add may have them.
 const NAMES: [(&[u8; 8], &[u8; 4], bool); 9] = [
     (b"IBM     ", b"    ", true),

@@ -1,0 +1,15 @@
+use Rattle.std.proofs.Common.{◌++◌, ◌∙◌, ap, sym, map, Option, ℕ}
+use Rattle.pitch_messages.specs.Writing.{written}
+use Rattle.pitch_model.specs.Image.{clock_of}
+use Rattle.pitch_model.proofs.ImageRaws.{adds_image}
+use Rattle.spin_server.proofs.Imaging.{image_whole}
+use Rattle.spin_server.proofs.image.image_of.Goals as goal
+
+pub returns-clause-ok : goal.returns-clause-ok
+returns-clause-ok c =
+    image_whole c.args.book.now.book c.as_slice.result.now c.make-orders.result.items c.args.out.now.items c.reserve.new.self.items c.push_clock.new.out.items c.push_adds.new.out.items
+    (c.as_slice.ensures ∙ c.in_ok-orders_by_id.ensures.ok) c.make-orders.ensures c.in_ok-reserve.ensures.items
+    (c.push_clock.ensures.items ∙ ap (λ (second : Option ℕ). c.reserve.new.self.items ++ map written (clock_of second)) c.second.ensures) c.push_adds.ensures
+
+pub returns-clause-count : goal.returns-clause-count
+returns-clause-count c = c.len-count.ensures.count ∙ sym (adds_image c.args.book.now.book)
