@@ -1,2 +1,0 @@
-pub mod DrillText
-pub mod Turns
