@@ -1,5 +1,5 @@
 use Rattle.pitch_tool.proofs.Completing.{unless_both}
-use Rattle.pitch_tool.proofs.tests.pitch_steadily.Goals as goal
+use Rattle.program_tests.proofs.tests.pitch_steadily.Goals as goal
 
 pub returns-clause-complete : goal.returns-clause-complete
 returns-clause-complete c = λ form is sound. unless_both (c.pitch.ensures.complete form is sound)
