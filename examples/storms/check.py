@@ -1,5 +1,6 @@
 #!/usr/bin/env python3
-"""Runs each storm of this folder, NAME.words, and compares what is written with NAME.out.
+"""Runs each storm of this folder, NAME.words, with 1, 2 and 7 workers, and compares what is written
+with NAME.out.
 
     examples/storms/check.py PROGRAM
 
@@ -18,9 +19,9 @@ def text_of(name):
         return file.read()
 
 
-def fault_of(program, name):
+def fault_of(program, name, workers):
     """What is wrong with the run of a storm; None where nothing is."""
-    words = text_of(name + '.words').split()
+    words = text_of(name + '.words').split() + ['--workers', str(workers)]
     done = subprocess.run([program] + words, stdin=subprocess.DEVNULL, capture_output=True, text=True)
     if done.returncode != 0 or done.stderr:
         return 'status %d, standard error %r' % (done.returncode, done.stderr.strip())
@@ -32,12 +33,13 @@ def main():
         sys.exit('usage: check.py PROGRAM')
     names = sorted(name[:-6] for name in os.listdir(HERE) if name.endswith('.words'))
     failed = 0
-    for name in names:
-        fault = fault_of(sys.argv[1], name)
+    runs = [(name, workers) for name in names for workers in (1, 2, 7)]
+    for name, workers in runs:
+        fault = fault_of(sys.argv[1], name, workers)
         if fault:
             failed += 1
-            print('FAIL %s: %s' % (name, fault))
-    print('%d passed, %d failed' % (len(names) - failed, failed))
+            print('FAIL %s with %d workers: %s' % (name, workers, fault))
+    print('%d passed, %d failed' % (len(runs) - failed, failed))
     sys.exit(1 if failed else 0)
 
 

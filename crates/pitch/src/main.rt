@@ -1,7 +1,7 @@
 //! The program `pitch`.
 #![tactic(auto)]
 
-use pitch_io::{StdSink, StdSource};
+use pitch_io::{FreeGate, StdSink, StdSource};
 use pitch_tool::{ExitStatus, pitch, say_out_of_memory};
 use std::env;
 use std::io::ErrorKind;
@@ -30,6 +30,14 @@ fn main(rt: HostRuntime) -> ExitCode {
         say_out_of_memory(&mut err);
         return ExitCode::from(ExitStatus::OutOfMemory.number());
     };
-    let status = pitch(rt.alloc(), &words, &mut input, &mut out, &mut err);
+    let status = pitch(
+        &rt,
+        rt.alloc(),
+        &words,
+        &mut input,
+        &mut out,
+        &mut err,
+        &FreeGate,
+    );
     ExitCode::from(status.number())
 }

@@ -41,7 +41,7 @@ not_refused (Stream carrier form) (Blocks trouble) input out sound r =
 not_refused (Stream carrier form) LongText input out sound r = r
 not_refused (Stream carrier form) (Commands error) input out sound r = r
 not_refused (Stream carrier form) (Schedule error) input out sound r = r
-not_refused (Storm number units steps) trouble input out sound r = r.1
+not_refused (Storm number units steps workers) trouble input out sound r = r.1
 not_refused (Text form) trouble input out sound r =
     clash (text_trouble form text_limit r.text) trouble (ap (text_trouble form text_limit) (same_bytes input.old sound.0 r.text sound.1 r.has) ∙ sound.2) r.trouble_is
 
@@ -61,7 +61,7 @@ not_done : (job : Job) (trouble : Trouble) (input out : Told) → Judges job inp
 not_done (Stream carrier form) trouble input out wrong r =
     clash (blocks_trouble (trouble_of carrier stream_limit r.bytes)) trouble (ap blocks_trouble r.sound)
     (ap (λ (l : List ℕ). blocks_trouble (trouble_of carrier stream_limit l)) (all_bytes input.old input.new wrong.0 r.bytes wrong.1 r.read) ∙ wrong.2)
-not_done (Storm number units steps) trouble input out wrong r = clash None trouble refl (sym wrong)
+not_done (Storm number units steps workers) trouble input out wrong r = clash None trouble refl (sym wrong)
 not_done (Text form) trouble input out wrong r =
     let text : List ℕ = r.makes.text in
     let none : text_trouble form text_limit text ≡ None =

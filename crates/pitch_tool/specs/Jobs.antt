@@ -11,7 +11,7 @@ use Rattle.stream_print.specs.declared.failure.StreamFailure.TheVariants as stre
 use Rattle.stream_print.specs.declared.failure.StreamTrouble.{StreamTrouble}
 use Rattle.stream_print.specs.declared.stream_form.StreamForm.TheVariants.{Follow, Show}
 use Rattle.pitch_tool.specs.StormForm.{IsStorm, StormEnds}
-use Rattle.pitch_tool.specs.TextForms.{text_limit, text_trouble, TextEnds}
+use Rattle.pitch_tool.specs.TextForms.{text_limit, text_trouble, AreWorkers, CanMake, TextEnds}
 use Rattle.pitch_tool.specs.declared.failure.Failure.{Failure}
 use Rattle.pitch_tool.specs.declared.failure.Failure.TheVariants.{BadInput, Read, Write, OutOfMemory}
 use Rattle.pitch_tool.specs.declared.failure.Trouble.{Trouble}
@@ -26,20 +26,20 @@ job_of (form.Follow hold) = Stream Bare (Follow hold)
 job_of (form.FollowCapture port hold) = Stream (Capture port) (Follow hold)
 job_of form.Show = Stream Bare Show
 job_of (form.Pack unit) = Text (Pack unit)
-job_of form.Replay = Text Replay
-job_of (form.Storm number units steps) = Storm number units steps
+job_of (form.Replay workers) = Text (Replay workers)
+job_of (form.Storm number units steps workers) = Storm number units steps workers
 
 -- the numbers of a job lie in their ranges
 abbrev pub CanDo : Job → Type 0
 CanDo (Stream carrier form) = CanHold form
-CanDo (Text form) = Unit {0}
-CanDo (Storm number units steps) = IsStorm units steps
+CanDo (Text form) = CanMake form
+CanDo (Storm number units steps workers) = IsStorm units steps × AreWorkers workers
 
 -- how many bytes of the source a job takes at most: one more than it reads
 abbrev pub most_taken : Job → ℕ
 most_taken (Stream carrier form) = stream_limit + 1
 most_taken (Text form) = text_limit + 1
-most_taken (Storm number units steps) = 0
+most_taken (Storm number units steps workers) = 0
 
 -- what is wrong with a stream, as the trouble of a job
 abbrev pub blocks_trouble : Option StreamTrouble → Option Trouble
@@ -50,14 +50,14 @@ blocks_trouble (Some trouble) = Some (Blocks trouble)
 abbrev pub trouble_in : Job → List ℕ → Option Trouble
 trouble_in (Stream carrier form) bytes = blocks_trouble (trouble_of carrier stream_limit bytes)
 trouble_in (Text form) bytes = text_trouble form text_limit bytes
-trouble_in (Storm number units steps) bytes = None
+trouble_in (Storm number units steps workers) bytes = None
 
 -- a source tells its bytes, and a job has this to say of them; a job that reads nothing finds
 -- nothing wrong, whatever the source tells
 abbrev pub Judges : Job → Option (List ℕ) → Option Trouble → Type 0
 Judges (Stream carrier form) left trouble = (bytes : List ℕ) × (left ≡ Some bytes) × (trouble_in (Stream carrier form) bytes ≡ trouble)
 Judges (Text form) left trouble = (bytes : List ℕ) × (left ≡ Some bytes) × (trouble_in (Text form) bytes ≡ trouble)
-Judges (Storm number units steps) left trouble = trouble ≡ None
+Judges (Storm number units steps workers) left trouble = trouble ≡ None
 
 -- why a stream ended, as why the program ends
 abbrev pub of_stream : StreamFailure → Failure
@@ -75,4 +75,4 @@ JobEnds (Stream carrier form) (Err Write) input out = StreamEnds carrier form st
 JobEnds (Stream carrier form) (Err OutOfMemory) input out = StreamEnds carrier form stream_limit (Err stream.OutOfMemory) input out
 JobEnds (Stream carrier form) (Err _) input out = ⊥
 JobEnds (Text form) result input out = TextEnds form text_limit result input out
-JobEnds (Storm number units steps) result input out = IsUntouched input × StormEnds number units steps result out
+JobEnds (Storm number units steps workers) result input out = IsUntouched input × StormEnds number units steps result out

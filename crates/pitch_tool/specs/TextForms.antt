@@ -6,6 +6,7 @@ use Rattle.pitch_io.specs.Putting.{Grows}
 use Rattle.command_feed.specs.Feed.{feed_of, AppendsPacking}
 use Rattle.command_feed.specs.declared.error.CommandError.{CommandError}
 use Rattle.command_feed.specs.declared.error.CommandError.TheVariants as commands
+use Rattle.schedule_replay.specs.Apart.{most_workers}
 use Rattle.schedule_replay.specs.Replay.{replay_of}
 use Rattle.schedule_replay.specs.Worlds.{AreRunThrough}
 use Rattle.schedule_replay.specs.declared.error.ReplayError.{ReplayError}
@@ -45,16 +46,25 @@ abbrev pub replay_or_trouble : Result (List ℕ) ReplayError → Result (List �
 replay_or_trouble (Ok written) = Ok written
 replay_or_trouble (Err error) = Err (Schedule error)
 
--- what a form makes of a text, or what is wrong with the text
+-- work can be parted into so many pieces
+abbrev pub AreWorkers : ℕ → Type 0
+AreWorkers workers = (1 ≤ workers) × (workers ≤ most_workers)
+
+-- a form's workers are some
+abbrev pub CanMake : TextForm → Type 0
+CanMake (Pack unit) = Unit {0}
+CanMake (Replay workers) = AreWorkers workers
+
+-- what a form makes of a text, or what is wrong with the text: the same by any workers
 abbrev pub made : TextForm → List ℕ → Result (List ℕ) Trouble
 made (Pack unit) text = feed_or_trouble (feed_of unit text)
-made Replay text = replay_or_trouble (replay_of text)
+made (Replay workers) text = replay_or_trouble (replay_of text)
 
 -- what it was made of: what is packed of a text is a packing of the messages that a venue accepts
 -- of it, and for what a schedule writes the worlds of its units were run through all its lines
 abbrev pub IsMadeOf : TextForm → (text bytes : List ℕ) → Type 0
 IsMadeOf (Pack unit) text bytes = AppendsPacking unit text [] bytes
-IsMadeOf Replay text bytes = (worlds : List World) × AreRunThrough text worlds
+IsMadeOf (Replay workers) text bytes = (worlds : List World) × AreRunThrough text worlds
 
 -- what is wrong with a text of which at most `most` bytes are read: that it has more, or else what
 -- the form finds

@@ -10,8 +10,8 @@ use stream_print::{Carrier, StreamForm};
 pub enum TextForm {
     /// Of venue commands, the datagrams of this unit.
     Pack { unit: u8 },
-    /// Of a schedule, what its lines write.
-    Replay,
+    /// Of a schedule, what its lines write. Its units run in so many pieces of work at most.
+    Replay { workers: u8 },
 }
 
 /// What a form of the words asks for.
@@ -22,7 +22,12 @@ pub enum Job {
     /// A whole text is read, and what it makes is written.
     Text(TextForm),
     /// Nothing is read, and the summary of a storm is written.
-    Storm { number: u64, units: u8, steps: u32 },
+    Storm {
+        number: u64,
+        units: u8,
+        steps: u32,
+        workers: u8,
+    },
 }
 
 /// The job of a form.
@@ -38,15 +43,17 @@ pub fn job_of(form: Form) -> Job
         }
         Form::Show => Job::Stream(Carrier::Bare, StreamForm::Show),
         Form::Pack { unit } => Job::Text(TextForm::Pack { unit }),
-        Form::Replay => Job::Text(TextForm::Replay),
+        Form::Replay { workers } => Job::Text(TextForm::Replay { workers }),
         Form::Storm {
             number,
             units,
             steps,
+            workers,
         } => Job::Storm {
             number,
             units,
             steps,
+            workers,
         },
     }
 }

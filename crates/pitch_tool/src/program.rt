@@ -14,18 +14,21 @@ use crate::job::{Job, job_of};
 use crate::status::ExitStatus;
 use crate::text::print_text;
 use pitch_fields::OutOfMemory;
-use pitch_io::{Sink, Source};
+use pitch_io::{Gate, Sink, Source};
 use pitch_words::read;
 use std::alloc::Global;
+use std::thread::Threads;
 use stream_print::{StreamTrouble, print_stream, put_all};
 
 // Does a job.
 #[tactic(auto, using(crate::proofs::Storms::takes_none, crate::proofs::Storms::no_read_fault))]
-fn do_job<I: Source, O: Sink>(
+fn do_job<R: Threads + Sync, I: Source, O: Sink, G: Gate + Sync>(
+    rt: &R,
     alloc: Global,
     job: Job,
     input: &mut I,
     out: &mut O,
+    gate: &G,
 ) -> Result<(), Failure>
     requires { CanDo job }
     ensures ends { JobEnds job result (told I.left input.old input.new) (told O.written out.old out.new) }
@@ -38,21 +41,24 @@ fn do_job<I: Source, O: Sink>(
             print_stream(alloc, carrier, form, input, out)?;
             Ok(())
         }
-        Job::Text(form) => print_text(alloc, form, input, out),
+        Job::Text(form) => print_text(rt, alloc, form, input, out, gate),
         Job::Storm {
             number,
             units,
             steps,
-        } => print_storm(alloc, number, units, steps, out),
+            workers,
+        } => print_storm(rt, alloc, number, units, steps, workers, out, gate),
     }
 }
 
 // Does what the words ask for.
-fn run<I: Source, O: Sink>(
+fn run<R: Threads + Sync, I: Source, O: Sink, G: Gate + Sync>(
+    rt: &R,
     alloc: Global,
     words: &[String],
     input: &mut I,
     out: &mut O,
+    gate: &G,
 ) -> Result<(), Failure>
     ensures runs { RunEnds (map string_bytes words.now) result (told I.left input.old input.new) (told O.written out.old out.new) }
     ensures reads { (form : Form) → IsForm (map string_bytes words.now) form → TakesAtMost (most_taken (the_job form)) (told I.left input.old input.new) }
@@ -60,7 +66,7 @@ fn run<I: Source, O: Sink>(
     ensures write_cause { HasCause (O.faults out.old) (O.faults out.new) (result ≡ Err Failure.Write) }
 {
     match read(alloc, words)? {
-        Some(form) => do_job(alloc, job_of(form), input, out),
+        Some(form) => do_job(rt, alloc, job_of(form), input, out, gate),
         None => Err(Failure::Usage),
     }
 }
@@ -104,12 +110,14 @@ fn trouble_line(alloc: Global, trouble: Trouble) -> Result<String, OutOfMemory>
 }
 
 // Does what the words ask for, and says why it ends before its whole text.
-fn close<I: Source, O: Sink, E: Sink>(
+fn close<R: Threads + Sync, I: Source, O: Sink, E: Sink, G: Gate + Sync>(
+    rt: &R,
     alloc: Global,
     words: &[String],
     input: &mut I,
     out: &mut O,
     err: &mut E,
+    gate: &G,
 ) -> ExitStatus
     ensures ends { Closes (map string_bytes words.now) result
         (record { input = device I.left I.faults input.old input.new; out = device O.written O.faults out.old out.new; err = device E.written E.faults err.old err.new }) }
@@ -118,7 +126,7 @@ fn close<I: Source, O: Sink, E: Sink>(
     ensures read_cause { HasCause (I.faults input.old) (I.faults input.new) (result ≡ ExitStatus.ReadFault) }
     ensures write_cause { HasCause (O.faults out.old) (O.faults out.new) (result ≡ ExitStatus.WriteFault) }
 {
-    match run(alloc, words, input, out) {
+    match run(rt, alloc, words, input, out, gate) {
         Ok(()) => ExitStatus::Done,
         Err(Failure::Usage) => {
             say(
@@ -158,28 +166,33 @@ fn close<I: Source, O: Sink, E: Sink>(
 /// 65,536 (4,096 where it isn't given), `follow --pcap`, and perhaps `--port P` with P from 0 to
 /// 65,535 and `--hold H`, `show`, `pack --unit U` with U from 1 to 255, `replay`, or
 /// `storm` with `--number S`, `--units N` with N from 1 to 16 and `--steps M` with M from 1 to
-/// 10,000. The first three read a stream of at most 1,073,741,824 bytes from `input`: Sequenced
-/// Unit Header blocks, or with `--pcap` a classic capture file, of which the blocks are those that
-/// stand whole at the start of each UDP datagram, or of each to port P. `follow` writes to `out` a
-/// line for each block, and at the stream's end the books of all units that a block named, and of a
+/// 10,000; with the last two perhaps `--workers K` with K from 1 to 64 (1 where it isn't given).
+/// The first three read a stream of at most 1,073,741,824 bytes from `input`: Sequenced Unit
+/// Header blocks, or with `--pcap` a classic capture file, of which the blocks are those that stand
+/// whole at the start of each UDP datagram, or of each to port P. `follow` writes to `out` a line
+/// for each block, and at the stream's end the books of all units that a block named, and of a
 /// capture how many packets it has, how many of them carried a datagram, and how many of these were
-/// faulty; `show` writes a line for each block and for each message. The next two read a text of at
-/// most 67,108,864 bytes, and write nothing before it was read whole. `pack` reads venue commands,
-/// and writes their datagrams, back to back, once the venue has accepted all. `replay` reads a
-/// schedule, and writes what each of its lines does in the world of its unit: venue, lines, servers
-/// and client. `storm` reads nothing: it makes a schedule, does all its lines in the worlds of its
-/// units, and writes where each unit ended.
+/// faulty; `show` writes a line for each block and for each message.
+/// The next two read a text of at most 67,108,864 bytes, and write nothing before it was read
+/// whole. `pack` reads venue commands, and writes their datagrams, back to back, once the venue has
+/// accepted all. `replay` reads a schedule, and writes what each of its lines does in the world of
+/// its unit: venue, lines, servers and client. `storm` reads nothing: it makes a schedule, does all
+/// its lines in the worlds of its units, and writes where each unit ended. The units of these two
+/// run in at most K pieces of work, which `rt` may run beside one another, and `gate` is told of
+/// each unit; what is written does not depend on either.
 ///
 /// At `Done` the whole text was written and nothing was said. At `Usage` nothing was read or
 /// written. At `BadInput` the texts of the whole blocks before the trouble were written, and no
 /// book; by `pack` and `replay` nothing was, and `storm` never ends so. At `ReadFault` the source
 /// had failed, and at `WriteFault` the sink.
-pub fn pitch<I: Source, O: Sink, E: Sink>(
+pub fn pitch<R: Threads + Sync, I: Source, O: Sink, E: Sink, G: Gate + Sync>(
+    rt: &R,
     alloc: Global,
     words: &[String],
     input: &mut I,
     out: &mut O,
     err: &mut E,
+    gate: &G,
 ) -> ExitStatus
     // What each status says of the words, of what was read and written, and of what was said.
     ensures ends { Closes (map string_bytes words.now) result
@@ -202,5 +215,5 @@ pub fn pitch<I: Source, O: Sink, E: Sink>(
     ensures refused { (form : Form) (trouble : Trouble) → IsForm (map string_bytes words.now) form → Judges (the_job form) (I.left input.old) (Some trouble)
         → Rose (I.faults input.old) (I.faults input.new) ⊎ (Rose (O.faults out.old) (O.faults out.new) ⊎ IsRefusal result) }
 {
-    close(alloc, words, input, out, err)
+    close(rt, alloc, words, input, out, err, gate)
 }

@@ -23,8 +23,8 @@ command_is (Follow hold) = refl
 command_is (FollowCapture port hold) = refl
 command_is Show = refl
 command_is (Pack unit) = refl
-command_is Replay = refl
-command_is (Storm number units steps) = refl
+command_is (Replay workers) = refl
+command_is (Storm number units steps workers) = refl
 
 given_or_same : (default least most : ℕ) (o : Option Text) (m n : ℕ) → IsGivenOr default least most o m → IsGivenOr default least most o n → m ≡ n
 given_or_same default least most None m n a b = a ∙ sym b
@@ -50,11 +50,12 @@ numbers_same options (Follow m) (FollowCapture q n) e a b = absurd (true≢false
 numbers_same options (FollowCapture p m) (Follow n) e a b = absurd (true≢false (sym a.0 ∙ b.0))
 numbers_same options Show Show e a b = refl
 numbers_same options (Pack m) (Pack n) e a b = ap Pack (given_same 1 255 (options.value (codes "unit")) m n a b)
-numbers_same options Replay Replay e a b = refl
-numbers_same options (Storm number units steps) (Storm number' units' steps') e a b =
-    ap (λ (n : ℕ). Storm n units steps) (given_same 0 (2 ^ 64 - 1) (options.value (codes "number")) number number' a.0 b.0)
-    ∙ ap (λ (n : ℕ). Storm number' n steps) (given_same 1 16 (options.value (codes "units")) units units' a.1 b.1)
-    ∙ ap (λ (n : ℕ). Storm number' units' n) (given_same 1 10000 (options.value (codes "steps")) steps steps' a.2 b.2)
+numbers_same options (Replay m) (Replay n) e a b = ap Replay (given_or_same 1 1 64 (options.value (codes "workers")) m n a b)
+numbers_same options (Storm number units steps workers) (Storm number' units' steps' workers') e a b =
+    ap (λ (n : ℕ). Storm n units steps workers) (given_same 0 (2 ^ 64 - 1) (options.value (codes "number")) number number' a.0 b.0)
+    ∙ ap (λ (n : ℕ). Storm number' n steps workers) (given_same 1 16 (options.value (codes "units")) units units' a.1 b.1)
+    ∙ ap (λ (n : ℕ). Storm number' units' n workers) (given_same 1 10000 (options.value (codes "steps")) steps steps' a.2 b.2)
+    ∙ ap (λ (n : ℕ). Storm number' units' steps' n) (given_or_same 1 1 64 (options.value (codes "workers")) workers workers' a.3 b.3)
 numbers_same options _ _ e a b = cc
 
 -- ---- whatever the forms are

@@ -22,13 +22,13 @@ show = (codes "show", [])
 abbrev pub pack : Described
 pack = (codes "pack", must_have (codes "unit") ∷ [])
 
--- `replay`
+-- `replay [--workers K]`
 abbrev pub replay : Described
-replay = (codes "replay", [])
+replay = (codes "replay", may_have (codes "workers") ∷ [])
 
--- `storm --number S --units N --steps M`
+-- `storm --number S --units N --steps M [--workers K]`
 abbrev pub storm : Described
-storm = (codes "storm", must_have (codes "number") ∷ must_have (codes "units") ∷ must_have (codes "steps") ∷ [])
+storm = (codes "storm", must_have (codes "number") ∷ must_have (codes "units") ∷ must_have (codes "steps") ∷ may_have (codes "workers") ∷ [])
 
 -- the program's commands
 abbrev pub commands : List Described
@@ -40,12 +40,12 @@ command_of (Follow hold) = follow
 command_of (FollowCapture port hold) = follow
 command_of Show = show
 command_of (Pack unit) = pack
-command_of Replay = replay
-command_of (Storm number units steps) = storm
+command_of (Replay workers) = replay
+command_of (Storm number units steps workers) = storm
 
 -- the options have the form's numbers: H is 1 to 65,536, and 4,096 where it isn't given; P is 0 to
 -- 65,535, and is given only where `--pcap` is; U is 1 to 255; S is any number of 64 bits, N 1 to 16
--- and M 1 to 10,000; `show` and `replay` have none
+-- and M 1 to 10,000; K is 1 to 64, and 1 where it isn't given; `show` has none
 abbrev pub HasNumbers : Options → Form → Type 0
 HasNumbers options (Follow hold) =
     (options.has (codes "pcap") ≡ false) × IsGivenMaybe 0 65535 (options.value (codes "port")) None × IsGivenOr 4096 1 most_held (options.value (codes "hold")) hold
@@ -53,10 +53,10 @@ HasNumbers options (FollowCapture port hold) =
     (options.has (codes "pcap") ≡ true) × IsGivenMaybe 0 65535 (options.value (codes "port")) port × IsGivenOr 4096 1 most_held (options.value (codes "hold")) hold
 HasNumbers options Show = Unit {0}
 HasNumbers options (Pack unit) = IsGivenNumber 1 255 (options.value (codes "unit")) unit
-HasNumbers options Replay = Unit {0}
-HasNumbers options (Storm number units steps) =
+HasNumbers options (Replay workers) = IsGivenOr 1 1 64 (options.value (codes "workers")) workers
+HasNumbers options (Storm number units steps workers) =
     IsGivenNumber 0 (2 ^ 64 - 1) (options.value (codes "number")) number × IsGivenNumber 1 16 (options.value (codes "units")) units
-    × IsGivenNumber 1 10000 (options.value (codes "steps")) steps
+    × IsGivenNumber 1 10000 (options.value (codes "steps")) steps × IsGivenOr 1 1 64 (options.value (codes "workers")) workers
 
 -- the form of `follow` with this switch and these numbers, if they are one
 abbrev pub follow_form : Bool → Option ℕ → ℕ → Option Form
@@ -74,8 +74,8 @@ IsInRange (Follow hold) = (1 ≤ hold) × (hold ≤ most_held)
 IsInRange (FollowCapture port hold) = (1 ≤ hold) × (hold ≤ most_held)
 IsInRange Show = Unit {0}
 IsInRange (Pack unit) = (1 ≤ unit) × (unit ≤ 255)
-IsInRange Replay = Unit {0}
-IsInRange (Storm number units steps) = (1 ≤ units × units ≤ 16) × (1 ≤ steps × steps ≤ 10000)
+IsInRange (Replay workers) = (1 ≤ workers) × (workers ≤ 64)
+IsInRange (Storm number units steps workers) = (1 ≤ units × units ≤ 16) × (1 ≤ steps × steps ≤ 10000) × (1 ≤ workers × workers ≤ 64)
 
 -- the program as clap's builders make it
 abbrev pub pitch : App

@@ -4,7 +4,7 @@ ghost use Rattle.clap.specs.Walk.{rule_of};
 ghost use Rattle.clap.specs.Simple.{app_of, with_rule};
 ghost use Rattle.clap.specs.declared.builder.command.Command.TheViews.{out-Command as fields_of};
 ghost use Rattle.long_options.specs.Apps.{command_app, empty_program, option_rule, program};
-ghost use Rattle.pitch_words.specs.Forms.{follow as follow_words, show as show_words, pack as pack_words, storm as storm_words, pitch};
+ghost use Rattle.pitch_words.specs.Forms.{follow as follow_words, show as show_words, pack as pack_words, replay as replay_words, storm as storm_words, pitch};
 
 use clap::{Arg, ArgAction, Command};
 use std::alloc::{AllocError, Global};
@@ -81,14 +81,23 @@ fn pack<'a>(alloc: Global) -> Result<Command<'a>, AllocError>
     with_option(alloc, command(alloc, "pack"), "unit", true)
 }
 
-// `storm --number S --units N --steps M`
+// `replay [--workers K]`
+fn replay<'a>(alloc: Global) -> Result<Command<'a>, AllocError>
+    ensures app { IfOk result (λ r. app_of r ≡ command_app replay_words) }
+    ensures local { IfOk result (λ r. (fields_of r).has_globals ≡ false) }
+{
+    with_option(alloc, command(alloc, "replay"), "workers", false)
+}
+
+// `storm --number S --units N --steps M [--workers K]`
 fn storm<'a>(alloc: Global) -> Result<Command<'a>, AllocError>
     ensures app { IfOk result (λ r. app_of r ≡ command_app storm_words) }
     ensures local { IfOk result (λ r. (fields_of r).has_globals ≡ false) }
 {
     let number = with_option(alloc, command(alloc, "storm"), "number", true)?;
     let units = with_option(alloc, number, "units", true)?;
-    with_option(alloc, units, "steps", true)
+    let steps = with_option(alloc, units, "steps", true)?;
+    with_option(alloc, steps, "workers", false)
 }
 
 // The program without its commands, of which one must be there.
@@ -117,6 +126,6 @@ fn without_schedules<'a>(alloc: Global) -> Result<Command<'a>, AllocError>
 pub(crate) fn app<'a>(alloc: Global) -> Result<Command<'a>, AllocError>
     ensures app { IfOk result (λ r. app_of r ≡ pitch) }
 {
-    let with_replay = without_schedules(alloc)?.subcommand(command(alloc, "replay"))?;
+    let with_replay = without_schedules(alloc)?.subcommand(replay(alloc)?)?;
     with_replay.subcommand(storm(alloc)?)
 }

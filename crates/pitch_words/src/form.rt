@@ -22,10 +22,13 @@ pub enum Form {
         /// The unit of the datagrams: 1 to 255.
         unit: u8,
     },
-    /// `replay`: read a schedule, and write what its lines do.
-    Replay,
-    /// `storm --number S --units N --steps M`: make a schedule and replay it, and write where its
-    /// units ended.
+    /// `replay [--workers K]`: read a schedule, and write what its lines do.
+    Replay {
+        /// In how many pieces of work at most its units run beside one another: 1 to 64.
+        workers: u8,
+    },
+    /// `storm --number S --units N --steps M [--workers K]`: make a schedule and replay it, and
+    /// write where its units ended.
     Storm {
         /// What the storm is made from.
         number: u64,
@@ -33,5 +36,7 @@ pub enum Form {
         units: u8,
         /// How many steps each unit takes: 1 to 10,000.
         steps: u32,
+        /// In how many pieces of work at most its units run beside one another: 1 to 64.
+        workers: u8,
     },
 }

@@ -131,7 +131,19 @@ fn pack(matches: &ArgMatches) -> Option<Form>
     Some(Form::Pack { unit: unit as u8 })
 }
 
-// `storm --number S --units N --steps M`
+// `replay [--workers K]`
+fn replay(matches: &ArgMatches) -> Option<Form>
+    ensures form { MatchOption result ((form : Form) → ¬ HasForm (Some (codes "replay", rows_of (found_of matches.now))) form)
+        (HasForm (Some (codes "replay", rows_of (found_of matches.now)))) }
+    ensures range { IfSome result IsInRange }
+{
+    let workers = given_or(matches, "workers", 1, 1, 64)?;
+    Some(Form::Replay {
+        workers: workers as u8,
+    })
+}
+
+// `storm --number S --units N --steps M [--workers K]`
 fn storm(matches: &ArgMatches) -> Option<Form>
     ensures form { MatchOption result ((form : Form) → ¬ HasForm (Some (codes "storm", rows_of (found_of matches.now))) form)
         (HasForm (Some (codes "storm", rows_of (found_of matches.now)))) }
@@ -140,10 +152,12 @@ fn storm(matches: &ArgMatches) -> Option<Form>
     let number = given(matches, "number", 0, u64::MAX)?;
     let units = given(matches, "units", 1, 16)?;
     let steps = given(matches, "steps", 1, 10_000)?;
+    let workers = given_or(matches, "workers", 1, 1, 64)?;
     Some(Form::Storm {
         number,
         units: units as u8,
         steps: steps as u32,
+        workers: workers as u8,
     })
 }
 
@@ -157,7 +171,7 @@ fn form_in(name: &str, matches: &ArgMatches) -> Option<Form>
         "follow" => follow(matches),
         "show" => Some(Form::Show),
         "pack" => pack(matches),
-        "replay" => Some(Form::Replay),
+        "replay" => replay(matches),
         "storm" => storm(matches),
         _ => None,
     }

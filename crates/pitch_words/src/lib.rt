@@ -8,15 +8,14 @@
 //! | `follow --pcap [--port P] [--hold H]` | P is 0 to 65,535, H as above | any port; 4,096 |
 //! | `show` | | |
 //! | `pack --unit U` | U is 1 to 255 | |
-//! | `replay` | | |
-//! | `storm --number S --units N --steps M` | S is below 2^64, N is 1 to 16, M is 1 to 10,000 | |
+//! | `replay [--workers K]` | K is 1 to 64 | 1 |
+//! | `storm --number S --units N --steps M [--workers K]` | S is below 2^64, N is 1 to 16, M is 1 to 10,000, K is 1 to 64 | 1 |
 //!
 //! The first word is a command's name. The options follow in any order, each at most once, as
 //! `--name value` or `--name=value`; those in brackets may be left out. A value is 1 to 20 digits
 //! and lies within its range, and leading zeros count as digits. All else is no form: no words, an
 //! empty word, the word `--`, a repeated option, a word that the command does not have, and any
-//! request for help or a version. So `replay --workers 2` is no form, as `replay` has no option
-//! yet.
+//! request for help or a version.
 //!
 //! `clap` reads the words, with its own help and version switched off, and its answer decides. The
 //! program adds only what `clap` would let pass: no word is `--`, and each number lies within its

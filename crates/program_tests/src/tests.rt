@@ -11,10 +11,11 @@ mod storms;
 
 use crate::{ExitStatus, pitch};
 use pitch_fields::OutOfMemory;
-use pitch_io::{MemorySink, MemorySource, Source, SteadySink, SteadySource, Taken};
+use pitch_io::{FreeGate, MemorySink, MemorySource, Source, SteadySink, SteadySource, Taken};
 use std::alloc::Global;
 use std::str::from_utf8;
 use std::test::*;
+use std::thread::Threads;
 
 // The second 34,200 at sequence 1 of unit 1.
 const TIME: &[u8] = b"\x0e\x00\x01\x01\x01\x00\x00\x00\x06\x20\x98\x85\x00\x00";
@@ -60,7 +61,7 @@ const DELETED_TEXT: &str = "block 1 unit 1 first 1 count 1; current 1\n\
     book unit 1 at 3 second 34200 orders 0\n";
 
 // The blocks of a stream, and what is printed of it.
-const STREAMS: [(&[&[u8]], &str); 10] = [
+static STREAMS: [(&[&[u8]], &str); 10] = [
     (&[], ""),
     (
         &[b"\x08\x00\x00\x01\x01\x00\x00\x00"],
@@ -127,7 +128,7 @@ const STREAMS: [(&[&[u8]], &str); 10] = [
 ];
 
 // The blocks of a faulty stream, what is printed of it, and its fault.
-const FAULTY_STREAMS: [(&[&[u8]], &str, &str); 7] = [
+static FAULTY_STREAMS: [(&[&[u8]], &str, &str); 7] = [
     (
         &[b"\x0e\x00\x01\x01\x01\x00\x00\x00\x06\x20\x98\x85\x00"],
         "",
@@ -177,7 +178,7 @@ const TRADE: &[u8] = b"\x39\x00\x02\x02\x09\x00\x00\x00\
     \x40\xe2\x01\x00\x00\x00\x00\x00\x11\x00\x00\x00\x00\x00\x00\x00\x06\x2d\x02\x00\x00\x00";
 
 // The blocks of a stream, and what `show` prints of it.
-const SHOWN: [(&[&[u8]], &str); 6] = [
+static SHOWN: [(&[&[u8]], &str); 6] = [
     (&[], ""),
     (
         &[TIME, b"\x0b\x00\x01\x01\x02\x00\x00\x00\x03\x99\x07", BEAT],
@@ -220,7 +221,7 @@ const SHOWN: [(&[&[u8]], &str); 6] = [
 ];
 
 // Sequences 1, 3, 5, 7, 6, 2, 3, 4 and 5 of unit 1, each the second of its own number.
-const SHUFFLED: [&[u8]; 9] = [
+static SHUFFLED: [&[u8]; 9] = [
     b"\x0e\x00\x01\x01\x01\x00\x00\x00\x06\x20\x01\x00\x00\x00",
     b"\x0e\x00\x01\x01\x03\x00\x00\x00\x06\x20\x03\x00\x00\x00",
     b"\x0e\x00\x01\x01\x05\x00\x00\x00\x06\x20\x05\x00\x00\x00",
@@ -275,7 +276,8 @@ fn stream_of(alloc: Global, blocks: &[&[u8]]) -> Result<Vec<u8>, OutOfMemory> {
 }
 
 // The program over devices that never fail.
-fn pitch_steadily(
+fn pitch_steadily<R: Threads + Sync>(
+    rt: &R,
     alloc: Global,
     words: &[String],
     input: &mut SteadySource,
@@ -287,7 +289,7 @@ fn pitch_steadily(
     // Where something is wrong with the input, it was refused, or memory ran out.
     ensures refused { (form : Form) (trouble : Trouble) → IsForm (map string_bytes words.now) form → Judges (job_of form) (Some input.old.bytes) (Some trouble) → IsRefusal result }
 {
-    pitch(alloc, words, input, out, err)
+    pitch(rt, alloc, words, input, out, err, &FreeGate)
 }
 
 // What the program leaves.
@@ -299,30 +301,36 @@ struct Outcome {
 }
 
 // Runs the program on blocks of which at most `piece` bytes come at once.
-fn run(alloc: Global, line: &str, blocks: &[&[u8]], piece: usize) -> Result<Outcome, OutOfMemory>
+fn run<R: Threads + Sync>(
+    rt: &R,
+    alloc: Global,
+    line: &str,
+    blocks: &[&[u8]],
+    piece: usize,
+) -> Result<Outcome, OutOfMemory>
     requires { 0 < piece }
 {
     let words = words_of(alloc, line)?;
     let mut input = SteadySource::make(stream_of(alloc, blocks)?, piece);
     let mut out = SteadySink::make(alloc, 4096)?;
     let mut err = SteadySink::make(alloc, 4096)?;
-    let status = pitch_steadily(alloc, words.as_slice(), &mut input, &mut out, &mut err);
+    let status = pitch_steadily(rt, alloc, words.as_slice(), &mut input, &mut out, &mut err);
     Ok(Outcome { status, out, err })
 }
 
 #[test]
 fn each_stream_has_its_text_in_pieces_of_any_size(rt: HostRuntime) -> Result<(), Fail> {
     for piece in [1, 2, 7, 35, 65536] {
-        for (blocks, text) in STREAMS {
-            let outcome = run(rt.alloc(), "follow", blocks, piece)?;
-            assert_eq!(rt; from_utf8(outcome.out.written())?, text, "by {piece}");
+        for (blocks, text) in &STREAMS {
+            let outcome = run(&rt, rt.alloc(), "follow", blocks, piece)?;
+            assert_eq!(rt; from_utf8(outcome.out.written())?, *text, "by {piece}");
             assert_eq!(rt; from_utf8(outcome.err.written())?, "", "by {piece}");
             assert!(rt; outcome.status == ExitStatus::Done, "by {piece}");
         }
-        for (blocks, text, fault) in FAULTY_STREAMS {
-            let outcome = run(rt.alloc(), "follow", blocks, piece)?;
-            assert_eq!(rt; from_utf8(outcome.err.written())?, fault, "by {piece}");
-            assert_eq!(rt; from_utf8(outcome.out.written())?, text, "by {piece}");
+        for (blocks, text, fault) in &FAULTY_STREAMS {
+            let outcome = run(&rt, rt.alloc(), "follow", blocks, piece)?;
+            assert_eq!(rt; from_utf8(outcome.err.written())?, *fault, "by {piece}");
+            assert_eq!(rt; from_utf8(outcome.out.written())?, *text, "by {piece}");
             assert!(rt; outcome.status == ExitStatus::BadInput, "by {piece}");
         }
     }
@@ -332,13 +340,13 @@ fn each_stream_has_its_text_in_pieces_of_any_size(rt: HostRuntime) -> Result<(),
 #[test]
 fn each_message_is_shown(rt: HostRuntime) -> Result<(), Fail> {
     for piece in [1, 7, 65536] {
-        for (blocks, text) in SHOWN {
-            let outcome = run(rt.alloc(), "show", blocks, piece)?;
-            assert_eq!(rt; from_utf8(outcome.out.written())?, text, "by {piece}");
+        for (blocks, text) in &SHOWN {
+            let outcome = run(&rt, rt.alloc(), "show", blocks, piece)?;
+            assert_eq!(rt; from_utf8(outcome.out.written())?, *text, "by {piece}");
             assert!(rt; outcome.status == ExitStatus::Done, "by {piece}");
         }
     }
-    let outcome = run(rt.alloc(), "show", &[TIME, SPARE], 35)?;
+    let outcome = run(&rt, rt.alloc(), "show", &[TIME, SPARE], 35)?;
     let shown = "block 1 unit 1 first 1 count 1\n1 time second=34200\n";
     assert_eq!(rt; from_utf8(outcome.out.written())?, shown);
     let fault = "pitch: bad input at byte 22: spare bytes\n";
@@ -348,7 +356,7 @@ fn each_message_is_shown(rt: HostRuntime) -> Result<(), Fail> {
 }
 
 // Texts of commands, the bytes that `pack` writes of them for unit 1, and what is said.
-const TEXTS: [(&[u8], &[u8], &str); 6] = [
+static TEXTS: [(&[u8], &[u8], &str); 6] = [
     (b"", b"", ""),
     (b"add 1 B 100 IBM 655.35\nadd 2 B 100 IBM 655.36", ADDS, ""),
     (
@@ -377,10 +385,10 @@ const TEXTS: [(&[u8], &[u8], &str); 6] = [
 #[test]
 fn commands_are_packed(rt: HostRuntime) -> Result<(), Fail> {
     for piece in [1, 65536] {
-        for (text, bytes, said) in TEXTS {
-            let outcome = run(rt.alloc(), "pack --unit 1", &[text], piece)?;
-            assert!(rt; outcome.out.written() == bytes, "by {piece}");
-            assert_eq!(rt; from_utf8(outcome.err.written())?, said, "by {piece}");
+        for (text, bytes, said) in &TEXTS {
+            let outcome = run(&rt, rt.alloc(), "pack --unit 1", &[*text], piece)?;
+            assert!(rt; outcome.out.written() == *bytes, "by {piece}");
+            assert_eq!(rt; from_utf8(outcome.err.written())?, *said, "by {piece}");
             let done = outcome.status == ExitStatus::Done;
             assert!(rt; done == said.is_empty(), "by {piece}");
         }
@@ -398,7 +406,7 @@ fn words_say_how_many_are_held(rt: HostRuntime) -> Result<(), Fail> {
         ("follow", HELD_BY_MORE),
     ];
     for (line, text) in holds {
-        let outcome = run(alloc, line, &SHUFFLED, 35)?;
+        let outcome = run(&rt, alloc, line, &SHUFFLED, 35)?;
         assert_eq!(rt; from_utf8(outcome.out.written())?, text, "words {line}");
         assert!(rt; outcome.status == ExitStatus::Done, "words {line}");
     }
@@ -407,7 +415,7 @@ fn words_say_how_many_are_held(rt: HostRuntime) -> Result<(), Fail> {
         let mut input = SteadySource::make(stream_of(alloc, &[TIME, ADD])?, 65536);
         let mut out = SteadySink::make(alloc, 4096)?;
         let mut err = SteadySink::make(alloc, 4096)?;
-        let status = pitch_steadily(alloc, words.as_slice(), &mut input, &mut out, &mut err);
+        let status = pitch_steadily(&rt, alloc, words.as_slice(), &mut input, &mut out, &mut err);
         let usage = "pitch: usage: follow | show | pack | replay | storm | drill | demo\n";
         assert_eq!(rt; from_utf8(err.written())?, usage, "words {line}");
         assert_eq!(rt; from_utf8(out.written())?, "", "words {line}");
@@ -439,7 +447,15 @@ fn a_failing_source_or_sink_is_told_of(rt: HostRuntime) -> Result<(), Fail> {
         let mut input = MemorySource::make(bytes, 20, Vec::from_slice(alloc, &[take])?);
         let mut out = MemorySink::make(alloc, 7, Vec::from_slice(alloc, &[put])?);
         let mut err = SteadySink::make(alloc, 4096)?;
-        let ended = pitch(alloc, words.as_slice(), &mut input, &mut out, &mut err);
+        let ended = pitch(
+            &rt,
+            alloc,
+            words.as_slice(),
+            &mut input,
+            &mut out,
+            &mut err,
+            &FreeGate,
+        );
         assert_eq!(rt; from_utf8(out.written())?, text, "put {put} take {take}");
         assert_eq!(rt; from_utf8(err.written())?, said, "put {put} take {take}");
         assert!(rt; ended == status, "put {put} take {take}");

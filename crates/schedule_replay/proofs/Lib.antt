@@ -1,3 +1,6 @@
+mod Cutting
+mod Joining
+mod Parting
 mod Printing
 mod Places
 mod Reading

@@ -10,13 +10,13 @@ use Rattle.world_model.specs.Verbs.{state_of}
 use Rattle.schedule_replay.specs.Replay.{verbs_of, limits_of, replay_line}
 use Rattle.schedule_replay.specs.Apart.{own, pieces_after, first_piece, merged, LinesStandApart, UnitsRunApart}
 
-own_same : (unit : ℕ) (e : ScheduleEntry) (es : List ScheduleEntry) → eqb e.unit unit ≡ true → own unit (e ∷ es) ≡ e ∷ own unit es
+pub own_same : (unit : ℕ) (e : ScheduleEntry) (es : List ScheduleEntry) → eqb e.unit unit ≡ true → own unit (e ∷ es) ≡ e ∷ own unit es
 own_same unit e es same = ap (λ (b : Bool). cond b (e ∷ own unit es) (own unit es)) same
 
-own_other : (unit : ℕ) (e : ScheduleEntry) (es : List ScheduleEntry) → eqb e.unit unit ≡ false → own unit (e ∷ es) ≡ own unit es
+pub own_other : (unit : ℕ) (e : ScheduleEntry) (es : List ScheduleEntry) → eqb e.unit unit ≡ false → own unit (e ∷ es) ≡ own unit es
 own_other unit e es other = ap (λ (b : Bool). cond b (e ∷ own unit es) (own unit es)) other
 
-verbs_own : (unit : ℕ) (before : List ScheduleEntry) → verbs_of unit (own unit before) ≡ verbs_of unit before
+pub verbs_own : (unit : ℕ) (before : List ScheduleEntry) → verbs_of unit (own unit before) ≡ verbs_of unit before
 verbs_own unit [] = refl
 verbs_own unit (e ∷ before) = elim (cases_Bool (eqb e.unit unit)) [
   | inl same ↦

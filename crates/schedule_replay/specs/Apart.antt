@@ -3,6 +3,10 @@ use Rattle.std.specs.Prelude.{◌≡◌, ℕ, ◌==◌, List, [], ◌∷◌, ◌
 use Rattle.pitch_text.specs.declared.verb.ScheduleEntry.{ScheduleEntry}
 use Rattle.schedule_replay.specs.Replay.{replay_line, replay_text}
 
+-- the most pieces of work into which a schedule's units are parted
+abbrev pub most_workers : ℕ
+most_workers = 64
+
 -- the lines of a unit
 abbrev pub own : ℕ → List ScheduleEntry → List ScheduleEntry
 own unit entries = filter (λ e. e.unit == unit) entries

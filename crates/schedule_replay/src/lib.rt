@@ -5,12 +5,18 @@
 //! time, and none is kept.
 #![tactic(auto)]
 
+mod apart;
 mod error;
 pub mod laws;
 mod lines;
+mod merging;
+mod replaying;
 mod running;
+mod stretches;
 #[cfg(test)]
 mod tests;
+mod units;
 
 pub use crate::error::ReplayError;
-pub use crate::running::{WorldList, replay};
+pub use crate::replaying::replay;
+pub use crate::running::WorldList;

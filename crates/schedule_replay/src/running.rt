@@ -15,7 +15,9 @@ ghost use Rattle.schedule_replay.specs.declared.error.ReplayError.TheVariants as
 
 use crate::error::ReplayError;
 use crate::lines::append_printed;
+use crate::units::replay_work;
 use pitch_fields::OutOfMemory;
+use pitch_io::Gate;
 use pitch_text::laws::schedules_are_well_formed;
 use pitch_text::{Schedule, ScheduleEntry, TextError, Verb};
 use std::alloc::Global;
@@ -25,7 +27,10 @@ use world_model::{Limits, World};
 pub type WorldList = pitch_messages::List<World>;
 
 // The number of places: a schedule's units go from 1 to 64.
-const PLACES: usize = 65;
+pub(crate) const PLACES: usize = 65;
+
+// The greatest unit of a schedule.
+const LAST_UNIT: u8 = 64;
 
 // The limits of a unit that does not begin with an `open` line.
 fn default_limits() -> Limits
@@ -158,7 +163,7 @@ fn step_in(world: &mut World, entry: &ScheduleEntry, out: &mut Vec<u8>) -> Resul
 
 // Does a line in the world of its unit, which is made where it is the unit's first, and appends its
 // text.
-fn run_in(
+pub(crate) fn run_in(
     alloc: Global,
     place: &mut Option<World>,
     entry: &ScheduleEntry,
@@ -179,9 +184,36 @@ fn run_in(
     }
 }
 
+// Tells the gate of a unit that begins: it has no world yet.
+fn tell_begin<G: Gate>(gate: &G, unit: u8, places: &[Option<World>]) {
+    match places.get(usize::from(unit)) {
+        Some(None) => gate.before(replay_work(unit)),
+        Some(Some(_)) => {}
+        None => {}
+    }
+}
+
+// Tells the gate of a unit that ended.
+fn tell_end<G: Gate>(gate: &G, unit: u8, place: &Option<World>) {
+    if place.is_some() {
+        gate.after(replay_work(unit));
+    }
+}
+
+// Tells the gate of each unit that it ended.
+fn tell_ends<G: Gate>(gate: &G, places: &[Option<World>]) {
+    for unit in 0..=LAST_UNIT {
+        match places.get(usize::from(unit)) {
+            Some(place) => tell_end(gate, unit, place),
+            None => return,
+        }
+    }
+}
+
 // Does a line, and appends its text.
-fn run_line(
+fn run_line<G: Gate>(
     alloc: Global,
+    gate: &G,
     places: &mut Vec<Option<World>>,
     entry: &ScheduleEntry,
     out: &mut Vec<u8>,
@@ -196,13 +228,15 @@ fn run_line(
     ensures many { length places.new.items ≡ 65 }
     ensures behind { take (length out.old.items) out.new.items ≡ out.old.items }
 {
+    tell_begin(gate, entry.unit, places);
     run_in(alloc, &mut places[usize::from(entry.unit)], entry, out)
 }
 
 // Does the lines of a text up to its first fault, and appends their text. After an error some of it
 // may have been appended.
-fn run_text(
+fn run_text<G: Gate>(
     alloc: Global,
+    gate: &G,
     places: &mut Vec<Option<World>>,
     text: &[u8],
     out: &mut Vec<u8>,
@@ -216,7 +250,7 @@ fn run_text(
     schedules_are_well_formed();
     'lines: for item in Schedule::of_text(text) {
         match item {
-            Ok(entry) => run_line(alloc, places, &entry, out)?,
+            Ok(entry) => run_line(alloc, gate, places, &entry, out)?,
             Err(fault) => return Err(ReplayError::from(fault)),
         }
     }
@@ -224,7 +258,7 @@ fn run_text(
 }
 
 // No unit has a world yet.
-fn no_worlds(alloc: Global) -> Result<Vec<Option<World>>, OutOfMemory>
+pub(crate) fn no_worlds(alloc: Global) -> Result<Vec<Option<World>>, OutOfMemory>
     ensures { IfOk result (λ places. ArePlaces [] places.items) }
 {
     let mut places = Vec::with_capacity(alloc, PLACES)?;
@@ -235,7 +269,10 @@ fn no_worlds(alloc: Global) -> Result<Vec<Option<World>>, OutOfMemory>
 }
 
 // The worlds by rising unit.
-fn all_worlds(alloc: Global, places: Vec<Option<World>>) -> Result<WorldList, OutOfMemory>
+pub(crate) fn all_worlds(
+    alloc: Global,
+    places: Vec<Option<World>>,
+) -> Result<WorldList, OutOfMemory>
     ensures { IfOk result (λ worlds. worlds.items ≡ worlds_in places.items) }
 {
     let mut worlds = WorldList::make(alloc);
@@ -248,9 +285,10 @@ fn all_worlds(alloc: Global, places: Vec<Option<World>>) -> Result<WorldList, Ou
     Ok(worlds)
 }
 
-// Replays the lines of a text. After an error some text may have been appended.
-fn replay_lines(
+// Replays the lines of a text one after another. After an error some text may have been appended.
+pub(crate) fn replay_together<G: Gate>(
     alloc: Global,
+    gate: &G,
     text: &[u8],
     worlds: &mut WorldList,
     out: &mut Vec<u8>,
@@ -263,37 +301,9 @@ fn replay_lines(
     ensures behind { take (length out.old.items) out.new.items ≡ out.old.items }
 {
     let mut places = no_worlds(alloc)?;
-    run_text(alloc, &mut places, text, out)?;
+    run_text(alloc, gate, &mut places, text, out)?;
+    tell_ends(gate, &places);
     let added = all_worlds(alloc, places)?;
     worlds.append(added.into_vec())?;
     Ok(())
-}
-
-/// Replays a schedule: does each line in the world of its unit, in the text's order. Appends what
-/// the lines write to `out`, and to `worlds` the world of each unit that a line names, by rising
-/// unit, in which all the unit's lines were done.
-///
-/// A text has at most 67,108,864 bytes, and is gone over once. `Text` is its first fault: nothing
-/// is kept of the lines before. After an error `out` and `worlds` are as before.
-pub fn replay(
-    alloc: Global,
-    text: &[u8],
-    worlds: &mut WorldList,
-    out: &mut Vec<u8>,
-) -> Result<(), ReplayError>
-    requires { length text.now ≤ 67108864 }
-    ensures written { OnOk result ((written : List ℕ) × (replay_of text.now ≡ Ok written) × (out.new.items ≡ out.old.items ++ written)) }
-    ensures worlds { OnOk result (AddsWorlds text.now worlds.old.items worlds.new.items) }
-    ensures cause { IfErr result (λ error. (error ≡ errors.OutOfMemory) ⊎ (replay_of text.now ≡ Err error)) }
-    ensures kept_text { OnErr result (out.new.items ≡ out.old.items) }
-    ensures kept_worlds { OnErr result (worlds.new.items ≡ worlds.old.items) }
-{
-    let start = out.len();
-    match replay_lines(alloc, text, worlds, out) {
-        Ok(()) => Ok(()),
-        Err(error) => {
-            out.truncate(start);
-            Err(error)
-        }
-    }
 }

@@ -1,4 +1,5 @@
 use crate::{ReplayError, WorldList, replay};
+use pitch_io::FreeGate;
 use pitch_model::Status;
 use pitch_text::TextCause;
 use std::test::*;
@@ -33,7 +34,15 @@ const TWO_UNITS_TEXT: &[u8] = b"2 7 opened; silent\n\
 fn each_unit_has_its_own_world(rt: HostRuntime) -> Result<(), Fail> {
     let mut worlds = WorldList::make(rt.alloc());
     let mut out = Vec::new(rt.alloc());
-    replay(rt.alloc(), TWO_UNITS, &mut worlds, &mut out)?;
+    replay(
+        &rt,
+        rt.alloc(),
+        TWO_UNITS,
+        1,
+        &FreeGate,
+        &mut worlds,
+        &mut out,
+    )?;
     assert!(rt; out.as_slice() == TWO_UNITS_TEXT);
     assert!(rt; worlds.len() == 2);
     for (index, order) in [(0, 1), (1, 5)] {
@@ -51,10 +60,21 @@ fn each_unit_has_its_own_world(rt: HostRuntime) -> Result<(), Fail> {
 fn a_fault_anywhere_refuses_the_text(rt: HostRuntime) -> Result<(), Fail> {
     let mut worlds = WorldList::make(rt.alloc());
     let mut out = Vec::new(rt.alloc());
-    replay(rt.alloc(), b"3 tick\n", &mut worlds, &mut out)?;
+    replay(
+        &rt,
+        rt.alloc(),
+        b"3 tick\n",
+        2,
+        &FreeGate,
+        &mut worlds,
+        &mut out,
+    )?;
     let faulty = replay(
+        &rt,
         rt.alloc(),
         b"1 add 1 B 100 IBM 10.00\n1 flush x\n65 flush\n",
+        2,
+        &FreeGate,
         &mut worlds,
         &mut out,
     );

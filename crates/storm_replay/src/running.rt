@@ -2,6 +2,7 @@
 
 ghost use Rattle.std.specs.Prelude.{◌≡◌, ◌≤◌, ◌++◌, List, ℕ, [], length, OnOk, OnErr, IfOk};
 ghost use Rattle.pitch_text.specs.declared.verb.ScheduleEntry.{ScheduleEntry as EntrySaid};
+ghost use Rattle.schedule_replay.specs.Apart.{most_workers};
 ghost use Rattle.schedule_replay.specs.Worlds.{AddsWorlds, AreRunThrough, IsWorldOf};
 ghost use Rattle.storm_plan.specs.Storm.{most_units, most_steps, storm_schedule};
 ghost use Rattle.storm_plan.specs.StormText.{storm_line, unit_line};
@@ -9,9 +10,11 @@ ghost use Rattle.storm_replay.specs.Summary.{AreInTurn, AreStormWorlds, ended_li
 
 use feed_lines::LINE;
 use pitch_fields::OutOfMemory;
+use pitch_io::Gate;
 use pitch_model::Status;
 use schedule_replay::{ReplayError, WorldList, replay};
 use std::alloc::Global;
+use std::thread::Threads;
 use storm_plan::{generate, put_storm_line, put_unit_line, storms_are_read};
 use world_model::World;
 
@@ -82,9 +85,18 @@ fn summary_of(
 
 // The worlds of a storm's units, in which all lines of its schedule were done. The schedule's text
 // is dropped.
-fn worlds_of(alloc: Global, number: u64, units: u8, steps: u32) -> Result<WorldList, OutOfMemory>
+fn worlds_of<R: Threads + Sync, G: Gate + Sync>(
+    rt: &R,
+    alloc: Global,
+    number: u64,
+    units: u8,
+    steps: u32,
+    workers: u8,
+    gate: &G,
+) -> Result<WorldList, OutOfMemory>
     requires units { (1 ≤ units) × (units ≤ most_units) }
     requires steps { (1 ≤ steps) × (steps ≤ most_steps) }
+    requires workers { (1 ≤ workers) × (workers ≤ most_workers) }
     ensures run { IfOk result (λ worlds. AreRunThrough (storm_schedule number units steps) worlds.items) }
     ensures each { IfOk result (λ worlds. AreStormWorlds number units steps worlds.items) }
 {
@@ -93,7 +105,7 @@ fn worlds_of(alloc: Global, number: u64, units: u8, steps: u32) -> Result<WorldL
     generate(number, units, steps, &mut text)?;
     let mut worlds = WorldList::make(alloc);
     let mut printed = Vec::new(alloc);
-    match replay(alloc, &text, &mut worlds, &mut printed) {
+    match replay(rt, alloc, &text, workers, gate, &mut worlds, &mut printed) {
         Ok(()) => Ok(worlds),
         Err(ReplayError::OutOfMemory) => Err(OutOfMemory),
         Err(ReplayError::Text { .. }) => unreachable!(),
@@ -105,24 +117,29 @@ fn worlds_of(alloc: Global, number: u64, units: u8, steps: u32) -> Result<WorldL
 /// the status of the unit's client and the orders and shares of its book. Appends the worlds to
 /// `worlds`, as `replay` does for the same schedule.
 ///
-/// A storm has 1 to 16 units and 1 to 10,000 steps, and its summary is the same at each run. After
+/// A storm has 1 to 16 units and 1 to 10,000 steps, and its summary is the same at each run. As with
+/// `replay`, its units run in up to 64 pieces of work, and the gate is told of each unit. After
 /// OutOfMemory `out` and `worlds` are as before.
-pub fn storm(
+pub fn storm<R: Threads + Sync, G: Gate + Sync>(
+    rt: &R,
     alloc: Global,
     number: u64,
     units: u8,
     steps: u32,
+    workers: u8,
+    gate: &G,
     worlds: &mut WorldList,
     out: &mut Vec<u8>,
 ) -> Result<(), OutOfMemory>
     requires units { (1 ≤ units) × (units ≤ most_units) }
     requires steps { (1 ≤ steps) × (steps ≤ most_steps) }
+    requires workers { (1 ≤ workers) × (workers ≤ most_workers) }
     ensures written { OnOk result (out.new.items ≡ out.old.items ++ storm_text number units steps) }
     ensures worlds { OnOk result (AddsWorlds (storm_schedule number units steps) worlds.old.items worlds.new.items) }
     ensures kept_text { OnErr result (out.new.items ≡ out.old.items) }
     ensures kept_worlds { OnErr result (worlds.new.items ≡ worlds.old.items) }
 {
-    let run = worlds_of(alloc, number, units, steps)?;
+    let run = worlds_of(rt, alloc, number, units, steps, workers, gate)?;
     let summary = summary_of(alloc, number, units, steps, &run)?;
     let start = out.len();
     out.extend_from_slice(&summary)?;

@@ -1,4 +1,5 @@
 use crate::storm;
+use pitch_io::FreeGate;
 use pitch_model::Status;
 use schedule_replay::WorldList;
 use std::test::*;
@@ -37,7 +38,17 @@ fn a_storm_tells_where_its_units_ended(rt: HostRuntime) -> Result<(), Fail> {
     let mut out = Vec::new(rt.alloc());
     for (number, units, steps, text) in STORMS {
         assert!(rt; units >= 1 && units <= 16 && steps >= 1 && steps <= 10_000);
-        storm(rt.alloc(), number, units, steps, &mut worlds, &mut out)?;
+        storm(
+            &rt,
+            rt.alloc(),
+            number,
+            units,
+            steps,
+            units,
+            &FreeGate,
+            &mut worlds,
+            &mut out,
+        )?;
         expected.push_str(text)?;
     }
     assert!(rt; out.as_slice() == expected.as_bytes());

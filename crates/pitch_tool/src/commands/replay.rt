@@ -1,20 +1,29 @@
 ghost use Rattle.std.specs.Prelude.{◌≡◌, ◌≤◌, Ok, IfOk, IfErr, length};
-ghost use Rattle.pitch_tool.specs.TextForms.{made, IsMadeOf, IsUnmade};
+ghost use Rattle.pitch_tool.specs.TextForms.{AreWorkers, made, IsMadeOf, IsUnmade};
 ghost use Rattle.pitch_tool.specs.declared.job.TextForm.TheVariants.{Replay};
 
 use crate::failure::Failure;
+use pitch_io::Gate;
 use schedule_replay::WorldList;
 use std::alloc::Global;
+use std::thread::Threads;
 
 /// What the lines of a schedule write, each done in the world of its unit.
-pub fn replay(alloc: Global, text: &[u8]) -> Result<Vec<u8>, Failure>
-    requires { length text.now ≤ 67108864 }
-    ensures made { IfOk result (λ written. made Replay text.now ≡ Ok written.items) }
-    ensures run { IfOk result (λ written. IsMadeOf Replay text.now written.items) }
-    ensures unmade { IfErr result (IsUnmade (made Replay text.now)) }
+pub fn replay<R: Threads + Sync, G: Gate + Sync>(
+    rt: &R,
+    alloc: Global,
+    text: &[u8],
+    workers: u8,
+    gate: &G,
+) -> Result<Vec<u8>, Failure>
+    requires size { length text.now ≤ 67108864 }
+    requires workers { AreWorkers workers }
+    ensures made { IfOk result (λ written. made (Replay workers) text.now ≡ Ok written.items) }
+    ensures run { IfOk result (λ written. IsMadeOf (Replay workers) text.now written.items) }
+    ensures unmade { IfErr result (IsUnmade (made (Replay workers) text.now)) }
 {
     let mut worlds = WorldList::make(alloc);
     let mut written = Vec::new(alloc);
-    schedule_replay::replay(alloc, text, &mut worlds, &mut written)?;
+    schedule_replay::replay(rt, alloc, text, workers, gate, &mut worlds, &mut written)?;
     Ok(written)
 }

@@ -2,31 +2,47 @@ ghost use Rattle.std.specs.Prelude.{◌≡◌, ◌≢◌, Err};
 ghost use Rattle.pitch_io.specs.Causes.{HasCause};
 ghost use Rattle.stream_print.specs.Told.{told};
 ghost use Rattle.pitch_tool.specs.StormForm.{IsStorm, StormEnds};
+ghost use Rattle.pitch_tool.specs.TextForms.{AreWorkers};
 
 use crate::failure::Failure;
-use pitch_io::Sink;
+use pitch_io::{Gate, Sink};
 use schedule_replay::WorldList;
 use std::alloc::Global;
+use std::thread::Threads;
 use storm_replay::storm;
 use stream_print::put_all;
 
 /// Writes the summary of a storm, once all its units have ended.
 #[tactic(auto, using(crate::proofs::Storms::storm_is_run, crate::proofs::Storms::writes_summary, crate::proofs::Storms::writes_some))]
-pub fn print_storm<O: Sink>(
+pub fn print_storm<R: Threads + Sync, O: Sink, G: Gate + Sync>(
+    rt: &R,
     alloc: Global,
     number: u64,
     units: u8,
     steps: u32,
+    workers: u8,
     out: &mut O,
+    gate: &G,
 ) -> Result<(), Failure>
-    requires { IsStorm units steps }
+    requires storm { IsStorm units steps }
+    requires workers { AreWorkers workers }
     ensures ends { StormEnds number units steps result (told O.written out.old out.new) }
     ensures unread { result ≢ Err Failure.Read }
     ensures write_cause { HasCause (O.faults out.old) (O.faults out.new) (result ≡ Err Failure.Write) }
 {
     let mut worlds = WorldList::make(alloc);
     let mut summary = Vec::new(alloc);
-    storm(alloc, number, units, steps, &mut worlds, &mut summary)?;
+    storm(
+        rt,
+        alloc,
+        number,
+        units,
+        steps,
+        workers,
+        gate,
+        &mut worlds,
+        &mut summary,
+    )?;
     put_all(out, &summary)?;
     Ok(())
 }

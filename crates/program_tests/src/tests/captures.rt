@@ -34,7 +34,7 @@ const FAULTY: &str = "block 1 unit 1 first 1 count 1; current 1\n\
     packets 1 used 1 faulty 1\n";
 
 // Words, a capture, and what is printed of it.
-const CAPTURES: [(&str, &[&[u8]], &str); 5] = [
+static CAPTURES: [(&str, &[&[u8]], &str); 5] = [
     ("follow --pcap", &[LITTLE, LITTLE_PACKET, FRAME], BOOK),
     ("follow --pcap", &[BIG, BIG_PACKET, FRAME], BOOK),
     ("follow --pcap", &[LITTLE, LITTLE_PACKET, LONGER], FAULTY),
@@ -47,7 +47,7 @@ const CAPTURES: [(&str, &[&[u8]], &str); 5] = [
 ];
 
 // A faulty capture, what is printed of it, and its fault.
-const FAULTS: [(&[&[u8]], &str, &str); 3] = [
+static FAULTS: [(&[&[u8]], &str, &str); 3] = [
     (
         &[],
         "",
@@ -68,15 +68,15 @@ const FAULTS: [(&[&[u8]], &str, &str); 3] = [
 #[test]
 fn each_capture_has_its_text_in_pieces_of_any_size(rt: HostRuntime) -> Result<(), Fail> {
     for piece in [1, 7, 65536] {
-        for (line, bytes, text) in CAPTURES {
-            let outcome = run(rt.alloc(), line, bytes, piece)?;
-            assert_eq!(rt; from_utf8(outcome.out.written())?, text, "by {piece}");
+        for (line, bytes, text) in &CAPTURES {
+            let outcome = run(&rt, rt.alloc(), line, bytes, piece)?;
+            assert_eq!(rt; from_utf8(outcome.out.written())?, *text, "by {piece}");
             assert!(rt; outcome.status == ExitStatus::Done, "by {piece}");
         }
-        for (bytes, text, fault) in FAULTS {
-            let outcome = run(rt.alloc(), "follow --pcap", bytes, piece)?;
-            assert_eq!(rt; from_utf8(outcome.err.written())?, fault, "by {piece}");
-            assert_eq!(rt; from_utf8(outcome.out.written())?, text, "by {piece}");
+        for (bytes, text, fault) in &FAULTS {
+            let outcome = run(&rt, rt.alloc(), "follow --pcap", bytes, piece)?;
+            assert_eq!(rt; from_utf8(outcome.err.written())?, *fault, "by {piece}");
+            assert_eq!(rt; from_utf8(outcome.out.written())?, *text, "by {piece}");
             assert!(rt; outcome.status == ExitStatus::BadInput, "by {piece}");
         }
     }

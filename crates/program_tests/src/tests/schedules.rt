@@ -414,35 +414,40 @@ const IMAGE_ALONE: (&[u8], &str) = (
     9 1 carried 67; current 1\n",
 );
 
-// Each has its text, however its bytes come.
+static SCHEDULES: [(&[u8], &str); 11] = [
+    OUT_OF_ORDER,
+    ON_BOTH_LINES,
+    REFUSED,
+    OVERFLOWED,
+    REPLY_LOST,
+    TOLD_OF_MORE,
+    IMAGE_AFTER_OVERFLOW,
+    IMAGE_CUT,
+    IMAGE_STALE,
+    ID_USED_AGAIN,
+    IMAGE_ALONE,
+];
+
+// Each has its text, however its bytes come, and with any number of workers.
 #[test]
 fn each_schedule_has_its_text(rt: HostRuntime) -> Result<(), Fail> {
-    let schedules = [
-        OUT_OF_ORDER,
-        ON_BOTH_LINES,
-        REFUSED,
-        OVERFLOWED,
-        REPLY_LOST,
-        TOLD_OF_MORE,
-        IMAGE_AFTER_OVERFLOW,
-        IMAGE_CUT,
-        IMAGE_STALE,
-        ID_USED_AGAIN,
-        IMAGE_ALONE,
-    ];
-    for piece in [7, 65536] {
-        for (schedule, text) in schedules {
-            let outcome = run(rt.alloc(), "replay", &[schedule], piece)?;
-            assert_eq!(rt; from_utf8(outcome.out.written())?, text, "by {piece}");
-            assert_eq!(rt; from_utf8(outcome.err.written())?, "", "by {piece}");
-            assert!(rt; outcome.status == ExitStatus::Done, "by {piece}");
+    for (line, piece) in [
+        ("replay", 7),
+        ("replay --workers 2", 65536),
+        ("replay --workers 7", 65536),
+    ] {
+        for (schedule, text) in &SCHEDULES {
+            let outcome = run(&rt, rt.alloc(), line, &[*schedule], piece)?;
+            assert_eq!(rt; from_utf8(outcome.out.written())?, *text, "{line}");
+            assert_eq!(rt; from_utf8(outcome.err.written())?, "", "{line}");
+            assert!(rt; outcome.status == ExitStatus::Done, "{line}");
         }
     }
     Ok(())
 }
 
 // Schedules with a fault, its place, and its cause.
-const FAULTY_SCHEDULES: [(&[u8], &str); 8] = [
+static FAULTY_SCHEDULES: [(&[u8], &str); 8] = [
     (
         b"1 add 1 X 100 IBM 10.00\n",
         "pitch: bad input at line 1 column 9: bad-word\n",
@@ -480,13 +485,19 @@ const FAULTY_SCHEDULES: [(&[u8], &str); 8] = [
 // Of a faulty schedule nothing is written.
 #[test]
 fn a_faulty_schedule_is_refused(rt: HostRuntime) -> Result<(), Fail> {
-    for (schedule, fault) in FAULTY_SCHEDULES {
-        let outcome = run(rt.alloc(), "replay", &[schedule], 65536)?;
-        assert_eq!(rt; from_utf8(outcome.err.written())?, fault);
+    for (schedule, fault) in &FAULTY_SCHEDULES {
+        let outcome = run(&rt, rt.alloc(), "replay", &[*schedule], 65536)?;
+        assert_eq!(rt; from_utf8(outcome.err.written())?, *fault);
         assert_eq!(rt; from_utf8(outcome.out.written())?, "");
         assert!(rt; outcome.status == ExitStatus::BadInput);
     }
-    let outcome = run(rt.alloc(), "replay --workers 2", &[b"1 tick\n"], 65536)?;
+    let outcome = run(
+        &rt,
+        rt.alloc(),
+        "replay --workers 65",
+        &[b"1 tick\n"],
+        65536,
+    )?;
     assert!(rt; outcome.status == ExitStatus::Usage);
     Ok(())
 }

@@ -11,7 +11,7 @@ use Rattle.pitch_model.proofs.Results.{on_ok_map}
 use Rattle.schedule_replay.proofs.running.run_line.Goals as goal
 
 pub returns-clause-places : goal.returns-clause-places
-returns-clause-places c =
+returns-clause-places g c =
     let e : ScheduleEntry = c.args.entry.now in
     let places : List (Option World) = c.args.places.now.items in
     let within : e.unit < 65 = omega (arith, c.requires.given.in_range.1) in
@@ -24,7 +24,7 @@ returns-clause-places c =
     (places_more places e before c.run_in.new.place within are (world before (are.each e.unit c.index_mut.result.now at))))
 
 pub returns-clause-text : goal.returns-clause-text
-returns-clause-text c =
+returns-clause-text g c =
     let e : ScheduleEntry = c.args.entry.now in
     let places : List (Option World) = c.args.places.now.items in
     let at : slice_get places e.unit ≡ Some c.index_mut.result.now =

@@ -2,10 +2,10 @@ use Rattle.std.proofs.Common.{◌≡◌, ◌++◌, List, ap, ◌∙◌, reverse}
 use Rattle.world_model.specs.declared.world.World.{World}
 use Rattle.schedule_replay.specs.Worlds.{AddsWorlds, worlds_in}
 use Rattle.schedule_replay.proofs.Places.{all_worlds_are}
-use Rattle.schedule_replay.proofs.running.replay_lines.Goals as goal
+use Rattle.schedule_replay.proofs.running.replay_together.Goals as goal
 
 pub returns-clause-worlds : goal.returns-clause-worlds
-returns-clause-worlds c =
+returns-clause-worlds g c =
     let old : List World = c.args.worlds.now.items in
     let new : List World = c.append.new.self.items in
     let runs = c.in_ok-run_text.ensures.runs in

@@ -1,0 +1,15 @@
+use Rattle.std.proofs.Common.{List, sym, subst}
+use Rattle.std.specs.List.{AllByRecursion}
+use Rattle.schedule_replay.specs.Runs.{Ran}
+use Rattle.schedule_replay.specs.Stretches.{parts_of}
+use Rattle.schedule_replay.specs.declared.units.Run.{Run}
+use Rattle.schedule_replay.proofs.Parting.{all_more}
+use Rattle.schedule_replay.proofs.units.run_piece.Goals as goal
+
+pub units-init : goal.units-init
+units-init g c = subst (AllByRecursion (Ran (parts_of 1 c.args.stretches.now c.args.text.now))) (sym c.new-runs.ensures.items) tt
+
+pub units-preserved : goal.units-preserved
+units-preserved g c =
+    subst (AllByRecursion (Ran (parts_of 1 c.args.stretches.now c.args.text.now))) (sym c.in_ok-push.ensures.items)
+    (all_more (Ran (parts_of 1 c.args.stretches.now c.args.text.now)) c.units.runs.items _ c.units.invariant c.in_ok-run.ensures)

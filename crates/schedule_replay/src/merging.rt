@@ -1,0 +1,162 @@
+//! What units wrote, put together again in the order of the text.
+
+ghost use Rattle.std.specs.Prelude.{◌≡◌, ◌<◌, ◌++◌, ℕ, List, [], drop, length, take, OnOk, IfOk, IfSome, IsTrue, slice_get};
+ghost use Rattle.std.specs.List.{list_all, AllByRecursion};
+ghost use Rattle.schedule_replay.specs.Apart.{first_piece};
+ghost use Rattle.schedule_replay.specs.Runs.{joined, left_pieces, pieces_at, has_world, AreRunsAt, Ran};
+ghost use Rattle.schedule_replay.specs.Stretches.{Part};
+ghost use Rattle.schedule_replay.specs.Worlds.{ArePlaces};
+
+use crate::stretches::Stretch;
+use crate::units::{Run, Unrun};
+use pitch_fields::OutOfMemory;
+use std::alloc::Global;
+use world_model::World;
+
+/// What is left of a unit's texts, which stand end to end: the number and the place of the next.
+#[derive(Drop)]
+pub(crate) struct Left {
+    pub text: Vec<u8>,
+    pub lengths: Vec<usize>,
+    pub next: usize,
+    pub at: usize,
+}
+
+// Puts a run at the place of its unit.
+fn put_run(places: &mut Vec<Option<World>>, lefts: &mut Vec<Left>, run: Run)
+    ensures { (parts : List Part) → AreRunsAt parts places.old.items lefts.old.items → Ran parts run
+        → AreRunsAt parts places.new.items lefts.new.items }
+{
+    let Run {
+        unit,
+        world,
+        text,
+        lengths,
+    } = run;
+    let place = usize::from(unit);
+    if place < places.len() && place < lefts.len() {
+        places[place] = world;
+        lefts[place] = Left {
+            text,
+            lengths,
+            next: 0,
+            at: 0,
+        };
+    }
+}
+
+// Puts the runs of a piece at the places of their units.
+fn put_piece(places: &mut Vec<Option<World>>, lefts: &mut Vec<Left>, mut runs: Vec<Run>)
+    ensures { (parts : List Part) → AreRunsAt parts places.old.items lefts.old.items → AllByRecursion (Ran parts) runs.items
+        → AreRunsAt parts places.new.items lefts.new.items }
+{
+    'turns: while let Some(run) = runs.pop() {
+        put_run(places, lefts, run);
+    }
+}
+
+/// Puts the runs of all pieces at the places of their units.
+pub(crate) fn put_pieces(
+    places: &mut Vec<Option<World>>,
+    lefts: &mut Vec<Left>,
+    mut pieces: Vec<Result<Vec<Run>, Unrun>>,
+) -> Result<(), Unrun>
+    ensures { OnOk result ((parts : List Part) → AreRunsAt parts places.old.items lefts.old.items
+        → ((n : ℕ) → IfSome (slice_get pieces.items n) (λ piece. IfOk piece (λ runs. AllByRecursion (Ran parts) runs.items)))
+        → AreRunsAt parts places.new.items lefts.new.items) }
+{
+    'turns: while let Some(piece) = pieces.pop() {
+        match piece {
+            Ok(runs) => put_piece(places, lefts, runs),
+            Err(why) => return Err(why),
+        }
+    }
+    Ok(())
+}
+
+/// Nothing is left of any unit.
+pub(crate) fn no_lefts(alloc: Global, many: usize) -> Result<Vec<Left>, OutOfMemory>
+    ensures { IfOk result (λ lefts. length lefts.items ≡ many) }
+{
+    let mut lefts = Vec::with_capacity(alloc, many)?;
+    'lefts: for _ in 0..many {
+        lefts.push(Left {
+            text: Vec::new(alloc),
+            lengths: Vec::new(alloc),
+            next: 0,
+            at: 0,
+        })?;
+    }
+    Ok(lefts)
+}
+
+// Whether a world stands at a unit's place.
+fn is_filled(places: &[Option<World>], unit: u8) -> bool
+    ensures { result ≡ has_world places.now unit }
+{
+    match places.get(usize::from(unit)) {
+        Some(Some(_)) => true,
+        Some(None) => false,
+        None => false,
+    }
+}
+
+/// Whether a world stands at the place of each stretch's unit.
+pub(crate) fn are_filled(stretches: &[Stretch], places: &[Option<World>]) -> bool
+    ensures { result ≡ list_all (λ s. has_world places.now s.unit) stretches.now }
+{
+    stretches.iter().all(|s| is_filled(places, s.unit))
+}
+
+// Takes the memory for all texts at once.
+fn reserve_all(lefts: &[Left], out: &mut Vec<u8>) -> Result<(), Unrun>
+    ensures { out.new.items ≡ out.old.items }
+{
+    let mut size = 0usize;
+    for left in lefts {
+        size = size.saturating_add(left.text.len());
+    }
+    out.reserve(size)?;
+    Ok(())
+}
+
+// Appends the next text. After an error the text is as before.
+fn take_piece(left: &mut Left, out: &mut Vec<u8>) -> Result<(), Unrun>
+    ensures text { OnOk result (out.new.items ≡ out.old.items ++ first_piece (left_pieces left.old)) }
+    ensures left { OnOk result (left_pieces left.new ≡ drop 1 (left_pieces left.old)) }
+    ensures behind { take (length out.old.items) out.new.items ≡ out.old.items }
+{
+    let next = left.next;
+    let at = left.at;
+    if next >= left.lengths.len() || at > left.text.len() {
+        return Err(Unrun::NotApart);
+    }
+    let size = left.lengths[next];
+    if size > left.text.len() - at {
+        return Err(Unrun::NotApart);
+    }
+    out.extend_from_slice(&left.text[at..at + size])?;
+    left.next = next + 1;
+    left.at = at + size;
+    Ok(())
+}
+
+/// Appends at each stretch the next text of its unit. After an error some may have been appended.
+pub(crate) fn merge(
+    stretches: &[Stretch],
+    lefts: &mut Vec<Left>,
+    out: &mut Vec<u8>,
+) -> Result<(), Unrun>
+    ensures text { OnOk result (out.new.items ≡ out.old.items ++ joined (pieces_at lefts.old.items) stretches.now) }
+    ensures behind { take (length out.old.items) out.new.items ≡ out.old.items }
+{
+    reserve_all(lefts, out)?;
+    'stretches: for stretch in stretches {
+        let unit = usize::from(stretch.unit);
+        if unit >= lefts.len() {
+            return Err(Unrun::NotApart);
+        }
+        take_piece(&mut lefts[unit], out)?;
+    }
+    Ok(())
+}
