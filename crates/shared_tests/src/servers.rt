@@ -1,0 +1,264 @@
+//! A server asked in the thread of its writer.
+ghost use Rattle.std.specs.Prelude.{◌≡◌, ◌<◌, ◌≤◌, [], false, length, OnOk};
+
+use gap_store::{Found, GapLookup};
+use pitch_fields::OutOfMemory;
+use pitch_messages::RawList;
+use shared_unit::{LeftRightPlaces, MakeError, Naming, Opened, Places, Run, Server, Writer, make};
+use spin_server::{ImageLookup, Imaged};
+use std::alloc::Global;
+use std::marker::Brand;
+use std::process::Abort;
+use std::sync::Wait;
+use std::test::*;
+use unit_packets::DatagramList;
+use venue_core::{VenueError, plan_command};
+
+// The plan's first message: the second of the day.
+const FIRST: &[u8] = b"\x06\x20\x98\x85\0\0";
+
+// Lets a new writer accept the first commands of the plan.
+pub(crate) fn accept_plan<J: Naming, R: Run, W: Wait + Drop>(
+    writer: &mut Writer<J, R, W>,
+    count: u32,
+) -> Result<(), VenueError>
+    requires free { R.fixed ≡ false }
+    requires new { writer.old ≡ [] }
+    ensures { OnOk result (length writer.new ≡ count) }
+{
+    'commands: for index in 0..count {
+        writer.accept(&plan_command(0, 1, index + 1))?;
+    }
+    Ok(())
+}
+
+// Whether a server that was told nothing answers that message 1 is kept, and with it, or that none
+// came yet.
+pub(crate) fn answers_first<J: Naming, R: Run>(alloc: Global, server: &mut Server<J, R>) -> bool {
+    let mut out = RawList::make(alloc);
+    match server.gap(1, 1, &mut out) {
+        Ok(Found::Kept) => out.get(0) == Some(FIRST),
+        Ok(Found::Ahead { last: 0 }) => out.len() == 0,
+        _ => false,
+    }
+}
+
+#[test]
+fn one_server_answers(rt: HostRuntime) -> Result<(), Fail> {
+    start_one::<Brand, _>(&rt)
+}
+
+// Picks the run, which fixes nothing.
+fn start_one<R: Run, W: Wait + Abort + AllocGlobal>(rt: &W) -> Result<(), Fail>
+    requires free { R.fixed ≡ false }
+{
+    let opened: Opened<R> = Opened::make(rt.alloc(), 1, 4096, 1)?;
+    ask_one::<Brand, R, W>(rt, opened)
+}
+
+fn ask_one<J: Naming, R: Run, W: Wait + Abort + AllocGlobal>(
+    rt: &W,
+    opened: Opened<R>,
+) -> Result<(), Fail>
+    requires book { opened.seen.book ≡ J.book }
+    requires kept { opened.kept ≡ J.kept }
+    requires free { R.fixed ≡ false }
+{
+    let mut places = LeftRightPlaces::make();
+    let (mut writer, mut servers) = make::<J, R, &W, LeftRightPlaces>(
+        rt.alloc(),
+        rt,
+        opened,
+        &mut places,
+    )?;
+    let mut server = servers.pop().ok_or("a server")?;
+    let full = places.place(&mut writer).err() == Some(MakeError::NoPlace);
+    let right = hundred_is_right(rt.alloc(), &mut writer, &mut server)?;
+    writer.close();
+    // servers go on
+    let goes_on = hands_out(rt.alloc(), &mut server, 1, FIRST)?;
+    assert_eq!(rt; (full, right, goes_on), (true, true, true));
+    Ok(())
+}
+
+// What a server answers of 100 commands, and of their image.
+fn hundred_is_right<J: Naming, R: Run, H: Wait + Drop>(
+    alloc: Global,
+    writer: &mut Writer<J, R, H>,
+    server: &mut Server<J, R>,
+) -> Result<bool, VenueError>
+    requires free { R.fixed ≡ false }
+    requires new { writer.old ≡ [] }
+{
+    accept_plan(writer, 100)?;
+    let heard = hears(writer, server, 100);
+    let gaps = gaps_are_right(alloc, writer, server)?;
+    let advertised = advertises_twice(writer)?;
+    let told = hears(writer, server, 102);
+    let images = images_are_right(alloc, server)?;
+    Ok(heard && gaps && advertised && told && images && writer.covers(server))
+}
+
+// Whether a server has seen so many operations once it was told of all.
+pub(crate) fn hears<J: Naming, R: Run, H: Wait + Drop>(
+    writer: &mut Writer<J, R, H>,
+    server: &mut Server<J, R>,
+    count: u64,
+) -> bool
+    ensures { writer.new ≡ writer.old }
+{
+    server.hear_told(writer.tell());
+    server.seen() == count
+}
+
+// Whether a server hands out this message.
+fn hands_out<J: Naming, R: Run>(
+    alloc: Global,
+    server: &mut Server<J, R>,
+    sequence: u32,
+    raw: &[u8],
+) -> Result<bool, OutOfMemory>
+    requires { 1 ≤ sequence }
+{
+    let mut out = RawList::make(alloc);
+    let found = server.gap(sequence, 1, &mut out)?;
+    Ok(found == Found::Kept && out.get(0) == Some(raw))
+}
+
+// Whether there are so many messages, and no more.
+fn has_all<J: Naming, R: Run>(
+    alloc: Global,
+    server: &mut Server<J, R>,
+    last: u32,
+) -> Result<bool, OutOfMemory>
+    requires { last < 65536 }
+{
+    let mut out = RawList::make(alloc);
+    let found = server.gap(last + 1, 1, &mut out)?;
+    Ok(found == Found::Ahead { last })
+}
+
+// Whether the first messages are kept, when a proxy looks for them.
+pub(crate) fn finds<J: Naming, R: Run>(
+    server: &mut Server<J, R>,
+    count: u16,
+) -> Result<bool, OutOfMemory>
+    requires { 1 ≤ count }
+{
+    Ok(server.find(1, count)? == Found::Kept)
+}
+
+// Whether a proxy gets the first message, alone and packed.
+fn serves_a_proxy<J: Naming, R: Run>(
+    alloc: Global,
+    server: &mut Server<J, R>,
+) -> Result<bool, OutOfMemory> {
+    let mut out = RawList::make(alloc);
+    let looked = server.look(1, 1, &mut out)?;
+    let mut lines = DatagramList::make(alloc);
+    let packed = server.pack(alloc, 1, 1, 1, &mut lines)?;
+    Ok((looked, packed, out.get(0), lines.len()) == (Found::Kept, Found::Kept, Some(FIRST), 1))
+}
+
+// The messages of 100 commands, by each of the look-ups.
+fn gaps_are_right<J: Naming, R: Run, H: Wait + Drop>(
+    alloc: Global,
+    writer: &Writer<J, R, H>,
+    server: &mut Server<J, R>,
+) -> Result<bool, OutOfMemory> {
+    let last = match writer.last_raw() {
+        Some(raw) => hands_out(alloc, server, 100, raw.bytes())?,
+        None => false,
+    };
+    let all = has_all(alloc, server, 100)?;
+    let found = finds(server, 100)?;
+    let served = serves_a_proxy(alloc, server)?;
+    Ok(last && all && found && served && server.available().is_none())
+}
+
+// Advertises the image of 100 messages, and again.
+fn advertises_twice<J: Naming, R: Run, H: Wait + Drop>(
+    writer: &mut Writer<J, R, H>,
+) -> Result<bool, OutOfMemory>
+    requires { length writer.old ≡ 100 }
+{
+    Ok((writer.advertise()?, writer.advertise()?) == (100, 100))
+}
+
+// Whether the image of the first 100 messages, a second and 32 orders, is there, and no other.
+fn images_are_right<J: Naming, R: Run>(
+    alloc: Global,
+    server: &mut Server<J, R>,
+) -> Result<bool, OutOfMemory> {
+    let mut out = RawList::make(alloc);
+    let whole = Server::image(server, 100, &mut out)?;
+    let other = Server::image(server, 99, &mut out)?;
+    let right = (whole, other) == (Imaged::Image { orders: 32 }, Imaged::NotAdvertised);
+    Ok(right && out.len() == 33 && serves_a_spin(server))
+}
+
+// Whether a Spin Server finds the image of the first 100 messages alone.
+fn serves_a_spin<J: Naming, R: Run>(server: &mut Server<J, R>) -> bool {
+    let newest = (server.available(), server.newest());
+    let there = (server.has_image(100), server.has_image(99));
+    (newest, there) == ((Some(100), Some(100)), (true, false))
+}
+
+#[test]
+fn two_servers_answer(rt: HostRuntime) -> Result<(), Fail> {
+    start_two::<Brand, _>(&rt)
+}
+
+// Picks the run, which fixes nothing.
+fn start_two<R: Run, W: Wait + Abort + AllocGlobal>(rt: &W) -> Result<(), Fail>
+    requires free { R.fixed ≡ false }
+{
+    let opened: Opened<R> = Opened::make(rt.alloc(), 1, 4096, 2)?;
+    ask_two::<Brand, R, W>(rt, opened)
+}
+
+fn ask_two<J: Naming, R: Run, W: Wait + Abort + AllocGlobal>(
+    rt: &W,
+    opened: Opened<R>,
+) -> Result<(), Fail>
+    requires book { opened.seen.book ≡ J.book }
+    requires kept { opened.kept ≡ J.kept }
+    requires free { R.fixed ≡ false }
+{
+    let mut places = LeftRightPlaces::make();
+    let (mut writer, mut servers) = make::<J, R, &W, LeftRightPlaces>(
+        rt.alloc(),
+        rt,
+        opened,
+        &mut places,
+    )?;
+    let mut one = servers.pop().ok_or("a server")?;
+    let right = three_are_right(rt.alloc(), &mut writer, &mut one, servers.pop())?;
+    // a writer that is not closed takes the copies along
+    drop(writer);
+    let gone = hands_out(rt.alloc(), &mut one, 1, FIRST).is_err();
+    assert_eq!(rt; (right, gone, one.available()), (true, true, None));
+    Ok(())
+}
+
+// What two servers answer of three commands, told of them or not.
+fn three_are_right<J: Naming, R: Run, H: Wait + Drop>(
+    alloc: Global,
+    writer: &mut Writer<J, R, H>,
+    one: &mut Server<J, R>,
+    other: Option<Server<J, R>>,
+) -> Result<bool, VenueError>
+    requires free { R.fixed ≡ false }
+    requires new { writer.old ≡ [] }
+{
+    let Some(mut two) = other else {
+        return Ok(false);
+    };
+    accept_plan(writer, 3)?;
+    let first = answers_first(alloc, one) && answers_first(alloc, &mut two);
+    // no clause says so, but what is published is seen by who was told nothing
+    let seen = (one.seen(), two.seen()) == (3, 3);
+    let heard = hears(writer, one, 3);
+    let kept = hands_out(alloc, one, 1, FIRST)?;
+    Ok(first && seen && heard && kept)
+}

@@ -1,0 +1,5 @@
+pub mod Answers
+pub mod Coding
+pub mod Histories
+pub mod Rules
+pub mod Stored

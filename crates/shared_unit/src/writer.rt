@@ -1,0 +1,204 @@
+//! The writer, and what it tells.
+ghost use Rattle.std.specs.Prelude.{◌≡◌, ◌+◌, ◌<◌, ◌^◌, [], length, Some, IfOk, MatchBool, MatchResult};
+ghost use mathlib.Core.List.{IsPrefix};
+ghost use Rattle.std.specs.Option.{option_copied};
+ghost use Rattle.pitch_model.specs.Advertising.{Accept, Advertise, accepted_by};
+ghost use Rattle.venue_core.specs.Commands.{raw_of};
+ghost use Rattle.venue_core.specs.Refusals.{refusal, IsAnswer};
+ghost use Rattle.pitch_model.specs.History.{adds};
+ghost use Rattle.pitch_model.specs.Image.{image_of};
+ghost use Rattle.venue_core.specs.Stands.{last_of};
+ghost use Rattle.shared_unit.specs.Histories.{IsLegal, then_done};
+ghost use Rattle.shared_unit.specs.Stored.{Follows, operation_of, raws_in};
+
+use crate::desk::Desk;
+use crate::past::Past;
+use crate::published::{Picture, What};
+use crate::run::{Naming, Run};
+use crate::server::Server;
+use order_book::UnitBook;
+use pitch_fields::OutOfMemory;
+use pitch_messages::{Raw, RawList};
+use pitch_text::Command;
+use spin_server::image_of;
+use std::alloc::Global;
+use std::marker::Model;
+use std::sync::{Arc, Wait};
+use venue_core::{Venue, VenueError};
+
+/// A history that was told. Contracts see it. It may go to another thread.
+#[derive(Drop)]
+pub struct Told<J: Naming, R: Run> {
+    pub(crate) past: Past<J, R>,
+}
+
+impl<J: Naming, R: Run> Model for Told<J, R> {
+    ghost use Rattle.std.specs.Prelude.{List};
+    ghost use Rattle.pitch_model.specs.Advertising.{Operation};
+    ghost use Rattle.shared_unit.specs.Coding.{history_code};
+
+    ghost Value = { List Operation };
+
+    ghost coded = { history_code };
+
+    ghost view = { λ t. t.past };
+}
+
+/// The one who writes: it accepts the commands of a unit and advertises its images. Contracts see
+/// the history of what it did.
+///
+/// A call may wait until a server has left what it looks at. Once the writer was let go without
+/// [`Writer::close`], its servers are out of memory for each look-up.
+#[derive(Drop)]
+pub struct Writer<J: Naming, R: Run, W: Wait + Drop> {
+    alloc: Global,
+    desk: Desk<J, R, W>,
+    venue: Venue,
+}
+
+impl<J: Naming, R: Run, W: Wait + Drop> Model for Writer<J, R, W> {
+    ghost use Rattle.std.specs.Prelude.{List};
+    ghost use Rattle.pitch_model.specs.Advertising.{Operation, accepted_by};
+    ghost use Rattle.venue_core.specs.Stands.{Stands};
+    ghost use Rattle.shared_unit.specs.Coding.{history_code};
+
+    ghost Value = { List Operation };
+
+    ghost coded = { history_code };
+
+    ghost view = { λ w. w.desk };
+
+    ghost invariant = { λ w. Stands w.venue (accepted_by w.desk) 0 };
+}
+
+// The image of a book, under this sequence.
+fn picture_of(alloc: Global, book: &UnitBook, sequence: u32) -> Result<Picture, OutOfMemory>
+    ensures sequence { IfOk result (λ picture. picture.sequence ≡ sequence) }
+    ensures orders { IfOk result (λ picture. picture.orders ≡ adds (image_of book.now.book)) }
+    ensures raws { IfOk result (λ picture. raws_in picture ≡ Some (image_of book.now.book)) }
+{
+    let mut raws = RawList::make(alloc);
+    let orders = image_of(alloc, book, &mut raws)?;
+    let shared = Arc::new(alloc, raws)?;
+    Ok(Picture {
+        sequence,
+        orders,
+        raws: Some(shared),
+    })
+}
+
+impl<J: Naming, R: Run, W: Wait + Drop> Writer<J, R, W> {
+    pub(crate) fn new(alloc: Global, desk: Desk<J, R, W>, unit: u8) -> Writer<J, R, W>
+        requires { desk ≡ [] }
+        ensures { result ≡ [] }
+    {
+        Writer {
+            alloc,
+            desk,
+            venue: Venue::make(alloc, unit),
+        }
+    }
+
+    // One more server, which has seen nothing.
+    pub(crate) fn place(&self) -> Result<Server<J, R>, OutOfMemory>
+        ensures { IfOk result (λ server. server ≡ []) }
+    {
+        Ok(Server::new(self.desk.place()?, self.desk.none()))
+    }
+
+    // How many messages were accepted.
+    fn accepted(&self) -> u32
+        ensures { result ≡ length (accepted_by self.now) }
+    {
+        self.venue.next_sequence() - 1
+    }
+
+    // What an advertising publishes.
+    fn advertised(&self) -> Result<What, OutOfMemory>
+        ensures follows { IfOk result (λ what. Follows what self.now) }
+        ensures operation { IfOk result (λ what. operation_of what ≡ Advertise) }
+    {
+        let sequence = self.accepted();
+        if self.desk.past().has_newest(sequence) {
+            return Ok(What::Again);
+        }
+        let picture = picture_of(self.alloc, self.venue.book(), sequence)?;
+        Ok(What::Image(picture))
+    }
+
+    /// Accepts a command, as [`Venue::accept`], and publishes its message. The history is as before
+    /// after a refusal.
+    ///
+    /// Once it was out of memory here, each later call may be. The history has fewer than 2^63
+    /// operations; where the run fixes its messages, the command's is the next of them.
+    pub fn accept(&mut self, command: &Command) -> Result<u32, VenueError>
+        requires few { length self.old < 2 ^ 63 }
+        requires run { IsLegal R.fixed R.plan (then_done self.old (Accept (raw_of command.now))) }
+        // The first refusal that holds after all messages of the history, or the next sequence.
+        ensures answer { IsAnswer (refusal (accepted_by self.old) command.now) (length (accepted_by self.old) + 1) result }
+        // Just this operation is added to the history, where it is Ok.
+        ensures history { MatchResult result (λ _. self.new ≡ then_done self.old (Accept (raw_of command.now))) (λ _. self.new ≡ self.old) }
+    {
+        let raw = match self.venue.prepare(command) {
+            Ok(raw) => raw,
+            Err(error) => return Err(error),
+        };
+        match self.desk.publish(What::Message(raw)) {
+            Ok(()) => Ok(self.venue.take_ready()),
+            Err(OutOfMemory) => Err(VenueError::OutOfMemory),
+        }
+    }
+
+    /// Advertises the image of all messages, answers its sequence, which is their number, and
+    /// publishes it. A repeat is an operation too. The history is as before after OutOfMemory.
+    ///
+    /// The history has fewer than 2^63 operations.
+    pub fn advertise(&mut self) -> Result<u32, OutOfMemory>
+        requires few { length self.old < 2 ^ 63 }
+        ensures sequence { IfOk result (λ sequence. sequence ≡ length (accepted_by self.old)) }
+        // Just this operation is added to the history, where it is Ok.
+        ensures history { MatchResult result (λ _. self.new ≡ then_done self.old Advertise) (λ _. self.new ≡ self.old) }
+    {
+        // What was done is legal, and advertising accepts nothing.
+        let _done = self.desk.past().len();
+        let sequence = self.accepted();
+        let what = self.advertised()?;
+        self.desk.publish(what)?;
+        Ok(sequence)
+    }
+
+    /// The message that was last accepted, or None exactly where none was.
+    pub fn last_raw(&self) -> Option<&Raw>
+        ensures { option_copied result ≡ last_of (accepted_by self.now) }
+    {
+        self.venue.last_raw()
+    }
+
+    /// What stands for the history so far.
+    pub fn tell(&mut self) -> Told<J, R>
+        ensures told { result ≡ self.old }
+        ensures same { self.new ≡ self.old }
+    {
+        Told {
+            past: self.desk.past().again(),
+        }
+    }
+
+    /// Whether what a server has seen begins this history. It always does; but that nobody else
+    /// writes is not a clause, so who rests on it asks.
+    pub fn covers(&self, server: &Server<J, R>) -> bool
+        ensures { MatchBool result (IsPrefix server.now self.now) (IsPrefix self.now server.now × (length self.now < length server.now)) }
+    {
+        self.desk.past().covers(&server.past)
+    }
+
+    /// Ends writing. Servers go on answering.
+    pub fn close(self) {
+        let Self {
+            alloc: _,
+            desk,
+            venue: _,
+        } = self;
+        desk.keep();
+    }
+}
