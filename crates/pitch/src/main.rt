@@ -1,6 +1,7 @@
 //! The program `pitch`.
 #![tactic(auto)]
 
+use loopback_net::StdNet;
 use pitch_io::{FreeGate, StdSink, StdSource};
 use pitch_tool::{ExitStatus, pitch, say_out_of_memory};
 use std::env;
@@ -26,6 +27,7 @@ fn main(rt: HostRuntime) -> ExitCode {
     let mut input = StdSource::make(rt.stdin());
     let mut out = StdSink::make(rt.stdout());
     let mut err = StdSink::make(rt.stderr());
+    let mut net = StdNet::make(&rt);
     let Ok(words) = words_of(&rt) else {
         say_out_of_memory(&mut err);
         return ExitCode::from(ExitStatus::OutOfMemory.number());
@@ -37,6 +39,7 @@ fn main(rt: HostRuntime) -> ExitCode {
         &mut input,
         &mut out,
         &mut err,
+        &mut net,
         &FreeGate,
     );
     ExitCode::from(status.number())

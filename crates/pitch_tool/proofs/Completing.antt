@@ -7,7 +7,7 @@ use Rattle.pitch_words.specs.Forms.{IsForm}
 use Rattle.pitch_words.specs.declared.form.Form.{Form}
 use Rattle.pitch_words.proofs.Exact.{at_most_one}
 use Rattle.stream_print.specs.Inputs.{Has, AreAll, stream_limit, trouble_of}
-use Rattle.pitch_tool.specs.Devices.{Run, HasFaulted}
+use Rattle.pitch_tool.specs.Devices.{Run, Wires, HasFaulted, HasNetFaulted}
 use Rattle.pitch_tool.specs.Jobs.{job_of, JobEnds, Judges, blocks_trouble}
 use Rattle.pitch_tool.specs.Program.{Closes, HasCauses, IsNoForm, IsWhole, IsRefusal}
 use Rattle.pitch_tool.specs.TextForms.{text_limit, text_trouble, made}
@@ -15,9 +15,9 @@ use Rattle.pitch_tool.specs.declared.failure.Failure.TheVariants as ending
 use Rattle.pitch_tool.specs.declared.failure.Trouble.{Trouble}
 use Rattle.pitch_tool.specs.declared.failure.Trouble.TheVariants.{Blocks, LongText, Commands, Schedule}
 use Rattle.pitch_tool.specs.declared.job.Job.{Job}
-use Rattle.pitch_tool.specs.declared.job.Job.TheVariants.{Stream, Text, Storm}
+use Rattle.pitch_tool.specs.declared.job.Job.TheVariants.{Stream, Text, Storm, Drill, Demo}
 use Rattle.pitch_tool.specs.declared.status.ExitStatus.{ExitStatus}
-use Rattle.pitch_tool.specs.declared.status.ExitStatus.TheVariants.{Done, Usage, BadInput, ReadFault, WriteFault, OutOfMemory}
+use Rattle.pitch_tool.specs.declared.status.ExitStatus.TheVariants.{Done, Usage, BadInput, ReadFault, WriteFault, OutOfMemory, NetFault}
 use Rattle.stream_print.specs.Told.{Told}
 
 -- what a source told is what it has, and what was read whole
@@ -34,35 +34,40 @@ clash o trouble none some = no (sym none ∙ some)
     no e = cc
 
 -- ---- A sound input is not refused
-not_refused : (job : Job) (trouble : Trouble) (input out : Told) → Judges job input.old None → JobEnds job (Err (ending.BadInput trouble)) input out → ⊥
-not_refused (Stream carrier form) (Blocks trouble) input out sound r =
+not_refused : (job : Job) (trouble : Trouble) (input out : Told) (net : Wires) → Judges job input.old None → JobEnds job (Err (ending.BadInput trouble)) input out net → ⊥
+not_refused (Stream carrier form) (Blocks trouble) input out net sound r =
     clash (blocks_trouble (trouble_of carrier stream_limit r.bytes)) (Blocks trouble)
     (ap (λ (l : List ℕ). blocks_trouble (trouble_of carrier stream_limit l)) (same_bytes input.old sound.0 r.bytes sound.1 r.has) ∙ sound.2) (ap blocks_trouble r.trouble_is)
-not_refused (Stream carrier form) LongText input out sound r = r
-not_refused (Stream carrier form) (Commands error) input out sound r = r
-not_refused (Stream carrier form) (Schedule error) input out sound r = r
-not_refused (Storm number units steps workers) trouble input out sound r = r.1
-not_refused (Text form) trouble input out sound r =
+not_refused (Stream carrier form) LongText input out net sound r = r
+not_refused (Stream carrier form) (Commands error) input out net sound r = r
+not_refused (Stream carrier form) (Schedule error) input out net sound r = r
+not_refused (Storm number units steps workers) trouble input out net sound r = r.1
+not_refused (Drill number units count) trouble input out net sound r = r.1
+not_refused (Demo number count) trouble input out net sound r = r.1
+not_refused (Text form) trouble input out net sound r =
     clash (text_trouble form text_limit r.text) trouble (ap (text_trouble form text_limit) (same_bytes input.old sound.0 r.text sound.1 r.has) ∙ sound.2) r.trouble_is
 
 pub closes_whole : (words : List (List ℕ)) (status : ExitStatus) (run : Run) (form : Form) → Closes words status run → HasCauses status run → IsForm words form → Judges (job_of form) run.input.bytes.old None
-    → HasFaulted run.input ⊎ (HasFaulted run.out ⊎ IsWhole status)
-closes_whole words Done run form closes causes is sound = inr (inr (inl refl))
-closes_whole words OutOfMemory run form closes causes is sound = inr (inr (inr refl))
+    → HasFaulted run.input ⊎ (HasFaulted run.out ⊎ (HasNetFaulted run.net ⊎ IsWhole status))
+closes_whole words Done run form closes causes is sound = inr (inr (inr (inl refl)))
+closes_whole words OutOfMemory run form closes causes is sound = inr (inr (inr (inr refl)))
 closes_whole words ReadFault run form closes causes is sound = inl (causes.read.rose refl)
 closes_whole words WriteFault run form closes causes is sound = inr (inl (causes.write.rose refl))
+closes_whole words NetFault run form closes causes is sound = inr (inr (inl (causes.net.rose refl)))
 closes_whole words Usage run form closes causes is sound = absurd (closes.0 form is)
 closes_whole words BadInput run form (trouble, does, said) causes is sound =
-    absurd (not_refused (job_of form) trouble run.input.bytes run.out.bytes sound
-    (subst (λ (f : Form). JobEnds (job_of f) (Err (ending.BadInput trouble)) run.input.bytes run.out.bytes) (at_most_one words does.0 form does.1 is) does.2))
+    absurd (not_refused (job_of form) trouble run.input.bytes run.out.bytes run.net sound
+    (subst (λ (f : Form). JobEnds (job_of f) (Err (ending.BadInput trouble)) run.input.bytes run.out.bytes run.net) (at_most_one words does.0 form does.1 is) does.2))
 
 -- ---- A faulty input is not done
-not_done : (job : Job) (trouble : Trouble) (input out : Told) → Judges job input.old (Some trouble) → JobEnds job (Ok tt) input out → ⊥
-not_done (Stream carrier form) trouble input out wrong r =
+not_done : (job : Job) (trouble : Trouble) (input out : Told) (net : Wires) → Judges job input.old (Some trouble) → JobEnds job (Ok tt) input out net → ⊥
+not_done (Stream carrier form) trouble input out net wrong r =
     clash (blocks_trouble (trouble_of carrier stream_limit r.bytes)) trouble (ap blocks_trouble r.sound)
     (ap (λ (l : List ℕ). blocks_trouble (trouble_of carrier stream_limit l)) (all_bytes input.old input.new wrong.0 r.bytes wrong.1 r.read) ∙ wrong.2)
-not_done (Storm number units steps workers) trouble input out wrong r = clash None trouble refl (sym wrong)
-not_done (Text form) trouble input out wrong r =
+not_done (Storm number units steps workers) trouble input out net wrong r = clash None trouble refl (sym wrong)
+not_done (Drill number units count) trouble input out net wrong r = clash None trouble refl (sym wrong)
+not_done (Demo number count) trouble input out net wrong r = clash None trouble refl (sym wrong)
+not_done (Text form) trouble input out net wrong r =
     let text : List ℕ = r.makes.text in
     let none : text_trouble form text_limit text ≡ None =
     ap (λ b. cond b (Some LongText) (result_err (made form text))) (le-ltb text_limit (length text) r.makes.small) ∙ ap result_err r.makes.made_is in
@@ -70,15 +75,16 @@ not_done (Text form) trouble input out wrong r =
     (ap (text_trouble form text_limit) (all_bytes input.old input.new wrong.0 text wrong.1 r.makes.read) ∙ wrong.2)
 
 pub closes_refused : (words : List (List ℕ)) (status : ExitStatus) (run : Run) (form : Form) (trouble : Trouble) → Closes words status run → HasCauses status run → IsForm words form
-    → Judges (job_of form) run.input.bytes.old (Some trouble) → HasFaulted run.input ⊎ (HasFaulted run.out ⊎ IsRefusal status)
-closes_refused words BadInput run form trouble closes causes is wrong = inr (inr (inl refl))
-closes_refused words OutOfMemory run form trouble closes causes is wrong = inr (inr (inr refl))
+    → Judges (job_of form) run.input.bytes.old (Some trouble) → HasFaulted run.input ⊎ (HasFaulted run.out ⊎ (HasNetFaulted run.net ⊎ IsRefusal status))
+closes_refused words BadInput run form trouble closes causes is wrong = inr (inr (inr (inl refl)))
+closes_refused words OutOfMemory run form trouble closes causes is wrong = inr (inr (inr (inr refl)))
 closes_refused words ReadFault run form trouble closes causes is wrong = inl (causes.read.rose refl)
 closes_refused words WriteFault run form trouble closes causes is wrong = inr (inl (causes.write.rose refl))
+closes_refused words NetFault run form trouble closes causes is wrong = inr (inr (inl (causes.net.rose refl)))
 closes_refused words Usage run form trouble closes causes is wrong = absurd (closes.0 form is)
 closes_refused words Done run form trouble (f, is_f, ends) causes is wrong =
-    absurd (not_done (job_of form) trouble run.input.bytes run.out.bytes wrong
-    (subst (λ (g : Form). JobEnds (job_of g) (Ok tt) run.input.bytes run.out.bytes) (at_most_one words f form is_f is) ends))
+    absurd (not_done (job_of form) trouble run.input.bytes run.out.bytes run.net wrong
+    (subst (λ (g : Form). JobEnds (job_of g) (Ok tt) run.input.bytes run.out.bytes run.net) (at_most_one words f form is_f is) ends))
 
 -- ---- Words that are no form
 pub closes_unknown : (words : List (List ℕ)) (status : ExitStatus) (run : Run) → Closes words status run → IsNoForm words → (status ≡ Usage) ⊎ (status ≡ OutOfMemory)
@@ -88,14 +94,18 @@ closes_unknown words Done run (form, is, ends) none = absurd (none form is)
 closes_unknown words BadInput run (trouble, does, said) none = absurd (none does.0 does.1)
 closes_unknown words ReadFault run (does, said) none = absurd (none does.0 does.1)
 closes_unknown words WriteFault run (does, said) none = absurd (none does.0 does.1)
+closes_unknown words NetFault run (does, said) none = absurd (none does.0 does.1)
 
 -- ---- Devices that never fail
 -- a count that stays 0 did not rise
-pub unless_both : {A : Type 0} → Rose 0 0 ⊎ (Rose 0 0 ⊎ A) → A
-unless_both either = elim either [
+pub unless_one : {A : Type 0} → Rose 0 0 ⊎ (Rose 0 0 ⊎ (Rose 0 0 ⊎ A)) → A
+unless_one either = elim either [
   | inl rose ↦ absurd (omega (arith, rose))
   | inr other ↦ elim other [
     | inl rose ↦ absurd (omega (arith, rose))
-    | inr a ↦ a
+    | inr third ↦ elim third [
+      | inl rose ↦ absurd (omega (arith, rose))
+      | inr a ↦ a
+    ]
   ]
 ]

@@ -1,5 +1,5 @@
 -- The job of a form, what is wrong with its input, and how it ends.
-use Rattle.std.specs.Prelude.{◌≡◌, ◌≤◌, ◌+◌, ℕ, List, Option, None, Some, Result, Ok, Err}
+use Rattle.std.specs.Prelude.{Bool, true, false, ◌≡◌, ◌≤◌, ◌+◌, ℕ, List, Option, None, Some, Result, Ok, Err}
 use Rattle.pitch_words.specs.declared.form.Form.{Form}
 use Rattle.pitch_words.specs.declared.form.Form.TheVariants as form
 use Rattle.stream_print.specs.Inputs.{stream_limit, trouble_of, StreamEnds}
@@ -10,6 +10,9 @@ use Rattle.stream_print.specs.declared.failure.StreamFailure.{StreamFailure}
 use Rattle.stream_print.specs.declared.failure.StreamFailure.TheVariants as stream
 use Rattle.stream_print.specs.declared.failure.StreamTrouble.{StreamTrouble}
 use Rattle.stream_print.specs.declared.stream_form.StreamForm.TheVariants.{Follow, Show}
+use Rattle.pitch_tool.specs.DemoForm.{CanShow, DemoEnds}
+use Rattle.pitch_tool.specs.Devices.{Wires}
+use Rattle.pitch_tool.specs.DrillForm.{IsDrill, DrillEnds}
 use Rattle.pitch_tool.specs.StormForm.{IsStorm, StormEnds}
 use Rattle.pitch_tool.specs.TextForms.{text_limit, text_trouble, AreWorkers, CanMake, TextEnds}
 use Rattle.pitch_tool.specs.declared.failure.Failure.{Failure}
@@ -17,7 +20,7 @@ use Rattle.pitch_tool.specs.declared.failure.Failure.TheVariants.{BadInput, Read
 use Rattle.pitch_tool.specs.declared.failure.Trouble.{Trouble}
 use Rattle.pitch_tool.specs.declared.failure.Trouble.TheVariants.{Blocks}
 use Rattle.pitch_tool.specs.declared.job.Job.{Job}
-use Rattle.pitch_tool.specs.declared.job.Job.TheVariants.{Stream, Text, Storm}
+use Rattle.pitch_tool.specs.declared.job.Job.TheVariants.{Stream, Text, Storm, Drill, Demo}
 use Rattle.pitch_tool.specs.declared.job.TextForm.TheVariants.{Pack, Replay}
 
 -- the job of a form
@@ -28,18 +31,24 @@ job_of form.Show = Stream Bare Show
 job_of (form.Pack unit) = Text (Pack unit)
 job_of (form.Replay workers) = Text (Replay workers)
 job_of (form.Storm number units steps workers) = Storm number units steps workers
+job_of (form.Drill number units count) = Drill number units count
+job_of (form.Demo number count) = Demo number count
 
 -- the numbers of a job lie in their ranges
 abbrev pub CanDo : Job → Type 0
 CanDo (Stream carrier form) = CanHold form
 CanDo (Text form) = CanMake form
 CanDo (Storm number units steps workers) = IsStorm units steps × AreWorkers workers
+CanDo (Drill number units count) = IsDrill units count
+CanDo (Demo number count) = CanShow count
 
 -- how many bytes of the source a job takes at most: one more than it reads
 abbrev pub most_taken : Job → ℕ
 most_taken (Stream carrier form) = stream_limit + 1
 most_taken (Text form) = text_limit + 1
 most_taken (Storm number units steps workers) = 0
+most_taken (Drill number units count) = 0
+most_taken (Demo number count) = 0
 
 -- what is wrong with a stream, as the trouble of a job
 abbrev pub blocks_trouble : Option StreamTrouble → Option Trouble
@@ -51,6 +60,8 @@ abbrev pub trouble_in : Job → List ℕ → Option Trouble
 trouble_in (Stream carrier form) bytes = blocks_trouble (trouble_of carrier stream_limit bytes)
 trouble_in (Text form) bytes = text_trouble form text_limit bytes
 trouble_in (Storm number units steps workers) bytes = None
+trouble_in (Drill number units count) bytes = None
+trouble_in (Demo number count) bytes = None
 
 -- a source tells its bytes, and a job has this to say of them; a job that reads nothing finds
 -- nothing wrong, whatever the source tells
@@ -58,6 +69,8 @@ abbrev pub Judges : Job → Option (List ℕ) → Option Trouble → Type 0
 Judges (Stream carrier form) left trouble = (bytes : List ℕ) × (left ≡ Some bytes) × (trouble_in (Stream carrier form) bytes ≡ trouble)
 Judges (Text form) left trouble = (bytes : List ℕ) × (left ≡ Some bytes) × (trouble_in (Text form) bytes ≡ trouble)
 Judges (Storm number units steps workers) left trouble = trouble ≡ None
+Judges (Drill number units count) left trouble = trouble ≡ None
+Judges (Demo number count) left trouble = trouble ≡ None
 
 -- why a stream ended, as why the program ends
 abbrev pub of_stream : StreamFailure → Failure
@@ -66,13 +79,20 @@ of_stream stream.Read = Read
 of_stream stream.Write = Write
 of_stream stream.OutOfMemory = OutOfMemory
 
--- how a job ends: what was read of the source and written to the sink
-abbrev pub JobEnds : Job → Result (Unit {0}) Failure → (input out : Told) → Type 0
-JobEnds (Stream carrier form) (Ok done) input out = StreamEnds carrier form stream_limit (Ok done) input out
-JobEnds (Stream carrier form) (Err (BadInput (Blocks trouble))) input out = StreamEnds carrier form stream_limit (Err (stream.BadInput trouble)) input out
-JobEnds (Stream carrier form) (Err Read) input out = StreamEnds carrier form stream_limit (Err stream.Read) input out
-JobEnds (Stream carrier form) (Err Write) input out = StreamEnds carrier form stream_limit (Err stream.Write) input out
-JobEnds (Stream carrier form) (Err OutOfMemory) input out = StreamEnds carrier form stream_limit (Err stream.OutOfMemory) input out
-JobEnds (Stream carrier form) (Err _) input out = ⊥
-JobEnds (Text form) result input out = TextEnds form text_limit result input out
-JobEnds (Storm number units steps workers) result input out = IsUntouched input × StormEnds number units steps result out
+-- how a job ends: what was read of the source and written to the sink, and what the net lists
+abbrev pub JobEnds : Job → Result (Unit {0}) Failure → (input out : Told) → Wires → Type 0
+JobEnds (Stream carrier form) (Ok done) input out net = StreamEnds carrier form stream_limit (Ok done) input out
+JobEnds (Stream carrier form) (Err (BadInput (Blocks trouble))) input out net = StreamEnds carrier form stream_limit (Err (stream.BadInput trouble)) input out
+JobEnds (Stream carrier form) (Err Read) input out net = StreamEnds carrier form stream_limit (Err stream.Read) input out
+JobEnds (Stream carrier form) (Err Write) input out net = StreamEnds carrier form stream_limit (Err stream.Write) input out
+JobEnds (Stream carrier form) (Err OutOfMemory) input out net = StreamEnds carrier form stream_limit (Err stream.OutOfMemory) input out
+JobEnds (Stream carrier form) (Err _) input out net = ⊥
+JobEnds (Text form) result input out net = TextEnds form text_limit result input out
+JobEnds (Storm number units steps workers) result input out net = IsUntouched input × StormEnds number units steps result out
+JobEnds (Drill number units count) result input out net = IsUntouched input × DrillEnds number units count result out
+JobEnds (Demo number count) result input out net = IsUntouched input × DemoEnds number count result out net
+
+-- whether a job uses the net
+abbrev pub uses_net : Job → Bool
+uses_net (Demo number count) = true
+uses_net job = false

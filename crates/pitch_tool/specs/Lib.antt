@@ -1,4 +1,6 @@
+pub mod DemoForm
 pub mod Devices
+pub mod DrillForm
 pub mod Jobs
 pub mod Program
 pub mod Statuses

@@ -9,14 +9,14 @@ use Rattle.command_feed.specs.Causes.{command_error_text}
 use Rattle.schedule_replay.specs.Causes.{replay_error_text}
 use Rattle.stream_print.specs.Told.{Told, IsUntouched}
 use Rattle.stream_print.specs.declared.failure.StreamTrouble.TheVariants.{Faulty, BadCapture, TooLong}
-use Rattle.pitch_tool.specs.Devices.{Run, Says}
+use Rattle.pitch_tool.specs.Devices.{Run, Says, Wires}
 use Rattle.pitch_tool.specs.Jobs.{job_of, JobEnds}
 use Rattle.pitch_tool.specs.declared.failure.Failure.{Failure}
 use Rattle.pitch_tool.specs.declared.failure.Failure.TheVariants as ending
 use Rattle.pitch_tool.specs.declared.failure.Trouble.{Trouble}
 use Rattle.pitch_tool.specs.declared.failure.Trouble.TheVariants.{Blocks, LongText, Commands, Schedule}
 use Rattle.pitch_tool.specs.declared.status.ExitStatus.{ExitStatus}
-use Rattle.pitch_tool.specs.declared.status.ExitStatus.TheVariants.{Done, Usage, BadInput, ReadFault, WriteFault, OutOfMemory}
+use Rattle.pitch_tool.specs.declared.status.ExitStatus.TheVariants.{Done, Usage, BadInput, ReadFault, WriteFault, OutOfMemory, NetFault}
 
 -- ---- What is said on the error line
 abbrev pub usage_text : List ℕ
@@ -36,6 +36,9 @@ read_text = codes "pitch: read fault\n"
 abbrev pub write_text : List ℕ
 write_text = codes "pitch: write fault\n"
 
+abbrev pub net_text : List ℕ
+net_text = codes "pitch: net fault\n"
+
 abbrev pub memory_text : List ℕ
 memory_text = codes "pitch: out of memory\n"
 
@@ -45,35 +48,37 @@ abbrev pub IsNoForm : List (List ℕ) → Type 0
 IsNoForm words = (form : Form) → IsForm words form → ⊥
 
 -- the words are a form, and its job ended so
-abbrev pub Does : List (List ℕ) → Result (Unit {0}) Failure → (input out : Told) → Type 0
-Does words result input out = (form : Form) × IsForm words form × JobEnds (job_of form) result input out
+abbrev pub Does : List (List ℕ) → Result (Unit {0}) Failure → (input out : Told) → Wires → Type 0
+Does words result input out net = (form : Form) × IsForm words form × JobEnds (job_of form) result input out net
 
 -- memory ran out: before anything was read, during the job, or where an input was refused and the
 -- line that says so was made
-abbrev pub RunsOut : List (List ℕ) → (input out : Told) → Type 0
-RunsOut words input out = (IsUntouched input × IsUntouched out)
-    ⊎ (Does words (Err ending.OutOfMemory) input out ⊎ ((trouble : Trouble) × Does words (Err (ending.BadInput trouble)) input out))
+abbrev pub RunsOut : List (List ℕ) → (input out : Told) → Wires → Type 0
+RunsOut words input out net = (IsUntouched input × IsUntouched out)
+    ⊎ (Does words (Err ending.OutOfMemory) input out net ⊎ ((trouble : Trouble) × Does words (Err (ending.BadInput trouble)) input out net))
 
 -- how the program ends: what the words are, what was read and written, and what was said
 abbrev pub Closes : List (List ℕ) → ExitStatus → Run → Type 0
-Closes words Done run = Does words (Ok tt) run.input.bytes run.out.bytes
+Closes words Done run = Does words (Ok tt) run.input.bytes run.out.bytes run.net
 Closes words Usage run = IsNoForm words × IsUntouched run.input.bytes × IsUntouched run.out.bytes × Says run.err usage_text
-Closes words BadInput run = (trouble : Trouble) × Does words (Err (ending.BadInput trouble)) run.input.bytes run.out.bytes × Says run.err (trouble_text trouble)
-Closes words ReadFault run = Does words (Err ending.Read) run.input.bytes run.out.bytes × Says run.err read_text
-Closes words WriteFault run = Does words (Err ending.Write) run.input.bytes run.out.bytes × Says run.err write_text
-Closes words OutOfMemory run = RunsOut words run.input.bytes run.out.bytes × Says run.err memory_text
+Closes words BadInput run = (trouble : Trouble) × Does words (Err (ending.BadInput trouble)) run.input.bytes run.out.bytes run.net × Says run.err (trouble_text trouble)
+Closes words ReadFault run = Does words (Err ending.Read) run.input.bytes run.out.bytes run.net × Says run.err read_text
+Closes words WriteFault run = Does words (Err ending.Write) run.input.bytes run.out.bytes run.net × Says run.err write_text
+Closes words NetFault run = Does words (Err ending.Net) run.input.bytes run.out.bytes run.net × Says run.err net_text
+Closes words OutOfMemory run = RunsOut words run.input.bytes run.out.bytes run.net × Says run.err memory_text
 
 -- a status that tells of a device's failure has its cause in that device's count, and no count
 -- falls
 pub record HasCauses (status : ExitStatus) (run : Run) : Type 0 where
   pub read : HasCause run.input.faults run.input.faults' (status ≡ ReadFault)
   pub write : HasCause run.out.faults run.out.faults' (status ≡ WriteFault)
+  pub net : HasCause run.net.faults run.net.faults' (status ≡ NetFault)
 
 -- how it ends before anything is said
-abbrev pub RunEnds : List (List ℕ) → Result (Unit {0}) Failure → (input out : Told) → Type 0
-RunEnds words (Err ending.Usage) input out = IsNoForm words × IsUntouched input × IsUntouched out
-RunEnds words (Err ending.OutOfMemory) input out = (IsUntouched input × IsUntouched out) ⊎ Does words (Err ending.OutOfMemory) input out
-RunEnds words result input out = Does words result input out
+abbrev pub RunEnds : List (List ℕ) → Result (Unit {0}) Failure → (input out : Told) → Wires → Type 0
+RunEnds words (Err ending.Usage) input out net = IsNoForm words × IsUntouched input × IsUntouched out
+RunEnds words (Err ending.OutOfMemory) input out net = (IsUntouched input × IsUntouched out) ⊎ Does words (Err ending.OutOfMemory) input out net
+RunEnds words result input out net = Does words result input out net
 
 -- ---- Completeness
 -- the job was done whole, or memory ran out

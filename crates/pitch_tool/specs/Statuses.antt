@@ -1,7 +1,7 @@
 -- The exit statuses.
 use Rattle.std.specs.Prelude.{ℕ}
 use Rattle.pitch_tool.specs.declared.status.ExitStatus.{ExitStatus}
-use Rattle.pitch_tool.specs.declared.status.ExitStatus.TheVariants.{Done, Usage, BadInput, ReadFault, WriteFault, OutOfMemory}
+use Rattle.pitch_tool.specs.declared.status.ExitStatus.TheVariants.{Done, Usage, BadInput, ReadFault, WriteFault, OutOfMemory, NetFault}
 
 abbrev pub status_number : ExitStatus → ℕ
 status_number Done = 0
@@ -10,3 +10,4 @@ status_number BadInput = 3
 status_number ReadFault = 4
 status_number WriteFault = 5
 status_number OutOfMemory = 6
+status_number NetFault = 7

@@ -16,7 +16,7 @@ use Rattle.stream_print.specs.Inputs.{ReadsAll, Has}
 use Rattle.stream_print.specs.Putting.{PutsSome}
 use Rattle.stream_print.specs.Told.{Told, IsUntouched}
 use Rattle.pitch_tool.specs.declared.failure.Failure.{Failure}
-use Rattle.pitch_tool.specs.declared.failure.Failure.TheVariants.{Usage, BadInput, Read, Write, OutOfMemory}
+use Rattle.pitch_tool.specs.declared.failure.Failure.TheVariants.{Usage, BadInput, Read, Write, Net, OutOfMemory}
 use Rattle.pitch_tool.specs.declared.failure.Trouble.{Trouble}
 use Rattle.pitch_tool.specs.declared.failure.Trouble.TheVariants.{LongText, Commands, Schedule}
 use Rattle.pitch_tool.specs.declared.job.TextForm.{TextForm}
@@ -112,6 +112,7 @@ TextEnds form most (Err Usage) input out = ⊥
 TextEnds form most (Err (BadInput trouble)) input out = RefusesText form most trouble input out
 TextEnds form most (Err Read) input out = ReadsNoText input out
 TextEnds form most (Err Write) input out = WritesMadeSome form most input out
+TextEnds form most (Err Net) input out = ⊥
 TextEnds form most (Err OutOfMemory) input out = IsUntouched out
 
 -- ---- Its parts

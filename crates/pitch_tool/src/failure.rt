@@ -1,4 +1,5 @@
 use command_feed::CommandError;
+use net_edge::DemoError;
 use pitch_fields::OutOfMemory;
 use schedule_replay::ReplayError;
 use stream_print::{PutFailed, StreamFailure, StreamTrouble};
@@ -27,6 +28,8 @@ pub enum Failure {
     Read,
     /// The sink failed.
     Write,
+    /// The net failed.
+    Net,
     /// Memory ran out.
     OutOfMemory,
 }
@@ -93,6 +96,20 @@ impl From<ReplayError> for Failure {
         match error {
             ReplayError::OutOfMemory => Failure::OutOfMemory,
             error => Failure::BadInput(Trouble::Schedule(error)),
+        }
+    }
+}
+
+impl From<DemoError> for Failure {
+    ghost use Rattle.std.specs.Prelude.{◌≡◌};
+    ghost use Rattle.pitch_tool.specs.DemoForm.{of_demo};
+
+    ghost from_gives = { λ error failure. failure ≡ of_demo error };
+
+    fn from(error: DemoError) -> Failure {
+        match error {
+            DemoError::NetFault => Failure::Net,
+            DemoError::OutOfMemory => Failure::OutOfMemory,
         }
     }
 }

@@ -28,6 +28,17 @@ pub enum Job {
         steps: u32,
         workers: u8,
     },
+    /// Nothing is read, and where the units of a drill ended is written.
+    Drill {
+        number: u64,
+        units: u8,
+        count: u32,
+    },
+    /// Nothing is read, and where a demo over the net ended is written.
+    Demo {
+        number: u64,
+        count: u32,
+    },
 }
 
 /// The job of a form.
@@ -55,5 +66,15 @@ pub fn job_of(form: Form) -> Job
             steps,
             workers,
         },
+        Form::Drill {
+            number,
+            units,
+            count,
+        } => Job::Drill {
+            number,
+            units,
+            count,
+        },
+        Form::Demo { number, count } => Job::Demo { number, count },
     }
 }

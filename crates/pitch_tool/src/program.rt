@@ -1,40 +1,47 @@
-ghost use Rattle.std.specs.Prelude.{◌≡◌, ◌⊎◌, List, ℕ, IfOk, Some, None, Err, map, string_bytes};
+ghost use Rattle.std.specs.Prelude.{◌≡◌, ◌⊎◌, List, ℕ, false, IfOk, Some, None, Err, map, string_bytes};
 ghost use Rattle.pitch_io.specs.Causes.{HasCause, Rose};
 ghost use Rattle.pitch_io.specs.Putting.{Grows};
 ghost use Rattle.pitch_words.specs.Forms.{IsForm};
 ghost use Rattle.pitch_words.specs.declared.form.Form.{Form};
 ghost use Rattle.stream_print.specs.Told.{told, TakesAtMost};
-ghost use Rattle.pitch_tool.specs.Devices.{device};
-ghost use Rattle.pitch_tool.specs.Jobs.{CanDo, JobEnds, Judges, most_taken, job_of as the_job};
+ghost use Rattle.pitch_tool.specs.Devices.{device, wires};
+ghost use Rattle.pitch_tool.specs.Jobs.{CanDo, JobEnds, Judges, most_taken, uses_net, job_of as the_job};
 ghost use Rattle.pitch_tool.specs.Program.{memory_text, trouble_text, IsNoForm, RunEnds, Closes, HasCauses, IsWhole, IsRefusal};
 
+use crate::commands::demo::print_demo;
+use crate::commands::drill::print_drill;
 use crate::commands::storm::print_storm;
 use crate::failure::{Failure, Trouble};
 use crate::job::{Job, job_of};
 use crate::status::ExitStatus;
 use crate::text::print_text;
 use pitch_fields::OutOfMemory;
-use pitch_io::{Gate, Sink, Source};
+use pitch_io::{Gate, Net, Sink, Source};
 use pitch_words::read;
 use std::alloc::Global;
+use std::sync::Wait;
 use std::thread::Threads;
+use std::time::Clock;
 use stream_print::{StreamTrouble, print_stream, put_all};
 
 // Does a job.
 #[tactic(auto, using(crate::proofs::Storms::takes_none, crate::proofs::Storms::no_read_fault))]
-fn do_job<R: Threads + Sync, I: Source, O: Sink, G: Gate + Sync>(
+fn do_job<R: Threads + Wait + Clock + Sync, I: Source, O: Sink, N: Net, G: Gate + Sync>(
     rt: &R,
     alloc: Global,
     job: Job,
     input: &mut I,
     out: &mut O,
+    net: &mut N,
     gate: &G,
 ) -> Result<(), Failure>
     requires { CanDo job }
-    ensures ends { JobEnds job result (told I.left input.old input.new) (told O.written out.old out.new) }
+    ensures ends { JobEnds job result (told I.left input.old input.new) (told O.written out.old out.new) (wires N.calls N.faults net.old net.new) }
     ensures reads { TakesAtMost (most_taken job) (told I.left input.old input.new) }
     ensures read_cause { HasCause (I.faults input.old) (I.faults input.new) (result ≡ Err Failure.Read) }
     ensures write_cause { HasCause (O.faults out.old) (O.faults out.new) (result ≡ Err Failure.Write) }
+    ensures net_cause { HasCause (N.faults net.old) (N.faults net.new) (result ≡ Err Failure.Net) }
+    ensures unused { uses_net job ≡ false → net.new ≡ net.old }
 {
     match job {
         Job::Stream(carrier, form) => {
@@ -48,25 +55,34 @@ fn do_job<R: Threads + Sync, I: Source, O: Sink, G: Gate + Sync>(
             steps,
             workers,
         } => print_storm(rt, alloc, number, units, steps, workers, out, gate),
+        Job::Drill {
+            number,
+            units,
+            count,
+        } => print_drill(rt, alloc, number, units, count, out, gate),
+        Job::Demo { number, count } => print_demo(alloc, number, count, out, net),
     }
 }
 
 // Does what the words ask for.
-fn run<R: Threads + Sync, I: Source, O: Sink, G: Gate + Sync>(
+fn run<R: Threads + Wait + Clock + Sync, I: Source, O: Sink, N: Net, G: Gate + Sync>(
     rt: &R,
     alloc: Global,
     words: &[String],
     input: &mut I,
     out: &mut O,
+    net: &mut N,
     gate: &G,
 ) -> Result<(), Failure>
-    ensures runs { RunEnds (map string_bytes words.now) result (told I.left input.old input.new) (told O.written out.old out.new) }
+    ensures runs { RunEnds (map string_bytes words.now) result (told I.left input.old input.new) (told O.written out.old out.new) (wires N.calls N.faults net.old net.new) }
     ensures reads { (form : Form) → IsForm (map string_bytes words.now) form → TakesAtMost (most_taken (the_job form)) (told I.left input.old input.new) }
     ensures read_cause { HasCause (I.faults input.old) (I.faults input.new) (result ≡ Err Failure.Read) }
     ensures write_cause { HasCause (O.faults out.old) (O.faults out.new) (result ≡ Err Failure.Write) }
+    ensures net_cause { HasCause (N.faults net.old) (N.faults net.new) (result ≡ Err Failure.Net) }
+    ensures unused { (form : Form) → IsForm (map string_bytes words.now) form → uses_net (the_job form) ≡ false → net.new ≡ net.old }
 {
     match read(alloc, words)? {
-        Some(form) => do_job(rt, alloc, job_of(form), input, out, gate),
+        Some(form) => do_job(rt, alloc, job_of(form), input, out, net, gate),
         None => Err(Failure::Usage),
     }
 }
@@ -110,23 +126,26 @@ fn trouble_line(alloc: Global, trouble: Trouble) -> Result<String, OutOfMemory>
 }
 
 // Does what the words ask for, and says why it ends before its whole text.
-fn close<R: Threads + Sync, I: Source, O: Sink, E: Sink, G: Gate + Sync>(
+fn close<R: Threads + Wait + Clock + Sync, I: Source, O: Sink, E: Sink, N: Net, G: Gate + Sync>(
     rt: &R,
     alloc: Global,
     words: &[String],
     input: &mut I,
     out: &mut O,
     err: &mut E,
+    net: &mut N,
     gate: &G,
 ) -> ExitStatus
     ensures ends { Closes (map string_bytes words.now) result
-        (record { input = device I.left I.faults input.old input.new; out = device O.written O.faults out.old out.new; err = device E.written E.faults err.old err.new }) }
+        (record { input = device I.left I.faults input.old input.new; out = device O.written O.faults out.old out.new; err = device E.written E.faults err.old err.new; net = wires N.calls N.faults net.old net.new }) }
     ensures quiet { result ≡ ExitStatus.Done → E.written err.new ≡ E.written err.old }
     ensures reads { (form : Form) → IsForm (map string_bytes words.now) form → TakesAtMost (most_taken (the_job form)) (told I.left input.old input.new) }
     ensures read_cause { HasCause (I.faults input.old) (I.faults input.new) (result ≡ ExitStatus.ReadFault) }
     ensures write_cause { HasCause (O.faults out.old) (O.faults out.new) (result ≡ ExitStatus.WriteFault) }
+    ensures net_cause { HasCause (N.faults net.old) (N.faults net.new) (result ≡ ExitStatus.NetFault) }
+    ensures unused { (form : Form) → IsForm (map string_bytes words.now) form → uses_net (the_job form) ≡ false → net.new ≡ net.old }
 {
-    match run(rt, alloc, words, input, out, gate) {
+    match run(rt, alloc, words, input, out, net, gate) {
         Ok(()) => ExitStatus::Done,
         Err(Failure::Usage) => {
             say(
@@ -153,6 +172,10 @@ fn close<R: Threads + Sync, I: Source, O: Sink, E: Sink, G: Gate + Sync>(
             say(err, b"pitch: write fault\n");
             ExitStatus::WriteFault
         }
+        Err(Failure::Net) => {
+            say(err, b"pitch: net fault\n");
+            ExitStatus::NetFault
+        }
         Err(Failure::OutOfMemory) => {
             say_out_of_memory(err);
             ExitStatus::OutOfMemory
@@ -164,9 +187,11 @@ fn close<R: Threads + Sync, I: Source, O: Sink, E: Sink, G: Gate + Sync>(
 ///
 /// `words` are those after the program's name: `follow`, and perhaps `--hold H` with H from 1 to
 /// 65,536 (4,096 where it isn't given), `follow --pcap`, and perhaps `--port P` with P from 0 to
-/// 65,535 and `--hold H`, `show`, `pack --unit U` with U from 1 to 255, `replay`, or
-/// `storm` with `--number S`, `--units N` with N from 1 to 16 and `--steps M` with M from 1 to
-/// 10,000; with the last two perhaps `--workers K` with K from 1 to 64 (1 where it isn't given).
+/// 65,535 and `--hold H`, `show`, `pack --unit U` with U from 1 to 255, `replay`, `storm` with
+/// `--number S`, `--units N` with N from 1 to 16 and `--steps M` with M from 1 to 10,000; with
+/// these two perhaps `--workers K` with K from 1 to 64 (1 where it isn't given); `drill` with
+/// `--number S`, `--units N` with N from 1 to 16 and `--count C` with C from 1 to 100,000; or
+/// `demo` with `--number S` and `--count C` with C from 1 to 1,000.
 /// The first three read a stream of at most 1,073,741,824 bytes from `input`: Sequenced Unit
 /// Header blocks, or with `--pcap` a classic capture file, of which the blocks are those that stand
 /// whole at the start of each UDP datagram, or of each to port P. `follow` writes to `out` a line
@@ -179,41 +204,47 @@ fn close<R: Threads + Sync, I: Source, O: Sink, E: Sink, G: Gate + Sync>(
 /// its unit: venue, lines, servers and client. `storm` reads nothing: it makes a schedule, does all
 /// its lines in the worlds of its units, and writes where each unit ended. The units of these two
 /// run in at most K pieces of work, which `rt` may run beside one another, and `gate` is told of
-/// each unit; what is written does not depend on either.
+/// each unit; what is written does not depend on either. `drill` reads nothing: for each unit a
+/// publisher, a service and a client run as live threads, and it writes where each client ended;
+/// these threads wait for one another's words, and `gate` is told of each step. `demo` reads
+/// nothing either: it runs both ends of unit 1 over `net`, and writes where its client ended.
 ///
 /// At `Done` the whole text was written and nothing was said. At `Usage` nothing was read or
 /// written. At `BadInput` the texts of the whole blocks before the trouble were written, and no
-/// book; by `pack` and `replay` nothing was, and `storm` never ends so. At `ReadFault` the source
-/// had failed, and at `WriteFault` the sink.
-pub fn pitch<R: Threads + Sync, I: Source, O: Sink, E: Sink, G: Gate + Sync>(
+/// book; by `pack` and `replay` nothing was, and `storm`, `drill` and `demo` never end so. At
+/// `ReadFault` the source had failed, at `WriteFault` the sink, and at `NetFault` the net.
+pub fn pitch<R: Threads + Wait + Clock + Sync, I: Source, O: Sink, E: Sink, N: Net, G: Gate + Sync>(
     rt: &R,
     alloc: Global,
     words: &[String],
     input: &mut I,
     out: &mut O,
     err: &mut E,
+    net: &mut N,
     gate: &G,
 ) -> ExitStatus
     // What each status says of the words, of what was read and written, and of what was said.
     ensures ends { Closes (map string_bytes words.now) result
-        (record { input = device I.left I.faults input.old input.new; out = device O.written O.faults out.old out.new; err = device E.written E.faults err.old err.new }) }
+        (record { input = device I.left I.faults input.old input.new; out = device O.written O.faults out.old out.new; err = device E.written E.faults err.old err.new; net = wires N.calls N.faults net.old net.new }) }
     // Where all was done, nothing is said.
     ensures quiet { result ≡ ExitStatus.Done → E.written err.new ≡ E.written err.old }
-    // A read or a write fault was counted by its device.
+    // A read, a write or a net fault was counted by its device.
     ensures causes { HasCauses result
-        (record { input = device I.left I.faults input.old input.new; out = device O.written O.faults out.old out.new; err = device E.written E.faults err.old err.new }) }
+        (record { input = device I.left I.faults input.old input.new; out = device O.written O.faults out.old out.new; err = device E.written E.faults err.old err.new; net = wires N.calls N.faults net.old net.new }) }
     // Whatever the status, the source gave no more than one byte past the limit of the form.
     ensures reads { (form : Form) → IsForm (map string_bytes words.now) form → TakesAtMost (most_taken (the_job form)) (told I.left input.old input.new) }
+    // Only a demo uses the net.
+    ensures unused { (form : Form) → IsForm (map string_bytes words.now) form → uses_net (the_job form) ≡ false → net.new ≡ net.old }
     // Where the words are no form, that is the answer, or memory ran out.
     ensures unknown { IsNoForm (map string_bytes words.now) → (result ≡ ExitStatus.Usage) ⊎ (result ≡ ExitStatus.OutOfMemory) }
     // Where nothing is wrong with the words and the input and no device failed, the job was done
     // whole, or memory ran out.
     ensures complete { (form : Form) → IsForm (map string_bytes words.now) form → Judges (the_job form) (I.left input.old) None
-        → Rose (I.faults input.old) (I.faults input.new) ⊎ (Rose (O.faults out.old) (O.faults out.new) ⊎ IsWhole result) }
+        → Rose (I.faults input.old) (I.faults input.new) ⊎ (Rose (O.faults out.old) (O.faults out.new) ⊎ (Rose (N.faults net.old) (N.faults net.new) ⊎ IsWhole result)) }
     // Where something is wrong with the input and no device failed, the input was refused, or
     // memory ran out.
     ensures refused { (form : Form) (trouble : Trouble) → IsForm (map string_bytes words.now) form → Judges (the_job form) (I.left input.old) (Some trouble)
-        → Rose (I.faults input.old) (I.faults input.new) ⊎ (Rose (O.faults out.old) (O.faults out.new) ⊎ IsRefusal result) }
+        → Rose (I.faults input.old) (I.faults input.new) ⊎ (Rose (O.faults out.old) (O.faults out.new) ⊎ (Rose (N.faults net.old) (N.faults net.new) ⊎ IsRefusal result)) }
 {
-    close(rt, alloc, words, input, out, err, gate)
+    close(rt, alloc, words, input, out, err, net, gate)
 }

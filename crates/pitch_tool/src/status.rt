@@ -16,6 +16,8 @@ pub enum ExitStatus {
     WriteFault,
     /// Memory ran out.
     OutOfMemory,
+    /// The net failed.
+    NetFault,
 }
 
 impl ExitStatus {
@@ -30,6 +32,7 @@ impl ExitStatus {
             ExitStatus::ReadFault => 4,
             ExitStatus::WriteFault => 5,
             ExitStatus::OutOfMemory => 6,
+            ExitStatus::NetFault => 7,
         }
     }
 }

@@ -13,7 +13,7 @@ use Rattle.long_options.proofs.Program.{calls_taken, takes_calls}
 use Rattle.pitch_words.specs.Numbers.{IsGivenNumber, IsGivenOr, IsGivenMaybe}
 use Rattle.pitch_words.specs.Forms.{HasForm, HasNumbers, IsForm, command_of, commands, pitch}
 use Rattle.pitch_words.specs.declared.form.Form.{Form}
-use Rattle.pitch_words.specs.declared.form.Form.TheVariants.{Follow, FollowCapture, Show, Pack, Replay, Storm}
+use Rattle.pitch_words.specs.declared.form.Form.TheVariants.{Follow, FollowCapture, Show, Pack, Replay, Storm, Drill, Demo}
 
 -- ---- a line for each form
 
@@ -25,6 +25,8 @@ command_is Show = refl
 command_is (Pack unit) = refl
 command_is (Replay workers) = refl
 command_is (Storm number units steps workers) = refl
+command_is (Drill number units count) = refl
+command_is (Demo number count) = refl
 
 given_or_same : (default least most : ℕ) (o : Option Text) (m n : ℕ) → IsGivenOr default least most o m → IsGivenOr default least most o n → m ≡ n
 given_or_same default least most None m n a b = a ∙ sym b
@@ -56,6 +58,13 @@ numbers_same options (Storm number units steps workers) (Storm number' units' st
     ∙ ap (λ (n : ℕ). Storm number' n steps workers) (given_same 1 16 (options.value (codes "units")) units units' a.1 b.1)
     ∙ ap (λ (n : ℕ). Storm number' units' n workers) (given_same 1 10000 (options.value (codes "steps")) steps steps' a.2 b.2)
     ∙ ap (λ (n : ℕ). Storm number' units' steps' n) (given_or_same 1 1 64 (options.value (codes "workers")) workers workers' a.3 b.3)
+numbers_same options (Drill number units count) (Drill number' units' count') e a b =
+    ap (λ (n : ℕ). Drill n units count) (given_same 0 (2 ^ 64 - 1) (options.value (codes "number")) number number' a.0 b.0)
+    ∙ ap (λ (n : ℕ). Drill number' n count) (given_same 1 16 (options.value (codes "units")) units units' a.1 b.1)
+    ∙ ap (λ (n : ℕ). Drill number' units' n) (given_same 1 100000 (options.value (codes "count")) count count' a.2 b.2)
+numbers_same options (Demo number count) (Demo number' count') e a b =
+    ap (λ (n : ℕ). Demo n count) (given_same 0 (2 ^ 64 - 1) (options.value (codes "number")) number number' a.0 b.0)
+    ∙ ap (λ (n : ℕ). Demo number' n) (given_same 1 1000 (options.value (codes "count")) count count' a.1 b.1)
 numbers_same options _ _ e a b = cc
 
 -- ---- whatever the forms are

@@ -4,7 +4,7 @@ ghost use Rattle.clap.specs.Walk.{rule_of};
 ghost use Rattle.clap.specs.Simple.{app_of, with_rule};
 ghost use Rattle.clap.specs.declared.builder.command.Command.TheViews.{out-Command as fields_of};
 ghost use Rattle.long_options.specs.Apps.{command_app, empty_program, option_rule, program};
-ghost use Rattle.pitch_words.specs.Forms.{follow as follow_words, show as show_words, pack as pack_words, replay as replay_words, storm as storm_words, pitch};
+ghost use Rattle.pitch_words.specs.Forms.{follow as follow_words, show as show_words, pack as pack_words, replay as replay_words, storm as storm_words, drill as drill_words, demo as demo_words, pitch};
 
 use clap::{Arg, ArgAction, Command};
 use std::alloc::{AllocError, Global};
@@ -100,6 +100,25 @@ fn storm<'a>(alloc: Global) -> Result<Command<'a>, AllocError>
     with_option(alloc, steps, "workers", false)
 }
 
+// `drill --number S --units N --count C`
+fn drill<'a>(alloc: Global) -> Result<Command<'a>, AllocError>
+    ensures app { IfOk result (λ r. app_of r ≡ command_app drill_words) }
+    ensures local { IfOk result (λ r. (fields_of r).has_globals ≡ false) }
+{
+    let number = with_option(alloc, command(alloc, "drill"), "number", true)?;
+    let units = with_option(alloc, number, "units", true)?;
+    with_option(alloc, units, "count", true)
+}
+
+// `demo --number S --count C`
+fn demo<'a>(alloc: Global) -> Result<Command<'a>, AllocError>
+    ensures app { IfOk result (λ r. app_of r ≡ command_app demo_words) }
+    ensures local { IfOk result (λ r. (fields_of r).has_globals ≡ false) }
+{
+    let number = with_option(alloc, command(alloc, "demo"), "number", true)?;
+    with_option(alloc, number, "count", true)
+}
+
 // The program without its commands, of which one must be there.
 fn top<'a>(alloc: Global) -> Command<'a>
     ensures app { app_of result ≡ empty_program (codes "pitch") }
@@ -122,10 +141,18 @@ fn without_schedules<'a>(alloc: Global) -> Result<Command<'a>, AllocError>
     with_show.subcommand(pack(alloc)?)
 }
 
+// The program without its live commands.
+fn without_live<'a>(alloc: Global) -> Result<Command<'a>, AllocError>
+    ensures app { IfOk result (λ r. app_of r ≡ program (codes "pitch") (follow_words ∷ show_words ∷ pack_words ∷ replay_words ∷ storm_words ∷ [])) }
+{
+    let with_replay = without_schedules(alloc)?.subcommand(replay(alloc)?)?;
+    with_replay.subcommand(storm(alloc)?)
+}
+
 // The program with its commands.
 pub(crate) fn app<'a>(alloc: Global) -> Result<Command<'a>, AllocError>
     ensures app { IfOk result (λ r. app_of r ≡ pitch) }
 {
-    let with_replay = without_schedules(alloc)?.subcommand(replay(alloc)?)?;
-    with_replay.subcommand(storm(alloc)?)
+    let with_drill = without_live(alloc)?.subcommand(drill(alloc)?)?;
+    with_drill.subcommand(demo(alloc)?)
 }

@@ -39,4 +39,20 @@ pub enum Form {
         /// In how many pieces of work at most its units run beside one another: 1 to 64.
         workers: u8,
     },
+    /// `drill --number S --units N --count C`: run live threads, and write where each unit ended.
+    Drill {
+        /// What the drill is made from.
+        number: u64,
+        /// How many units it has: 1 to 16.
+        units: u8,
+        /// How many commands each unit has: 1 to 100,000.
+        count: u32,
+    },
+    /// `demo --number S --count C`: run both ends of unit 1 over a net, and write where it ended.
+    Demo {
+        /// What the demo is made from.
+        number: u64,
+        /// How many messages its venue accepts: 1 to 1,000.
+        count: u32,
+    },
 }

@@ -161,6 +161,36 @@ fn storm(matches: &ArgMatches) -> Option<Form>
     })
 }
 
+// `drill --number S --units N --count C`
+fn drill(matches: &ArgMatches) -> Option<Form>
+    ensures form { MatchOption result ((form : Form) → ¬ HasForm (Some (codes "drill", rows_of (found_of matches.now))) form)
+        (HasForm (Some (codes "drill", rows_of (found_of matches.now)))) }
+    ensures range { IfSome result IsInRange }
+{
+    let number = given(matches, "number", 0, u64::MAX)?;
+    let units = given(matches, "units", 1, 16)?;
+    let count = given(matches, "count", 1, 100_000)?;
+    Some(Form::Drill {
+        number,
+        units: units as u8,
+        count: count as u32,
+    })
+}
+
+// `demo --number S --count C`
+fn demo(matches: &ArgMatches) -> Option<Form>
+    ensures form { MatchOption result ((form : Form) → ¬ HasForm (Some (codes "demo", rows_of (found_of matches.now))) form)
+        (HasForm (Some (codes "demo", rows_of (found_of matches.now)))) }
+    ensures range { IfSome result IsInRange }
+{
+    let number = given(matches, "number", 0, u64::MAX)?;
+    let count = given(matches, "count", 1, 1000)?;
+    Some(Form::Demo {
+        number,
+        count: count as u32,
+    })
+}
+
 // The form of the command of this name.
 fn form_in(name: &str, matches: &ArgMatches) -> Option<Form>
     ensures form { MatchOption result ((form : Form) → ¬ HasForm (Some (name.now, rows_of (found_of matches.now))) form)
@@ -173,6 +203,8 @@ fn form_in(name: &str, matches: &ArgMatches) -> Option<Form>
         "pack" => pack(matches),
         "replay" => replay(matches),
         "storm" => storm(matches),
+        "drill" => drill(matches),
+        "demo" => demo(matches),
         _ => None,
     }
 }

@@ -5,6 +5,8 @@
 #![tactic(auto)]
 
 #[cfg(test)]
+mod nets;
+#[cfg(test)]
 mod tests;
 #[cfg(test)]
 mod words;

@@ -6,16 +6,21 @@ ghost use Rattle.pitch_tool.specs.Program.{IsWhole, IsRefusal};
 ghost use Rattle.pitch_tool.specs.declared.failure.Trouble.{Trouble};
 
 mod captures;
+mod demos;
+mod drills;
 mod schedules;
 mod storms;
 
+use crate::nets::NoNet;
 use crate::{ExitStatus, pitch};
 use pitch_fields::OutOfMemory;
 use pitch_io::{FreeGate, MemorySink, MemorySource, Source, SteadySink, SteadySource, Taken};
 use std::alloc::Global;
 use std::str::from_utf8;
+use std::sync::Wait;
 use std::test::*;
 use std::thread::Threads;
+use std::time::Clock;
 
 // The second 34,200 at sequence 1 of unit 1.
 const TIME: &[u8] = b"\x0e\x00\x01\x01\x01\x00\x00\x00\x06\x20\x98\x85\x00\x00";
@@ -276,7 +281,7 @@ fn stream_of(alloc: Global, blocks: &[&[u8]]) -> Result<Vec<u8>, OutOfMemory> {
 }
 
 // The program over devices that never fail.
-fn pitch_steadily<R: Threads + Sync>(
+fn pitch_steadily<R: Threads + Wait + Clock + Sync>(
     rt: &R,
     alloc: Global,
     words: &[String],
@@ -289,7 +294,7 @@ fn pitch_steadily<R: Threads + Sync>(
     // Where something is wrong with the input, it was refused, or memory ran out.
     ensures refused { (form : Form) (trouble : Trouble) → IsForm (map string_bytes words.now) form → Judges (job_of form) (Some input.old.bytes) (Some trouble) → IsRefusal result }
 {
-    pitch(rt, alloc, words, input, out, err, &FreeGate)
+    pitch(rt, alloc, words, input, out, err, &mut NoNet, &FreeGate)
 }
 
 // What the program leaves.
@@ -301,7 +306,7 @@ struct Outcome {
 }
 
 // Runs the program on blocks of which at most `piece` bytes come at once.
-fn run<R: Threads + Sync>(
+fn run<R: Threads + Wait + Clock + Sync>(
     rt: &R,
     alloc: Global,
     line: &str,
@@ -454,6 +459,7 @@ fn a_failing_source_or_sink_is_told_of(rt: HostRuntime) -> Result<(), Fail> {
             &mut input,
             &mut out,
             &mut err,
+            &mut NoNet,
             &FreeGate,
         );
         assert_eq!(rt; from_utf8(out.written())?, text, "put {put} take {take}");

@@ -3,7 +3,7 @@ use pitch_words::{Form, read};
 use std::test::*;
 
 // Words, which single spaces part, and their form.
-static FORMS: [(&str, Form); 19] = [
+static FORMS: [(&str, Form); 21] = [
     ("follow", Form::Follow { hold: 4096 }),
     ("follow --hold 2", Form::Follow { hold: 2 }),
     ("follow --hold=2", Form::Follow { hold: 2 }),
@@ -68,10 +68,26 @@ static FORMS: [(&str, Form); 19] = [
             workers: 7,
         },
     ),
+    (
+        "drill --number 0 --units 16 --count 100000",
+        Form::Drill {
+            number: 0,
+            units: 16,
+            count: 100_000,
+        },
+    ),
+    (
+        "drill --count=1 --units=1 --number=18446744073709551615",
+        Form::Drill {
+            number: u64::MAX,
+            units: 1,
+            count: 1,
+        },
+    ),
 ];
 
 // Words that are no form.
-static REFUSED: [&str; 74] = [
+static REFUSED: [&str; 81] = [
     "follow --hold 0",
     "follow --hold 65537",
     "follow --hold=000000000000000000005",
@@ -137,6 +153,13 @@ static REFUSED: [&str; 74] = [
     "storm --number 0 --units 1 --steps 1 --steps 1",
     "storm --number 0 --units 1 --steps 1 --workers 65",
     "storm --number 0 --units 1 --steps 1 --",
+    "drill",
+    "drill --number 0 --units 1",
+    "drill --number 0 --units 0 --count 1",
+    "drill --number 0 --units 17 --count 1",
+    "drill --number 0 --units 1 --count 0",
+    "drill --number 0 --units 1 --count 100001",
+    "drill --number 0 --units 1 --count 1 --workers 1",
     "fol",
     "FOLLOW",
     "help",

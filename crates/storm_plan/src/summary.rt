@@ -1,12 +1,12 @@
-//! The lines of a storm's summary, each written into a lent buffer at an index. Each function
-//! answers where its line ends.
+//! The lines of a storm's summary. Those that are written into a lent buffer at an index answer where
+//! they end.
 
-ghost use Rattle.std.specs.Prelude.{◌≡◌, ◌≤◌, ◌+◌, ◌++◌, [], ◌∷◌, take, length};
+ghost use Rattle.std.specs.Prelude.{◌≡◌, ◌≤◌, ◌+◌, ◌++◌, [], ◌∷◌, take, length, OnOk, OnErr};
 ghost use Rattle.feed_lines.specs.LineSize.{line_size};
 ghost use Rattle.storm_plan.specs.StormText.{number_after, storm_line, unit_line};
 
-use feed_lines::put_status;
-use pitch_fields::{put_byte, put_number, put_text};
+use feed_lines::{LINE, put_status};
+use pitch_fields::{OutOfMemory, put_byte, put_number, put_text};
 use pitch_model::Status;
 
 // Writes some words, and a number after them.
@@ -55,4 +55,21 @@ pub fn put_unit_line(
     let counted = put_number_after(out, placed, b" orders ", u64::from(orders));
     let summed = put_number_after(out, counted, b" shares ", shares);
     put_byte(out, summed, b'\n')
+}
+
+/// Appends the line of a unit. `out` is as before after OutOfMemory.
+pub fn append_unit_line(
+    unit: u8,
+    status: Status,
+    orders: u32,
+    shares: u64,
+    out: &mut Vec<u8>,
+) -> Result<(), OutOfMemory>
+    ensures ok { OnOk result (out.new.items ≡ out.old.items ++ unit_line unit status orders shares) }
+    ensures err { OnErr result (out.new.items ≡ out.old.items) }
+{
+    let mut line = [0u8; LINE];
+    let end = put_unit_line(&mut line, 0, unit, status, orders, shares);
+    out.extend_from_slice(&line[..end])?;
+    Ok(())
 }

@@ -5,17 +5,16 @@ ghost use Rattle.pitch_text.specs.declared.verb.ScheduleEntry.{ScheduleEntry as 
 ghost use Rattle.schedule_replay.specs.Apart.{most_workers};
 ghost use Rattle.schedule_replay.specs.Worlds.{AddsWorlds, AreRunThrough, IsWorldOf};
 ghost use Rattle.storm_plan.specs.Storm.{most_units, most_steps, storm_schedule};
-ghost use Rattle.storm_plan.specs.StormText.{storm_line, unit_line};
+ghost use Rattle.storm_plan.specs.StormText.{storm_line};
 ghost use Rattle.storm_replay.specs.Summary.{AreInTurn, AreStormWorlds, ended_line, ended_lines, storm_text};
 
 use feed_lines::LINE;
 use pitch_fields::OutOfMemory;
 use pitch_io::Gate;
-use pitch_model::Status;
 use schedule_replay::{ReplayError, WorldList, replay};
 use std::alloc::Global;
 use std::thread::Threads;
-use storm_plan::{generate, put_storm_line, put_unit_line, storms_are_read};
+use storm_plan::{append_unit_line, generate, put_storm_line, storms_are_read};
 use world_model::World;
 
 // Appends the line that says what a storm was made of.
@@ -28,22 +27,6 @@ fn append_made(number: u64, units: u8, steps: u32, out: &mut Vec<u8>) -> Result<
     Ok(())
 }
 
-// Appends the line of a unit.
-fn append_line(
-    unit: u8,
-    status: Status,
-    orders: u32,
-    shares: u64,
-    out: &mut Vec<u8>,
-) -> Result<(), OutOfMemory>
-    ensures { OnOk result (out.new.items ≡ out.old.items ++ unit_line unit status orders shares) }
-{
-    let mut line = [0u8; LINE];
-    let end = put_unit_line(&mut line, 0, unit, status, orders, shares);
-    out.extend_from_slice(&line[..end])?;
-    Ok(())
-}
-
 // Appends the line of a unit by its world.
 fn append_world(world: &World, unit: u8, out: &mut Vec<u8>) -> Result<(), OutOfMemory>
     // Whatever lines were done in the world, it is the unit's line after them.
@@ -51,7 +34,7 @@ fn append_world(world: &World, unit: u8, out: &mut Vec<u8>) -> Result<(), OutOfM
 {
     let client = world.client();
     let book = client.book();
-    append_line(unit, client.status(), book.len(), book.shares(), out)
+    append_unit_line(unit, client.status(), book.len(), book.shares(), out)
 }
 
 // Appends the lines of all units by their worlds.

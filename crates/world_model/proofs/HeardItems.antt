@@ -47,7 +47,7 @@ honest_before V (item.SpinReply sequence orders status) E is h = h.1
 honest_before V (item.ImageMessages raws) E is h = h.1
 honest_before V (item.SpinFinished sequence) E is h = h.1
 
-honest_first : (V : List Raw) (xs : List Item) (E : List Entry) → AreTold xs → Honest image V (heard_all xs E) → Honest image V E
+pub honest_first : (V : List Raw) (xs : List Item) (E : List Entry) → AreTold xs → Honest image V (heard_all xs E) → Honest image V E
 honest_first V [] E all h = h
 honest_first V (x ∷ xs) E all h = honest_before V x E all.0 (honest_first V xs (heard x E) all.1 h)
 

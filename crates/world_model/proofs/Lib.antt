@@ -1,14 +1,14 @@
-mod Witness
-mod Pieces
-mod HeardBlocks
-mod HeardItems
-mod LinkItems
-mod Replies
+pub mod Witness
+pub mod Pieces
+pub mod HeardBlocks
+pub mod HeardItems
+pub mod LinkItems
+pub mod Replies
 mod Booking
-mod Carrying
-mod SpinWitness
-mod SpinCarrying
-mod Pumping
+pub mod Carrying
+pub mod SpinWitness
+pub mod SpinCarrying
+pub mod Pumping
 mod Acting
 mod Sessions
 mod SpinActing

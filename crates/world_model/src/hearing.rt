@@ -117,8 +117,9 @@ fn hear_item(client: &mut UnitClient, item: &Item) -> Result<(), OutOfMemory>
     Ok(())
 }
 
-/// The client hears what a link told, one item after another.
-pub(crate) fn hear_told(client: &mut UnitClient, items: &[Item]) -> Result<(), OutOfMemory>
+/// The client hears what a link told, one item after another. After OutOfMemory it has heard some of
+/// the items.
+pub fn hear_told(client: &mut UnitClient, items: &[Item]) -> Result<(), OutOfMemory>
     ensures { OnOk result (HearsItems client.old client.new items.now) }
 {
     'told: for item in items {

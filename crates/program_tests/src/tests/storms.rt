@@ -2,12 +2,15 @@
 
 use super::{pitch_steadily, words_of};
 use crate::ExitStatus;
+use crate::nets::NoNet;
 use pitch_fields::OutOfMemory;
 use pitch_io::{FreeGate, Gate, MeetGate, MemorySink, Source, SteadySink, SteadySource, Taken};
 use std::alloc::Global;
 use std::str::from_utf8;
+use std::sync::Wait;
 use std::test::*;
 use std::thread::Threads;
+use std::time::Clock;
 use storm_plan::generate;
 
 // The words of a storm, and its summary. The orders and shares are those that as many commands of
@@ -70,6 +73,7 @@ fn a_summary_that_is_not_taken_is_a_write_fault(rt: HostRuntime) -> Result<(), F
         &mut input,
         &mut out,
         &mut err,
+        &mut NoNet,
         &FreeGate,
     );
     assert_eq!(rt; from_utf8(out.written())?, "storm n");
@@ -79,7 +83,7 @@ fn a_summary_that_is_not_taken_is_a_write_fault(rt: HostRuntime) -> Result<(), F
 }
 
 // What the program writes, with this gate, of a text.
-fn written<R: Threads + Sync, G: Gate + Sync>(
+fn written<R: Threads + Wait + Clock + Sync, G: Gate + Sync>(
     rt: &R,
     alloc: Global,
     line: &str,
@@ -97,6 +101,7 @@ fn written<R: Threads + Sync, G: Gate + Sync>(
         &mut input,
         &mut out,
         &mut err,
+        &mut NoNet,
         gate,
     );
     Ok(out)

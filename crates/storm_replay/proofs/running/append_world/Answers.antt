@@ -12,7 +12,7 @@ pub returns : goal.returns
 returns c =
     let unit : ℕ = c.args.unit in
     let old : List ℕ = c.args.out.now.items in
-    on_ok_weaker c.append_line.result
+    on_ok_weaker c.append_unit_line.result
     (λ line before is.
     let done : List Verb = verbs_of unit before in
     let limits : Limits = limits_of done in
@@ -20,4 +20,4 @@ returns c =
     let tracks = c.client-client.ensures.tracks unit limits done is.1 in
     let keeps = c.client-client.ensures.keeps unit limits done is.1 in
     line ∙ ap (λ (t : List ℕ). old ++ t)
-    (line_of unit limits s c.status.result c.len.result c.shares.result c.book-book.result.now.book (c.status.ensures limits.hold s.heard tracks) (c.book-book.ensures.book limits.hold s.heard s.accepted tracks keeps) c.len.ensures.count c.shares.ensures)) c.append_line.ensures
+    (line_of unit limits s c.status.result c.len.result c.shares.result c.book-book.result.now.book (c.status.ensures limits.hold s.heard tracks) (c.book-book.ensures.book limits.hold s.heard s.accepted tracks keeps) c.len.ensures.count c.shares.ensures)) c.append_unit_line.ensures.ok

@@ -1,0 +1,70 @@
+#!/usr/bin/env python3
+"""Runs `pitch demo` over real sockets, and reads what crossed them.
+
+    bench/demo.py PROGRAM [--repeat T] [--count C] [--capture]
+
+PROGRAM is the path of the built program. The demo is that of the number 0, with 16 messages where
+nothing else is given, and it is run T times (20 where it isn't given). Each run has to end with
+status 0 and the line that a net which loses nothing leads to, or with status 7 and `net fault`.
+
+With `--capture` one more run is recorded by tcpdump (which wants root) and read by tshark: each
+datagram on the lines has to be well-formed UDP, and `pitch follow --pcap` has to find the venue's
+messages in it. The exit status is 0 where all was so.
+"""
+import argparse, os, signal, subprocess, sys, tempfile, time
+
+LINE = {16: b'unit 1 current 16 orders 5 shares 1078\n', 200: b'unit 1 current 200 orders 62 shares 18219\n'}
+
+
+def run(program, count):
+    return subprocess.run([program, 'demo', '--number', '0', '--count', str(count)], capture_output=True, timeout=60)
+
+
+def is_right(ran, count):
+    """It wrote the line, or said that the net failed."""
+    if ran.returncode == 0:
+        return ran.stdout == LINE.get(count, ran.stdout) and ran.stdout.startswith(b'unit 1 ') and not ran.stderr
+    return ran.returncode == 7 and not ran.stdout and ran.stderr == b'pitch: net fault\n'
+
+
+def capture(program, count):
+    """Records a run, and reads it by tshark and by `follow --pcap`."""
+    with tempfile.TemporaryDirectory() as folder:
+        path = os.path.join(folder, 'demo.pcap')
+        watch = subprocess.Popen(['tcpdump', '-i', 'lo', '-U', '-w', path, 'udp', 'and', 'host', '127.0.0.1'], stderr=subprocess.DEVNULL)
+        time.sleep(2)
+        ran = run(program, count)
+        time.sleep(2)
+        watch.send_signal(signal.SIGINT)
+        watch.wait()
+        fields = ['-T', 'fields', '-e', 'udp.length', '-e', '_ws.malformed']
+        told = subprocess.run(['tshark', '-r', path, *fields], capture_output=True, check=True).stdout.decode().splitlines()
+        malformed = [line for line in told if not line.split('\t')[0].isdigit() or line.split('\t')[1:] != ['']]
+        with open(path, 'rb') as source:
+            followed = subprocess.run([program, 'follow', '--pcap'], stdin=source, capture_output=True)
+        last = followed.stdout.decode().splitlines()[-1:]
+        print('  %d datagrams, %d malformed; follow --pcap: status %d, %s' % (len(told), len(malformed), followed.returncode, ' '.join(last)))
+        return is_right(ran, count) and told and not malformed and followed.returncode == 0
+
+
+def main():
+    parser = argparse.ArgumentParser()
+    parser.add_argument('program')
+    parser.add_argument('--repeat', type=int, default=20)
+    parser.add_argument('--count', type=int, default=16)
+    parser.add_argument('--capture', action='store_true')
+    a = parser.parse_args()
+    start = time.perf_counter()
+    runs = [run(a.program, a.count) for _ in range(a.repeat)]
+    faults = sum(ran.returncode == 7 for ran in runs)
+    right = all(is_right(ran, a.count) for ran in runs)
+    print('  %d runs in %.1f s, %d of them ended by the net' % (a.repeat, time.perf_counter() - start, faults))
+    if a.capture:
+        right = bool(capture(a.program, a.count)) and right
+    if not right:
+        print('  A RUN IS NOT RIGHT')
+    sys.exit(0 if right else 1)
+
+
+if __name__ == '__main__':
+    main()

@@ -1,0 +1,81 @@
+ghost use Rattle.std.specs.Prelude.{◌≡◌, ◌≤◌, ◌++◌, ℕ, List, length, OnOk, OnErr, MatchBool};
+ghost use Rattle.pitch_fields.specs.Limits.{last_sequence};
+ghost use Rattle.pitch_model.specs.History.{Entry, Raw};
+ghost use Rattle.pitch_model.specs.Honest.{Honest};
+ghost use Rattle.client_core.specs.Items.{IsImage};
+ghost use Rattle.client_core.specs.Tracks.{Tracks, Keeps};
+ghost use Rattle.drill_client.specs.Ending.{AsksForAll, IsAtEnd, whole_line};
+ghost use Rattle.drill_client.specs.Following.{FollowsOn, ImageParts, IsImageOf};
+ghost use Rattle.drill_client.specs.Told.{is_behind, told_all};
+
+use crate::sure::{hear_sure, hear_whole};
+use client_core::{UnitClient, images_of_bytes_are_images};
+use pitch_fields::OutOfMemory;
+use pitch_messages::RawList;
+use pitch_model::laws::images_leave_their_books;
+use pitch_model::{Item, Status};
+use storm_plan::append_unit_line;
+
+fn is_behind(status: Status) -> bool
+    ensures { result ≡ is_behind status }
+{
+    matches!(status, Status::Behind { .. })
+}
+
+// Hears that both connections ended, that the Spin Server is up again, and of so many messages.
+fn hear_of_all(client: &mut UnitClient, count: u32)
+    requires { count ≤ last_sequence }
+    ensures tracks { (H : ℕ) (E : List Entry) → Tracks client.old H E → Tracks client.new H (told_all count E) }
+    ensures keeps { (Image : List Raw → ℕ → List Raw) (V : List Raw) → IsImage Image V → (H : ℕ) (E : List Entry) → Tracks client.old H E → Honest Image V (told_all count E) → Keeps client.old V → Keeps client.new V }
+{
+    hear_sure(client, &Item::GrpDown);
+    hear_sure(client, &Item::SpinDown);
+    hear_sure(client, &Item::SpinUp);
+    hear_sure(client, &Item::Next { next: count + 1 });
+    hear_sure(client, &Item::Advertised { sequence: count });
+}
+
+/// Tells a client of all the messages of its venue, which are `count`: its connections end, the
+/// Spin Server is up again, and the next sequence and the image of all are told of. Answers whether
+/// it lacks some; it has asked for that image then.
+pub fn ask_for_all(client: &mut UnitClient, count: u32) -> bool
+    requires { count ≤ last_sequence }
+    // Of every venue of so many messages that it followed.
+    ensures { (H : ℕ) (V : List Raw) → length V ≡ count → FollowsOn client.old H V → MatchBool result (AsksForAll client.new H V) (IsAtEnd client.new H V) }
+{
+    images_of_bytes_are_images();
+    hear_of_all(client, count);
+    if !is_behind(client.status()) {
+        return false;
+    }
+    client.tick();
+    true
+}
+
+/// Hears the image of all messages, for which the client asked. With it the client has all.
+pub fn hear_all(
+    client: &mut UnitClient,
+    count: u32,
+    orders: u32,
+    raws: RawList,
+) -> Result<(), OutOfMemory>
+    // Of every venue of so many messages whose image it is.
+    ensures { OnOk result ((H : ℕ) (V : List Raw) → length V ≡ count → IsImageOf V (record { sequence = count; orders = orders; raws = raws.items })
+        → AsksForAll client.old H V → IsAtEnd client.new H V) }
+{
+    images_of_bytes_are_images();
+    images_leave_their_books();
+    hear_whole(client, count, orders, raws)?;
+    Ok(())
+}
+
+/// Appends the line of a unit: the status of its client, the number of open orders and their
+/// shares. `out` is as before after OutOfMemory.
+pub fn append_end(client: &UnitClient, unit: u8, out: &mut Vec<u8>) -> Result<(), OutOfMemory>
+    // Of every venue all of whose messages the client has.
+    ensures ok { OnOk result ((H : ℕ) (V : List Raw) → IsAtEnd client.now H V → out.new.items ≡ out.old.items ++ whole_line unit V) }
+    ensures err { OnErr result (out.new.items ≡ out.old.items) }
+{
+    let book = client.book();
+    append_unit_line(unit, client.status(), book.len(), book.shares(), out)
+}

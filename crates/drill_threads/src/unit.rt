@@ -1,0 +1,178 @@
+//! One unit's drill.
+
+ghost use Rattle.std.specs.Prelude.{◌≡◌, ◌≤◌, ◌*◌, [], IfOk};
+ghost use Rattle.venue_core.specs.Plan.{plan};
+ghost use Rattle.drill_client.specs.Ending.{IsAtEnd};
+ghost use Rattle.drill_client.specs.Following.{FollowsOn};
+ghost use Rattle.unit_threads.specs.DrillText.{most_drilled, drill_kept, drill_line};
+ghost use Rattle.drill_threads.specs.Publishing.{HasAccepted, HasAdvertised, IsPlanned};
+
+use crate::client::follow;
+use crate::closing::close;
+use crate::course::{Course, KEPT};
+use crate::ends::{ClientEnds, Ends, ServiceEnds};
+use crate::publisher::publish;
+use crate::service::serve;
+use client_core::UnitClient;
+use drill_client::append_end;
+use drill_values::DrillRun;
+use pitch_fields::OutOfMemory;
+use pitch_io::Gate;
+use shared_unit::{LeftRightPlaces, MakeError, Naming, Opened, Run, Server, Writer, make};
+use std::alloc::Global;
+use std::marker::Brand;
+use std::sync::Wait;
+use std::thread::{Threads, join};
+use std::time::Clock;
+use unit_threads::drill_plain;
+
+// The client and the service run beside one another until both have ended.
+fn run_receivers<
+    J: Naming + Send + Sync,
+    R: DrillRun + Run + Send + Sync,
+    W: Threads + Wait + Clock + Sync,
+    G: Gate + Sync,
+>(
+    rt: &W,
+    alloc: Global,
+    gate: &G,
+    course: &Course<R>,
+    server: Server<J, R>,
+    client: ClientEnds<J, R>,
+    service: ServiceEnds<J, R>,
+) -> (
+    Result<UnitClient, OutOfMemory>,
+    Result<Server<J, R>, OutOfMemory>,
+)
+    ensures { IfOk result.0 (λ client. FollowsOn client drill_kept (plan R.number R.unit R.count)) }
+{
+    join(
+        rt,
+        move || follow(rt, alloc, gate, course, client),
+        move || serve(rt, alloc, gate, course, server, service),
+    )
+}
+
+// Where all three parties ended well, the client takes what it lacks.
+fn finish<J: Naming, R: DrillRun + Run, H: Wait + Drop>(
+    alloc: Global,
+    course: &Course<R>,
+    published: Result<Writer<J, R, H>, OutOfMemory>,
+    served: Result<Server<J, R>, OutOfMemory>,
+    followed: Result<UnitClient, OutOfMemory>,
+) -> Result<UnitClient, OutOfMemory>
+    requires accepted { IfOk published (λ writer. HasAccepted writer course.now.number course.now.unit course.now.count (2 * course.now.count)) }
+    requires advertised { IfOk published (λ writer. HasAdvertised writer course.now.count) }
+    requires follows { IfOk followed (λ client. FollowsOn client drill_kept (plan R.number R.unit R.count)) }
+    ensures { IfOk result (λ client. IsAtEnd client drill_kept (plan R.number R.unit R.count)) }
+{
+    let mut writer = published?;
+    let mut server = served?;
+    let mut client = followed?;
+    close(alloc, course, &mut writer, &mut server, &mut client)?;
+    Ok(client)
+}
+
+// The three parties run beside one another until all have ended, and the client takes what it
+// lacks then.
+fn run_parties<
+    J: Naming + Send + Sync,
+    R: DrillRun + Run + Send + Sync,
+    W: Threads + Wait + Clock + Sync,
+    G: Gate + Sync,
+>(
+    rt: &W,
+    alloc: Global,
+    gate: &G,
+    course: &Course<R>,
+    writer: Writer<J, R, &W>,
+    server: Server<J, R>,
+) -> Result<UnitClient, OutOfMemory>
+    requires { writer ≡ [] }
+    ensures { IfOk result (λ client. IsAtEnd client drill_kept (plan R.number R.unit R.count)) }
+{
+    let Ends {
+        publisher,
+        client,
+        service,
+    } = Ends::<J, R>::make(alloc)?;
+    let (published, (followed, served)) = join(
+        rt,
+        move || publish(rt, alloc, gate, course, writer, publisher),
+        move || run_receivers(rt, alloc, gate, course, server, client, service),
+    );
+    finish(alloc, course, published, served, followed)
+}
+
+// The line of a unit that is run with threads, or where there is no place for a server in turns.
+fn run_unit<
+    J: Naming + Send + Sync,
+    R: DrillRun + Run + Send + Sync,
+    W: Threads + Wait + Clock + Sync,
+    G: Gate + Sync,
+>(
+    rt: &W,
+    alloc: Global,
+    gate: &G,
+    course: Course<R>,
+    opened: Opened<R>,
+) -> Result<Vec<u8>, OutOfMemory>
+    requires book { opened.seen.book ≡ J.book }
+    requires kept { opened.kept ≡ J.kept }
+    requires servers { opened.servers ≡ 1 }
+    ensures { IfOk result (λ line. line.items ≡ drill_line course.number course.unit course.count) }
+{
+    let mut out = Vec::new(alloc);
+    let mut places = LeftRightPlaces::make();
+    let made = make::<J, R, &W, LeftRightPlaces>(alloc, rt, opened, &mut places);
+    let (writer, mut servers) = match made {
+        Ok(made) => made,
+        Err(MakeError::OutOfMemory) => return Err(OutOfMemory),
+        Err(MakeError::NoPlace) => {
+            drill_plain(alloc, course.number, course.unit, course.count, &mut out)?;
+            return Ok(out);
+        }
+    };
+    let Some(server) = servers.pop() else {
+        unreachable!();
+    };
+    let client = run_parties(rt, alloc, gate, &course, writer, server)?;
+    append_end(&client, course.unit, &mut out)?;
+    Ok(out)
+}
+
+// Picks the pair.
+fn open_unit<R: DrillRun + Run + Send + Sync, W: Threads + Wait + Clock + Sync, G: Gate + Sync>(
+    rt: &W,
+    alloc: Global,
+    gate: &G,
+    number: u64,
+    unit: u8,
+    count: u32,
+) -> Result<Vec<u8>, OutOfMemory>
+    requires number { number ≡ R.number }
+    requires unit { unit ≡ R.unit }
+    requires count { count ≡ R.count }
+    requires most { (1 ≤ count) × (count ≤ most_drilled) }
+    requires planned { IsPlanned R.fixed R.plan number unit count }
+    ensures { IfOk result (λ line. line.items ≡ drill_line number unit count) }
+{
+    let opened: Opened<R> = Opened::make(alloc, unit, KEPT, 1)?;
+    let course: Course<R> = Course::make(number, unit, count);
+    run_unit::<Brand, R, W, G>(rt, alloc, gate, course, opened)
+}
+
+/// The line of a unit. Picks the run.
+pub(crate) fn unit_text<W: Threads + Wait + Clock + Sync, G: Gate + Sync>(
+    rt: &W,
+    alloc: Global,
+    gate: &G,
+    number: u64,
+    unit: u8,
+    count: u32,
+) -> Result<Vec<u8>, OutOfMemory>
+    requires { (1 ≤ count) × (count ≤ most_drilled) }
+    ensures { IfOk result (λ line. line.items ≡ drill_line number unit count) }
+{
+    open_unit::<Brand, W, G>(rt, alloc, gate, number, unit, count)
+}

@@ -1,0 +1,56 @@
+//! The two sockets of a line.
+
+ghost use Rattle.std.specs.Prelude.{◌<◌, length};
+ghost use Rattle.pitch_io.specs.Nets.{CameWithin};
+
+use pitch_io::{NetDone, NetTaken};
+use std::io::ErrorKind;
+use std::net::{Ipv4Addr, SocketAddr, UdpSocket};
+use std::{io, net};
+
+/// The socket that sends a line's datagrams, and the one to which they come.
+#[derive(Drop)]
+pub(crate) struct LineSockets {
+    sender: UdpSocket,
+    receiver: UdpSocket,
+}
+
+impl LineSockets {
+    /// Opens both. From then on each takes datagrams of the other alone.
+    pub(crate) fn open<R: net::Net>(rt: &R) -> io::Result<LineSockets> {
+        let any_port = SocketAddr::from((Ipv4Addr::LOCALHOST, 0));
+        let sender = UdpSocket::bind(rt, any_port)?;
+        let receiver = UdpSocket::bind(rt, any_port)?;
+        receiver.connect(sender.local_addr()?)?;
+        sender.connect(receiver.local_addr()?)?;
+        sender.set_nonblocking(true)?;
+        receiver.set_nonblocking(true)?;
+        Ok(LineSockets { sender, receiver })
+    }
+
+    /// Sends a datagram, or fails where it is longer than a socket takes. One without bytes is not
+    /// carried.
+    pub(crate) fn send(&self, datagram: &[u8]) -> NetDone {
+        if datagram.is_empty() {
+            return NetDone::Done;
+        }
+        match self.sender.send(datagram) {
+            Ok(_) => NetDone::Done,
+            Err(_) => NetDone::Failed,
+        }
+    }
+
+    /// Takes the next datagram to the start of the slice; one that is longer is cut.
+    pub(crate) fn next(&self, into: &mut [u8]) -> NetTaken
+        ensures count { CameWithin result into.new }
+    {
+        match self.receiver.recv(into) {
+            Ok(0) => NetTaken::Quiet,
+            Ok(count) => NetTaken::Got(count),
+            Err(error) => match error.kind() {
+                ErrorKind::WouldBlock => NetTaken::Quiet,
+                _ => NetTaken::Failed,
+            },
+        }
+    }
+}

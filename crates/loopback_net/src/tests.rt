@@ -1,0 +1,238 @@
+use crate::StdNet;
+use crate::connection::{Connection, open_connection, put, take};
+use pitch_io::{Line, LinkEnd, Net, NetDone, NetTaken, Put};
+use std::io::ErrorKind;
+use std::net::{OpenListener, SocketAddr, TcpListener, TcpStream, UdpSocket};
+use std::process::Abort;
+use std::time::Duration;
+use std::{io, net, thread};
+
+// How often something that is on its way is asked for.
+const MOST_ASKS: u32 = 10_000;
+
+const DATAGRAMS: [(Line, &[u8; 4]); 4] = [
+    (Line::A, b"on a"),
+    (Line::B, b"on b"),
+    (Line::Gap, b"gap."),
+    (Line::A, b"more"),
+];
+
+// An end where bytes are put, the end to which they come, and the bytes.
+const PIECES: [(LinkEnd, LinkEnd, &[u8; 4]); 4] = [
+    (LinkEnd::GrpClient, LinkEnd::GrpServer, b"gap?"),
+    (LinkEnd::GrpServer, LinkEnd::GrpClient, b"gap!"),
+    (LinkEnd::SpinClient, LinkEnd::SpinServer, b"spin"),
+    (LinkEnd::SpinServer, LinkEnd::SpinClient, b"spun"),
+];
+
+// What comes next on a line, if anything does.
+fn next_bytes<R: Abort + AllocGlobal, N: Net>(rt: &R, net: &mut N, line: Line) -> Vec<u8> {
+    let mut into = [0u8; 64];
+    for _ in 0..MOST_ASKS {
+        if let NetTaken::Got(count) = net.next(line, &mut into) {
+            return Vec::from_slice(rt.alloc(), &into[..count]).expect(rt, "memory");
+        }
+        thread::yield_now();
+    }
+    Vec::new(rt.alloc())
+}
+
+// What comes next to an end, if anything does.
+fn take_bytes<R: Abort + AllocGlobal, N: Net>(rt: &R, net: &mut N, end: LinkEnd) -> Vec<u8> {
+    let mut into = [0u8; 64];
+    for _ in 0..MOST_ASKS {
+        if let NetTaken::Got(count) = net.take(end, &mut into) {
+            return Vec::from_slice(rt.alloc(), &into[..count]).expect(rt, "memory");
+        }
+        thread::yield_now();
+    }
+    Vec::new(rt.alloc())
+}
+
+// The answers where each line and each end is asked once.
+fn answers_of_all<R: Abort + AllocGlobal, N: Net>(rt: &R, net: &mut N) -> Vec<NetTaken> {
+    let mut into = [0u8; 64];
+    let mut answers = Vec::new(rt.alloc());
+    for line in [Line::A, Line::B, Line::Gap] {
+        answers.push(net.next(line, &mut into)).expect(rt, "memory");
+    }
+    for (end, _, _) in PIECES {
+        answers.push(net.take(end, &mut into)).expect(rt, "memory");
+    }
+    answers
+}
+
+#[test]
+fn what_goes_in_comes_out_at_the_other_side(rt: HostRuntime) {
+    let mut net = StdNet::make(&rt);
+    assert_eq!(rt; net.begin(), NetDone::Done);
+    for (line, datagram) in DATAGRAMS {
+        assert_eq!(rt; net.send(line, datagram), NetDone::Done);
+    }
+    for (end, _, piece) in PIECES {
+        assert_eq!(rt; net.put(end, piece), Put::Wrote(4));
+    }
+    for (line, datagram) in DATAGRAMS {
+        assert_eq!(rt;
+            next_bytes(&rt, &mut net, line).as_slice(),
+            datagram.as_slice()
+        );
+    }
+    for (_, end, piece) in PIECES {
+        assert_eq!(rt; take_bytes(&rt, &mut net, end).as_slice(), piece.as_slice());
+    }
+    let answers = answers_of_all(&rt, &mut net);
+    assert_eq!(rt; answers.as_slice(), [NetTaken::Quiet; 7].as_slice());
+}
+
+#[test]
+fn a_line_carries_what_udp_carries(rt: HostRuntime) {
+    let bytes = [7u8; 65_508];
+    let mut net = StdNet::make(&rt);
+    assert_eq!(rt; net.begin(), NetDone::Done);
+    assert_eq!(rt; net.send(Line::A, b""), NetDone::Done);
+    assert_eq!(rt; net.send(Line::A, &bytes), NetDone::Failed);
+    assert_eq!(rt; net.send(Line::A, &bytes[..65_507]), NetDone::Done);
+    assert_eq!(rt; net.send(Line::A, b"next"), NetDone::Done);
+    assert_eq!(rt;
+        next_bytes(&rt, &mut net, Line::A).as_slice(),
+        [7; 64].as_slice()
+    );
+    assert_eq!(rt;
+        next_bytes(&rt, &mut net, Line::A).as_slice(),
+        b"next".as_slice()
+    );
+    assert_eq!(rt; net.send(Line::B, b"lost"), NetDone::Done);
+    assert_eq!(rt; net.begin(), NetDone::Done);
+    let answers = answers_of_all(&rt, &mut net);
+    assert_eq!(rt; answers.as_slice(), [NetTaken::Quiet; 7].as_slice());
+}
+
+// Puts pieces until one has no room, and answers how many bytes were written.
+fn fill<N: Net>(net: &mut N, end: LinkEnd) -> u64 {
+    let piece = [1u8; 50_000];
+    let mut written = 0u64;
+    for _ in 0..MOST_ASKS {
+        match net.put(end, &piece) {
+            Put::Wrote(count) => written = written.saturating_add(count as u64),
+            Put::Failed => return written,
+        }
+    }
+    0
+}
+
+// Takes until so many bytes came, and answers how many did.
+fn drain<N: Net>(net: &mut N, end: LinkEnd, wanted: u64) -> u64 {
+    let mut into = [0u8; 50_000];
+    let mut taken = 0u64;
+    for _ in 0..MOST_ASKS {
+        if taken >= wanted {
+            return taken;
+        }
+        match net.take(end, &mut into) {
+            NetTaken::Got(count) => taken = taken.saturating_add(count as u64),
+            NetTaken::Quiet => thread::yield_now(),
+            NetTaken::End | NetTaken::Failed => return 0,
+        }
+    }
+    taken
+}
+
+#[test]
+fn a_full_connection_refuses_a_piece_and_loses_nothing(rt: HostRuntime) {
+    let mut net = StdNet::make(&rt);
+    assert_eq!(rt; net.begin(), NetDone::Done);
+    let written = fill(&mut net, LinkEnd::SpinServer);
+    assert!(rt; written > 0);
+    assert_eq!(rt; drain(&mut net, LinkEnd::SpinClient, written), written);
+    assert_eq!(rt; net.put(LinkEnd::SpinServer, b"more"), Put::Wrote(4));
+    assert_eq!(rt;
+        take_bytes(&rt, &mut net, LinkEnd::SpinClient).as_slice(),
+        b"more".as_slice()
+    );
+}
+
+#[test]
+fn a_stream_ends_where_the_other_is_dropped(rt: HostRuntime) {
+    let Connection {
+        mut client,
+        mut server,
+    } = open_connection(&rt).expect(&rt, "a connection");
+    let mut into = [0u8; 64];
+    assert_eq!(rt; put(&mut client, b"last"), Put::Wrote(4));
+    drop(client);
+    let mut answers = [NetTaken::Quiet; 2];
+    for answer in &mut answers {
+        for _ in 0..MOST_ASKS {
+            *answer = take(&mut server, &mut into);
+            if *answer != NetTaken::Quiet {
+                break;
+            }
+            thread::yield_now();
+        }
+    }
+    assert_eq!(rt; answers, [NetTaken::Got(4), NetTaken::End]);
+}
+
+// A network that opens nothing.
+#[derive(Drop)]
+struct NoNetwork;
+
+impl net::Net for NoNetwork {
+    type Stream = TcpStream;
+
+    type Listener = TcpListener;
+
+    fn bind(&self, _addr: SocketAddr) -> io::Result<TcpListener> {
+        Err(io::Error::from(ErrorKind::Unsupported))
+    }
+
+    fn connect(&self, _addr: SocketAddr) -> io::Result<TcpStream> {
+        Err(io::Error::from(ErrorKind::Unsupported))
+    }
+}
+
+// A network on which a stranger is the first to connect to each listener.
+#[derive(Drop)]
+struct Crowded<R>(R);
+
+impl<R: net::Net> net::Net for Crowded<R> {
+    type Stream = R::Stream;
+
+    type Listener = R::Listener;
+
+    fn bind(&self, addr: SocketAddr) -> io::Result<R::Listener> {
+        let listener = self.0.bind(addr)?;
+        self.0.connect(listener.local_addr()?)?;
+        Ok(listener)
+    }
+
+    fn connect(&self, addr: SocketAddr) -> io::Result<R::Stream> {
+        self.0.connect(addr)
+    }
+
+    fn connect_timeout(&self, addr: SocketAddr, timeout: Duration) -> io::Result<R::Stream> {
+        self.0.connect_timeout(addr, timeout)
+    }
+
+    fn bind_udp(&self, addr: SocketAddr) -> io::Result<UdpSocket> {
+        self.0.bind_udp(addr)
+    }
+}
+
+// The answers of a net that could not begin.
+fn answers_of_unopened<R: Abort + AllocGlobal, N: Net>(rt: &R, net: &mut N) -> Vec<NetTaken> {
+    assert_eq!(rt; net.begin(), NetDone::Failed);
+    assert_eq!(rt; net.send(Line::A, b"a"), NetDone::Failed);
+    assert_eq!(rt; net.put(LinkEnd::GrpClient, b"a"), Put::Failed);
+    answers_of_all(rt, net)
+}
+
+#[test]
+fn what_was_not_opened_fails(rt: HostRuntime) {
+    let silent = answers_of_unopened(&rt, &mut StdNet::make(NoNetwork));
+    let crowded = answers_of_unopened(&rt, &mut StdNet::make(Crowded(&rt)));
+    for answers in [silent, crowded] {
+        assert_eq!(rt; answers.as_slice(), [NetTaken::Failed; 7].as_slice());
+    }
+}

@@ -1,0 +1,96 @@
+-- A run that ended is a demo.
+use Rattle.std.proofs.Common.{◌≡◌, ℕ, ◌<◌, ◌≤◌, ◌++◌, List, Option, None, Some, sym, ap, ◌∙◌, subst, arith, length}
+use Rattle.std.specs.FinMap as map
+use Rattle.std.specs.List.{AllByRecursion}
+use Rattle.pitch_fields.specs.Fields.{AreBytes}
+use Rattle.pitch_fields.specs.Limits.{last_sequence}
+use Rattle.pitch_io.specs.declared.line.Line.{Line}
+use Rattle.pitch_io.specs.declared.line.Line.TheVariants.{A, B, Gap}
+use Rattle.pitch_io.specs.declared.net.LinkEnd.{LinkEnd}
+use Rattle.pitch_io.specs.declared.net.LinkEnd.TheVariants.{GrpClient, GrpServer, SpinClient, SpinServer}
+use Rattle.pitch_io.specs.Nets.{Call}
+use Rattle.pitch_messages.specs.Raw.{IsRaw}
+use Rattle.pitch_model.specs.Datagrams.{IsPiece}
+use Rattle.pitch_model.specs.History.{Raw}
+use Rattle.pitch_model.specs.Levels.{shares}
+use Rattle.pitch_model.specs.Status.{status_of}
+use Rattle.venue_core.specs.Plan.{plan}
+use Rattle.client_core.specs.Tracks.{current_book}
+use Rattle.storm_plan.specs.StormText.{unit_line}
+use Rattle.net_edge.specs.Acting.{scene_of}
+use Rattle.net_edge.specs.Demo.{IsDemo, IsEnd, IsLast, AddsCalls, all_messages}
+use Rattle.net_edge.specs.Due.{Setting, demo_unit, hold_limit, accepted}
+use Rattle.net_edge.specs.Playing.{DemoAt, EndsHave, IsTold, MarketAt, calls_before}
+use Rattle.net_edge.specs.Scene.{Scene, on_line, at_end, said_at}
+use Rattle.net_edge.specs.Steps.{Step}
+use Rattle.net_edge.specs.Turns.{AreSteps, IsOver, status_at}
+use Rattle.net_edge.specs.declared.ends.Ends.{Ends}
+use Rattle.net_edge.specs.declared.market.Market.{Market}
+use Rattle.net_edge.proofs.Feeding.{due_pieces, replied_pieces}
+use Rattle.net_edge.proofs.Carried.{carried_book}
+
+-- what the venue's messages are
+record AreMessages (V : List Raw) : Type 0 where
+  raws : AllByRecursion IsRaw V
+  bytes : AllByRecursion AreBytes V
+  few : length V ≤ last_sequence
+
+-- after the last message all were accepted
+all_accepted : (s : Setting) (market : Market) (turn : ℕ) → s.count < turn → MarketAt s market turn → AreMessages (all_messages s)
+all_accepted s market turn above has =
+    let every : accepted s turn ≡ s.count = omega (arith, above) in
+    subst AreMessages (ap (plan s.number demo_unit) every) (record { raws = has.venue.raws; bytes = has.venue.bytes; few = has.venue.few })
+
+adds : (before after : Option (List Call)) (run : List Step) → IsTold (calls_before before) after run → AddsCalls run before after
+adds None None run told = tt
+adds None (Some calls) run told = tt
+adds (Some calls) None run told = tt
+adds (Some before) (Some after) run told = told
+
+-- all that was said was put
+all_was_put : (ends : Ends) (now : Scene) → EndsHave ends now → (at : LinkEnd) → (at_end at now).put ≡ said_at at now
+all_was_put ends now has GrpClient = has.grp_client_put
+all_was_put ends now has GrpServer = has.grp_server_put
+all_was_put ends now has SpinClient = has.spin_client_put
+all_was_put ends now has SpinServer = has.spin_server_put
+
+-- and what was sent are pieces
+all_are_pieces : (s : Setting) (ends : Ends) (run : List Step) → AreMessages (all_messages s) → EndsHave ends (scene_of s run) → IsOver s (scene_of s run)
+    → (line : Line) → AllByRecursion (IsPiece (all_messages s) demo_unit) (on_line line (scene_of s run)).sent
+all_are_pieces s ends run are has over A = subst (AllByRecursion (IsPiece (all_messages s) demo_unit)) (sym over.on_a) (due_pieces s are.raws are.few A (scene_of s run).turn)
+all_are_pieces s ends run are has over B = subst (AllByRecursion (IsPiece (all_messages s) demo_unit)) (sym over.on_b) (due_pieces s are.raws are.few B (scene_of s run).turn)
+all_are_pieces s ends run are has over Gap = subst (AllByRecursion (IsPiece (all_messages s) demo_unit)) (sym has.replayed) (replied_pieces s are.raws are.few run)
+
+run_ends : (s : Setting) (ends : Ends) (market : Market) (run : List Step) → AreSteps s run → EndsHave ends (scene_of s run) → IsOver s (scene_of s run) → IsLast s (scene_of s run) → MarketAt s market (scene_of s run).turn
+    → IsEnd s (scene_of s run) (map.len (current_book ends.client).orders) (shares (current_book ends.client))
+run_ends s ends market run steps has over last at =
+    let R : Scene = scene_of s run in
+    let are : AreMessages (all_messages s) = all_accepted s market R.turn last.above at in
+    let puts = all_was_put ends R has in
+    let pieces = all_are_pieces s ends run are has over in
+    record {
+      over = over;
+      last = last;
+      put = puts;
+      replayed = has.replayed;
+      pieces = pieces;
+      book = λ carried. carried_book s run carried puts pieces ends.client are.bytes are.few steps has.client;
+    }
+
+pub demo_is : (s : Setting) (before after : Option (List Call)) (text text' : List ℕ) (ends : Ends) (market : Market) (now : Scene) → DemoAt s (calls_before before) after ends now → IsOver s now → IsLast s now → MarketAt s market now.turn
+    → text' ≡ text ++ unit_line demo_unit (status_of hold_limit now.heard) (map.len (current_book ends.client).orders) (shares (current_book ends.client)) → IsDemo s before after text text'
+demo_is s before after text text' ends market now at over last has printed =
+    let run : List Step = at.plays.0 in
+    let led = at.plays.1 in
+    let back : now ≡ scene_of s run = sym led.now_is in
+    let orders : ℕ = map.len (current_book ends.client).orders in
+    let quantity : ℕ = shares (current_book ends.client) in
+    record {
+      run = run;
+      calls = adds before after run led.told;
+      steps = led.steps;
+      orders = orders;
+      quantity = quantity;
+      end = run_ends s ends market run led.steps (subst (EndsHave ends) back at.has) (subst (IsOver s) back over) (subst (IsLast s) back last) (subst (λ (n : Scene). MarketAt s market n.turn) back has);
+      printed = printed ∙ ap (λ (n : Scene). text ++ unit_line demo_unit (status_at n) orders quantity) back;
+    }

@@ -1,0 +1,75 @@
+-- What came to the client up to a step is the beginning of what came in all.
+use Rattle.std.proofs.Common.{◌≡◌, List, [], ◌++◌, refl, sym, ap, ◌∙◌, append_assoc}
+use Rattle.std.proofs.lemmas.List.{append-nil}
+use Rattle.pitch_io.specs.declared.line.Line.TheVariants.{A, B, Gap}
+use Rattle.pitch_io.specs.declared.net.LinkEnd.TheVariants.{GrpClient, GrpServer, SpinClient, SpinServer}
+use Rattle.pitch_io.specs.declared.net.NetTaken.TheVariants.{Got, Quiet, End, Failed}
+use Rattle.pitch_io.specs.Nets.{Begin, Send, Next, Put, Take}
+use Rattle.net_edge.specs.Acting.{moved, came_by}
+use Rattle.net_edge.specs.Due.{Setting}
+use Rattle.net_edge.specs.Scene.{Scene}
+use Rattle.net_edge.specs.Steps.{Step, Did, Beat, Turn}
+
+-- a list is the beginning of another
+abbrev pub Begins : {X : Type 0} → List X → List X → Type 0
+Begins {X} xs ys = (later : List X) × (ys ≡ xs ++ later)
+
+begins_same : {X : Type 0} (xs : List X) → Begins xs xs
+begins_same xs = ([], sym (append-nil xs))
+
+begins_then : {X : Type 0} (xs ys zs : List X) → Begins xs ys → Begins ys zs → Begins xs zs
+begins_then xs ys zs one two = (one.0 ++ two.0, two.1 ∙ ap (λ l. l ++ two.0) one.1 ∙ append_assoc xs one.0 two.0)
+
+pub record IsBefore (n m : Scene) : Type 0 where
+  pub a : Begins n.a.came m.a.came
+  pub b : Begins n.b.came m.b.came
+  pub gap : Begins n.gap.came m.gap.came
+  pub spin : Begins n.spin_client.came m.spin_client.came
+
+pub before_then : (n m o : Scene) → IsBefore n m → IsBefore m o → IsBefore n o
+before_then n m o one two = record {
+  a = begins_then n.a.came m.a.came o.a.came one.a two.a;
+  b = begins_then n.b.came m.b.came o.b.came one.b two.b;
+  gap = begins_then n.gap.came m.gap.came o.gap.came one.gap two.gap;
+  spin = begins_then n.spin_client.came m.spin_client.came o.spin_client.came one.spin two.spin;
+}
+
+pub before_same : (n : Scene) → IsBefore n n
+before_same n = record { a = begins_same n.a.came; b = begins_same n.b.came; gap = begins_same n.gap.came; spin = begins_same n.spin_client.came }
+
+still : (n m : Scene) → m.a.came ≡ n.a.came → m.b.came ≡ n.b.came → m.gap.came ≡ n.gap.came → m.spin_client.came ≡ n.spin_client.came → IsBefore n m
+still n m a b gap spin = record {
+  a = ([], a ∙ sym (append-nil n.a.came));
+  b = ([], b ∙ sym (append-nil n.b.came));
+  gap = ([], gap ∙ sym (append-nil n.gap.came));
+  spin = ([], spin ∙ sym (append-nil n.spin_client.came));
+}
+
+-- a step only adds
+pub grows : (s : Setting) (step : Step) (n : Scene) → IsBefore n (moved s step n)
+grows s (Did (Begin answer)) n = before_same n
+grows s (Did (Send A datagram answer)) n = still n _ refl refl refl refl
+grows s (Did (Send B datagram answer)) n = still n _ refl refl refl refl
+grows s (Did (Send Gap datagram answer)) n = still n _ refl refl refl refl
+grows s (Did (Next A bytes answer)) n = record { a = (came_by answer bytes, refl); b = begins_same n.b.came; gap = begins_same n.gap.came; spin = begins_same n.spin_client.came }
+grows s (Did (Next B bytes answer)) n = record { a = begins_same n.a.came; b = (came_by answer bytes, refl); gap = begins_same n.gap.came; spin = begins_same n.spin_client.came }
+grows s (Did (Next Gap bytes answer)) n = record { a = begins_same n.a.came; b = begins_same n.b.came; gap = (came_by answer bytes, refl); spin = begins_same n.spin_client.came }
+grows s (Did (Put GrpClient piece answer)) n = still n _ refl refl refl refl
+grows s (Did (Put GrpServer piece answer)) n = still n _ refl refl refl refl
+grows s (Did (Put SpinClient piece answer)) n = still n _ refl refl refl refl
+grows s (Did (Put SpinServer piece answer)) n = still n _ refl refl refl refl
+grows s (Did (Take GrpServer bytes (Got count))) n = still n _ refl refl refl refl
+grows s (Did (Take GrpServer bytes Quiet)) n = still n _ refl refl refl refl
+grows s (Did (Take GrpServer bytes End)) n = still n _ refl refl refl refl
+grows s (Did (Take GrpServer bytes Failed)) n = still n _ refl refl refl refl
+grows s (Did (Take SpinServer bytes answer)) n = still n _ refl refl refl refl
+grows s (Did (Take GrpClient bytes (Got count))) n = still n _ refl refl refl refl
+grows s (Did (Take GrpClient bytes Quiet)) n = still n _ refl refl refl refl
+grows s (Did (Take GrpClient bytes End)) n = still n _ refl refl refl refl
+grows s (Did (Take GrpClient bytes Failed)) n = still n _ refl refl refl refl
+grows s (Did (Take SpinClient bytes (Got count))) n = record { a = begins_same n.a.came; b = begins_same n.b.came; gap = begins_same n.gap.came; spin = (bytes, refl) }
+grows s (Did (Take SpinClient bytes Quiet)) n = record { a = begins_same n.a.came; b = begins_same n.b.came; gap = begins_same n.gap.came; spin = ([], refl) }
+grows s (Did (Take SpinClient bytes End)) n = record { a = begins_same n.a.came; b = begins_same n.b.came; gap = begins_same n.gap.came; spin = ([], refl) }
+grows s (Did (Take SpinClient bytes Failed)) n = record { a = begins_same n.a.came; b = begins_same n.b.came; gap = begins_same n.gap.came; spin = ([], refl) }
+grows s (Beat heartbeat answer) n = still n _ refl refl refl refl
+grows s Turn n = still n _ refl refl refl refl

@@ -1,0 +1,19 @@
+pub mod Runs
+mod Grouping
+mod Hearing
+mod Serving
+mod Spinning
+mod Linking
+mod Saying
+mod Markets
+mod Ticking
+mod Turning
+mod Parts
+mod Starting
+mod Growing
+mod Feeding
+mod Honesty
+mod Spoken
+mod Carried
+mod Ending
+mod Examples

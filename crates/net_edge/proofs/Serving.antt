@@ -1,0 +1,121 @@
+-- What the proxy does with what comes to it.
+use Rattle.std.proofs.Common.{◌≡◌, ℕ, ◌∷◌, ◌++◌, ◌||◌, ◌⊎◌, inl, inr, Bool, true, false, List, [], length, replicate, Option, refl, sym, ap, ◌∙◌, subst}
+use Rattle.pitch_io.specs.declared.net.LinkEnd.TheVariants.{GrpServer}
+use Rattle.pitch_io.specs.declared.net.NetTaken.{NetTaken}
+use Rattle.pitch_io.specs.declared.net.NetTaken.TheVariants as taken
+use Rattle.pitch_io.specs.Nets.{Call, Take, ListsCall, came}
+use Rattle.gap_store.specs.Look.{View, Store, store_of}
+use Rattle.session_ends.specs.Answering.{Answer}
+use Rattle.session_ends.specs.Closing.{Setup}
+use Rattle.session_ends.specs.Events.{Event, Fed}
+use Rattle.session_ends.specs.Sending.{new_items}
+use Rattle.grp_session.specs.Budget.{Counts, Counted, Spent}
+use Rattle.grp_session.specs.Budget as budget
+use Rattle.grp_session.specs.Serving.{Source, Answered, ProxyFeeds, StoreHasOneView, proxy_answer}
+use Rattle.net_edge.specs.Acting.{source_at, taken_at, is_open}
+use Rattle.net_edge.specs.Due.{Setting, gap_view}
+use Rattle.net_edge.specs.Playing.{ProxyHas, ProxyFed, ProxyAnswers, ProxyServes, Plays, proxy_said}
+use Rattle.net_edge.specs.Scene.{Scene, AtEnd, is_end}
+use Rattle.net_edge.specs.declared.proxy.Proxy.{Proxy}
+use Rattle.net_edge.proofs.Runs.{play_call}
+
+abbrev source_of : budget.Limits → Spent → List View → Source
+source_of m spent views = record { there = true; views = views; limits = m; spent = spent }
+
+-- it is fed over the venue's messages
+pub fed_at : (s : Setting) (now : Scene) (piece : List ℕ) (old new : Proxy) (store store' : Store) (none said : List ℕ) (nothing lines : List (List ℕ)) → StoreHasOneView → ProxyHas old now.grp.server now.spent → store ≡ store_of (gap_view s now.turn) → store' ≡ store
+    → none ≡ [] → nothing ≡ [] → new.server.setup ≡ old.server.setup → new.budget.limits ≡ old.budget.limits
+    → ProxyFeeds now.grp.server piece old.server new.server true old.budget.limits now.spent (gap_view s now.turn) (Counted new.budget) (λ v. store' ≡ store_of v) none said nothing lines
+    → ProxyFed s piece now new said lines
+fed_at s now piece old new store store' none said nothing lines one has stored still no_said no_lines setup limits feeds =
+    let view : View = gap_view s now.turn in
+    let es : List (Event Source) = now.grp.server in
+    let views_are : feeds.views ≡ replicate (length (new_items es piece)) view =
+    (one view feeds.now feeds.views feeds.rises (sym feeds.shows ∙ still ∙ stored)).1 ∙ ap (λ (n : ℕ). replicate n view) feeds.each in
+    let source_is : source_of old.budget.limits now.spent feeds.views ≡ source_at s piece now =
+    ap (λ (vs : List View). source_of old.budget.limits now.spent vs) views_are ∙ ap (λ (m : budget.Limits). source_of m now.spent (replicate (length (new_items es piece)) view)) has.limits_are in
+    let there : Answered es piece (source_at s piece now) old.server new.server (Counted new.budget) none said nothing lines =
+    subst (λ (src : Source). Answered es piece src old.server new.server (Counted new.budget) none said nothing lines) source_is feeds.answered in
+    let answer : Setup → Answer Spent = λ m. proxy_answer m es piece (source_at s piece now) in
+    record {
+      has = record {
+        made = setup ∙ has.made;
+        stands = there.stands;
+        limits_are = limits ∙ has.limits_are;
+        counted = subst (λ (m : Setup). Counted new.budget (answer m).knows) has.made there.counts;
+      };
+      said_is = there.replied ∙ ap (λ (r : List ℕ). r ++ (answer old.server.setup).reply) no_said ∙ ap (λ (m : Setup). (answer m).reply) has.made;
+      lines_are = there.lined ∙ ap (λ (ds : List (List ℕ)). ds ++ (answer old.server.setup).lines) no_lines ∙ ap (λ (m : Setup). (answer m).lines) has.made;
+    }
+
+-- ---- A call of `take`
+may_take : (end : AtEnd) (answers : List NetTaken) (cut : Bool) → end.answers ≡ answers → is_open answers ≡ true → end.ended ≡ false → cut ≡ false → (is_open end.answers ≡ true) × ((end.ended || cut) ≡ false)
+may_take end answers cut are opened unended whole = (ap is_open are ∙ opened, ap (λ (b : Bool). b || cut) unended ∙ whole)
+
+-- something came
+pub serves_got : (s : Setting) (base : List Call) (calls calls' calls'' : Option (List Call)) (old new : Proxy) (bytes : List ℕ) (count : ℕ) (answers : List NetTaken) (now : Scene)
+    → ProxyServes s base calls old answers false now → now.grp_cut ≡ false → is_open answers ≡ true → ListsCall calls calls' (Take GrpServer bytes (taken.Got count))
+    → ((scene : Scene) → ProxyHas old scene.grp.server scene.spent → scene.turn ≡ now.turn → Plays s base calls' (taken_at s GrpServer bytes (taken.Got count) scene) → ProxyAnswers s base calls'' new bytes count scene)
+    → ProxyServes s base calls'' new (taken.Got count ∷ answers) false now
+serves_got s base calls calls' calls'' old new bytes count answers now h whole opened lists serves =
+    let at : Scene = record now {
+      grp_server = h.end;
+      grp = record { up = now.grp.up; down = h.down; server = h.server; link = now.grp.link };
+      spent = h.spent;
+      replayed = h.lines;
+      gap = record { sent = h.lines; came = now.gap.came; answers = now.gap.answers };
+    } in
+    let after : ProxyAnswers s base calls'' new bytes count at = serves at h.has refl (play_call s base calls calls' at (Take GrpServer bytes (taken.Got count)) lists (may_take h.end answers now.grp_cut h.answers_are opened h.ended_is whole) h.plays) in
+    let said : Answer Spent = proxy_said s bytes at in
+    record {
+      end = record { put = h.end.put ++ said.reply; came = h.end.came ++ bytes; answers = taken.Got count ∷ h.end.answers; ended = h.end.ended };
+      server = Fed bytes (source_at s bytes at) ∷ h.server;
+      down = record { put = h.down.put ++ said.reply; taken = h.down.taken };
+      spent = said.knows;
+      lines = h.lines ++ said.lines;
+      answers_are = ap (λ (l : List NetTaken). taken.Got count ∷ l) h.answers_are;
+      ended_is = h.ended_is;
+      put_is = ap (λ (b : List ℕ). b ++ said.reply) h.put_is;
+      has = after.has;
+      plays = after.plays;
+    }
+
+-- nothing came
+pub serves_none : (s : Setting) (base : List Call) (calls calls' : Option (List Call)) (proxy : Proxy) (into : List ℕ) (answer : NetTaken) (answers : List NetTaken) (now : Scene)
+    → ProxyServes s base calls proxy answers false now → now.grp_cut ≡ false → is_open answers ≡ true → (answer ≡ taken.Quiet) ⊎ (answer ≡ taken.End) → ListsCall calls calls' (Take GrpServer (came answer into) answer)
+    → ProxyServes s base calls' proxy (answer ∷ answers) (is_end answer) now
+serves_none s base calls calls' proxy into answer answers now h whole opened which lists =
+    let at : Scene = record now {
+      grp_server = h.end;
+      grp = record { up = now.grp.up; down = h.down; server = h.server; link = now.grp.link };
+      spent = h.spent;
+      replayed = h.lines;
+      gap = record { sent = h.lines; came = now.gap.came; answers = now.gap.answers };
+    } in
+    let may = may_take h.end answers now.grp_cut h.answers_are opened h.ended_is whole in
+    elim which [
+      | inl quiet ↦ subst (λ (a : NetTaken). ProxyServes s base calls' proxy (a ∷ answers) (is_end a) now) (sym quiet) (record {
+        end = record { put = h.end.put; came = h.end.came ++ []; answers = taken.Quiet ∷ h.end.answers; ended = h.end.ended };
+        server = h.server;
+        down = h.down;
+        spent = h.spent;
+        lines = h.lines;
+        answers_are = ap (λ (l : List NetTaken). taken.Quiet ∷ l) h.answers_are;
+        ended_is = h.ended_is;
+        put_is = h.put_is;
+        has = h.has;
+        plays = play_call s base calls calls' at (Take GrpServer [] taken.Quiet) (subst (λ (a : NetTaken). ListsCall calls calls' (Take GrpServer (came a into) a)) quiet lists) may h.plays;
+      })
+      | inr end ↦ subst (λ (a : NetTaken). ProxyServes s base calls' proxy (a ∷ answers) (is_end a) now) (sym end) (record {
+        end = record { put = h.end.put; came = h.end.came ++ []; answers = taken.End ∷ h.end.answers; ended = true };
+        server = h.server;
+        down = h.down;
+        spent = h.spent;
+        lines = h.lines;
+        answers_are = ap (λ (l : List NetTaken). taken.End ∷ l) h.answers_are;
+        ended_is = refl;
+        put_is = h.put_is;
+        has = h.has;
+        plays = play_call s base calls calls' at (Take GrpServer [] taken.End) (subst (λ (a : NetTaken). ListsCall calls calls' (Take GrpServer (came a into) a)) end lists) may h.plays;
+      })
+    ]

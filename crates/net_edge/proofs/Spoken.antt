@@ -1,0 +1,169 @@
+-- All that the Spin Server says in a run are moves of a server that sees the venue's messages.
+use Rattle.std.proofs.Common.{ℕ, zero, suc, ◌-◌, ◌≤◌, Bool, true, false, cond, List, [], ◌∷◌, ◌++◌, length, drop, replicate, Option, None, Some, nat_eq, sym, subst, arith}
+use Rattle.std.specs.List.{AllByRecursion}
+use Rattle.std.specs.Set.{is_member}
+use Rattle.pitch_io.specs.declared.line.Line.TheVariants.{A, B, Gap}
+use Rattle.pitch_io.specs.declared.net.LinkEnd.TheVariants.{GrpClient, GrpServer, SpinClient, SpinServer}
+use Rattle.pitch_io.specs.declared.net.NetTaken.{NetTaken}
+use Rattle.pitch_io.specs.declared.net.NetTaken.TheVariants.{Got, Quiet, End, Failed}
+use Rattle.pitch_io.specs.Nets.{Begin, Send, Next, Put, Take}
+use Rattle.pitch_model.specs.Advertising.{with_sequence, last_ten}
+use Rattle.pitch_model.specs.Asking.{ask_of}
+use Rattle.pitch_model.specs.History.{Raw}
+use Rattle.pitch_model.specs.declared.ask.Ask.{Ask}
+use Rattle.pitch_model.specs.declared.ask.Ask.TheVariants as asks
+use Rattle.session_ends.specs.Events.{Fed, Ticked, Told, Pumped}
+use Rattle.session_ends.specs.Sending.{new_items}
+use Rattle.spin_server.specs.Served.{Served}
+use Rattle.spin_path.specs.Paths.{IsShown}
+use Rattle.world_model.specs.Ends.{spin_link}
+use Rattle.world_model.specs.State.{Connection}
+use Rattle.world_model.specs.Verbs.{at_spin_server, at_link, pumped_times, pumps}
+use Rattle.world_model.specs.Witness.{Witnessed}
+use Rattle.world_model.proofs.SpinWitness as spin
+use Rattle.world_model.proofs.Witness as witness
+use Rattle.net_edge.specs.Acting.{moved, scene_of, is_open, spin_fed, spin_answered, where_stands, servers_tick, links_tick, asked_spin}
+use Rattle.net_edge.specs.Demo.{all_messages}
+use Rattle.net_edge.specs.Due.{Setting, demo_unit, hold_limit, accepted, advertised, is_tenth, spin_view}
+use Rattle.net_edge.specs.Scene.{Scene}
+use Rattle.net_edge.specs.Steps.{Step, Did, Beat, Turn}
+use Rattle.net_edge.proofs.Feeding.{later_messages, messages_first, messages_many, all_many}
+use Rattle.net_edge.proofs.Honesty.{no_pipe}
+
+-- ---- What it sees
+all_both : {A : Type 0} (P : A → Type 0) (xs ys : List A) → AllByRecursion P xs → AllByRecursion P ys → AllByRecursion P (xs ++ ys)
+all_both P [] ys a b = b
+all_both P (x ∷ xs) ys a b = (a.0, all_both P xs ys a.1 b)
+
+all_after : {A : Type 0} (P : A → Type 0) (n : ℕ) (xs : List A) → AllByRecursion P xs → AllByRecursion P (drop n xs)
+all_after P zero xs all = all
+all_after P (suc n) [] all = tt
+all_after P (suc n) (x ∷ xs) all = all_after P n xs all.1
+
+all_same : {A : Type 0} (P : A → Type 0) (n : ℕ) (x : A) → P x → AllByRecursion P (replicate n x)
+all_same P zero x is = tt
+all_same P (suc n) x is = (is, all_same P n x is)
+
+abbrev AreWithin : ℕ → List ℕ → Type 0
+AreWithin top ns = AllByRecursion (λ n. n ≤ top) ns
+
+within_more : (low top : ℕ) (ns : List ℕ) → low ≤ top → AreWithin low ns → AreWithin top ns
+within_more low top [] le all = tt
+within_more low top (n ∷ ns) le all = (let here : n ≤ low = all.0 in omega (arith, here, le), within_more low top ns le all.1)
+
+within_with : (ns : List ℕ) (top : ℕ) → AreWithin top ns → AreWithin top (with_sequence ns top)
+within_with ns top all = by (is_member nat_eq ns top)
+  where
+    by : (b : Bool) → AreWithin top (cond b ns (ns ++ top ∷ []))
+    by true = all
+    by false = all_both (λ n. n ≤ top) ns (top ∷ []) all (omega arith, tt)
+
+-- what was advertised is within what was accepted
+advertised_within : (s : Setting) (turn : ℕ) → AreWithin (accepted s turn) (advertised s turn)
+advertised_within s zero = tt
+advertised_within s (suc turn) = by (is_tenth (suc turn)) (within_more (accepted s turn) (accepted s (suc turn)) (advertised s turn) (omega arith) (advertised_within s turn))
+  where
+    by : (b : Bool) → AreWithin (accepted s (suc turn)) (advertised s turn) → AreWithin (accepted s (suc turn)) (cond b (with_sequence (advertised s turn) (accepted s (suc turn))) (advertised s turn))
+    by true before = within_with (advertised s turn) (accepted s (suc turn)) before
+    by false before = before
+
+shown_at : (s : Setting) (turn : ℕ) → IsShown (all_messages s) (spin_view s turn)
+shown_at s turn = record {
+  more = later_messages s turn;
+  messages_are = messages_first s turn;
+  within = subst (λ (k : ℕ). AreWithin k (last_ten (advertised s turn))) (sym (messages_many s turn)) (all_after (λ n. n ≤ accepted s turn) (length (advertised s turn) - 10) (advertised s turn) (advertised_within s turn));
+}
+
+-- ---- What it says
+-- a connection of which the client's end did nothing
+abbrev pub spoken : Connection (List Served) → Connection (List Served)
+spoken c = record { up = no_pipe; down = record { put = c.down.put; taken = 0 }; server = c.server; link = [] }
+
+module _ (s : Setting) where
+  abbrev V : List Raw
+  V = all_messages s
+
+  abbrev pub Says : Connection (List Served) → Type 0
+  Says c = Witnessed demo_unit V (Some (spoken c)) []
+
+  fed : (c : Connection (List Served)) (bytes : List ℕ) (turn : ℕ) → Says c → Says (at_spin_server demo_unit (Fed bytes (replicate (length (new_items c.server bytes)) (spin_view s turn))) c)
+  fed c bytes turn w =
+      let views : List Served = replicate (length (new_items c.server bytes)) (spin_view s turn) in
+      spin.serves demo_unit V [] (spoken c) (Fed bytes views) (all_same (IsShown V) (length (new_items c.server bytes)) (spin_view s turn) (shown_at s turn)) w
+
+  fed_by : (c : Connection (List Served)) (bytes : List ℕ) (answer : NetTaken) (turn : ℕ) → Says c → Says (spin_fed s bytes answer turn c)
+  fed_by c bytes (Got count) turn w = fed c bytes turn w
+  fed_by c bytes Quiet turn w = w
+  fed_by c bytes End turn w = w
+  fed_by c bytes Failed turn w = w
+
+  pumped : (n : ℕ) (c : Connection (List Served)) → Says c → Says (pumped_times demo_unit n c)
+  pumped zero c w = w
+  pumped (suc n) c w = spin.serves demo_unit V [] (spoken (pumped_times demo_unit n c)) Pumped tt (pumped n c w)
+
+  answered : (c : Connection (List Served)) (bytes : List ℕ) (answer : NetTaken) (turn : ℕ) (goes_on : Bool) → Says c → Says (spin_answered s bytes answer turn goes_on c)
+  answered c bytes answer turn true w = fed_by c bytes answer turn w
+  answered c bytes answer turn false w =
+      let k : Connection (List Served) = spin_fed s bytes answer turn c in
+      pumped (pumps demo_unit k.server) k (fed_by c bytes answer turn w)
+
+  -- ---- A tick
+  -- at its own end
+  ticks : (cut : Bool) (turn : ℕ) (c : Connection (List Served)) → Says c
+      → Says (where_stands cut (λ k. at_spin_server demo_unit Ticked k) (where_stands cut (λ k. at_spin_server demo_unit (Told (accepted s turn)) k) c))
+  ticks true turn c w = w
+  ticks false turn c w =
+      let all = all_many s in
+      let told : Connection (List Served) = at_spin_server demo_unit (Told (accepted s turn)) c in
+      spin.serves demo_unit V [] (spoken told) Ticked tt (spin.serves demo_unit V [] (spoken c) (Told (accepted s turn)) (omega (arith, all)) w)
+
+  -- at the client's
+  linked : (cut : Bool) (c : Connection (List Served)) → Says c → Says (where_stands cut (λ k. at_link (spin_link demo_unit) Ticked k) c)
+  linked true c w = w
+  linked false c w = w
+
+  asked_of : (ask : Option Ask) (c : Connection (List Served)) → Says c → Says (asked_spin ask c)
+  asked_of None c w = w
+  asked_of (Some (asks.Gap first count)) c w = w
+  asked_of (Some (asks.Spin sequence)) c w = w
+
+  asked : (cut : Bool) (ask : Option Ask) (c : Connection (List Served)) → Says c → Says (where_stands cut (asked_spin ask) c)
+  asked true ask c w = w
+  asked false ask c w = asked_of ask c w
+
+  -- ---- All steps
+  pub says_more : (step : Step) (n : Scene) → Says n.spin → Says (moved s step n).spin
+  says_more (Did (Begin answer)) n w = w
+  says_more (Did (Send A datagram answer)) n w = w
+  says_more (Did (Send B datagram answer)) n w = w
+  says_more (Did (Send Gap datagram answer)) n w = w
+  says_more (Did (Next A bytes answer)) n w = w
+  says_more (Did (Next B bytes answer)) n w = w
+  says_more (Did (Next Gap bytes answer)) n w = w
+  says_more (Did (Put GrpClient piece answer)) n w = w
+  says_more (Did (Put GrpServer piece answer)) n w = w
+  says_more (Did (Put SpinClient piece answer)) n w = w
+  says_more (Did (Put SpinServer piece answer)) n w = w
+  says_more (Did (Take GrpServer bytes (Got count))) n w = w
+  says_more (Did (Take GrpServer bytes Quiet)) n w = w
+  says_more (Did (Take GrpServer bytes End)) n w = w
+  says_more (Did (Take GrpServer bytes Failed)) n w = w
+  says_more (Did (Take SpinServer bytes answer)) n w = answered n.spin bytes answer n.turn (is_open (answer ∷ n.spin_server.answers)) w
+  says_more (Did (Take GrpClient bytes (Got count))) n w = w
+  says_more (Did (Take GrpClient bytes Quiet)) n w = w
+  says_more (Did (Take GrpClient bytes End)) n w = w
+  says_more (Did (Take GrpClient bytes Failed)) n w = w
+  says_more (Did (Take SpinClient bytes (Got count))) n w = w
+  says_more (Did (Take SpinClient bytes Quiet)) n w = w
+  says_more (Did (Take SpinClient bytes End)) n w = w
+  says_more (Did (Take SpinClient bytes Failed)) n w = w
+  says_more (Beat heartbeat answer) n w =
+      let served : Scene = servers_tick s n in
+      let there : Scene = links_tick served in
+      asked there.spin_cut (ask_of hold_limit there.heard) there.spin (linked n.spin_cut served.spin (ticks n.spin_cut n.turn n.spin w))
+  says_more Turn n w = w
+
+  -- all that it says in a run
+  pub says_all : (run : List Step) → Says (scene_of s run).spin
+  says_all [] = spin.opens demo_unit V [] [] (witness.accepted_more demo_unit [] V None [] (witness.none_heard demo_unit (omega arith)))
+  says_all (step ∷ before) = says_more step (scene_of s before) (says_all before)

@@ -1,0 +1,234 @@
+-- A turn from its beginning to its end.
+use Rattle.std.proofs.Common.{◌≡◌, ℕ, zero, suc, ◌+◌, ◌-◌, ◌≤◌, Bool, true, false, cond, List, [], ◌∷◌, ◌++◌, length, Option, refl, sym, ap, ◌∙◌, subst, arith, append_assoc}
+use Rattle.std.proofs.lemmas.Bool.{false≢true}
+use Rattle.std.proofs.lemmas.List.{append-nil}
+use Rattle.pitch_io.specs.declared.line.Line.{Line}
+use Rattle.pitch_io.specs.declared.line.Line.TheVariants.{A, B, Gap}
+use Rattle.pitch_io.specs.declared.net.LinkEnd.{LinkEnd}
+use Rattle.pitch_io.specs.declared.net.LinkEnd.TheVariants.{GrpClient, GrpServer, SpinClient, SpinServer}
+use Rattle.pitch_io.specs.declared.net.NetDone.{NetDone}
+use Rattle.pitch_io.specs.Nets.{Call, Send, ListsCall}
+use Rattle.pitch_model.specs.Advertising.{with_sequence}
+use Rattle.venue_core.specs.Losses.{is_lost}
+use Rattle.net_edge.specs.Acting.{is_open, sent_on, ticked, next_turn}
+use Rattle.net_edge.specs.Due.{Setting, demo_unit, accepted, advertised, beat, beats, copies, due, is_tenth, messages, new_datagrams, ticks}
+use Rattle.net_edge.specs.Playing.{EndsHave, DemoAt, Plays, MarketHas, MarketAt, IsFlushed, IsSentTo, IsUncalled, beaten, beaten_if}
+use Rattle.net_edge.specs.Scene.{Scene, OnLine, on_line, all_put}
+use Rattle.net_edge.specs.Turns.{IsOver, GoesOn, IsEndOver}
+use Rattle.net_edge.specs.declared.ends.Ends.{Ends}
+use Rattle.net_edge.specs.declared.market.Market.{Market}
+use Rattle.net_edge.proofs.Runs.{play_beat, play_turn}
+use Rattle.net_edge.proofs.Feeding.{messages_many}
+
+-- ---- What is due
+-- every tenth turn advertises the last message
+pub advertised_tenth : (s : Setting) (turn : ℕ) → 1 ≤ turn → is_tenth turn ≡ true → with_sequence (advertised s (turn - 1)) (accepted s turn) ≡ advertised s turn
+advertised_tenth s zero some tenth = absurd (omega (arith, some))
+advertised_tenth s (suc t) some tenth =
+    let e : suc t - 1 ≡ t = omega arith in
+    ap (λ (k : ℕ). with_sequence (advertised s k) (accepted s (suc t))) e ∙ sym (ap (λ (b : Bool). cond b (with_sequence (advertised s t) (accepted s (suc t))) (advertised s t)) tenth)
+
+pub advertised_other : (s : Setting) (turn : ℕ) → is_tenth turn ≡ false → advertised s (turn - 1) ≡ advertised s turn
+advertised_other s zero other = absurd (false≢true (sym other))
+advertised_other s (suc t) other =
+    let e : suc t - 1 ≡ t = omega arith in
+    ap (advertised s) e ∙ sym (ap (λ (b : Bool). cond b (with_sequence (advertised s t) (accepted s (suc t))) (advertised s t)) other)
+
+due_more : (s : Setting) (line : Line) (turn : ℕ) → 1 ≤ turn → due s line turn ≡ due s line (turn - 1) ++ (copies s line turn ++ beats s turn)
+due_more s line zero some = absurd (omega (arith, some))
+due_more s line (suc t) some =
+    let e : suc t - 1 ≡ t = omega arith in
+    ap (λ (k : ℕ). due s line k ++ (copies s line (suc t) ++ beats s (suc t))) (sym e)
+
+ticks_more : (turn : ℕ) → 1 ≤ turn → ticks turn ≡ cond (is_tenth turn) (ticks (turn - 1) + 1) (ticks (turn - 1))
+ticks_more zero some = absurd (omega (arith, some))
+ticks_more (suc t) some =
+    let e : suc t - 1 ≡ t = omega arith in
+    ap (λ (k : ℕ). cond (is_tenth (suc t)) (ticks k + 1) (ticks k)) (sym e)
+
+-- ---- What a turn's first part sent
+-- the copies of a turn's message were sent on both lines
+abbrev pub copied : Setting → ℕ → Scene → Scene
+copied s turn now = sent_on B (copies s B turn) (sent_on A (copies s A turn) now)
+
+-- and then its heartbeat, where there is one
+module _ (s : Setting) (now : Scene) (some : 1 ≤ now.turn) (sent : IsSentTo s (now.turn - 1) now) where
+  line_due : (line : Line) (xs : List (List ℕ)) → xs ≡ due s line (now.turn - 1) → (xs ++ copies s line now.turn) ++ beats s now.turn ≡ due s line now.turn
+  line_due line xs is =
+      append_assoc xs (copies s line now.turn) (beats s now.turn)
+      ∙ ap (λ (ds : List (List ℕ)). ds ++ (copies s line now.turn ++ beats s now.turn)) is
+      ∙ sym (due_more s line now.turn some)
+
+  pub sent_to : IsSentTo s now.turn (beaten_if s (copied s now.turn now))
+  sent_to = by (is_tenth now.turn) refl
+    where
+      by : (b : Bool) → is_tenth now.turn ≡ b → IsSentTo s now.turn (cond b (beaten s (copied s now.turn now)) (copied s now.turn now))
+      by true tenth = record {
+        on_a = ap (λ (bs : List (List ℕ)). (now.a.sent ++ copies s A now.turn) ++ bs) (sym (ap (λ (b : Bool). cond b (beat s now.turn ∷ []) []) tenth)) ∙ line_due A now.a.sent sent.on_a;
+        on_b = ap (λ (bs : List (List ℕ)). (now.b.sent ++ copies s B now.turn) ++ bs) (sym (ap (λ (b : Bool). cond b (beat s now.turn ∷ []) []) tenth)) ∙ line_due B now.b.sent sent.on_b;
+        ticked = ap (λ (k : ℕ). k + 1) sent.ticked ∙ sym (ticks_more now.turn some ∙ ap (λ (b : Bool). cond b (ticks (now.turn - 1) + 1) (ticks (now.turn - 1))) tenth);
+      }
+      by false other = record {
+        on_a = sym (append-nil (now.a.sent ++ copies s A now.turn)) ∙ ap (λ (bs : List (List ℕ)). (now.a.sent ++ copies s A now.turn) ++ bs) (sym (ap (λ (b : Bool). cond b (beat s now.turn ∷ []) []) other)) ∙ line_due A now.a.sent sent.on_a;
+        on_b = sym (append-nil (now.b.sent ++ copies s B now.turn)) ∙ ap (λ (bs : List (List ℕ)). (now.b.sent ++ copies s B now.turn) ++ bs) (sym (ap (λ (b : Bool). cond b (beat s now.turn ∷ []) []) other)) ∙ line_due B now.b.sent sent.on_b;
+        ticked = sent.ticked ∙ sym (ticks_more now.turn some ∙ ap (λ (b : Bool). cond b (ticks (now.turn - 1) + 1) (ticks (now.turn - 1))) other);
+      }
+
+-- no `next` and no `take` was called
+pub uncalled_then : (s : Setting) (turn : ℕ) (now : Scene) → IsUncalled now → IsUncalled (beaten_if s (copied s turn now))
+uncalled_then s turn now is = by (is_tenth now.turn)
+  where
+    by : (b : Bool) → IsUncalled (cond b (beaten s (copied s turn now)) (copied s turn now))
+    by true = record { a = is.a; b = is.b; gap = is.gap; grp_client = is.grp_client; grp_server = is.grp_server; spin_client = is.spin_client; spin_server = is.spin_server }
+    by false = record { a = is.a; b = is.b; gap = is.gap; grp_client = is.grp_client; grp_server = is.grp_server; spin_client = is.spin_client; spin_server = is.spin_server }
+
+pub turn_then : (s : Setting) (turn : ℕ) (now : Scene) → (beaten_if s (copied s turn now)).turn ≡ now.turn
+turn_then s turn now = by (is_tenth now.turn)
+  where
+    by : (b : Bool) → (cond b (beaten s (copied s turn now)) (copied s turn now)).turn ≡ now.turn
+    by true = refl
+    by false = refl
+
+-- ---- The ends are as they were
+-- where datagrams were sent on the lines of the venue
+pub ends_sent : (e : Ends) (now : Scene) (a b : OnLine) → EndsHave e now → EndsHave e (record now { a = a; b = b })
+ends_sent e now a b has = record {
+  proxy = has.proxy;
+  spin = has.spin;
+  gap_link = has.gap_link;
+  spin_link = has.spin_link;
+  client = has.client;
+  grp_cut_is = has.grp_cut_is;
+  spin_cut_is = has.spin_cut_is;
+  grp_ended_is = has.grp_ended_is;
+  spin_ended_is = has.spin_ended_is;
+  grp_client_ended = has.grp_client_ended;
+  spin_client_ended = has.spin_client_ended;
+  grp_client_put = has.grp_client_put;
+  grp_server_put = has.grp_server_put;
+  spin_client_put = has.spin_client_put;
+  spin_server_put = has.spin_server_put;
+  replayed = has.replayed;
+}
+
+-- where the next turn begins
+ends_turned : (e : Ends) (now : Scene) → EndsHave e now → EndsHave e (next_turn now)
+ends_turned e now has = record {
+  proxy = has.proxy;
+  spin = has.spin;
+  gap_link = has.gap_link;
+  spin_link = has.spin_link;
+  client = has.client;
+  grp_cut_is = has.grp_cut_is;
+  spin_cut_is = has.spin_cut_is;
+  grp_ended_is = has.grp_ended_is;
+  spin_ended_is = has.spin_ended_is;
+  grp_client_ended = has.grp_client_ended;
+  spin_client_ended = has.spin_client_ended;
+  grp_client_put = has.grp_client_put;
+  grp_server_put = has.grp_server_put;
+  spin_client_put = has.spin_client_put;
+  spin_server_put = has.spin_server_put;
+  replayed = has.replayed;
+}
+
+pub turn_next : (s : Setting) (base : List Call) (calls : Option (List Call)) (e : Ends) (now : Scene) → DemoAt s base calls e now → IsOver s now → GoesOn s now → DemoAt s base calls e (next_turn now)
+turn_next s base calls e now at over goes = record { has = ends_turned e now at.has; plays = play_turn s base calls now over goes at.plays }
+
+pub sent_so : (s : Setting) (now : Scene) → IsOver s now → IsSentTo s now.turn (next_turn now)
+sent_so s now over = record { on_a = over.on_a; on_b = over.on_b; ticked = over.ticked }
+
+pub uncalled_so : (now : Scene) → IsUncalled (next_turn now)
+uncalled_so now = record { a = refl; b = refl; gap = refl; grp_client = refl; grp_server = refl; spin_client = refl; spin_server = refl }
+
+-- ---- A turn is over
+pub over_is : (s : Setting) (now : Scene) → is_open now.a.answers ≡ false → is_open now.b.answers ≡ false → is_open now.gap.answers ≡ false
+    → IsEndOver GrpClient now → IsEndOver GrpServer now → IsEndOver SpinClient now → IsEndOver SpinServer now → IsSentTo s now.turn now → IsOver s now
+over_is s now a b gap grp_client grp_server spin_client spin_server sent = record {
+  lines = lines;
+  ends = ends;
+  on_a = sent.on_a;
+  on_b = sent.on_b;
+  ticked = sent.ticked;
+}
+  where
+    lines : (line : Line) → is_open (on_line line now).answers ≡ false
+    lines A = a
+    lines B = b
+    lines Gap = gap
+
+    ends : (at : LinkEnd) → IsEndOver at now
+    ends GrpClient = grp_client
+    ends GrpServer = grp_server
+    ends SpinClient = spin_client
+    ends SpinServer = spin_server
+
+-- ---- What the venue does in a turn
+module _ (s : Setting) (base : List Call) where
+  pub published : (turn : ℕ) (c0 c1 c2 c3 : Option (List Call)) (e e' : Ends) (market market' : Market) (lost_a lost_b : Bool) (given_a given_b : List (List ℕ)) (now : Scene)
+      → 1 ≤ turn → now.turn ≡ turn → DemoAt s base c0 e now → IsSentTo s (turn - 1) now → IsUncalled now
+      → lost_a ≡ is_lost s.number demo_unit turn 1 → lost_b ≡ is_lost s.number demo_unit turn 2 → given_a ≡ new_datagrams s turn → given_b ≡ new_datagrams s turn → IsFlushed s market turn
+      → ((n : Scene) → Plays s base c0 n → Plays s base c1 (sent_on A (cond lost_a [] given_a) n))
+      → ((n : Scene) → Plays s base c1 n → Plays s base c2 (sent_on B (cond lost_b [] given_b) n))
+      → ((n : Scene) → n.turn ≡ turn → DemoAt s base c2 e n → IsFlushed s market turn → DemoAt s base c3 e' (beaten_if s n) × MarketAt s market' turn)
+      → (after : Scene) × (after.turn ≡ turn) × DemoAt s base c3 e' after × MarketAt s market' turn × IsSentTo s turn after × IsUncalled after
+  published turn c0 c1 c2 c3 e e' market market' lost_a lost_b given_a given_b now some turn_is at before none by_a by_b are_a are_b flushed send_a send_b beat_on =
+      let on_a : cond lost_a [] given_a ≡ copies s A turn = ap (λ (b : Bool). cond b [] given_a) by_a ∙ ap (λ (ds : List (List ℕ)). cond (is_lost s.number demo_unit turn 1) [] ds) are_a in
+      let on_b : cond lost_b [] given_b ≡ copies s B turn = ap (λ (b : Bool). cond b [] given_b) by_b ∙ ap (λ (ds : List (List ℕ)). cond (is_lost s.number demo_unit turn 2) [] ds) are_b in
+      let n : Scene = copied s turn now in
+      let there : Plays s base c2 n =
+      subst (λ (ds : List (List ℕ)). Plays s base c2 (sent_on B ds (sent_on A (copies s A turn) now))) on_b
+      (subst (λ (ds : List (List ℕ)). Plays s base c2 (sent_on B (cond lost_b [] given_b) (sent_on A ds now))) on_a (send_b (sent_on A (cond lost_a [] given_a) now) (send_a now at.plays))) in
+      let more = beat_on n turn_is (record { has = ends_sent e now n.a n.b at.has; plays = there }) flushed in
+      let all : IsSentTo s now.turn (beaten_if s (copied s now.turn now)) = sent_to s now (subst (λ (t : ℕ). 1 ≤ t) (sym turn_is) some) (subst (λ (t : ℕ). IsSentTo s (t - 1) now) (sym turn_is) before) in (
+        beaten_if s n,
+        turn_then s turn now ∙ turn_is,
+        more.0,
+        more.1,
+        subst (λ (t : ℕ). IsSentTo s t (beaten_if s (copied s t now))) turn_is all,
+        uncalled_then s turn now none,
+      )
+
+  -- ---- Another turn
+  pub turn_again : (turn next : ℕ) (calls : Option (List Call)) (e : Ends) (market : Market) (now : Scene) → next ≡ turn + 1 → now.turn ≡ turn → DemoAt s base calls e now → MarketAt s market turn → IsOver s now → GoesOn s now
+      → (n : Scene) × (n.turn ≡ next) × DemoAt s base calls e n × MarketAt s market (next - 1) × IsSentTo s (next - 1) n × IsUncalled n
+  turn_again turn next calls e market now next_is turn_is at has over goes =
+      let back : turn ≡ next - 1 = omega (arith, next_is) in
+      let begins : suc now.turn ≡ next = omega (arith, next_is, turn_is) in (
+        next_turn now,
+        begins,
+        turn_next s base calls e now at over goes,
+        subst (MarketAt s market) back has,
+        subst (λ (t : ℕ). IsSentTo s t (next_turn now)) (turn_is ∙ back) (sent_so s now over),
+        uncalled_so now,
+      )
+
+  -- ---- A heartbeat
+  pub beats_then : (c0 c1 c2 c3 : Option (List Call)) (e e' : Ends) (heartbeat : List ℕ) (answer : NetDone) (sequence : ℕ) (now : Scene) → DemoAt s base c0 e now → is_tenth now.turn ≡ true → heartbeat ≡ beat s now.turn → sequence ≡ accepted s now.turn
+      → ((n : Scene) → Plays s base c0 n → Plays s base c1 (sent_on A (heartbeat ∷ []) n)) → ListsCall c1 c2 (Send B heartbeat answer)
+      → ((n : Scene) → EndsHave e n → sequence ≡ accepted s n.turn → Plays s base c2 (ticked s n) → DemoAt s base c3 e' (all_put (ticked s n)))
+      → DemoAt s base c3 e' (beaten s now)
+  beats_then c0 c1 c2 c3 e e' heartbeat answer sequence now at tenth is number sends lists ticks_on =
+      let first : Scene = sent_on A (heartbeat ∷ []) now in
+      let n : Scene = sent_on B (heartbeat ∷ []) first in
+      let played : Plays s base c2 (ticked s n) = play_beat s base c1 c2 first heartbeat answer lists is tenth (sends now at.plays) in
+      subst (λ (b : List ℕ). DemoAt s base c3 e' (all_put (ticked s (sent_on B (b ∷ []) (sent_on A (b ∷ []) now))))) is (ticks_on n (ends_sent e now n.a n.b at.has) number played)
+
+  pub beaten_tenth : (calls : Option (List Call)) (e : Ends) (now : Scene) (turn : ℕ) → now.turn ≡ turn → is_tenth turn ≡ true → DemoAt s base calls e (beaten s now) → DemoAt s base calls e (beaten_if s now)
+  beaten_tenth calls e now turn turn_is tenth at = subst (λ (b : Bool). DemoAt s base calls e (cond b (beaten s now) now)) (sym (ap is_tenth turn_is ∙ tenth)) at
+
+  pub beaten_other : (calls : Option (List Call)) (e : Ends) (now : Scene) (turn : ℕ) → now.turn ≡ turn → is_tenth turn ≡ false → DemoAt s base calls e now → DemoAt s base calls e (beaten_if s now)
+  beaten_other calls e now turn turn_is other at = subst (λ (b : Bool). DemoAt s base calls e (cond b (beaten s now) now)) (sym (ap is_tenth turn_is ∙ other)) at
+
+-- ---- The market
+-- all that was accepted was sent
+pub flushed_is : (s : Setting) (turn : ℕ) (market : Market) → MarketHas market (messages s turn) (length (messages s turn)) (advertised s (turn - 1)) → IsFlushed s market turn
+flushed_is s turn market has = subst (λ (n : ℕ). MarketHas market (messages s turn) n (advertised s (turn - 1))) (messages_many s turn) has
+
+-- at a tenth turn it is advertised
+pub advertised_is : (s : Setting) (turn : ℕ) (market : Market) → 1 ≤ turn → is_tenth turn ≡ true → MarketHas market (messages s turn) (accepted s turn) (with_sequence (advertised s (turn - 1)) (length (messages s turn))) → MarketAt s market turn
+advertised_is s turn market some tenth has =
+    subst (MarketHas market (messages s turn) (accepted s turn)) (ap (with_sequence (advertised s (turn - 1))) (messages_many s turn) ∙ advertised_tenth s turn some tenth) has
+
+pub advertised_still : (s : Setting) (turn : ℕ) (market : Market) → is_tenth turn ≡ false → IsFlushed s market turn → MarketAt s market turn
+advertised_still s turn market other has = subst (MarketHas market (messages s turn) (accepted s turn)) (advertised_other s turn other) has

@@ -1,0 +1,24 @@
+use Rattle.std.proofs.Common.{◌≡◌, ◌∙◌, ◌%◌, ◌≤◌, ℕ, true, false, arith, sym, ap, subst}
+use Rattle.std.proofs.lemmas.Bool.Decides.{nat_tests}
+use Rattle.net_edge.specs.Due.{is_tenth}
+use Rattle.net_edge.specs.Playing.{IsFlushed, MarketAt}
+use Rattle.net_edge.proofs.Turning.{beaten_tenth, beaten_other, advertised_still}
+use Rattle.net_edge.proofs.ends.Ends.beat_if_tenth.Goals as goal
+
+other : (turn : ℕ) → (turn % 10 ≡ 0 → ⊥) → is_tenth turn ≡ false
+other turn ne = grind (arith, nat_tests, ne)
+
+tenth : (turn : ℕ) → turn % 10 ≡ 0 → is_tenth turn ≡ true
+tenth turn e = grind (arith, nat_tests, e)
+
+pub returns-then-turn-ne0-clause-beaten : goal.returns-then-turn-ne0-clause-beaten
+returns-then-turn-ne0-clause-beaten g c = λ s base now turn_is at market.
+    let no : is_tenth c.args.turn ≡ false = other c.args.turn c.if-turn-ne0.true in
+    (beaten_other s base _ c.args.self.now now c.args.turn turn_is no at, advertised_still s c.args.turn c.args.market.now no market)
+
+pub returns-clause-beaten : goal.returns-clause-beaten
+returns-clause-beaten g c = λ s base now turn_is at market.
+    let yes : is_tenth c.args.turn ≡ true = tenth c.args.turn c.if-turn-ne0.false in
+    let back : c.args.turn ≡ now.turn = sym turn_is in
+    let both = c.in_ok-beat.ensures.beaten s base now at (subst (IsFlushed s c.args.market.now) back market) (subst (λ (t : ℕ). 1 ≤ t) back c.requires) (ap is_tenth turn_is ∙ yes) in
+    (beaten_tenth s base _ c.beat.new.self now c.args.turn turn_is yes both.0, subst (MarketAt s c.beat.new.market) turn_is both.1)

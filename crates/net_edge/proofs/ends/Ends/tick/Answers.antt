@@ -1,0 +1,24 @@
+use Rattle.std.proofs.Common.{refl}
+use Rattle.net_edge.specs.Due.{hold_limit}
+use Rattle.net_edge.proofs.Ticking.{tick_is}
+use Rattle.net_edge.proofs.ends.Ends.tick.Goals as goal
+
+pub returns-clause-ticked : goal.returns-clause-ticked
+returns-clause-ticked g c = λ s base now has number plays.
+    tick_is s base _ _ _ _ _ _ _ _ c.args.self.now _ c.args.sequence c.tell_spin.new.spin c.tick_gap_link.new.link c.tick_spin_link.new.link c.tick_gap_link.new.client c.tick_spin_link.new.client
+    c.in_ok-grp_cut.grp_cut c.in_ok-spin_cut.spin_cut c.tick-ask.result now has number plays
+    (λ k n. c.in_ok-tell_spin.ensures.acts s base k n)
+    (λ k spent n. c.in_ok-tick_proxy.ensures.acts s base k spent n)
+    (λ k n. c.in_ok-tick_spin.ensures.acts s base k n)
+    (λ k E n. c.in_ok-grp_cut.ensures.ticked s base k E n)
+    (λ k E n. c.in_ok-spin_cut.ensures.ticked s base k E n)
+    (λ E client. (
+      c.tick-ask.ensures.asks hold_limit E client.tracks,
+      record {
+        tracks = c.tick-ask.ensures.tracks hold_limit E client.tracks;
+        keeps = λ V bytes h. c.tick-ask.ensures.keeps V (client.keeps V bytes h.1);
+      },
+    ))
+    (λ k n. c.in_ok-ask_proxy.ensures.acts s base k n)
+    (λ k n. c.in_ok-ask_spin.ensures.acts s base k n)
+    refl refl refl refl

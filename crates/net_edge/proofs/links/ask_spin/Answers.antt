@@ -1,0 +1,12 @@
+use Rattle.std.proofs.Common.{ℕ, List, subst}
+use Rattle.pitch_io.specs.declared.net.LinkEnd.TheVariants.{SpinClient}
+use Rattle.net_edge.specs.Acting.{put_at}
+use Rattle.net_edge.specs.Playing.{Plays}
+use Rattle.net_edge.proofs.links.ask_spin.Goals as goal
+
+pub returns-clause-acts : goal.returns-clause-acts
+returns-clause-acts g c = λ s base k now is plays. record {
+  said = c.say_spin_ask.new.said.items;
+  is = c.in_ok-say_spin_ask.ensures k is;
+  plays = subst (λ (b : List ℕ). Plays s base (g.N.Net.calls c.put_whole.new.net) (put_at SpinClient b now)) c.deref.ensures.value (c.in_ok-put_whole.ensures.put s base now plays);
+}

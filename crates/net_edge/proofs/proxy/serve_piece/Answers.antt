@@ -1,0 +1,23 @@
+use Rattle.std.proofs.Common.{◌≡◌, ℕ, List, ap, ◌∙◌, subst}
+use Rattle.pitch_io.specs.declared.line.Line.TheVariants.{Gap}
+use Rattle.pitch_io.specs.declared.net.LinkEnd.TheVariants.{GrpServer}
+use Rattle.pitch_io.specs.declared.net.NetTaken.TheVariants.{Got}
+use Rattle.pitch_messages.specs.Room.{Roomy}
+use Rattle.unit_packets.specs.Packing.{bytes_in}
+use Rattle.net_edge.specs.Acting.{sent_on, put_at, taken_at}
+use Rattle.net_edge.specs.Playing.{Plays, proxy_said}
+use Rattle.net_edge.specs.Scene.{Scene}
+use Rattle.net_edge.proofs.proxy.serve_piece.Goals as goal
+
+pub returns-clause-served : goal.returns-clause-served
+returns-clause-served g c = λ s base count now has store plays.
+    let fed = c.in_ok-feed.ensures.fed s now has store in
+    let after : Scene = taken_at s GrpServer c.args.piece.now (Got count) now in
+    let said_is : c.deref.result.now ≡ (proxy_said s c.args.piece.now now).reply = c.deref.ensures.value ∙ fed.said_is in
+    let lines_are : bytes_in c.as_slice.result.now ≡ (proxy_said s c.args.piece.now now).lines = ap (λ (ls : List (Roomy ℕ)). bytes_in ls) c.as_slice.ensures ∙ fed.lines_are in
+    record {
+      has = fed.has;
+      plays = subst (λ (ls : List (List ℕ)). Plays s base (g.N.Net.calls c.send_all.new.net) (sent_on Gap ls (put_at GrpServer (proxy_said s c.args.piece.now now).reply after))) lines_are
+          (subst (λ (b : List ℕ). Plays s base (g.N.Net.calls c.send_all.new.net) (sent_on Gap (bytes_in c.as_slice.result.now) (put_at GrpServer b after))) said_is
+          (c.in_ok-send_all.ensures.sent s base (put_at GrpServer c.deref.result.now after) (c.in_ok-put_whole.ensures.put s base after plays)));
+    }

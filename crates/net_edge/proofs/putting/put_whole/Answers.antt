@@ -1,0 +1,33 @@
+use Rattle.std.proofs.Common.{◌≡◌, ◌-◌, ℕ, List, length, take, drop, ap, sym, subst, arith}
+use Rattle.std.proofs.lemmas.List.{take_rest, take_all, length-drop}
+use Rattle.pitch_io.specs.Nets.{Put}
+use Rattle.pitch_io.specs.declared.sink.Put.TheVariants as puts
+use Rattle.net_edge.specs.Acting.{put_at}
+use Rattle.net_edge.specs.Playing.{Plays}
+use Rattle.net_edge.proofs.Runs.{play_call, put_none, put_next}
+use Rattle.net_edge.proofs.putting.put_whole.Goals as goal
+
+pub puts-init : goal.puts-init
+puts-init g c = record {
+  within = omega arith;
+  plays = λ s base now plays. subst (Plays s base (g.N.Net.calls c.args.net.now)) (sym (put_none c.args.at now)) plays;
+  later = omega arith;
+}
+
+pub puts-preserved : goal.puts-preserved
+puts-preserved g c =
+    let bytes : List ℕ = c.args.bytes.now in
+    let count : ℕ = c.in-Wrote.count in
+    let piece : List ℕ = take (length bytes - c.puts.done) (drop c.puts.done bytes) in
+    let whole : piece ≡ drop c.puts.done bytes = take_rest bytes c.puts.done in
+    record {
+      within = omega (arith, c.in-Wrote.ensures.count.1, ap (λ (x : List ℕ). length x) whole, length-drop c.puts.done bytes, c.puts.invariant.within);
+      plays = λ s base now plays.
+          subst (Plays s base (g.N.Net.calls c.put.new.self)) (put_next c.args.at bytes piece c.puts.done count now whole)
+          (play_call s base _ _ (put_at c.args.at (take c.puts.done bytes) now) (Put c.args.at piece (puts.Wrote count)) c.in-Wrote.ensures.calls tt (c.puts.invariant.plays s base now plays));
+      later = omega (arith, c.puts.invariant.later, c.put.ensures.cause.later);
+    }
+
+pub returns-clause-put : goal.returns-clause-put
+returns-clause-put g c = λ s base now plays.
+    subst (λ (bytes : List ℕ). Plays s base (g.N.Net.calls c.puts.net) (put_at c.args.at bytes now)) (take_all c.puts.done c.args.bytes.now (omega arith)) (c.puts.invariant.plays s base now plays)

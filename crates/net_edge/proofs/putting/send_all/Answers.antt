@@ -1,0 +1,35 @@
+use Rattle.std.proofs.Common.{rules, ℕ, List, ◌∷◌, [], length, take, refl, ap, sym, ◌∙◌, subst, arith}
+use Rattle.std.proofs.lemmas.List.{take_all}
+use Rattle.std.proofs.lemmas.Option.{slice_get_read}
+use Rattle.pitch_messages.specs.Room.{Roomy}
+use Rattle.unit_packets.specs.Packing.{bytes_in}
+use Rattle.net_edge.specs.Acting.{sent_on}
+use Rattle.net_edge.specs.Playing.{Plays}
+use Rattle.net_edge.proofs.Runs.{sent_none, sent_both}
+use Rattle.net_edge.proofs.Hearing.{bytes_more}
+use Rattle.net_edge.proofs.putting.send_all.Goals as goal
+
+pub sends-init : goal.sends-init
+sends-init g c = record {
+  plays = λ s base now plays. subst (Plays s base (g.N.Net.calls c.args.net.now)) (sym (sent_none c.args.line now)) plays;
+  later = omega arith;
+}
+
+pub sends-preserved : goal.sends-preserved
+sends-preserved g c =
+    let i = c.sends.datagram-index in
+    let all = c.args.datagrams.now in
+    let at = slice_get_read all (length all) i c.datagram-item.result refl (search rules) c.datagram-item.is in
+    record {
+      plays = λ s base now plays.
+          subst (Plays s base (g.N.Net.calls c.send.new.net))
+          (ap (λ (x : List _). sent_on c.args.line (x ∷ []) (sent_on c.args.line (bytes_in (take i all)) now)) c.bytes.ensures
+          ∙ sent_both c.args.line (bytes_in (take i all)) (c.datagram-item.result.items ∷ []) now
+          ∙ ap (λ (xs : List (List _)). sent_on c.args.line xs now) (sym (bytes_more all i c.datagram-item.result at)))
+          (c.in_ok-send.ensures.sent s base (sent_on c.args.line (bytes_in (take i all)) now) (c.sends.invariant.plays s base now plays));
+      later = omega (arith, c.sends.invariant.later, c.send.ensures.later);
+    }
+
+pub returns-clause-sent : goal.returns-clause-sent
+returns-clause-sent g c = λ s base now plays.
+    subst (λ (ls : List (Roomy ℕ)). Plays s base (g.N.Net.calls c.sends.net) (sent_on c.args.line (bytes_in ls) now)) (take_all c.sends.datagram-index c.args.datagrams.now (omega arith)) (c.sends.invariant.plays s base now plays)

@@ -1,0 +1,32 @@
+use Rattle.std.proofs.Common.{List, ◌++◌, refl, ap, ◌∙◌}
+use Rattle.session_ends.specs.declared.role.Role.TheVariants as roles
+use Rattle.client_links.specs.Linking.{login_bytes}
+use Rattle.net_edge.proofs.running.make_ends.Goals as goal
+
+pub returns-clause-has : goal.returns-clause-has
+returns-clause-has c = record {
+  proxy = c.in_ok-proxy.ensures;
+  spin = c.in_ok-spin.ensures;
+  gap_link = record { made = c.in_ok-gap_link.ensures.setup; stands = c.in_ok-gap_link.ensures.stands };
+  spin_link = record { made = c.in_ok-spin_link.ensures.setup; stands = c.in_ok-spin_link.ensures.stands };
+  client = record { tracks = c.in_ok-client.ensures.tracks; keeps = λ V bytes h. c.in_ok-client.ensures.keeps V };
+  grp_cut_is = refl;
+  spin_cut_is = refl;
+  grp_ended_is = refl;
+  spin_ended_is = refl;
+  grp_client_ended = λ e. e;
+  spin_client_ended = λ e. e;
+  grp_client_put = refl;
+  grp_server_put = refl;
+  spin_client_put = refl;
+  spin_server_put = refl;
+  replayed = refl;
+}
+
+pub returns-clause-login : goal.returns-clause-login
+returns-clause-login c =
+    c.in_ok-gap_link.ensures.says ∙ ap (λ (b : List _). b ++ login_bytes roles.GapLink 0 c.account.result) c.requires.login ∙ ap (login_bytes roles.GapLink 0) c.account.ensures
+
+pub returns-clause-spin_login : goal.returns-clause-spin_login
+returns-clause-spin_login c =
+    c.in_ok-spin_link.ensures.says ∙ ap (λ (b : List _). b ++ login_bytes roles.SpinLink 1 c.account-2.result) c.requires.spin_login ∙ ap (login_bytes roles.SpinLink 1) c.account-2.ensures

@@ -1,0 +1,87 @@
+-- What a turn brings: a message that is accepted, datagrams that are sent, a sequence that is
+-- advertised.
+use Rattle.std.specs.Prelude.{ℕ, zero, suc, ◌+◌, ◌-◌, ◌%◌, Bool, ◌==◌, min, List, [], ◌∷◌, ◌++◌, drop, if◌then◌else◌}
+use Rattle.pitch_io.specs.declared.line.Line.{Line}
+use Rattle.pitch_io.specs.declared.line.Line.TheVariants.{A, B, Gap}
+use Rattle.unit_packets.specs.BlockBytes.{block_bytes, heartbeat_block}
+use Rattle.unit_packets.specs.Packing.{packed}
+use Rattle.pitch_model.specs.Advertising.{with_sequence, last_ten}
+use Rattle.pitch_model.specs.History.{Raw}
+use Rattle.venue_core.specs.Losses.{is_lost}
+use Rattle.venue_core.specs.Plan.{plan}
+use Rattle.gap_store.specs.Look.{View}
+use Rattle.spin_server.specs.Served.{Served}
+
+-- a demo's number, and how many messages its venue accepts
+pub record Setting : Type 0 where
+  pub number : ℕ
+  pub count : ℕ
+
+abbrev pub setting : ℕ → ℕ → Setting
+setting number count = record { number = number; count = count }
+
+-- the unit; how many messages the proxy keeps; how many the client can hold
+abbrev pub demo_unit : ℕ
+demo_unit = 1
+
+abbrev pub kept_messages : ℕ
+kept_messages = 65536
+
+abbrev pub hold_limit : ℕ
+hold_limit = 4096
+
+-- in each turn one message of the plan is accepted, until all are
+abbrev pub accepted : Setting → ℕ → ℕ
+accepted s turn = min turn s.count
+
+-- the messages that were accepted up to a turn
+abbrev pub messages : Setting → ℕ → List Raw
+messages s turn = plan s.number demo_unit (accepted s turn)
+
+-- the datagrams of the turn's message; there is none once all were accepted
+abbrev pub new_datagrams : Setting → ℕ → List (List ℕ)
+new_datagrams s turn = packed demo_unit (accepted s (turn - 1) + 1) (drop (accepted s (turn - 1)) (messages s turn))
+
+-- a turn's copy is lost on a line by the rule of losses; nothing of the venue is sent on the gap
+-- line
+abbrev pub line_number : Line → ℕ
+line_number A = 1
+line_number B = 2
+line_number Gap = 3
+
+abbrev pub copies : Setting → Line → ℕ → List (List ℕ)
+copies s line turn = if is_lost s.number demo_unit turn (line_number line) then [] else new_datagrams s turn
+
+-- every tenth turn has a heartbeat and a tick
+abbrev pub is_tenth : ℕ → Bool
+is_tenth turn = turn % 10 == 0
+
+-- the heartbeat of a turn
+abbrev pub beat : Setting → ℕ → List ℕ
+beat s turn = block_bytes (heartbeat_block demo_unit (accepted s turn + 1))
+
+abbrev pub beats : Setting → ℕ → List (List ℕ)
+beats s turn = if is_tenth turn then beat s turn ∷ [] else []
+
+-- all that is sent on a line of the venue, up to a turn, in its order
+abbrev pub due : Setting → Line → ℕ → List (List ℕ)
+due s line zero = []
+due s line (suc turn) = due s line turn ++ (copies s line (suc turn) ++ beats s (suc turn))
+
+-- how many ticks come up to a turn
+abbrev pub ticks : ℕ → ℕ
+ticks zero = 0
+ticks (suc turn) = if is_tenth (suc turn) then ticks turn + 1 else ticks turn
+
+-- the distinct sequences that were advertised up to a turn, in their order: at every tenth turn
+-- that of the last message
+abbrev pub advertised : Setting → ℕ → List ℕ
+advertised s zero = []
+advertised s (suc turn) = if is_tenth (suc turn) then with_sequence (advertised s turn) (accepted s (suc turn)) else advertised s turn
+
+-- in a turn the servers answer from all that was accepted and advertised up to it
+abbrev pub gap_view : Setting → ℕ → View
+gap_view s turn = record { messages = messages s turn; kept = kept_messages }
+
+abbrev pub spin_view : Setting → ℕ → Served
+spin_view s turn = record { messages = messages s turn; advertised = last_ten (advertised s turn) }

@@ -1,0 +1,7 @@
+pub mod Steps
+pub mod Scene
+pub mod Due
+pub mod Acting
+pub mod Turns
+pub mod Demo
+pub mod Playing

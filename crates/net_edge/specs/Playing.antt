@@ -1,0 +1,303 @@
+-- What the code knows of a run that is under way. No caller needs it.
+use Rattle.std.specs.Prelude.{◌≡◌, ℕ, ◌-◌, Bool, true, false, not, ◌||◌, ◌&&◌, List, [], ◌∷◌, ◌++◌, Option, None, Some, is_some, if◌then◌else◌}
+use Rattle.std.specs.List.{AllByRecursion}
+use Rattle.pitch_fields.specs.Fields.{AreBytes}
+use Rattle.pitch_io.specs.declared.line.Line.{Line}
+use Rattle.pitch_io.specs.declared.line.Line.TheVariants.{A, B, Gap}
+use Rattle.pitch_io.specs.declared.net.LinkEnd.{LinkEnd}
+use Rattle.pitch_io.specs.declared.net.LinkEnd.TheVariants.{GrpServer, SpinServer}
+use Rattle.pitch_io.specs.declared.net.NetTaken.TheVariants.{Got}
+use Rattle.pitch_io.specs.declared.net.NetTaken.{NetTaken}
+use Rattle.pitch_io.specs.Nets.{Call}
+use Rattle.pitch_model.specs.History.{Entry, Raw}
+use Rattle.pitch_model.specs.Honest.{Honest}
+use Rattle.pitch_model.specs.Image.{image}
+use Rattle.venue_core.specs.Stands.{Stands as VenueStands}
+use Rattle.gap_store.specs.Look.{store_of}
+use Rattle.session_ends.specs.Closing.{Setup, closed_of}
+use Rattle.session_ends.specs.Ending.{Ending}
+use Rattle.session_ends.specs.Answering.{Answer}
+use Rattle.session_ends.specs.Events.{Event, Fed}
+use Rattle.grp_session.specs.Budget.{Spent, Counted}
+use Rattle.grp_session.specs.Serving.{Source, ProxyStands, proxy_answer}
+use Rattle.spin_server.specs.Served.{Served}
+use Rattle.spin_server.specs.Serving.{Serving, SpinStands}
+use Rattle.spin_path.specs.Paths.{heard_all}
+use Rattle.client_links.specs.Linking.{Lookups, NoLookup, LinkStands, link_tells}
+use Rattle.client_core.specs.Tracks.{Tracks, Keeps}
+use Rattle.client_core.specs.declared.client.UnitClient.{UnitClient}
+use Rattle.world_model.specs.Connections.{KeepsShelf}
+use Rattle.world_model.specs.Ends.{grp_server, spin_server, gap_link, spin_link}
+use Rattle.world_model.specs.State.{Connection, Pipe}
+use Rattle.net_edge.specs.Acting.{scene_of, is_open, source_at, sent_on, put_at, taken_at, ticked}
+use Rattle.net_edge.specs.Due.{Setting, demo_unit, kept_messages, hold_limit, accepted, messages, advertised, beat, due, is_tenth, ticks}
+use Rattle.net_edge.specs.Scene.{Scene, OnLine, AtEnd, on_line, with_line, all_put}
+use Rattle.net_edge.specs.Steps.{Step, calls_of}
+use Rattle.net_edge.specs.Turns.{AreSteps}
+use Rattle.net_edge.specs.declared.market.Market.{Market}
+use Rattle.net_edge.specs.declared.ends.Ends.{Ends}
+use Rattle.net_edge.specs.declared.proxy.Proxy.{Proxy}
+
+-- the net's calls, where it lists them: those of the run, and those before it
+abbrev pub IsTold : List Call → Option (List Call) → List Step → Type 0
+IsTold base None run = Unit {0}
+IsTold base (Some calls) run = calls ≡ calls_of run ++ base
+
+-- the calls before a run
+abbrev pub calls_before : Option (List Call) → List Call
+calls_before None = []
+calls_before (Some calls) = calls
+
+-- a run that leads to a scene
+pub record LeadsTo (s : Setting) (base : List Call) (calls : Option (List Call)) (now : Scene) (run : List Step) : Type 0 where
+  pub told : IsTold base calls run
+  pub steps : AreSteps s run
+  pub now_is : scene_of s run ≡ now
+
+-- there is such a run
+abbrev pub Plays : Setting → List Call → Option (List Call) → Scene → Type 0
+Plays s base calls now = (run : List Step) × LeadsTo s base calls now run
+
+-- ---- The ends
+-- the venue has these messages and sent so many of them, and proxy and spin server look them up
+pub record MarketHas (market : Market) (messages : List Raw) (sent : ℕ) (advertised : List ℕ) : Type 0 where
+  pub unit_is : market.venue.unit ≡ demo_unit
+  pub venue : VenueStands market.venue messages sent
+  pub store_is : market.store ≡ store_of (record { messages = messages; kept = kept_messages })
+  pub shelf : KeepsShelf market.shelf messages advertised
+
+-- the proxy stands for what happened to it, and its budget for what it accepted
+pub record ProxyHas (proxy : Proxy) (events : List (Event Source)) (spent : Spent) : Type 0 where
+  pub made : proxy.server.setup ≡ grp_server demo_unit
+  pub stands : ProxyStands proxy.server events
+  pub limits_are : proxy.budget.limits ≡ record { second = 10; minute = 100; day = 10000 }
+  pub counted : Counted proxy.budget spent
+
+-- the spin server stands for what happened to it
+pub record SpinHas (server : Serving) (events : List (Event (List Served))) : Type 0 where
+  pub made : server.end.setup ≡ spin_server demo_unit
+  pub stands : SpinStands server events
+
+-- a link stands for what happened to it
+pub record LinkHas (setup : Setup) (link : Ending) (events : List (Event Lookups)) : Type 0 where
+  pub made : link.setup ≡ setup
+  pub stands : LinkStands link events
+
+-- the client is where what it heard brings it
+pub record ClientHas (client : UnitClient) (E : List Entry) : Type 0 where
+  pub tracks : Tracks client hold_limit E
+  pub keeps : (V : List Raw) → AllByRecursion AreBytes V → Honest image V E → Keeps client V
+
+-- ---- Within a turn: what was done so far of one of its parts, and what it left else as it was
+-- on a line the client heard what came
+pub record HearsOn (s : Setting) (base : List Call) (calls : Option (List Call)) (client : UnitClient) (line : Line) (answers : List NetTaken) (now : Scene) : Type 0 where
+  pub on : OnLine
+  pub heard : List Entry
+  pub answers_are : on.answers ≡ answers
+  pub sent_is : on.sent ≡ (on_line line now).sent
+  pub has : ClientHas client heard
+  pub plays : Plays s base calls (record (with_line line on now) { heard = heard })
+
+-- the proxy took what came, and what it said was put and sent
+pub record ProxyServes (s : Setting) (base : List Call) (calls : Option (List Call)) (proxy : Proxy) (answers : List NetTaken) (ended : Bool) (now : Scene) : Type 0 where
+  pub end : AtEnd
+  pub server : List (Event Source)
+  pub down : Pipe
+  pub spent : Spent
+  pub lines : List (List ℕ)
+  pub answers_are : end.answers ≡ answers
+  pub ended_is : end.ended ≡ ended
+  pub put_is : end.put ≡ down.put
+  pub has : ProxyHas proxy server spent
+  pub plays : Plays s base calls (record now {
+    grp_server = end;
+    grp = record { up = now.grp.up; down = down; server = server; link = now.grp.link };
+    spent = spent;
+    replayed = lines;
+    gap = record { sent = lines; came = now.gap.came; answers = now.gap.answers };
+  })
+
+-- what the proxy answers to bytes
+abbrev pub proxy_said : Setting → List ℕ → Scene → Answer Spent
+proxy_said s bytes now = proxy_answer (grp_server demo_unit) now.grp.server bytes (source_at s bytes now)
+
+-- bytes were fed to the proxy, and this is what it says of them
+pub record ProxyFed (s : Setting) (bytes : List ℕ) (now : Scene) (proxy : Proxy) (said : List ℕ) (lines : List (List ℕ)) : Type 0 where
+  pub has : ProxyHas proxy (Fed bytes (source_at s bytes now) ∷ now.grp.server) (proxy_said s bytes now).knows
+  pub said_is : said ≡ (proxy_said s bytes now).reply
+  pub lines_are : lines ≡ (proxy_said s bytes now).lines
+
+-- the proxy was fed what it took from a scene, and what it said was put and sent
+pub record ProxyAnswers (s : Setting) (base : List Call) (calls : Option (List Call)) (proxy : Proxy) (bytes : List ℕ) (count : ℕ) (now : Scene) : Type 0 where
+  pub has : ProxyHas proxy (Fed bytes (source_at s bytes now) ∷ now.grp.server) (proxy_said s bytes now).knows
+  pub plays : Plays s base calls (sent_on Gap (proxy_said s bytes now).lines (put_at GrpServer (proxy_said s bytes now).reply (taken_at s GrpServer bytes (Got count) now)))
+
+-- the spin server took what came, and what it said was put
+pub record SpinServes (s : Setting) (base : List Call) (calls : Option (List Call)) (spin : Serving) (answers : List NetTaken) (ended : Bool) (now : Scene) : Type 0 where
+  pub end : AtEnd
+  pub server : List (Event (List Served))
+  pub down : Pipe
+  pub answers_are : end.answers ≡ answers
+  pub ended_is : end.ended ≡ ended
+  pub put_is : end.put ≡ down.put
+  pub has : SpinHas spin server
+  pub plays : Plays s base calls (record now { spin_server = end; spin = record { up = now.spin.up; down = down; server = server; link = now.spin.link } })
+
+-- the spin server made a connection of another, and what it said by that is to be put
+pub record SpinSays (spin : Serving) (said : List ℕ) (before after : Connection (List Served)) : Type 0 where
+  pub has : SpinHas spin after.server
+  pub says : after.down.put ≡ before.down.put ++ said
+  pub up_is : after.up ≡ before.up
+  pub link_is : after.link ≡ before.link
+
+-- a link was fed bytes, and the client heard what it told, and this entry where it closed
+pub record LinkTells (setup : Setup) (down : Entry) (link : Ending) (client : UnitClient) (bytes : List ℕ) (events : List (Event Lookups)) (E : List Entry) (shut : Bool) : Type 0 where
+  pub link_has : LinkHas setup link (Fed bytes NoLookup ∷ events)
+  pub shut_is : shut ≡ is_some (closed_of setup (Fed bytes NoLookup ∷ events))
+  pub has : ClientHas client (if shut then down ∷ heard_all (link_tells setup events bytes) E else heard_all (link_tells setup events bytes) E)
+
+-- the client heard what its link with the proxy took
+pub record HearsProxy (s : Setting) (base : List Call) (calls : Option (List Call)) (link : Ending) (client : UnitClient) (answers : List NetTaken) (cut : Bool) (now : Scene) : Type 0 where
+  pub end : AtEnd
+  pub events : List (Event Lookups)
+  pub up : Pipe
+  pub heard : List Entry
+  pub answers_are : end.answers ≡ answers
+  pub ended_is : end.ended ≡ true → cut ≡ true
+  pub put_is : end.put ≡ now.grp_client.put
+  pub up_is : up.put ≡ now.grp.up.put
+  pub link_has : LinkHas gap_link link events
+  pub has : ClientHas client heard
+  pub plays : Plays s base calls (record now {
+    grp_client = end;
+    grp = record { up = up; down = now.grp.down; server = now.grp.server; link = events };
+    grp_cut = cut;
+    heard = heard;
+  })
+
+-- the client heard what its link with the spin server took
+pub record HearsSpin (s : Setting) (base : List Call) (calls : Option (List Call)) (link : Ending) (client : UnitClient) (answers : List NetTaken) (cut : Bool) (now : Scene) : Type 0 where
+  pub end : AtEnd
+  pub events : List (Event Lookups)
+  pub up : Pipe
+  pub heard : List Entry
+  pub answers_are : end.answers ≡ answers
+  pub ended_is : end.ended ≡ true → cut ≡ true
+  pub put_is : end.put ≡ now.spin_client.put
+  pub up_is : up.put ≡ now.spin.up.put
+  pub link_has : LinkHas (spin_link demo_unit) link events
+  pub has : ClientHas client heard
+  pub plays : Plays s base calls (record now {
+    spin_client = end;
+    spin = record { up = up; down = now.spin.down; server = now.spin.server; link = events };
+    spin_cut = cut;
+    heard = heard;
+  })
+
+-- ---- Ticks: an end made a connection of another, and what it said by that
+pub record ProxySays (proxy : Proxy) (said : List ℕ) (before after : Connection Source) (spent : Spent) : Type 0 where
+  pub has : ProxyHas proxy after.server spent
+  pub says : after.down.put ≡ before.down.put ++ said
+  pub up_is : after.up ≡ before.up
+  pub link_is : after.link ≡ before.link
+
+pub record LinkSays {X : Type 0} (setup : Setup) (link : Ending) (said : List ℕ) (before after : Connection X) : Type 0 where
+  pub link_has : LinkHas setup link after.link
+  pub says : after.up.put ≡ before.up.put ++ said
+  pub down_is : after.down ≡ before.down
+  pub server_is : after.server ≡ before.server
+
+-- and it was put
+pub record ProxyActs (s : Setting) (base : List Call) (calls : Option (List Call)) (proxy : Proxy) (before after : Connection Source) (spent : Spent) (now : Scene) : Type 0 where
+  pub said : List ℕ
+  pub is : ProxySays proxy said before after spent
+  pub plays : Plays s base calls (put_at GrpServer said now)
+
+pub record SpinActs (s : Setting) (base : List Call) (calls : Option (List Call)) (spin : Serving) (before after : Connection (List Served)) (now : Scene) : Type 0 where
+  pub said : List ℕ
+  pub is : SpinSays spin said before after
+  pub plays : Plays s base calls (put_at SpinServer said now)
+
+pub record LinkActs {X : Type 0} (s : Setting) (base : List Call) (calls : Option (List Call)) (setup : Setup) (at : LinkEnd) (link : Ending) (before after : Connection X) (now : Scene) : Type 0 where
+  pub said : List ℕ
+  pub is : LinkSays setup link said before after
+  pub plays : Plays s base calls (put_at at said now)
+
+-- a connection that stands closes at its link
+abbrev pub closes : {X : Type 0} → Setup → Bool → Connection X → Bool
+closes setup cut c = not cut && is_some (closed_of setup c.link)
+
+-- a link ticked where its connection stands; the client heard where it closed then, and it is cut
+pub record LinkTicks {X : Type 0} (s : Setting) (base : List Call) (calls : Option (List Call)) (setup : Setup) (down : Entry) (at : LinkEnd) (link : Ending) (client : UnitClient)
+    (before after : Connection X) (E : List Entry) (cut cut' : Bool) (now : Scene) : Type 0 where
+  pub acts : LinkActs s base calls setup at link before after now
+  pub cut_is : cut' ≡ (cut || closes setup cut after)
+  pub has : ClientHas client (if closes setup cut after then down ∷ E else E)
+
+-- the code's ends are those of a scene
+pub record EndsHave (ends : Ends) (now : Scene) : Type 0 where
+  pub proxy : ProxyHas ends.proxy now.grp.server now.spent
+  pub spin : SpinHas ends.spin now.spin.server
+  pub gap_link : LinkHas gap_link ends.gap_link now.grp.link
+  pub spin_link : LinkHas (spin_link demo_unit) ends.spin_link now.spin.link
+  pub client : ClientHas ends.client now.heard
+  pub grp_cut_is : ends.grp_cut ≡ now.grp_cut
+  pub spin_cut_is : ends.spin_cut ≡ now.spin_cut
+  pub grp_ended_is : ends.grp_ended ≡ now.grp_server.ended
+  pub spin_ended_is : ends.spin_ended ≡ now.spin_server.ended
+  pub grp_client_ended : now.grp_client.ended ≡ true → now.grp_cut ≡ true
+  pub spin_client_ended : now.spin_client.ended ≡ true → now.spin_cut ≡ true
+  -- all that was said was put, and all that the proxy had for the gap line was sent
+  pub grp_client_put : now.grp_client.put ≡ now.grp.up.put
+  pub grp_server_put : now.grp_server.put ≡ now.grp.down.put
+  pub spin_client_put : now.spin_client.put ≡ now.spin.up.put
+  pub spin_server_put : now.spin_server.put ≡ now.spin.down.put
+  pub replayed : now.gap.sent ≡ now.replayed
+
+-- ---- Turns
+-- the market at the end of a turn's step with the venue
+abbrev pub MarketAt : Setting → Market → ℕ → Type 0
+MarketAt s market turn = MarketHas market (messages s turn) (accepted s turn) (advertised s turn)
+
+-- the market in a turn, when what was accepted was sent and nothing was advertised yet
+abbrev pub IsFlushed : Setting → Market → ℕ → Type 0
+IsFlushed s market turn = MarketHas market (messages s turn) (accepted s turn) (advertised s (turn - 1))
+
+-- nothing was called in this turn yet
+pub record IsUncalled (now : Scene) : Type 0 where
+  pub a : now.a.answers ≡ []
+  pub b : now.b.answers ≡ []
+  pub gap : now.gap.answers ≡ []
+  pub grp_client : now.grp_client.answers ≡ []
+  pub grp_server : now.grp_server.answers ≡ []
+  pub spin_client : now.spin_client.answers ≡ []
+  pub spin_server : now.spin_server.answers ≡ []
+
+-- what was sent on the lines of the venue, and the ticks, up to a turn
+pub record IsSentTo (s : Setting) (turn : ℕ) (now : Scene) : Type 0 where
+  pub on_a : now.a.sent ≡ due s A turn
+  pub on_b : now.b.sent ≡ due s B turn
+  pub ticked : now.ticked ≡ ticks turn
+
+-- the demo stands at a scene
+pub record DemoAt (s : Setting) (base : List Call) (calls : Option (List Call)) (ends : Ends) (now : Scene) : Type 0 where
+  pub has : EndsHave ends now
+  pub plays : Plays s base calls now
+
+-- ---- Groups of calls
+-- so many calls, each of which got something
+abbrev pub AreGroup : List NetTaken → Type 0
+AreGroup answers = is_open answers ≡ false
+
+-- a group at an end: it is over, or the end is asked no more
+abbrev pub AreTaken : List NetTaken → Bool → Type 0
+AreTaken answers over = is_open answers ≡ true → over ≡ true
+
+-- ---- A heartbeat
+-- it was sent on both lines, all ticked, and what they said was put
+abbrev pub beaten : Setting → Scene → Scene
+beaten s now = all_put (ticked s (sent_on B (beat s now.turn ∷ []) (sent_on A (beat s now.turn ∷ []) now)))
+
+-- the same in every tenth turn
+abbrev pub beaten_if : Setting → Scene → Scene
+beaten_if s now = if is_tenth now.turn then beaten s now else now

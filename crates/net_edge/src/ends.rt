@@ -1,0 +1,200 @@
+//! The four ends and the client, and what a turn does with them.
+
+ghost use Rattle.std.specs.Prelude.{◌≡◌, ◌≤◌, ◌<◌, ◌-◌, ℕ, List, [], ◌∷◌, length, OnOk, IfOk, IfErr, true};
+ghost use Rattle.pitch_io.specs.Causes.{Rose};
+ghost use Rattle.pitch_io.specs.Nets.{Call};
+ghost use Rattle.net_edge.specs.declared.error.DemoError.TheVariants as errors;
+ghost use Rattle.net_edge.specs.Acting.{ticked};
+ghost use Rattle.net_edge.specs.Due.{Setting, setting, accepted, is_tenth};
+ghost use Rattle.net_edge.specs.Playing.{Plays, EndsHave, MarketAt, IsFlushed, IsUncalled, IsSentTo, DemoAt, beaten, beaten_if};
+ghost use Rattle.net_edge.specs.Scene.{Scene, all_put};
+ghost use Rattle.net_edge.specs.Turns.{IsOver};
+
+use crate::error::DemoError;
+use crate::lines::hear_line;
+use crate::links::{ask_proxy, ask_spin, hear_proxy, hear_spin, tick_gap_link, tick_spin_link};
+use crate::market::Market;
+use crate::proxy::{Proxy, serve_proxy, tick_proxy};
+use crate::putting::{send, send_unless};
+use crate::spin::{serve_spin, tell_spin, tick_spin};
+use client_core::UnitClient;
+use client_links::{GapLink, SpinLink};
+use pitch_io::{Line, Net, NetDone};
+use spin_server::SpinServer;
+use std::alloc::Global;
+use venue_core::lost;
+
+/// The four ends and the client; which connections were cut, and which servers got End.
+#[derive(Drop)]
+pub(crate) struct Ends {
+    pub(crate) alloc: Global,
+    pub(crate) proxy: Proxy,
+    pub(crate) spin: SpinServer,
+    pub(crate) gap_link: GapLink,
+    pub(crate) spin_link: SpinLink,
+    pub(crate) client: UnitClient,
+    pub(crate) grp_cut: bool,
+    pub(crate) spin_cut: bool,
+    pub(crate) grp_ended: bool,
+    pub(crate) spin_ended: bool,
+}
+
+impl Ends {
+    // A second passes at all ends, after the turn's heartbeat was sent on line B. The spin server is
+    // told of a sequence before.
+    fn tick<N: Net>(&mut self, net: &mut N, sequence: u32) -> Result<(), DemoError>
+        ensures ticked { OnOk result ((s : Setting) (base : List Call) (now : Scene) → EndsHave self.old now → sequence ≡ accepted s now.turn → Plays s base (N.calls net.old) (ticked s now)
+            → DemoAt s base (N.calls net.new) self.new (all_put (ticked s now))) }
+        ensures fault { IfErr result (λ error. error ≡ errors.NetFault → Rose (N.faults net.old) (N.faults net.new)) }
+        ensures later { N.faults net.old ≤ N.faults net.new }
+    {
+        tell_spin(self.alloc, net, &mut self.spin, sequence, self.spin_cut)?;
+        tick_proxy(net, &mut self.proxy, self.grp_cut)?;
+        tick_spin(self.alloc, net, &mut self.spin, self.spin_cut)?;
+        let grp_cut = tick_gap_link(
+            self.alloc,
+            net,
+            &mut self.gap_link,
+            &mut self.client,
+            self.grp_cut,
+        )?;
+        let spin_cut = tick_spin_link(
+            self.alloc,
+            net,
+            &mut self.spin_link,
+            &mut self.client,
+            self.spin_cut,
+        )?;
+        self.grp_cut = grp_cut;
+        self.spin_cut = spin_cut;
+        let ask = self.client.tick();
+        ask_proxy(self.alloc, net, &mut self.gap_link, ask, grp_cut)?;
+        ask_spin(self.alloc, net, &mut self.spin_link, ask, spin_cut)?;
+        Ok(())
+    }
+
+    // The turn's heartbeat is sent, an image is advertised, and a second passes.
+    fn beat<N: Net>(&mut self, net: &mut N, market: &mut Market) -> Result<(), DemoError>
+        ensures beaten { OnOk result ((s : Setting) (base : List Call) (now : Scene) → DemoAt s base (N.calls net.old) self.old now → IsFlushed s market.old now.turn → 1 ≤ now.turn → is_tenth now.turn ≡ true
+            → DemoAt s base (N.calls net.new) self.new (beaten s now) × MarketAt s market.new now.turn) }
+        ensures fault { IfErr result (λ error. error ≡ errors.NetFault → Rose (N.faults net.old) (N.faults net.new)) }
+        ensures later { N.faults net.old ≤ N.faults net.new }
+    {
+        let heartbeat = market.beat();
+        send(net, Line::A, &heartbeat)?;
+        match net.send(Line::B, &heartbeat) {
+            NetDone::Done => {}
+            NetDone::Failed => return Err(DemoError::NetFault),
+        }
+        let sequence = market.advertise()?;
+        self.tick(net, sequence)?;
+        Ok(())
+    }
+
+    // The same in every tenth turn.
+    fn beat_if_tenth<N: Net>(
+        &mut self,
+        net: &mut N,
+        market: &mut Market,
+        turn: u32,
+    ) -> Result<(), DemoError>
+        requires { 1 ≤ turn }
+        ensures beaten { OnOk result ((s : Setting) (base : List Call) (now : Scene) → now.turn ≡ turn → DemoAt s base (N.calls net.old) self.old now → IsFlushed s market.old turn
+            → DemoAt s base (N.calls net.new) self.new (beaten_if s now) × MarketAt s market.new turn) }
+        ensures fault { IfErr result (λ error. error ≡ errors.NetFault → Rose (N.faults net.old) (N.faults net.new)) }
+        ensures later { N.faults net.old ≤ N.faults net.new }
+    {
+        if turn % 10 != 0 {
+            return Ok(());
+        }
+        self.beat(net, market)?;
+        Ok(())
+    }
+
+    // What the venue does in a turn: a message of the plan is accepted and sent, and every tenth
+    // turn has a heartbeat and a tick.
+    fn publish<N: Net>(
+        &mut self,
+        net: &mut N,
+        market: &mut Market,
+        number: u64,
+        count: u32,
+        turn: u32,
+    ) -> Result<(), DemoError>
+        requires { 1 ≤ turn }
+        ensures published { OnOk result ((base : List Call) (now : Scene) → now.turn ≡ turn → DemoAt (setting number count) base (N.calls net.old) self.old now → MarketAt (setting number count) market.old (turn - 1)
+            → IsSentTo (setting number count) (turn - 1) now → IsUncalled now
+            → (after : Scene) × (after.turn ≡ turn) × DemoAt (setting number count) base (N.calls net.new) self.new after × MarketAt (setting number count) market.new turn
+            × IsSentTo (setting number count) turn after × IsUncalled after) }
+        ensures fault { IfErr result (λ error. error ≡ errors.NetFault → Rose (N.faults net.old) (N.faults net.new)) }
+        ensures later { N.faults net.old ≤ N.faults net.new }
+    {
+        market.accept_next(number, count, turn)?;
+        let datagrams = market.flush()?;
+        let lost_on_a = lost(number, 1, turn, 1);
+        send_unless(net, lost_on_a, Line::A, datagrams.as_slice())?;
+        let lost_on_b = lost(number, 1, turn, 2);
+        send_unless(net, lost_on_b, Line::B, datagrams.as_slice())?;
+        self.beat_if_tenth(net, market, turn)?;
+        Ok(())
+    }
+
+    /// One turn.
+    pub(crate) fn turn<N: Net>(
+        &mut self,
+        net: &mut N,
+        market: &mut Market,
+        number: u64,
+        count: u32,
+        turn: u32,
+        into: &mut [u8],
+    ) -> Result<(), DemoError>
+        requires some { 1 ≤ turn }
+        requires room { 0 < length into.old }
+        ensures over { OnOk result ((base : List Call) (now : Scene) → now.turn ≡ turn → DemoAt (setting number count) base (N.calls net.old) self.old now → MarketAt (setting number count) market.old (turn - 1)
+            → IsSentTo (setting number count) (turn - 1) now → IsUncalled now
+            → (after : Scene) × (after.turn ≡ turn) × DemoAt (setting number count) base (N.calls net.new) self.new after × MarketAt (setting number count) market.new turn × IsOver (setting number count) after) }
+        ensures room { length into.new ≡ length into.old }
+        ensures fault { IfErr result (λ error. error ≡ errors.NetFault → Rose (N.faults net.old) (N.faults net.new)) }
+        ensures later { N.faults net.old ≤ N.faults net.new }
+    {
+        self.publish(net, market, number, count, turn)?;
+        self.grp_ended = serve_proxy(
+            net,
+            &mut self.proxy,
+            &mut market.store,
+            into,
+            self.grp_cut,
+            self.grp_ended,
+        )?;
+        self.spin_ended = serve_spin(
+            self.alloc,
+            net,
+            &mut self.spin,
+            &mut market.shelf,
+            into,
+            self.spin_cut,
+            self.spin_ended,
+        )?;
+        hear_line(net, Line::A, &mut self.client, into)?;
+        hear_line(net, Line::B, &mut self.client, into)?;
+        hear_line(net, Line::Gap, &mut self.client, into)?;
+        self.grp_cut = hear_proxy(
+            self.alloc,
+            net,
+            &mut self.gap_link,
+            &mut self.client,
+            into,
+            self.grp_cut,
+        )?;
+        self.spin_cut = hear_spin(
+            self.alloc,
+            net,
+            &mut self.spin_link,
+            &mut self.client,
+            into,
+            self.spin_cut,
+        )?;
+        Ok(())
+    }
+}

@@ -1,0 +1,21 @@
+use pitch_fields::OutOfMemory;
+
+/// Why a demo ends early.
+#[derive(Clone, Copy, Debug, PartialEq, Eq)]
+pub enum DemoError {
+    /// The net failed, and its count of faults rose.
+    NetFault,
+    /// Memory was refused.
+    OutOfMemory,
+}
+
+impl From<OutOfMemory> for DemoError {
+    ghost use Rattle.std.specs.Prelude.{◌≡◌};
+    ghost use Rattle.net_edge.specs.declared.error.DemoError.TheVariants as errors;
+
+    ghost from_gives = { λ _ error. error ≡ errors.OutOfMemory };
+
+    fn from(_: OutOfMemory) -> DemoError {
+        DemoError::OutOfMemory
+    }
+}

@@ -1,0 +1,20 @@
+//! Both ends of a unit over a net, on one thread.
+//!
+//! [`demo`] runs a venue with its Gap Request Proxy and its Spin Server at the one ends of three
+//! lines and two connections, and a client at the others. Whatever the net loses, repeats, reorders
+//! or cuts, each end makes of what came to it just what the definitions of its crate say.
+//! `specs/Demo.antt` says what such a run is.
+#![tactic(auto)]
+
+mod ends;
+mod error;
+mod lines;
+mod links;
+mod market;
+mod proxy;
+mod putting;
+mod running;
+mod spin;
+
+pub use crate::error::DemoError;
+pub use crate::running::demo;

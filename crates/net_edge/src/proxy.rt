@@ -1,0 +1,183 @@
+//! The proxy's end of its connection.
+
+ghost use Rattle.std.specs.Prelude.{◌≡◌, ◌≤◌, ◌<◌, ℕ, Bool, false, true, ◌||◌, List, [], ◌∷◌, ◌++◌, length, OnOk, IfOk, IfErr};
+ghost use Rattle.pitch_io.specs.Causes.{Rose};
+ghost use Rattle.pitch_io.specs.Nets.{Call};
+ghost use Rattle.pitch_io.specs.declared.net.LinkEnd.TheVariants.{GrpServer as ServerEnd};
+ghost use Rattle.pitch_io.specs.declared.net.NetTaken.{NetTaken as TakenSaid};
+ghost use Rattle.pitch_io.specs.declared.net.NetTaken.TheVariants.{Got};
+ghost use Rattle.unit_packets.specs.Packing.{bytes_in};
+ghost use Rattle.gap_store.specs.Look.{store_of};
+ghost use Rattle.session_ends.specs.Events.{Ticked};
+ghost use Rattle.grp_session.specs.Budget.{Spent, next_second};
+ghost use Rattle.grp_session.specs.Serving.{Source};
+ghost use Rattle.world_model.specs.State.{Connection};
+ghost use Rattle.world_model.specs.Verbs.{at_grp_server};
+ghost use Rattle.net_edge.specs.declared.error.DemoError.TheVariants as errors;
+ghost use Rattle.net_edge.specs.Acting.{taken_at, where_stands, is_open};
+ghost use Rattle.net_edge.specs.Due.{Setting, demo_unit, gap_view};
+ghost use Rattle.net_edge.specs.Playing.{Plays, ProxyHas, ProxyFed, ProxyAnswers, ProxyServes, ProxySays, ProxyActs, AreTaken};
+ghost use Rattle.net_edge.specs.Scene.{Scene, is_end};
+
+use crate::error::DemoError;
+use crate::putting::{put_whole, send_all};
+use client_links::Account;
+use gap_store::GapStore;
+use grp_session::{GapBudget, GrpServer, look_laws};
+use pitch_fields::OutOfMemory;
+use pitch_io::{Line, LinkEnd, Net, NetTaken};
+use std::alloc::Global;
+use unit_packets::DatagramList;
+
+/// The proxy, and how many requests it may still accept.
+#[derive(Drop)]
+pub(crate) struct Proxy {
+    alloc: Global,
+    server: GrpServer,
+    budget: GapBudget,
+}
+
+impl Proxy {
+    ghost use Rattle.world_model.specs.Ends.{the_account};
+
+    /// Nothing happened to it. This account may log in.
+    pub(crate) fn make(alloc: Global, account: Account) -> Result<Proxy, OutOfMemory>
+        requires { account ≡ the_account }
+        ensures { IfOk result (λ proxy. ProxyHas proxy [] (record { now = 0; accepted = [] })) }
+    {
+        let mut accounts = Vec::new(alloc);
+        accounts.push(account)?;
+        Ok(Proxy {
+            alloc,
+            server: GrpServer::make(alloc, 1, accounts, false),
+            budget: GapBudget::make(10, 100, 10000),
+        })
+    }
+
+    // Bytes come to it.
+    fn feed(
+        &mut self,
+        store: &mut GapStore,
+        piece: &[u8],
+        said: &mut Vec<u8>,
+        lines: &mut DatagramList,
+    ) -> Result<(), OutOfMemory>
+        requires no_said { said.old.items ≡ [] }
+        requires no_lines { lines.old.items ≡ [] }
+        ensures fed { OnOk result ((s : Setting) (now : Scene) → ProxyHas self.old now.grp.server now.spent → store.old ≡ store_of (gap_view s now.turn)
+            → ProxyFed s piece.now now self.new said.new.items (bytes_in lines.new.items)) }
+        ensures store { store.new ≡ store.old }
+    {
+        look_laws();
+        self.server
+            .feed(piece, &mut self.budget, Some(store), said, lines)?;
+        Ok(())
+    }
+
+    // A second passes: for the account of requests, and at its end where its connection stands.
+    fn tick(&mut self, cut: bool, said: &mut Vec<u8>) -> Result<(), OutOfMemory>
+        requires { said.old.items ≡ [] }
+        ensures { OnOk result ((c : Connection Source) (spent : Spent) → ProxyHas self.old c.server spent
+            → ProxySays self.new said.new.items c (where_stands cut (λ k. at_grp_server demo_unit Ticked k) c) (next_second spent)) }
+    {
+        self.budget.tick();
+        if cut {
+            return Ok(());
+        }
+        self.server.tick(said)?;
+        Ok(())
+    }
+}
+
+/// A second passes: for the account of requests, and at the proxy's end where its connection stands.
+pub(crate) fn tick_proxy<N: Net>(net: &mut N, proxy: &mut Proxy, cut: bool) -> Result<(), DemoError>
+    ensures acts { OnOk result ((s : Setting) (base : List Call) (c : Connection Source) (spent : Spent) (now : Scene) → ProxyHas proxy.old c.server spent → Plays s base (N.calls net.old) now
+        → ProxyActs s base (N.calls net.new) proxy.new c (where_stands cut (λ k. at_grp_server demo_unit Ticked k) c) (next_second spent) now) }
+    ensures fault { IfErr result (λ error. error ≡ errors.NetFault → Rose (N.faults net.old) (N.faults net.new)) }
+    ensures later { N.faults net.old ≤ N.faults net.new }
+{
+    let mut said = Vec::new(proxy.alloc);
+    proxy.tick(cut, &mut said)?;
+    put_whole(net, LinkEnd::GrpServer, &said)?;
+    Ok(())
+}
+
+// What came to the proxy is fed, and what it says is put and sent.
+fn serve_piece<N: Net>(
+    net: &mut N,
+    proxy: &mut Proxy,
+    store: &mut GapStore,
+    piece: &[u8],
+) -> Result<(), DemoError>
+    ensures served { OnOk result ((s : Setting) (base : List Call) (count : ℕ) (now : Scene) → ProxyHas proxy.old now.grp.server now.spent → store.old ≡ store_of (gap_view s now.turn)
+        → Plays s base (N.calls net.old) (taken_at s ServerEnd piece.now (Got count) now) → ProxyAnswers s base (N.calls net.new) proxy.new piece.now count now) }
+    ensures store { store.new ≡ store.old }
+    ensures fault { IfErr result (λ error. error ≡ errors.NetFault → Rose (N.faults net.old) (N.faults net.new)) }
+    ensures later { N.faults net.old ≤ N.faults net.new }
+{
+    let mut said = Vec::new(proxy.alloc);
+    let mut lines = DatagramList::make(proxy.alloc);
+    proxy.feed(store, piece, &mut said, &mut lines)?;
+    put_whole(net, LinkEnd::GrpServer, &said)?;
+    send_all(net, Line::Gap, lines.as_slice())?;
+    Ok(())
+}
+
+// One call of `take` at the proxy's end; what comes is served.
+fn serve_one<N: Net>(
+    net: &mut N,
+    proxy: &mut Proxy,
+    store: &mut GapStore,
+    into: &mut [u8],
+) -> Result<NetTaken, DemoError>
+    requires { 0 < length into.old }
+    ensures served { IfOk result (λ answer. (s : Setting) (base : List Call) (answers : List TakenSaid) (now : Scene) → ProxyServes s base (N.calls net.old) proxy.old answers false now
+        → now.grp_cut ≡ false → store.old ≡ store_of (gap_view s now.turn) → is_open answers ≡ true
+        → ProxyServes s base (N.calls net.new) proxy.new (answer ∷ answers) (is_end answer) now) }
+    ensures store { store.new ≡ store.old }
+    ensures room { length into.new ≡ length into.old }
+    ensures fault { IfErr result (λ error. error ≡ errors.NetFault → Rose (N.faults net.old) (N.faults net.new)) }
+    ensures later { N.faults net.old ≤ N.faults net.new }
+{
+    let answer = net.take(LinkEnd::GrpServer, into);
+    match answer {
+        NetTaken::Got(count) => {
+            serve_piece(net, proxy, store, &into[..count])?;
+            Ok(answer)
+        }
+        NetTaken::Quiet | NetTaken::End => Ok(answer),
+        NetTaken::Failed => Err(DemoError::NetFault),
+    }
+}
+
+/// A turn's calls of `take` at the proxy's end, where its connection stands and it did not get End
+/// before. Answers whether it got End so far.
+pub(crate) fn serve_proxy<N: Net>(
+    net: &mut N,
+    proxy: &mut Proxy,
+    store: &mut GapStore,
+    into: &mut [u8],
+    cut: bool,
+    ended: bool,
+) -> Result<bool, DemoError>
+    requires { 0 < length into.old }
+    ensures served { IfOk result (λ ends. (s : Setting) (base : List Call) (now : Scene) → ProxyServes s base (N.calls net.old) proxy.old [] ended now
+        → now.grp_cut ≡ cut → store.old ≡ store_of (gap_view s now.turn)
+        → (answers : List TakenSaid) × AreTaken answers (ends || cut) × ProxyServes s base (N.calls net.new) proxy.new answers ends now) }
+    ensures store { store.new ≡ store.old }
+    ensures room { length into.new ≡ length into.old }
+    ensures fault { IfErr result (λ error. error ≡ errors.NetFault → Rose (N.faults net.old) (N.faults net.new)) }
+    ensures later { N.faults net.old ≤ N.faults net.new }
+{
+    if cut || ended {
+        return Ok(ended);
+    }
+    'takes: for _index in 0..100u32 {
+        match serve_one(net, proxy, store, into)? {
+            NetTaken::Got(_) => {}
+            NetTaken::End => return Ok(true),
+            NetTaken::Quiet | NetTaken::Failed => return Ok(false),
+        }
+    }
+    Ok(false)
+}

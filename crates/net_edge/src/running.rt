@@ -1,0 +1,248 @@
+//! The demo: turns of both ends until the client is current.
+
+ghost use Rattle.std.specs.Prelude.{◌≡◌, ◌≤◌, ◌<◌, ◌+◌, ◌++◌, ◌⊎◌, List, [], length, OnOk, OnErr, IfOk, IfErr, MatchBool};
+ghost use Rattle.std.specs.FinMap as map;
+ghost use Rattle.pitch_io.specs.Causes.{Rose};
+ghost use Rattle.pitch_io.specs.Nets.{Call};
+ghost use Rattle.pitch_io.specs.declared.net.LinkEnd.TheVariants.{GrpClient, SpinClient};
+ghost use Rattle.pitch_model.specs.declared.status.Status.TheVariants.{Current};
+ghost use Rattle.pitch_model.specs.History.{Entry};
+ghost use Rattle.pitch_model.specs.Levels.{shares};
+ghost use Rattle.pitch_model.specs.Status.{status_of};
+ghost use Rattle.client_core.specs.Tracks.{current_book};
+ghost use Rattle.storm_plan.specs.StormText.{unit_line};
+ghost use Rattle.world_model.specs.Ends.{the_account};
+ghost use Rattle.net_edge.specs.declared.error.DemoError.TheVariants as errors;
+ghost use Rattle.net_edge.specs.Demo.{IsDemo, IsLast};
+ghost use Rattle.net_edge.specs.Due.{Setting, setting, demo_unit, hold_limit};
+ghost use Rattle.net_edge.specs.Playing.{ClientHas, SpinHas, EndsHave, DemoAt, MarketHas, MarketAt, Plays, calls_before};
+ghost use Rattle.net_edge.specs.Scene.{Scene, first_scene, all_put, said_at};
+ghost use Rattle.net_edge.specs.Turns.{IsOver};
+
+use crate::ends::Ends;
+use crate::error::DemoError;
+use crate::market::Market;
+use crate::proxy::Proxy;
+use crate::putting::put_whole;
+use client_core::UnitClient;
+use client_links::{Account, GapLink, SpinLink};
+use pitch_fields::OutOfMemory;
+use pitch_io::{LinkEnd, Net, NetDone};
+use pitch_model::Status;
+use spin_server::SpinServer;
+use std::alloc::Global;
+use storm_plan::append_unit_line;
+
+// The account of both sessions.
+fn account() -> Account
+    ensures { result ≡ the_account }
+{
+    Account {
+        sub: *b"0001",
+        user: *b"FEED",
+        password: *b"PITCH     ",
+    }
+}
+
+// A spin server that knows the account.
+fn spin_server(alloc: Global) -> Result<SpinServer, OutOfMemory>
+    ensures { IfOk result (λ spin. SpinHas spin []) }
+{
+    let mut accounts = Vec::new(alloc);
+    accounts.push(account())?;
+    Ok(SpinServer::make(alloc, 1, accounts, false))
+}
+
+// Room for the longest datagram.
+fn room(alloc: Global) -> Result<Vec<u8>, OutOfMemory>
+    ensures { IfOk result (λ bytes. 0 < length bytes.items) }
+{
+    Ok(vec![in alloc; 0u8; 65535]?)
+}
+
+// The ends are made; both links say their logins.
+fn make_ends(
+    alloc: Global,
+    login: &mut Vec<u8>,
+    spin_login: &mut Vec<u8>,
+) -> Result<Ends, OutOfMemory>
+    requires login { login.old.items ≡ [] }
+    requires spin_login { spin_login.old.items ≡ [] }
+    ensures has { IfOk result (λ ends. EndsHave ends (all_put first_scene)) }
+    ensures login { OnOk result (login.new.items ≡ said_at GrpClient first_scene) }
+    ensures spin_login { OnOk result (spin_login.new.items ≡ said_at SpinClient first_scene) }
+{
+    let gap_link = GapLink::make(alloc, &account(), login)?;
+    let spin_link = SpinLink::make(alloc, 1, &account(), spin_login)?;
+    let proxy = Proxy::make(alloc, account())?;
+    let spin = spin_server(alloc)?;
+    let client = UnitClient::make(alloc, 4096)?;
+    Ok(Ends {
+        alloc,
+        proxy,
+        spin,
+        gap_link,
+        spin_link,
+        client,
+        grp_cut: false,
+        spin_cut: false,
+        grp_ended: false,
+        spin_ended: false,
+    })
+}
+
+// The net is set up, and both logins are put.
+fn set_up<N: Net>(net: &mut N, login: &[u8], spin_login: &[u8]) -> Result<(), DemoError>
+    ensures set_up { OnOk result ((s : Setting) → login.now ≡ said_at GrpClient first_scene → spin_login.now ≡ said_at SpinClient first_scene
+        → Plays s (calls_before (N.calls net.old)) (N.calls net.new) (all_put first_scene)) }
+    ensures fault { IfErr result (λ error. error ≡ errors.NetFault → Rose (N.faults net.old) (N.faults net.new)) }
+    ensures later { N.faults net.old ≤ N.faults net.new }
+{
+    match net.begin() {
+        NetDone::Done => {}
+        NetDone::Failed => return Err(DemoError::NetFault),
+    }
+    put_whole(net, LinkEnd::GrpClient, login)?;
+    put_whole(net, LinkEnd::SpinClient, spin_login)?;
+    Ok(())
+}
+
+// Whether a run ends with this turn.
+fn ends_with(turn: u32, count: u32, status: Status) -> bool
+    requires { count ≤ 1000 }
+    ensures { MatchBool result ((count < turn) × ((status ≡ Current count) ⊎ (turn ≡ count + 200))) ((count < turn → status ≡ Current count → ⊥) × (turn ≡ count + 200 → ⊥)) }
+{
+    if turn == count + 200 {
+        return true;
+    }
+    match status {
+        Status::Current { n } => turn > count && n == count,
+        Status::Silent | Status::Behind { .. } => false,
+    }
+}
+
+// The turns of a run, until it ends.
+fn run<N: Net>(
+    net: &mut N,
+    ends: &mut Ends,
+    market: &mut Market,
+    number: u64,
+    count: u32,
+    into: &mut [u8],
+) -> Result<(), DemoError>
+    requires many { (1 ≤ count) × (count ≤ 1000) }
+    requires room { 0 < length into.old }
+    ensures ran { OnOk result ((base : List Call) → DemoAt (setting number count) base (N.calls net.old) ends.old (all_put first_scene) → MarketHas market.old [] 0 []
+        → (now : Scene) × DemoAt (setting number count) base (N.calls net.new) ends.new now × MarketAt (setting number count) market.new now.turn × IsOver (setting number count) now × IsLast (setting number count) now) }
+    ensures fault { IfErr result (λ error. error ≡ errors.NetFault → Rose (N.faults net.old) (N.faults net.new)) }
+    ensures later { N.faults net.old ≤ N.faults net.new }
+{
+    let mut turn = 1;
+    ends.turn(net, market, number, count, turn, into)?;
+    'turns: while !ends_with(turn, count, ends.client.status()) {
+        turn += 1;
+        ends.turn(net, market, number, count, turn, into)?;
+    }
+    Ok(())
+}
+
+// Appends the line of the unit's client.
+fn append_end(client: &UnitClient, out: &mut Vec<u8>) -> Result<(), OutOfMemory>
+    ensures line { OnOk result ((E : List Entry) → ClientHas client.now E
+        → out.new.items ≡ out.old.items ++ unit_line demo_unit (status_of hold_limit E) (map.len (current_book client.now).orders) (shares (current_book client.now))) }
+    ensures err { OnErr result (out.new.items ≡ out.old.items) }
+{
+    let book = client.book();
+    append_unit_line(1, client.status(), book.len(), book.shares(), out)
+}
+
+// The ends at their start, the logins that both links say, the venue's side, and room for what
+// comes.
+#[derive(Drop)]
+struct Parts {
+    ends: Ends,
+    login: Vec<u8>,
+    spin_login: Vec<u8>,
+    market: Market,
+    into: Vec<u8>,
+}
+
+fn make_parts(alloc: Global) -> Result<Parts, OutOfMemory>
+    ensures ends { IfOk result (λ parts. EndsHave parts.ends (all_put first_scene)) }
+    ensures login { IfOk result (λ parts. parts.login.items ≡ said_at GrpClient first_scene) }
+    ensures spin_login { IfOk result (λ parts. parts.spin_login.items ≡ said_at SpinClient first_scene) }
+    ensures market { IfOk result (λ parts. MarketHas parts.market [] 0 []) }
+    ensures room { IfOk result (λ parts. 0 < length parts.into.items) }
+{
+    let mut login = Vec::new(alloc);
+    let mut spin_login = Vec::new(alloc);
+    let ends = make_ends(alloc, &mut login, &mut spin_login)?;
+    let market = Market::make(alloc)?;
+    let into = room(alloc)?;
+    Ok(Parts {
+        ends,
+        login,
+        spin_login,
+        market,
+        into,
+    })
+}
+
+// A run of these from the start, and the unit's line.
+fn play<N: Net>(
+    net: &mut N,
+    parts: &mut Parts,
+    number: u64,
+    count: u32,
+    out: &mut Vec<u8>,
+) -> Result<(), DemoError>
+    requires many { (1 ≤ count) × (count ≤ 1000) }
+    requires room { 0 < length parts.old.into.items }
+    ensures played { OnOk result (EndsHave parts.old.ends (all_put first_scene) → parts.old.login.items ≡ said_at GrpClient first_scene → parts.old.spin_login.items ≡ said_at SpinClient first_scene → MarketHas parts.old.market [] 0 []
+        → IsDemo (setting number count) (N.calls net.old) (N.calls net.new) out.old.items out.new.items) }
+    ensures fault { IfErr result (λ error. error ≡ errors.NetFault → Rose (N.faults net.old) (N.faults net.new)) }
+    ensures later { N.faults net.old ≤ N.faults net.new }
+    ensures err { OnErr result (out.new.items ≡ out.old.items) }
+{
+    set_up(net, &parts.login, &parts.spin_login)?;
+    run(
+        net,
+        &mut parts.ends,
+        &mut parts.market,
+        number,
+        count,
+        &mut parts.into,
+    )?;
+    append_end(&parts.ends.client, out)?;
+    Ok(())
+}
+
+/// Runs both ends of unit 1 over a net, and appends the unit's line to `out`: the status of its
+/// client, and the orders and the shares of its book. `out` is as before after an error.
+///
+/// The venue accepts `count` messages of the plan that `number` makes, 1 to 1,000, one in each turn;
+/// their copies are lost on lines A and B by the rule of losses. Every tenth turn has a heartbeat
+/// and a tick. In each turn the servers are fed what comes to them, and the client hears what comes
+/// on its lines and connections. The run ends with the first turn after the last message at whose
+/// end the client is current, and at the latest 200 turns after it.
+///
+/// Where the net lists its calls, they are those of such a run, whatever the net does with what it
+/// is given. Where it carries that, in whatever order and with whatever losses, the orders and the
+/// shares are those that the venue's messages up to the client's reach leave.
+pub fn demo<N: Net>(
+    alloc: Global,
+    net: &mut N,
+    number: u64,
+    count: u32,
+    out: &mut Vec<u8>,
+) -> Result<(), DemoError>
+    requires { (1 ≤ count) × (count ≤ 1000) }
+    ensures ran { OnOk result (IsDemo (setting number count) (N.calls net.old) (N.calls net.new) out.old.items out.new.items) }
+    // The net failed only where its count of faults rose.
+    ensures fault { IfErr result (λ error. error ≡ errors.NetFault → Rose (N.faults net.old) (N.faults net.new)) }
+    ensures later { N.faults net.old ≤ N.faults net.new }
+    ensures err { OnErr result (out.new.items ≡ out.old.items) }
+{
+    let mut parts = make_parts(alloc)?;
+    play(net, &mut parts, number, count, out)
+}

@@ -1,0 +1,213 @@
+//! The Spin Server's end of its connection.
+
+ghost use Rattle.std.specs.Prelude.{◌≡◌, ◌≤◌, ◌<◌, ℕ, Bool, false, true, ◌||◌, ◌&&◌, not, List, [], ◌∷◌, ◌++◌, length, OnOk, IfOk, IfErr, if◌then◌else◌};
+ghost use Rattle.pitch_io.specs.Causes.{Rose};
+ghost use Rattle.pitch_io.specs.Nets.{Call, came, CameWithin};
+ghost use Rattle.pitch_io.specs.declared.net.NetTaken.{NetTaken as TakenSaid};
+ghost use Rattle.pitch_io.specs.declared.net.NetTaken.TheVariants.{Got};
+ghost use Rattle.session_ends.specs.Events.{Ticked, Told};
+ghost use Rattle.spin_server.specs.Served.{Served};
+ghost use Rattle.world_model.specs.Connections.{KeepsShelf};
+ghost use Rattle.world_model.specs.State.{Connection};
+ghost use Rattle.world_model.specs.Verbs.{at_spin_server, sent_whole};
+ghost use Rattle.net_edge.specs.declared.error.DemoError.TheVariants as errors;
+ghost use Rattle.net_edge.specs.Acting.{where_stands, is_open, spin_fed, spin_answered};
+ghost use Rattle.net_edge.specs.Due.{Setting, demo_unit, messages, advertised};
+ghost use Rattle.net_edge.specs.Playing.{Plays, SpinHas, SpinSays, SpinActs, SpinServes, AreTaken};
+ghost use Rattle.net_edge.specs.Scene.{Scene, is_got, is_end};
+
+use crate::error::DemoError;
+use crate::putting::put_whole;
+use pitch_fields::OutOfMemory;
+use pitch_io::{LinkEnd, Net, NetTaken};
+use spin_server::{ImageShelf, SpinServer};
+use std::alloc::Global;
+
+// It is fed bytes; what it says is appended to an empty list.
+fn feed(
+    spin: &mut SpinServer,
+    shelf: &mut ImageShelf,
+    piece: &[u8],
+    said: &mut Vec<u8>,
+) -> Result<(), OutOfMemory>
+    requires { said.old.items ≡ [] }
+    ensures fed { OnOk result ((s : Setting) (count turn : ℕ) (c : Connection (List Served)) → SpinHas spin.old c.server → KeepsShelf shelf.old (messages s turn) (advertised s turn)
+        → SpinSays spin.new said.new.items c (spin_fed s piece.now (Got count) turn c)) }
+    ensures shelf { shelf.new ≡ shelf.old }
+{
+    spin.feed(piece, shelf, said)?;
+    Ok(())
+}
+
+// It sends a running image to its end.
+fn pump_whole(spin: &mut SpinServer, said: &mut Vec<u8>) -> Result<(), OutOfMemory>
+    ensures { OnOk result ((before c : Connection (List Served)) → SpinSays spin.old said.old.items before c
+        → SpinSays spin.new said.new.items before (sent_whole demo_unit c)) }
+{
+    let mut more = true;
+    while more {
+        more = spin.pump(said)?;
+    }
+    Ok(())
+}
+
+// What it says of an answer of `take`, to an empty list: it is fed what came, and sends a running
+// image to its end where the turn's calls are over.
+fn answer(
+    spin: &mut SpinServer,
+    shelf: &mut ImageShelf,
+    taken: NetTaken,
+    into: &[u8],
+    last: bool,
+    said: &mut Vec<u8>,
+) -> Result<(), OutOfMemory>
+    requires none { said.old.items ≡ [] }
+    requires within { CameWithin taken into.now }
+    ensures says { OnOk result ((s : Setting) (turn : ℕ) (c : Connection (List Served)) → SpinHas spin.old c.server → KeepsShelf shelf.old (messages s turn) (advertised s turn)
+        → SpinSays spin.new said.new.items c (spin_answered s (came taken into.now) taken turn (is_got taken && not last) c)) }
+    ensures shelf { shelf.new ≡ shelf.old }
+{
+    match taken {
+        NetTaken::Got(count) => {
+            feed(spin, shelf, &into[..count], said)?;
+            if !last {
+                return Ok(());
+            }
+            pump_whole(spin, said)?;
+            Ok(())
+        }
+        NetTaken::Quiet | NetTaken::End | NetTaken::Failed => {
+            pump_whole(spin, said)?;
+            Ok(())
+        }
+    }
+}
+
+// One call of `take` at its end, which may be the turn's last; what it says is put.
+fn serve_one<N: Net>(
+    alloc: Global,
+    net: &mut N,
+    spin: &mut SpinServer,
+    shelf: &mut ImageShelf,
+    into: &mut [u8],
+    last: bool,
+) -> Result<NetTaken, DemoError>
+    requires { 0 < length into.old }
+    ensures served { IfOk result (λ answer. (s : Setting) (base : List Call) (answers : List TakenSaid) (now : Scene) → SpinServes s base (N.calls net.old) spin.old answers false now
+        → now.spin_cut ≡ false → KeepsShelf shelf.old (messages s now.turn) (advertised s now.turn) → is_open answers ≡ true → is_open (answer ∷ answers) ≡ (is_got answer && not last)
+        → SpinServes s base (N.calls net.new) spin.new (answer ∷ answers) (is_end answer) now) }
+    ensures shelf { shelf.new ≡ shelf.old }
+    ensures room { length into.new ≡ length into.old }
+    ensures fault { IfErr result (λ error. error ≡ errors.NetFault → Rose (N.faults net.old) (N.faults net.new)) }
+    ensures later { N.faults net.old ≤ N.faults net.new }
+{
+    let taken = net.take(LinkEnd::SpinServer, into);
+    if let NetTaken::Failed = taken {
+        return Err(DemoError::NetFault);
+    }
+    let mut said = Vec::new(alloc);
+    answer(spin, shelf, taken, into, last, &mut said)?;
+    put_whole(net, LinkEnd::SpinServer, &said)?;
+    Ok(taken)
+}
+
+/// A turn's calls of `take` at its end, where its connection stands and it did not get End before;
+/// after them it sends a running image to its end. Answers whether it got End so far.
+pub(crate) fn serve_spin<N: Net>(
+    alloc: Global,
+    net: &mut N,
+    spin: &mut SpinServer,
+    shelf: &mut ImageShelf,
+    into: &mut [u8],
+    cut: bool,
+    ended: bool,
+) -> Result<bool, DemoError>
+    requires { 0 < length into.old }
+    ensures served { IfOk result (λ ends. (s : Setting) (base : List Call) (now : Scene) → SpinServes s base (N.calls net.old) spin.old [] ended now
+        → now.spin_cut ≡ cut → KeepsShelf shelf.old (messages s now.turn) (advertised s now.turn)
+        → (answers : List TakenSaid) × AreTaken answers (ends || cut) × SpinServes s base (N.calls net.new) spin.new answers ends now) }
+    ensures shelf { shelf.new ≡ shelf.old }
+    ensures room { length into.new ≡ length into.old }
+    ensures fault { IfErr result (λ error. error ≡ errors.NetFault → Rose (N.faults net.old) (N.faults net.new)) }
+    ensures later { N.faults net.old ≤ N.faults net.new }
+{
+    if cut || ended {
+        return Ok(ended);
+    }
+    'takes: for index in 0..100u32 {
+        match serve_one(alloc, net, spin, shelf, into, index == 99)? {
+            NetTaken::Got(_) => {}
+            NetTaken::End => return Ok(true),
+            NetTaken::Quiet | NetTaken::Failed => return Ok(false),
+        }
+    }
+    Ok(false)
+}
+
+// It is told of a sequence that was advertised, where its connection stands.
+fn say_told(
+    spin: &mut SpinServer,
+    sequence: u32,
+    cut: bool,
+    said: &mut Vec<u8>,
+) -> Result<(), OutOfMemory>
+    requires { said.old.items ≡ [] }
+    ensures { OnOk result ((c : Connection (List Served)) → SpinHas spin.old c.server
+        → SpinSays spin.new said.new.items c (where_stands cut (λ k. at_spin_server demo_unit (Told sequence) k) c)) }
+{
+    if cut {
+        return Ok(());
+    }
+    spin.tell(sequence, said)?;
+    Ok(())
+}
+
+// A second passes at its end, where its connection stands.
+fn say_ticked(spin: &mut SpinServer, cut: bool, said: &mut Vec<u8>) -> Result<(), OutOfMemory>
+    requires { said.old.items ≡ [] }
+    ensures { OnOk result ((c : Connection (List Served)) → SpinHas spin.old c.server
+        → SpinSays spin.new said.new.items c (where_stands cut (λ k. at_spin_server demo_unit Ticked k) c)) }
+{
+    if cut {
+        return Ok(());
+    }
+    spin.tick(said)?;
+    Ok(())
+}
+
+/// The server is told of a sequence that was advertised, where its connection stands.
+pub(crate) fn tell_spin<N: Net>(
+    alloc: Global,
+    net: &mut N,
+    spin: &mut SpinServer,
+    sequence: u32,
+    cut: bool,
+) -> Result<(), DemoError>
+    ensures acts { OnOk result ((s : Setting) (base : List Call) (c : Connection (List Served)) (now : Scene) → SpinHas spin.old c.server → Plays s base (N.calls net.old) now
+        → SpinActs s base (N.calls net.new) spin.new c (where_stands cut (λ k. at_spin_server demo_unit (Told sequence) k) c) now) }
+    ensures fault { IfErr result (λ error. error ≡ errors.NetFault → Rose (N.faults net.old) (N.faults net.new)) }
+    ensures later { N.faults net.old ≤ N.faults net.new }
+{
+    let mut said = Vec::new(alloc);
+    say_told(spin, sequence, cut, &mut said)?;
+    put_whole(net, LinkEnd::SpinServer, &said)?;
+    Ok(())
+}
+
+/// A second passes at its end, where its connection stands.
+pub(crate) fn tick_spin<N: Net>(
+    alloc: Global,
+    net: &mut N,
+    spin: &mut SpinServer,
+    cut: bool,
+) -> Result<(), DemoError>
+    ensures acts { OnOk result ((s : Setting) (base : List Call) (c : Connection (List Served)) (now : Scene) → SpinHas spin.old c.server → Plays s base (N.calls net.old) now
+        → SpinActs s base (N.calls net.new) spin.new c (where_stands cut (λ k. at_spin_server demo_unit Ticked k) c) now) }
+    ensures fault { IfErr result (λ error. error ≡ errors.NetFault → Rose (N.faults net.old) (N.faults net.new)) }
+    ensures later { N.faults net.old ≤ N.faults net.new }
+{
+    let mut said = Vec::new(alloc);
+    say_ticked(spin, cut, &mut said)?;
+    put_whole(net, LinkEnd::SpinServer, &said)?;
+    Ok(())
+}

@@ -1,0 +1,20 @@
+-- A drill: what is written of it, and how it ends. It reads nothing.
+use Rattle.std.specs.Prelude.{◌≤◌, ℕ, Result, Ok, Err}
+use Rattle.pitch_io.specs.Putting.{Grows}
+use Rattle.stream_print.specs.Putting.{PutsSome}
+use Rattle.stream_print.specs.Told.{Told, IsUntouched}
+use Rattle.unit_threads.specs.DrillText.{drill_text, most_drill_units, most_drilled}
+use Rattle.pitch_tool.specs.declared.failure.Failure.{Failure}
+use Rattle.pitch_tool.specs.declared.failure.Failure.TheVariants.{Write, OutOfMemory}
+
+-- a drill can have so many units, and so many commands for each
+abbrev pub IsDrill : (units count : ℕ) → Type 0
+IsDrill units count = (1 ≤ units × units ≤ most_drill_units) × (1 ≤ count × count ≤ most_drilled)
+
+-- How a drill ends: where its units ended was written; or a prefix of it, where the sink failed; or
+-- nothing, where memory ran out.
+abbrev pub DrillEnds : (number units count : ℕ) → Result (Unit {0}) Failure → (out : Told) → Type 0
+DrillEnds number units count (Ok done) out = Grows out.old out.new (drill_text number units count)
+DrillEnds number units count (Err Write) out = PutsSome out.old out.new (drill_text number units count)
+DrillEnds number units count (Err OutOfMemory) out = IsUntouched out
+DrillEnds number units count (Err _) out = ⊥

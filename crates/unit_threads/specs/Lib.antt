@@ -1,0 +1,2 @@
+pub mod DrillText
+pub mod Turns

@@ -1,0 +1,409 @@
+//! One unit's drill on one thread: a venue, a gap store and an image shelf serve the client in
+//! turns.
+
+ghost use Rattle.std.specs.Prelude.{◌≡◌, ◌+◌, ◌-◌, ◌≤◌, ◌<◌, ◌++◌, ◌∷◌, ℕ, List, [], length, OnOk, OnErr, IfOk};
+ghost use Rattle.std.specs.List.{AllByRecursion};
+ghost use Rattle.pitch_model.specs.Datagrams.{IsPiece};
+ghost use Rattle.pitch_model.specs.History.{Raw as RawSaid};
+ghost use Rattle.unit_packets.specs.Packing.{bytes_in};
+ghost use Rattle.venue_core.specs.Plan.{plan, most_planned};
+ghost use Rattle.venue_core.specs.Stands.{Stands};
+ghost use Rattle.drill_client.specs.Ending.{IsAtEnd};
+ghost use Rattle.drill_client.specs.Following.{FollowsOn, GoesOn, ImageParts, IsImageOf};
+ghost use Rattle.unit_threads.specs.DrillText.{most_drilled, drill_kept, drill_line};
+ghost use Rattle.unit_threads.specs.Turns.{KeepsLast, HasImages, Serves};
+
+use client_core::UnitClient;
+use drill_client::{
+    append_end, ask_for_all, begin, count_datagram, hear_advertised, hear_all, hear_datagrams,
+    hear_gap_reply, hear_image, hear_no_image,
+};
+use gap_store::{Found, GapLookup, GapStore, look_laws};
+use pitch_fields::OutOfMemory;
+use pitch_messages::{ByteList, RawList};
+use pitch_model::Ask;
+use pitch_model::laws::{
+    advertised_sequences_rise, operations_add_up, packed_messages_are_pieces,
+    slices_are_the_venues, venues_only_grow,
+};
+use spin_server::{ImageLookup, ImageShelf, Imaged, image_look_laws, shelves_show_what_was_pushed};
+use std::alloc::Global;
+use unit_packets::DatagramList;
+use venue_core::{Venue, VenueError, lost, plan_command, plan_is_accepted, plan_is_in_order};
+
+// How many messages the gap store keeps, and how many the client holds.
+const KEPT: u32 = 4096;
+
+// After so many messages an image is advertised.
+const ROUND: u32 = 1000;
+
+/// Which messages a unit's drill has: the first `count` of the plan of its number and unit.
+#[derive(Clone, Copy)]
+struct Course {
+    number: u64,
+    unit: u8,
+    count: u32,
+}
+
+/// A venue's side: the venue, what can be asked for again, and the images.
+#[derive(Drop)]
+struct Side {
+    venue: Venue,
+    store: GapStore,
+    shelf: ImageShelf,
+}
+
+impl Side {
+    // A side that has accepted nothing.
+    fn make(alloc: Global, unit: u8) -> Result<Side, OutOfMemory>
+        ensures { IfOk result (λ side. Serves side unit [] 0) }
+    {
+        Ok(Side {
+            venue: Venue::make(alloc, unit),
+            store: GapStore::make(alloc, KEPT)?,
+            shelf: ImageShelf::make(alloc),
+        })
+    }
+
+    // Accepts command `index` of the plan.
+    fn accept(&mut self, number: u64, unit: u8, index: u32) -> Result<(), OutOfMemory>
+        requires index { (1 ≤ index) × (index ≤ most_planned) }
+        requires serves { Serves self.old unit (plan number unit (index - 1)) (index - 1) }
+        ensures { OnOk result (Serves self.new unit (plan number unit index) (index - 1)) }
+    {
+        accept_command(&mut self.venue, number, unit, index)?;
+        keep_last(
+            &self.venue,
+            &mut self.store,
+            &mut self.shelf,
+            number,
+            unit,
+            index,
+        )?;
+        Ok(())
+    }
+
+    // Sends the message that was accepted last.
+    fn send(
+        &mut self,
+        alloc: Global,
+        number: u64,
+        unit: u8,
+        index: u32,
+    ) -> Result<DatagramList, OutOfMemory>
+        requires index { 1 ≤ index }
+        requires serves { Serves self.old unit (plan number unit index) (index - 1) }
+        ensures serves { OnOk result (Serves self.new unit (plan number unit index) index) }
+        ensures pieces { IfOk result (λ list. AllByRecursion (IsPiece (plan number unit index) unit) (bytes_in list.items)) }
+    {
+        plan_is_in_order();
+        let mut out = DatagramList::make(alloc);
+        self.venue.flush(&mut out)?;
+        Ok(out)
+    }
+}
+
+// The venue accepts command `index` of the plan.
+fn accept_command(venue: &mut Venue, number: u64, unit: u8, index: u32) -> Result<(), OutOfMemory>
+    requires index { (1 ≤ index) × (index ≤ most_planned) }
+    requires stands { Stands venue.old (plan number unit (index - 1)) (index - 1) }
+    ensures stands { OnOk result (Stands venue.new (plan number unit index) (index - 1)) }
+    ensures unit { venue.new.unit ≡ venue.old.unit }
+{
+    plan_is_accepted();
+    match venue.accept(&plan_command(number, unit, index)) {
+        Ok(_) => Ok(()),
+        Err(VenueError::OutOfMemory) => Err(OutOfMemory),
+        Err(_) => unreachable!(),
+    }
+}
+
+// The store and the shelf get the message of command `index`, which the venue accepted last.
+fn keep_last(
+    venue: &Venue,
+    store: &mut GapStore,
+    shelf: &mut ImageShelf,
+    number: u64,
+    unit: u8,
+    index: u32,
+) -> Result<(), OutOfMemory>
+    requires index { (1 ≤ index) × (index ≤ most_planned) }
+    requires venue { Stands venue.now (plan number unit index) (index - 1) }
+    requires store { KeepsLast store.old (plan number unit (index - 1)) }
+    requires shelf { HasImages shelf.old (plan number unit (index - 1)) }
+    ensures store { OnOk result (KeepsLast store.new (plan number unit index)) }
+    ensures shelf { OnOk result (HasImages shelf.new (plan number unit index)) }
+{
+    operations_add_up();
+    let Some(raw) = venue.last_raw() else {
+        unreachable!();
+    };
+    store.push(raw);
+    shelf.push(raw)?;
+    Ok(())
+}
+
+// Answers a gap ask: with the range where all of it is kept.
+fn answer_gap(
+    alloc: Global,
+    store: &mut GapStore,
+    client: &mut UnitClient,
+    unit: u8,
+    first: u32,
+    count: u16,
+) -> Result<(), OutOfMemory>
+    ensures same { store.new ≡ store.old }
+    // Of every venue that begins with the messages of the store.
+    ensures goes { OnOk result ((messages more : List RawSaid) → KeepsLast store.old messages → GoesOn client.old client.new (messages ++ more)) }
+{
+    look_laws();
+    slices_are_the_venues();
+    packed_messages_are_pieces();
+    if first == 0 || count == 0 {
+        hear_gap_reply(client, false);
+        return Ok(());
+    }
+    let mut out = DatagramList::make(alloc);
+    match store.pack(alloc, unit, first, count, &mut out)? {
+        Found::Kept => {
+            hear_gap_reply(client, true);
+            hear_datagrams(client, out.as_slice())?;
+            Ok(())
+        }
+        _ => {
+            hear_gap_reply(client, false);
+            Ok(())
+        }
+    }
+}
+
+// Answers a spin ask: with the image where it is served.
+fn answer_spin(
+    alloc: Global,
+    shelf: &mut ImageShelf,
+    client: &mut UnitClient,
+    sequence: u32,
+) -> Result<(), OutOfMemory>
+    ensures same { shelf.new ≡ shelf.old }
+    // Of every venue that begins with the messages of the shelf.
+    ensures goes { OnOk result ((messages more : List RawSaid) → HasImages shelf.old messages → GoesOn client.old client.new (messages ++ more)) }
+{
+    shelves_show_what_was_pushed();
+    image_look_laws();
+    advertised_sequences_rise();
+    venues_only_grow();
+    let mut raws = RawList::make(alloc);
+    match shelf.image(sequence, &mut raws)? {
+        Imaged::Image { orders } => {
+            hear_image(client, sequence, orders, raws)?;
+            Ok(())
+        }
+        Imaged::NotAdvertised => {
+            hear_no_image(client, sequence);
+            Ok(())
+        }
+    }
+}
+
+// Appends the image through the last message of a shelf, and answers how many orders it has.
+fn append_last(shelf: &mut ImageShelf, out: &mut RawList) -> Result<u32, OutOfMemory>
+    requires { (messages : List RawSaid) × HasImages shelf.old messages }
+    // Of the messages of the shelf.
+    ensures { IfOk result (λ orders. (messages : List RawSaid) → HasImages shelf.old messages → out.old.items ≡ []
+        → IsImageOf messages (record { sequence = length messages; orders = orders; raws = out.new.items })) }
+{
+    shelves_show_what_was_pushed();
+    image_look_laws();
+    advertised_sequences_rise();
+    operations_add_up();
+    let sequence = shelf.advertise()?;
+    match shelf.image(sequence, out)? {
+        Imaged::Image { orders } => Ok(orders),
+        Imaged::NotAdvertised => unreachable!(),
+    }
+}
+
+// Advertises where it is time: after every 1,000th message, and after the last.
+fn advertise(
+    shelf: &mut ImageShelf,
+    client: &mut UnitClient,
+    index: u32,
+    count: u32,
+) -> Result<(), OutOfMemory>
+    ensures shelf { OnOk result ((messages : List RawSaid) → HasImages shelf.old messages → HasImages shelf.new messages) }
+    // Of every venue that begins with the messages of the shelf.
+    ensures goes { OnOk result ((messages more : List RawSaid) → HasImages shelf.old messages → GoesOn client.old client.new (messages ++ more)) }
+{
+    operations_add_up();
+    if index % ROUND != 0 && index != count {
+        return Ok(());
+    }
+    let sequence = shelf.advertise()?;
+    hear_advertised(client, sequence);
+    Ok(())
+}
+
+// Answers what the client asks, if anything.
+fn answer(
+    alloc: Global,
+    side: &mut Side,
+    client: &mut UnitClient,
+    unit: u8,
+    ask: Option<Ask>,
+) -> Result<(), OutOfMemory>
+    ensures same { side.new ≡ side.old }
+    // Of every venue that begins with the messages of the side.
+    ensures goes { OnOk result ((messages more : List RawSaid) (sent : ℕ) → Serves side.old unit messages sent → GoesOn client.old client.new (messages ++ more)) }
+{
+    match ask {
+        None => Ok(()),
+        Some(Ask::Gap { first, count }) => {
+            answer_gap(alloc, &mut side.store, client, unit, first, count)
+        }
+        Some(Ask::Spin { sequence }) => answer_spin(alloc, &mut side.shelf, client, sequence),
+    }
+}
+
+// The client hears the copy of datagrams on one line, unless it is lost, and is answered.
+fn hear_copy(
+    alloc: Global,
+    side: &mut Side,
+    client: &mut UnitClient,
+    heard: &mut u8,
+    unit: u8,
+    datagrams: &[ByteList],
+    is_lost: bool,
+) -> Result<(), OutOfMemory>
+    ensures same { side.new ≡ side.old }
+    // Of every venue that begins with the messages of the side.
+    ensures goes { OnOk result ((messages more : List RawSaid) (sent : ℕ) → Serves side.old unit messages sent
+        → AllByRecursion (IsPiece messages unit) (bytes_in datagrams.now) → GoesOn client.old client.new (messages ++ more)) }
+{
+    if is_lost {
+        return Ok(());
+    }
+    hear_datagrams(client, datagrams)?;
+    let ask = count_datagram(client, heard);
+    answer(alloc, side, client, unit, ask)?;
+    Ok(())
+}
+
+// Command `index` of the plan: it is accepted and sent on both lines, and the client hears what is
+// not lost.
+fn play(
+    alloc: Global,
+    side: &mut Side,
+    client: &mut UnitClient,
+    heard: &mut u8,
+    course: Course,
+    index: u32,
+) -> Result<(), OutOfMemory>
+    requires index { (1 ≤ index) × (index ≤ course.count) }
+    requires count { course.count ≤ most_drilled }
+    requires serves { Serves side.old course.unit (plan course.number course.unit (index - 1)) (index - 1) }
+    ensures serves { OnOk result (Serves side.new course.unit (plan course.number course.unit index) index) }
+    ensures goes { OnOk result (GoesOn client.old client.new (plan course.number course.unit course.count)) }
+{
+    let Course {
+        number,
+        unit,
+        count,
+    } = course;
+    side.accept(number, unit, index)?;
+    let sent = side.send(alloc, number, unit, index)?;
+    let datagrams = sent.as_slice();
+    hear_copy(
+        alloc,
+        side,
+        client,
+        heard,
+        unit,
+        datagrams,
+        lost(number, unit, index, 1),
+    )?;
+    hear_copy(
+        alloc,
+        side,
+        client,
+        heard,
+        unit,
+        datagrams,
+        lost(number, unit, index, 2),
+    )?;
+    advertise(&mut side.shelf, client, index, count)?;
+    Ok(())
+}
+
+// The client hears of all messages of the side, and takes the image of all where it lacks some.
+fn end(
+    alloc: Global,
+    side: &mut Side,
+    client: &mut UnitClient,
+    course: Course,
+) -> Result<(), OutOfMemory>
+    requires count { course.count ≤ most_drilled }
+    requires serves { Serves side.old course.unit (plan course.number course.unit course.count) course.count }
+    ensures { OnOk result ((H : ℕ) → FollowsOn client.old H (plan course.number course.unit course.count)
+        → IsAtEnd client.new H (plan course.number course.unit course.count)) }
+{
+    plan_is_in_order();
+    if !ask_for_all(client, course.count) {
+        return Ok(());
+    }
+    let mut raws = RawList::make(alloc);
+    let orders = append_last(&mut side.shelf, &mut raws)?;
+    hear_all(client, course.count, orders, raws)?;
+    Ok(())
+}
+
+// Plays all commands, and the end. The client then has all messages.
+fn play_all(alloc: Global, course: Course) -> Result<UnitClient, OutOfMemory>
+    requires { (1 ≤ course.count) × (course.count ≤ most_drilled) }
+    ensures { IfOk result (λ client. IsAtEnd client drill_kept (plan course.number course.unit course.count)) }
+{
+    plan_is_in_order();
+    let mut side = Side::make(alloc, course.unit)?;
+    let mut client = begin(alloc, KEPT)?;
+    let mut heard = 0;
+    'commands: for before in 0..course.count {
+        play(
+            alloc,
+            &mut side,
+            &mut client,
+            &mut heard,
+            course,
+            before + 1,
+        )?;
+    }
+    end(alloc, &mut side, &mut client, course)?;
+    Ok(client)
+}
+
+/// Plays a unit's drill on one thread: a venue accepts the first `count` commands of the plan, and
+/// a client hears what is not lost of the datagrams on two lines, and asks for the rest. Appends the
+/// unit's line: its client is current at the last message, with the number of open orders and their
+/// shares.
+///
+/// A drill has 1 to 100,000 commands. `out` is as before after OutOfMemory.
+pub fn drill_plain(
+    alloc: Global,
+    number: u64,
+    unit: u8,
+    count: u32,
+    out: &mut Vec<u8>,
+) -> Result<(), OutOfMemory>
+    requires { (1 ≤ count) × (count ≤ most_drilled) }
+    ensures ok { OnOk result (out.new.items ≡ out.old.items ++ drill_line number unit count) }
+    ensures err { OnErr result (out.new.items ≡ out.old.items) }
+{
+    let client = play_all(
+        alloc,
+        Course {
+            number,
+            unit,
+            count,
+        },
+    )?;
+    append_end(&client, unit, out)?;
+    Ok(())
+}
