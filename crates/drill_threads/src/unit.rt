@@ -26,7 +26,9 @@ use std::thread::{Threads, join};
 use std::time::Clock;
 use unit_threads::drill_plain;
 
-// The client and the service run beside one another until both have ended.
+// The client and the service run beside one another until both have ended. Where no thread can be
+// made, `join` calls its first closure last: so the client comes first then, and the service after
+// it, which ends only once the client has.
 fn run_receivers<
     J: Naming + Send + Sync,
     R: DrillRun + Run + Send + Sync,
@@ -46,11 +48,12 @@ fn run_receivers<
 )
     ensures { IfOk result.0 (λ client. FollowsOn client drill_kept (plan R.number R.unit R.count)) }
 {
-    join(
+    let (served, followed) = join(
         rt,
-        move || follow(rt, alloc, gate, course, client),
         move || serve(rt, alloc, gate, course, server, service),
-    )
+        move || follow(rt, alloc, gate, course, client),
+    );
+    (followed, served)
 }
 
 // Where all three parties ended well, the client takes what it lacks.
@@ -96,10 +99,11 @@ fn run_parties<
         client,
         service,
     } = Ends::<J, R>::make(alloc)?;
-    let (published, (followed, served)) = join(
+    // where no thread can be made, the publisher comes first
+    let ((followed, served), published) = join(
         rt,
-        move || publish(rt, alloc, gate, course, writer, publisher),
         move || run_receivers(rt, alloc, gate, course, server, client, service),
+        move || publish(rt, alloc, gate, course, writer, publisher),
     );
     finish(alloc, course, published, served, followed)
 }
