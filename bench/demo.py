@@ -8,8 +8,8 @@ nothing else is given, and it is run T times (20 where it isn't given). Each run
 status 0 and the line that a net which loses nothing leads to, or with status 7 and `net fault`.
 
 With `--capture` one more run is recorded by tcpdump (which wants root) and read by tshark: each
-datagram on the lines has to be well-formed UDP, and `pitch follow --pcap` has to find the venue's
-messages in it. The exit status is 0 where all was so.
+datagram on the lines has to be well-formed UDP, `pitch follow --pcap` has to read it without a fault,
+and each direction of both TCP sessions has to be whole blocks. The exit status is 0 where all was so.
 """
 import argparse, os, signal, subprocess, sys, tempfile, time
 
@@ -27,24 +27,49 @@ def is_right(ran, count):
     return ran.returncode == 7 and not ran.stdout and ran.stderr == b'pitch: net fault\n'
 
 
+def whole_blocks(stream):
+    """How many Sequenced Unit Header blocks some bytes are, or None where they are none."""
+    blocks = at = 0
+    while at < len(stream):
+        length = int.from_bytes(stream[at:at + 2], 'little')
+        if length < 8 or at + length > len(stream):
+            return None
+        blocks, at = blocks + 1, at + length
+    return blocks
+
+
+def sessions(path):
+    """The blocks of each direction of each session: a TCP stream of which one side begins with a Login of 30 bytes."""
+    fields = ['-T', 'fields', '-e', 'tcp.stream', '-e', 'tcp.srcport', '-e', 'tcp.payload']
+    told = subprocess.run(['tshark', '-r', path, '-Y', 'tcp.len > 0', *fields], capture_output=True, check=True).stdout.decode()
+    sides = {}
+    for line in told.splitlines():
+        stream, port, payload = line.split('\t')
+        sides.setdefault(stream, {}).setdefault(port, bytearray()).extend(bytes.fromhex(payload.replace(':', '')))
+    mine = [side for side in sides.values() if any(it[:4] in (b'\x1e\x00\x01\x00', b'\x1e\x00\x01\x01') for it in side.values())]
+    return [whole_blocks(it) for side in mine for it in side.values()]
+
+
 def capture(program, count):
     """Records a run, and reads it by tshark and by `follow --pcap`."""
     with tempfile.TemporaryDirectory() as folder:
         path = os.path.join(folder, 'demo.pcap')
-        watch = subprocess.Popen(['tcpdump', '-i', 'lo', '-U', '-w', path, 'udp', 'and', 'host', '127.0.0.1'], stderr=subprocess.DEVNULL)
+        watch = subprocess.Popen(['tcpdump', '-i', 'lo', '-U', '-w', path, 'host', '127.0.0.1'], stderr=subprocess.DEVNULL)
         time.sleep(2)
         ran = run(program, count)
         time.sleep(2)
         watch.send_signal(signal.SIGINT)
         watch.wait()
         fields = ['-T', 'fields', '-e', 'udp.length', '-e', '_ws.malformed']
-        told = subprocess.run(['tshark', '-r', path, *fields], capture_output=True, check=True).stdout.decode().splitlines()
+        told = subprocess.run(['tshark', '-r', path, '-Y', 'udp', *fields], capture_output=True, check=True).stdout.decode().splitlines()
         malformed = [line for line in told if not line.split('\t')[0].isdigit() or line.split('\t')[1:] != ['']]
         with open(path, 'rb') as source:
             followed = subprocess.run([program, 'follow', '--pcap'], stdin=source, capture_output=True)
         last = followed.stdout.decode().splitlines()[-1:]
         print('  %d datagrams, %d malformed; follow --pcap: status %d, %s' % (len(told), len(malformed), followed.returncode, ' '.join(last)))
-        return is_right(ran, count) and told and not malformed and followed.returncode == 0
+        blocks = sessions(path)
+        print('  the directions of the sessions have %s blocks' % ', '.join(map(str, blocks)))
+        return is_right(ran, count) and told and not malformed and followed.returncode == 0 and len(blocks) == 4 and None not in blocks
 
 
 def main():

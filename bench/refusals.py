@@ -1,12 +1,13 @@
 #!/usr/bin/env python3
-"""Refuses memory to the program, one call at a time.
+"""Refuses memory to the program, and lets its devices fail, one call at a time.
 
     bench/refusals.py PROGRAM [--most N]
 
 PROGRAM is the path of the built program. A small run of each form is made once for each call of
 malloc or realloc that it makes, and that call is refused (at most N of each form, evenly spread; 400
 where it isn't given). Each run has to end by itself, with status 0 and the whole text, or with status
-6, `pitch: out of memory` or nothing on standard error, and a prefix of the text. It needs a C
+6, `pitch: out of memory` or nothing on standard error, and a prefix of the text. Then the same is
+done with each call of read, write, send and recv: there the status is 4, 5 or 7. It needs a C
 compiler. The exit status is 0 where all was so.
 """
 import argparse, os, subprocess, sys, tempfile
@@ -25,29 +26,43 @@ def sample():
         return stream.read()
 
 
-def run(program, shim, words, given, refused):
-    """The status, what was written and said, and how many calls there were."""
+def run(program, shim, words, given, refused=0, failed=0):
+    """The status, what was written and said, and how many calls of both kinds there were."""
     read, write = os.pipe()
     def ready():
         os.dup2(write, 3)
     process = subprocess.Popen([program] + words.split(), stdin=subprocess.PIPE, stdout=subprocess.PIPE, stderr=subprocess.PIPE,
-                               env={'LD_PRELOAD': shim, 'REFUSED': str(refused)}, preexec_fn=ready, pass_fds=(3,) if write == 3 else (), close_fds=False)
+                               env={'LD_PRELOAD': shim, 'REFUSED': str(refused), 'FAILED': str(failed)}, preexec_fn=ready, pass_fds=(3,) if write == 3 else (), close_fds=False)
     os.close(write)
     try:
         out, err = process.communicate(given, timeout=60)
     except subprocess.TimeoutExpired:
         process.kill()
-        sys.exit('%s does not end where call %d is refused' % (words, refused))
+        sys.exit('%s does not end where call %d is refused' % (words, refused or failed))
     with os.fdopen(read) as told:
         calls = told.read().split()
-    return process.returncode, out, err, int(calls[-1]) if calls else 0
+    return process.returncode, out, err, [int(it) for it in calls[-2:]] or [0, 0]
 
 
-def is_right(ran, whole):
+def is_right(ran, whole, statuses):
+    """All was done, or it ended with one of these statuses and a prefix of the text."""
     status, out, err, _ = ran
     if status == 0:
         return out == whole and not err
-    return status == 6 and whole.startswith(out) and err in (b'', b'pitch: out of memory\n')
+    return status in statuses and whole.startswith(out) and (not err or err.startswith(b'pitch: '))
+
+
+def spread(calls, most):
+    """The numbers of the calls that are tried."""
+    return sorted({1 + i * calls // most for i in range(most)}) if calls > most else range(1, calls + 1)
+
+
+def tried(name, words, calls, runs, whole, statuses):
+    """Says how the runs ended, and whether each was right."""
+    wrong = [number for number, ran in runs if not is_right(ran, whole, statuses)]
+    ends = ', '.join('%d with status %d' % (sum(ran[0] == it for _, ran in runs), it) for it in (0, *statuses))
+    print('  %-38s %5d calls %-9s %4d tried: %s; %d wrong %s' % (words, calls, name, len(runs), ends, len(wrong), wrong[:5] if wrong else ''))
+    return not wrong
 
 
 def main():
@@ -62,16 +77,15 @@ def main():
     right = True
     with tempfile.TemporaryDirectory() as folder:
         shim = os.path.join(folder, 'refuse.so')
-        subprocess.run(['cc', '-O1', '-shared', '-fPIC', '-o', shim, os.path.join(HERE, 'refuse_memory.c'), '-ldl'], check=True)
+        subprocess.run(['cc', '-O1', '-shared', '-fPIC', '-o', shim, os.path.join(HERE, 'refuse.c'), '-ldl'], check=True)
         for words, given in forms.items():
-            status, whole, _, calls = run(a.program, shim, words, given, 0)
+            status, whole, _, calls = run(a.program, shim, words, given)
             if status != 0:
                 sys.exit('%s ends with status %d' % (words, status))
-            numbers = sorted({1 + i * max(1, calls) // a.most for i in range(a.most)}) if calls > a.most else range(1, calls + 1)
-            ended = [(number, run(a.program, shim, words, given, number)) for number in numbers]
-            wrong = [number for number, ran in ended if not is_right(ran, whole)]
-            print('  %-40s %6d calls, %4d refused in turn: %d ended with status 6, %d wrong%s' % (words, calls, len(ended), sum(ran[0] == 6 for _, ran in ended), len(wrong), ' %s' % wrong[:5] if wrong else ''))
-            right = right and not wrong
+            memory = [(it, run(a.program, shim, words, given, refused=it)) for it in spread(calls[0], a.most)]
+            right = tried('of memory', words, calls[0], memory, whole, (6,)) and right
+            devices = [(it, run(a.program, shim, words, given, failed=it)) for it in spread(calls[1], a.most)]
+            right = tried('of device', words, calls[1], devices, whole, (4, 5, 7)) and right
     sys.exit(0 if right else 1)
 
 
