@@ -3,7 +3,6 @@ use Rattle.std.proofs.Common.{◌≡◌, ℕ, ◌+◌, true, false, Bool, List, 
 use Rattle.std.proofs.lemmas.List.{append-nil, length-drop}
 use Rattle.std.specs.List.{concat}
 use Rattle.unit_packets.specs.Causes.{counted}
-use Rattle.unit_packets.specs.Reading.{Reading}
 use Rattle.pcap_feed.specs.Capture.{Packet, judge_head, judge_record, front_of, is_cut_off, ordered, begin_of, packets_from, left_from, order_told_from, packets_of, left_of, order_told, capture_place, error_in, left_error, capture_fault_from, capture_fault, capture_end_fault}
 use Rattle.pcap_feed.specs.Lent.{StandsAtFront}
 use Rattle.pcap_feed.specs.Feeding.{CutsRecords, CutsCapture, Stops, Capturing, unfed, HoldsCapture, FeedsCapture, FeedsPieces, CapturePiecesAreCut, CapturePiecesDoNotMatter, WithRoomFor, GoesOn, capture_answer, held_fault_on, held_fault}
@@ -16,9 +15,6 @@ use Rattle.pcap_feed.specs.declared.fault.CaptureFeedError.TheVariants.{Fault, O
 use Rattle.pcap_feed.proofs.Streams.{Cutting, cutting_more, none_of}
 use Rattle.pcap_feed.proofs.Fronts.{front_err, records_are_fronts}
 use Rattle.pcap_feed.proofs.Files.{read_of, unread_of, grows, fault_lasts, fault_ended, judge_nothing}
-
-pub same_kept : (a b : Reading) → a.place ≡ b.place → a.rest ≡ b.rest → a ≡ b
-same_kept a b place rest = ap (λ (p : ℕ). record { place = p; rest = a.rest }) place ∙ ap (λ (r : List ℕ). record { place = b.place; rest = r }) rest
 
 pub records_more : (order : ByteOrder) (bytes rest : List ℕ) (start at n : ℕ) (before so_far longer : List Packet) (packet : Packet)
     → Cutting (front_of order) bytes start at before so_far → rest ≡ drop at bytes → StandsAtFront order rest packet → n ≡ 16 + length packet.bytes → longer ≡ so_far ++ packet ∷ []

@@ -8,7 +8,6 @@ mod laws;
 mod payload;
 mod reader;
 mod record;
-mod rest;
 
 pub use crate::fault::{ByteOrder, CaptureError, CaptureFault, CaptureFeedError};
 pub use crate::judge::{HEAD_SIZE, LONGEST_RECORD, judge_head, judge_record};

@@ -5,10 +5,10 @@ ghost use Rattle.pcap_feed.specs.Feeding.{unfed, more_loaded, put_behind, past_h
 use crate::fault::{ByteOrder, CaptureError, CaptureFault, CaptureFeedError};
 use crate::judge::{HEAD_SIZE, judge_head, judge_record};
 use crate::record::{RecordList, RecordView, view_record};
-use crate::rest::StreamRest;
 use pitch_fields::OutOfMemory;
 use std::alloc::Global;
 use std::marker::Model;
+use unit_packets::StreamRest;
 
 // What is wrong with a rest, if anything is.
 fn left_error(order: Option<ByteOrder>, rest: &[u8]) -> Option<CaptureError>

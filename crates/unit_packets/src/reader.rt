@@ -6,20 +6,11 @@ ghost use Rattle.unit_packets.specs.Reading.{unread, loaded, passed, kept};
 use crate::block::{BlockList, FeedError};
 use crate::header::{BlockError, BlockFault};
 use crate::judge::read_block;
+use crate::rest::StreamRest;
 use crate::view::{BlockView, view_block};
 use pitch_fields::OutOfMemory;
 use std::alloc::Global;
 use std::marker::Model;
-
-// Drops the first bytes of a buffer.
-fn keep_from(buffer: &mut Vec<u8>, start: usize)
-    requires { start ≤ vec_len buffer.old }
-    ensures { buffer.new.items ≡ drop start buffer.old.items }
-{
-    let left = buffer.len() - start;
-    buffer.copy_within(start.., 0);
-    buffer.truncate(left);
-}
 
 // The error is one that more bytes do not mend, or the stream has ended.
 fn fault_from(ended: bool, place: u64, error: BlockError) -> Option<BlockFault>
@@ -93,24 +84,19 @@ fn cut_blocks(
     unreachable!()
 }
 
-/// The rest of a stream that comes in pieces: the bytes that were loaded and not yet passed, and
-/// their place in the stream.
+/// Cuts a stream that comes in pieces into blocks. What is loaded and not yet passed is the stream's
+/// rest, and has its place in the stream.
 #[derive(Drop)]
 pub struct BlockReader {
-    buffer: Vec<u8>,
-    start: usize,
-    place: u64,
+    stream: StreamRest,
 }
 
 impl Model for BlockReader {
-    ghost use Rattle.std.specs.Prelude.{◌≤◌, drop, vec_len};
     ghost use Rattle.unit_packets.specs.Reading.{Reading};
 
     ghost Value = { Reading };
 
-    ghost view = { λ r. record { place = r.place; rest = drop r.start r.buffer.items } };
-
-    ghost invariant = { λ r. r.start ≤ vec_len r.buffer };
+    ghost view = { λ r. r.stream };
 }
 
 impl BlockReader {
@@ -119,9 +105,7 @@ impl BlockReader {
         ensures { result ≡ unread }
     {
         BlockReader {
-            buffer: Vec::new(alloc),
-            start: 0,
-            place: 0,
+            stream: StreamRest::make(alloc),
         }
     }
 
@@ -129,14 +113,14 @@ impl BlockReader {
     pub fn place(&self) -> u64
         ensures { result ≡ self.now.place }
     {
-        self.place
+        self.stream.place()
     }
 
     /// The bytes loaded and not yet passed.
     pub fn rest(&self) -> &[u8]
         ensures { result.now ≡ self.now.rest }
     {
-        &self.buffer[self.start..]
+        self.stream.rest()
     }
 
     /// Loads the next piece of the stream. The reader is as before where memory runs out.
@@ -144,12 +128,7 @@ impl BlockReader {
         ensures ok { OnOk result (self.new ≡ loaded self.old piece.now) }
         ensures err { OnErr result (self.new ≡ self.old) }
     {
-        if self.start > 0 {
-            keep_from(&mut self.buffer, self.start);
-            self.start = 0;
-        }
-        self.buffer.extend_from_slice(piece)?;
-        Ok(())
+        self.stream.load(piece)
     }
 
     /// Passes the first `count` bytes of the rest, the length of a block.
@@ -157,16 +136,7 @@ impl BlockReader {
         requires { count ≤ length self.old.rest }
         ensures { self.new ≡ passed self.old count }
     {
-        self.start += count;
-        self.place = self.place.saturating_add(count as u64);
-    }
-
-    // Keeps the first bytes of the rest.
-    fn keep(&mut self, count: usize)
-        requires { count ≤ length self.old.rest }
-        ensures { self.new ≡ kept self.old count }
-    {
-        self.buffer.truncate(self.start + count);
+        self.stream.pass(count);
     }
 
     /// Feeds the next piece of the stream, and appends each block that became whole.
@@ -186,14 +156,14 @@ impl BlockReader {
         }
         let before = self.rest().len();
         self.load(piece)?;
-        let alloc = *self.buffer.allocator();
+        let alloc = self.stream.allocator();
         match cut_blocks(alloc, self.rest(), out) {
             Ok((passed, error)) => {
                 self.pass(passed);
                 answer(fault_from(false, self.place(), error))
             }
             Err(_) => {
-                self.keep(before);
+                self.stream.keep(before);
                 Err(FeedError::OutOfMemory)
             }
         }

@@ -1,8 +1,8 @@
 use Rattle.std.proofs.Common.{take, drop, ap, ◌∙◌}
 use Rattle.std.proofs.lemmas.List.{drop-take}
 use Rattle.unit_packets.specs.Reading.{Reading}
-use Rattle.pcap_feed.proofs.Feeding.{same_kept}
-use Rattle.pcap_feed.proofs.rest.StreamRest.keep.Goals as goal
+use Rattle.unit_packets.proofs.Feeds.{same_kept}
+use Rattle.unit_packets.proofs.rest.StreamRest.keep.Goals as goal
 
 pub returns : goal.returns
 returns c = same_kept _ _ (ap (λ (r : Reading). r.place) c.self.view_is)

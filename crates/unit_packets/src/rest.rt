@@ -15,8 +15,8 @@ fn keep_from(buffer: &mut Vec<u8>, start: usize)
     buffer.truncate(left);
 }
 
-/// What was loaded of a stream and is not behind, and its place in the stream. Its memory grows
-/// with the longest rest alone.
+/// The rest of a stream that comes in pieces: the bytes that were loaded and not yet passed, and
+/// their place in the stream. Its memory grows with the longest rest alone.
 #[derive(Drop)]
 pub struct StreamRest {
     buffer: Vec<u8>,
@@ -59,7 +59,7 @@ impl StreamRest {
         self.place
     }
 
-    /// What was loaded and is not behind.
+    /// The bytes loaded and not yet passed.
     pub fn rest(&self) -> &[u8]
         ensures { result.now ≡ self.now.rest }
     {
@@ -79,7 +79,7 @@ impl StreamRest {
         Ok(())
     }
 
-    /// Puts the first bytes of the rest behind.
+    /// Passes the first `count` bytes of the rest.
     pub fn pass(&mut self, count: usize)
         requires { count ≤ length self.old.rest }
         ensures { self.new ≡ passed self.old count }
@@ -88,7 +88,7 @@ impl StreamRest {
         self.place = self.place.saturating_add(count as u64);
     }
 
-    /// Keeps the first bytes of the rest.
+    /// Keeps the first `count` bytes of the rest, and drops what follows them.
     pub fn keep(&mut self, count: usize)
         requires { count ≤ length self.old.rest }
         ensures { self.new ≡ kept self.old count }
