@@ -16,7 +16,7 @@ use Rattle.pitch_io.specs.Nets.{Begin, Send, Next, Put, Take}
 use Rattle.pitch_model.specs.Asking.{ask_of}
 use Rattle.pitch_model.specs.Book.{Book, book_after}
 use Rattle.pitch_model.specs.Datagrams.{IsPiece}
-use Rattle.pitch_model.specs.History.{Entry, Raw, GrpDown, SpinDown}
+use Rattle.pitch_model.specs.History.{Entry, Raw, SpinDown}
 use Rattle.pitch_model.specs.Honest.{Honest}
 use Rattle.pitch_model.specs.Image.{image}
 use Rattle.pitch_model.specs.Levels.{shares}
@@ -37,8 +37,9 @@ use Rattle.world_model.proofs.Witness as witness
 use Rattle.net_edge.specs.Acting.{moved, scene_of, is_open, sent_on, spin_fed, spin_answered, where_stands, servers_tick, links_tick, client_ticks}
 use Rattle.net_edge.specs.Demo.{IsCarried, AreOf, all_messages, reached_book}
 use Rattle.net_edge.specs.Due.{Setting, demo_unit, hold_limit}
-use Rattle.net_edge.specs.Playing.{ClientHas, closes}
+use Rattle.net_edge.specs.Playing.{ClientHas, closes, told_down}
 use Rattle.net_edge.specs.Scene.{Scene, on_line, at_end, said_at}
+use Rattle.net_edge.specs.Sides.{ProxySide}
 use Rattle.net_edge.specs.Steps.{Step, Did, Beat, Turn}
 use Rattle.net_edge.specs.Turns.{AreSteps, MayCome}
 use Rattle.net_edge.proofs.Growing.{Begins, IsBefore, before_then, before_same, grows}
@@ -114,8 +115,8 @@ module _ (s : Setting) (R : Scene) (carried : IsCarried R) (puts : (at : LinkEnd
   beats n w =
       let served : Scene = servers_tick s n in
       let grp : Connection Source = where_stands n.grp_cut (λ k. at_link gap_link Ticked k) served.grp in
-      let E : List Entry = cond (closes gap_link n.grp_cut grp) (GrpDown ∷ n.heard) n.heard in
-      let down : Witnessed demo_unit V (stands n) E = hears_down V (stands n) (closes gap_link n.grp_cut grp) n.heard w in
+      let E : List Entry = told_down ProxySide (closes ProxySide n.grp_cut grp.link) n.heard in
+      let down : Witnessed demo_unit V (stands n) E = hears_down V (stands n) (closes ProxySide n.grp_cut grp.link) n.heard w in
       let there : Witnessed demo_unit V (standing V R.spin.down.put R.spin.server n.spin_cut (length n.spin_client.came) served.spin.link) E =
       subst (λ (l : List (Event Lookups)). Witnessed demo_unit V (standing V R.spin.down.put R.spin.server n.spin_cut (length n.spin_client.came) l) E) (sym (served_link s n)) down in
       ticks V R.spin.down.put R.spin.server n.spin_cut (ask_of hold_limit (links_tick served).heard) (length n.spin_client.came) served.spin E there
@@ -150,7 +151,7 @@ module _ (s : Setting) (R : Scene) (carried : IsCarried R) (puts : (at : LinkEnd
       (sym (answered_link s bytes answer n.turn (is_open (answer ∷ n.spin_server.answers)) n.spin)) w
   came_more (Did (Take GrpClient bytes (Got count))) n may before w =
       let E : List Entry = heard_all (link_tells gap_link n.grp.link bytes) n.heard in
-      hears_down V (stands n) (closes gap_link n.grp_cut (at_link gap_link (Fed bytes NoLookup) n.grp)) E (hears_gap V (stands n) n.grp.link bytes n.heard w)
+      hears_down V (stands n) (closes ProxySide n.grp_cut (Fed bytes NoLookup ∷ n.grp.link)) E (hears_gap V (stands n) n.grp.link bytes n.heard w)
   came_more (Did (Take GrpClient bytes Quiet)) n may before w = w
   came_more (Did (Take GrpClient bytes End)) n may before w = hears_down V (stands n) true n.heard w
   came_more (Did (Take GrpClient bytes Failed)) n may before w = w

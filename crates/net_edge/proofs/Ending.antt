@@ -49,10 +49,10 @@ adds (Some before) (Some after) run told = told
 
 -- all that was said was put
 all_was_put : (ends : Ends) (now : Scene) → EndsHave ends now → (at : LinkEnd) → (at_end at now).put ≡ said_at at now
-all_was_put ends now has GrpClient = has.grp_client_put
-all_was_put ends now has GrpServer = has.grp_server_put
-all_was_put ends now has SpinClient = has.spin_client_put
-all_was_put ends now has SpinServer = has.spin_server_put
+all_was_put ends now has GrpClient = has.gap_link.put_is
+all_was_put ends now has GrpServer = has.grp_server.put_is
+all_was_put ends now has SpinClient = has.spin_link.put_is
+all_was_put ends now has SpinServer = has.spin_server.put_is
 
 -- and what was sent are pieces
 all_are_pieces : (s : Setting) (ends : Ends) (run : List Step) → AreMessages (all_messages s) → EndsHave ends (scene_of s run) → IsOver s (scene_of s run)

@@ -5,6 +5,7 @@ use Rattle.std.proofs.lemmas.Bool.{lt-ltb, lt-leb, false≢true}
 use Rattle.std.proofs.lemmas.Bool.Decides.{nat_tests}
 use Rattle.std.proofs.Math.Bool.{and-false}
 use Rattle.pitch_io.specs.declared.net.NetTaken.{NetTaken}
+use Rattle.pitch_io.specs.declared.net.NetTaken.TheVariants as taken
 use Rattle.net_edge.specs.Acting.{is_open}
 use Rattle.net_edge.specs.Playing.{AreGroup, AreTaken}
 use Rattle.net_edge.specs.Scene.{is_got}
@@ -48,6 +49,33 @@ pub none_over : (cut ended : Bool) → (cut ≡ true) ⊎ ((cut ≡ false) × (e
 none_over cut true e = λ opened. refl
 none_over cut false (inl is) = λ opened. is
 none_over cut false (inr e) = λ opened. absurd (false≢true e.1)
+
+-- one call more, of which this stands then: it goes on, or the group is over
+module _ {P Q : List NetTaken → Type 0} (answer : NetTaken) (count : ℕ) (few : count < 100) (so_far : (answers : List NetTaken) × Gots answers count × P answers)
+    (then : (answers : List NetTaken) → Gots answers count → is_open answers ≡ true → P answers → Q (answer ∷ answers)) where
+  pub call_more : is_got answer ≡ true → (answers : List NetTaken) × Gots answers (count + 1) × Q answers
+  call_more got = (answer ∷ so_far.0, gots_more answer so_far.0 count got so_far.1, then so_far.0 so_far.1 (open_by so_far.0 count so_far.1 few) so_far.2)
+
+  pub call_last : is_got answer ≡ false → (answers : List NetTaken) × AreGroup answers × Q answers
+  call_last nothing = (answer ∷ so_far.0, ends_group answer so_far.0 nothing, then so_far.0 so_far.1 (open_by so_far.0 count so_far.1 few) so_far.2)
+
+  pub take_last : (over : Bool) → (is_got answer ≡ false) ⊎ (over ≡ true) → (answers : List NetTaken) × AreTaken answers over × Q answers
+  take_last over (inl nothing) = (answer ∷ so_far.0, taken_group (answer ∷ so_far.0) over (ends_group answer so_far.0 nothing), then so_far.0 so_far.1 (open_by so_far.0 count so_far.1 few) so_far.2)
+  take_last over (inr is) = (answer ∷ so_far.0, (λ opened. is), then so_far.0 so_far.1 (open_by so_far.0 count so_far.1 few) so_far.2)
+
+-- a hundred calls are a group
+module _ {P : List NetTaken → Type 0} (count : ℕ) (all : count ≡ 100) (so_far : (answers : List NetTaken) × Gots answers count × P answers) where
+  pub calls_full : (answers : List NetTaken) × AreGroup answers × P answers
+  calls_full = (so_far.0, full_group so_far.0 (gots_at so_far.0 count 100 all so_far.1), so_far.2)
+
+  pub takes_full : (over : Bool) → (answers : List NetTaken) × AreTaken answers over × P answers
+  takes_full over = (calls_full.0, taken_group calls_full.0 over calls_full.1, calls_full.2)
+
+-- what got nothing
+pub nothing : (answer : NetTaken) → (answer ≡ taken.Quiet) ⊎ ((answer ≡ taken.End) ⊎ (answer ≡ taken.Failed)) → is_got answer ≡ false
+nothing answer (inl e) = ap is_got e
+nothing answer (inr (inl e)) = ap is_got e
+nothing answer (inr (inr e)) = ap is_got e
 
 -- the next call is the last one where it is the hundredth, or gets nothing
 pub open_then : (answer : NetTaken) (answers : List NetTaken) (count : ℕ) → Gots answers count → count < 100 → is_open (answer ∷ answers) ≡ (is_got answer && not (eqb count 99))

@@ -1,14 +1,15 @@
 -- What the client hears of its links.
-use Rattle.std.proofs.Common.{◌≡◌, ℕ, ◌∷◌, ◌++◌, ◌||◌, ◌&&◌, not, Bool, true, false, cond, List, [], Option, is_some, map, refl, sym, ap, ◌∙◌, subst}
+use Rattle.std.proofs.Common.{◌≡◌, ℕ, ◌∷◌, ◌++◌, ◌||◌, ◌&&◌, not, Bool, true, false, List, [], Option, is_some, map, refl, sym, ap, ◌∙◌, subst}
+use Rattle.std.proofs.lemmas.Bool.{false≢true}
 use Rattle.std.specs.List.{AllByRecursion}
 use Rattle.std.proofs.lemmas.List.{append-nil}
 use Rattle.pitch_fields.specs.Fields.{AreBytes}
-use Rattle.pitch_io.specs.declared.net.LinkEnd.TheVariants.{GrpClient, SpinClient}
+use Rattle.pitch_io.specs.declared.net.LinkEnd.{LinkEnd}
 use Rattle.pitch_io.specs.declared.net.NetTaken.{NetTaken}
 use Rattle.pitch_io.specs.declared.net.NetTaken.TheVariants as taken
 use Rattle.pitch_io.specs.Nets.{Call, Take, ListsCall}
 use Rattle.pitch_model.specs.declared.item.Item.{Item}
-use Rattle.pitch_model.specs.History.{Entry, Raw, GrpDown, SpinDown}
+use Rattle.pitch_model.specs.History.{Entry, Raw}
 use Rattle.pitch_model.specs.Honest.{Honest}
 use Rattle.pitch_model.specs.Image.{image}
 use Rattle.session_ends.specs.Closing.{Setup, closed_of}
@@ -20,15 +21,16 @@ use Rattle.client_links.specs.Linking.{Lookups, NoLookup, LinkStands, link_tells
 use Rattle.client_links.specs.Telling.{without_spare}
 use Rattle.spin_path.specs.Paths.{heard_all}
 use Rattle.spin_path.proofs.Moves.{spare_is_unheard}
-use Rattle.world_model.specs.Ends.{gap_link, spin_link}
-use Rattle.world_model.specs.State.{Connection}
+use Rattle.world_model.specs.State.{Connection, Pipe}
 use Rattle.world_model.specs.Hearing.{IsTold, HearsItems}
 use Rattle.world_model.proofs.HeardItems.{honest_first}
 use Rattle.world_model.proofs.LinkItems.{link_told, told_spare}
-use Rattle.net_edge.specs.Acting.{is_open, where_stands}
-use Rattle.net_edge.specs.Due.{Setting, demo_unit, hold_limit}
-use Rattle.net_edge.specs.Playing.{ClientHas, LinkHas, LinkSays, LinkTells, HearsProxy, HearsSpin, closes}
+use Rattle.net_edge.specs.Acting.{is_open, put_at, took, taken_at}
+use Rattle.net_edge.specs.Due.{Setting, hold_limit}
+use Rattle.net_edge.specs.Playing.{Plays, ClientHas, LinkHas, LinkSays, LinkTells, HearsLink, closes, told_down}
 use Rattle.net_edge.specs.Scene.{Scene, AtEnd}
+use Rattle.net_edge.specs.Sides.{Side, ProxySide, SpinSide, end_of, setup_of, down_of, with_side}
+use Rattle.net_edge.specs.Turns.{MayCall}
 use Rattle.net_edge.proofs.Runs.{play_call}
 
 -- ---- Items
@@ -59,154 +61,92 @@ heard_entry client client' entry E before has tracks keeps = record {
   keeps = λ V bytes h. keeps V bytes hold_limit E has.tracks h (has.keeps V bytes (before V h));
 }
 
--- ---- Calls of `take` at the client's end of the connection with the proxy
-module _ (s : Setting) (base : List Call) (calls calls' : Option (List Call)) (link link' : Ending) (client client' : UnitClient) (answers : List NetTaken) (now : Scene) where
-  may_take : (end : AtEnd) → end.answers ≡ answers → is_open answers ≡ true → (end.ended ≡ true → false ≡ true) → (is_open end.answers ≡ true) × ((end.ended || false) ≡ false)
-  may_take end are opened unended = (ap is_open are ∙ opened, by end.ended unended)
-    where
-      by : (b : Bool) → (b ≡ true → false ≡ true) → (b || false) ≡ false
-      by true so = sym (so refl)
-      by false so = refl
+-- ---- Calls of `take` at the client's end of a connection that stands
+-- what each makes of a scene
+module _ (s : Setting) (end : AtEnd) (up : Pipe) (events : List (Event Lookups)) (E : List Entry) (now : Scene) where
+  took_some : (side : Side) (bytes : List ℕ) (count : ℕ) → taken_at s (end_of side) bytes (taken.Got count) (with_side side end up events false E now)
+      ≡ with_side side (took bytes (taken.Got count) end) (record { put = up.put ++ []; taken = up.taken }) (Fed bytes NoLookup ∷ events) (closes side false (Fed bytes NoLookup ∷ events)) (told_down side (closes side false (Fed bytes NoLookup ∷ events)) (heard_all (link_tells (setup_of side) events bytes) E)) now
+  took_some ProxySide bytes count = refl
+  took_some SpinSide bytes count = refl
 
-  pub proxy_got : (bytes : List ℕ) (count : ℕ) (shut : Bool) → (h : HearsProxy s base calls link client answers false now) → is_open answers ≡ true → ListsCall calls calls' (Take GrpClient bytes (taken.Got count))
-      → LinkTells gap_link GrpDown link' client' bytes h.events h.heard shut → HearsProxy s base calls' link' client' (taken.Got count ∷ answers) shut now
-  proxy_got bytes count shut h opened lists tells =
-      let at : Scene = record now {
-        grp_client = h.end;
-        grp = record { up = h.up; down = now.grp.down; server = now.grp.server; link = h.events };
-        grp_cut = false;
-        heard = h.heard;
-      } in
-      subst (λ (b : Bool). HearsProxy s base calls' link' client' (taken.Got count ∷ answers) b now) (sym tells.shut_is) (record {
-        end = record { put = h.end.put; came = h.end.came ++ bytes; answers = taken.Got count ∷ h.end.answers; ended = h.end.ended };
+  took_none : (side : Side) → taken_at s (end_of side) [] taken.Quiet (with_side side end up events false E now) ≡ with_side side (took [] taken.Quiet end) up events false E now
+  took_none ProxySide = refl
+  took_none SpinSide = refl
+
+  took_end : (side : Side) → taken_at s (end_of side) [] taken.End (with_side side end up events false E now) ≡ with_side side (took [] taken.End end) up events true (down_of side ∷ E) now
+  took_end ProxySide = refl
+  took_end SpinSide = refl
+
+-- what is cut where it ended has not ended while it stands
+stands : (ended : Bool) → (ended ≡ true → false ≡ true) → (ended || false) ≡ false
+stands true so = sym (so refl)
+stands false so = refl
+
+-- it may come while the turn's group is open
+may_take : (side : Side) (end : AtEnd) (up : Pipe) (events : List (Event Lookups)) (E : List Entry) (now : Scene) (bytes : List ℕ) (answer : NetTaken) → is_open end.answers ≡ true → (end.ended ≡ true → false ≡ true)
+    → MayCall (Take (end_of side) bytes answer) (with_side side end up events false E now)
+may_take ProxySide end up events E now bytes answer opened unended = (opened, stands end.ended unended)
+may_take SpinSide end up events E now bytes answer opened unended = (opened, stands end.ended unended)
+
+-- what the client heard so far, and then of one call more
+module _ (side : Side) (s : Setting) (base : List Call) (calls calls' : Option (List Call)) (at : LinkEnd) (link link' : Ending) (client client' : UnitClient) (answers : List NetTaken) (now : Scene) where
+  -- the call is a step
+  took_so : (bytes : List ℕ) (answer : NetTaken) (after : Scene) → (h : HearsLink side s base calls link client answers false now) → at ≡ end_of side → is_open answers ≡ true → ListsCall calls calls' (Take at bytes answer)
+      → taken_at s (end_of side) bytes answer (with_side side h.end h.up h.events false h.heard now) ≡ after → Plays s base calls' after
+  took_so bytes answer after h is opened lists makes =
+      let listed : ListsCall calls calls' (Take (end_of side) bytes answer) = subst (λ (e : LinkEnd). ListsCall calls calls' (Take e bytes answer)) is lists in
+      let may : MayCall (Take (end_of side) bytes answer) (with_side side h.end h.up h.events false h.heard now) = may_take side h.end h.up h.events h.heard now bytes answer (ap is_open h.answers_are ∙ opened) h.ended_is in
+      subst (Plays s base calls') makes (play_call s base calls calls' (with_side side h.end h.up h.events false h.heard now) (Take (end_of side) bytes answer) listed may h.plays)
+
+  pub link_got : (bytes : List ℕ) (count : ℕ) (shut : Bool) → (h : HearsLink side s base calls link client answers false now) → at ≡ end_of side → is_open answers ≡ true → ListsCall calls calls' (Take at bytes (taken.Got count))
+      → LinkTells side link' client' bytes h.events h.heard shut → HearsLink side s base calls' link' client' (taken.Got count ∷ answers) shut now
+  link_got bytes count shut h is opened lists tells =
+      let told : List Entry = heard_all (link_tells (setup_of side) h.events bytes) h.heard in
+      let cut : Bool = closes side false (Fed bytes NoLookup ∷ h.events) in
+      subst (λ (b : Bool). HearsLink side s base calls' link' client' (taken.Got count ∷ answers) b now) (sym tells.shut_is) (record {
+        end = took bytes (taken.Got count) h.end;
         events = Fed bytes NoLookup ∷ h.events;
         up = record { put = h.up.put ++ []; taken = h.up.taken };
-        heard = cond (is_some (closed_of gap_link (Fed bytes NoLookup ∷ h.events))) (GrpDown ∷ heard_all (link_tells gap_link h.events bytes) h.heard) (heard_all (link_tells gap_link h.events bytes) h.heard);
+        heard = told_down side cut told;
         answers_are = ap (λ (l : List NetTaken). taken.Got count ∷ l) h.answers_are;
-        ended_is = λ e. absurd (false_true (h.ended_is e));
+        ended_is = λ e. absurd (false≢true (h.ended_is e));
         put_is = h.put_is;
         up_is = append-nil h.up.put ∙ h.up_is;
         link_has = tells.link_has;
-        has = subst (λ (b : Bool). ClientHas client' (cond b (GrpDown ∷ heard_all (link_tells gap_link h.events bytes) h.heard) (heard_all (link_tells gap_link h.events bytes) h.heard))) tells.shut_is tells.has;
-        plays = play_call s base calls calls' at (Take GrpClient bytes (taken.Got count)) lists (may_take h.end h.answers_are opened h.ended_is) h.plays;
+        has = subst (λ (b : Bool). ClientHas client' (told_down side b told)) tells.shut_is tells.has;
+        plays = took_so bytes (taken.Got count) _ h is opened lists (took_some s h.end h.up h.events h.heard now side bytes count);
       })
-    where
-      false_true : false ≡ true → ⊥
-      false_true e = cc
 
-  pub proxy_quiet : (h : HearsProxy s base calls link client answers false now) → is_open answers ≡ true → ListsCall calls calls' (Take GrpClient [] taken.Quiet) → HearsProxy s base calls' link client (taken.Quiet ∷ answers) false now
-  proxy_quiet h opened lists =
-      let at : Scene = record now {
-        grp_client = h.end;
-        grp = record { up = h.up; down = now.grp.down; server = now.grp.server; link = h.events };
-        grp_cut = false;
-        heard = h.heard;
-      } in
-      record {
-        end = record { put = h.end.put; came = h.end.came ++ []; answers = taken.Quiet ∷ h.end.answers; ended = h.end.ended };
-        events = h.events;
-        up = h.up;
-        heard = h.heard;
-        answers_are = ap (λ (l : List NetTaken). taken.Quiet ∷ l) h.answers_are;
-        ended_is = h.ended_is;
-        put_is = h.put_is;
-        up_is = h.up_is;
-        link_has = h.link_has;
-        has = h.has;
-        plays = play_call s base calls calls' at (Take GrpClient [] taken.Quiet) lists (may_take h.end h.answers_are opened h.ended_is) h.plays;
-      }
+  pub link_quiet : (h : HearsLink side s base calls link client answers false now) → at ≡ end_of side → is_open answers ≡ true → ListsCall calls calls' (Take at [] taken.Quiet) → HearsLink side s base calls' link client (taken.Quiet ∷ answers) false now
+  link_quiet h is opened lists = record {
+    end = took [] taken.Quiet h.end;
+    events = h.events;
+    up = h.up;
+    heard = h.heard;
+    answers_are = ap (λ (l : List NetTaken). taken.Quiet ∷ l) h.answers_are;
+    ended_is = h.ended_is;
+    put_is = h.put_is;
+    up_is = h.up_is;
+    link_has = h.link_has;
+    has = h.has;
+    plays = took_so [] taken.Quiet _ h is opened lists (took_none s h.end h.up h.events h.heard now side);
+  }
 
-  pub proxy_end : (h : HearsProxy s base calls link client answers false now) → is_open answers ≡ true → ListsCall calls calls' (Take GrpClient [] taken.End) → ClientHas client' (GrpDown ∷ h.heard) → HearsProxy s base calls' link client' (taken.End ∷ answers) true now
-  proxy_end h opened lists has =
-      let at : Scene = record now {
-        grp_client = h.end;
-        grp = record { up = h.up; down = now.grp.down; server = now.grp.server; link = h.events };
-        grp_cut = false;
-        heard = h.heard;
-      } in
-      record {
-        end = record { put = h.end.put; came = h.end.came ++ []; answers = taken.End ∷ h.end.answers; ended = true };
-        events = h.events;
-        up = h.up;
-        heard = GrpDown ∷ h.heard;
-        answers_are = ap (λ (l : List NetTaken). taken.End ∷ l) h.answers_are;
-        ended_is = λ e. refl;
-        put_is = h.put_is;
-        up_is = h.up_is;
-        link_has = h.link_has;
-        has = has;
-        plays = play_call s base calls calls' at (Take GrpClient [] taken.End) lists (may_take h.end h.answers_are opened h.ended_is) h.plays;
-      }
-
-  pub spin_got : (bytes : List ℕ) (count : ℕ) (shut : Bool) → (h : HearsSpin s base calls link client answers false now) → is_open answers ≡ true → ListsCall calls calls' (Take SpinClient bytes (taken.Got count))
-      → LinkTells (spin_link demo_unit) SpinDown link' client' bytes h.events h.heard shut → HearsSpin s base calls' link' client' (taken.Got count ∷ answers) shut now
-  spin_got bytes count shut h opened lists tells =
-      let at : Scene = record now {
-        spin_client = h.end;
-        spin = record { up = h.up; down = now.spin.down; server = now.spin.server; link = h.events };
-        spin_cut = false;
-        heard = h.heard;
-      } in
-      subst (λ (b : Bool). HearsSpin s base calls' link' client' (taken.Got count ∷ answers) b now) (sym tells.shut_is) (record {
-        end = record { put = h.end.put; came = h.end.came ++ bytes; answers = taken.Got count ∷ h.end.answers; ended = h.end.ended };
-        events = Fed bytes NoLookup ∷ h.events;
-        up = record { put = h.up.put ++ []; taken = h.up.taken };
-        heard = cond (is_some (closed_of (spin_link demo_unit) (Fed bytes NoLookup ∷ h.events))) (SpinDown ∷ heard_all (link_tells (spin_link demo_unit) h.events bytes) h.heard) (heard_all (link_tells (spin_link demo_unit) h.events bytes) h.heard);
-        answers_are = ap (λ (l : List NetTaken). taken.Got count ∷ l) h.answers_are;
-        ended_is = λ e. absurd (false_true (h.ended_is e));
-        put_is = h.put_is;
-        up_is = append-nil h.up.put ∙ h.up_is;
-        link_has = tells.link_has;
-        has = subst (λ (b : Bool). ClientHas client' (cond b (SpinDown ∷ heard_all (link_tells (spin_link demo_unit) h.events bytes) h.heard) (heard_all (link_tells (spin_link demo_unit) h.events bytes) h.heard))) tells.shut_is tells.has;
-        plays = play_call s base calls calls' at (Take SpinClient bytes (taken.Got count)) lists (may_take h.end h.answers_are opened h.ended_is) h.plays;
-      })
-    where
-      false_true : false ≡ true → ⊥
-      false_true e = cc
-
-  pub spin_quiet : (h : HearsSpin s base calls link client answers false now) → is_open answers ≡ true → ListsCall calls calls' (Take SpinClient [] taken.Quiet) → HearsSpin s base calls' link client (taken.Quiet ∷ answers) false now
-  spin_quiet h opened lists =
-      let at : Scene = record now {
-        spin_client = h.end;
-        spin = record { up = h.up; down = now.spin.down; server = now.spin.server; link = h.events };
-        spin_cut = false;
-        heard = h.heard;
-      } in
-      record {
-        end = record { put = h.end.put; came = h.end.came ++ []; answers = taken.Quiet ∷ h.end.answers; ended = h.end.ended };
-        events = h.events;
-        up = h.up;
-        heard = h.heard;
-        answers_are = ap (λ (l : List NetTaken). taken.Quiet ∷ l) h.answers_are;
-        ended_is = h.ended_is;
-        put_is = h.put_is;
-        up_is = h.up_is;
-        link_has = h.link_has;
-        has = h.has;
-        plays = play_call s base calls calls' at (Take SpinClient [] taken.Quiet) lists (may_take h.end h.answers_are opened h.ended_is) h.plays;
-      }
-
-  pub spin_end : (h : HearsSpin s base calls link client answers false now) → is_open answers ≡ true → ListsCall calls calls' (Take SpinClient [] taken.End) → ClientHas client' (SpinDown ∷ h.heard) → HearsSpin s base calls' link client' (taken.End ∷ answers) true now
-  spin_end h opened lists has =
-      let at : Scene = record now {
-        spin_client = h.end;
-        spin = record { up = h.up; down = now.spin.down; server = now.spin.server; link = h.events };
-        spin_cut = false;
-        heard = h.heard;
-      } in
-      record {
-        end = record { put = h.end.put; came = h.end.came ++ []; answers = taken.End ∷ h.end.answers; ended = true };
-        events = h.events;
-        up = h.up;
-        heard = SpinDown ∷ h.heard;
-        answers_are = ap (λ (l : List NetTaken). taken.End ∷ l) h.answers_are;
-        ended_is = λ e. refl;
-        put_is = h.put_is;
-        up_is = h.up_is;
-        link_has = h.link_has;
-        has = has;
-        plays = play_call s base calls calls' at (Take SpinClient [] taken.End) lists (may_take h.end h.answers_are opened h.ended_is) h.plays;
-      }
+  pub link_end : (h : HearsLink side s base calls link client answers false now) → at ≡ end_of side → is_open answers ≡ true → ListsCall calls calls' (Take at [] taken.End) → ClientHas client' (down_of side ∷ h.heard)
+      → HearsLink side s base calls' link client' (taken.End ∷ answers) true now
+  link_end h is opened lists has = record {
+    end = took [] taken.End h.end;
+    events = h.events;
+    up = h.up;
+    heard = down_of side ∷ h.heard;
+    answers_are = ap (λ (l : List NetTaken). taken.End ∷ l) h.answers_are;
+    ended_is = λ e. refl;
+    put_is = h.put_is;
+    up_is = h.up_is;
+    link_has = h.link_has;
+    has = has;
+    plays = took_so [] taken.End _ h is opened lists (took_end s h.end h.up h.events h.heard now side);
+  }
 
 -- ---- Whether the link closed
 -- the kept cause is that of all that happened to it
@@ -214,36 +154,34 @@ closed_now : (setup : Setup) (link : Ending) (events : List (Event Lookups)) →
 closed_now setup link events is = is.stands.closed_is ∙ ap (λ (m : Setup). closed_of m events) is.made
 
 -- a link that was fed, of which the client heard whether it closed
-pub tells_settled : (setup : Setup) (down : Entry) (link : Ending) (client : UnitClient) (bytes : List ℕ) (events : List (Event Lookups)) (E : List Entry) (shut : Bool) → LinkHas setup link (Fed bytes NoLookup ∷ events) → shut ≡ is_some (closed_of setup (Fed bytes NoLookup ∷ events))
-    → ClientHas client (cond (is_some (closed_of setup (Fed bytes NoLookup ∷ events))) (down ∷ heard_all (link_tells setup events bytes) E) (heard_all (link_tells setup events bytes) E)) → LinkTells setup down link client bytes events E shut
-tells_settled setup down link client bytes events E shut is shut_is has = record {
+pub tells_settled : (side : Side) (link : Ending) (client : UnitClient) (bytes : List ℕ) (events : List (Event Lookups)) (E : List Entry) (shut : Bool) → LinkHas (setup_of side) link (Fed bytes NoLookup ∷ events) → shut ≡ closes side false (Fed bytes NoLookup ∷ events)
+    → ClientHas client (told_down side (closes side false (Fed bytes NoLookup ∷ events)) (heard_all (link_tells (setup_of side) events bytes) E)) → LinkTells side link client bytes events E shut
+tells_settled side link client bytes events E shut is shut_is has = record {
   link_has = is;
   shut_is = shut_is;
-  has = subst (λ (b : Bool). ClientHas client (cond b (down ∷ heard_all (link_tells setup events bytes) E) (heard_all (link_tells setup events bytes) E))) (sym shut_is) has;
+  has = subst (λ (b : Bool). ClientHas client (told_down side b (heard_all (link_tells (setup_of side) events bytes) E))) (sym shut_is) has;
 }
 
--- a connection of which only its link matters
-abbrev pub linked_by : {X : Type 0} → List (Event Lookups) → Connection X
-linked_by events = record { up = record { put = []; taken = 0 }; down = record { put = []; taken = 0 }; server = []; link = events }
-
--- ---- A link that may close at a tick
 -- whether its connection closes is what the link keeps
-closes_now : {X : Type 0} (setup : Setup) (link : Ending) (c : Connection X) (cut shut : Bool) → LinkHas setup link c.link → cut ≡ false → shut ≡ is_some link.closed → closes setup cut c ≡ shut
-closes_now setup link c cut shut is whole closed = ap (λ (b : Bool). not b && is_some (closed_of setup c.link)) whole ∙ sym (closed ∙ ap (λ o. is_some o) (closed_now setup link c.link is))
+closes_now : (side : Side) (link : Ending) (events : List (Event Lookups)) (cut shut : Bool) → LinkHas (setup_of side) link events → cut ≡ false → shut ≡ is_some link.closed → closes side cut events ≡ shut
+closes_now side link events cut shut is whole closed = ap (λ (b : Bool). not b && is_some (closed_of (setup_of side) events)) whole ∙ sym (closed ∙ ap (λ o. is_some o) (closed_now (setup_of side) link events is))
 
-pub settled_cut : {X : Type 0} (setup : Setup) (link : Ending) (c : Connection X) (cut shut : Bool) → LinkHas setup link c.link → cut ≡ false → shut ≡ is_some link.closed → shut ≡ (cut || closes setup cut c)
-settled_cut setup link c cut shut is whole closed = sym (ap (λ (b : Bool). b || closes setup cut c) whole ∙ closes_now setup link c cut shut is whole closed)
+pub settled_cut : (side : Side) (link : Ending) (events : List (Event Lookups)) (cut shut : Bool) → LinkHas (setup_of side) link events → cut ≡ false → shut ≡ is_some link.closed → shut ≡ (cut || closes side cut events)
+settled_cut side link events cut shut is whole closed = sym (ap (λ (b : Bool). b || closes side cut events) whole ∙ closes_now side link events cut shut is whole closed)
 
-pub settled_heard : {X : Type 0} (setup : Setup) (down : Entry) (link : Ending) (client : UnitClient) (c : Connection X) (E : List Entry) (cut shut is_shut : Bool) → LinkHas setup link c.link → cut ≡ false → shut ≡ is_some link.closed → shut ≡ is_shut
-    → ClientHas client (cond is_shut (down ∷ E) E) → ClientHas client (cond (closes setup cut c) (down ∷ E) E)
-settled_heard setup down link client c E cut shut is_shut is whole closed same has =
-    subst (λ (b : Bool). ClientHas client (cond b (down ∷ E) E)) (sym (closes_now setup link c cut shut is whole closed ∙ same)) has
+pub settled_heard : (side : Side) (link : Ending) (client : UnitClient) (events : List (Event Lookups)) (E : List Entry) (cut shut is_shut : Bool) → LinkHas (setup_of side) link events → cut ≡ false → shut ≡ is_some link.closed → shut ≡ is_shut
+    → ClientHas client (told_down side is_shut E) → ClientHas client (told_down side (closes side cut events) E)
+settled_heard side link client events E cut shut is_shut is whole closed same has =
+    subst (λ (b : Bool). ClientHas client (told_down side b E)) (sym (closes_now side link events cut shut is whole closed ∙ same)) has
 
 -- where it was cut before
-pub settled_before : {X : Type 0} (setup : Setup) (down : Entry) (client : UnitClient) (c : Connection X) (E : List Entry) (cut : Bool) → cut ≡ true → ClientHas client E → ClientHas client (cond (closes setup cut c) (down ∷ E) E)
-settled_before setup down client c E cut is has = subst (λ (b : Bool). ClientHas client (cond (not b && is_some (closed_of setup c.link)) (down ∷ E) E)) (sym is) has
+pub settled_before : (side : Side) (client : UnitClient) (events : List (Event Lookups)) (E : List Entry) (cut : Bool) → cut ≡ true → ClientHas client E → ClientHas client (told_down side (closes side cut events) E)
+settled_before side client events E cut is has = subst (λ (b : Bool). ClientHas client (told_down side (not b && is_some (closed_of (setup_of side) events)) E)) (sym is) has
 
 -- ---- What is asked
-pub asked_as : {X : Type 0} (setup : Setup) (link : Ending) (said : List ℕ) (c asked : Connection X) (cut : Bool) (does : Connection X → Connection X) → cut ≡ false → does c ≡ asked → LinkSays setup link said c asked → LinkSays setup link said c (where_stands cut does c)
-asked_as setup link said c asked cut does whole is says =
-    subst (λ (b : Bool). LinkSays setup link said c (cond b c (does c))) (sym whole) (subst (λ (k : Connection _). LinkSays setup link said c k) (sym is) says)
+pub asked_as : {X : Type 0} (setup : Setup) (link : Ending) (said : List ℕ) (c other asked : Connection X) → other ≡ asked → LinkSays setup link said c asked → LinkSays setup link said c other
+asked_as setup link said c other asked is says = subst (λ (k : Connection _). LinkSays setup link said c k) (sym is) says
+
+-- what was said was put at the client's end
+pub said_put : (side : Side) (s : Setting) (base : List Call) (calls : Option (List Call)) (at : LinkEnd) (bytes said : List ℕ) (now : Scene) → at ≡ end_of side → bytes ≡ said → Plays s base calls (put_at at bytes now) → Plays s base calls (put_at (end_of side) said now)
+said_put side s base calls at bytes said now is same plays = subst (λ (e : LinkEnd). Plays s base calls (put_at e said now)) is (subst (λ (b : List ℕ). Plays s base calls (put_at at b now)) same plays)

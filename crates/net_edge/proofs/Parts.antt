@@ -6,16 +6,20 @@ use Rattle.pitch_io.specs.declared.line.Line.TheVariants.{A, B, Gap}
 use Rattle.pitch_io.specs.declared.net.NetTaken.{NetTaken}
 use Rattle.pitch_io.specs.Nets.{Call}
 use Rattle.session_ends.specs.Ending.{Ending}
+use Rattle.session_ends.specs.Events.{Event}
 use Rattle.gap_store.specs.Look.{Store}
 use Rattle.spin_server.specs.Serving.{Serving}
 use Rattle.spin_server.specs.Shelves.{Shelf}
+use Rattle.client_links.specs.Linking.{Lookups}
 use Rattle.client_core.specs.declared.client.UnitClient.{UnitClient}
 use Rattle.world_model.specs.Connections.{KeepsShelf}
+use Rattle.world_model.specs.State.{Pipe}
 use Rattle.net_edge.specs.Acting.{is_open}
 use Rattle.net_edge.specs.Due.{Setting, messages, advertised}
 use Rattle.pitch_model.specs.History.{Entry}
-use Rattle.net_edge.specs.Playing.{ClientHas, EndsHave, DemoAt, Plays, ProxyServes, SpinServes, HearsOn, HearsProxy, HearsSpin, MarketAt, IsSentTo, IsUncalled, AreGroup, AreTaken}
-use Rattle.net_edge.specs.Scene.{Scene, OnLine, on_line, with_line}
+use Rattle.net_edge.specs.Playing.{ClientHas, EndsHave, DemoAt, Plays, ProxyServes, SpinServes, HearsOn, HearsLink, LinkAt, MarketAt, IsSentTo, IsUncalled, AreGroup, AreTaken, with_proxy}
+use Rattle.net_edge.specs.Scene.{Scene, OnLine, AtEnd, on_line, with_line, at_end, said_at}
+use Rattle.net_edge.specs.Sides.{Side, ProxySide, SpinSide, end_of, setup_of, with_side}
 use Rattle.net_edge.specs.Turns.{IsOver}
 use Rattle.net_edge.specs.declared.ends.Ends.{Ends}
 use Rattle.net_edge.specs.declared.market.Market.{Market}
@@ -59,20 +63,14 @@ module _ (s : Setting) (base : List Call) where
     spent = now.spent;
     lines = now.replayed;
     answers_are = none;
-    ended_is = sym at.has.grp_ended_is;
-    put_is = at.has.grp_server_put;
+    ended_is = sym at.has.grp_server.ended_is;
+    put_is = at.has.grp_server.put_is;
     has = at.has.proxy;
-    plays = subst (λ (ds : List (List ℕ)). Plays s base calls (record now { gap = record { sent = ds; came = now.gap.came; answers = now.gap.answers } })) at.has.replayed at.plays;
+    plays = subst (λ (ds : List (List ℕ)). Plays s base calls (record now { gap = record now.gap { sent = ds } })) at.has.replayed at.plays;
   }
 
   abbrev proxied : (calls : Option (List Call)) (proxy : Proxy) (answers : List NetTaken) (ended : Bool) (now : Scene) → ProxyServes s base calls proxy answers ended now → Scene
-  proxied calls proxy answers ended now h = record now {
-    grp_server = h.end;
-    grp = record { up = now.grp.up; down = h.down; server = h.server; link = now.grp.link };
-    spent = h.spent;
-    replayed = h.lines;
-    gap = record { sent = h.lines; came = now.gap.came; answers = now.gap.answers };
-  }
+  proxied calls proxy answers ended now h = with_proxy h.end h.down h.server h.spent h.lines now
 
   proxy_ends : (calls : Option (List Call)) (e : Ends) (proxy : Proxy) (answers : List NetTaken) (ended : Bool) (now : Scene) → EndsHave e now → (h : ProxyServes s base calls proxy answers ended now)
       → DemoAt s base calls (record e { proxy = proxy; grp_ended = ended }) (proxied calls proxy answers ended now h)
@@ -80,19 +78,11 @@ module _ (s : Setting) (base : List Call) where
     has = record {
       proxy = h.has;
       spin = has.spin;
+      client = has.client;
       gap_link = has.gap_link;
       spin_link = has.spin_link;
-      client = has.client;
-      grp_cut_is = has.grp_cut_is;
-      spin_cut_is = has.spin_cut_is;
-      grp_ended_is = sym h.ended_is;
-      spin_ended_is = has.spin_ended_is;
-      grp_client_ended = has.grp_client_ended;
-      spin_client_ended = has.spin_client_ended;
-      grp_client_put = has.grp_client_put;
-      grp_server_put = h.put_is;
-      spin_client_put = has.spin_client_put;
-      spin_server_put = has.spin_server_put;
+      grp_server = record { ended_is = sym h.ended_is; put_is = h.put_is };
+      spin_server = has.spin_server;
       replayed = refl;
     };
     plays = h.plays;
@@ -104,8 +94,8 @@ module _ (s : Setting) (base : List Call) where
     server = now.spin.server;
     down = now.spin.down;
     answers_are = none;
-    ended_is = sym at.has.spin_ended_is;
-    put_is = at.has.spin_server_put;
+    ended_is = sym at.has.spin_server.ended_is;
+    put_is = at.has.spin_server.put_is;
     has = at.has.spin;
     plays = at.plays;
   }
@@ -119,19 +109,11 @@ module _ (s : Setting) (base : List Call) where
     has = record {
       proxy = has.proxy;
       spin = h.has;
+      client = has.client;
       gap_link = has.gap_link;
       spin_link = has.spin_link;
-      client = has.client;
-      grp_cut_is = has.grp_cut_is;
-      spin_cut_is = has.spin_cut_is;
-      grp_ended_is = has.grp_ended_is;
-      spin_ended_is = sym h.ended_is;
-      grp_client_ended = has.grp_client_ended;
-      spin_client_ended = has.spin_client_ended;
-      grp_client_put = has.grp_client_put;
-      grp_server_put = has.grp_server_put;
-      spin_client_put = has.spin_client_put;
-      spin_server_put = h.put_is;
+      grp_server = has.grp_server;
+      spin_server = record { ended_is = sym h.ended_is; put_is = h.put_is };
       replayed = has.replayed;
     };
     plays = h.plays;
@@ -161,19 +143,11 @@ module _ (s : Setting) (base : List Call) where
   heard_ends e client now a b gap E has is sent = record {
     proxy = has.proxy;
     spin = has.spin;
+    client = is;
     gap_link = has.gap_link;
     spin_link = has.spin_link;
-    client = is;
-    grp_cut_is = has.grp_cut_is;
-    spin_cut_is = has.spin_cut_is;
-    grp_ended_is = has.grp_ended_is;
-    spin_ended_is = has.spin_ended_is;
-    grp_client_ended = has.grp_client_ended;
-    spin_client_ended = has.spin_client_ended;
-    grp_client_put = has.grp_client_put;
-    grp_server_put = has.grp_server_put;
-    spin_client_put = has.spin_client_put;
-    spin_server_put = has.spin_server_put;
+    grp_server = has.grp_server;
+    spin_server = has.spin_server;
     replayed = sent ∙ has.replayed;
   }
 
@@ -184,95 +158,71 @@ module _ (s : Setting) (base : List Call) where
   line_ends Gap calls e client answers now has h = record { has = heard_ends e client now now.a now.b h.on h.heard has h.has h.sent_is; plays = h.plays }
 
   -- ---- The links
-  hears_proxy_begins : (calls : Option (List Call)) (e : Ends) (now : Scene) → DemoAt s base calls e now → now.grp_client.answers ≡ [] → HearsProxy s base calls e.gap_link e.client [] e.grp_cut now
-  hears_proxy_begins calls e now at none = record {
-    end = now.grp_client;
-    events = now.grp.link;
-    up = now.grp.up;
+  -- one of them in the code
+  abbrev link_of : Side → Ends → Ending
+  link_of ProxySide e = e.gap_link
+  link_of SpinSide e = e.spin_link
+
+  abbrev cut_of : Side → Ends → Bool
+  cut_of ProxySide e = e.grp_cut
+  cut_of SpinSide e = e.spin_cut
+
+  abbrev with_link : Side → Ending → UnitClient → Bool → Ends → Ends
+  with_link ProxySide link client cut e = record e { gap_link = link; client = client; grp_cut = cut }
+  with_link SpinSide link client cut e = record e { spin_link = link; client = client; spin_cut = cut }
+
+  link_begins : (side : Side) (calls : Option (List Call)) (link : Ending) (client : UnitClient) (cut cut' : Bool) (end : AtEnd) (up : Pipe) (events : List (Event Lookups)) (now : Scene)
+      → LinkAt (setup_of side) link cut end cut' events up.put → ClientHas client now.heard → end.answers ≡ [] → end.put ≡ (at_end (end_of side) now).put → up.put ≡ said_at (end_of side) now
+      → Plays s base calls (with_side side end up events cut' now.heard now) → HearsLink side s base calls link client [] cut now
+  link_begins side calls link client cut cut' end up events now has heard none put_is up_is plays = record {
+    end = end;
+    events = events;
+    up = up;
     heard = now.heard;
     answers_are = none;
-    ended_is = λ ended. at.has.grp_cut_is ∙ at.has.grp_client_ended ended;
-    put_is = refl;
-    up_is = refl;
-    link_has = at.has.gap_link;
-    has = at.has.client;
-    plays = subst (λ (cut : Bool). Plays s base calls (record now { grp_cut = cut })) (sym at.has.grp_cut_is) at.plays;
+    ended_is = λ ended. has.cut_is ∙ has.ended ended;
+    put_is = put_is;
+    up_is = up_is;
+    link_has = has.has;
+    has = heard;
+    plays = subst (λ (b : Bool). Plays s base calls (with_side side end up events b now.heard now)) (sym has.cut_is) plays;
   }
 
-  abbrev proxy_heard : (calls : Option (List Call)) (link : Ending) (client : UnitClient) (answers : List NetTaken) (cut : Bool) (now : Scene) → HearsProxy s base calls link client answers cut now → Scene
-  proxy_heard calls link client answers cut now h = record now {
-    grp_client = h.end;
-    grp = record { up = h.up; down = now.grp.down; server = now.grp.server; link = h.events };
-    grp_cut = cut;
-    heard = h.heard;
-  }
+  hears_begins : (side : Side) (calls : Option (List Call)) (e : Ends) (now : Scene) → DemoAt s base calls e now → (at_end (end_of side) now).answers ≡ [] → HearsLink side s base calls (link_of side e) e.client [] (cut_of side e) now
+  hears_begins ProxySide calls e now at none = link_begins ProxySide calls e.gap_link e.client e.grp_cut now.grp_cut now.grp_client now.grp.up now.grp.link now at.has.gap_link at.has.client none refl refl at.plays
+  hears_begins SpinSide calls e now at none = link_begins SpinSide calls e.spin_link e.client e.spin_cut now.spin_cut now.spin_client now.spin.up now.spin.link now at.has.spin_link at.has.client none refl refl at.plays
 
-  hears_proxy_ends : (calls : Option (List Call)) (e : Ends) (link : Ending) (client : UnitClient) (answers : List NetTaken) (cut : Bool) (now : Scene) → EndsHave e now → (h : HearsProxy s base calls link client answers cut now)
-      → DemoAt s base calls (record e { gap_link = link; client = client; grp_cut = cut }) (proxy_heard calls link client answers cut now h)
-  hears_proxy_ends calls e link client answers cut now has h = record {
+  abbrev link_heard : (side : Side) (calls : Option (List Call)) (link : Ending) (client : UnitClient) (answers : List NetTaken) (cut : Bool) (now : Scene) → HearsLink side s base calls link client answers cut now → Scene
+  link_heard side calls link client answers cut now h = with_side side h.end h.up h.events cut h.heard now
+
+  link_ends : (side : Side) (calls : Option (List Call)) (link : Ending) (client : UnitClient) (answers : List NetTaken) (cut : Bool) (now : Scene) → (h : HearsLink side s base calls link client answers cut now)
+      → (at_end (end_of side) now).put ≡ said_at (end_of side) now → LinkAt (setup_of side) link cut h.end cut h.events h.up.put
+  link_ends side calls link client answers cut now h put = record { has = h.link_has; cut_is = refl; ended = h.ended_is; put_is = h.put_is ∙ put ∙ sym h.up_is }
+
+  hears_ends : (side : Side) (calls : Option (List Call)) (e : Ends) (link : Ending) (client : UnitClient) (answers : List NetTaken) (cut : Bool) (now : Scene) → EndsHave e now → (h : HearsLink side s base calls link client answers cut now)
+      → DemoAt s base calls (with_link side link client cut e) (link_heard side calls link client answers cut now h)
+  hears_ends ProxySide calls e link client answers cut now has h = record {
     has = record {
       proxy = has.proxy;
       spin = has.spin;
-      gap_link = h.link_has;
-      spin_link = has.spin_link;
       client = h.has;
-      grp_cut_is = refl;
-      spin_cut_is = has.spin_cut_is;
-      grp_ended_is = has.grp_ended_is;
-      spin_ended_is = has.spin_ended_is;
-      grp_client_ended = h.ended_is;
-      spin_client_ended = has.spin_client_ended;
-      grp_client_put = h.put_is ∙ has.grp_client_put ∙ sym h.up_is;
-      grp_server_put = has.grp_server_put;
-      spin_client_put = has.spin_client_put;
-      spin_server_put = has.spin_server_put;
+      gap_link = link_ends ProxySide calls link client answers cut now h has.gap_link.put_is;
+      spin_link = has.spin_link;
+      grp_server = has.grp_server;
+      spin_server = has.spin_server;
       replayed = has.replayed;
     };
     plays = h.plays;
   }
-
-  hears_spin_begins : (calls : Option (List Call)) (e : Ends) (now : Scene) → DemoAt s base calls e now → now.spin_client.answers ≡ [] → HearsSpin s base calls e.spin_link e.client [] e.spin_cut now
-  hears_spin_begins calls e now at none = record {
-    end = now.spin_client;
-    events = now.spin.link;
-    up = now.spin.up;
-    heard = now.heard;
-    answers_are = none;
-    ended_is = λ ended. at.has.spin_cut_is ∙ at.has.spin_client_ended ended;
-    put_is = refl;
-    up_is = refl;
-    link_has = at.has.spin_link;
-    has = at.has.client;
-    plays = subst (λ (cut : Bool). Plays s base calls (record now { spin_cut = cut })) (sym at.has.spin_cut_is) at.plays;
-  }
-
-  abbrev spin_heard : (calls : Option (List Call)) (link : Ending) (client : UnitClient) (answers : List NetTaken) (cut : Bool) (now : Scene) → HearsSpin s base calls link client answers cut now → Scene
-  spin_heard calls link client answers cut now h = record now {
-    spin_client = h.end;
-    spin = record { up = h.up; down = now.spin.down; server = now.spin.server; link = h.events };
-    spin_cut = cut;
-    heard = h.heard;
-  }
-
-  hears_spin_ends : (calls : Option (List Call)) (e : Ends) (link : Ending) (client : UnitClient) (answers : List NetTaken) (cut : Bool) (now : Scene) → EndsHave e now → (h : HearsSpin s base calls link client answers cut now)
-      → DemoAt s base calls (record e { spin_link = link; client = client; spin_cut = cut }) (spin_heard calls link client answers cut now h)
-  hears_spin_ends calls e link client answers cut now has h = record {
+  hears_ends SpinSide calls e link client answers cut now has h = record {
     has = record {
       proxy = has.proxy;
       spin = has.spin;
-      gap_link = has.gap_link;
-      spin_link = h.link_has;
       client = h.has;
-      grp_cut_is = has.grp_cut_is;
-      spin_cut_is = refl;
-      grp_ended_is = has.grp_ended_is;
-      spin_ended_is = has.spin_ended_is;
-      grp_client_ended = has.grp_client_ended;
-      spin_client_ended = h.ended_is;
-      grp_client_put = has.grp_client_put;
-      grp_server_put = has.grp_server_put;
-      spin_client_put = h.put_is ∙ has.spin_client_put ∙ sym h.up_is;
-      spin_server_put = has.spin_server_put;
+      gap_link = has.gap_link;
+      spin_link = link_ends SpinSide calls link client answers cut now h has.spin_link.put_is;
+      grp_server = has.grp_server;
+      spin_server = has.spin_server;
       replayed = has.replayed;
     };
     plays = h.plays;
@@ -301,11 +251,11 @@ module _ (s : Setting) (base : List Call) where
       → ((n : Scene) → SpinServes s base c1 e.spin [] e.spin_ended n → n.spin_cut ≡ e.spin_cut → n.turn ≡ turn → (answers : List NetTaken) × AreTaken answers (spin_ended || e.spin_cut) × SpinServes s base c2 spin answers spin_ended n)
       → (after : Scene) × Served s base c2 turn (record e { proxy = proxy; grp_ended = grp_ended; spin = spin; spin_ended = spin_ended }) after
   servers_over turn c0 c1 c2 e proxy spin grp_ended spin_ended now at turn_is sent none by_proxy by_spin =
-      let p = by_proxy now (proxy_begins c0 e now at none.grp_server) (sym at.has.grp_cut_is) turn_is in
+      let p = by_proxy now (proxy_begins c0 e now at none.grp_server) (sym at.has.gap_link.cut_is) turn_is in
       let n1 : Scene = proxied c1 proxy p.0 grp_ended now p.2 in
       let e1 : Ends = record e { proxy = proxy; grp_ended = grp_ended } in
       let at1 : DemoAt s base c1 e1 n1 = proxy_ends c1 e proxy p.0 grp_ended now at.has p.2 in
-      let q = by_spin n1 (spin_begins c1 e1 n1 at1 none.spin_server) (sym at.has.spin_cut_is) turn_is in (
+      let q = by_spin n1 (spin_begins c1 e1 n1 at1 none.spin_server) (sym at.has.spin_link.cut_is) turn_is in (
         spun c2 spin q.0 spin_ended n1 q.2,
         record {
           at = spin_ends c2 e1 spin q.0 spin_ended n1 at1.has q.2;
@@ -352,22 +302,22 @@ module _ (s : Setting) (base : List Call) where
       )
 
   links_over : (turn : ℕ) (c5 c6 c7 : Option (List Call)) (e : Ends) (gap_link spin_link : Ending) (down last : UnitClient) (grp_cut spin_cut : Bool) (now : Scene) → Lined s base c5 turn e now
-      → ((n : Scene) → HearsProxy s base c5 e.gap_link e.client [] e.grp_cut n → (answers : List NetTaken) × AreTaken answers grp_cut × HearsProxy s base c6 gap_link down answers grp_cut n)
+      → ((n : Scene) → HearsLink ProxySide s base c5 e.gap_link e.client [] e.grp_cut n → (answers : List NetTaken) × AreTaken answers grp_cut × HearsLink ProxySide s base c6 gap_link down answers grp_cut n)
       → (e.grp_cut ≡ true → grp_cut ≡ true)
-      → ((n : Scene) → HearsSpin s base c6 e.spin_link down [] e.spin_cut n → (answers : List NetTaken) × AreTaken answers spin_cut × HearsSpin s base c7 spin_link last answers spin_cut n)
+      → ((n : Scene) → HearsLink SpinSide s base c6 e.spin_link down [] e.spin_cut n → (answers : List NetTaken) × AreTaken answers spin_cut × HearsLink SpinSide s base c7 spin_link last answers spin_cut n)
       → (e.spin_cut ≡ true → spin_cut ≡ true)
       → (after : Scene) × (after.turn ≡ turn) × DemoAt s base c7 (record e { gap_link = gap_link; spin_link = spin_link; client = last; grp_cut = grp_cut; spin_cut = spin_cut }) after × IsOver s after
   links_over turn c5 c6 c7 e gap_link spin_link down last grp_cut spin_cut now so by_gap_link grp_stays by_spin_link spin_stays =
-      let g = by_gap_link now (hears_proxy_begins c5 e now so.at so.grp_client) in
-      let n6 : Scene = proxy_heard c6 gap_link down g.0 grp_cut now g.2 in
+      let g = by_gap_link now (hears_begins ProxySide c5 e now so.at so.grp_client) in
+      let n6 : Scene = link_heard ProxySide c6 gap_link down g.0 grp_cut now g.2 in
       let e6 : Ends = record e { gap_link = gap_link; client = down; grp_cut = grp_cut } in
-      let at6 : DemoAt s base c6 e6 n6 = hears_proxy_ends c6 e gap_link down g.0 grp_cut now so.at.has g.2 in
-      let l = by_spin_link n6 (hears_spin_begins c6 e6 n6 at6 so.spin_client) in
-      let n7 : Scene = spin_heard c7 spin_link last l.0 spin_cut n6 l.2 in
+      let at6 : DemoAt s base c6 e6 n6 = hears_ends ProxySide c6 e gap_link down g.0 grp_cut now so.at.has g.2 in
+      let l = by_spin_link n6 (hears_begins SpinSide c6 e6 n6 at6 so.spin_client) in
+      let n7 : Scene = link_heard SpinSide c7 spin_link last l.0 spin_cut n6 l.2 in
       let all : IsSentTo s n7.turn n7 = subst (λ (t : ℕ). IsSentTo s t n7) (sym so.turn_is) (record { on_a = so.sent.on_a; on_b = so.sent.on_b; ticked = so.sent.ticked }) in (
         n7,
         so.turn_is,
-        hears_spin_ends c7 e6 spin_link last l.0 spin_cut n6 at6.has l.2,
+        hears_ends SpinSide c7 e6 spin_link last l.0 spin_cut n6 at6.has l.2,
         over_is s n7 so.a so.b so.gap
             (client_over g.0 g.2.end.answers g.2.end.ended grp_cut g.2.answers_are g.1)
             (so.grp_server grp_cut grp_stays)
@@ -384,9 +334,9 @@ module _ (s : Setting) (base : List Call) where
       → ((n : Scene) → HearsOn s base c2 e.client A [] n → (answers : List NetTaken) × AreGroup answers × HearsOn s base c3 a A answers n)
       → ((n : Scene) → HearsOn s base c3 a B [] n → (answers : List NetTaken) × AreGroup answers × HearsOn s base c4 b B answers n)
       → ((n : Scene) → HearsOn s base c4 b Gap [] n → (answers : List NetTaken) × AreGroup answers × HearsOn s base c5 gap Gap answers n)
-      → ((n : Scene) → HearsProxy s base c5 e.gap_link gap [] e.grp_cut n → (answers : List NetTaken) × AreTaken answers grp_cut × HearsProxy s base c6 gap_link down answers grp_cut n)
+      → ((n : Scene) → HearsLink ProxySide s base c5 e.gap_link gap [] e.grp_cut n → (answers : List NetTaken) × AreTaken answers grp_cut × HearsLink ProxySide s base c6 gap_link down answers grp_cut n)
       → (e.grp_cut ≡ true → grp_cut ≡ true)
-      → ((n : Scene) → HearsSpin s base c6 e.spin_link down [] e.spin_cut n → (answers : List NetTaken) × AreTaken answers spin_cut × HearsSpin s base c7 spin_link last answers spin_cut n)
+      → ((n : Scene) → HearsLink SpinSide s base c6 e.spin_link down [] e.spin_cut n → (answers : List NetTaken) × AreTaken answers spin_cut × HearsLink SpinSide s base c7 spin_link last answers spin_cut n)
       → (e.spin_cut ≡ true → spin_cut ≡ true)
       → (after : Scene) × (after.turn ≡ turn)
       × DemoAt s base c7 (record e { proxy = proxy; spin = spin; gap_link = gap_link; spin_link = spin_link; client = last; grp_cut = grp_cut; spin_cut = spin_cut; grp_ended = grp_ended; spin_ended = spin_ended }) after × IsOver s after

@@ -1,5 +1,6 @@
 -- What the proxy does with what comes to it.
 use Rattle.std.proofs.Common.{◌≡◌, ℕ, ◌∷◌, ◌++◌, ◌||◌, ◌⊎◌, inl, inr, Bool, true, false, List, [], length, replicate, Option, refl, sym, ap, ◌∙◌, subst}
+use Rattle.std.proofs.Math.Bool.{or-false}
 use Rattle.pitch_io.specs.declared.net.LinkEnd.TheVariants.{GrpServer}
 use Rattle.pitch_io.specs.declared.net.NetTaken.{NetTaken}
 use Rattle.pitch_io.specs.declared.net.NetTaken.TheVariants as taken
@@ -12,9 +13,9 @@ use Rattle.session_ends.specs.Sending.{new_items}
 use Rattle.grp_session.specs.Budget.{Counts, Counted, Spent}
 use Rattle.grp_session.specs.Budget as budget
 use Rattle.grp_session.specs.Serving.{Source, Answered, ProxyFeeds, StoreHasOneView, proxy_answer}
-use Rattle.net_edge.specs.Acting.{source_at, taken_at, is_open}
+use Rattle.net_edge.specs.Acting.{source_at, proxy_took, took, taken_at, is_open}
 use Rattle.net_edge.specs.Due.{Setting, gap_view}
-use Rattle.net_edge.specs.Playing.{ProxyHas, ProxyFed, ProxyAnswers, ProxyServes, Plays, proxy_said}
+use Rattle.net_edge.specs.Playing.{ProxyHas, ProxyFed, ProxyAnswers, ProxyServes, Plays, with_proxy, proxy_said}
 use Rattle.net_edge.specs.Scene.{Scene, AtEnd, is_end}
 use Rattle.net_edge.specs.declared.proxy.Proxy.{Proxy}
 use Rattle.net_edge.proofs.Runs.{play_call}
@@ -58,13 +59,7 @@ pub serves_got : (s : Setting) (base : List Call) (calls calls' calls'' : Option
     → ((scene : Scene) → ProxyHas old scene.grp.server scene.spent → scene.turn ≡ now.turn → Plays s base calls' (taken_at s GrpServer bytes (taken.Got count) scene) → ProxyAnswers s base calls'' new bytes count scene)
     → ProxyServes s base calls'' new (taken.Got count ∷ answers) false now
 serves_got s base calls calls' calls'' old new bytes count answers now h whole opened lists serves =
-    let at : Scene = record now {
-      grp_server = h.end;
-      grp = record { up = now.grp.up; down = h.down; server = h.server; link = now.grp.link };
-      spent = h.spent;
-      replayed = h.lines;
-      gap = record { sent = h.lines; came = now.gap.came; answers = now.gap.answers };
-    } in
+    let at : Scene = with_proxy h.end h.down h.server h.spent h.lines now in
     let after : ProxyAnswers s base calls'' new bytes count at = serves at h.has refl (play_call s base calls calls' at (Take GrpServer bytes (taken.Got count)) lists (may_take h.end answers now.grp_cut h.answers_are opened h.ended_is whole) h.plays) in
     let said : Answer Spent = proxy_said s bytes at in
     record {
@@ -84,38 +79,26 @@ serves_got s base calls calls' calls'' old new bytes count answers now h whole o
 pub serves_none : (s : Setting) (base : List Call) (calls calls' : Option (List Call)) (proxy : Proxy) (into : List ℕ) (answer : NetTaken) (answers : List NetTaken) (now : Scene)
     → ProxyServes s base calls proxy answers false now → now.grp_cut ≡ false → is_open answers ≡ true → (answer ≡ taken.Quiet) ⊎ (answer ≡ taken.End) → ListsCall calls calls' (Take GrpServer (came answer into) answer)
     → ProxyServes s base calls' proxy (answer ∷ answers) (is_end answer) now
-serves_none s base calls calls' proxy into answer answers now h whole opened which lists =
-    let at : Scene = record now {
-      grp_server = h.end;
-      grp = record { up = now.grp.up; down = h.down; server = h.server; link = now.grp.link };
-      spent = h.spent;
-      replayed = h.lines;
-      gap = record { sent = h.lines; came = now.gap.came; answers = now.gap.answers };
-    } in
-    let may = may_take h.end answers now.grp_cut h.answers_are opened h.ended_is whole in
-    elim which [
-      | inl quiet ↦ subst (λ (a : NetTaken). ProxyServes s base calls' proxy (a ∷ answers) (is_end a) now) (sym quiet) (record {
-        end = record { put = h.end.put; came = h.end.came ++ []; answers = taken.Quiet ∷ h.end.answers; ended = h.end.ended };
-        server = h.server;
-        down = h.down;
-        spent = h.spent;
-        lines = h.lines;
-        answers_are = ap (λ (l : List NetTaken). taken.Quiet ∷ l) h.answers_are;
-        ended_is = h.ended_is;
-        put_is = h.put_is;
-        has = h.has;
-        plays = play_call s base calls calls' at (Take GrpServer [] taken.Quiet) (subst (λ (a : NetTaken). ListsCall calls calls' (Take GrpServer (came a into) a)) quiet lists) may h.plays;
-      })
-      | inr end ↦ subst (λ (a : NetTaken). ProxyServes s base calls' proxy (a ∷ answers) (is_end a) now) (sym end) (record {
-        end = record { put = h.end.put; came = h.end.came ++ []; answers = taken.End ∷ h.end.answers; ended = true };
-        server = h.server;
-        down = h.down;
-        spent = h.spent;
-        lines = h.lines;
-        answers_are = ap (λ (l : List NetTaken). taken.End ∷ l) h.answers_are;
-        ended_is = refl;
-        put_is = h.put_is;
-        has = h.has;
-        plays = play_call s base calls calls' at (Take GrpServer [] taken.End) (subst (λ (a : NetTaken). ListsCall calls calls' (Take GrpServer (came a into) a)) end lists) may h.plays;
-      })
-    ]
+serves_none s base calls calls' proxy into answer answers now h whole opened which lists = record {
+  end = took (came answer into) answer h.end;
+  server = h.server;
+  down = h.down;
+  spent = h.spent;
+  lines = h.lines;
+  answers_are = ap (λ (l : List NetTaken). answer ∷ l) h.answers_are;
+  ended_is = ap (λ (b : Bool). is_end answer || b) h.ended_is ∙ or-false (is_end answer);
+  put_is = h.put_is;
+  has = h.has;
+  plays = subst (Plays s base calls') (idle which) (play_call s base calls calls' at (Take GrpServer (came answer into) answer) lists (may_take h.end answers now.grp_cut h.answers_are opened h.ended_is whole) h.plays);
+}
+  where
+    at : Scene
+    at = with_proxy h.end h.down h.server h.spent h.lines now
+
+    after : Scene
+    after = record at { grp_server = took (came answer into) answer h.end }
+
+    -- the proxy does nothing then
+    idle : (answer ≡ taken.Quiet) ⊎ (answer ≡ taken.End) → proxy_took s (came answer into) answer after ≡ after
+    idle (inl e) = ap (λ (a : NetTaken). proxy_took s (came answer into) a after) e
+    idle (inr e) = ap (λ (a : NetTaken). proxy_took s (came answer into) a after) e

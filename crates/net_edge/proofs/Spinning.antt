@@ -1,6 +1,7 @@
 -- What the Spin Server does with what comes to it.
 use Rattle.std.proofs.Common.{◌≡◌, ℕ, zero, suc, ◌∷◌, ◌++◌, ◌||◌, ◌&&◌, not, ◌⊎◌, inl, inr, take, Bool, true, false, List, [], length, replicate, drop, Option, refl, sym, ap, ◌∙◌, subst, append_assoc, arith}
 use Rattle.std.proofs.lemmas.List.{append-nil}
+use Rattle.std.proofs.Math.Bool.{or-false}
 use Rattle.pitch_io.specs.declared.net.LinkEnd.TheVariants.{SpinServer}
 use Rattle.pitch_io.specs.declared.net.NetTaken.{NetTaken}
 use Rattle.pitch_io.specs.declared.net.NetTaken.TheVariants as taken
@@ -116,15 +117,11 @@ serves_on s base calls calls' calls'' old new bytes said answer goes_on answers 
       server = x.server;
       down = x.down;
       answers_are = ap (λ (l : List NetTaken). answer ∷ l) h.answers_are;
-      ended_is = ap (λ (b : Bool). is_end answer || b) h.ended_is ∙ or_no (is_end answer);
+      ended_is = ap (λ (b : Bool). is_end answer || b) h.ended_is ∙ or-false (is_end answer);
       put_is = ap (λ (b : List ℕ). b ++ said) h.put_is ∙ sym is.says;
       has = is.has;
       plays = subst (λ (k : Connection (List Served)). Plays s base calls'' (scene k)) (λ i. record { up = is.up_is i; down = x.down; server = x.server; link = is.link_is i }) there;
     }
-  where
-    or_no : (b : Bool) → (b || false) ≡ b
-    or_no true = refl
-    or_no false = refl
 
 -- ---- What is said of an answer
 pub answered_more : (s : Setting) (turn count : ℕ) (c : Connection (List Served)) (spin : Serving) (said into : List ℕ) (answer : NetTaken) (last : Bool) → answer ≡ taken.Got count → last ≡ false

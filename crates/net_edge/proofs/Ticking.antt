@@ -1,10 +1,10 @@
 -- A tick of all ends: what each made of its connection, and what was put, are those of the scene.
-use Rattle.std.proofs.Common.{◌≡◌, ℕ, ◌∷◌, ◌++◌, ◌||◌, Bool, cond, List, Option, refl, sym, ap, ◌∙◌, subst}
+use Rattle.std.proofs.Common.{◌≡◌, ℕ, ◌∷◌, ◌++◌, ◌||◌, Bool, List, Option, refl, sym, ap, ◌∙◌, subst}
 use Rattle.pitch_io.specs.declared.net.LinkEnd.TheVariants.{GrpClient, GrpServer, SpinClient, SpinServer}
 use Rattle.pitch_io.specs.Nets.{Call}
 use Rattle.pitch_model.specs.declared.ask.Ask.{Ask}
 use Rattle.pitch_model.specs.Asking.{ask_of}
-use Rattle.pitch_model.specs.History.{Entry, GrpDown, SpinDown, Ticked as EntryTicked}
+use Rattle.pitch_model.specs.History.{Entry, Ticked as EntryTicked}
 use Rattle.session_ends.specs.Ending.{Ending}
 use Rattle.session_ends.specs.Events.{Event, Ticked, Told}
 use Rattle.grp_session.specs.Budget.{Spent, next_second}
@@ -17,8 +17,9 @@ use Rattle.world_model.specs.State.{Connection, Pipe}
 use Rattle.world_model.specs.Verbs.{at_grp_server, at_spin_server, at_link}
 use Rattle.net_edge.specs.Acting.{where_stands, put_at, ticked, asked_grp, asked_spin}
 use Rattle.net_edge.specs.Due.{Setting, demo_unit, hold_limit, accepted}
-use Rattle.net_edge.specs.Playing.{EndsHave, DemoAt, Plays, ProxyHas, ProxySays, ProxyActs, SpinHas, SpinSays, SpinActs, LinkHas, LinkSays, LinkActs, LinkTicks, ClientHas, closes}
+use Rattle.net_edge.specs.Playing.{EndsHave, DemoAt, Plays, ProxyHas, ProxySays, ProxyActs, SpinHas, SpinSays, SpinActs, LinkHas, LinkSays, LinkActs, LinkTicks, ClientHas, closes, told_down}
 use Rattle.net_edge.specs.Scene.{Scene, all_put}
+use Rattle.net_edge.specs.Sides.{ProxySide, SpinSide}
 use Rattle.net_edge.specs.declared.ends.Ends.{Ends}
 
 module _ (s : Setting) (now : Scene) where
@@ -39,16 +40,16 @@ module _ (s : Setting) (now : Scene) where
   spin_linked = where_stands now.spin_cut (λ k. at_link (spin_link demo_unit) Ticked k) spin_served
 
   abbrev pub grp_cut_then : Bool
-  grp_cut_then = now.grp_cut || closes gap_link now.grp_cut grp_linked
+  grp_cut_then = now.grp_cut || closes ProxySide now.grp_cut grp_linked.link
 
   abbrev pub spin_cut_then : Bool
-  spin_cut_then = now.spin_cut || closes (spin_link demo_unit) now.spin_cut spin_linked
+  spin_cut_then = now.spin_cut || closes SpinSide now.spin_cut spin_linked.link
 
   abbrev pub heard_gap : List Entry
-  heard_gap = cond (closes gap_link now.grp_cut grp_linked) (GrpDown ∷ now.heard) now.heard
+  heard_gap = told_down ProxySide (closes ProxySide now.grp_cut grp_linked.link) now.heard
 
   abbrev pub heard_both : List Entry
-  heard_both = cond (closes (spin_link demo_unit) now.spin_cut spin_linked) (SpinDown ∷ heard_gap) heard_gap
+  heard_both = told_down SpinSide (closes SpinSide now.spin_cut spin_linked.link) heard_gap
 
   abbrev pub grp_asked : Connection Source
   grp_asked = where_stands grp_cut_then (asked_grp (ask_of hold_limit heard_both)) grp_linked
@@ -69,30 +70,32 @@ module _ (s : Setting) (now : Scene) where
       let after : Scene = ticked s now in
       let up : Pipe → List ℕ = λ p. p.put in
       let on_grp_client : (now.grp_client.put ++ x4) ++ x6 ≡ grp_asked.up.put =
-      ap (λ (b : List ℕ). (b ++ x4) ++ x6) (has.grp_client_put ∙ sym (ap up a2.up_is)) ∙ ap (λ (b : List ℕ). b ++ x6) (sym a4.says) ∙ sym a6.says in
+      ap (λ (b : List ℕ). (b ++ x4) ++ x6) (has.gap_link.put_is ∙ sym (ap up a2.up_is)) ∙ ap (λ (b : List ℕ). b ++ x6) (sym a4.says) ∙ sym a6.says in
       let on_grp_server : now.grp_server.put ++ x2 ≡ grp_asked.down.put =
-      ap (λ (b : List ℕ). b ++ x2) has.grp_server_put ∙ sym a2.says ∙ sym (ap up (a6.down_is ∙ a4.down_is)) in
+      ap (λ (b : List ℕ). b ++ x2) has.grp_server.put_is ∙ sym a2.says ∙ sym (ap up (a6.down_is ∙ a4.down_is)) in
       let on_spin_client : (now.spin_client.put ++ x5) ++ x7 ≡ spin_asked.up.put =
-      ap (λ (b : List ℕ). (b ++ x5) ++ x7) (has.spin_client_put ∙ sym (ap up (a3.up_is ∙ a1.up_is))) ∙ ap (λ (b : List ℕ). b ++ x7) (sym a5.says) ∙ sym a7.says in
+      ap (λ (b : List ℕ). (b ++ x5) ++ x7) (has.spin_link.put_is ∙ sym (ap up (a3.up_is ∙ a1.up_is))) ∙ ap (λ (b : List ℕ). b ++ x7) (sym a5.says) ∙ sym a7.says in
       let on_spin_server : (now.spin_server.put ++ x1) ++ x3 ≡ spin_asked.down.put =
-      ap (λ (b : List ℕ). (b ++ x1) ++ x3) has.spin_server_put ∙ ap (λ (b : List ℕ). b ++ x3) (sym a1.says) ∙ sym a3.says ∙ sym (ap up (a7.down_is ∙ a5.down_is)) in
+      ap (λ (b : List ℕ). (b ++ x1) ++ x3) has.spin_server.put_is ∙ ap (λ (b : List ℕ). b ++ x3) (sym a1.says) ∙ sym a3.says ∙ sym (ap up (a7.down_is ∙ a5.down_is)) in
       record {
         has = record {
           proxy = subst (λ (es : List (Event Source)). ProxyHas e'.proxy es (next_second now.spent)) (sym (a6.server_is ∙ a4.server_is)) a2.has;
           spin = subst (SpinHas e'.spin) (sym (a7.server_is ∙ a5.server_is)) a3.has;
-          gap_link = a6.link_has;
-          spin_link = a7.link_has;
           client = client;
-          grp_cut_is = grp_cut;
-          spin_cut_is = spin_cut;
-          grp_ended_is = grp_ended ∙ has.grp_ended_is;
-          spin_ended_is = spin_ended ∙ has.spin_ended_is;
-          grp_client_ended = λ ended. ap (λ (b : Bool). b || closes gap_link now.grp_cut grp_linked) (has.grp_client_ended ended);
-          spin_client_ended = λ ended. ap (λ (b : Bool). b || closes (spin_link demo_unit) now.spin_cut spin_linked) (has.spin_client_ended ended);
-          grp_client_put = refl;
-          grp_server_put = refl;
-          spin_client_put = refl;
-          spin_server_put = refl;
+          gap_link = record {
+            has = a6.link_has;
+            cut_is = grp_cut;
+            ended = λ ended. ap (λ (b : Bool). b || closes ProxySide now.grp_cut grp_linked.link) (has.gap_link.ended ended);
+            put_is = refl;
+          };
+          spin_link = record {
+            has = a7.link_has;
+            cut_is = spin_cut;
+            ended = λ ended. ap (λ (b : Bool). b || closes SpinSide now.spin_cut spin_linked.link) (has.spin_link.ended ended);
+            put_is = refl;
+          };
+          grp_server = record { ended_is = grp_ended ∙ has.grp_server.ended_is; put_is = refl };
+          spin_server = record { ended_is = spin_ended ∙ has.spin_server.ended_is; put_is = refl };
           replayed = has.replayed;
         };
         plays = subst (Plays s base calls) (λ i. record after {
@@ -111,26 +114,26 @@ module _ (s : Setting) (base : List Call) where
       → ((k : Connection Source) (spent : Spent) (n : Scene) → ProxyHas e.proxy k.server spent → Plays s base c1 n → ProxyActs s base c2 e'.proxy k (where_stands e.grp_cut (λ x. at_grp_server demo_unit Ticked x) k) (next_second spent) n)
       → ((k : Connection (List Served)) (n : Scene) → SpinHas spin1 k.server → Plays s base c2 n → SpinActs s base c3 e'.spin k (where_stands e.spin_cut (λ x. at_spin_server demo_unit Ticked x) k) n)
       → ((k : Connection Source) (E : List Entry) (n : Scene) → LinkHas gap_link e.gap_link k.link → ClientHas e.client E → Plays s base c3 n
-      → LinkTicks s base c4 gap_link GrpDown GrpClient gap1 one k (where_stands e.grp_cut (λ x. at_link gap_link Ticked x) k) E e.grp_cut grp_cut n)
+      → LinkTicks ProxySide s base c4 gap1 one k (where_stands e.grp_cut (λ x. at_link gap_link Ticked x) k) E e.grp_cut grp_cut n)
       → ((k : Connection (List Served)) (E : List Entry) (n : Scene) → LinkHas (spin_link demo_unit) e.spin_link k.link → ClientHas one E → Plays s base c4 n
-      → LinkTicks s base c5 (spin_link demo_unit) SpinDown SpinClient spl1 two k (where_stands e.spin_cut (λ x. at_link (spin_link demo_unit) Ticked x) k) E e.spin_cut spin_cut n)
+      → LinkTicks SpinSide s base c5 spl1 two k (where_stands e.spin_cut (λ x. at_link (spin_link demo_unit) Ticked x) k) E e.spin_cut spin_cut n)
       → ((E : List Entry) → ClientHas two E → (ask ≡ ask_of hold_limit E) × ClientHas e'.client (EntryTicked ask ∷ E))
-      → ((k : Connection Source) (n : Scene) → LinkHas gap_link gap1 k.link → Plays s base c5 n → LinkActs s base c6 gap_link GrpClient e'.gap_link k (where_stands grp_cut (asked_grp ask) k) n)
-      → ((k : Connection (List Served)) (n : Scene) → LinkHas (spin_link demo_unit) spl1 k.link → Plays s base c6 n → LinkActs s base c7 (spin_link demo_unit) SpinClient e'.spin_link k (where_stands spin_cut (asked_spin ask) k) n)
+      → ((k : Connection Source) (n : Scene) → LinkHas gap_link gap1 k.link → Plays s base c5 n → LinkActs ProxySide s base c6 e'.gap_link k (where_stands grp_cut (asked_grp ask) k) n)
+      → ((k : Connection (List Served)) (n : Scene) → LinkHas (spin_link demo_unit) spl1 k.link → Plays s base c6 n → LinkActs SpinSide s base c7 e'.spin_link k (where_stands spin_cut (asked_spin ask) k) n)
       → e'.grp_cut ≡ grp_cut → e'.spin_cut ≡ spin_cut → e'.grp_ended ≡ e.grp_ended → e'.spin_ended ≡ e.spin_ended
       → DemoAt s base c7 e' (all_put (ticked s now))
   tick_is c0 c1 c2 c3 c4 c5 c6 c7 e e' sequence spin1 gap1 spl1 one two grp_cut spin_cut ask now has_now number plays_now tells proxy_ticks spin_ticks gap_ticks link_ticks client_ticks asks_proxy asks_spin cut_grp cut_spin ended_grp ended_spin =
       let n : Scene = record now { grp_cut = e.grp_cut; spin_cut = e.spin_cut } in
-      let same : n ≡ now = λ i. record now { grp_cut = has_now.grp_cut_is i; spin_cut = has_now.spin_cut_is i } in
+      let same : n ≡ now = λ i. record now { grp_cut = has_now.gap_link.cut_is i; spin_cut = has_now.spin_link.cut_is i } in
       let has : EndsHave e n = subst (EndsHave e) (sym same) has_now in
       let plays : Plays s base c0 (ticked s n) = subst (λ (x : Scene). Plays s base c0 (ticked s x)) (sym same) plays_now in
       let a1 = tells n.spin (ticked s n) has.spin plays in
       let told_is : SpinSays spin1 a1.said n.spin (told s n) = subst (λ (k : ℕ). SpinSays spin1 a1.said n.spin (where_stands e.spin_cut (λ x. at_spin_server demo_unit (Told k) x) n.spin)) number a1.is in
       let a2 = proxy_ticks n.grp n.spent (put_at SpinServer a1.said (ticked s n)) has.proxy a1.plays in
       let a3 = spin_ticks (told s n) (put_at GrpServer a2.said (put_at SpinServer a1.said (ticked s n))) told_is.has a2.plays in
-      let link_of : LinkHas gap_link e.gap_link (grp_served s n).link = subst (LinkHas gap_link e.gap_link) (sym a2.is.link_is) has.gap_link in
+      let link_of : LinkHas gap_link e.gap_link (grp_served s n).link = subst (LinkHas gap_link e.gap_link) (sym a2.is.link_is) has.gap_link.has in
       let a4 = gap_ticks (grp_served s n) n.heard (put_at SpinServer a3.said (put_at GrpServer a2.said (put_at SpinServer a1.said (ticked s n)))) link_of has.client a3.plays in
-      let spin_link_of : LinkHas (spin_link demo_unit) e.spin_link (spin_served s n).link = subst (LinkHas (spin_link demo_unit) e.spin_link) (sym (a3.is.link_is ∙ told_is.link_is)) has.spin_link in
+      let spin_link_of : LinkHas (spin_link demo_unit) e.spin_link (spin_served s n).link = subst (LinkHas (spin_link demo_unit) e.spin_link) (sym (a3.is.link_is ∙ told_is.link_is)) has.spin_link.has in
       let a5 = link_ticks (spin_served s n) (heard_gap s n) (put_at GrpClient a4.acts.said (put_at SpinServer a3.said (put_at GrpServer a2.said (put_at SpinServer a1.said (ticked s n))))) spin_link_of a4.has a4.acts.plays in
       let t = client_ticks (heard_both s n) a5.has in
       let a6 = asks_proxy (grp_linked s n) (put_at SpinClient a5.acts.said (put_at GrpClient a4.acts.said (put_at SpinServer a3.said (put_at GrpServer a2.said (put_at SpinServer a1.said (ticked s n)))))) a4.acts.is.link_has a5.acts.plays in

@@ -95,19 +95,11 @@ pub ends_sent : (e : Ends) (now : Scene) (a b : OnLine) → EndsHave e now → E
 ends_sent e now a b has = record {
   proxy = has.proxy;
   spin = has.spin;
+  client = has.client;
   gap_link = has.gap_link;
   spin_link = has.spin_link;
-  client = has.client;
-  grp_cut_is = has.grp_cut_is;
-  spin_cut_is = has.spin_cut_is;
-  grp_ended_is = has.grp_ended_is;
-  spin_ended_is = has.spin_ended_is;
-  grp_client_ended = has.grp_client_ended;
-  spin_client_ended = has.spin_client_ended;
-  grp_client_put = has.grp_client_put;
-  grp_server_put = has.grp_server_put;
-  spin_client_put = has.spin_client_put;
-  spin_server_put = has.spin_server_put;
+  grp_server = has.grp_server;
+  spin_server = has.spin_server;
   replayed = has.replayed;
 }
 
@@ -116,19 +108,11 @@ ends_turned : (e : Ends) (now : Scene) → EndsHave e now → EndsHave e (next_t
 ends_turned e now has = record {
   proxy = has.proxy;
   spin = has.spin;
-  gap_link = has.gap_link;
-  spin_link = has.spin_link;
   client = has.client;
-  grp_cut_is = has.grp_cut_is;
-  spin_cut_is = has.spin_cut_is;
-  grp_ended_is = has.grp_ended_is;
-  spin_ended_is = has.spin_ended_is;
-  grp_client_ended = has.grp_client_ended;
-  spin_client_ended = has.spin_client_ended;
-  grp_client_put = has.grp_client_put;
-  grp_server_put = has.grp_server_put;
-  spin_client_put = has.spin_client_put;
-  spin_server_put = has.spin_server_put;
+  gap_link = record { has = has.gap_link.has; cut_is = has.gap_link.cut_is; ended = has.gap_link.ended; put_is = has.gap_link.put_is };
+  spin_link = record { has = has.spin_link.has; cut_is = has.spin_link.cut_is; ended = has.spin_link.ended; put_is = has.spin_link.put_is };
+  grp_server = record { ended_is = has.grp_server.ended_is; put_is = has.grp_server.put_is };
+  spin_server = record { ended_is = has.spin_server.ended_is; put_is = has.spin_server.put_is };
   replayed = has.replayed;
 }
 

@@ -4,4 +4,5 @@ pub mod Due
 pub mod Acting
 pub mod Turns
 pub mod Demo
+pub mod Sides
 pub mod Playing

@@ -4,7 +4,6 @@ use Rattle.std.specs.List.{AllByRecursion}
 use Rattle.pitch_fields.specs.Fields.{AreBytes}
 use Rattle.pitch_io.specs.declared.line.Line.{Line}
 use Rattle.pitch_io.specs.declared.line.Line.TheVariants.{A, B, Gap}
-use Rattle.pitch_io.specs.declared.net.LinkEnd.{LinkEnd}
 use Rattle.pitch_io.specs.declared.net.LinkEnd.TheVariants.{GrpServer, SpinServer}
 use Rattle.pitch_io.specs.declared.net.NetTaken.TheVariants.{Got}
 use Rattle.pitch_io.specs.declared.net.NetTaken.{NetTaken}
@@ -31,7 +30,8 @@ use Rattle.world_model.specs.Ends.{grp_server, spin_server, gap_link, spin_link}
 use Rattle.world_model.specs.State.{Connection, Pipe}
 use Rattle.net_edge.specs.Acting.{scene_of, is_open, source_at, sent_on, put_at, taken_at, ticked}
 use Rattle.net_edge.specs.Due.{Setting, demo_unit, kept_messages, hold_limit, accepted, messages, advertised, beat, due, is_tenth, ticks}
-use Rattle.net_edge.specs.Scene.{Scene, OnLine, AtEnd, on_line, with_line, all_put}
+use Rattle.net_edge.specs.Scene.{Scene, OnLine, AtEnd, on_line, with_line, at_end, said_at, all_put}
+use Rattle.net_edge.specs.Sides.{Side, Known, end_of, setup_of, down_of, with_side}
 use Rattle.net_edge.specs.Steps.{Step, calls_of}
 use Rattle.net_edge.specs.Turns.{AreSteps}
 use Rattle.net_edge.specs.declared.market.Market.{Market}
@@ -98,6 +98,11 @@ pub record HearsOn (s : Setting) (base : List Call) (calls : Option (List Call))
   pub has : ClientHas client heard
   pub plays : Plays s base calls (record (with_line line on now) { heard = heard })
 
+-- a scene with another end of the proxy: the end, what it says, what happened at it, and what it
+-- accepted; and with the datagrams that it had for the gap line, which were sent
+abbrev pub with_proxy : AtEnd → Pipe → List (Event Source) → Spent → List (List ℕ) → Scene → Scene
+with_proxy end down server spent lines now = record now { grp_server = end; grp = record now.grp { down = down; server = server }; spent = spent; replayed = lines; gap = record now.gap { sent = lines } }
+
 -- the proxy took what came, and what it said was put and sent
 pub record ProxyServes (s : Setting) (base : List Call) (calls : Option (List Call)) (proxy : Proxy) (answers : List NetTaken) (ended : Bool) (now : Scene) : Type 0 where
   pub end : AtEnd
@@ -109,13 +114,7 @@ pub record ProxyServes (s : Setting) (base : List Call) (calls : Option (List Ca
   pub ended_is : end.ended ≡ ended
   pub put_is : end.put ≡ down.put
   pub has : ProxyHas proxy server spent
-  pub plays : Plays s base calls (record now {
-    grp_server = end;
-    grp = record { up = now.grp.up; down = down; server = server; link = now.grp.link };
-    spent = spent;
-    replayed = lines;
-    gap = record { sent = lines; came = now.gap.came; answers = now.gap.answers };
-  })
+  pub plays : Plays s base calls (with_proxy end down server spent lines now)
 
 -- what the proxy answers to bytes
 abbrev pub proxy_said : Setting → List ℕ → Scene → Answer Spent
@@ -150,49 +149,33 @@ pub record SpinSays (spin : Serving) (said : List ℕ) (before after : Connectio
   pub up_is : after.up ≡ before.up
   pub link_is : after.link ≡ before.link
 
--- a link was fed bytes, and the client heard what it told, and this entry where it closed
-pub record LinkTells (setup : Setup) (down : Entry) (link : Ending) (client : UnitClient) (bytes : List ℕ) (events : List (Event Lookups)) (E : List Entry) (shut : Bool) : Type 0 where
-  pub link_has : LinkHas setup link (Fed bytes NoLookup ∷ events)
-  pub shut_is : shut ≡ is_some (closed_of setup (Fed bytes NoLookup ∷ events))
-  pub has : ClientHas client (if shut then down ∷ heard_all (link_tells setup events bytes) E else heard_all (link_tells setup events bytes) E)
+-- a connection that stands closes at its link
+abbrev pub closes : Side → Bool → List (Event Lookups) → Bool
+closes side cut events = not cut && is_some (closed_of (setup_of side) events)
 
--- the client heard what its link with the proxy took
-pub record HearsProxy (s : Setting) (base : List Call) (calls : Option (List Call)) (link : Ending) (client : UnitClient) (answers : List NetTaken) (cut : Bool) (now : Scene) : Type 0 where
+-- where it closes, the client hears that it is down
+abbrev pub told_down : Side → Bool → List Entry → List Entry
+told_down side shut E = if shut then down_of side ∷ E else E
+
+-- a link was fed bytes, and the client heard what it told, and that it is down where it closed
+pub record LinkTells (side : Side) (link : Ending) (client : UnitClient) (bytes : List ℕ) (events : List (Event Lookups)) (E : List Entry) (shut : Bool) : Type 0 where
+  pub link_has : LinkHas (setup_of side) link (Fed bytes NoLookup ∷ events)
+  pub shut_is : shut ≡ closes side false (Fed bytes NoLookup ∷ events)
+  pub has : ClientHas client (told_down side shut (heard_all (link_tells (setup_of side) events bytes) E))
+
+-- the client heard what one of its links took
+pub record HearsLink (side : Side) (s : Setting) (base : List Call) (calls : Option (List Call)) (link : Ending) (client : UnitClient) (answers : List NetTaken) (cut : Bool) (now : Scene) : Type 0 where
   pub end : AtEnd
   pub events : List (Event Lookups)
   pub up : Pipe
   pub heard : List Entry
   pub answers_are : end.answers ≡ answers
   pub ended_is : end.ended ≡ true → cut ≡ true
-  pub put_is : end.put ≡ now.grp_client.put
-  pub up_is : up.put ≡ now.grp.up.put
-  pub link_has : LinkHas gap_link link events
+  pub put_is : end.put ≡ (at_end (end_of side) now).put
+  pub up_is : up.put ≡ said_at (end_of side) now
+  pub link_has : LinkHas (setup_of side) link events
   pub has : ClientHas client heard
-  pub plays : Plays s base calls (record now {
-    grp_client = end;
-    grp = record { up = up; down = now.grp.down; server = now.grp.server; link = events };
-    grp_cut = cut;
-    heard = heard;
-  })
-
--- the client heard what its link with the spin server took
-pub record HearsSpin (s : Setting) (base : List Call) (calls : Option (List Call)) (link : Ending) (client : UnitClient) (answers : List NetTaken) (cut : Bool) (now : Scene) : Type 0 where
-  pub end : AtEnd
-  pub events : List (Event Lookups)
-  pub up : Pipe
-  pub heard : List Entry
-  pub answers_are : end.answers ≡ answers
-  pub ended_is : end.ended ≡ true → cut ≡ true
-  pub put_is : end.put ≡ now.spin_client.put
-  pub up_is : up.put ≡ now.spin.up.put
-  pub link_has : LinkHas (spin_link demo_unit) link events
-  pub has : ClientHas client heard
-  pub plays : Plays s base calls (record now {
-    spin_client = end;
-    spin = record { up = up; down = now.spin.down; server = now.spin.server; link = events };
-    spin_cut = cut;
-    heard = heard;
-  })
+  pub plays : Plays s base calls (with_side side end up events cut heard now)
 
 -- ---- Ticks: an end made a connection of another, and what it said by that
 pub record ProxySays (proxy : Proxy) (said : List ℕ) (before after : Connection Source) (spent : Spent) : Type 0 where
@@ -218,40 +201,40 @@ pub record SpinActs (s : Setting) (base : List Call) (calls : Option (List Call)
   pub is : SpinSays spin said before after
   pub plays : Plays s base calls (put_at SpinServer said now)
 
-pub record LinkActs {X : Type 0} (s : Setting) (base : List Call) (calls : Option (List Call)) (setup : Setup) (at : LinkEnd) (link : Ending) (before after : Connection X) (now : Scene) : Type 0 where
+pub record LinkActs (side : Side) (s : Setting) (base : List Call) (calls : Option (List Call)) (link : Ending) (before after : Connection (Known side)) (now : Scene) : Type 0 where
   pub said : List ℕ
-  pub is : LinkSays setup link said before after
-  pub plays : Plays s base calls (put_at at said now)
-
--- a connection that stands closes at its link
-abbrev pub closes : {X : Type 0} → Setup → Bool → Connection X → Bool
-closes setup cut c = not cut && is_some (closed_of setup c.link)
+  pub is : LinkSays (setup_of side) link said before after
+  pub plays : Plays s base calls (put_at (end_of side) said now)
 
 -- a link ticked where its connection stands; the client heard where it closed then, and it is cut
-pub record LinkTicks {X : Type 0} (s : Setting) (base : List Call) (calls : Option (List Call)) (setup : Setup) (down : Entry) (at : LinkEnd) (link : Ending) (client : UnitClient)
-    (before after : Connection X) (E : List Entry) (cut cut' : Bool) (now : Scene) : Type 0 where
-  pub acts : LinkActs s base calls setup at link before after now
-  pub cut_is : cut' ≡ (cut || closes setup cut after)
-  pub has : ClientHas client (if closes setup cut after then down ∷ E else E)
+pub record LinkTicks (side : Side) (s : Setting) (base : List Call) (calls : Option (List Call)) (link : Ending) (client : UnitClient) (before after : Connection (Known side)) (E : List Entry) (cut cut' : Bool) (now : Scene) : Type 0 where
+  pub acts : LinkActs side s base calls link before after now
+  pub cut_is : cut' ≡ (cut || closes side cut after.link)
+  pub has : ClientHas client (told_down side (closes side cut after.link) E)
+
+-- a link in the code is that of a scene: where its connection is cut, as it is once it ended, and
+-- all that was said was put
+pub record LinkAt (setup : Setup) (link : Ending) (cut : Bool) (end : AtEnd) (is_cut : Bool) (events : List (Event Lookups)) (said : List ℕ) : Type 0 where
+  pub has : LinkHas setup link events
+  pub cut_is : cut ≡ is_cut
+  pub ended : end.ended ≡ true → is_cut ≡ true
+  pub put_is : end.put ≡ said
+
+-- a server's end is that of a scene: where it ended, and all that was said was put
+pub record ServerAt (ended : Bool) (end : AtEnd) (said : List ℕ) : Type 0 where
+  pub ended_is : ended ≡ end.ended
+  pub put_is : end.put ≡ said
 
 -- the code's ends are those of a scene
 pub record EndsHave (ends : Ends) (now : Scene) : Type 0 where
   pub proxy : ProxyHas ends.proxy now.grp.server now.spent
   pub spin : SpinHas ends.spin now.spin.server
-  pub gap_link : LinkHas gap_link ends.gap_link now.grp.link
-  pub spin_link : LinkHas (spin_link demo_unit) ends.spin_link now.spin.link
   pub client : ClientHas ends.client now.heard
-  pub grp_cut_is : ends.grp_cut ≡ now.grp_cut
-  pub spin_cut_is : ends.spin_cut ≡ now.spin_cut
-  pub grp_ended_is : ends.grp_ended ≡ now.grp_server.ended
-  pub spin_ended_is : ends.spin_ended ≡ now.spin_server.ended
-  pub grp_client_ended : now.grp_client.ended ≡ true → now.grp_cut ≡ true
-  pub spin_client_ended : now.spin_client.ended ≡ true → now.spin_cut ≡ true
-  -- all that was said was put, and all that the proxy had for the gap line was sent
-  pub grp_client_put : now.grp_client.put ≡ now.grp.up.put
-  pub grp_server_put : now.grp_server.put ≡ now.grp.down.put
-  pub spin_client_put : now.spin_client.put ≡ now.spin.up.put
-  pub spin_server_put : now.spin_server.put ≡ now.spin.down.put
+  pub gap_link : LinkAt gap_link ends.gap_link ends.grp_cut now.grp_client now.grp_cut now.grp.link now.grp.up.put
+  pub spin_link : LinkAt (spin_link demo_unit) ends.spin_link ends.spin_cut now.spin_client now.spin_cut now.spin.link now.spin.up.put
+  pub grp_server : ServerAt ends.grp_ended now.grp_server now.grp.down.put
+  pub spin_server : ServerAt ends.spin_ended now.spin_server now.spin.down.put
+  -- all that the proxy had for the gap line was sent
   pub replayed : now.gap.sent ≡ now.replayed
 
 -- ---- Turns

@@ -12,11 +12,12 @@ ghost use Rattle.net_edge.specs.Turns.{IsOver};
 
 use crate::error::DemoError;
 use crate::lines::hear_line;
-use crate::links::{ask_proxy, ask_spin, hear_proxy, hear_spin, tick_gap_link, tick_spin_link};
+use crate::links::{ask_link, hear_link, tick_link};
 use crate::market::Market;
-use crate::proxy::{Proxy, serve_proxy, tick_proxy};
+use crate::proxy::{Proxy, tick_proxy};
 use crate::putting::{send, send_unless};
-use crate::spin::{serve_spin, tell_spin, tick_spin};
+use crate::server_end::serve_end;
+use crate::spin::{tell_spin, tick_spin};
 use client_core::UnitClient;
 use client_links::{GapLink, SpinLink};
 use pitch_io::{Line, Net, NetDone};
@@ -49,16 +50,16 @@ impl Ends {
         ensures later { N.faults net.old ≤ N.faults net.new }
     {
         tell_spin(self.alloc, net, &mut self.spin, sequence, self.spin_cut)?;
-        tick_proxy(net, &mut self.proxy, self.grp_cut)?;
+        tick_proxy(self.alloc, net, &mut self.proxy, self.grp_cut)?;
         tick_spin(self.alloc, net, &mut self.spin, self.spin_cut)?;
-        let grp_cut = tick_gap_link(
+        let grp_cut = tick_link(
             self.alloc,
             net,
             &mut self.gap_link,
             &mut self.client,
             self.grp_cut,
         )?;
-        let spin_cut = tick_spin_link(
+        let spin_cut = tick_link(
             self.alloc,
             net,
             &mut self.spin_link,
@@ -68,8 +69,8 @@ impl Ends {
         self.grp_cut = grp_cut;
         self.spin_cut = spin_cut;
         let ask = self.client.tick();
-        ask_proxy(self.alloc, net, &mut self.gap_link, ask, grp_cut)?;
-        ask_spin(self.alloc, net, &mut self.spin_link, ask, spin_cut)?;
+        ask_link(self.alloc, net, &mut self.gap_link, ask, grp_cut)?;
+        ask_link(self.alloc, net, &mut self.spin_link, ask, spin_cut)?;
         Ok(())
     }
 
@@ -159,7 +160,8 @@ impl Ends {
         ensures later { N.faults net.old ≤ N.faults net.new }
     {
         self.publish(net, market, number, count, turn)?;
-        self.grp_ended = serve_proxy(
+        self.grp_ended = serve_end(
+            self.alloc,
             net,
             &mut self.proxy,
             &mut market.store,
@@ -167,7 +169,7 @@ impl Ends {
             self.grp_cut,
             self.grp_ended,
         )?;
-        self.spin_ended = serve_spin(
+        self.spin_ended = serve_end(
             self.alloc,
             net,
             &mut self.spin,
@@ -179,7 +181,7 @@ impl Ends {
         hear_line(net, Line::A, &mut self.client, into)?;
         hear_line(net, Line::B, &mut self.client, into)?;
         hear_line(net, Line::Gap, &mut self.client, into)?;
-        self.grp_cut = hear_proxy(
+        self.grp_cut = hear_link(
             self.alloc,
             net,
             &mut self.gap_link,
@@ -187,7 +189,7 @@ impl Ends {
             into,
             self.grp_cut,
         )?;
-        self.spin_cut = hear_spin(
+        self.spin_cut = hear_link(
             self.alloc,
             net,
             &mut self.spin_link,

@@ -6,6 +6,7 @@
 //! `specs/Demo.antt` says what such a run is.
 #![tactic(auto)]
 
+mod client_end;
 mod ends;
 mod error;
 mod lines;
@@ -14,6 +15,7 @@ mod market;
 mod proxy;
 mod putting;
 mod running;
+mod server_end;
 mod spin;
 
 pub use crate::error::DemoError;

@@ -19,6 +19,9 @@ use pitch_fields::OutOfMemory;
 use pitch_io::{Line, Net, NetTaken};
 use unit_packets::{BlockView, view_block};
 
+/// How often a line or an end is asked in a turn, while something comes.
+pub(crate) const MOST_CALLS: u32 = 100;
+
 // The client hears a block of the demo's unit, and passes over others.
 fn hear_if_ours(client: &mut UnitClient, block: &BlockView<'_>) -> Result<(), OutOfMemory>
     ensures { OnOk result ((E : List Entry) → ClientHas client.old E → ClientHas client.new (heard_blocks (ours (block.now ∷ [])) E)) }
@@ -87,7 +90,7 @@ pub(crate) fn hear_line<N: Net>(
     ensures fault { IfErr result (λ error. error ≡ errors.NetFault → Rose (N.faults net.old) (N.faults net.new)) }
     ensures later { N.faults net.old ≤ N.faults net.new }
 {
-    'calls: for _index in 0..100u32 {
+    'calls: for _index in 0..MOST_CALLS {
         match hear_one(net, line, client, into)? {
             NetTaken::Got(_) => {}
             NetTaken::Quiet | NetTaken::End | NetTaken::Failed => return Ok(()),

@@ -21,6 +21,7 @@ ghost use Rattle.net_edge.specs.Scene.{Scene, is_end};
 
 use crate::error::DemoError;
 use crate::putting::{put_whole, send_all};
+use crate::server_end::ServerEnd;
 use client_links::Account;
 use gap_store::GapStore;
 use grp_session::{GapBudget, GrpServer, look_laws};
@@ -32,7 +33,6 @@ use unit_packets::DatagramList;
 /// The proxy, and how many requests it may still accept.
 #[derive(Drop)]
 pub(crate) struct Proxy {
-    alloc: Global,
     server: GrpServer,
     budget: GapBudget,
 }
@@ -48,7 +48,6 @@ impl Proxy {
         let mut accounts = Vec::new(alloc);
         accounts.push(account)?;
         Ok(Proxy {
-            alloc,
             server: GrpServer::make(alloc, 1, accounts, false),
             budget: GapBudget::make(10, 100, 10000),
         })
@@ -90,13 +89,18 @@ impl Proxy {
 }
 
 /// A second passes: for the account of requests, and at the proxy's end where its connection stands.
-pub(crate) fn tick_proxy<N: Net>(net: &mut N, proxy: &mut Proxy, cut: bool) -> Result<(), DemoError>
+pub(crate) fn tick_proxy<N: Net>(
+    alloc: Global,
+    net: &mut N,
+    proxy: &mut Proxy,
+    cut: bool,
+) -> Result<(), DemoError>
     ensures acts { OnOk result ((s : Setting) (base : List Call) (c : Connection Source) (spent : Spent) (now : Scene) → ProxyHas proxy.old c.server spent → Plays s base (N.calls net.old) now
         → ProxyActs s base (N.calls net.new) proxy.new c (where_stands cut (λ k. at_grp_server demo_unit Ticked k) c) (next_second spent) now) }
     ensures fault { IfErr result (λ error. error ≡ errors.NetFault → Rose (N.faults net.old) (N.faults net.new)) }
     ensures later { N.faults net.old ≤ N.faults net.new }
 {
-    let mut said = Vec::new(proxy.alloc);
+    let mut said = Vec::new(alloc);
     proxy.tick(cut, &mut said)?;
     put_whole(net, LinkEnd::GrpServer, &said)?;
     Ok(())
@@ -104,6 +108,7 @@ pub(crate) fn tick_proxy<N: Net>(net: &mut N, proxy: &mut Proxy, cut: bool) -> R
 
 // What came to the proxy is fed, and what it says is put and sent.
 fn serve_piece<N: Net>(
+    alloc: Global,
     net: &mut N,
     proxy: &mut Proxy,
     store: &mut GapStore,
@@ -115,69 +120,40 @@ fn serve_piece<N: Net>(
     ensures fault { IfErr result (λ error. error ≡ errors.NetFault → Rose (N.faults net.old) (N.faults net.new)) }
     ensures later { N.faults net.old ≤ N.faults net.new }
 {
-    let mut said = Vec::new(proxy.alloc);
-    let mut lines = DatagramList::make(proxy.alloc);
+    let mut said = Vec::new(alloc);
+    let mut lines = DatagramList::make(alloc);
     proxy.feed(store, piece, &mut said, &mut lines)?;
     put_whole(net, LinkEnd::GrpServer, &said)?;
     send_all(net, Line::Gap, lines.as_slice())?;
     Ok(())
 }
 
-// One call of `take` at the proxy's end; what comes is served.
-fn serve_one<N: Net>(
-    net: &mut N,
-    proxy: &mut Proxy,
-    store: &mut GapStore,
-    into: &mut [u8],
-) -> Result<NetTaken, DemoError>
-    requires { 0 < length into.old }
-    ensures served { IfOk result (λ answer. (s : Setting) (base : List Call) (answers : List TakenSaid) (now : Scene) → ProxyServes s base (N.calls net.old) proxy.old answers false now
-        → now.grp_cut ≡ false → store.old ≡ store_of (gap_view s now.turn) → is_open answers ≡ true
-        → ProxyServes s base (N.calls net.new) proxy.new (answer ∷ answers) (is_end answer) now) }
-    ensures store { store.new ≡ store.old }
-    ensures room { length into.new ≡ length into.old }
-    ensures fault { IfErr result (λ error. error ≡ errors.NetFault → Rose (N.faults net.old) (N.faults net.new)) }
-    ensures later { N.faults net.old ≤ N.faults net.new }
-{
-    let answer = net.take(LinkEnd::GrpServer, into);
-    match answer {
-        NetTaken::Got(count) => {
-            serve_piece(net, proxy, store, &into[..count])?;
-            Ok(answer)
-        }
-        NetTaken::Quiet | NetTaken::End => Ok(answer),
-        NetTaken::Failed => Err(DemoError::NetFault),
-    }
-}
+impl ServerEnd for Proxy {
+    type Store = GapStore;
 
-/// A turn's calls of `take` at the proxy's end, where its connection stands and it did not get End
-/// before. Answers whether it got End so far.
-pub(crate) fn serve_proxy<N: Net>(
-    net: &mut N,
-    proxy: &mut Proxy,
-    store: &mut GapStore,
-    into: &mut [u8],
-    cut: bool,
-    ended: bool,
-) -> Result<bool, DemoError>
-    requires { 0 < length into.old }
-    ensures served { IfOk result (λ ends. (s : Setting) (base : List Call) (now : Scene) → ProxyServes s base (N.calls net.old) proxy.old [] ended now
-        → now.grp_cut ≡ cut → store.old ≡ store_of (gap_view s now.turn)
-        → (answers : List TakenSaid) × AreTaken answers (ends || cut) × ProxyServes s base (N.calls net.new) proxy.new answers ends now) }
-    ensures store { store.new ≡ store.old }
-    ensures room { length into.new ≡ length into.old }
-    ensures fault { IfErr result (λ error. error ≡ errors.NetFault → Rose (N.faults net.old) (N.faults net.new)) }
-    ensures later { N.faults net.old ≤ N.faults net.new }
-{
-    if cut || ended {
-        return Ok(ended);
-    }
-    'takes: for _index in 0..100u32 {
-        match serve_one(net, proxy, store, into)? {
-            NetTaken::Got(_) => {}
-            NetTaken::End => return Ok(true),
-            NetTaken::Quiet | NetTaken::Failed => return Ok(false),
+    ghost serves = { λ proxy s base calls answers ended now. ProxyServes s base calls proxy answers ended now };
+
+    ghost shows = { λ store s now. store ≡ store_of (gap_view s now.turn) };
+
+    ghost is_cut = { λ now. now.grp_cut };
+
+    // It says all at once, at the last call as at any other.
+    fn serve_one<N: Net>(
+        &mut self,
+        alloc: Global,
+        net: &mut N,
+        store: &mut GapStore,
+        into: &mut [u8],
+        _last: bool,
+    ) -> Result<NetTaken, DemoError> {
+        let answer = net.take(LinkEnd::GrpServer, into);
+        match answer {
+            NetTaken::Got(count) => {
+                serve_piece(alloc, net, self, store, &into[..count])?;
+                Ok(answer)
+            }
+            NetTaken::Quiet | NetTaken::End => Ok(answer),
+            NetTaken::Failed => Err(DemoError::NetFault),
         }
     }
-    Ok(false)
 }

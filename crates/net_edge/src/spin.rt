@@ -18,6 +18,7 @@ ghost use Rattle.net_edge.specs.Scene.{Scene, is_got, is_end};
 
 use crate::error::DemoError;
 use crate::putting::put_whole;
+use crate::server_end::ServerEnd;
 use pitch_fields::OutOfMemory;
 use pitch_io::{LinkEnd, Net, NetTaken};
 use spin_server::{ImageShelf, SpinServer};
@@ -83,65 +84,33 @@ fn answer(
     }
 }
 
-// One call of `take` at its end, which may be the turn's last; what it says is put.
-fn serve_one<N: Net>(
-    alloc: Global,
-    net: &mut N,
-    spin: &mut SpinServer,
-    shelf: &mut ImageShelf,
-    into: &mut [u8],
-    last: bool,
-) -> Result<NetTaken, DemoError>
-    requires { 0 < length into.old }
-    ensures served { IfOk result (λ answer. (s : Setting) (base : List Call) (answers : List TakenSaid) (now : Scene) → SpinServes s base (N.calls net.old) spin.old answers false now
-        → now.spin_cut ≡ false → KeepsShelf shelf.old (messages s now.turn) (advertised s now.turn) → is_open answers ≡ true → is_open (answer ∷ answers) ≡ (is_got answer && not last)
-        → SpinServes s base (N.calls net.new) spin.new (answer ∷ answers) (is_end answer) now) }
-    ensures shelf { shelf.new ≡ shelf.old }
-    ensures room { length into.new ≡ length into.old }
-    ensures fault { IfErr result (λ error. error ≡ errors.NetFault → Rose (N.faults net.old) (N.faults net.new)) }
-    ensures later { N.faults net.old ≤ N.faults net.new }
-{
-    let taken = net.take(LinkEnd::SpinServer, into);
-    if let NetTaken::Failed = taken {
-        return Err(DemoError::NetFault);
-    }
-    let mut said = Vec::new(alloc);
-    answer(spin, shelf, taken, into, last, &mut said)?;
-    put_whole(net, LinkEnd::SpinServer, &said)?;
-    Ok(taken)
-}
+impl ServerEnd for SpinServer {
+    type Store = ImageShelf;
 
-/// A turn's calls of `take` at its end, where its connection stands and it did not get End before;
-/// after them it sends a running image to its end. Answers whether it got End so far.
-pub(crate) fn serve_spin<N: Net>(
-    alloc: Global,
-    net: &mut N,
-    spin: &mut SpinServer,
-    shelf: &mut ImageShelf,
-    into: &mut [u8],
-    cut: bool,
-    ended: bool,
-) -> Result<bool, DemoError>
-    requires { 0 < length into.old }
-    ensures served { IfOk result (λ ends. (s : Setting) (base : List Call) (now : Scene) → SpinServes s base (N.calls net.old) spin.old [] ended now
-        → now.spin_cut ≡ cut → KeepsShelf shelf.old (messages s now.turn) (advertised s now.turn)
-        → (answers : List TakenSaid) × AreTaken answers (ends || cut) × SpinServes s base (N.calls net.new) spin.new answers ends now) }
-    ensures shelf { shelf.new ≡ shelf.old }
-    ensures room { length into.new ≡ length into.old }
-    ensures fault { IfErr result (λ error. error ≡ errors.NetFault → Rose (N.faults net.old) (N.faults net.new)) }
-    ensures later { N.faults net.old ≤ N.faults net.new }
-{
-    if cut || ended {
-        return Ok(ended);
-    }
-    'takes: for index in 0..100u32 {
-        match serve_one(alloc, net, spin, shelf, into, index == 99)? {
-            NetTaken::Got(_) => {}
-            NetTaken::End => return Ok(true),
-            NetTaken::Quiet | NetTaken::Failed => return Ok(false),
+    ghost serves = { λ spin s base calls answers ended now. SpinServes s base calls spin answers ended now };
+
+    ghost shows = { λ shelf s now. KeepsShelf shelf (messages s now.turn) (advertised s now.turn) };
+
+    ghost is_cut = { λ now. now.spin_cut };
+
+    // Where the turn's calls are over it sends a running image to its end.
+    fn serve_one<N: Net>(
+        &mut self,
+        alloc: Global,
+        net: &mut N,
+        shelf: &mut ImageShelf,
+        into: &mut [u8],
+        last: bool,
+    ) -> Result<NetTaken, DemoError> {
+        let taken = net.take(LinkEnd::SpinServer, into);
+        if let NetTaken::Failed = taken {
+            return Err(DemoError::NetFault);
         }
+        let mut said = Vec::new(alloc);
+        answer(self, shelf, taken, into, last, &mut said)?;
+        put_whole(net, LinkEnd::SpinServer, &said)?;
+        Ok(taken)
     }
-    Ok(false)
 }
 
 // It is told of a sequence that was advertised, where its connection stands.

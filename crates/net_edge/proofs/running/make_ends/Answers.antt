@@ -7,19 +7,21 @@ pub returns-clause-has : goal.returns-clause-has
 returns-clause-has c = record {
   proxy = c.in_ok-proxy.ensures;
   spin = c.in_ok-spin.ensures;
-  gap_link = record { made = c.in_ok-gap_link.ensures.setup; stands = c.in_ok-gap_link.ensures.stands };
-  spin_link = record { made = c.in_ok-spin_link.ensures.setup; stands = c.in_ok-spin_link.ensures.stands };
   client = record { tracks = c.in_ok-client.ensures.tracks; keeps = λ V bytes h. c.in_ok-client.ensures.keeps V };
-  grp_cut_is = refl;
-  spin_cut_is = refl;
-  grp_ended_is = refl;
-  spin_ended_is = refl;
-  grp_client_ended = λ e. e;
-  spin_client_ended = λ e. e;
-  grp_client_put = refl;
-  grp_server_put = refl;
-  spin_client_put = refl;
-  spin_server_put = refl;
+  gap_link = record {
+    has = record { made = c.in_ok-gap_link.ensures.setup; stands = c.in_ok-gap_link.ensures.stands };
+    cut_is = refl;
+    ended = λ e. e;
+    put_is = refl;
+  };
+  spin_link = record {
+    has = record { made = c.in_ok-spin_link.ensures.setup; stands = c.in_ok-spin_link.ensures.stands };
+    cut_is = refl;
+    ended = λ e. e;
+    put_is = refl;
+  };
+  grp_server = record { ended_is = refl; put_is = refl };
+  spin_server = record { ended_is = refl; put_is = refl };
   replayed = refl;
 }
 

@@ -5,7 +5,7 @@ use Rattle.net_edge.proofs.ends.Ends.tick.Goals as goal
 
 pub returns-clause-ticked : goal.returns-clause-ticked
 returns-clause-ticked g c = λ s base now has number plays.
-    tick_is s base _ _ _ _ _ _ _ _ c.args.self.now _ c.args.sequence c.tell_spin.new.spin c.tick_gap_link.new.link c.tick_spin_link.new.link c.tick_gap_link.new.client c.tick_spin_link.new.client
+    tick_is s base _ _ _ _ _ _ _ _ c.args.self.now _ c.args.sequence c.tell_spin.new.spin c.tick_link.new.link c.tick_link-2.new.link c.tick_link.new.client c.tick_link-2.new.client
     c.in_ok-grp_cut.grp_cut c.in_ok-spin_cut.spin_cut c.tick-ask.result now has number plays
     (λ k n. c.in_ok-tell_spin.ensures.acts s base k n)
     (λ k spent n. c.in_ok-tick_proxy.ensures.acts s base k spent n)
@@ -19,6 +19,6 @@ returns-clause-ticked g c = λ s base now has number plays.
         keeps = λ V bytes h. c.tick-ask.ensures.keeps V (client.keeps V bytes h.1);
       },
     ))
-    (λ k n. c.in_ok-ask_proxy.ensures.acts s base k n)
-    (λ k n. c.in_ok-ask_spin.ensures.acts s base k n)
+    (λ k n. c.in_ok-ask_link.ensures.acts s base k n)
+    (λ k n. c.in_ok-ask_link-2.ensures.acts s base k n)
     refl refl refl refl

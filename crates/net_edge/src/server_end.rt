@@ -1,0 +1,81 @@
+//! The servers' two ends as one: a turn's calls of `take` at the proxy's end, and at that of the
+//! Spin Server.
+
+ghost use Rattle.std.specs.Prelude.{◌≡◌, ◌≤◌, ◌<◌, Bool, false, true, ◌||◌, ◌&&◌, not, List, [], ◌∷◌, length, Option, IfOk, IfErr};
+ghost use Rattle.pitch_io.specs.Causes.{Rose};
+ghost use Rattle.pitch_io.specs.Nets.{Call};
+ghost use Rattle.pitch_io.specs.declared.net.NetTaken.{NetTaken as TakenSaid};
+ghost use Rattle.net_edge.specs.declared.error.DemoError.TheVariants as errors;
+ghost use Rattle.net_edge.specs.Acting.{is_open};
+ghost use Rattle.net_edge.specs.Due.{Setting};
+ghost use Rattle.net_edge.specs.Playing.{AreTaken};
+ghost use Rattle.net_edge.specs.Scene.{Scene, is_got, is_end};
+
+use crate::error::DemoError;
+use crate::lines::MOST_CALLS;
+use pitch_io::{Net, NetTaken};
+use std::alloc::Global;
+
+/// A server at its end of a connection.
+pub(crate) trait ServerEnd {
+    /// Where it looks up what is asked of it.
+    type Store;
+
+    /// It took what came in a turn, and what it said by that was put and sent.
+    ghost serves: { Self → Setting → List Call → Option (List Call) → List TakenSaid → Bool → Scene → Type 0 };
+
+    /// The store is that of a scene's turn.
+    ghost shows: { Self.Store → Setting → Scene → Type 0 };
+
+    /// Whether its connection was cut.
+    ghost is_cut: { Scene → Bool };
+
+    /// One call of `take`, which may be the turn's last; what comes is served.
+    fn serve_one<N: Net>(
+        &mut self,
+        alloc: Global,
+        net: &mut N,
+        store: &mut Self::Store,
+        into: &mut [u8],
+        last: bool,
+    ) -> Result<NetTaken, DemoError>
+        requires { 0 < length into.old }
+        ensures served { IfOk result (λ answer. (s : Setting) (base : List Call) (answers : List TakenSaid) (now : Scene) → serves self.old s base (N.calls net.old) answers false now → is_cut now ≡ false → shows store.old s now
+            → is_open answers ≡ true → is_open (answer ∷ answers) ≡ (is_got answer && not last) → serves self.new s base (N.calls net.new) (answer ∷ answers) (is_end answer) now) }
+        ensures store { store.new ≡ store.old }
+        ensures room { length into.new ≡ length into.old }
+        ensures fault { IfErr result (λ error. error ≡ errors.NetFault → Rose (N.faults net.old) (N.faults net.new)) }
+        ensures later { N.faults net.old ≤ N.faults net.new };
+}
+
+/// A turn's calls of `take` at a server's end, where its connection stands and it did not get End
+/// before. Answers whether it got End so far.
+pub(crate) fn serve_end<N: Net, E: ServerEnd>(
+    alloc: Global,
+    net: &mut N,
+    server: &mut E,
+    store: &mut E::Store,
+    into: &mut [u8],
+    cut: bool,
+    ended: bool,
+) -> Result<bool, DemoError>
+    requires { 0 < length into.old }
+    ensures served { IfOk result (λ ends. (s : Setting) (base : List Call) (now : Scene) → E.serves server.old s base (N.calls net.old) [] ended now → E.is_cut now ≡ cut → E.shows store.old s now
+        → (answers : List TakenSaid) × AreTaken answers (ends || cut) × E.serves server.new s base (N.calls net.new) answers ends now) }
+    ensures store { store.new ≡ store.old }
+    ensures room { length into.new ≡ length into.old }
+    ensures fault { IfErr result (λ error. error ≡ errors.NetFault → Rose (N.faults net.old) (N.faults net.new)) }
+    ensures later { N.faults net.old ≤ N.faults net.new }
+{
+    if cut || ended {
+        return Ok(ended);
+    }
+    'takes: for index in 0..MOST_CALLS {
+        match server.serve_one(alloc, net, store, into, index == MOST_CALLS - 1)? {
+            NetTaken::Got(_) => {}
+            NetTaken::End => return Ok(true),
+            NetTaken::Quiet | NetTaken::Failed => return Ok(false),
+        }
+    }
+    Ok(false)
+}
