@@ -1,5 +1,5 @@
 -- A client at its end.
-use Rattle.std.proofs.Common.{◌≡◌, ℕ, ◌≤◌, true, false, List, ◌∷◌, length, Option, Some, refl, sym, ap, ◌∙◌, subst}
+use Rattle.std.proofs.Common.{◌≡◌, ℕ, ◌≤◌, true, false, List, ◌∷◌, length, Option, Some, refl, subst}
 use Rattle.pitch_fields.specs.Limits.{last_sequence}
 use Rattle.pitch_model.specs.History.{Entry, Raw, Ticked, adds, can_promise}
 use Rattle.pitch_model.specs.Honest.{Honest}
@@ -10,9 +10,9 @@ use Rattle.pitch_model.specs.declared.ask.Ask.TheVariants.{Spin}
 use Rattle.client_core.specs.Tracks.{Tracks, Keeps}
 use Rattle.client_core.specs.declared.client.UnitClient.{UnitClient}
 use Rattle.drill_client.specs.Ending.{AsksForAll, IsAtEnd}
-use Rattle.drill_client.specs.Following.{Follows, IsImageOf, imaged_whole}
+use Rattle.drill_client.specs.Following.{Follows, imaged_whole}
 use Rattle.drill_client.specs.Told.{is_behind, told_all}
-use Rattle.drill_client.proofs.Ends.{told_honest, top_told, told_current, told_status, told_below, told_ask, whole_honest, whole_reach, whole_status}
+use Rattle.drill_client.proofs.Ends.{told_honest, top_told, told_current, told_status, told_below, whole_honest, whole_reach, whole_status}
 
 -- it was told of all, and is not behind
 pub at_current : (client : UnitClient) (H : ℕ) (V : List Raw) (E : List Entry) → Honest image V E → Tracks client H (told_all (length V) E) → Keeps client V → is_behind (status_of H (told_all (length V) E)) ≡ false → IsAtEnd client H V

@@ -1,16 +1,14 @@
 -- A history at its end.
-use Rattle.std.proofs.Common.{◌≡◌, ◌≢◌, ℕ, suc, ◌+◌, ◌-◌, ◌<◌, ◌≤◌, max, Bool, true, false, cond, ◌==◌, ◌&&◌, ◌||◌, nat_lt, List, [], ◌∷◌, length, take, Option, None, Some, unwrap_or, refl, sym, ap, ◌∙◌, subst, arith}
+use Rattle.std.proofs.Common.{◌≡◌, ◌≢◌, ℕ, ◌+◌, ◌-◌, ◌<◌, ◌≤◌, max, Bool, true, false, cond, ◌==◌, ◌&&◌, ◌||◌, nat_lt, List, [], ◌∷◌, length, take, Option, None, Some, unwrap_or, refl, sym, ap, ◌∙◌, subst, arith}
 use Rattle.std.proofs.lemmas.Bool.{cond-true, cond-false, eqb-true}
 use Rattle.std.proofs.lemmas.Bool.Decides.{nat_tests}
-use Rattle.pitch_fields.specs.Limits.{last_sequence}
-use Rattle.pitch_model.specs.History.{Entry, Raw, Spinning, Running, Asked, NoSpin, spin_of, spin_step, spin_more, spin_replied, adds, can_promise, image_finished, SpinReply, ImageMessages, SpinFinished}
+use Rattle.pitch_model.specs.History.{Entry, Raw, Spinning, Running, Asked, NoSpin, spin_of, spin_more, spin_replied, adds, can_promise, image_finished, SpinReply, ImageMessages, SpinFinished}
 use Rattle.pitch_model.specs.Honest.{Honest, AreImages}
 use Rattle.pitch_model.specs.Image.{image}
 use Rattle.pitch_model.specs.Reach.{reach, sequences}
 use Rattle.pitch_model.specs.Status.{raised, top_of, status_at, status_of}
 use Rattle.pitch_model.specs.Asking.{ask_of, ask_with, spin_or_gap, asks_spin, wants, gap_or_none}
 use Rattle.pitch_model.specs.declared.ask.Ask.TheVariants.{Spin}
-use Rattle.pitch_model.specs.declared.status.Status.{Status}
 use Rattle.pitch_model.specs.declared.status.Status.TheVariants.{Current, Behind}
 use Rattle.pitch_model.specs.Steps.{Drains}
 use Rattle.pitch_model.proofs.Draining.{taken_drains}

@@ -1,5 +1,5 @@
 -- What a client hears that goes on following.
-use Rattle.std.proofs.Common.{◌≡◌, ℕ, zero, suc, ◌+◌, ◌==◌, ◌&&◌, ◌≤◌, ◌<◌, Bool, true, false, List, [], ◌∷◌, ◌++◌, length, take, drop, Option, Some, None, Err, refl, sym, ap, ◌∙◌, subst, arith}
+use Rattle.std.proofs.Common.{◌≡◌, ℕ, zero, suc, ◌+◌, ◌==◌, ◌&&◌, ◌≤◌, true, false, List, [], ◌∷◌, ◌++◌, length, take, drop, Option, Some, None, Err, refl, sym, ap, ◌∙◌, subst, arith}
 use Rattle.std.proofs.lemmas.List.{take_more}
 use Rattle.std.proofs.lemmas.Option.{get_or_from_slice_get, slice_get_within}
 use Rattle.std.proofs.lemmas.Bool.{cond-true, cond_both}
@@ -20,7 +20,7 @@ use Rattle.unit_packets.proofs.Streams.{leads}
 use Rattle.client_core.specs.declared.client.UnitClient.{UnitClient}
 use Rattle.pitch_model.specs.Datagrams.{IsVenueBlock, IsPiece, heard_blocks}
 use Rattle.pitch_model.specs.Heard.{heard_block, heard_messages, heard_sequenced}
-use Rattle.pitch_model.specs.History.{Entry, Raw, Spinning, NoSpin, Asked, Running, Ticked, Message, SpinReply, ImageMessages, SpinFinished, spin_of, spin_asked, spin_more, spin_replied, spin_finished, image_finished, can_promise, adds}
+use Rattle.pitch_model.specs.History.{Entry, Raw, Spinning, NoSpin, Asked, Running, Ticked, Message, SpinReply, spin_of, spin_asked, spin_more, spin_replied, spin_finished, image_finished, can_promise, adds}
 use Rattle.pitch_model.specs.Honest.{Honest, AreVenues, AreImages, message_at}
 use Rattle.pitch_model.specs.Image.{image}
 use Rattle.drill_client.specs.Following.{NoImageRuns, Follows, heard_datagrams, ImageParts, IsImageOf, imaged_whole}

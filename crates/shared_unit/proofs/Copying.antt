@@ -8,7 +8,7 @@ use Rattle.std.specs.Option.{IfSome}
 use Rattle.pitch_model.specs.Advertising.{last_ten}
 use Rattle.pitch_model.specs.History.{adds}
 use Rattle.pitch_model.specs.Image.{image}
-use Rattle.spin_server.specs.Served.{Served, is_served, imaged, image_given}
+use Rattle.spin_server.specs.Served.{Served, is_served}
 use Rattle.spin_server.specs.declared.lookup.Imaged.TheVariants.{Image, NotAdvertised}
 use Rattle.shared_unit.specs.declared.published.Picture.{Picture}
 use Rattle.shared_unit.specs.Answers.{AnswersImage}

@@ -1,12 +1,12 @@
 -- What a copy keeps after an operation more.
-use Rattle.std.proofs.Common.{◌≡◌, ℕ, zero, suc, ◌+◌, ◌-◌, ◌<◌, ◌≤◌, ◌⊎◌, List, [], ◌∷◌, ◌++◌, length, drop, map, take, refl, ap, sym, ◌∙◌, subst, ⊎_elim, arith, length-append, cond, true, false, nat_eq, Option, Some, None, IfSome}
+use Rattle.std.proofs.Common.{◌≡◌, ℕ, zero, suc, ◌+◌, ◌-◌, ◌≤◌, ◌⊎◌, List, [], ◌∷◌, ◌++◌, length, drop, map, take, ap, sym, ◌∙◌, subst, ⊎_elim, arith, length-append, cond, true, false, nat_eq, Option, Some, None, IfSome}
 use Rattle.std.proofs.lemmas.List.{append-nil, map-append, length-map, drop-append-le, drop-drop, length-drop, take-append-le, drop-map}
 use Rattle.std.proofs.lemmas.Bool.{cond-true, cond-false}
 use Rattle.std.specs.List.{AllByRecursion}
 use Rattle.std.specs.Set.{is_member}
 use mathlib.Core.List.{IsPrefix}
 use Rattle.circular_buffer.specs.Buffer.{Buffer, keep_last}
-use Rattle.gap_store.specs.Look.{View, Store, store_of}
+use Rattle.gap_store.specs.Look.{Store, store_of}
 use Rattle.pitch_model.specs.Advertising.{Operation, Accept, Advertise, accepted_by, advertised_by, with_sequence, last_ten}
 use Rattle.pitch_model.specs.History.{adds}
 use Rattle.pitch_model.specs.Book.{book_after}
@@ -18,7 +18,7 @@ use Rattle.shared_unit.specs.declared.published.Shelves.{Shelves}
 use Rattle.shared_unit.specs.declared.published.What.{What}
 use Rattle.shared_unit.specs.declared.published.What.TheVariants as what
 use Rattle.shared_unit.specs.Histories.{kept_at, then_done}
-use Rattle.shared_unit.specs.Stored.{IsPicture, SamePicture, EndsWith, Follows, HasRoomFor, HasSequences, StandFor, TakesIn, operation_of, sequence_of, served_with, raws_in}
+use Rattle.shared_unit.specs.Stored.{IsPicture, SamePicture, EndsWith, Follows, HasRoomFor, StandFor, TakesIn, operation_of, sequence_of, served_with, raws_in}
 use Rattle.shared_unit.proofs.Fronts.{prefix_shorter, prefix_whole, prefix_length}
 
 -- ---- The last of a list

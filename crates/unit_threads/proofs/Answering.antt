@@ -1,12 +1,12 @@
 -- What the client of a side is answered.
-use Rattle.std.proofs.Common.{◌≡◌, ℕ, zero, suc, ◌+◌, ◌-◌, ◌≤◌, ◌<◌, ◌==◌, Bool, true, false, ◌||◌, List, [], ◌∷◌, ◌++◌, length, take, drop, cond, nat_lt, nat_eq, Some, None, Option, inl, inr, ◌⊎◌, refl, sym, ap, ◌∙◌, subst, arith}
+use Rattle.std.proofs.Common.{◌≡◌, ℕ, zero, suc, ◌+◌, ◌-◌, ◌≤◌, ◌<◌, ◌==◌, Bool, true, false, ◌||◌, List, [], ◌∷◌, ◌++◌, length, take, drop, cond, nat_lt, nat_eq, None, Option, inl, inr, ◌⊎◌, refl, sym, ap, ◌∙◌, subst, arith}
 use Rattle.std.proofs.lemmas.Bool.{cases_lt, cond-true, cond-false}
 use Rattle.std.proofs.lemmas.Bool.Decides.{nat_tests}
 use Rattle.std.proofs.lemmas.List.{length-append, length-take, length-drop}
 use Rattle.std.specs.List.{AllByRecursion, list_any}
 use Rattle.std.specs.Set.{is_member}
 use Rattle.unit_packets.specs.Packing.{IsPacking, packed}
-use Rattle.pitch_model.specs.Advertising.{Operation, Advertise, accepted_by, advertised_by, last_ten, newest_of}
+use Rattle.pitch_model.specs.Advertising.{Operation, accepted_by, advertised_by, last_ten}
 use Rattle.pitch_model.specs.Datagrams.{IsPiece}
 use Rattle.pitch_model.specs.History.{Entry, Raw, Ticked, adds}
 use Rattle.pitch_model.specs.Honest.{AreVenues}
@@ -16,7 +16,7 @@ use Rattle.pitch_model.proofs.Growing.{image_more}
 use Rattle.gap_store.specs.Look.{View, Store, store_of, look, given, slice_of, oldest, OneView, PacksAt}
 use Rattle.gap_store.specs.declared.found.Found.{Found}
 use Rattle.gap_store.specs.declared.found.Found.TheVariants.{Kept, Ahead, NotKept}
-use Rattle.spin_server.specs.Served.{Served, ServedLater, LooksUpImage, is_served, imaged, image_given}
+use Rattle.spin_server.specs.Served.{Served, LooksUpImage, is_served, imaged, image_given}
 use Rattle.spin_server.specs.Shelves.{Shelf}
 use Rattle.spin_server.specs.Stands.{ShelfStands, ShelfShows, OneServed, seen_of}
 use Rattle.spin_server.specs.declared.lookup.Imaged.{Imaged}
@@ -25,7 +25,7 @@ use Rattle.pitch_model.specs.Asking.{ask_of}
 use Rattle.pitch_model.specs.declared.ask.Ask.{Ask}
 use Rattle.client_core.specs.declared.client.UnitClient.{UnitClient}
 use Rattle.drill_client.specs.Following.{Follows, FollowsOn, GoesOn, IsImageOf}
-use Rattle.unit_threads.specs.Turns.{KeepsLast, HasImages}
+use Rattle.unit_threads.specs.Turns.{KeepsLast}
 
 -- ---- Gaps
 abbrev view_of : List Raw → View

@@ -2,7 +2,6 @@ use Rattle.std.proofs.Common.{◌≡◌, ℕ, ◌++◌, List, length, take, ap, 
 use Rattle.std.proofs.lemmas.Result.{on_ok_weaker}
 use Rattle.std.specs.FinMap.{len}
 use Rattle.pitch_model.specs.Book.{Book, book_after}
-use Rattle.pitch_model.specs.History.{Raw}
 use Rattle.pitch_model.specs.Levels.{shares}
 use Rattle.pitch_model.specs.declared.status.Status.TheVariants.{Current}
 use Rattle.storm_plan.specs.StormText.{unit_line}

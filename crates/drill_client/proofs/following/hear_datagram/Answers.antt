@@ -1,4 +1,4 @@
-use Rattle.std.proofs.Common.{◌≡◌, List, ℕ, drop, sym, ap, ◌∙◌}
+use Rattle.std.proofs.Common.{◌≡◌, drop, sym, ap, ◌∙◌}
 use Rattle.unit_packets.specs.Lending.{header_for}
 use Rattle.unit_packets.specs.declared.header.Header.{Header}
 use Rattle.drill_client.proofs.Going.{empty_by, heard_to_none, heard_to_more, heard_to_stop, heard_to_end}

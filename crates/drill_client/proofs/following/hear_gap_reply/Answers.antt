@@ -1,4 +1,4 @@
-use Rattle.std.proofs.Common.{Bool, List, ◌∷◌, subst}
+use Rattle.std.proofs.Common.{Bool, ◌∷◌, subst}
 use Rattle.pitch_model.specs.History.{GapReply}
 use Rattle.pitch_model.specs.Image.{image}
 use Rattle.client_core.specs.Tracks.{Tracks}

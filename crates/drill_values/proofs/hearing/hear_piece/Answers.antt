@@ -1,4 +1,4 @@
-use Rattle.std.proofs.Common.{List, ℕ, sym, ap, subst}
+use Rattle.std.proofs.Common.{List, ℕ, sym, subst}
 use Rattle.unit_packets.specs.Cutting.{blocks_of}
 use Rattle.pitch_model.specs.Datagrams.{IsPiece, heard_blocks}
 use Rattle.pitch_model.specs.History.{Raw}

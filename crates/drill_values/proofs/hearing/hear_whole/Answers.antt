@@ -1,4 +1,4 @@
-use Rattle.std.proofs.Common.{◌≡◌, List, sym, ap, subst}
+use Rattle.std.proofs.Common.{◌≡◌, List, sym, subst}
 use Rattle.pitch_model.specs.History.{Raw}
 use Rattle.venue_core.specs.Plan.{plan}
 use Rattle.drill_client.specs.Following.{Follows, ImageParts, IsImageOf, imaged_whole}

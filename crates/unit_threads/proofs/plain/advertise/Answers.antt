@@ -1,6 +1,6 @@
 use Rattle.std.proofs.Common.{◌≤◌, ◌++◌, length, arith}
 use Rattle.std.proofs.lemmas.List.{length-append}
-use Rattle.unit_threads.proofs.Playing.{images_advertised, shelf_count}
+use Rattle.unit_threads.proofs.Playing.{shelf_count}
 use Rattle.unit_threads.proofs.plain.advertise.Goals as goal
 
 pub returns-clause-goes : goal.returns-clause-goes

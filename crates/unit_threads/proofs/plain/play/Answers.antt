@@ -6,7 +6,7 @@ use Rattle.pitch_model.specs.History.{Raw}
 use Rattle.unit_packets.specs.Packing.{bytes_in}
 use Rattle.venue_core.specs.Plan.{plan}
 use Rattle.drill_client.specs.Following.{FollowsOn}
-use Rattle.unit_threads.specs.Turns.{Serves, HasImages}
+use Rattle.unit_threads.specs.Turns.{Serves}
 use Rattle.unit_threads.specs.declared.plain.Side.{Side}
 use Rattle.unit_threads.proofs.Playing.{plan_grows}
 use Rattle.unit_threads.proofs.plain.play.Goals as goal

@@ -1,4 +1,4 @@
-use Rattle.std.proofs.Common.{◌≡◌, ◌≤◌, ◌<◌, ap, sym, subst, arith, length, List}
+use Rattle.std.proofs.Common.{◌≤◌, ◌<◌, ap, subst, arith, length, List}
 use mathlib.Core.List.{IsPrefix}
 use Rattle.pitch_model.specs.Advertising.{Operation}
 use Rattle.shared_unit.proofs.Fronts.{prefix_shorter}

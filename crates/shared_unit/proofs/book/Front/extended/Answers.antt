@@ -1,5 +1,4 @@
-use Rattle.std.proofs.Common.{◌≡◌, sym, ◌∙◌, ap, subst, ◌++◌, ◌∷◌, [], List}
-use Rattle.pitch_model.specs.Advertising.{Operation}
+use Rattle.std.proofs.Common.{sym, ◌∙◌, ap, ◌++◌, ◌∷◌, []}
 use Rattle.shared_unit.specs.Histories.{IsLegal}
 use Rattle.shared_unit.specs.Stored.{operation_of}
 use Rattle.shared_unit.proofs.Adding.{adds_moves}

@@ -1,4 +1,4 @@
-use Rattle.std.proofs.Common.{◌≡◌, ◌∙◌, List, ap, sym, subst}
+use Rattle.std.proofs.Common.{◌∙◌, List, ap, sym, subst}
 use Rattle.pitch_model.specs.Advertising.{Operation, advertised_by, last_ten}
 use Rattle.shared_unit.specs.Stored.{Follows}
 use Rattle.shared_unit.proofs.Growing.{served_grows}

@@ -1,4 +1,4 @@
-use Rattle.std.proofs.Common.{◌≡◌, ◌≤◌, ◌+◌, ◌-◌, List, length, subst, arith}
+use Rattle.std.proofs.Common.{◌≡◌, ◌+◌, List, length, subst, arith}
 use Rattle.pitch_model.specs.Advertising.{Operation, accepted_by}
 use Rattle.venue_core.specs.Stands.{Stands}
 use Rattle.shared_unit.proofs.writer.Writer.accepted.Goals as goal

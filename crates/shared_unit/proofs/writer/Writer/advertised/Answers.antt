@@ -1,4 +1,4 @@
-use Rattle.std.proofs.Common.{◌≡◌, ◌∙◌, List, length, nat_eq, ap, sym, subst, Some, false}
+use Rattle.std.proofs.Common.{◌≡◌, ◌∙◌, List, length, nat_eq, ap, sym, subst, Some}
 use Rattle.std.specs.Set.{is_member}
 use Rattle.pitch_model.specs.Advertising.{Operation, accepted_by, advertised_by, newest_of}
 use Rattle.pitch_model.specs.Book.{book_after}

@@ -1,5 +1,4 @@
-use Rattle.std.proofs.Common.{◌≡◌, ℕ, ◌-◌, subst, rules}
-use Rattle.pitch_model.specs.History.{Raw}
+use Rattle.std.proofs.Common.{ℕ, ◌-◌, subst, rules}
 use Rattle.venue_core.specs.Plan.{plan}
 use Rattle.venue_core.specs.Stands.{Stands}
 use Rattle.unit_threads.proofs.plain.Side.send.Goals as goal
