@@ -1,8 +1,8 @@
 -- What a service hands out is of its run.
-use Rattle.std.proofs.Common.{◌≡◌, ℕ, zero, suc, ◌+◌, ◌-◌, ◌≤◌, ◌==◌, Bool, true, false, ◌||◌, List, [], ◌∷◌, ◌++◌, length, take, drop, cond, nat_eq, Some, None, Option, refl, sym, ap, ◌∙◌, subst, arith, append_assoc}
+use Rattle.std.proofs.Common.{◌≡◌, ℕ, ◌+◌, ◌-◌, ◌≤◌, Bool, true, false, ◌||◌, List, [], ◌∷◌, ◌++◌, length, drop, cond, nat_eq, Some, refl, sym, ap, ◌∙◌, subst, arith, append_assoc}
 use Rattle.std.proofs.lemmas.Bool.{cond-true, cond-false}
-use Rattle.std.proofs.lemmas.List.{append-nil, length-append, length-take, length-drop}
-use Rattle.std.specs.List.{AllByRecursion, list_any}
+use Rattle.std.proofs.lemmas.List.{append-nil, length-take, length-drop}
+use Rattle.std.specs.List.{AllByRecursion}
 use Rattle.std.specs.Set.{is_member}
 use mathlib.Core.List.{IsPrefix}
 use Rattle.unit_packets.specs.Packing.{IsPacking, packed}
@@ -15,7 +15,7 @@ use Rattle.pitch_model.proofs.Datagrams.{packing_pieces, venues_slice}
 use Rattle.gap_store.specs.Look.{View, look, given, slice_of, PacksRange}
 use Rattle.gap_store.specs.declared.found.Found.{Found}
 use Rattle.gap_store.specs.declared.found.Found.TheVariants.{Kept}
-use Rattle.spin_server.specs.Served.{Served, is_served, imaged}
+use Rattle.spin_server.specs.Served.{is_served}
 use Rattle.spin_server.specs.declared.lookup.Imaged.{Imaged}
 use Rattle.spin_server.specs.declared.lookup.Imaged.TheVariants as answers
 use Rattle.shared_unit.specs.Answers.{AnswersImage}

@@ -69,11 +69,41 @@ fn finish<J: Naming, R: DrillRun + Run, H: Wait + Drop>(
     requires follows { IfOk followed (λ client. FollowsOn client drill_kept (plan R.number R.unit R.count)) }
     ensures { IfOk result (λ client. IsAtEnd client drill_kept (plan R.number R.unit R.count)) }
 {
-    let mut writer = published?;
-    let mut server = served?;
-    let mut client = followed?;
-    close(alloc, course, &mut writer, &mut server, &mut client)?;
-    Ok(client)
+    match (published, served, followed) {
+        (Ok(writer), Ok(server), Ok(client)) => finish_well(alloc, course, writer, server, client),
+        (published, served, followed) => {
+            drop(published);
+            drop(served);
+            drop(followed);
+            Err(OutOfMemory)
+        }
+    }
+}
+
+// The client takes what it lacks. What is let go goes by a call, which is cheaper to prove than a
+// drop at each return.
+fn finish_well<J: Naming, R: DrillRun + Run, H: Wait + Drop>(
+    alloc: Global,
+    course: &Course<R>,
+    mut writer: Writer<J, R, H>,
+    mut server: Server<J, R>,
+    mut client: UnitClient,
+) -> Result<UnitClient, OutOfMemory>
+    requires accepted { HasAccepted writer course.now.number course.now.unit course.now.count (2 * course.now.count) }
+    requires advertised { HasAdvertised writer course.now.count }
+    requires follows { FollowsOn client drill_kept (plan R.number R.unit R.count) }
+    ensures { IfOk result (λ client. IsAtEnd client drill_kept (plan R.number R.unit R.count)) }
+{
+    let closed = close(alloc, course, &mut writer, &mut server, &mut client);
+    drop(writer);
+    drop(server);
+    match closed {
+        Ok(()) => Ok(client),
+        Err(error) => {
+            drop(client);
+            Err(error)
+        }
+    }
 }
 
 // The three parties run beside one another until all have ended, and the client takes what it

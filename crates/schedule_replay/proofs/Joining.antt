@@ -1,12 +1,12 @@
 -- The texts and the worlds of units, put together again.
-use Rattle.std.proofs.Common.{◌≡◌, ◌≢◌, ℕ, zero, suc, ◌+◌, ◌<◌, ◌≤◌, inl, inr, Bool, true, false, cond, true≢false, ◌&&◌, eqb, List, [], ◌∷◌, ◌++◌, length, take, drop, reverse, Option, Some, None, Result, Ok, Err, IfSome, IfOk, refl, sym, ap, ◌∙◌, arith, append_assoc, subst}
+use Rattle.std.proofs.Common.{◌≡◌, ◌≢◌, ℕ, zero, suc, ◌+◌, ◌<◌, ◌≤◌, inl, inr, Bool, true, false, cond, true≢false, ◌&&◌, eqb, List, [], ◌∷◌, ◌++◌, length, take, drop, reverse, Option, Some, None, Result, Ok, Err, IfSome, refl, sym, ap, ◌∙◌, arith, append_assoc, subst}
 use Rattle.std.proofs.Math.ListN.{set, length-set}
 use Rattle.std.specs.List.{AllByRecursion, list_all, slice_get}
 use Rattle.std.proofs.lemmas.Bool.{cases_Bool, cases_eq, cases_lt, eq-eqb, ne_eqb}
 use Rattle.std.proofs.lemmas.Grind.{reverse_onto}
 use Rattle.std.proofs.lemmas.List.{append-nil, drop-drop, drop_all}
 use Rattle.std.proofs.lemmas.List.Elements.{filter-append}
-use Rattle.std.proofs.lemmas.Option.{slice_get_past, slice_get_within}
+use Rattle.std.proofs.lemmas.Option.{slice_get_past}
 use Rattle.feed_lines.specs.Texts.{texts_after}
 use Rattle.feed_lines.proofs.Texts.{texts_none, texts_first}
 use Rattle.pitch_text.specs.declared.verb.ScheduleEntry.{ScheduleEntry}
@@ -18,14 +18,13 @@ use Rattle.pitch_text.specs.ScheduleGrammar.{entry, schedule_entry}
 use Rattle.world_model.specs.Stands.{WorldStands}
 use Rattle.world_model.specs.declared.world.World.{World}
 use Rattle.schedule_replay.specs.Apart.{own, first_piece}
-use Rattle.schedule_replay.specs.Replay.{verbs_of, limits_of, replay_line, replay_text, replay_on, replay_of, schedule_of}
-use Rattle.schedule_replay.specs.Runs.{entries_among, without_fault, AreOf, ArePartsOf, part_entries, part_texts, cut, Ran, left_pieces, pieces_on, pieces_at, joined, IsRunAt, AreRunsAt, is_filled, has_world}
+use Rattle.schedule_replay.specs.Replay.{verbs_of, limits_of, replay_line, replay_text, schedule_of}
+use Rattle.schedule_replay.specs.Runs.{entries_among, without_fault, AreOf, ArePartsOf, part_entries, part_texts, cut, Ran, left_pieces, pieces_on, pieces_at, joined, AreRunsAt, is_filled, has_world}
 use Rattle.schedule_replay.specs.Stretches.{Part, items_at, items_in, parts_of}
-use Rattle.schedule_replay.specs.Worlds.{IsNamed, IsPlace, ArePlaces, AddsWorlds, worlds_in}
+use Rattle.schedule_replay.specs.Worlds.{IsPlace, ArePlaces}
 use Rattle.schedule_replay.specs.declared.merging.Left.{Left}
 use Rattle.schedule_replay.specs.declared.stretches.Stretch.{Stretch}
 use Rattle.schedule_replay.specs.declared.units.Run.{Run}
-use Rattle.schedule_replay.proofs.Places.{all_worlds_are}
 use Rattle.schedule_replay.proofs.Reading.{said_all}
 use Rattle.schedule_replay.proofs.Splitting.{own_same, own_other, verbs_own, lines_stand_apart}
 
@@ -49,13 +48,16 @@ slice_set_other (x ∷ xs) (suc i) (suc j) y other = slice_set_other xs i j y (�
 some_one : {X : Type 0} (x y : X) → ◌≡◌ {A = Option X} (Some x) (Some y) → x ≡ y
 some_one x y h = cc
 
+-- what is left of a run that was not put together yet
+abbrev first_left : Run → Left
+first_left run = record { text = run.text; lengths = run.lengths; next = 0; at = 0 }
+
 -- a run at the place of its unit
-pub puts_run : (parts : List Part) (places : List (Option World)) (lefts : List Left) (run : Run) (left : Left) → run.unit < length places → run.unit < length lefts
-    → left.text.items ≡ run.text.items → left.lengths.items ≡ run.lengths.items → left.next ≡ 0 → left.at ≡ 0 → AreRunsAt parts places lefts → Ran parts run
-    → AreRunsAt parts (set places run.unit run.world) (set lefts run.unit left)
-puts_run parts places lefts run left low lower text lengths next at are ran = record {
+run_put : (parts : List Part) (places : List (Option World)) (lefts : List Left) (run : Run) → run.unit < length places → run.unit < length lefts → AreRunsAt parts places lefts → Ran parts run
+    → AreRunsAt parts (set places run.unit run.world) (set lefts run.unit (first_left run))
+run_put parts places lefts run low lower are ran = record {
   many = length-set places run.unit run.world ∙ are.many;
-  texts = length-set lefts run.unit left ∙ are.texts;
+  texts = length-set lefts run.unit (first_left run) ∙ are.texts;
   each = λ unit world there. elim (cases_eq run.unit unit) [
     | inl same ↦
         let here : slice_get (set places run.unit run.world) run.unit ≡ Some (Some world) = ap (slice_get (set places run.unit run.world)) same ∙ there in
@@ -63,16 +65,24 @@ puts_run parts places lefts run left low lower text lengths next at are ran = re
         record {
           are = subst (λ (u : ℕ). ArePartsOf u parts) same ran.are;
           done = subst (λ (w : Option World). IsPlace (reverse (part_entries unit parts)) unit w) its (subst (λ (u : ℕ). IsPlace (reverse (part_entries u parts)) u run.world) same ran.done);
-          texts = ap (λ (u : ℕ). pieces_on (slice_get (set lefts run.unit left) u)) (sym same) ∙ ap pieces_on (slice_set_same lefts run.unit left lower)
-              ∙ ap (λ (n : ℕ). cut (drop n left.lengths.items) (drop left.at left.text.items)) next ∙ ap (λ (n : ℕ). cut left.lengths.items (drop n left.text.items)) at
-              ∙ ap (λ (ns : List ℕ). cut ns left.text.items) lengths ∙ ap (cut run.lengths.items) text ∙ ran.texts ∙ ap (λ (u : ℕ). part_texts u [] parts) same;
+          texts = ap (λ (u : ℕ). pieces_on (slice_get (set lefts run.unit (first_left run)) u)) (sym same) ∙ ap pieces_on (slice_set_same lefts run.unit (first_left run) lower)
+              ∙ ran.texts ∙ ap (λ (u : ℕ). part_texts u [] parts) same;
         }
     | inr other ↦
         let was : slice_get places unit ≡ Some (Some world) = sym (slice_set_other places run.unit unit run.world other) ∙ there in
         let its = are.each unit world was in
-        record { are = its.are; done = its.done; texts = ap pieces_on (slice_set_other lefts run.unit unit left other) ∙ its.texts }
+        record { are = its.are; done = its.done; texts = ap pieces_on (slice_set_other lefts run.unit unit (first_left run) other) ∙ its.texts }
   ];
 }
+
+-- the same, where the place and what is put there come under names of their own
+pub puts_run : (parts : List Part) (places : List (Option World)) (lefts : List Left) (run : Run) (place : ℕ) (world : Option World) (left : Left) → place ≡ run.unit → world ≡ run.world → left ≡ record { text = run.text; lengths = run.lengths; next = 0; at = 0 }
+    → place < length places → place < length lefts → AreRunsAt parts places lefts → Ran parts run → AreRunsAt parts (set places place world) (set lefts place left)
+puts_run parts places lefts run place world left at is put low lower are ran =
+    subst (λ (p : ℕ). AreRunsAt parts (set places p world) (set lefts p left)) (sym at)
+    (subst (λ (w : Option World). AreRunsAt parts (set places run.unit w) (set lefts run.unit left)) (sym is)
+    (subst (λ (l : Left). AreRunsAt parts (set places run.unit run.world) (set lefts run.unit l)) (sym put)
+    (run_put parts places lefts run (omega (arith, at, low)) (omega (arith, at, lower)) are ran)))
 
 -- no runs yet
 pub puts_none : (parts : List Part) (places : List (Option World)) (lefts : List Left) → ArePlaces [] places → length lefts ≡ 65 → AreRunsAt parts places lefts

@@ -1,5 +1,5 @@
 -- Going over the lines of a schedule.
-use Rattle.std.proofs.Common.{◌≡◌, ℕ, List, [], ◌∷◌, ◌++◌, map, reverse, refl, sym, ap, ◌∙◌, subst, Option, Some, None, Result, Ok, Err, append_assoc}
+use Rattle.std.proofs.Common.{◌≡◌, ℕ, List, [], ◌∷◌, ◌++◌, map, reverse, refl, sym, ap, ◌∙◌, subst, Option, Result, Ok, Err, append_assoc}
 use Rattle.std.proofs.lemmas.List.{append-nil}
 use Rattle.feed_lines.proofs.Texts.{texts_none, texts_grown, reverse_more}
 use Rattle.pitch_text.specs.ScheduleGrammar.{entry, schedule_entry}

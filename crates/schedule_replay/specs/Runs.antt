@@ -1,5 +1,5 @@
 -- The units of a text run apart, and what they write put together again.
-use Rattle.std.specs.Prelude.{◌≡◌, ℕ, ◌+◌, ◌==◌, Bool, true, false, List, [], ◌∷◌, ◌++◌, length, take, drop, reverse, map, Option, None, Some, Result, Ok, Err, IfOk, IfSome, slice_get, if◌then◌else◌}
+use Rattle.std.specs.Prelude.{◌≡◌, ℕ, ◌+◌, ◌==◌, Bool, true, false, List, [], ◌∷◌, ◌++◌, length, take, drop, reverse, Option, None, Some, Result, Ok, Err, slice_get, if◌then◌else◌}
 use Rattle.std.specs.List.{AllByRecursion}
 use Rattle.feed_lines.specs.Texts.{texts_after}
 use Rattle.pitch_text.specs.declared.verb.ScheduleEntry.{ScheduleEntry}

@@ -13,8 +13,6 @@ mod merging;
 mod replaying;
 mod running;
 mod stretches;
-#[cfg(test)]
-mod tests;
 mod units;
 
 pub use crate::error::ReplayError;

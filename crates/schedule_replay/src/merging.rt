@@ -7,6 +7,7 @@ ghost use Rattle.schedule_replay.specs.Runs.{joined, left_pieces, pieces_at, has
 ghost use Rattle.schedule_replay.specs.Stretches.{Part};
 ghost use Rattle.schedule_replay.specs.Worlds.{ArePlaces};
 
+use crate::running::put;
 use crate::stretches::Stretch;
 use crate::units::{Run, Unrun};
 use pitch_fields::OutOfMemory;
@@ -27,21 +28,18 @@ fn put_run(places: &mut Vec<Option<World>>, lefts: &mut Vec<Left>, run: Run)
     ensures { (parts : List Part) → AreRunsAt parts places.old.items lefts.old.items → Ran parts run
         → AreRunsAt parts places.new.items lefts.new.items }
 {
-    let Run {
-        unit,
-        world,
-        text,
-        lengths,
-    } = run;
-    let place = usize::from(unit);
+    let place = usize::from(run.unit);
     if place < places.len() && place < lefts.len() {
-        places[place] = world;
-        lefts[place] = Left {
-            text,
-            lengths,
+        put(&mut places[place], run.world);
+        let left = Left {
+            text: run.text,
+            lengths: run.lengths,
             next: 0,
             at: 0,
         };
+        put(&mut lefts[place], left);
+    } else {
+        drop(run);
     }
 }
 

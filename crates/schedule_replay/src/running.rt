@@ -82,6 +82,14 @@ fn limits_at(verb: &Verb) -> Limits
     }
 }
 
+// Puts a value at a place. What stood there is dropped in this call, which is proved once for all
+// types: a function that drops a world itself, which may be there or not, takes a minute to prove.
+pub(crate) fn put<T: Drop>(place: &mut T, value: T)
+    ensures { place.new ≡ value }
+{
+    *place = value;
+}
+
 // Makes a unit's world, where it begins with this verb. A world is large, and a function pays at
 // each call for its own ones: so no line pays but a unit's first.
 fn make_world(
@@ -94,7 +102,8 @@ fn make_world(
     ensures ready { OnOk result (IsReady unit (limits_at verb.now) [] place.new) }
     ensures some { OnOk result (IsSome place.new) }
 {
-    *place = Some(World::make(alloc, unit, limits_at(verb))?);
+    let world = World::make(alloc, unit, limits_at(verb))?;
+    put(place, Some(world));
     Ok(())
 }
 

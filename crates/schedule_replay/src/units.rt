@@ -181,8 +181,14 @@ fn run_stretches(alloc: Global, text: &[u8], stretches: &[Stretch], unit: u8) ->
     ensures { IfOk result (λ run. Ran (parts_of 1 stretches.now text.now) run) }
 {
     let mut run = fresh_run(alloc, unit);
-    run_text_of(alloc, text, stretches, &mut run)?;
-    Ok(run)
+    match run_text_of(alloc, text, stretches, &mut run) {
+        Ok(()) => Ok(run),
+        Err(why) => {
+            // By a call, as in `put`.
+            drop(run);
+            Err(why)
+        }
+    }
 }
 
 // Runs a unit, and tells the gate of it.

@@ -1,4 +1,4 @@
-use Rattle.std.proofs.Common.{◌≡◌, ◌≤◌, ℕ, sym, subst, arith}
+use Rattle.std.proofs.Common.{◌≤◌, arith}
 use Rattle.venue_core.specs.Plan.{plan}
 use Rattle.drill_threads.proofs.client.follow.Goals as goal
 

@@ -1,4 +1,4 @@
-use Rattle.std.proofs.Common.{rules, ◌≡◌, List, ℕ, length, refl, sym, subst}
+use Rattle.std.proofs.Common.{rules, List, ℕ, length, refl, sym, subst}
 use Rattle.std.proofs.lemmas.Option.{slice_get_read}
 use Rattle.pitch_model.specs.Datagrams.{IsPiece}
 use Rattle.venue_core.specs.Plan.{plan}

@@ -1,4 +1,4 @@
-use Rattle.std.proofs.Common.{◌≡◌, ◌≤◌, ◌*◌, ℕ, List, length, sym, ap, ◌∙◌, arith}
+use Rattle.std.proofs.Common.{◌≡◌, List, length, sym, ap, ◌∙◌, arith}
 use Rattle.pitch_model.specs.Advertising.{Operation, accepted_by}
 use Rattle.unit_threads.proofs.Playing.{plan_begins}
 use Rattle.drill_threads.proofs.publisher.publish.Goals as goal

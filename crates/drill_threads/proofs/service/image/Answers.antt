@@ -1,4 +1,4 @@
-use Rattle.std.proofs.Common.{◌≡◌, List, ap, subst}
+use Rattle.std.proofs.Common.{List, subst}
 use mathlib.Core.List.{IsPrefix}
 use Rattle.pitch_model.specs.Advertising.{accepted_by}
 use Rattle.pitch_model.specs.History.{Raw}

@@ -1,4 +1,4 @@
-use Rattle.std.proofs.Common.{◌≡◌, List, Bool, Option, true, false, sym, ◌∙◌, subst}
+use Rattle.std.proofs.Common.{◌≡◌, Bool, true, false, sym, ◌∙◌, subst}
 use Rattle.std.specs.Prelude.{IfNone}
 use Rattle.spin_server.specs.Served.{is_served}
 use Rattle.shared_unit.specs.Histories.{served_at}

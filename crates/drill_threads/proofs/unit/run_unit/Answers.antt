@@ -1,4 +1,4 @@
-use Rattle.std.proofs.Common.{◌≡◌, List, ℕ, ◌++◌, sym, ap, ◌∙◌}
+use Rattle.std.proofs.Common.{List, ℕ, ◌++◌, sym, ap, ◌∙◌}
 use Rattle.pitch_model.specs.History.{Raw}
 use Rattle.venue_core.specs.Plan.{plan}
 use Rattle.drill_client.specs.Ending.{whole_line}

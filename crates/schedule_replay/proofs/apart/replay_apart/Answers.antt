@@ -1,10 +1,10 @@
-use Rattle.std.proofs.Common.{rules, ◌≡◌, ℕ, true, List, Option, ◌++◌, reverse, ap, sym, ◌∙◌, subst, Ok, Result, IfOk, IfSome, slice_get}
+use Rattle.std.proofs.Common.{rules, ◌≡◌, ℕ, true, List, Option, ◌++◌, reverse, ap, sym, ◌∙◌, subst, IfOk, IfSome, slice_get}
 use Rattle.std.specs.List.{AllByRecursion, list_all}
 use Rattle.world_model.specs.declared.world.World.{World}
 use Rattle.schedule_replay.specs.Replay.{replay_text, replay_on}
 use Rattle.schedule_replay.specs.Runs.{Ran, AreRunsAt, pieces_at, joined, has_world}
 use Rattle.schedule_replay.specs.Stretches.{Part, parts_of}
-use Rattle.schedule_replay.specs.Worlds.{AddsWorlds, worlds_in}
+use Rattle.schedule_replay.specs.Worlds.{worlds_in}
 use Rattle.schedule_replay.specs.declared.merging.Left.{Left}
 use Rattle.schedule_replay.specs.declared.stretches.Stretch.{Stretch}
 use Rattle.schedule_replay.proofs.Joining.{RunsApart, puts_none, runs_apart}

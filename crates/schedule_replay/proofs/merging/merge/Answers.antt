@@ -1,4 +1,4 @@
-use Rattle.std.proofs.Common.{arith, ◌≤◌, get_or, ℕ, List, ◌≡◌, ◌+◌, ◌<◌, Some, length, take, refl, sym, subst, ap, ◌∙◌}
+use Rattle.std.proofs.Common.{arith, get_or, ℕ, List, ◌≡◌, ◌+◌, ◌<◌, Some, length, take, refl, sym, subst, ap, ◌∙◌}
 use Rattle.std.proofs.Math.ListN.{set}
 use Rattle.std.specs.List.{slice_get}
 use Rattle.std.proofs.lemmas.List.{take_all}

@@ -1,8 +1,7 @@
-use Rattle.std.proofs.Common.{List, sym, subst}
+use Rattle.std.proofs.Common.{sym, subst}
 use Rattle.std.specs.List.{AllByRecursion}
 use Rattle.schedule_replay.specs.Runs.{Ran}
 use Rattle.schedule_replay.specs.Stretches.{parts_of}
-use Rattle.schedule_replay.specs.declared.units.Run.{Run}
 use Rattle.schedule_replay.proofs.Parting.{all_more}
 use Rattle.schedule_replay.proofs.units.run_piece.Goals as goal
 

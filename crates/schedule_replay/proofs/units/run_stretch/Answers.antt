@@ -1,4 +1,4 @@
-use Rattle.std.proofs.Common.{arith, ℕ, ◌+◌, List, refl}
+use Rattle.std.proofs.Common.{arith, ◌+◌, refl}
 use Rattle.schedule_replay.specs.Stretches.{items_at}
 use Rattle.schedule_replay.proofs.Parting.{ran_more, ran_other}
 use Rattle.schedule_replay.proofs.units.run_stretch.Goals as goal

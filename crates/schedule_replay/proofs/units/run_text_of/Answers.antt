@@ -1,8 +1,8 @@
-use Rattle.std.proofs.Common.{rules, arith, ◌≡◌, ◌-◌, ℕ, List, take, drop, length, get_or, refl}
+use Rattle.std.proofs.Common.{arith, ◌-◌, ℕ, List, take, drop, length, get_or, refl}
 use Rattle.std.proofs.lemmas.Option.{slice_get-get_or}
 use Rattle.schedule_replay.specs.declared.stretches.Stretch.{Stretch}
 use Rattle.schedule_replay.proofs.Cutting.{rest_is}
-use Rattle.schedule_replay.proofs.Parting.{Walking, walks_none, walks_more, walks_all}
+use Rattle.schedule_replay.proofs.Parting.{walks_none, walks_more, walks_all}
 use Rattle.schedule_replay.proofs.units.run_text_of.Goals as goal
 
 pub stretches-init : goal.stretches-init
