@@ -1,5 +1,6 @@
 ghost use Rattle.std.specs.Prelude.{◌≡◌};
 
+use client_core::UnitClient;
 use drill_client::begin;
 use drill_values::{Datagram, DrillRun, Image, Reached, Reply, Word, hear_reply, hear_word};
 use pitch_fields::OutOfMemory;
@@ -14,7 +15,7 @@ use venue_core::Venue;
 
 #[test]
 fn words_and_replies_are_heard(rt: HostRuntime) -> Result<(), Fail> {
-    hear_all_words::<Brand, _>(&rt)
+    start::<Brand, _>(&rt)
 }
 
 // The heartbeat before the first message.
@@ -33,23 +34,42 @@ fn no_orders<R: DrillRun>(alloc: Global) -> Image<R> {
     Image::make(0, 0, RawList::make(alloc))
 }
 
-// All that may cross before the first message.
-fn hear_all_words<R: DrillRun, W: Abort + AllocGlobal>(rt: &W) -> Result<(), Fail>
+// Hears all that may cross before the first message. Answers whether the client was silent first,
+// and current after the heartbeat and at the end.
+fn hear_all_words<R: DrillRun>(alloc: Global, client: &mut UnitClient) -> Result<bool, OutOfMemory>
+    requires { R.unit ≡ 1 }
+{
+    let silent = client.status() == Status::Silent;
+    hear_word(client, &Word::Sent(beat::<R>(alloc)?))?;
+    let current = is_current(client);
+    hear_word(client, &Word::Advertised(Reached::<R>::make(0)))?;
+    hear_word(client, &Word::<R>::Last)?;
+    hear_all_replies::<R>(alloc, client)?;
+    Ok(silent && current && is_current(client))
+}
+
+fn hear_all_replies<R: DrillRun>(alloc: Global, client: &mut UnitClient) -> Result<(), OutOfMemory>
+    requires { R.unit ≡ 1 }
+{
+    let refused: Reply<R> = Reply::Gap { accepted: false };
+    hear_reply(client, refused)?;
+    hear_reply(client, Reply::Again(beat::<R>(alloc)?))?;
+    let none: Reply<R> = Reply::NoSpin { sequence: 0 };
+    hear_reply(client, none)?;
+    hear_reply(client, Reply::Spin(no_orders::<R>(alloc)))
+}
+
+fn is_current(client: &UnitClient) -> bool {
+    client.status() == Status::Current { n: 0 }
+}
+
+// Picks the run. The client is dropped by a call, which is cheaper to prove than at each return.
+fn start<R: DrillRun, W: Abort + AllocGlobal>(rt: &W) -> Result<(), Fail>
     requires { R.unit ≡ 1 }
 {
     let mut client = begin(rt.alloc(), 4)?;
-    assert_eq!(rt; client.status(), Status::Silent);
-    hear_word(&mut client, &Word::Sent(beat::<R>(rt.alloc())?))?;
-    let current = Status::Current { n: 0 };
-    assert_eq!(rt; client.status(), current);
-    hear_word(&mut client, &Word::Advertised(Reached::<R>::make(0)))?;
-    hear_word(&mut client, &Word::<R>::Last)?;
-    let refused: Reply<R> = Reply::Gap { accepted: false };
-    hear_reply(&mut client, refused)?;
-    hear_reply(&mut client, Reply::Again(beat::<R>(rt.alloc())?))?;
-    let none: Reply<R> = Reply::NoSpin { sequence: 0 };
-    hear_reply(&mut client, none)?;
-    hear_reply(&mut client, Reply::Spin(no_orders::<R>(rt.alloc())))?;
-    assert_eq!(rt; client.status(), current);
+    let right = hear_all_words::<R>(rt.alloc(), &mut client);
+    drop(client);
+    assert!(rt; right?);
     Ok(())
 }

@@ -9,8 +9,6 @@
 mod found;
 mod laws;
 mod store;
-#[cfg(test)]
-mod tests;
 
 pub use crate::found::{Found, GapLookup};
 pub use crate::laws::look_laws;

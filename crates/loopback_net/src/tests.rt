@@ -62,50 +62,64 @@ fn answers_of_all<R: Abort + AllocGlobal, N: Net>(rt: &R, net: &mut N) -> Vec<Ne
     answers
 }
 
-#[test]
-fn what_goes_in_comes_out_at_the_other_side(rt: HostRuntime) {
-    let mut net = StdNet::make(&rt);
-    assert_eq!(rt; net.begin(), NetDone::Done);
-    for (line, datagram) in DATAGRAMS {
-        assert_eq!(rt; net.send(line, datagram), NetDone::Done);
+// Sends datagrams and puts pieces.
+fn give<R: Abort, N: Net>(
+    rt: &R,
+    net: &mut N,
+    datagrams: &[(Line, &[u8; 4])],
+    pieces: &[(LinkEnd, LinkEnd, &[u8; 4])],
+) {
+    for (line, datagram) in datagrams {
+        assert!(rt; net.send(*line, *datagram) == NetDone::Done);
     }
-    for (end, _, piece) in PIECES {
-        assert_eq!(rt; net.put(end, piece), Put::Wrote(4));
+    for (end, _, piece) in pieces {
+        assert!(rt; net.put(*end, *piece) == Put::Wrote(4));
     }
-    for (line, datagram) in DATAGRAMS {
-        assert_eq!(rt;
-            next_bytes(&rt, &mut net, line).as_slice(),
-            datagram.as_slice()
-        );
+}
+
+// Sees them come at the other side.
+fn get<R: Abort + AllocGlobal, N: Net>(
+    rt: &R,
+    net: &mut N,
+    datagrams: &[(Line, &[u8; 4])],
+    pieces: &[(LinkEnd, LinkEnd, &[u8; 4])],
+) {
+    for (line, datagram) in datagrams {
+        assert!(rt; next_bytes(rt, net, *line).as_slice() == datagram.as_slice());
     }
-    for (_, end, piece) in PIECES {
-        assert_eq!(rt; take_bytes(&rt, &mut net, end).as_slice(), piece.as_slice());
+    for (_, end, piece) in pieces {
+        assert!(rt; take_bytes(rt, net, *end).as_slice() == piece.as_slice());
     }
-    let answers = answers_of_all(&rt, &mut net);
-    assert_eq!(rt; answers.as_slice(), [NetTaken::Quiet; 7].as_slice());
 }
 
 #[test]
-fn a_line_carries_what_udp_carries(rt: HostRuntime) {
-    let bytes = [7u8; 65_508];
+fn what_goes_in_comes_out_at_the_other_side(rt: HostRuntime) {
     let mut net = StdNet::make(&rt);
-    assert_eq!(rt; net.begin(), NetDone::Done);
-    assert_eq!(rt; net.send(Line::A, b""), NetDone::Done);
-    assert_eq!(rt; net.send(Line::A, &bytes), NetDone::Failed);
-    assert_eq!(rt; net.send(Line::A, &bytes[..65_507]), NetDone::Done);
-    assert_eq!(rt; net.send(Line::A, b"next"), NetDone::Done);
-    assert_eq!(rt;
-        next_bytes(&rt, &mut net, Line::A).as_slice(),
-        [7; 64].as_slice()
-    );
-    assert_eq!(rt;
-        next_bytes(&rt, &mut net, Line::A).as_slice(),
-        b"next".as_slice()
-    );
-    assert_eq!(rt; net.send(Line::B, b"lost"), NetDone::Done);
-    assert_eq!(rt; net.begin(), NetDone::Done);
-    let answers = answers_of_all(&rt, &mut net);
-    assert_eq!(rt; answers.as_slice(), [NetTaken::Quiet; 7].as_slice());
+    assert!(rt; net.begin() == NetDone::Done);
+    give(&rt, &mut net, &DATAGRAMS, &PIECES);
+    get(&rt, &mut net, &DATAGRAMS, &PIECES);
+    assert!(rt; answers_of_all(&rt, &mut net).as_slice() == [NetTaken::Quiet; 7].as_slice());
+}
+
+// The greatest datagram is carried, and so is an empty one; a greater is not, and what was sent
+// before `begin` does not come after it.
+#[test]
+fn a_line_carries_what_udp_carries(rt: HostRuntime) {
+    let mut net = StdNet::make(&rt);
+    assert!(rt; net.begin() == NetDone::Done);
+    send_great(&rt, &mut net, &[7; 65_508]);
+    assert!(rt; next_bytes(&rt, &mut net, Line::A).as_slice() == [7; 64].as_slice());
+    assert!(rt; next_bytes(&rt, &mut net, Line::A).as_slice() == b"next".as_slice());
+    assert!(rt; net.send(Line::B, b"lost") == NetDone::Done);
+    assert!(rt; net.begin() == NetDone::Done);
+    assert!(rt; answers_of_all(&rt, &mut net).as_slice() == [NetTaken::Quiet; 7].as_slice());
+}
+
+fn send_great<R: Abort, N: Net>(rt: &R, net: &mut N, bytes: &[u8; 65_508]) {
+    assert!(rt; net.send(Line::A, b"") == NetDone::Done);
+    assert!(rt; net.send(Line::A, bytes) == NetDone::Failed);
+    assert!(rt; net.send(Line::A, &bytes[..65_507]) == NetDone::Done);
+    assert!(rt; net.send(Line::A, b"next") == NetDone::Done);
 }
 
 // Puts pieces until one has no room, and answers how many bytes were written.
@@ -141,15 +155,12 @@ fn drain<N: Net>(net: &mut N, end: LinkEnd, wanted: u64) -> u64 {
 #[test]
 fn a_full_connection_refuses_a_piece_and_loses_nothing(rt: HostRuntime) {
     let mut net = StdNet::make(&rt);
-    assert_eq!(rt; net.begin(), NetDone::Done);
+    assert!(rt; net.begin() == NetDone::Done);
     let written = fill(&mut net, LinkEnd::SpinServer);
     assert!(rt; written > 0);
-    assert_eq!(rt; drain(&mut net, LinkEnd::SpinClient, written), written);
-    assert_eq!(rt; net.put(LinkEnd::SpinServer, b"more"), Put::Wrote(4));
-    assert_eq!(rt;
-        take_bytes(&rt, &mut net, LinkEnd::SpinClient).as_slice(),
-        b"more".as_slice()
-    );
+    assert!(rt; drain(&mut net, LinkEnd::SpinClient, written) == written);
+    assert!(rt; net.put(LinkEnd::SpinServer, b"more") == Put::Wrote(4));
+    assert!(rt; take_bytes(&rt, &mut net, LinkEnd::SpinClient).as_slice() == b"more".as_slice());
 }
 
 #[test]
@@ -159,7 +170,7 @@ fn a_stream_ends_where_the_other_is_dropped(rt: HostRuntime) {
         mut server,
     } = open_connection(&rt).expect(&rt, "a connection");
     let mut into = [0u8; 64];
-    assert_eq!(rt; put(&mut client, b"last"), Put::Wrote(4));
+    assert!(rt; put(&mut client, b"last") == Put::Wrote(4));
     drop(client);
     let mut answers = [NetTaken::Quiet; 2];
     for answer in &mut answers {
@@ -171,7 +182,7 @@ fn a_stream_ends_where_the_other_is_dropped(rt: HostRuntime) {
             thread::yield_now();
         }
     }
-    assert_eq!(rt; answers, [NetTaken::Got(4), NetTaken::End]);
+    assert!(rt; answers == [NetTaken::Got(4), NetTaken::End]);
 }
 
 // A network that opens nothing.
@@ -222,9 +233,9 @@ impl<R: net::Net> net::Net for Crowded<R> {
 
 // The answers of a net that could not begin.
 fn answers_of_unopened<R: Abort + AllocGlobal, N: Net>(rt: &R, net: &mut N) -> Vec<NetTaken> {
-    assert_eq!(rt; net.begin(), NetDone::Failed);
-    assert_eq!(rt; net.send(Line::A, b"a"), NetDone::Failed);
-    assert_eq!(rt; net.put(LinkEnd::GrpClient, b"a"), Put::Failed);
+    assert!(rt; net.begin() == NetDone::Failed);
+    assert!(rt; net.send(Line::A, b"a") == NetDone::Failed);
+    assert!(rt; net.put(LinkEnd::GrpClient, b"a") == Put::Failed);
     answers_of_all(rt, net)
 }
 
@@ -233,6 +244,6 @@ fn what_was_not_opened_fails(rt: HostRuntime) {
     let silent = answers_of_unopened(&rt, &mut StdNet::make(NoNetwork));
     let crowded = answers_of_unopened(&rt, &mut StdNet::make(Crowded(&rt)));
     for answers in [silent, crowded] {
-        assert_eq!(rt; answers.as_slice(), [NetTaken::Failed; 7].as_slice());
+        assert!(rt; answers.as_slice() == [NetTaken::Failed; 7].as_slice());
     }
 }

@@ -52,7 +52,8 @@ const PUBLISHER_STEP: u32 = 50;
 /// `before` waits at four places. With `Replay`, unit 1 waits until unit 2 has entered `before`,
 /// and unit 2 until unit 1 has. The publisher of unit 1 waits before its step 50 until the client
 /// of unit 1 has entered `before` of its step 1; the client waits there until the publisher has
-/// left `before` of step 50. A wait looks at most 10,000,000 times and yields between.
+/// left `before` of step 50. A wait looks at most 10,000,000 times, where its making names no other
+/// number, and yields between.
 #[derive(Drop)]
 pub struct MeetGate {
     looks: u32,
@@ -74,8 +75,8 @@ impl MeetGate {
         MeetGate::looking(MOST_LOOKS)
     }
 
-    // A gate of which each wait looks at most so often.
-    pub(crate) fn looking(looks: u32) -> MeetGate {
+    /// A gate that nothing has come to, of which each wait looks at most so often. Takes no memory.
+    pub fn looking(looks: u32) -> MeetGate {
         MeetGate {
             looks,
             first_unit: AtomicBool::new(false),

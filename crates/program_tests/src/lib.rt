@@ -5,11 +5,24 @@
 #![tactic(auto)]
 
 #[cfg(test)]
+mod captures;
+#[cfg(test)]
+mod demos;
+#[cfg(test)]
+mod devices;
+#[cfg(test)]
+mod drills;
+#[cfg(test)]
 mod nets;
 #[cfg(test)]
-mod tests;
+mod packs;
+#[cfg(test)]
+mod runs;
+#[cfg(test)]
+mod schedules;
+#[cfg(test)]
+mod storms;
+#[cfg(test)]
+mod streams;
 #[cfg(test)]
 mod words;
-
-#[cfg(test)]
-pub(crate) use pitch_tool::{ExitStatus, pitch};

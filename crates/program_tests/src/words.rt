@@ -1,5 +1,6 @@
 use pitch_fields::OutOfMemory;
 use pitch_words::{Form, read};
+use std::alloc::Global;
 use std::test::*;
 
 // Words, which single spaces part, and their form.
@@ -172,7 +173,7 @@ static REFUSED: [&str; 81] = [
 ];
 
 // The answer to the words of the line.
-fn form_of_line(alloc: std::alloc::Global, line: &str) -> Result<Option<Form>, OutOfMemory> {
+fn form_of_line(alloc: Global, line: &str) -> Result<Option<Form>, OutOfMemory> {
     let mut words = Vec::new(alloc);
     for word in line.split(' ') {
         words.push(String::from_str(alloc, word)?)?;
@@ -180,20 +181,35 @@ fn form_of_line(alloc: std::alloc::Global, line: &str) -> Result<Option<Form>, O
     read(alloc, words.as_slice())
 }
 
+// Whether each line has its form.
+fn all_have_forms(alloc: Global, lines: &[(&str, Form)]) -> Result<bool, OutOfMemory> {
+    for (line, form) in lines {
+        if form_of_line(alloc, line)? != Some(*form) {
+            return Ok(false);
+        }
+    }
+    Ok(true)
+}
+
 #[test]
 fn words_and_their_forms(rt: HostRuntime) -> Result<(), Fail> {
-    for (line, form) in &FORMS {
-        let got = form_of_line(rt.alloc(), line)?;
-        assert!(rt; got == Some(*form), "words {line}");
-    }
+    assert!(rt; all_have_forms(rt.alloc(), &FORMS)?);
     Ok(())
+}
+
+// Whether no line is a form.
+fn none_is_a_form(alloc: Global, lines: &[&str]) -> Result<bool, OutOfMemory> {
+    for line in lines {
+        if form_of_line(alloc, line)? != None {
+            return Ok(false);
+        }
+    }
+    Ok(true)
 }
 
 #[test]
 fn words_that_are_no_form(rt: HostRuntime) -> Result<(), Fail> {
-    for line in &REFUSED {
-        assert!(rt; form_of_line(rt.alloc(), line)? == None, "words {line}");
-    }
+    assert!(rt; none_is_a_form(rt.alloc(), &REFUSED)?);
     let none: Vec<String> = Vec::new(rt.alloc());
     assert!(rt; read(rt.alloc(), none.as_slice())? == None);
     Ok(())

@@ -1,4 +1,5 @@
-//! Worked examples of sessions: what the ends say to logins, requests and hostile bytes.
+//! Worked examples of sessions: gap stores, and what the ends say to logins, requests and hostile
+//! bytes.
 //!
 //! There are tests alone here, in a crate of their own for the reason that `wire_tests` gives.
 #![tactic(auto)]
@@ -8,4 +9,10 @@ mod ends;
 #[cfg(test)]
 mod links;
 #[cfg(test)]
+mod paths;
+#[cfg(test)]
 mod proxies;
+#[cfg(test)]
+mod spins;
+#[cfg(test)]
+mod stores;

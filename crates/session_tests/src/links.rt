@@ -129,48 +129,60 @@ fn feed(rt: &impl Abort, alloc: Global, case: &Case, items: &mut ItemList) -> Op
     link.closed()
 }
 
-#[test]
-fn told_and_hostile(rt: HostRuntime) {
-    for case in &CASES {
-        let mut items = ItemList::make(rt.alloc());
-        assert_eq!(rt; feed(&rt, rt.alloc(), case, &mut items), case.closed);
-        let mut told = Vec::new(rt.alloc());
+// Feeds each case to a new link, and compares what it tells and why it closes.
+fn all_are_told(rt: &impl Abort, alloc: Global, cases: &[Case]) {
+    for case in cases {
+        let mut items = ItemList::make(alloc);
+        let closed = feed(rt, alloc, case, &mut items);
+        let mut told = Vec::new(alloc);
         for item in items.as_slice() {
-            told.push(told_by(item)).expect(&rt, "memory");
+            told.push(told_by(item)).expect(rt, "memory");
         }
-        assert_eq!(rt; told.as_slice(), case.tells);
+        assert!(rt; closed == case.closed && told.as_slice() == case.tells);
     }
 }
 
-// The login counts as sent since the making, and a request as sent after its tick.
+#[test]
+fn told_and_hostile(rt: HostRuntime) {
+    all_are_told(&rt, rt.alloc(), &CASES);
+}
+
+// How many bytes a link has sent after each of five silent ticks. The login counts as sent since the
+// making, and a request, made after the second, as sent after its tick.
+const LENGTHS: [usize; 5] = [30, 55, 55, 63, 63];
+
+fn tick_five(rt: &impl Abort, link: &mut GapLink, sent: &mut Vec<u8>, lengths: &[usize; 5]) {
+    for tick in 0..5 {
+        assert!(rt; link.closed().is_none());
+        link.tick(sent).expect(rt, "memory");
+        if tick == 1 {
+            link.ask(1, 2, 3, sent).expect(rt, "memory");
+        }
+        assert!(rt; sent.len() == lengths[tick]);
+    }
+}
+
 #[test]
 fn five_silent_ticks(rt: HostRuntime) {
     let mut sent = Vec::new(rt.alloc());
     let mut link = GapLink::make(rt.alloc(), &ACCOUNT, &mut sent).expect(&rt, "memory");
-    assert_eq!(rt;
-        sent.as_slice(),
-        b"\x1e\0\x01\0\0\0\0\0\x16\x010001FEED  PITCH     ".as_slice()
-    );
-    let lengths = [30, 55, 55, 63, 63];
-    for tick in 0..5 {
-        assert_eq!(rt; link.closed(), None);
-        link.tick(&mut sent).expect(&rt, "memory");
-        if tick == 1 {
-            link.ask(1, 2, 3, &mut sent).expect(&rt, "memory");
-        }
-        assert_eq!(rt; sent.len(), lengths[tick]);
-    }
+    let login = b"\x1e\0\x01\0\0\0\0\0\x16\x010001FEED  PITCH     ";
+    assert!(rt; sent.as_slice() == login.as_slice());
+    tick_five(&rt, &mut link, &mut sent, &LENGTHS);
     let closed = Closed {
         cause: CloseCause::Silent,
         place: 0,
     };
-    assert_eq!(rt; link.closed(), Some(closed));
+    assert!(rt; link.closed() == Some(closed));
+}
+
+#[test]
+fn a_request_is_sent_before_its_tick(rt: HostRuntime) {
+    let mut sent = Vec::new(rt.alloc());
     let mut spin = SpinLink::make(rt.alloc(), 1, &ACCOUNT, &mut sent).expect(&rt, "memory");
     sent.clear();
     spin.ask(7, &mut sent).expect(&rt, "memory");
     spin.tick(&mut sent).expect(&rt, "memory");
-    assert_eq!(rt;
-        sent.as_slice(),
-        b"\x0e\0\x01\x01\0\0\0\0\x06\x81\x07\0\0\0".as_slice()
-    );
+    let request = b"\x0e\0\x01\x01\0\0\0\0\x06\x81\x07\0\0\0";
+    assert!(rt; sent.as_slice() == request.as_slice());
 }

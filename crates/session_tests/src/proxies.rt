@@ -1,6 +1,6 @@
+use crate::stores::filled;
 use gap_store::GapStore;
 use grp_session::{Account, CloseCause, Closed, GapBudget, GrpServer};
-use pitch_messages::Raw;
 use pitch_messages::session::{SessionMessage, write};
 use std::alloc::Global;
 use std::process::Abort;
@@ -115,65 +115,83 @@ const CASES: [Case; 10] = [
     },
 ];
 
+// Feeds each case to a new server without a gap store, and compares what it replies.
+fn all_end_so(rt: &impl Abort, alloc: Global, cases: &[Case]) {
+    let mut budget = GapBudget::make(10, 100, 10000);
+    let mut gap_line = DatagramList::make(alloc);
+    for case in cases {
+        let mut server = server(rt, alloc, case.in_use);
+        let mut reply = Vec::new(alloc);
+        for piece in case.fed {
+            server
+                .feed(piece, &mut budget, NO_STORE, &mut reply, &mut gap_line)
+                .expect(rt, "memory");
+        }
+        assert!(rt; reply.as_slice() == case.reply && server.closed() == case.closed);
+    }
+    assert!(rt; gap_line.len() == 0);
+}
+
+const NO_STORE: Option<&mut GapStore> = None;
+
 #[test]
 fn hostile_and_refused(rt: HostRuntime) {
-    let mut budget = GapBudget::make(10, 100, 10000);
-    let mut gap_line = DatagramList::make(rt.alloc());
-    for case in &CASES {
-        let mut server = server(&rt, rt.alloc(), case.in_use);
-        let mut reply = Vec::new(rt.alloc());
-        for piece in case.fed {
-            let lookup: Option<&mut GapStore> = None;
-            server
-                .feed(piece, &mut budget, lookup, &mut reply, &mut gap_line)
-                .expect(&rt, "memory");
-        }
-        assert_eq!(rt; reply.as_slice(), case.reply);
-        assert_eq!(rt; server.closed(), case.closed);
+    all_end_so(&rt, rt.alloc(), &CASES);
+}
+
+// So many ticks, after each of which the server is open.
+fn tick_open(rt: &impl Abort, server: &mut GrpServer, reply: &mut Vec<u8>, ticks: u8) {
+    for _ in 0..ticks {
+        server.tick(reply).expect(rt, "memory");
+        assert!(rt; server.closed().is_none());
     }
-    assert_eq!(rt; gap_line.len(), 0);
 }
 
 #[test]
 fn five_silent_ticks(rt: HostRuntime) {
     let mut server = server(&rt, rt.alloc(), false);
     let mut reply = Vec::new(rt.alloc());
-    for _ in 0..4 {
-        server.tick(&mut reply).expect(&rt, "memory");
-        assert_eq!(rt; server.closed(), None);
-    }
-    assert_eq!(rt; reply.len(), 32);
+    tick_open(&rt, &mut server, &mut reply, 4);
+    assert!(rt; reply.len() == 32);
     server.tick(&mut reply).expect(&rt, "memory");
     let closed = Closed {
         cause: CloseCause::Silent,
         place: 0,
     };
-    assert_eq!(rt; server.closed(), Some(closed));
-    assert_eq!(rt; reply.len(), 32);
+    assert!(rt; server.closed() == Some(closed) && reply.len() == 32);
 }
 
-// 300 messages over 200 places; the second byte of each is its sequence, modulo 256.
-fn store(rt: &impl Abort, alloc: Global) -> GapStore {
-    let mut store = GapStore::make(alloc, 200).expect(rt, "memory");
-    for sequence in 1..301u32 {
-        let raw = Raw::from_bytes(&[2, sequence.to_le_bytes()[0]]).expect(rt, "a raw");
-        assert!(rt; store.last() < 4294967294);
-        store.push(&raw);
+// A request's unit, first sequence and count, and its status.
+type Request = ((u8, u32, u16), u8);
+
+// A server that has logged its client in, and what it looks up, counts and replays.
+#[derive(Drop)]
+struct Proxy {
+    server: GrpServer,
+    store: GapStore,
+    budget: GapBudget,
+    line: DatagramList,
+}
+
+fn logged_in(rt: &impl Abort, alloc: Global, budget: GapBudget) -> Proxy {
+    let mut server = server(rt, alloc, false);
+    let mut store = filled(rt, alloc);
+    let mut budget = budget;
+    let mut line = DatagramList::make(alloc);
+    let mut reply = Vec::new(alloc);
+    server
+        .feed(LOGIN, &mut budget, Some(&mut store), &mut reply, &mut line)
+        .expect(rt, "memory");
+    Proxy {
+        server,
+        store,
+        budget,
+        line,
     }
-    store
 }
 
-// The status of a request after an accepted login.
-fn status(
-    rt: &impl Abort,
-    alloc: Global,
-    server: &mut GrpServer,
-    budget: &mut GapBudget,
-    lookup: Option<&mut GapStore>,
-    request: (u8, u32, u16),
-    gap_line: &mut DatagramList,
-) -> u8 {
-    let (unit, sequence, count) = request;
+// The block of a request.
+fn asked(rt: &impl Abort, alloc: Global, unit: u8, sequence: u32, count: u16) -> Vec<u8> {
     let request = SessionMessage::GapRequest {
         unit,
         sequence,
@@ -181,85 +199,84 @@ fn status(
     };
     let mut block = Vec::new(alloc);
     put_session(0, &write(&request), &mut block).expect(rt, "memory");
-    let mut reply = Vec::new(alloc);
-    server
-        .feed(&block, budget, lookup, &mut reply, gap_line)
-        .expect(rt, "memory");
-    assert_eq!(rt; reply.len(), 18);
-    reply[17]
+    block
 }
+
+// Makes requests, and compares their statuses.
+fn ask(rt: &impl Abort, alloc: Global, proxy: &mut Proxy, requests: &[Request]) {
+    for ((unit, sequence, count), status) in requests {
+        let block = asked(rt, alloc, *unit, *sequence, *count);
+        let mut reply = Vec::new(alloc);
+        let lookup = Some(&mut proxy.store);
+        proxy
+            .server
+            .feed(
+                &block,
+                &mut proxy.budget,
+                lookup,
+                &mut reply,
+                &mut proxy.line,
+            )
+            .expect(rt, "memory");
+        assert!(rt; reply.len() == 18 && reply[17] == *status);
+    }
+}
+
+// The status of a request where there is no gap store.
+fn ask_without(rt: &impl Abort, alloc: Global, proxy: &mut Proxy) -> Option<u8> {
+    let block = asked(rt, alloc, 1, 299, 2);
+    let mut reply = Vec::new(alloc);
+    proxy
+        .server
+        .feed(
+            &block,
+            &mut proxy.budget,
+            NO_STORE,
+            &mut reply,
+            &mut proxy.line,
+        )
+        .expect(rt, "memory");
+    reply.last().copied()
+}
+
+const REFUSED: [Request; 6] = [
+    ((2, 150, 1), b'I'),
+    ((1, 150, 101), b'C'),
+    ((1, 150, 0), b'O'),
+    ((1, 0, 1), b'O'),
+    ((1, 100, 1), b'O'),
+    ((1, 300, 2), b'O'),
+];
+
+const ACCEPTED: Request = ((1, 299, 2), b'A');
+
+const TEN: [Request; 11] = [
+    ACCEPTED,
+    ACCEPTED,
+    ACCEPTED,
+    ACCEPTED,
+    ACCEPTED,
+    ACCEPTED,
+    ACCEPTED,
+    ACCEPTED,
+    ACCEPTED,
+    ACCEPTED,
+    ((1, 299, 2), b'S'),
+];
 
 #[test]
 fn each_status_in_turn(rt: HostRuntime) {
-    let mut store = store(&rt, rt.alloc());
-    let mut server = server(&rt, rt.alloc(), false);
-    let mut budget = GapBudget::make(10, 100, 10000);
-    let mut line = DatagramList::make(rt.alloc());
-    let mut reply = Vec::new(rt.alloc());
-    server
-        .feed(LOGIN, &mut budget, Some(&mut store), &mut reply, &mut line)
-        .expect(&rt, "memory");
-    let refusals = [
-        ((2, 150, 1), b'I'),
-        ((1, 150, 101), b'C'),
-        ((1, 150, 0), b'O'),
-        ((1, 0, 1), b'O'),
-        ((1, 100, 1), b'O'),
-        ((1, 300, 2), b'O'),
-    ];
-    for (request, answer) in refusals {
-        let found = status(
-            &rt,
-            rt.alloc(),
-            &mut server,
-            &mut budget,
-            Some(&mut store),
-            request,
-            &mut line,
-        );
-        assert_eq!(rt; found, answer);
-    }
-    assert_eq!(rt; line.len(), 0);
-    for turn in 0..11 {
-        let answer = if turn < 10 { b'A' } else { b'S' };
-        let found = status(
-            &rt,
-            rt.alloc(),
-            &mut server,
-            &mut budget,
-            Some(&mut store),
-            (1, 299, 2),
-            &mut line,
-        );
-        assert_eq!(rt; found, answer);
-    }
-    budget.tick();
-    let found = status(
-        &rt,
-        rt.alloc(),
-        &mut server,
-        &mut budget,
-        Some(&mut store),
-        (1, 299, 2),
-        &mut line,
-    );
-    assert_eq!(rt; found, b'A');
-    let found = status(
-        &rt,
-        rt.alloc(),
-        &mut server,
-        &mut budget,
-        None,
-        (1, 299, 2),
-        &mut line,
-    );
-    assert_eq!(rt; found, b'U');
-    assert_eq!(rt; line.len(), 11);
-    let datagram = line.get(0).expect(&rt, "a datagram");
-    assert_eq!(rt;
-        datagram.bytes(),
-        b"\x0c\0\x02\x01\x2b\x01\0\0\x02\x2b\x02\x2c".as_slice()
-    );
+    let mut proxy = logged_in(&rt, rt.alloc(), GapBudget::make(10, 100, 10000));
+    ask(&rt, rt.alloc(), &mut proxy, &REFUSED);
+    assert!(rt; proxy.line.len() == 0);
+    ask(&rt, rt.alloc(), &mut proxy, &TEN);
+    proxy.budget.tick();
+    ask(&rt, rt.alloc(), &mut proxy, &[ACCEPTED]);
+    assert!(rt; ask_without(&rt, rt.alloc(), &mut proxy) == Some(b'U'));
+    assert!(rt; proxy.line.len() == 11);
+    let datagram = proxy.line.get(0).expect(&rt, "a datagram");
+    let bytes = b"\x0c\0\x02\x01\x2b\x01\0\0\x02\x2b\x02\x2c";
+    assert!(rt; datagram.bytes() == bytes.as_slice());
 }
 
 // Limits for a second, a minute and a day; what is answered to a second request, and to a third
@@ -272,45 +289,26 @@ const LIMITS: [((u32, u32, u32), u8, u8); 5] = [
     ((1, 1, 1), b'D', b'D'),
 ];
 
+fn limits_hold(rt: &impl Abort, alloc: Global, limits: &[((u32, u32, u32), u8, u8)]) {
+    for ((second, minute, day), then, later) in limits {
+        let mut proxy = logged_in(rt, alloc, GapBudget::make(*second, *minute, *day));
+        ask(rt, alloc, &mut proxy, &[ACCEPTED, ((1, 299, 2), *then)]);
+        for _ in 0..60u8 {
+            proxy.budget.tick();
+        }
+        ask(rt, alloc, &mut proxy, &[((1, 299, 2), *later)]);
+    }
+}
+
 #[test]
 fn each_limit_in_turn(rt: HostRuntime) {
-    let mut store = store(&rt, rt.alloc());
-    let mut server = server(&rt, rt.alloc(), false);
-    let mut line = DatagramList::make(rt.alloc());
-    let mut reply = Vec::new(rt.alloc());
-    let mut any = GapBudget::make(0, 0, 0);
-    server
-        .feed(LOGIN, &mut any, Some(&mut store), &mut reply, &mut line)
-        .expect(&rt, "memory");
-    // A range that is gone is not there, whatever the budget says.
-    for (request, answer) in [((1, 100, 1), b'O'), ((1, 150, 1), b'D')] {
-        let found = status(
-            &rt,
-            rt.alloc(),
-            &mut server,
-            &mut any,
-            Some(&mut store),
-            request,
-            &mut line,
-        );
-        assert_eq!(rt; found, answer);
-    }
-    for ((second, minute, day), then, later) in LIMITS {
-        let mut budget = GapBudget::make(second, minute, day);
-        for (ticks, answer) in [(0, b'A'), (0, then), (60, later)] {
-            for _ in 0..ticks {
-                budget.tick();
-            }
-            let found = status(
-                &rt,
-                rt.alloc(),
-                &mut server,
-                &mut budget,
-                Some(&mut store),
-                (1, 299, 2),
-                &mut line,
-            );
-            assert_eq!(rt; found, answer);
-        }
-    }
+    limits_hold(&rt, rt.alloc(), &LIMITS);
+}
+
+// A range that is gone is not there, whatever the budget says.
+#[test]
+fn what_is_gone_comes_before_the_limits(rt: HostRuntime) {
+    let mut proxy = logged_in(&rt, rt.alloc(), GapBudget::make(0, 0, 0));
+    let requests = [((1, 100, 1), b'O'), ((1, 150, 1), b'D')];
+    ask(&rt, rt.alloc(), &mut proxy, &requests);
 }

@@ -1,5 +1,5 @@
 //! A server asked in the thread of its writer.
-ghost use Rattle.std.specs.Prelude.{◌≡◌, ◌<◌, ◌≤◌, [], false, length, OnOk};
+ghost use Rattle.std.specs.Prelude.{◌≡◌, ◌<◌, ◌≤◌, ◌+◌, ◌^◌, [], false, length, OnOk, IfOk};
 
 use gap_store::{Found, GapLookup};
 use pitch_fields::OutOfMemory;
@@ -17,6 +17,20 @@ use venue_core::{VenueError, plan_command};
 // The plan's first message: the second of the day.
 const FIRST: &[u8] = b"\x06\x20\x98\x85\0\0";
 
+// Lets a writer accept a command of the plan.
+pub(crate) fn accept_one<J: Naming, R: Run, W: Wait + Drop>(
+    writer: &mut Writer<J, R, W>,
+    index: u32,
+) -> Result<(), VenueError>
+    requires index { 1 ≤ index }
+    requires free { R.fixed ≡ false }
+    requires few { length writer.old < 2 ^ 63 }
+    ensures { OnOk result (length writer.new ≡ length writer.old + 1) }
+{
+    writer.accept(&plan_command(0, 1, index))?;
+    Ok(())
+}
+
 // Lets a new writer accept the first commands of the plan.
 pub(crate) fn accept_plan<J: Naming, R: Run, W: Wait + Drop>(
     writer: &mut Writer<J, R, W>,
@@ -27,9 +41,44 @@ pub(crate) fn accept_plan<J: Naming, R: Run, W: Wait + Drop>(
     ensures { OnOk result (length writer.new ≡ count) }
 {
     'commands: for index in 0..count {
-        writer.accept(&plan_command(0, 1, index + 1))?;
+        accept_one(writer, index + 1)?;
     }
     Ok(())
+}
+
+// The writer of a pair that was opened, and its servers.
+fn make_all<J: Naming, R: Run, W: Wait + Abort + AllocGlobal>(
+    rt: &W,
+    opened: Opened<R>,
+) -> Result<(Writer<J, R, &W>, Vec<Server<J, R>>), MakeError>
+    requires book { opened.seen.book ≡ J.book }
+    requires kept { opened.kept ≡ J.kept }
+    ensures { IfOk result (λ made. made.0 ≡ []) }
+{
+    let mut places = LeftRightPlaces::make();
+    make::<J, R, &W, LeftRightPlaces>(rt.alloc(), rt, opened, &mut places)
+}
+
+// The writer of a pair that was opened for one server, and that server. What is let go here and
+// below goes by a call of `drop`, which is cheaper to prove than a drop at each return.
+pub(crate) fn make_one<J: Naming, R: Run, W: Wait + Abort + AllocGlobal>(
+    rt: &W,
+    opened: Opened<R>,
+) -> Result<(Writer<J, R, &W>, Server<J, R>), Fail>
+    requires book { opened.seen.book ≡ J.book }
+    requires kept { opened.kept ≡ J.kept }
+    ensures { IfOk result (λ made. made.0 ≡ []) }
+{
+    let (writer, mut servers) = make_all::<J, R, W>(rt, opened)?;
+    let popped = servers.pop();
+    drop(servers);
+    match popped {
+        Some(server) => Ok((writer, server)),
+        None => {
+            drop(writer);
+            Err(Fail::from("no server"))
+        }
+    }
 }
 
 // Whether a server that was told nothing answers that message 1 is kept, and with it, or that none
@@ -64,21 +113,25 @@ fn ask_one<J: Naming, R: Run, W: Wait + Abort + AllocGlobal>(
     requires kept { opened.kept ≡ J.kept }
     requires free { R.fixed ≡ false }
 {
-    let mut places = LeftRightPlaces::make();
-    let (mut writer, mut servers) = make::<J, R, &W, LeftRightPlaces>(
-        rt.alloc(),
-        rt,
-        opened,
-        &mut places,
-    )?;
-    let mut server = servers.pop().ok_or("a server")?;
-    let full = places.place(&mut writer).err() == Some(MakeError::NoPlace);
-    let right = hundred_is_right(rt.alloc(), &mut writer, &mut server)?;
+    let (mut writer, mut server) = make_one::<J, R, W>(rt, opened)?;
+    let full = has_no_place(&mut writer);
+    let right = hundred_is_right(rt.alloc(), &mut writer, &mut server);
     writer.close();
     // servers go on
-    let goes_on = hands_out(rt.alloc(), &mut server, 1, FIRST)?;
-    assert_eq!(rt; (full, right, goes_on), (true, true, true));
+    let goes_on = hands_out(rt.alloc(), &mut server, 1, FIRST);
+    drop(server);
+    assert!(rt; full && right == Ok(true) && goes_on == Ok(true));
     Ok(())
+}
+
+// Whether there is no place for one server more.
+fn has_no_place<J: Naming, R: Run, H: Wait + Drop>(writer: &mut Writer<J, R, H>) -> bool
+    ensures { writer.new ≡ writer.old }
+{
+    match LeftRightPlaces::make().place(writer) {
+        Err(MakeError::NoPlace) => true,
+        _ => false,
+    }
 }
 
 // What a server answers of 100 commands, and of their image.
@@ -121,8 +174,10 @@ fn hands_out<J: Naming, R: Run>(
     requires { 1 ≤ sequence }
 {
     let mut out = RawList::make(alloc);
-    let found = server.gap(sequence, 1, &mut out)?;
-    Ok(found == Found::Kept && out.get(0) == Some(raw))
+    match server.gap(sequence, 1, &mut out)? {
+        Found::Kept => Ok(out.get(0) == Some(raw)),
+        _ => Ok(false),
+    }
 }
 
 // Whether there are so many messages, and no more.
@@ -225,20 +280,37 @@ fn ask_two<J: Naming, R: Run, W: Wait + Abort + AllocGlobal>(
     requires kept { opened.kept ≡ J.kept }
     requires free { R.fixed ≡ false }
 {
-    let mut places = LeftRightPlaces::make();
-    let (mut writer, mut servers) = make::<J, R, &W, LeftRightPlaces>(
-        rt.alloc(),
-        rt,
-        opened,
-        &mut places,
-    )?;
-    let mut one = servers.pop().ok_or("a server")?;
-    let right = three_are_right(rt.alloc(), &mut writer, &mut one, servers.pop())?;
+    let (mut writer, mut servers) = make_all::<J, R, W>(rt, opened)?;
+    let right = both_are_right(rt.alloc(), &mut writer, &mut servers);
     // a writer that is not closed takes the copies along
     drop(writer);
-    let gone = hands_out(rt.alloc(), &mut one, 1, FIRST).is_err();
-    assert_eq!(rt; (right, gone, one.available()), (true, true, None));
+    let gone = have_nothing(rt.alloc(), &mut servers);
+    drop(servers);
+    assert!(rt; right == Ok(true) && gone);
     Ok(())
+}
+
+// Whether there are two servers, which answer as they should.
+fn both_are_right<J: Naming, R: Run, H: Wait + Drop>(
+    alloc: Global,
+    writer: &mut Writer<J, R, H>,
+    servers: &mut Vec<Server<J, R>>,
+) -> Result<bool, VenueError>
+    requires free { R.fixed ≡ false }
+    requires new { writer.old ≡ [] }
+{
+    match servers.as_mut_slice() {
+        [one, two] => three_are_right(alloc, writer, one, two),
+        _ => Ok(false),
+    }
+}
+
+// Whether no server has an answer.
+fn have_nothing<J: Naming, R: Run>(alloc: Global, servers: &mut Vec<Server<J, R>>) -> bool {
+    match servers.as_mut_slice() {
+        [one, two] => has_nothing(alloc, one) && has_nothing(alloc, two),
+        _ => false,
+    }
 }
 
 // What two servers answer of three commands, told of them or not.
@@ -246,19 +318,24 @@ fn three_are_right<J: Naming, R: Run, H: Wait + Drop>(
     alloc: Global,
     writer: &mut Writer<J, R, H>,
     one: &mut Server<J, R>,
-    other: Option<Server<J, R>>,
+    two: &mut Server<J, R>,
 ) -> Result<bool, VenueError>
     requires free { R.fixed ≡ false }
     requires new { writer.old ≡ [] }
 {
-    let Some(mut two) = other else {
-        return Ok(false);
-    };
     accept_plan(writer, 3)?;
-    let first = answers_first(alloc, one) && answers_first(alloc, &mut two);
-    // no clause says so, but what is published is seen by who was told nothing
-    let seen = (one.seen(), two.seen()) == (3, 3);
-    let heard = hears(writer, one, 3);
-    let kept = hands_out(alloc, one, 1, FIRST)?;
-    Ok(first && seen && heard && kept)
+    let untold = sees_three(alloc, one) && sees_three(alloc, two);
+    let told = hears(writer, one, 3) && hands_out(alloc, one, 1, FIRST)?;
+    Ok(untold && told)
+}
+
+// Whether a server that was told nothing sees three commands: no clause says so, but what is
+// published is seen.
+fn sees_three<J: Naming, R: Run>(alloc: Global, server: &mut Server<J, R>) -> bool {
+    answers_first(alloc, server) && server.seen() == 3
+}
+
+// Whether a server has no memory for an answer, and no image.
+fn has_nothing<J: Naming, R: Run>(alloc: Global, server: &mut Server<J, R>) -> bool {
+    hands_out(alloc, server, 1, FIRST).is_err() && server.available().is_none()
 }

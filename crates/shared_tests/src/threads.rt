@@ -1,16 +1,16 @@
 //! A server asked in a thread beside its writer's.
-ghost use Rattle.std.specs.Prelude.{◌≡◌, ◌≤◌, ◌<◌, ◌+◌, ◌^◌, [], false, length, IfSome};
+ghost use Rattle.std.specs.Prelude.{◌≡◌, ◌≤◌, ◌<◌, ◌+◌, ◌^◌, [], false, length, OnOk};
 
-use crate::servers::{accept_plan, answers_first, finds, hears};
+use crate::servers::{accept_one, accept_plan, answers_first, finds, hears, make_one};
 use crossbeam_channel::{Receiver, Sender, unbounded};
-use shared_unit::{LeftRightPlaces, Naming, Opened, Run, Server, Told, Writer, make};
+use shared_unit::{Naming, Opened, Run, Server, Told, Writer};
 use std::alloc::Global;
 use std::marker::Brand;
 use std::process::Abort;
 use std::sync::Wait;
 use std::test::*;
 use std::thread::{Threads, join};
-use venue_core::plan_command;
+use venue_core::VenueError;
 
 #[test]
 fn a_server_that_is_told_nothing_answers(rt: HostRuntime) -> Result<(), Fail> {
@@ -36,33 +36,27 @@ fn play_untold<
     requires kept { opened.kept ≡ J.kept }
     requires free { R.fixed ≡ false }
 {
-    let mut places = LeftRightPlaces::make();
-    let (writer, mut servers) = make::<J, R, &W, LeftRightPlaces>(
-        rt.alloc(),
-        rt,
-        opened,
-        &mut places,
-    )?;
-    let server = servers.pop().ok_or("a server")?;
+    let (writer, server) = make_one::<J, R, W>(rt, opened)?;
     let alloc = rt.alloc();
-    let (writer, wrong) = join(
+    let ((writer, accepted), wrong) = join(
         rt,
         move || accept_first(writer),
         move || ask_untold(alloc, server),
     );
-    assert_eq!(rt; (writer.is_some(), wrong), (true, 0));
+    drop(writer);
+    assert!(rt; accepted && wrong == 0);
     Ok(())
 }
 
-// Accepts the plan's first three commands.
+// Accepts the plan's first three commands, and says whether none was refused.
 fn accept_first<J: Naming, R: Run, H: Wait + Drop>(
     mut writer: Writer<J, R, H>,
-) -> Option<Writer<J, R, H>>
+) -> (Writer<J, R, H>, bool)
     requires free { R.fixed ≡ false }
     requires new { writer ≡ [] }
 {
-    accept_plan(&mut writer, 3).ok()?;
-    Some(writer)
+    let accepted = accept_plan(&mut writer, 3).is_ok();
+    (writer, accepted)
 }
 
 // Asks 1,000 times without being told, and counts the answers that are wrong.
@@ -101,26 +95,55 @@ fn play_told<
     requires free { R.fixed ≡ false }
 {
     let (to, from) = unbounded(rt.alloc())?;
-    let mut places = LeftRightPlaces::make();
-    let (writer, mut servers) = make::<J, R, &W, LeftRightPlaces>(
-        rt.alloc(),
-        rt,
-        opened,
-        &mut places,
-    )?;
-    let server = servers.pop().ok_or("a server")?;
-    let (writer, (mut server, wrong)) = join(
+    let (writer, server) = make_one::<J, R, W>(rt, opened)?;
+    assert!(rt; talk(rt, writer, server, to, from));
+    Ok(())
+}
+
+// The writer in a thread, and the server in another, which is told.
+fn talk<J: Naming + Send + Sync, R: Run + Send + Sync, W: Threads + Wait + AllocGlobal + Sync>(
+    rt: &W,
+    writer: Writer<J, R, &W>,
+    server: Server<J, R>,
+    to: Sender<Told<J, R>>,
+    from: Receiver<Told<J, R>>,
+) -> bool
+    requires free { R.fixed ≡ false }
+    requires new { writer ≡ [] }
+{
+    let ((mut writer, published), (mut server, wrong)) = join(
         rt,
         move || publish(rt, writer, to),
         move || serve(rt, server, from),
     );
-    let mut writer = writer.ok_or("refused")?;
-    let heard = hears(&mut writer, &mut server, 101);
-    assert_eq!(rt;
-        (wrong, heard, finds(&mut server, 100)),
-        (0, true, Ok(true))
-    );
-    Ok(())
+    let heard = has_heard(&mut writer, &mut server);
+    drop(writer);
+    drop(server);
+    published && wrong == 0 && heard
+}
+
+// Whether a server has seen all 101 operations once it was told of them, and finds the messages.
+fn has_heard<J: Naming, R: Run, H: Wait + Drop>(
+    writer: &mut Writer<J, R, H>,
+    server: &mut Server<J, R>,
+) -> bool {
+    hears(writer, server, 101) && finds(server, 100) == Ok(true)
+}
+
+// Sends what is told. Where nobody hears it, it is let go.
+fn send_told<J: Naming, R: Run, W: Wait>(rt: &W, to: &Sender<Told<J, R>>, told: Told<J, R>) {
+    let _ = to.send(rt, told);
+}
+
+// Tells of what was done.
+fn tell_of<J: Naming, R: Run, H: Wait + Drop, W: Wait>(
+    rt: &W,
+    writer: &mut Writer<J, R, H>,
+    to: &Sender<Told<J, R>>,
+)
+    ensures { writer.new ≡ writer.old }
+{
+    send_told(rt, to, writer.tell());
 }
 
 // Accepts a command of the plan, and tells of it.
@@ -129,32 +152,45 @@ fn publish_one<J: Naming, R: Run, H: Wait + Drop, W: Wait>(
     writer: &mut Writer<J, R, H>,
     index: u32,
     to: &Sender<Told<J, R>>,
-) -> Option<()>
+) -> Result<(), VenueError>
     requires index { 1 ≤ index }
     requires free { R.fixed ≡ false }
     requires few { length writer.old < 2 ^ 63 }
-    ensures { IfSome result (λ _. length writer.new ≡ length writer.old + 1) }
+    ensures { OnOk result (length writer.new ≡ length writer.old + 1) }
 {
-    writer.accept(&plan_command(0, 1, index)).ok()?;
-    let _ = to.send(rt, writer.tell());
-    Some(())
+    accept_one(writer, index)?;
+    tell_of(rt, writer, to);
+    Ok(())
 }
 
 // Accepts the plan's first 100 commands, advertises, and tells of each.
+fn publish_all<J: Naming, R: Run, H: Wait + Drop, W: Wait>(
+    rt: &W,
+    writer: &mut Writer<J, R, H>,
+    to: &Sender<Told<J, R>>,
+) -> Result<(), VenueError>
+    requires free { R.fixed ≡ false }
+    requires new { writer.old ≡ [] }
+{
+    'commands: for index in 0..100u32 {
+        publish_one(rt, writer, index + 1, to)?;
+    }
+    writer.advertise()?;
+    tell_of(rt, writer, to);
+    Ok(())
+}
+
+// Publishes all, and says whether nothing was refused. Nothing more is told then.
 fn publish<J: Naming, R: Run, H: Wait + Drop, W: Wait>(
     rt: &W,
     mut writer: Writer<J, R, H>,
     to: Sender<Told<J, R>>,
-) -> Option<Writer<J, R, H>>
+) -> (Writer<J, R, H>, bool)
     requires free { R.fixed ≡ false }
     requires new { writer ≡ [] }
 {
-    'commands: for index in 0..100u32 {
-        publish_one(rt, &mut writer, index + 1, &to)?;
-    }
-    writer.advertise().ok()?;
-    let _ = to.send(rt, writer.tell());
-    Some(writer)
+    let published = publish_all(rt, &mut writer, &to).is_ok();
+    (writer, published)
 }
 
 // Hears what is told until no more comes, and counts the answers that lack a message told of.

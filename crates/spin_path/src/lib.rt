@@ -9,8 +9,6 @@
 mod carrying;
 mod laws;
 mod serving;
-#[cfg(test)]
-mod tests;
 
 pub use crate::carrying::carry;
 pub use crate::laws::{images_are_whole, moves_go_on};

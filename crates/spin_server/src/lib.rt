@@ -14,8 +14,6 @@ mod lookup;
 mod server;
 mod shelf;
 mod spin;
-#[cfg(test)]
-mod tests;
 
 pub use crate::image::image_of;
 pub use crate::laws::{image_look_laws, shelves_show_what_was_pushed, spin_cutting_laws};

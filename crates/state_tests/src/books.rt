@@ -48,34 +48,40 @@ fn book_after(rt: &impl Abort, alloc: Global, raws: &[&[u8]]) -> UnitBook {
     book
 }
 
-#[test]
-fn messages_change_a_book(rt: HostRuntime) {
-    // Messages, whether the second is known, and quantity, price and display of order 5.
-    let rows: [(&[&[u8]], bool, Option<(u32, u64, bool)>); 15] = [
-        (&[TIME, ADD], true, Some((100, 100_000, true))),
-        (&[ADD, MODIFY, REDUCE], false, Some((4, 110_000, false))),
-        (&[ADD, MODIFY, REDUCE, REDUCE_REST], false, None),
-        (&[ADD, REDUCE_ALL], false, None),
-        (&[ADD, EXECUTED], false, Some((70, 100_000, true))),
-        (&[ADD, EXECUTED_AT], false, Some((20, 100_000, true))),
-        (&[TIME, ADD, CLEAR], true, None),
-        (&[ADD, MODIFY_NONE], false, None),
-        (&[ADD_NONE], false, None),
-        (&[ADD, ADD_NONE], false, Some((100, 100_000, true))),
-        (&[ADD, ADD_AGAIN], false, Some((10, 99_900, true))),
-        (&[ADD, DELETE], false, None),
-        (&[ADD_OTHER, REDUCE], false, None),
-        (&[SHORT_ADD], false, None),
-        (&[DELETE, CLEAR], false, None),
-    ];
+// Messages, whether the second is known, and quantity, price and display of order 5.
+const ROWS: [(&[&[u8]], bool, Option<(u32, u64, bool)>); 15] = [
+    (&[TIME, ADD], true, Some((100, 100_000, true))),
+    (&[ADD, MODIFY, REDUCE], false, Some((4, 110_000, false))),
+    (&[ADD, MODIFY, REDUCE, REDUCE_REST], false, None),
+    (&[ADD, REDUCE_ALL], false, None),
+    (&[ADD, EXECUTED], false, Some((70, 100_000, true))),
+    (&[ADD, EXECUTED_AT], false, Some((20, 100_000, true))),
+    (&[TIME, ADD, CLEAR], true, None),
+    (&[ADD, MODIFY_NONE], false, None),
+    (&[ADD_NONE], false, None),
+    (&[ADD, ADD_NONE], false, Some((100, 100_000, true))),
+    (&[ADD, ADD_AGAIN], false, Some((10, 99_900, true))),
+    (&[ADD, DELETE], false, None),
+    (&[ADD_OTHER, REDUCE], false, None),
+    (&[SHORT_ADD], false, None),
+    (&[DELETE, CLEAR], false, None),
+];
+
+// Applies the messages of each row to a new book.
+fn apply_each(rt: &impl Abort, alloc: Global, rows: &[(&[&[u8]], bool, Option<(u32, u64, bool)>)]) {
     for (raws, second, want) in rows {
-        let book = book_after(&rt, rt.alloc(), raws);
+        let book = book_after(rt, alloc, raws);
         let got = book.order(5).map(|order: Order| {
             (order.quantity, order.price.ten_thousandths(), order.display)
         });
-        assert!(rt; got == want);
-        assert!(rt; book.second() == if second { Some(34200) } else { None });
+        assert!(rt; got == *want);
+        assert!(rt; book.second() == if *second { Some(34200) } else { None });
     }
+}
+
+#[test]
+fn messages_change_a_book(rt: HostRuntime) {
+    apply_each(&rt, rt.alloc(), &ROWS);
 }
 
 #[test]

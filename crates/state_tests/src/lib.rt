@@ -1,4 +1,4 @@
-//! Worked examples of what is kept for a unit: books and clients.
+//! Worked examples of what is kept for a unit: books, clients and venues.
 //!
 //! There are tests alone here, in a crate of their own for the reason that `wire_tests` gives.
 #![tactic(auto)]
@@ -7,3 +7,5 @@
 mod books;
 #[cfg(test)]
 mod clients;
+#[cfg(test)]
+mod venues;

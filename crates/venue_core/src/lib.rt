@@ -16,8 +16,6 @@ mod message;
 mod outbox;
 mod plan;
 mod refusal;
-#[cfg(test)]
-mod tests;
 mod venue;
 
 pub use crate::error::VenueError;

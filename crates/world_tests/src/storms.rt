@@ -1,5 +1,8 @@
+ghost use Rattle.std.specs.Prelude.{◌≤◌};
+
 use feed_lines::LINE;
 use pitch_model::Status;
+use std::alloc::Global;
 use std::test::*;
 use storm_plan::{generate, put_storm_line, put_unit_line};
 
@@ -13,11 +16,26 @@ const SHORT: &str = "1 grp open\n1 grp up all\n1 grp down all\n\
     1 beat\n1 a 5\n1 grp cut\n1 spin open\n1 spin up all\n1 advertise\n1 spin down all\n\
     1 tick\n1 spin up all\n1 spin down all\n";
 
+// Whether this is generated for a number, units and steps.
+fn is_generated(
+    alloc: Global,
+    number: u64,
+    units: u8,
+    steps: u32,
+    expected: &[u8],
+) -> Result<bool, Fail>
+    requires units { (1 ≤ units) × (units ≤ 16) }
+    requires steps { (1 ≤ steps) × (steps ≤ 10000) }
+{
+    let mut text = Vec::new(alloc);
+    generate(number, units, steps, &mut text)?;
+    Ok(text.as_slice() == expected)
+}
+
 #[test]
 fn a_short_storm_is_written_out(rt: HostRuntime) -> Result<(), Fail> {
-    let mut text = Vec::new(rt.alloc());
-    generate(0, 1, 4, &mut text)?;
-    assert!(rt; text.as_slice() == SHORT.as_bytes());
+    let right = is_generated(rt.alloc(), 0, 1, 4, SHORT.as_bytes())?;
+    assert!(rt; right);
     Ok(())
 }
 
@@ -43,23 +61,40 @@ fn summed(text: &[u8]) -> (usize, u64, u64) {
     (text.len(), lines, sum)
 }
 
+// The sums of what is generated.
+fn sums_of(alloc: Global, number: u64, units: u8, steps: u32) -> Result<(usize, u64, u64), Fail>
+    requires units { (1 ≤ units) × (units ≤ 16) }
+    requires steps { (1 ≤ steps) × (steps ≤ 10000) }
+{
+    let mut text = Vec::new(alloc);
+    generate(number, units, steps, &mut text)?;
+    Ok(summed(text.as_slice()))
+}
+
 #[test]
 fn a_storm_is_made_of_its_numbers_alone(rt: HostRuntime) -> Result<(), Fail> {
     for (number, units, steps, expected) in CASES {
         assert!(rt; units >= 1 && units <= 16 && steps >= 1 && steps <= 10_000);
-        let mut text = Vec::new(rt.alloc());
-        generate(number, units, steps, &mut text)?;
-        assert_eq!(rt; summed(text.as_slice()), expected);
+        let sums = sums_of(rt.alloc(), number, units, steps)?;
+        assert!(rt; sums == expected);
     }
     Ok(())
 }
 
 #[test]
 fn a_summary_says_where_each_unit_ended(rt: HostRuntime) {
+    assert!(rt; is_storm_line(b"storm number 7 units 16 steps 10000\n"));
+    assert!(rt; is_unit_line(b"unit 1 current 2000 orders 625 shares 181375\n"));
+}
+
+fn is_storm_line(expected: &[u8]) -> bool {
     let mut line = [0u8; LINE];
     let end = put_storm_line(&mut line, 0, 7, 16, 10_000);
-    assert!(rt; &line[..end] == b"storm number 7 units 16 steps 10000\n".as_slice());
-    let current = Status::Current { n: 2000 };
-    let end = put_unit_line(&mut line, 0, 1, current, 625, 181_375);
-    assert!(rt; &line[..end] == b"unit 1 current 2000 orders 625 shares 181375\n".as_slice());
+    &line[..end] == expected
+}
+
+fn is_unit_line(expected: &[u8]) -> bool {
+    let mut line = [0u8; LINE];
+    let end = put_unit_line(&mut line, 0, 1, Status::Current { n: 2000 }, 625, 181_375);
+    &line[..end] == expected
 }

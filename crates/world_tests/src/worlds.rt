@@ -6,16 +6,17 @@ use std::process::Abort;
 use std::test::*;
 use world_model::{Limits, World};
 
-// Does the lines of a schedule in a new world, whose hold has two places.
-fn run(rt: &impl Abort, alloc: Global, text: &[u8]) -> Result<World, Fail> {
-    let limits = Limits {
-        hold: 2,
-        kept: 10,
-        second: 10,
-        minute: 100,
-        day: 1000,
-    };
-    let mut world = World::make(alloc, 1, limits)?;
+// A hold of two places.
+const LIMITS: Limits = Limits {
+    hold: 2,
+    kept: 10,
+    second: 10,
+    minute: 100,
+    day: 1000,
+};
+
+// Does the lines of a schedule.
+fn play(rt: &impl Abort, alloc: Global, world: &mut World, text: &[u8]) -> Result<(), Fail> {
     let mut entries = ScheduleList::make(alloc);
     assert!(rt; text.len() < 1000);
     read_schedule(text, &mut entries)?;
@@ -23,48 +24,64 @@ fn run(rt: &impl Abort, alloc: Global, text: &[u8]) -> Result<World, Fail> {
         assert!(rt; entry.well_formed());
         let _printed = world.step(&entry.verb)?;
     }
-    Ok(world)
-}
-
-// A message is lost, and the proxy sends it again.
-#[test]
-fn a_gap_is_filled_by_the_proxy(rt: HostRuntime) -> Result<(), Fail> {
-    let world = run(
-        &rt,
-        rt.alloc(),
-        b"1 add 1 B 100 IBM 10.00\n1 flush\n1 add 2 B 100 IBM 10.01\n1 flush\n\
-          1 add 3 S 50 IBM 10.05\n1 flush\n1 a 1\n1 a 3\n1 grp open\n1 grp up all\n\
-          1 grp down all\n1 tick\n1 grp up all\n1 grp down all\n1 g rest\n",
-    )?;
-    assert!(rt; world.datagrams(Line::A).len() == 3);
-    assert!(rt; world.datagrams(Line::Gap).len() == 1);
-    assert!(rt; world.client().status() == Status::Current { n: 3 });
-    let mut text = Vec::new(rt.alloc());
-    world.show(&mut text)?;
-    assert_eq!(rt;
-        text.as_slice(),
-        b"book unit 1 at 3 second - orders 3\n\
-          order 1 B 100 IBM 10.0000\n\
-          order 2 B 100 IBM 10.0100\n\
-          order 3 S 50 IBM 10.0500\n\
-          lines a 2/2 b 0/0 g 1/1\n"
-            .as_slice()
-    );
     Ok(())
 }
 
-// A client takes an image, after one that was cut off in its middle.
+// The second of three messages is lost, and the proxy sends it again.
+const LOST: &[u8] = b"1 add 1 B 100 IBM 10.00\n1 flush\n1 add 2 B 100 IBM 10.01\n1 flush\n\
+    1 add 3 S 50 IBM 10.05\n1 flush\n1 a 1\n1 a 3\n1 grp open\n1 grp up all\n\
+    1 grp down all\n1 tick\n1 grp up all\n1 grp down all\n1 g rest\n";
+
+const LOST_SHOWN: &[u8] = b"book unit 1 at 3 second - orders 3\n\
+    order 1 B 100 IBM 10.0000\n\
+    order 2 B 100 IBM 10.0100\n\
+    order 3 S 50 IBM 10.0500\n\
+    lines a 2/2 b 0/0 g 1/1\n";
+
+// Whether a world is shown so.
+fn is_shown(alloc: Global, world: &World, expected: &[u8]) -> Result<bool, Fail> {
+    let mut text = Vec::new(alloc);
+    world.show(&mut text)?;
+    Ok(text.as_slice() == expected)
+}
+
+// Whether so many datagrams were sent on line A and the gap line, and the client has all messages.
+fn has_all(world: &World, a: usize, gap: usize, n: u32) -> bool {
+    let sent = world.datagrams(Line::A).len() == a && world.datagrams(Line::Gap).len() == gap;
+    sent && world.client().status() == Status::Current { n }
+}
+
+fn fills_a_gap(rt: &impl Abort, alloc: Global, world: &mut World) -> Result<bool, Fail> {
+    play(rt, alloc, world, LOST)?;
+    Ok(is_shown(alloc, world, LOST_SHOWN)? && has_all(world, 3, 1, 3))
+}
+
+// A world is dropped by a call, which is cheaper to prove than a drop at each return.
+#[test]
+fn a_gap_is_filled_by_the_proxy(rt: HostRuntime) -> Result<(), Fail> {
+    let mut world = World::make(rt.alloc(), 1, LIMITS)?;
+    let filled = fills_a_gap(&rt, rt.alloc(), &mut world);
+    drop(world);
+    assert!(rt; filled?);
+    Ok(())
+}
+
+// An image that is cut off in its middle, and then a whole one.
+const CUT: &[u8] = b"1 add 1 B 10 IBM 10.00\n1 add 2 B 10 IBM 10.00\n1 flush\n1 spin open\n\
+    1 spin up all\n1 advertise\n1 spin down all\n1 tick\n1 spin up all\n1 spin down 40\n\
+    1 spin cut\n1 spin open\n1 spin up all\n1 spin down all\n1 tick\n1 spin up all\n\
+    1 spin down all\n";
+
+fn carries_an_image(rt: &impl Abort, alloc: Global, world: &mut World) -> Result<bool, Fail> {
+    play(rt, alloc, world, CUT)?;
+    Ok(has_all(world, 1, 0, 2) && world.client().book().len() == 2)
+}
+
 #[test]
 fn images_are_carried(rt: HostRuntime) -> Result<(), Fail> {
-    let world = run(
-        &rt,
-        rt.alloc(),
-        b"1 add 1 B 10 IBM 10.00\n1 add 2 B 10 IBM 10.00\n1 flush\n1 spin open\n\
-          1 spin up all\n1 advertise\n1 spin down all\n1 tick\n1 spin up all\n1 spin down 40\n\
-          1 spin cut\n1 spin open\n1 spin up all\n1 spin down all\n1 tick\n1 spin up all\n\
-          1 spin down all\n",
-    )?;
-    assert!(rt; world.client().status() == Status::Current { n: 2 });
-    assert!(rt; world.client().book().len() == 2);
+    let mut world = World::make(rt.alloc(), 1, LIMITS)?;
+    let carried = carries_an_image(&rt, rt.alloc(), &mut world);
+    drop(world);
+    assert!(rt; carried?);
     Ok(())
 }

@@ -1,4 +1,4 @@
-use Rattle.std.proofs.Common.{◌≡◌, [], List, ℕ, map, sym, ap, ◌∙◌, arith}
+use Rattle.std.proofs.Common.{◌≡◌, [], List, ℕ, map, sym, ap, ◌∙◌, ◌≤◌, arith}
 use Rattle.std.specs.Ordering.{nat_cmp}
 use Rattle.std.specs.FinMap as finite
 use Rattle.std.proofs.lemmas.List.{nil_from_length}
@@ -19,14 +19,15 @@ none_open = ap (map (λ (e : ℕ × Order). e.1)) (nil_from_length (finite.entri
 
 -- an empty book has an image without messages
 none_shown : image_of (book_after []) ≡ []
-unfolding image_of written
+unfolding image_of
 none_shown = ap (λ (orders : List Order). map written (map (λ order. add_message order 0) orders)) none_open
 
+from_none : (n : ℕ) → 0 ≤ n
+from_none n = omega arith
+
 pub make-requires-2 : goal.make-requires-2
-make-requires-2 g c =
-    let V : List Raw = plan g.R.DrillRun.number g.R.DrillRun.unit g.R.DrillRun.count in
-    record {
-      within = omega arith;
-      raws_are = c.make.ensures ∙ sym (c.images_leave_their_books.ensures.of_book V 0 ∙ none_shown);
-      orders_are = sym (ap adds c.make.ensures);
-    }
+make-requires-2 g c = record {
+  within = from_none _;
+  raws_are = c.make.ensures ∙ sym (c.images_leave_their_books.ensures.of_book (plan g.R.DrillRun.number g.R.DrillRun.unit g.R.DrillRun.count) 0 ∙ none_shown);
+  orders_are = sym (ap adds c.make.ensures);
+}

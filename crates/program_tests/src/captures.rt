@@ -1,7 +1,15 @@
-use super::{FIRST_LINE, run};
-use crate::ExitStatus;
-use std::str::from_utf8;
+//! Captures of datagrams, and what `follow --pcap` prints of them.
+ghost use Rattle.std.specs.Prelude.{◌<◌};
+
+use crate::runs::{all_are_refused, run};
+use crate::streams::FIRST_LINE;
+use pitch_fields::OutOfMemory;
+use pitch_tool::ExitStatus;
+use std::alloc::Global;
+use std::sync::Wait;
 use std::test::*;
+use std::thread::Threads;
+use std::time::Clock;
 
 // The header of a capture, little endian with microseconds, and big endian with nanoseconds.
 const LITTLE: &[u8] = b"\xd4\xc3\xb2\xa1\x02\0\x04\0\0\0\0\0\0\0\0\0\0\0\x04\0\x01\0\0\0";
@@ -65,20 +73,29 @@ static FAULTS: [(&[&[u8]], &str, &str); 3] = [
     ),
 ];
 
+// Whether each capture has its text, where at most `piece` bytes come at once.
+fn all_are_followed<R: Threads + Wait + Clock + Sync>(
+    rt: &R,
+    alloc: Global,
+    piece: usize,
+    captures: &[(&str, &[&[u8]], &str)],
+) -> Result<bool, OutOfMemory>
+    requires { 0 < piece }
+{
+    for (line, bytes, text) in captures {
+        let outcome = run(rt, alloc, line, bytes, piece)?;
+        if !outcome.is(ExitStatus::Done, text.as_bytes(), "") {
+            return Ok(false);
+        }
+    }
+    Ok(true)
+}
+
 #[test]
 fn each_capture_has_its_text_in_pieces_of_any_size(rt: HostRuntime) -> Result<(), Fail> {
     for piece in [1, 7, 65536] {
-        for (line, bytes, text) in &CAPTURES {
-            let outcome = run(&rt, rt.alloc(), line, bytes, piece)?;
-            assert_eq!(rt; from_utf8(outcome.out.written())?, *text, "by {piece}");
-            assert!(rt; outcome.status == ExitStatus::Done, "by {piece}");
-        }
-        for (bytes, text, fault) in &FAULTS {
-            let outcome = run(&rt, rt.alloc(), "follow --pcap", bytes, piece)?;
-            assert_eq!(rt; from_utf8(outcome.err.written())?, *fault, "by {piece}");
-            assert_eq!(rt; from_utf8(outcome.out.written())?, *text, "by {piece}");
-            assert!(rt; outcome.status == ExitStatus::BadInput, "by {piece}");
-        }
+        assert!(rt; all_are_followed(&rt, rt.alloc(), piece, &CAPTURES)?);
+        assert!(rt; all_are_refused(&rt, rt.alloc(), "follow --pcap", piece, &FAULTS)?);
     }
     Ok(())
 }

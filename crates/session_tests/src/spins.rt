@@ -1,6 +1,6 @@
-use crate::{Account, CloseCause, Closed, ImageShelf, SpinServer, image_of};
 use order_book::UnitBook;
 use pitch_messages::{Raw, RawList};
+use spin_server::{Account, CloseCause, Closed, ImageShelf, SpinServer, image_of};
 use std::alloc::Global;
 use std::process::Abort;
 use unit_packets::BlockError;
@@ -19,6 +19,12 @@ fn server(rt: &impl Abort, alloc: Global, in_use: bool) -> SpinServer {
     accounts.push(account).expect(rt, "memory");
     SpinServer::make(alloc, 1, accounts, in_use)
 }
+
+// A request for 3 after the image, and its reply.
+const AFTERWARDS: (&[u8], &[u8]) = (
+    b"\x0e\0\x01\x01\0\0\0\0\x06\x81\x03\0\0\0",
+    b"\x13\0\x01\x01\0\0\0\0\x0b\x82\x03\0\0\0\x03\0\0\0A",
+);
 
 // The add of an order of 100 shares.
 fn add(id: u8) -> [u8; 26] {
@@ -55,47 +61,62 @@ const REQUESTS: [(&[u8], &[u8]); 3] = [
     ),
 ];
 
+// Feeds requests, and compares what is replied to each.
+fn ask(
+    rt: &impl Abort,
+    server: &mut SpinServer,
+    shelf: &mut ImageShelf,
+    reply: &mut Vec<u8>,
+    requests: &[(&[u8], &[u8])],
+) {
+    for (fed, replied) in requests {
+        reply.clear();
+        server.feed(fed, shelf, reply).expect(rt, "memory");
+        assert!(rt; reply.as_slice() == *replied);
+    }
+    reply.clear();
+}
+
+// The block of an image of twelve orders.
+fn image_of_twelve(rt: &impl Abort, alloc: Global) -> Vec<u8> {
+    let mut image = Vec::new(alloc);
+    image
+        .extend_from_slice(b"\x40\x01\x0c\x01\0\0\0\0")
+        .expect(rt, "memory");
+    for id in 0..12 {
+        image.extend_from_slice(&add(id + 1)).expect(rt, "memory");
+    }
+    image
+}
+
+// What follows the image: that it has finished, the sequence that was told of while it was sent, and
+// at the second tick a heartbeat.
+const AFTER_IMAGE: &[u8] = b"\x0e\0\x01\x01\0\0\0\0\x06\x83\x0c\0\0\0\
+    \x0e\0\x01\x01\0\0\0\0\x06\x80\x0c\0\0\0\x08\0\0\x01\0\0\0\0";
+
 #[test]
 fn an_image_of_twelve_messages(rt: HostRuntime) {
     let mut shelf = shelf(&rt, rt.alloc(), 12);
-    assert_eq!(rt; shelf.retained(), 9);
+    assert!(rt; shelf.retained() == 9);
     let mut server = server(&rt, rt.alloc(), false);
     let mut reply = Vec::new(rt.alloc());
-    for (fed, replied) in &REQUESTS {
-        reply.clear();
-        server
-            .feed(fed, &mut shelf, &mut reply)
-            .expect(&rt, "memory");
-        assert_eq!(rt; reply.as_slice(), *replied);
-    }
-    reply.clear();
+    ask(&rt, &mut server, &mut shelf, &mut reply, &REQUESTS);
     server.tell(13, &mut reply).expect(&rt, "memory");
-    assert_eq!(rt; reply.len(), 0);
+    assert!(rt; reply.len() == 0);
     assert!(rt; server.pump(&mut reply).expect(&rt, "memory"));
-    let mut image = Vec::new(rt.alloc());
-    image
-        .extend_from_slice(b"\x40\x01\x0c\x01\0\0\0\0")
-        .expect(&rt, "memory");
-    for id in 0..12 {
-        image.extend_from_slice(&add(id + 1)).expect(&rt, "memory");
-    }
-    assert_eq!(rt; reply.as_slice(), image.as_slice());
+    assert!(rt; reply == image_of_twelve(&rt, rt.alloc()));
     reply.clear();
-    assert!(rt; !server.pump(&mut reply).expect(&rt, "memory"));
-    server.tell(12, &mut reply).expect(&rt, "memory");
-    server
-        .feed(
-            b"\x0e\0\x01\x01\0\0\0\0\x06\x81\x03\0\0\0",
-            &mut shelf,
-            &mut reply,
-        )
-        .expect(&rt, "memory");
-    server.tick(&mut reply).expect(&rt, "memory");
-    server.tick(&mut reply).expect(&rt, "memory");
-    assert_eq!(rt;
-        reply.as_slice(),
-        b"\x0e\0\x01\x01\0\0\0\0\x06\x83\x0c\0\0\0\x0e\0\x01\x01\0\0\0\0\x06\x80\x0c\0\0\0\x13\0\x01\x01\0\0\0\0\x0b\x82\x03\0\0\0\x03\0\0\0A\x08\0\0\x01\0\0\0\0".as_slice()
-    );
+    ends_its_image(&rt, &mut server, &mut reply);
+    ask(&rt, &mut server, &mut shelf, &mut reply, &[AFTERWARDS]);
+}
+
+// The rest of a spin, and two ticks.
+fn ends_its_image(rt: &impl Abort, server: &mut SpinServer, reply: &mut Vec<u8>) {
+    assert!(rt; !server.pump(reply).expect(rt, "memory"));
+    server.tell(12, reply).expect(rt, "memory");
+    server.tick(reply).expect(rt, "memory");
+    server.tick(reply).expect(rt, "memory");
+    assert!(rt; reply.as_slice() == AFTER_IMAGE);
 }
 
 // Bytes that are fed to a new server, in use or not; the status of its last reply, and why it
@@ -168,21 +189,25 @@ const CASES: [Case; 9] = [
     },
 ];
 
-#[test]
-fn hostile_and_refused(rt: HostRuntime) {
-    let mut shelf = ImageShelf::make(rt.alloc());
-    for case in &CASES {
-        let mut server = server(&rt, rt.alloc(), case.in_use);
-        let mut reply = Vec::new(rt.alloc());
+// Feeds each case to a new server, and compares the last status and why it closes.
+fn all_end_so(rt: &impl Abort, alloc: Global, cases: &[Case]) {
+    let mut shelf = ImageShelf::make(alloc);
+    for case in cases {
+        let mut server = server(rt, alloc, case.in_use);
+        let mut reply = Vec::new(alloc);
         for piece in case.fed {
             server
                 .feed(piece, &mut shelf, &mut reply)
-                .expect(&rt, "memory");
+                .expect(rt, "memory");
         }
-        assert_eq!(rt; reply.last().copied(), case.status);
         let closed = case.closed.map(|(cause, place)| Closed { cause, place });
-        assert_eq!(rt; server.closed(), closed);
+        assert!(rt; reply.last().copied() == case.status && server.closed() == closed);
     }
+}
+
+#[test]
+fn hostile_and_refused(rt: HostRuntime) {
+    all_end_so(&rt, rt.alloc(), &CASES);
 }
 
 #[test]

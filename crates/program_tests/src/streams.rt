@@ -1,40 +1,22 @@
-ghost use Rattle.std.specs.Prelude.{◌<◌, Some, None, map, string_bytes};
-ghost use Rattle.pitch_words.specs.Forms.{IsForm};
-ghost use Rattle.pitch_words.specs.declared.form.Form.{Form};
-ghost use Rattle.pitch_tool.specs.Jobs.{Judges, job_of};
-ghost use Rattle.pitch_tool.specs.Program.{IsWhole, IsRefusal};
-ghost use Rattle.pitch_tool.specs.declared.failure.Trouble.{Trouble};
+//! Streams of blocks, and what `follow` and `show` print of them.
 
-mod captures;
-mod demos;
-mod drills;
-mod schedules;
-mod storms;
-
-use crate::nets::NoNet;
-use crate::{ExitStatus, pitch};
-use pitch_fields::OutOfMemory;
-use pitch_io::{FreeGate, MemorySink, MemorySource, Source, SteadySink, SteadySource, Taken};
-use std::alloc::Global;
-use std::str::from_utf8;
-use std::sync::Wait;
+use crate::runs::{all_are_done, all_are_refused, run};
+use pitch_tool::ExitStatus;
 use std::test::*;
-use std::thread::Threads;
-use std::time::Clock;
 
 // The second 34,200 at sequence 1 of unit 1.
-const TIME: &[u8] = b"\x0e\x00\x01\x01\x01\x00\x00\x00\x06\x20\x98\x85\x00\x00";
+pub(crate) const TIME: &[u8] = b"\x0e\x00\x01\x01\x01\x00\x00\x00\x06\x20\x98\x85\x00\x00";
 
 // Order 5 at sequence 2 of unit 1: buys 100 of IBM at 10.
-const ADD: &[u8] = b"\x2a\x00\x01\x01\x02\x00\x00\x00\
+pub(crate) const ADD: &[u8] = b"\x2a\x00\x01\x01\x02\x00\x00\x00\
     \x22\x21\x00\x00\x00\x00\x05\x00\x00\x00\x00\x00\x00\x00B\x64\x00\x00\x00IBM   \
     \xa0\x86\x01\x00\x00\x00\x00\x00\x01";
 
 // A heartbeat of unit 1 whose next sequence is 4.
-const BEAT: &[u8] = b"\x08\x00\x00\x01\x04\x00\x00\x00";
+pub(crate) const BEAT: &[u8] = b"\x08\x00\x00\x01\x04\x00\x00\x00";
 
 // Order 5 is deleted at sequence 3 of unit 1.
-const DELETE: &[u8] = b"\x16\x00\x01\x01\x03\x00\x00\x00\
+pub(crate) const DELETE: &[u8] = b"\x16\x00\x01\x01\x03\x00\x00\x00\
     \x0e\x29\x00\x00\x00\x00\x05\x00\x00\x00\x00\x00\x00\x00";
 
 // 30 shares of order 5 are executed at sequence 3 of unit 1.
@@ -57,9 +39,9 @@ const HIDDEN: &[u8] = b"\x4a\x00\x02\x01\x01\x00\x00\x00\
 // A block with a byte more than its messages.
 const SPARE: &[u8] = b"\x09\x00\x00\x01\x01\x00\x00\x00\x00";
 
-const FIRST_LINE: &str = "block 1 unit 1 first 1 count 1; current 1\n";
+pub(crate) const FIRST_LINE: &str = "block 1 unit 1 first 1 count 1; current 1\n";
 
-const DELETED_TEXT: &str = "block 1 unit 1 first 1 count 1; current 1\n\
+pub(crate) const DELETED_TEXT: &str = "block 1 unit 1 first 1 count 1; current 1\n\
     block 2 unit 1 first 2 count 1; current 2\n\
     block 3 unit 1 first 4 count 0; behind 2 of 3\n\
     block 4 unit 1 first 3 count 1; current 3\n\
@@ -168,7 +150,7 @@ static FAULTY_STREAMS: [(&[&[u8]], &str, &str); 7] = [
 ];
 
 // A short add, a long add, as a venue writes them.
-const ADDS: &[u8] = b"\x44\x00\x02\x01\x01\x00\x00\x00\
+pub(crate) const ADDS: &[u8] = b"\x44\x00\x02\x01\x01\x00\x00\x00\
     \x1a\x22\x00\x00\x00\x00\x01\x00\x00\x00\x00\x00\x00\x00B\x64\x00IBM   \xff\xff\x01\
     \x22\x21\x00\x00\x00\x00\x02\x00\x00\x00\x00\x00\x00\x00B\x64\x00\x00\x00IBM   \
     \x00\x00\x64\x00\x00\x00\x00\x00\x01";
@@ -225,8 +207,33 @@ static SHOWN: [(&[&[u8]], &str); 6] = [
     ),
 ];
 
+// A faulty stream, what `show` prints of it, and its fault.
+static SHOWN_IN_PART: [(&[&[u8]], &str, &str); 1] = [(
+    &[TIME, SPARE],
+    "block 1 unit 1 first 1 count 1\n1 time second=34200\n",
+    "pitch: bad input at byte 22: spare bytes\n",
+)];
+
+#[test]
+fn each_stream_has_its_text_in_pieces_of_any_size(rt: HostRuntime) -> Result<(), Fail> {
+    for piece in [1, 2, 7, 35, 65536] {
+        assert!(rt; all_are_done(&rt, rt.alloc(), "follow", piece, &STREAMS)?);
+        assert!(rt; all_are_refused(&rt, rt.alloc(), "follow", piece, &FAULTY_STREAMS)?);
+    }
+    Ok(())
+}
+
+#[test]
+fn each_message_is_shown(rt: HostRuntime) -> Result<(), Fail> {
+    for piece in [1, 7, 65536] {
+        assert!(rt; all_are_done(&rt, rt.alloc(), "show", piece, &SHOWN)?);
+        assert!(rt; all_are_refused(&rt, rt.alloc(), "show", piece, &SHOWN_IN_PART)?);
+    }
+    Ok(())
+}
+
 // Sequences 1, 3, 5, 7, 6, 2, 3, 4 and 5 of unit 1, each the second of its own number.
-static SHUFFLED: [&[u8]; 9] = [
+const SHUFFLED: [&[u8]; 9] = [
     b"\x0e\x00\x01\x01\x01\x00\x00\x00\x06\x20\x01\x00\x00\x00",
     b"\x0e\x00\x01\x01\x03\x00\x00\x00\x06\x20\x03\x00\x00\x00",
     b"\x0e\x00\x01\x01\x05\x00\x00\x00\x06\x20\x05\x00\x00\x00",
@@ -260,211 +267,29 @@ const HELD_BY_MORE: &str = "block 1 unit 1 first 1 count 1; current 1\n\
     block 9 unit 1 first 5 count 1; current 7\n\
     book unit 1 at 7 second 7 orders 0\n";
 
-// The words of a line, which single spaces part.
-fn words_of(alloc: Global, line: &str) -> Result<Vec<String>, OutOfMemory> {
-    let mut words = Vec::new(alloc);
-    for word in line.split(' ') {
-        if !line.is_empty() {
-            words.push(String::from_str(alloc, word)?)?;
-        }
-    }
-    Ok(words)
-}
+// The shuffled sequences, and what is printed of them with a hold of two and with one of more.
+static HELD_IN_TWO: [(&[&[u8]], &str); 1] = [(&SHUFFLED, HELD_BY_TWO)];
 
-// The bytes of the blocks, one after the other.
-fn stream_of(alloc: Global, blocks: &[&[u8]]) -> Result<Vec<u8>, OutOfMemory> {
-    let mut bytes = Vec::new(alloc);
-    for block in blocks {
-        bytes.extend_from_slice(block)?;
-    }
-    Ok(bytes)
-}
-
-// The program over devices that never fail.
-fn pitch_steadily<R: Threads + Wait + Clock + Sync>(
-    rt: &R,
-    alloc: Global,
-    words: &[String],
-    input: &mut SteadySource,
-    out: &mut SteadySink,
-    err: &mut SteadySink,
-) -> ExitStatus
-    // Where nothing is wrong with the input, the job was done whole, or memory ran out.
-    ensures complete { (form : Form) → IsForm (map string_bytes words.now) form → Judges (job_of form) (Some input.old.bytes) None → IsWhole result }
-    // Where something is wrong with the input, it was refused, or memory ran out.
-    ensures refused { (form : Form) (trouble : Trouble) → IsForm (map string_bytes words.now) form → Judges (job_of form) (Some input.old.bytes) (Some trouble) → IsRefusal result }
-{
-    pitch(rt, alloc, words, input, out, err, &mut NoNet, &FreeGate)
-}
-
-// What the program leaves.
-#[derive(Drop)]
-struct Outcome {
-    status: ExitStatus,
-    out: SteadySink,
-    err: SteadySink,
-}
-
-// Runs the program on blocks of which at most `piece` bytes come at once.
-fn run<R: Threads + Wait + Clock + Sync>(
-    rt: &R,
-    alloc: Global,
-    line: &str,
-    blocks: &[&[u8]],
-    piece: usize,
-) -> Result<Outcome, OutOfMemory>
-    requires { 0 < piece }
-{
-    let words = words_of(alloc, line)?;
-    let mut input = SteadySource::make(stream_of(alloc, blocks)?, piece);
-    let mut out = SteadySink::make(alloc, 4096)?;
-    let mut err = SteadySink::make(alloc, 4096)?;
-    let status = pitch_steadily(rt, alloc, words.as_slice(), &mut input, &mut out, &mut err);
-    Ok(Outcome { status, out, err })
-}
-
-#[test]
-fn each_stream_has_its_text_in_pieces_of_any_size(rt: HostRuntime) -> Result<(), Fail> {
-    for piece in [1, 2, 7, 35, 65536] {
-        for (blocks, text) in &STREAMS {
-            let outcome = run(&rt, rt.alloc(), "follow", blocks, piece)?;
-            assert_eq!(rt; from_utf8(outcome.out.written())?, *text, "by {piece}");
-            assert_eq!(rt; from_utf8(outcome.err.written())?, "", "by {piece}");
-            assert!(rt; outcome.status == ExitStatus::Done, "by {piece}");
-        }
-        for (blocks, text, fault) in &FAULTY_STREAMS {
-            let outcome = run(&rt, rt.alloc(), "follow", blocks, piece)?;
-            assert_eq!(rt; from_utf8(outcome.err.written())?, *fault, "by {piece}");
-            assert_eq!(rt; from_utf8(outcome.out.written())?, *text, "by {piece}");
-            assert!(rt; outcome.status == ExitStatus::BadInput, "by {piece}");
-        }
-    }
-    Ok(())
-}
-
-#[test]
-fn each_message_is_shown(rt: HostRuntime) -> Result<(), Fail> {
-    for piece in [1, 7, 65536] {
-        for (blocks, text) in &SHOWN {
-            let outcome = run(&rt, rt.alloc(), "show", blocks, piece)?;
-            assert_eq!(rt; from_utf8(outcome.out.written())?, *text, "by {piece}");
-            assert!(rt; outcome.status == ExitStatus::Done, "by {piece}");
-        }
-    }
-    let outcome = run(&rt, rt.alloc(), "show", &[TIME, SPARE], 35)?;
-    let shown = "block 1 unit 1 first 1 count 1\n1 time second=34200\n";
-    assert_eq!(rt; from_utf8(outcome.out.written())?, shown);
-    let fault = "pitch: bad input at byte 22: spare bytes\n";
-    assert_eq!(rt; from_utf8(outcome.err.written())?, fault);
-    assert!(rt; outcome.status == ExitStatus::BadInput);
-    Ok(())
-}
-
-// Texts of commands, the bytes that `pack` writes of them for unit 1, and what is said.
-static TEXTS: [(&[u8], &[u8], &str); 6] = [
-    (b"", b"", ""),
-    (b"add 1 B 100 IBM 655.35\nadd 2 B 100 IBM 655.36", ADDS, ""),
-    (
-        b"add 1 B 100 IBM 10.00\nadd 1 B 1 IBM 1\n",
-        b"",
-        "pitch: refused at line 2: known-id\n",
-    ),
-    (
-        b"add 1 B 100 IBM 10.00\nreduce 1 101\n",
-        b"",
-        "pitch: refused at line 2: too-much 101 100\n",
-    ),
-    (
-        b"\nadd 1 X 100 IBM 10.00\n",
-        b"",
-        "pitch: bad input at line 2 column 7: bad-word\n",
-    ),
-    // a fault comes before a refusal, wherever it stands
-    (
-        b"delete 1\n\nclear x\n",
-        b"",
-        "pitch: bad input at line 3 column 7: bad-word\n",
-    ),
-];
-
-#[test]
-fn commands_are_packed(rt: HostRuntime) -> Result<(), Fail> {
-    for piece in [1, 65536] {
-        for (text, bytes, said) in &TEXTS {
-            let outcome = run(&rt, rt.alloc(), "pack --unit 1", &[*text], piece)?;
-            assert!(rt; outcome.out.written() == *bytes, "by {piece}");
-            assert_eq!(rt; from_utf8(outcome.err.written())?, *said, "by {piece}");
-            let done = outcome.status == ExitStatus::Done;
-            assert!(rt; done == said.is_empty(), "by {piece}");
-        }
-    }
-    Ok(())
-}
+static HELD_IN_MORE: [(&[&[u8]], &str); 1] = [(&SHUFFLED, HELD_BY_MORE)];
 
 #[test]
 fn words_say_how_many_are_held(rt: HostRuntime) -> Result<(), Fail> {
-    let alloc = rt.alloc();
-    let holds = [
-        ("follow --hold=2", HELD_BY_TWO),
-        ("follow --hold 2", HELD_BY_TWO),
-        ("follow --hold 4", HELD_BY_MORE),
-        ("follow", HELD_BY_MORE),
-    ];
-    for (line, text) in holds {
-        let outcome = run(&rt, alloc, line, &SHUFFLED, 35)?;
-        assert_eq!(rt; from_utf8(outcome.out.written())?, text, "words {line}");
-        assert!(rt; outcome.status == ExitStatus::Done, "words {line}");
+    for line in ["follow --hold=2", "follow --hold 2"] {
+        assert!(rt; all_are_done(&rt, rt.alloc(), line, 35, &HELD_IN_TWO)?);
     }
-    for line in ["", "follow --", "follow --hold 0", "help", "followed"] {
-        let words = words_of(alloc, line)?;
-        let mut input = SteadySource::make(stream_of(alloc, &[TIME, ADD])?, 65536);
-        let mut out = SteadySink::make(alloc, 4096)?;
-        let mut err = SteadySink::make(alloc, 4096)?;
-        let status = pitch_steadily(&rt, alloc, words.as_slice(), &mut input, &mut out, &mut err);
-        let usage = "pitch: usage: follow | show | pack | replay | storm | drill | demo\n";
-        assert_eq!(rt; from_utf8(err.written())?, usage, "words {line}");
-        assert_eq!(rt; from_utf8(out.written())?, "", "words {line}");
-        assert!(rt; status == ExitStatus::Usage, "words {line}");
-        let mut left = [0u8; 64];
-        assert!(rt;
-            matches!(input.take(&mut left), Taken::Got(56)),
-            "words {line}"
-        );
+    for line in ["follow --hold 4", "follow"] {
+        assert!(rt; all_are_done(&rt, rt.alloc(), line, 35, &HELD_IN_MORE)?);
     }
     Ok(())
 }
 
 #[test]
-fn a_failing_source_or_sink_is_told_of(rt: HostRuntime) -> Result<(), Fail> {
-    let alloc = rt.alloc();
-    let words = words_of(alloc, "follow")?;
-    let unread = "pitch: read fault\n";
-    let unwritten = "pitch: write fault\n";
-    let cases = [
-        (2, 0, ExitStatus::WriteFault, "block 1", unwritten),
-        (1, 0, ExitStatus::WriteFault, "", unwritten),
-        (0, 2, ExitStatus::ReadFault, FIRST_LINE, unread),
-        (0, 1, ExitStatus::ReadFault, "", unread),
-        (0, 0, ExitStatus::Done, DELETED_TEXT, ""),
-    ];
-    for (put, take, status, text, said) in cases {
-        let bytes = stream_of(alloc, &[TIME, ADD, BEAT, DELETE])?;
-        let mut input = MemorySource::make(bytes, 20, Vec::from_slice(alloc, &[take])?);
-        let mut out = MemorySink::make(alloc, 7, Vec::from_slice(alloc, &[put])?);
-        let mut err = SteadySink::make(alloc, 4096)?;
-        let ended = pitch(
-            &rt,
-            alloc,
-            words.as_slice(),
-            &mut input,
-            &mut out,
-            &mut err,
-            &mut NoNet,
-            &FreeGate,
-        );
-        assert_eq!(rt; from_utf8(out.written())?, text, "put {put} take {take}");
-        assert_eq!(rt; from_utf8(err.written())?, said, "put {put} take {take}");
-        assert!(rt; ended == status, "put {put} take {take}");
+fn words_that_are_no_form_leave_the_input(rt: HostRuntime) -> Result<(), Fail> {
+    let usage = "pitch: usage: follow | show | pack | replay | storm | drill | demo\n";
+    for line in ["", "follow --", "follow --hold 0", "help", "followed"] {
+        let mut outcome = run(&rt, rt.alloc(), line, &[TIME, ADD], 65536)?;
+        assert!(rt; outcome.is(ExitStatus::Usage, b"", usage));
+        assert!(rt; outcome.left() == 56);
     }
     Ok(())
 }

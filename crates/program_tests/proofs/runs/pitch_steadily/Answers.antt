@@ -1,5 +1,5 @@
 use Rattle.pitch_tool.proofs.Completing.{unless_one}
-use Rattle.program_tests.proofs.tests.pitch_steadily.Goals as goal
+use Rattle.program_tests.proofs.runs.pitch_steadily.Goals as goal
 
 pub returns-clause-complete : goal.returns-clause-complete
 returns-clause-complete g c = λ form is sound. unless_one (c.pitch.ensures.complete form is sound)

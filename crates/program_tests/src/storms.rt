@@ -1,0 +1,99 @@
+//! Storms, and what the program writes of them; several workers.
+
+use crate::nets::NoNet;
+use crate::runs::run_over;
+use pitch_io::{FreeGate, MeetGate};
+use pitch_tool::ExitStatus;
+use std::test::*;
+use storm_plan::generate;
+
+// The words of a storm, and its summary. The orders and shares are those that as many commands of
+// the plan leave.
+static STORMS: [(&str, &str); 3] = [
+    (
+        "storm --number 0 --units 1 --steps 1",
+        "storm number 0 units 1 steps 1\n\
+        unit 1 current 1 orders 0 shares 0\n",
+    ),
+    (
+        "storm --steps=16 --units 2 --number=0",
+        "storm number 0 units 2 steps 16\n\
+        unit 1 current 16 orders 5 shares 1078\n\
+        unit 2 current 16 orders 5 shares 1083\n",
+    ),
+    (
+        "storm --units 1 --number 0 --steps 200",
+        "storm number 0 units 1 steps 200\n\
+        unit 1 current 200 orders 62 shares 18219\n",
+    ),
+];
+
+const AFTER_2000: &str = "storm number 1 units 2 steps 2000\n\
+    unit 1 current 2000 orders 625 shares 181375\n\
+    unit 2 current 2000 orders 625 shares 182000\n";
+
+#[test]
+fn a_storm_reads_nothing(rt: HostRuntime) -> Result<(), Fail> {
+    for (line, text) in &STORMS {
+        let mut outcome = run_over(&rt, rt.alloc(), line, b"left", &mut NoNet, &FreeGate)?;
+        assert!(rt; outcome.is(ExitStatus::Done, text.as_bytes(), ""));
+        assert!(rt; outcome.left() == 4);
+    }
+    Ok(())
+}
+
+// However many workers there are, a schedule of two units is told alike.
+#[test]
+fn workers_change_no_byte_of_a_schedule(rt: HostRuntime) -> Result<(), Fail> {
+    let mut schedule = Vec::new(rt.alloc());
+    generate(1, 2, 200, &mut schedule)?;
+    let alone = run_over(&rt, rt.alloc(), "replay", &schedule, &mut NoNet, &FreeGate)?;
+    assert!(rt; alone.written().len() > 10_000);
+    for line in [
+        "replay --workers 1",
+        "replay --workers 2",
+        "replay --workers 7",
+    ] {
+        let outcome = run_over(&rt, rt.alloc(), line, &schedule, &mut NoNet, &FreeGate)?;
+        assert!(rt; outcome.written() == alone.written());
+    }
+    Ok(())
+}
+
+// Nor of a storm.
+#[test]
+fn workers_change_no_byte_of_a_storm(rt: HostRuntime) -> Result<(), Fail> {
+    for line in [
+        "storm --number 0 --units 2 --steps 16",
+        "storm --number 0 --units 2 --steps 16 --workers 2",
+        "storm --number 0 --units 2 --steps 16 --workers 7",
+    ] {
+        let outcome = run_over(&rt, rt.alloc(), line, b"", &mut NoNet, &FreeGate)?;
+        assert!(rt; outcome.is(ExitStatus::Done, STORMS[1].1.as_bytes(), ""));
+    }
+    Ok(())
+}
+
+// Two units of a storm run beside one another: each waits at the gate until the other has come.
+#[test]
+fn two_workers_of_a_storm_meet(rt: HostRuntime) -> Result<(), Fail> {
+    let line = "storm --number 1 --units 2 --steps 2000 --workers 2";
+    let gate = MeetGate::make();
+    let outcome = run_over(&rt, rt.alloc(), line, b"", &mut NoNet, &gate)?;
+    assert!(rt; outcome.is(ExitStatus::Done, AFTER_2000.as_bytes(), ""));
+    assert!(rt; (gate.spent(), gate.met()) == (false, 2));
+    Ok(())
+}
+
+// Likewise two of a schedule.
+#[test]
+fn two_workers_of_a_schedule_meet(rt: HostRuntime) -> Result<(), Fail> {
+    let mut schedule = Vec::new(rt.alloc());
+    generate(1, 2, 2000, &mut schedule)?;
+    let gate = MeetGate::make();
+    let line = "replay --workers 2";
+    let outcome = run_over(&rt, rt.alloc(), line, &schedule, &mut NoNet, &gate)?;
+    assert!(rt; outcome.written().len() > 100_000);
+    assert!(rt; (gate.spent(), gate.met()) == (false, 2));
+    Ok(())
+}

@@ -1,0 +1,87 @@
+ghost use Rattle.std.specs.Prelude.{◌≤◌};
+
+use pitch_io::FreeGate;
+use pitch_model::Status;
+use schedule_replay::WorldList;
+use std::alloc::Global;
+use std::test::*;
+use std::thread::Threads;
+use storm_replay::storm;
+use world_model::World;
+
+// The number, units and steps of a storm, and its summary. Four steps of the number 0 are a clock,
+// a buy of 175 shares, a sale of 212, and an execution of 50 of the former.
+const STORMS: [(u64, u8, u32, &[u8]); 3] = [
+    (
+        0,
+        1,
+        1,
+        b"storm number 0 units 1 steps 1\n\
+        unit 1 current 1 orders 0 shares 0\n",
+    ),
+    (
+        0,
+        1,
+        4,
+        b"storm number 0 units 1 steps 4\n\
+        unit 1 current 4 orders 2 shares 337\n",
+    ),
+    (
+        0,
+        2,
+        16,
+        b"storm number 0 units 2 steps 16\n\
+        unit 1 current 16 orders 5 shares 1078\n\
+        unit 2 current 16 orders 5 shares 1083\n",
+    ),
+];
+
+// The last message of each world of these, and the shares of its orders.
+const ENDS: [(usize, u32, u64); 4] = [(0, 1, 0), (1, 4, 337), (2, 16, 1078), (3, 16, 1083)];
+
+#[test]
+fn a_storm_tells_where_its_units_ended(rt: HostRuntime) -> Result<(), Fail> {
+    let mut worlds = WorldList::make(rt.alloc());
+    for (number, units, steps, text) in STORMS {
+        assert!(rt; units >= 1 && units <= 16 && steps >= 1 && steps <= 10_000);
+        let right = is_summed_up(&rt, rt.alloc(), number, units, steps, text, &mut worlds)?;
+        assert!(rt; right);
+    }
+    for (index, n, shares) in ENDS {
+        assert!(rt; has_ended(worlds.get(index), n, shares));
+    }
+    assert!(rt; worlds.len() == 4);
+    Ok(())
+}
+
+// Whether a storm, with as many pieces of work as units, has that summary.
+fn is_summed_up<W: Threads + Sync>(
+    rt: &W,
+    alloc: Global,
+    number: u64,
+    units: u8,
+    steps: u32,
+    text: &[u8],
+    worlds: &mut WorldList,
+) -> Result<bool, Fail>
+    requires units { (1 ≤ units) × (units ≤ 16) }
+    requires steps { (1 ≤ steps) × (steps ≤ 10000) }
+{
+    let mut out = Vec::new(alloc);
+    storm(
+        rt, alloc, number, units, steps, units, &FreeGate, worlds, &mut out,
+    )?;
+    Ok(out.as_slice() == text)
+}
+
+// Whether a world's client has so many messages, and orders of so many shares.
+fn has_ended(world: Option<&World>, n: u32, shares: u64) -> bool {
+    match world {
+        Some(world) => is_current(world, n) && world.client().book().shares() == shares,
+        None => false,
+    }
+}
+
+fn is_current(world: &World, n: u32) -> bool {
+    world.client().status() == Status::Current { n }
+}
