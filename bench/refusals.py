@@ -7,8 +7,8 @@ PROGRAM is the path of the built program. A small run of each form is made once 
 malloc or realloc that it makes, and that call is refused (at most N of each form, evenly spread; 400
 where it isn't given). Each run has to end by itself, with status 0 and the whole text, or with status
 6, `pitch: out of memory` or nothing on standard error, and a prefix of the text. Then the same is
-done with each call of read, write, send and recv: there the status is 4, 5 or 7. It needs a C
-compiler. The exit status is 0 where all was so.
+done with each call of a device: read and write, and of sockets those that open, connect, send and
+receive. There the status is 4, 5 or 7. It needs a C compiler. The exit status is 0 where all was so.
 """
 import argparse, os, subprocess, sys, tempfile
 

@@ -1,6 +1,7 @@
 /* Loaded before the C library: the call of malloc or realloc whose number is in REFUSED answers NULL,
-   and the call of read, write, send or recv whose number is in FAILED answers EIO. At the end the
-   numbers of calls of both kinds are written to the file descriptor 3, where it is open. */
+   and the call of a device (one of those that are listed by DEVICE below) whose number is in FAILED
+   answers EIO. At the end the numbers of calls of both kinds are written to the file descriptor 3,
+   where it is open. */
 #define _GNU_SOURCE
 #include <dlfcn.h>
 #include <errno.h>
@@ -10,7 +11,7 @@
 #include <sys/socket.h>
 #include <unistd.h>
 
-static atomic_long calls, transfers;
+static atomic_long calls, device_calls;
 
 static int is_number(atomic_long *count, long *number, const char *name) {
   if (*number < 0) {
@@ -27,7 +28,7 @@ static int is_refused(void) {
 
 static int fails(void) {
   static long failed = -1;
-  if (!is_number(&transfers, &failed, "FAILED")) return 0;
+  if (!is_number(&device_calls, &failed, "FAILED")) return 0;
   errno = EIO;
   return 1;
 }
@@ -44,34 +45,29 @@ void *realloc(void *old, size_t size) {
   return is_refused() ? NULL : real(old, size);
 }
 
-ssize_t read(int from, void *into, size_t size) {
-  static ssize_t (*real)(int, void *, size_t);
-  if (!real) real = (ssize_t(*)(int, void *, size_t))dlsym(RTLD_NEXT, "read");
-  return fails() ? -1 : real(from, into, size);
-}
+#define DEVICE(type, name, parameters, arguments) \
+  type name parameters { \
+    static type(*real) parameters; \
+    if (!real) real = (type(*) parameters)dlsym(RTLD_NEXT, #name); \
+    return fails() ? -1 : real arguments; \
+  }
 
-ssize_t write(int to, const void *bytes, size_t size) {
-  static ssize_t (*real)(int, const void *, size_t);
-  if (!real) real = (ssize_t(*)(int, const void *, size_t))dlsym(RTLD_NEXT, "write");
-  return fails() ? -1 : real(to, bytes, size);
-}
-
-ssize_t send(int to, const void *bytes, size_t size, int flags) {
-  static ssize_t (*real)(int, const void *, size_t, int);
-  if (!real) real = (ssize_t(*)(int, const void *, size_t, int))dlsym(RTLD_NEXT, "send");
-  return fails() ? -1 : real(to, bytes, size, flags);
-}
-
-ssize_t recv(int from, void *into, size_t size, int flags) {
-  static ssize_t (*real)(int, void *, size_t, int);
-  if (!real) real = (ssize_t(*)(int, void *, size_t, int))dlsym(RTLD_NEXT, "recv");
-  return fails() ? -1 : real(from, into, size, flags);
-}
+DEVICE(ssize_t, read, (int from, void *into, size_t size), (from, into, size))
+DEVICE(ssize_t, write, (int to, const void *bytes, size_t size), (to, bytes, size))
+DEVICE(ssize_t, send, (int to, const void *bytes, size_t size, int flags), (to, bytes, size, flags))
+DEVICE(ssize_t, recv, (int from, void *into, size_t size, int flags), (from, into, size, flags))
+DEVICE(int, socket, (int domain, int type, int protocol), (domain, type, protocol))
+DEVICE(int, bind, (int at, const struct sockaddr *name, socklen_t size), (at, name, size))
+DEVICE(int, listen, (int at, int waiting), (at, waiting))
+DEVICE(int, connect, (int at, const struct sockaddr *name, socklen_t size), (at, name, size))
+DEVICE(int, accept, (int at, struct sockaddr *name, socklen_t *size), (at, name, size))
+DEVICE(int, accept4, (int at, struct sockaddr *name, socklen_t *size, int flags), (at, name, size, flags))
+DEVICE(int, getsockname, (int at, struct sockaddr *name, socklen_t *size), (at, name, size))
 
 void _exit(int status) {
   static void (*real)(int);
   if (!real) real = (void (*)(int))dlsym(RTLD_NEXT, "_exit");
-  dprintf(3, "%ld %ld\n", atomic_load(&calls), atomic_load(&transfers));
+  dprintf(3, "%ld %ld\n", atomic_load(&calls), atomic_load(&device_calls));
   real(status);
   __builtin_unreachable();
 }
