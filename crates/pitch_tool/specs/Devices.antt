@@ -1,5 +1,5 @@
 -- What a run did to its devices.
-use Rattle.std.specs.Prelude.{◌≡◌, ℕ, List, Option, ◌⊎◌}
+use Rattle.std.specs.Prelude.{ℕ, List, Option, ◌⊎◌}
 use Rattle.pitch_io.specs.Causes.{Rose}
 use Rattle.pitch_io.specs.Nets.{Call}
 use Rattle.pitch_io.specs.Putting.{Grows}

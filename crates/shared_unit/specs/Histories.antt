@@ -1,7 +1,7 @@
 -- The one history of a shared unit: what its writer did, the first first.
-use Rattle.std.specs.Prelude.{◌≡◌, ℕ, Bool, true, List, [], ◌∷◌, ◌++◌, Option, None, Some}
+use Rattle.std.specs.Prelude.{◌≡◌, ℕ, Bool, true, List, [], ◌∷◌, ◌++◌}
 use mathlib.Core.List.{IsPrefix}
-use Rattle.pitch_model.specs.Advertising.{Operation, Accept, Advertise, accepted_by, advertised_by}
+use Rattle.pitch_model.specs.Advertising.{Operation, accepted_by, advertised_by}
 use Rattle.gap_store.specs.Look.{View}
 use Rattle.spin_server.specs.Served.{Served}
 

@@ -1,7 +1,6 @@
 -- The rule of the book that all threads share, and what its steps tell.
-use Rattle.std.specs.Prelude.{ℕ, ◌≡◌, ◌==◌, ◌<◌, Bool, true, List, [], ◌∷◌, ◌++◌, length, MatchBool}
+use Rattle.std.specs.Prelude.{ℕ, ◌≡◌, ◌==◌, Bool, true, List, [], ◌∷◌, ◌++◌, length, MatchBool}
 use Rattle.logbook.specs.Pages.{Cell, Step, View, Book, Named}
-use mathlib.Core.List.{IsPrefix}
 use Rattle.pitch_model.specs.Advertising.{Operation}
 use Rattle.shared_unit.specs.Histories.{IsLegal}
 

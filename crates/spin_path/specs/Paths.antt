@@ -13,7 +13,7 @@ use Rattle.pitch_fields.specs.Fields.{AreBytes}
 use Rattle.session_ends.specs.declared.role.Role.TheVariants as role
 use Rattle.session_ends.specs.Closing.{Setup}
 use Rattle.session_ends.specs.Ending.{Ending}
-use Rattle.session_ends.specs.Events.{Event, Fed, Asked, Pumped, Told, fed_of}
+use Rattle.session_ends.specs.Events.{Event, Fed, Pumped, Told, fed_of}
 use Rattle.session_ends.specs.Events as event
 use Rattle.session_ends.specs.Sending.{sent_at_tick}
 use Rattle.spin_server.specs.Served.{Served}

@@ -6,7 +6,7 @@ use Rattle.pitch_messages.specs.declared.order.Order.{Order}
 use Rattle.pitch_messages.specs.Forms.{add_message}
 use Rattle.pitch_messages.specs.Writing.{written}
 use Rattle.pitch_model.specs.Book.{book_after}
-use Rattle.pitch_model.specs.History.{Raw, adds}
+use Rattle.pitch_model.specs.History.{adds}
 use Rattle.pitch_model.specs.Image.{image_of}
 use Rattle.venue_core.specs.Plan.{plan}
 use Rattle.drill_tests.proofs.values.no_orders.Goals as goal

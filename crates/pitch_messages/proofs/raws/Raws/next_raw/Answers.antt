@@ -1,4 +1,4 @@
-use Rattle.std.proofs.Common.{◌≡◌, ℕ, ◌<◌, ◌≤◌, ◌-◌, List, ◌∷◌, length, slice_index, sym, ap, ◌∙◌, arith, subst}
+use Rattle.std.proofs.Common.{ℕ, ◌<◌, ◌-◌, List, ◌∷◌, length, sym, ◌∙◌, arith, subst}
 use Rattle.pitch_messages.specs.Raw.{IsRaw, IsChain, raws_of}
 use Rattle.pitch_messages.proofs.Chains.{starts}
 use Rattle.pitch_messages.proofs.raws.Raws.next_raw.Goals as goal
