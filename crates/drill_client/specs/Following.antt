@@ -31,8 +31,8 @@ abbrev pub FollowsOn : UnitClient → ℕ → List Raw → Type 0
 FollowsOn client H V = (E : List Entry) × Follows client H V E
 
 -- where the one follows V, the other does
-abbrev pub GoesOn : UnitClient → UnitClient → List Raw → Type 0
-GoesOn old new V = (H : ℕ) → FollowsOn old H V → FollowsOn new H V
+abbrev pub KeepsFollowing : UnitClient → UnitClient → List Raw → Type 0
+KeepsFollowing old new V = (H : ℕ) → FollowsOn old H V → FollowsOn new H V
 
 -- ---- What is heard
 -- datagrams, one after another

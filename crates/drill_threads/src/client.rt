@@ -2,7 +2,7 @@
 
 ghost use Rattle.std.specs.Prelude.{OnOk, IfOk};
 ghost use Rattle.venue_core.specs.Plan.{plan};
-ghost use Rattle.drill_client.specs.Following.{FollowsOn, GoesOn};
+ghost use Rattle.drill_client.specs.Following.{FollowsOn, KeepsFollowing};
 ghost use Rattle.unit_threads.specs.DrillText.{drill_kept};
 
 use crate::course::{Course, KEPT};
@@ -84,7 +84,7 @@ fn tick<J: Naming, R: DrillRun + Run, W: Wait>(
     counts: &mut Counts,
     ends: &ClientEnds<J, R>,
 ) -> Result<(), OutOfMemory>
-    ensures { OnOk result (GoesOn client.old client.new (plan R.number R.unit R.count)) }
+    ensures { OnOk result (KeepsFollowing client.old client.new (plan R.number R.unit R.count)) }
 {
     if let Some(ask) = count_datagram(client, &mut counts.heard) {
         send(rt, &ends.asks, Request::Asked(ask))?;
@@ -102,7 +102,7 @@ fn take_word<J: Naming, R: DrillRun + Run, W: Wait, G: Gate>(
     word: Word<R>,
     ends: &ClientEnds<J, R>,
 ) -> Result<(), OutOfMemory>
-    ensures { OnOk result (GoesOn client.old client.new (plan R.number R.unit R.count)) }
+    ensures { OnOk result (KeepsFollowing client.old client.new (plan R.number R.unit R.count)) }
 {
     if !matches!(&word, Word::Sent(_)) {
         hear_word(client, &word)?;
@@ -126,7 +126,7 @@ fn take_reply<J: Naming, R: DrillRun + Run, W: Wait, G: Gate>(
     reply: Reply<R>,
     ends: &ClientEnds<J, R>,
 ) -> Result<(), OutOfMemory>
-    ensures { OnOk result (GoesOn client.old client.new (plan R.number R.unit R.count)) }
+    ensures { OnOk result (KeepsFollowing client.old client.new (plan R.number R.unit R.count)) }
 {
     if !matches!(&reply, Reply::Again(_)) {
         hear_reply(client, reply)?;

@@ -34,12 +34,12 @@ use Rattle.world_model.specs.Verbs.{at_link, pumps, pumped_times}
 use Rattle.world_model.specs.Witness.{Witnessed}
 use Rattle.world_model.proofs.SpinWitness as spin
 use Rattle.world_model.proofs.Witness as witness
-use Rattle.net_edge.specs.Acting.{moved, scene_of, is_open, sent_on, spin_fed, spin_answered, where_stands, servers_tick, links_tick, client_ticks}
-use Rattle.net_edge.specs.Demo.{IsCarried, AreOf, all_messages, reached_book}
+use Rattle.net_edge.specs.Acting.{scene_after, scene_of, is_group_open, sent_on, spin_server_fed, spin_answered, where_stands, servers_tick, links_tick, client_tick}
+use Rattle.net_edge.specs.Demo.{IsCarried, AreTotalsOf, all_messages, reached_book}
 use Rattle.net_edge.specs.Due.{Setting, demo_unit, hold_limit}
 use Rattle.net_edge.specs.Playing.{ClientHas, closes, told_down}
-use Rattle.net_edge.specs.Scene.{Scene, on_line, at_end, said_at}
-use Rattle.net_edge.specs.Sides.{ProxySide}
+use Rattle.net_edge.specs.Scene.{Scene, line_in, at_end, said_at}
+use Rattle.net_edge.specs.Peers.{ProxyPeer}
 use Rattle.net_edge.specs.Steps.{Step, Did, Beat, Turn}
 use Rattle.net_edge.specs.Turns.{AreSteps, MayCome}
 use Rattle.net_edge.proofs.Growing.{Begins, IsBefore, before_then, before_same, grows}
@@ -47,7 +47,7 @@ use Rattle.net_edge.proofs.Honesty.{standing, hears_piece, hears_gap, hears_down
 use Rattle.net_edge.proofs.Spoken.{says_all}
 
 -- ---- What stays at the client's end
-fed_link : (s : Setting) (bytes : List ℕ) (answer : NetTaken) (turn : ℕ) (c : Connection (List Served)) → (spin_fed s bytes answer turn c).link ≡ c.link
+fed_link : (s : Setting) (bytes : List ℕ) (answer : NetTaken) (turn : ℕ) (c : Connection (List Served)) → (spin_server_fed s bytes answer turn c).link ≡ c.link
 fed_link s bytes (Got count) turn c = refl
 fed_link s bytes Quiet turn c = refl
 fed_link s bytes End turn c = refl
@@ -60,7 +60,7 @@ pumped_link (suc n) c = pumped_link n c
 answered_link : (s : Setting) (bytes : List ℕ) (answer : NetTaken) (turn : ℕ) (goes_on : Bool) (c : Connection (List Served)) → (spin_answered s bytes answer turn goes_on c).link ≡ c.link
 answered_link s bytes answer turn true c = fed_link s bytes answer turn c
 answered_link s bytes answer turn false c =
-    let fed : Connection (List Served) = spin_fed s bytes answer turn c in
+    let fed : Connection (List Served) = spin_server_fed s bytes answer turn c in
     pumped_link (pumps demo_unit fed.server) fed ∙ fed_link s bytes answer turn c
 
 served_link : (s : Setting) (n : Scene) → (servers_tick s n).spin.link ≡ n.spin.link
@@ -71,7 +71,7 @@ served_link s n = by n.spin_cut
     by false = refl
 
 -- ---- Along a run
-module _ (s : Setting) (R : Scene) (carried : IsCarried R) (puts : (at : LinkEnd) → (at_end at R).put ≡ said_at at R) (pieces : (line : Line) → AllByRecursion (IsPiece (all_messages s) demo_unit) (on_line line R).sent) where
+module _ (s : Setting) (R : Scene) (carried : IsCarried R) (puts : (at : LinkEnd) → (at_end at R).put ≡ said_at at R) (pieces : (line : Line) → AllByRecursion (IsPiece (all_messages s) demo_unit) (line_in line R).sent) where
   abbrev V : List Raw
   V = all_messages s
 
@@ -82,10 +82,10 @@ module _ (s : Setting) (R : Scene) (carried : IsCarried R) (puts : (at : LinkEnd
   Came n = Witnessed demo_unit V (stands n) n.heard
 
   -- a datagram that came was sent
-  came_piece : (line : Line) (came : List (List ℕ)) (bytes : List ℕ) → Begins (came ++ bytes ∷ []) (on_line line R).came → IsPiece V demo_unit bytes
+  came_piece : (line : Line) (came : List (List ℕ)) (bytes : List ℕ) → Begins (came ++ bytes ∷ []) (line_in line R).came → IsPiece V demo_unit bytes
   came_piece line came bytes begins =
-      let there : Contains (on_line line R).came bytes = subst (λ (ds : List (List ℕ)). Contains ds bytes) (sym begins.1) (Contains-append_left (came ++ bytes ∷ []) begins.0 bytes (Contains-push came bytes)) in
-      All-contains (IsPiece V demo_unit) (on_line line R).sent bytes (All-from_recursion (IsPiece V demo_unit) (on_line line R).sent (pieces line)) (carried.lines line bytes there)
+      let there : Contains (line_in line R).came bytes = subst (λ (ds : List (List ℕ)). Contains ds bytes) (sym begins.1) (Contains-append_left (came ++ bytes ∷ []) begins.0 bytes (Contains-push came bytes)) in
+      All-contains (IsPiece V demo_unit) (line_in line R).sent bytes (All-from_recursion (IsPiece V demo_unit) (line_in line R).sent (pieces line)) (carried.lines line bytes there)
 
   -- the bytes that came from the spin server are the next that it said
   came_next : (came bytes : List ℕ) → (begins : Begins (came ++ bytes) R.spin_client.came) → R.spin.down.put ≡ (came ++ bytes) ++ (begins.0 ++ (carried.ends SpinClient).0)
@@ -111,17 +111,17 @@ module _ (s : Setting) (R : Scene) (carried : IsCarried R) (puts : (at : LinkEnd
   spin_still : (n : Scene) → Came n → Witnessed demo_unit V (standing V R.spin.down.put R.spin.server n.spin_cut (length (n.spin_client.came ++ [])) n.spin.link) n.heard
   spin_still n w = subst (λ (b : List ℕ). Witnessed demo_unit V (standing V R.spin.down.put R.spin.server n.spin_cut (length b) n.spin.link) n.heard) (sym (append-nil n.spin_client.came)) w
 
-  beats : (n : Scene) → Came n → Came (client_ticks (links_tick (servers_tick s n)))
+  beats : (n : Scene) → Came n → Came (client_tick (links_tick (servers_tick s n)))
   beats n w =
       let served : Scene = servers_tick s n in
       let grp : Connection Source = where_stands n.grp_cut (λ k. at_link gap_link Ticked k) served.grp in
-      let E : List Entry = told_down ProxySide (closes ProxySide n.grp_cut grp.link) n.heard in
-      let down : Witnessed demo_unit V (stands n) E = hears_down V (stands n) (closes ProxySide n.grp_cut grp.link) n.heard w in
+      let E : List Entry = told_down ProxyPeer (closes ProxyPeer n.grp_cut grp.link) n.heard in
+      let down : Witnessed demo_unit V (stands n) E = hears_down V (stands n) (closes ProxyPeer n.grp_cut grp.link) n.heard w in
       let there : Witnessed demo_unit V (standing V R.spin.down.put R.spin.server n.spin_cut (length n.spin_client.came) served.spin.link) E =
       subst (λ (l : List (Event Lookups)). Witnessed demo_unit V (standing V R.spin.down.put R.spin.server n.spin_cut (length n.spin_client.came) l) E) (sym (served_link s n)) down in
       ticks V R.spin.down.put R.spin.server n.spin_cut (ask_of hold_limit (links_tick served).heard) (length n.spin_client.came) served.spin E there
 
-  came_more : (step : Step) (n : Scene) → MayCome s step n → IsBefore (moved s step n) R → Came n → Came (moved s step n)
+  came_more : (step : Step) (n : Scene) → MayCome s step n → IsBefore (scene_after s step n) R → Came n → Came (scene_after s step n)
   came_more (Did (Begin answer)) n may before w = w
   came_more (Did (Send A datagram answer)) n may before w = w
   came_more (Did (Send B datagram answer)) n may before w = w
@@ -148,10 +148,10 @@ module _ (s : Setting) (R : Scene) (carried : IsCarried R) (puts : (at : LinkEnd
   came_more (Did (Take GrpServer bytes Failed)) n may before w = w
   came_more (Did (Take SpinServer bytes answer)) n may before w =
       subst (λ (l : List (Event Lookups)). Witnessed demo_unit V (standing V R.spin.down.put R.spin.server n.spin_cut (length n.spin_client.came) l) n.heard)
-      (sym (answered_link s bytes answer n.turn (is_open (answer ∷ n.spin_server.answers)) n.spin)) w
+      (sym (answered_link s bytes answer n.turn (is_group_open (answer ∷ n.spin_server.answers)) n.spin)) w
   came_more (Did (Take GrpClient bytes (Got count))) n may before w =
       let E : List Entry = heard_all (link_tells gap_link n.grp.link bytes) n.heard in
-      hears_down V (stands n) (closes ProxySide n.grp_cut (Fed bytes NoLookup ∷ n.grp.link)) E (hears_gap V (stands n) n.grp.link bytes n.heard w)
+      hears_down V (stands n) (closes ProxyPeer n.grp_cut (Fed bytes NoLookup ∷ n.grp.link)) E (hears_gap V (stands n) n.grp.link bytes n.heard w)
   came_more (Did (Take GrpClient bytes Quiet)) n may before w = w
   came_more (Did (Take GrpClient bytes End)) n may before w = hears_down V (stands n) true n.heard w
   came_more (Did (Take GrpClient bytes Failed)) n may before w = w
@@ -164,17 +164,17 @@ module _ (s : Setting) (R : Scene) (carried : IsCarried R) (puts : (at : LinkEnd
 
 -- ---- A whole run
 module _ (s : Setting) (run : List Step) (carried : IsCarried (scene_of s run)) (puts : (at : LinkEnd) → (at_end at (scene_of s run)).put ≡ said_at at (scene_of s run))
-    (pieces : (line : Line) → AllByRecursion (IsPiece (all_messages s) demo_unit) (on_line line (scene_of s run)).sent) where
+    (pieces : (line : Line) → AllByRecursion (IsPiece (all_messages s) demo_unit) (line_in line (scene_of s run)).sent) where
   came_all : (steps : List Step) → AreSteps s steps → IsBefore (scene_of s steps) (scene_of s run)
       → Witnessed demo_unit (all_messages s) (stands s (scene_of s run) carried puts pieces (scene_of s steps)) (scene_of s steps).heard
   came_all [] are before = says_all s run
   came_all (step ∷ earlier) are before =
       let n : Scene = scene_of s earlier in
-      came_more s (scene_of s run) carried puts pieces step n are.0 before (came_all earlier are.1 (before_then n (moved s step n) (scene_of s run) (grows s step n) before))
+      came_more s (scene_of s run) carried puts pieces step n are.0 before (came_all earlier are.1 (before_then n (scene_after s step n) (scene_of s run) (grows s step n) before))
 
   -- the client's book is the venue's
   pub carried_book : (client : UnitClient) → AllByRecursion AreBytes (all_messages s) → length (all_messages s) ≤ last_sequence → AreSteps s run → ClientHas client (scene_of s run).heard
-      → AreOf (reached_book s (scene_of s run)) (map.len (current_book client).orders) (shares (current_book client))
+      → AreTotalsOf (reached_book s (scene_of s run)) (map.len (current_book client).orders) (shares (current_book client))
   carried_book client bytes few are has =
       let R : Scene = scene_of s run in
       let V : List Raw = all_messages s in

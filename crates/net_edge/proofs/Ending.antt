@@ -18,12 +18,12 @@ use Rattle.venue_core.specs.Plan.{plan}
 use Rattle.client_core.specs.Tracks.{current_book}
 use Rattle.storm_plan.specs.StormText.{unit_line}
 use Rattle.net_edge.specs.Acting.{scene_of}
-use Rattle.net_edge.specs.Demo.{IsDemo, IsEnd, IsLast, AddsCalls, all_messages}
+use Rattle.net_edge.specs.Demo.{IsDemo, EndsDemo, IsLast, AddsCalls, all_messages}
 use Rattle.net_edge.specs.Due.{Setting, demo_unit, hold_limit, accepted}
-use Rattle.net_edge.specs.Playing.{DemoAt, EndsHave, IsTold, MarketAt, calls_before}
-use Rattle.net_edge.specs.Scene.{Scene, on_line, at_end, said_at}
+use Rattle.net_edge.specs.Playing.{DemoAt, EndsHave, ListsCalls, MarketAt, calls_before}
+use Rattle.net_edge.specs.Scene.{Scene, line_in, at_end, said_at}
 use Rattle.net_edge.specs.Steps.{Step}
-use Rattle.net_edge.specs.Turns.{AreSteps, IsOver, status_at}
+use Rattle.net_edge.specs.Turns.{AreSteps, IsOver, client_status}
 use Rattle.net_edge.specs.declared.ends.Ends.{Ends}
 use Rattle.net_edge.specs.declared.market.Market.{Market}
 use Rattle.net_edge.proofs.Feeding.{due_pieces, replied_pieces}
@@ -41,7 +41,7 @@ all_accepted s market turn above has =
     let every : accepted s turn ≡ s.count = omega (arith, above) in
     subst AreMessages (ap (plan s.number demo_unit) every) (record { raws = has.venue.raws; bytes = has.venue.bytes; few = has.venue.few })
 
-adds : (before after : Option (List Call)) (run : List Step) → IsTold (calls_before before) after run → AddsCalls run before after
+adds : (before after : Option (List Call)) (run : List Step) → ListsCalls (calls_before before) after run → AddsCalls run before after
 adds None None run told = tt
 adds None (Some calls) run told = tt
 adds (Some calls) None run told = tt
@@ -56,13 +56,13 @@ all_was_put ends now has SpinServer = has.spin_server.put_is
 
 -- and what was sent are pieces
 all_are_pieces : (s : Setting) (ends : Ends) (run : List Step) → AreMessages (all_messages s) → EndsHave ends (scene_of s run) → IsOver s (scene_of s run)
-    → (line : Line) → AllByRecursion (IsPiece (all_messages s) demo_unit) (on_line line (scene_of s run)).sent
+    → (line : Line) → AllByRecursion (IsPiece (all_messages s) demo_unit) (line_in line (scene_of s run)).sent
 all_are_pieces s ends run are has over A = subst (AllByRecursion (IsPiece (all_messages s) demo_unit)) (sym over.on_a) (due_pieces s are.raws are.few A (scene_of s run).turn)
 all_are_pieces s ends run are has over B = subst (AllByRecursion (IsPiece (all_messages s) demo_unit)) (sym over.on_b) (due_pieces s are.raws are.few B (scene_of s run).turn)
 all_are_pieces s ends run are has over Gap = subst (AllByRecursion (IsPiece (all_messages s) demo_unit)) (sym has.replayed) (replied_pieces s are.raws are.few run)
 
 run_ends : (s : Setting) (ends : Ends) (market : Market) (run : List Step) → AreSteps s run → EndsHave ends (scene_of s run) → IsOver s (scene_of s run) → IsLast s (scene_of s run) → MarketAt s market (scene_of s run).turn
-    → IsEnd s (scene_of s run) (map.len (current_book ends.client).orders) (shares (current_book ends.client))
+    → EndsDemo s (scene_of s run) (map.len (current_book ends.client).orders) (shares (current_book ends.client))
 run_ends s ends market run steps has over last at =
     let R : Scene = scene_of s run in
     let are : AreMessages (all_messages s) = all_accepted s market R.turn last.above at in
@@ -92,5 +92,5 @@ demo_is s before after text text' ends market now at over last has printed =
       orders = orders;
       quantity = quantity;
       end = run_ends s ends market run led.steps (subst (EndsHave ends) back at.has) (subst (IsOver s) back over) (subst (IsLast s) back last) (subst (λ (n : Scene). MarketAt s market n.turn) back has);
-      printed = printed ∙ ap (λ (n : Scene). text ++ unit_line demo_unit (status_at n) orders quantity) back;
+      printed = printed ∙ ap (λ (n : Scene). text ++ unit_line demo_unit (client_status n) orders quantity) back;
     }

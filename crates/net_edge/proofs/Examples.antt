@@ -10,9 +10,9 @@ use Rattle.unit_packets.specs.BlockBytes.{block_bytes}
 use Rattle.pitch_model.specs.declared.status.Status.TheVariants.{Silent}
 use Rattle.session_ends.specs.Events.{Ticked}
 use Rattle.net_edge.specs.Acting.{scene_of}
-use Rattle.net_edge.specs.Due.{Setting, advertised, beat, ticks}
+use Rattle.net_edge.specs.Due.{Setting, advertised_until, beat, ticks}
 use Rattle.net_edge.specs.Steps.{Step, Did, Beat, Turn}
-use Rattle.net_edge.specs.Turns.{status_at}
+use Rattle.net_edge.specs.Turns.{client_status}
 
 s : Setting
 s = record { number = 0; count = 0 }
@@ -43,7 +43,7 @@ beat_is : beat s 10 ≡ heartbeat
 unfolding s heartbeat block_bytes
 beat_is = refl
 
-advertised_is : advertised s 10 ≡ 0 ∷ []
+advertised_is : advertised_until s 10 ≡ 0 ∷ []
 unfolding s
 advertised_is = refl
 
@@ -56,6 +56,6 @@ proxy_is : (scene_of s run).grp.server ≡ Ticked ∷ []
 unfolding s heartbeat served heard quiet_turns run
 proxy_is = refl
 
-silent_before : status_at (scene_of s (quiet_turns 9)) ≡ Silent
+silent_before : client_status (scene_of s (quiet_turns 9)) ≡ Silent
 unfolding s served heard quiet_turns
 silent_before = refl

@@ -22,7 +22,7 @@ use Rattle.grp_session.specs.Serving.{Source, proxy_answer}
 use Rattle.world_model.specs.Ends.{grp_server}
 use Rattle.world_model.proofs.Pieces.{Pieces, pieces_append, pieces_more}
 use Rattle.world_model.proofs.Replies.{proxy_pieces, views_same}
-use Rattle.net_edge.specs.Acting.{moved, scene_of, source_at}
+use Rattle.net_edge.specs.Acting.{scene_after, scene_of, source_at}
 use Rattle.net_edge.specs.Demo.{all_messages}
 use Rattle.net_edge.specs.Due.{Setting, demo_unit, accepted, messages, new_datagrams, copies, line_number, beat, beats, is_tenth, due, gap_view}
 use Rattle.net_edge.specs.Scene.{Scene}
@@ -106,7 +106,7 @@ module _ (s : Setting) (raws : AllByRecursion IsRaw (all_messages s)) (few : len
       pieces_of_all turn (proxy_answer (grp_server demo_unit) events bytes source).lines (proxy_pieces (messages s turn) demo_unit (omega arith) (raws_at turn) (few_at turn) (grp_server demo_unit) events bytes source refl views)
 
   -- a step adds pieces to what the proxy has for the line
-  replies_more : (step : Step) (n : Scene) → Pieces (all_messages s) demo_unit n.replayed → Pieces (all_messages s) demo_unit (moved s step n).replayed
+  replies_more : (step : Step) (n : Scene) → Pieces (all_messages s) demo_unit n.replayed → Pieces (all_messages s) demo_unit (scene_after s step n).replayed
   replies_more (Did (Begin answer)) n p = p
   replies_more (Did (Send A datagram answer)) n p = p
   replies_more (Did (Send B datagram answer)) n p = p

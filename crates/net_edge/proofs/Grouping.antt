@@ -6,7 +6,7 @@ use Rattle.std.proofs.lemmas.Bool.Decides.{nat_tests}
 use Rattle.std.proofs.Math.Bool.{and-false}
 use Rattle.pitch_io.specs.declared.net.NetTaken.{NetTaken}
 use Rattle.pitch_io.specs.declared.net.NetTaken.TheVariants as taken
-use Rattle.net_edge.specs.Acting.{is_open}
+use Rattle.net_edge.specs.Acting.{is_group_open}
 use Rattle.net_edge.specs.Playing.{AreGroup, AreTaken}
 use Rattle.net_edge.specs.Scene.{is_got}
 
@@ -18,7 +18,7 @@ pub record Gots (answers : List NetTaken) (count : ℕ) : Type 0 where
 not_less : (a b : ℕ) → b ≤ a → nat_lt a b ≡ false
 not_less a b le = lt-leb (suc a) b (omega (arith, le))
 
-pub open_by : (answers : List NetTaken) (count : ℕ) → Gots answers count → count < 100 → is_open answers ≡ true
+pub open_by : (answers : List NetTaken) (count : ℕ) → Gots answers count → count < 100 → is_group_open answers ≡ true
 open_by answers count gots few = ap (λ (b : Bool). b && list_all is_got answers) (lt-ltb (length answers) 100 (omega (arith, gots.many))) ∙ gots.all
 
 pub gots_none : Gots [] 0
@@ -52,7 +52,7 @@ none_over cut false (inr e) = λ opened. absurd (false≢true e.1)
 
 -- one call more, of which this stands then: it goes on, or the group is over
 module _ {P Q : List NetTaken → Type 0} (answer : NetTaken) (count : ℕ) (few : count < 100) (so_far : (answers : List NetTaken) × Gots answers count × P answers)
-    (then : (answers : List NetTaken) → Gots answers count → is_open answers ≡ true → P answers → Q (answer ∷ answers)) where
+    (then : (answers : List NetTaken) → Gots answers count → is_group_open answers ≡ true → P answers → Q (answer ∷ answers)) where
   pub call_more : is_got answer ≡ true → (answers : List NetTaken) × Gots answers (count + 1) × Q answers
   call_more got = (answer ∷ so_far.0, gots_more answer so_far.0 count got so_far.1, then so_far.0 so_far.1 (open_by so_far.0 count so_far.1 few) so_far.2)
 
@@ -78,7 +78,7 @@ nothing answer (inr (inl e)) = ap is_got e
 nothing answer (inr (inr e)) = ap is_got e
 
 -- the next call is the last one where it is the hundredth, or gets nothing
-pub open_then : (answer : NetTaken) (answers : List NetTaken) (count : ℕ) → Gots answers count → count < 100 → is_open (answer ∷ answers) ≡ (is_got answer && not (eqb count 99))
+pub open_then : (answer : NetTaken) (answers : List NetTaken) (count : ℕ) → Gots answers count → count < 100 → is_group_open (answer ∷ answers) ≡ (is_got answer && not (eqb count 99))
 open_then answer answers count gots few =
     ap (λ (n : ℕ). nat_lt (suc n) 100 && (is_got answer && list_all is_got answers)) gots.many
     ∙ ap (λ (b : Bool). nat_lt (suc count) 100 && (is_got answer && b)) gots.all

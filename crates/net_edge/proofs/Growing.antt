@@ -5,7 +5,7 @@ use Rattle.pitch_io.specs.declared.line.Line.TheVariants.{A, B, Gap}
 use Rattle.pitch_io.specs.declared.net.LinkEnd.TheVariants.{GrpClient, GrpServer, SpinClient, SpinServer}
 use Rattle.pitch_io.specs.declared.net.NetTaken.TheVariants.{Got, Quiet, End, Failed}
 use Rattle.pitch_io.specs.Nets.{Begin, Send, Next, Put, Take}
-use Rattle.net_edge.specs.Acting.{moved, came_by}
+use Rattle.net_edge.specs.Acting.{scene_after, came_by}
 use Rattle.net_edge.specs.Due.{Setting}
 use Rattle.net_edge.specs.Scene.{Scene}
 use Rattle.net_edge.specs.Steps.{Step, Did, Beat, Turn}
@@ -46,7 +46,7 @@ still n m a b gap spin = record {
 }
 
 -- a step only adds
-pub grows : (s : Setting) (step : Step) (n : Scene) → IsBefore n (moved s step n)
+pub grows : (s : Setting) (step : Step) (n : Scene) → IsBefore n (scene_after s step n)
 grows s (Did (Begin answer)) n = before_same n
 grows s (Did (Send A datagram answer)) n = still n _ refl refl refl refl
 grows s (Did (Send B datagram answer)) n = still n _ refl refl refl refl

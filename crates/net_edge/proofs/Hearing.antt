@@ -26,10 +26,10 @@ use Rattle.pitch_model.proofs.Units.{honest_block}
 use Rattle.client_core.specs.Blocks.{Carries}
 use Rattle.client_core.specs.Tracks.{Tracks, Keeps}
 use Rattle.client_core.specs.declared.client.UnitClient.{UnitClient}
-use Rattle.net_edge.specs.Acting.{ours, is_open, came_by, heard_by}
+use Rattle.net_edge.specs.Acting.{ours, is_group_open, came_by, blocks_heard}
 use Rattle.net_edge.specs.Due.{Setting, demo_unit}
 use Rattle.net_edge.specs.Playing.{ClientHas, HearsOn, Plays}
-use Rattle.net_edge.specs.Scene.{Scene, OnLine, on_line, with_line}
+use Rattle.net_edge.specs.Scene.{Scene, OnLine, line_in, with_line}
 use Rattle.net_edge.proofs.Runs.{play_call}
 
 pub bytes_more : (lists : List (Roomy ℕ)) (i : ℕ) (list : Roomy ℕ) → slice_get lists i ≡ Some list → bytes_in (take (i + 1) lists) ≡ bytes_in (take i lists) ++ list.items ∷ []
@@ -115,7 +115,7 @@ pub heard_end : (one two : UnitClient) (bytes : List ℕ) (at : ℕ) → HeardTo
 heard_end one two bytes at h end = all_heard one two bytes at h (ap blocks_of (drop_all at bytes end) ∙ no_blocks)
 
 -- ---- Lines
-pub line_is : (line : Line) (on : OnLine) (now : Scene) → on_line line (with_line line on now) ≡ on
+pub line_is : (line : Line) (on : OnLine) (now : Scene) → line_in line (with_line line on now) ≡ on
 line_is A on now = refl
 line_is B on now = refl
 line_is Gap on now = refl
@@ -125,7 +125,7 @@ line_with A on on' E E' now = refl
 line_with B on on' E E' now = refl
 line_with Gap on on' E E' now = refl
 
-line_at : (line : Line) (on : OnLine) (E : List Entry) (now : Scene) → on_line line (record (with_line line on now) { heard = E }) ≡ on
+line_at : (line : Line) (on : OnLine) (E : List Entry) (now : Scene) → line_in line (record (with_line line on now) { heard = E }) ≡ on
 line_at A on E now = refl
 line_at B on E now = refl
 line_at Gap on E now = refl
@@ -135,23 +135,23 @@ heard_at line on E now = refl
 
 -- a call more on a line, of which the client heard what came
 pub hears_on : (s : Setting) (base : List Call) (calls calls' : Option (List Call)) (one two : UnitClient) (line : Line) (bytes : List ℕ) (answer : NetTaken) (answers : List NetTaken) (now : Scene) → (h : HearsOn s base calls one line answers now)
-    → ListsCall calls calls' (Next line bytes answer) → is_open answers ≡ true → ClientHas two (heard_by answer bytes h.heard) → HearsOn s base calls' two line (answer ∷ answers) now
+    → ListsCall calls calls' (Next line bytes answer) → is_group_open answers ≡ true → ClientHas two (blocks_heard answer bytes h.heard) → HearsOn s base calls' two line (answer ∷ answers) now
 hears_on s base calls calls' one two line bytes answer answers now h lists opened has =
     let on : OnLine = record { sent = h.on.sent; came = h.on.came ++ came_by answer bytes; answers = answer ∷ h.on.answers } in
     let at : Scene = record (with_line line h.on now) { heard = h.heard } in
     record {
       on = on;
-      heard = heard_by answer bytes h.heard;
+      heard = blocks_heard answer bytes h.heard;
       answers_are = ap (λ (l : List NetTaken). answer ∷ l) h.answers_are;
       sent_is = h.sent_is;
       has = has;
       plays = subst (Plays s base calls')
-          (ap (λ (l : OnLine). record (with_line line (record l { came = l.came ++ came_by answer bytes; answers = answer ∷ l.answers }) at) { heard = heard_by answer bytes h.heard }) (line_at line h.on h.heard now)
-          ∙ line_with line h.on on h.heard (heard_by answer bytes h.heard) now)
-          (play_call s base calls calls' at (Next line bytes answer) lists (ap (λ (l : OnLine). is_open l.answers) (line_at line h.on h.heard now) ∙ ap is_open h.answers_are ∙ opened) h.plays);
+          (ap (λ (l : OnLine). record (with_line line (record l { came = l.came ++ came_by answer bytes; answers = answer ∷ l.answers }) at) { heard = blocks_heard answer bytes h.heard }) (line_at line h.on h.heard now)
+          ∙ line_with line h.on on h.heard (blocks_heard answer bytes h.heard) now)
+          (play_call s base calls calls' at (Next line bytes answer) lists (ap (λ (l : OnLine). is_group_open l.answers) (line_at line h.on h.heard now) ∙ ap is_group_open h.answers_are ∙ opened) h.plays);
     }
 
 -- where nothing came, nothing is heard
-pub heard_nothing_of : (client : UnitClient) (answer : NetTaken) (bytes : List ℕ) (E : List Entry) → (answer ≡ taken.Quiet) ⊎ (answer ≡ taken.End) → ClientHas client E → ClientHas client (heard_by answer bytes E)
-heard_nothing_of client answer bytes E (inl quiet) has = subst (λ (a : NetTaken). ClientHas client (heard_by a bytes E)) (sym quiet) has
-heard_nothing_of client answer bytes E (inr end) has = subst (λ (a : NetTaken). ClientHas client (heard_by a bytes E)) (sym end) has
+pub heard_nothing_of : (client : UnitClient) (answer : NetTaken) (bytes : List ℕ) (E : List Entry) → (answer ≡ taken.Quiet) ⊎ (answer ≡ taken.End) → ClientHas client E → ClientHas client (blocks_heard answer bytes E)
+heard_nothing_of client answer bytes E (inl quiet) has = subst (λ (a : NetTaken). ClientHas client (blocks_heard a bytes E)) (sym quiet) has
+heard_nothing_of client answer bytes E (inr end) has = subst (λ (a : NetTaken). ClientHas client (blocks_heard a bytes E)) (sym end) has

@@ -24,7 +24,7 @@ use Rattle.world_model.specs.Witness.{Witnessed}
 use Rattle.world_model.proofs.LinkItems.{gap_link_tells}
 use Rattle.world_model.proofs.SpinWitness as spin
 use Rattle.world_model.proofs.Witness as witness
-use Rattle.net_edge.specs.Acting.{ours, where_stands, asked_spin}
+use Rattle.net_edge.specs.Acting.{ours, where_stands, image_asked}
 use Rattle.net_edge.specs.Due.{demo_unit}
 
 -- bytes of which none went
@@ -93,7 +93,7 @@ module _ (V : List Raw) (put : List ℕ) (server : List (Event (List Served))) w
   carries_on false closed n n' link link' E E' stood does w = cuts V closed (carried n' link') E' (does w)
 
   -- ---- A tick
-  asked_of : (ask : Option Ask) (n : ℕ) (c : Connection (List Served)) (E : List Entry) → Witnessed demo_unit V (Some (carried n c.link)) E → Witnessed demo_unit V (Some (carried n (asked_spin ask c).link)) E
+  asked_of : (ask : Option Ask) (n : ℕ) (c : Connection (List Served)) (E : List Entry) → Witnessed demo_unit V (Some (carried n c.link)) E → Witnessed demo_unit V (Some (carried n (image_asked ask c).link)) E
   asked_of None n c E w = w
   asked_of (Some (asks.Gap first count)) n c E w = w
   asked_of (Some (asks.Spin sequence)) n c E w = spin.ups demo_unit V E _ no_pipe (spin.link_asks demo_unit V E (carried n c.link) (SpinRequest sequence) w)
@@ -102,13 +102,13 @@ module _ (V : List Raw) (put : List ℕ) (server : List (Event (List Served))) w
   pub ticks : (cut : Bool) (ask : Option Ask) (n : ℕ) (c : Connection (List Served)) (E : List Entry) → Witnessed demo_unit V (standing cut n c.link) E
       → let k : Connection (List Served) = where_stands cut (λ x. at_link (spin_link demo_unit) Ticked x) c in
       let shut : Bool = not cut && is_some (closed_of (spin_link demo_unit) k.link) in
-      Witnessed demo_unit V (standing (cut || shut) n (where_stands (cut || shut) (asked_spin ask) k).link) (EntryTicked ask ∷ cond shut (SpinDown ∷ E) E)
+      Witnessed demo_unit V (standing (cut || shut) n (where_stands (cut || shut) (image_asked ask) k).link) (EntryTicked ask ∷ cond shut (SpinDown ∷ E) E)
   ticks true ask n c E w = witness.hears demo_unit V None (EntryTicked ask) E tt w
   ticks false ask n c E w = by (is_some (closed_of (spin_link demo_unit) (Ticked ∷ c.link)))
     where
       there : Witnessed demo_unit V (Some (carried n (Ticked ∷ c.link))) E
       there = spin.ups demo_unit V E _ no_pipe (spin.link_ticks demo_unit V E (carried n c.link) w)
 
-      by : (b : Bool) → Witnessed demo_unit V (standing b n (where_stands b (asked_spin ask) (at_link (spin_link demo_unit) Ticked c)).link) (EntryTicked ask ∷ cond b (SpinDown ∷ E) E)
+      by : (b : Bool) → Witnessed demo_unit V (standing b n (where_stands b (image_asked ask) (at_link (spin_link demo_unit) Ticked c)).link) (EntryTicked ask ∷ cond b (SpinDown ∷ E) E)
       by true = witness.hears demo_unit V None (EntryTicked ask) (SpinDown ∷ E) tt (spin.ends demo_unit V (Some (carried n (Ticked ∷ c.link))) E (omega arith) there)
       by false = asked_of ask n (at_link (spin_link demo_unit) Ticked c) (EntryTicked ask ∷ E) (witness.hears demo_unit V (Some (carried n (Ticked ∷ c.link))) (EntryTicked ask) E tt there)

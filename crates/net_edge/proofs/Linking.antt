@@ -25,11 +25,11 @@ use Rattle.world_model.specs.State.{Connection, Pipe}
 use Rattle.world_model.specs.Hearing.{IsTold, HearsItems}
 use Rattle.world_model.proofs.HeardItems.{honest_first}
 use Rattle.world_model.proofs.LinkItems.{link_told, told_spare}
-use Rattle.net_edge.specs.Acting.{is_open, put_at, took, taken_at}
+use Rattle.net_edge.specs.Acting.{is_group_open, end_puts, end_took, taken_at}
 use Rattle.net_edge.specs.Due.{Setting, hold_limit}
 use Rattle.net_edge.specs.Playing.{Plays, ClientHas, LinkHas, LinkSays, LinkTells, HearsLink, closes, told_down}
 use Rattle.net_edge.specs.Scene.{Scene, AtEnd}
-use Rattle.net_edge.specs.Sides.{Side, ProxySide, SpinSide, end_of, setup_of, down_of, with_side}
+use Rattle.net_edge.specs.Peers.{Peer, ProxyPeer, SpinPeer, end_of, peer_setup, down_of, with_client_end}
 use Rattle.net_edge.specs.Turns.{MayCall}
 use Rattle.net_edge.proofs.Runs.{play_call}
 
@@ -64,18 +64,18 @@ heard_entry client client' entry E before has tracks keeps = record {
 -- ---- Calls of `take` at the client's end of a connection that stands
 -- what each makes of a scene
 module _ (s : Setting) (end : AtEnd) (up : Pipe) (events : List (Event Lookups)) (E : List Entry) (now : Scene) where
-  took_some : (side : Side) (bytes : List ℕ) (count : ℕ) → taken_at s (end_of side) bytes (taken.Got count) (with_side side end up events false E now)
-      ≡ with_side side (took bytes (taken.Got count) end) (record { put = up.put ++ []; taken = up.taken }) (Fed bytes NoLookup ∷ events) (closes side false (Fed bytes NoLookup ∷ events)) (told_down side (closes side false (Fed bytes NoLookup ∷ events)) (heard_all (link_tells (setup_of side) events bytes) E)) now
-  took_some ProxySide bytes count = refl
-  took_some SpinSide bytes count = refl
+  took_some : (peer : Peer) (bytes : List ℕ) (count : ℕ) → taken_at s (end_of peer) bytes (taken.Got count) (with_client_end peer end up events false E now)
+      ≡ with_client_end peer (end_took bytes (taken.Got count) end) (record { put = up.put ++ []; taken = up.taken }) (Fed bytes NoLookup ∷ events) (closes peer false (Fed bytes NoLookup ∷ events)) (told_down peer (closes peer false (Fed bytes NoLookup ∷ events)) (heard_all (link_tells (peer_setup peer) events bytes) E)) now
+  took_some ProxyPeer bytes count = refl
+  took_some SpinPeer bytes count = refl
 
-  took_none : (side : Side) → taken_at s (end_of side) [] taken.Quiet (with_side side end up events false E now) ≡ with_side side (took [] taken.Quiet end) up events false E now
-  took_none ProxySide = refl
-  took_none SpinSide = refl
+  took_none : (peer : Peer) → taken_at s (end_of peer) [] taken.Quiet (with_client_end peer end up events false E now) ≡ with_client_end peer (end_took [] taken.Quiet end) up events false E now
+  took_none ProxyPeer = refl
+  took_none SpinPeer = refl
 
-  took_end : (side : Side) → taken_at s (end_of side) [] taken.End (with_side side end up events false E now) ≡ with_side side (took [] taken.End end) up events true (down_of side ∷ E) now
-  took_end ProxySide = refl
-  took_end SpinSide = refl
+  took_end : (peer : Peer) → taken_at s (end_of peer) [] taken.End (with_client_end peer end up events false E now) ≡ with_client_end peer (end_took [] taken.End end) up events true (down_of peer ∷ E) now
+  took_end ProxyPeer = refl
+  took_end SpinPeer = refl
 
 -- what is cut where it ended has not ended while it stands
 stands : (ended : Bool) → (ended ≡ true → false ≡ true) → (ended || false) ≡ false
@@ -83,43 +83,43 @@ stands true so = sym (so refl)
 stands false so = refl
 
 -- it may come while the turn's group is open
-may_take : (side : Side) (end : AtEnd) (up : Pipe) (events : List (Event Lookups)) (E : List Entry) (now : Scene) (bytes : List ℕ) (answer : NetTaken) → is_open end.answers ≡ true → (end.ended ≡ true → false ≡ true)
-    → MayCall (Take (end_of side) bytes answer) (with_side side end up events false E now)
-may_take ProxySide end up events E now bytes answer opened unended = (opened, stands end.ended unended)
-may_take SpinSide end up events E now bytes answer opened unended = (opened, stands end.ended unended)
+may_take : (peer : Peer) (end : AtEnd) (up : Pipe) (events : List (Event Lookups)) (E : List Entry) (now : Scene) (bytes : List ℕ) (answer : NetTaken) → is_group_open end.answers ≡ true → (end.ended ≡ true → false ≡ true)
+    → MayCall (Take (end_of peer) bytes answer) (with_client_end peer end up events false E now)
+may_take ProxyPeer end up events E now bytes answer opened unended = (opened, stands end.ended unended)
+may_take SpinPeer end up events E now bytes answer opened unended = (opened, stands end.ended unended)
 
 -- what the client heard so far, and then of one call more
-module _ (side : Side) (s : Setting) (base : List Call) (calls calls' : Option (List Call)) (at : LinkEnd) (link link' : Ending) (client client' : UnitClient) (answers : List NetTaken) (now : Scene) where
+module _ (peer : Peer) (s : Setting) (base : List Call) (calls calls' : Option (List Call)) (at : LinkEnd) (link link' : Ending) (client client' : UnitClient) (answers : List NetTaken) (now : Scene) where
   -- the call is a step
-  took_so : (bytes : List ℕ) (answer : NetTaken) (after : Scene) → (h : HearsLink side s base calls link client answers false now) → at ≡ end_of side → is_open answers ≡ true → ListsCall calls calls' (Take at bytes answer)
-      → taken_at s (end_of side) bytes answer (with_side side h.end h.up h.events false h.heard now) ≡ after → Plays s base calls' after
+  took_so : (bytes : List ℕ) (answer : NetTaken) (after : Scene) → (h : HearsLink peer s base calls link client answers false now) → at ≡ end_of peer → is_group_open answers ≡ true → ListsCall calls calls' (Take at bytes answer)
+      → taken_at s (end_of peer) bytes answer (with_client_end peer h.end h.up h.events false h.heard now) ≡ after → Plays s base calls' after
   took_so bytes answer after h is opened lists makes =
-      let listed : ListsCall calls calls' (Take (end_of side) bytes answer) = subst (λ (e : LinkEnd). ListsCall calls calls' (Take e bytes answer)) is lists in
-      let may : MayCall (Take (end_of side) bytes answer) (with_side side h.end h.up h.events false h.heard now) = may_take side h.end h.up h.events h.heard now bytes answer (ap is_open h.answers_are ∙ opened) h.ended_is in
-      subst (Plays s base calls') makes (play_call s base calls calls' (with_side side h.end h.up h.events false h.heard now) (Take (end_of side) bytes answer) listed may h.plays)
+      let listed : ListsCall calls calls' (Take (end_of peer) bytes answer) = subst (λ (e : LinkEnd). ListsCall calls calls' (Take e bytes answer)) is lists in
+      let may : MayCall (Take (end_of peer) bytes answer) (with_client_end peer h.end h.up h.events false h.heard now) = may_take peer h.end h.up h.events h.heard now bytes answer (ap is_group_open h.answers_are ∙ opened) h.ended_is in
+      subst (Plays s base calls') makes (play_call s base calls calls' (with_client_end peer h.end h.up h.events false h.heard now) (Take (end_of peer) bytes answer) listed may h.plays)
 
-  pub link_got : (bytes : List ℕ) (count : ℕ) (shut : Bool) → (h : HearsLink side s base calls link client answers false now) → at ≡ end_of side → is_open answers ≡ true → ListsCall calls calls' (Take at bytes (taken.Got count))
-      → LinkTells side link' client' bytes h.events h.heard shut → HearsLink side s base calls' link' client' (taken.Got count ∷ answers) shut now
+  pub link_got : (bytes : List ℕ) (count : ℕ) (shut : Bool) → (h : HearsLink peer s base calls link client answers false now) → at ≡ end_of peer → is_group_open answers ≡ true → ListsCall calls calls' (Take at bytes (taken.Got count))
+      → LinkTells peer link' client' bytes h.events h.heard shut → HearsLink peer s base calls' link' client' (taken.Got count ∷ answers) shut now
   link_got bytes count shut h is opened lists tells =
-      let told : List Entry = heard_all (link_tells (setup_of side) h.events bytes) h.heard in
-      let cut : Bool = closes side false (Fed bytes NoLookup ∷ h.events) in
-      subst (λ (b : Bool). HearsLink side s base calls' link' client' (taken.Got count ∷ answers) b now) (sym tells.shut_is) (record {
-        end = took bytes (taken.Got count) h.end;
+      let told : List Entry = heard_all (link_tells (peer_setup peer) h.events bytes) h.heard in
+      let cut : Bool = closes peer false (Fed bytes NoLookup ∷ h.events) in
+      subst (λ (b : Bool). HearsLink peer s base calls' link' client' (taken.Got count ∷ answers) b now) (sym tells.shut_is) (record {
+        end = end_took bytes (taken.Got count) h.end;
         events = Fed bytes NoLookup ∷ h.events;
         up = record { put = h.up.put ++ []; taken = h.up.taken };
-        heard = told_down side cut told;
+        heard = told_down peer cut told;
         answers_are = ap (λ (l : List NetTaken). taken.Got count ∷ l) h.answers_are;
         ended_is = λ e. absurd (false≢true (h.ended_is e));
         put_is = h.put_is;
         up_is = append-nil h.up.put ∙ h.up_is;
         link_has = tells.link_has;
-        has = subst (λ (b : Bool). ClientHas client' (told_down side b told)) tells.shut_is tells.has;
-        plays = took_so bytes (taken.Got count) _ h is opened lists (took_some s h.end h.up h.events h.heard now side bytes count);
+        has = subst (λ (b : Bool). ClientHas client' (told_down peer b told)) tells.shut_is tells.has;
+        plays = took_so bytes (taken.Got count) _ h is opened lists (took_some s h.end h.up h.events h.heard now peer bytes count);
       })
 
-  pub link_quiet : (h : HearsLink side s base calls link client answers false now) → at ≡ end_of side → is_open answers ≡ true → ListsCall calls calls' (Take at [] taken.Quiet) → HearsLink side s base calls' link client (taken.Quiet ∷ answers) false now
+  pub link_quiet : (h : HearsLink peer s base calls link client answers false now) → at ≡ end_of peer → is_group_open answers ≡ true → ListsCall calls calls' (Take at [] taken.Quiet) → HearsLink peer s base calls' link client (taken.Quiet ∷ answers) false now
   link_quiet h is opened lists = record {
-    end = took [] taken.Quiet h.end;
+    end = end_took [] taken.Quiet h.end;
     events = h.events;
     up = h.up;
     heard = h.heard;
@@ -129,23 +129,23 @@ module _ (side : Side) (s : Setting) (base : List Call) (calls calls' : Option (
     up_is = h.up_is;
     link_has = h.link_has;
     has = h.has;
-    plays = took_so [] taken.Quiet _ h is opened lists (took_none s h.end h.up h.events h.heard now side);
+    plays = took_so [] taken.Quiet _ h is opened lists (took_none s h.end h.up h.events h.heard now peer);
   }
 
-  pub link_end : (h : HearsLink side s base calls link client answers false now) → at ≡ end_of side → is_open answers ≡ true → ListsCall calls calls' (Take at [] taken.End) → ClientHas client' (down_of side ∷ h.heard)
-      → HearsLink side s base calls' link client' (taken.End ∷ answers) true now
+  pub link_end : (h : HearsLink peer s base calls link client answers false now) → at ≡ end_of peer → is_group_open answers ≡ true → ListsCall calls calls' (Take at [] taken.End) → ClientHas client' (down_of peer ∷ h.heard)
+      → HearsLink peer s base calls' link client' (taken.End ∷ answers) true now
   link_end h is opened lists has = record {
-    end = took [] taken.End h.end;
+    end = end_took [] taken.End h.end;
     events = h.events;
     up = h.up;
-    heard = down_of side ∷ h.heard;
+    heard = down_of peer ∷ h.heard;
     answers_are = ap (λ (l : List NetTaken). taken.End ∷ l) h.answers_are;
     ended_is = λ e. refl;
     put_is = h.put_is;
     up_is = h.up_is;
     link_has = h.link_has;
     has = has;
-    plays = took_so [] taken.End _ h is opened lists (took_end s h.end h.up h.events h.heard now side);
+    plays = took_so [] taken.End _ h is opened lists (took_end s h.end h.up h.events h.heard now peer);
   }
 
 -- ---- Whether the link closed
@@ -154,34 +154,34 @@ closed_now : (setup : Setup) (link : Ending) (events : List (Event Lookups)) →
 closed_now setup link events is = is.stands.closed_is ∙ ap (λ (m : Setup). closed_of m events) is.made
 
 -- a link that was fed, of which the client heard whether it closed
-pub tells_settled : (side : Side) (link : Ending) (client : UnitClient) (bytes : List ℕ) (events : List (Event Lookups)) (E : List Entry) (shut : Bool) → LinkHas (setup_of side) link (Fed bytes NoLookup ∷ events) → shut ≡ closes side false (Fed bytes NoLookup ∷ events)
-    → ClientHas client (told_down side (closes side false (Fed bytes NoLookup ∷ events)) (heard_all (link_tells (setup_of side) events bytes) E)) → LinkTells side link client bytes events E shut
-tells_settled side link client bytes events E shut is shut_is has = record {
+pub tells_settled : (peer : Peer) (link : Ending) (client : UnitClient) (bytes : List ℕ) (events : List (Event Lookups)) (E : List Entry) (shut : Bool) → LinkHas (peer_setup peer) link (Fed bytes NoLookup ∷ events) → shut ≡ closes peer false (Fed bytes NoLookup ∷ events)
+    → ClientHas client (told_down peer (closes peer false (Fed bytes NoLookup ∷ events)) (heard_all (link_tells (peer_setup peer) events bytes) E)) → LinkTells peer link client bytes events E shut
+tells_settled peer link client bytes events E shut is shut_is has = record {
   link_has = is;
   shut_is = shut_is;
-  has = subst (λ (b : Bool). ClientHas client (told_down side b (heard_all (link_tells (setup_of side) events bytes) E))) (sym shut_is) has;
+  has = subst (λ (b : Bool). ClientHas client (told_down peer b (heard_all (link_tells (peer_setup peer) events bytes) E))) (sym shut_is) has;
 }
 
 -- whether its connection closes is what the link keeps
-closes_now : (side : Side) (link : Ending) (events : List (Event Lookups)) (cut shut : Bool) → LinkHas (setup_of side) link events → cut ≡ false → shut ≡ is_some link.closed → closes side cut events ≡ shut
-closes_now side link events cut shut is whole closed = ap (λ (b : Bool). not b && is_some (closed_of (setup_of side) events)) whole ∙ sym (closed ∙ ap (λ o. is_some o) (closed_now (setup_of side) link events is))
+closes_now : (peer : Peer) (link : Ending) (events : List (Event Lookups)) (cut shut : Bool) → LinkHas (peer_setup peer) link events → cut ≡ false → shut ≡ is_some link.closed → closes peer cut events ≡ shut
+closes_now peer link events cut shut is whole closed = ap (λ (b : Bool). not b && is_some (closed_of (peer_setup peer) events)) whole ∙ sym (closed ∙ ap (λ o. is_some o) (closed_now (peer_setup peer) link events is))
 
-pub settled_cut : (side : Side) (link : Ending) (events : List (Event Lookups)) (cut shut : Bool) → LinkHas (setup_of side) link events → cut ≡ false → shut ≡ is_some link.closed → shut ≡ (cut || closes side cut events)
-settled_cut side link events cut shut is whole closed = sym (ap (λ (b : Bool). b || closes side cut events) whole ∙ closes_now side link events cut shut is whole closed)
+pub settled_cut : (peer : Peer) (link : Ending) (events : List (Event Lookups)) (cut shut : Bool) → LinkHas (peer_setup peer) link events → cut ≡ false → shut ≡ is_some link.closed → shut ≡ (cut || closes peer cut events)
+settled_cut peer link events cut shut is whole closed = sym (ap (λ (b : Bool). b || closes peer cut events) whole ∙ closes_now peer link events cut shut is whole closed)
 
-pub settled_heard : (side : Side) (link : Ending) (client : UnitClient) (events : List (Event Lookups)) (E : List Entry) (cut shut is_shut : Bool) → LinkHas (setup_of side) link events → cut ≡ false → shut ≡ is_some link.closed → shut ≡ is_shut
-    → ClientHas client (told_down side is_shut E) → ClientHas client (told_down side (closes side cut events) E)
-settled_heard side link client events E cut shut is_shut is whole closed same has =
-    subst (λ (b : Bool). ClientHas client (told_down side b E)) (sym (closes_now side link events cut shut is whole closed ∙ same)) has
+pub settled_heard : (peer : Peer) (link : Ending) (client : UnitClient) (events : List (Event Lookups)) (E : List Entry) (cut shut is_shut : Bool) → LinkHas (peer_setup peer) link events → cut ≡ false → shut ≡ is_some link.closed → shut ≡ is_shut
+    → ClientHas client (told_down peer is_shut E) → ClientHas client (told_down peer (closes peer cut events) E)
+settled_heard peer link client events E cut shut is_shut is whole closed same has =
+    subst (λ (b : Bool). ClientHas client (told_down peer b E)) (sym (closes_now peer link events cut shut is whole closed ∙ same)) has
 
 -- where it was cut before
-pub settled_before : (side : Side) (client : UnitClient) (events : List (Event Lookups)) (E : List Entry) (cut : Bool) → cut ≡ true → ClientHas client E → ClientHas client (told_down side (closes side cut events) E)
-settled_before side client events E cut is has = subst (λ (b : Bool). ClientHas client (told_down side (not b && is_some (closed_of (setup_of side) events)) E)) (sym is) has
+pub settled_before : (peer : Peer) (client : UnitClient) (events : List (Event Lookups)) (E : List Entry) (cut : Bool) → cut ≡ true → ClientHas client E → ClientHas client (told_down peer (closes peer cut events) E)
+settled_before peer client events E cut is has = subst (λ (b : Bool). ClientHas client (told_down peer (not b && is_some (closed_of (peer_setup peer) events)) E)) (sym is) has
 
 -- ---- What is asked
 pub asked_as : {X : Type 0} (setup : Setup) (link : Ending) (said : List ℕ) (c other asked : Connection X) → other ≡ asked → LinkSays setup link said c asked → LinkSays setup link said c other
 asked_as setup link said c other asked is says = subst (λ (k : Connection _). LinkSays setup link said c k) (sym is) says
 
 -- what was said was put at the client's end
-pub said_put : (side : Side) (s : Setting) (base : List Call) (calls : Option (List Call)) (at : LinkEnd) (bytes said : List ℕ) (now : Scene) → at ≡ end_of side → bytes ≡ said → Plays s base calls (put_at at bytes now) → Plays s base calls (put_at (end_of side) said now)
-said_put side s base calls at bytes said now is same plays = subst (λ (e : LinkEnd). Plays s base calls (put_at e said now)) is (subst (λ (b : List ℕ). Plays s base calls (put_at at b now)) same plays)
+pub said_put : (peer : Peer) (s : Setting) (base : List Call) (calls : Option (List Call)) (at : LinkEnd) (bytes said : List ℕ) (now : Scene) → at ≡ end_of peer → bytes ≡ said → Plays s base calls (end_puts at bytes now) → Plays s base calls (end_puts (end_of peer) said now)
+said_put peer s base calls at bytes said now is same plays = subst (λ (e : LinkEnd). Plays s base calls (end_puts e said now)) is (subst (λ (b : List ℕ). Plays s base calls (end_puts at b now)) same plays)

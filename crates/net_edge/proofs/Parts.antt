@@ -14,12 +14,12 @@ use Rattle.client_links.specs.Linking.{Lookups}
 use Rattle.client_core.specs.declared.client.UnitClient.{UnitClient}
 use Rattle.world_model.specs.Connections.{KeepsShelf}
 use Rattle.world_model.specs.State.{Pipe}
-use Rattle.net_edge.specs.Acting.{is_open}
-use Rattle.net_edge.specs.Due.{Setting, messages, advertised}
+use Rattle.net_edge.specs.Acting.{is_group_open}
+use Rattle.net_edge.specs.Due.{Setting, messages, advertised_until}
 use Rattle.pitch_model.specs.History.{Entry}
 use Rattle.net_edge.specs.Playing.{ClientHas, EndsHave, DemoAt, Plays, ProxyServes, SpinServes, HearsOn, HearsLink, LinkAt, MarketAt, IsSentTo, IsUncalled, AreGroup, AreTaken, with_proxy}
-use Rattle.net_edge.specs.Scene.{Scene, OnLine, AtEnd, on_line, with_line, at_end, said_at}
-use Rattle.net_edge.specs.Sides.{Side, ProxySide, SpinSide, end_of, setup_of, with_side}
+use Rattle.net_edge.specs.Scene.{Scene, OnLine, AtEnd, line_in, with_line, at_end, said_at}
+use Rattle.net_edge.specs.Peers.{Peer, ProxyPeer, SpinPeer, end_of, peer_setup, with_client_end}
 use Rattle.net_edge.specs.Turns.{IsOver}
 use Rattle.net_edge.specs.declared.ends.Ends.{Ends}
 use Rattle.net_edge.specs.declared.market.Market.{Market}
@@ -37,21 +37,21 @@ record Served (s : Setting) (base : List Call) (calls : Option (List Call)) (tur
   gap : n.gap.answers ≡ []
   grp_client : n.grp_client.answers ≡ []
   spin_client : n.spin_client.answers ≡ []
-  grp_server : (cut : Bool) → (e.grp_cut ≡ true → cut ≡ true) → is_open n.grp_server.answers ≡ true → (n.grp_server.ended || cut) ≡ true
-  spin_server : (cut : Bool) → (e.spin_cut ≡ true → cut ≡ true) → is_open n.spin_server.answers ≡ true → (n.spin_server.ended || cut) ≡ true
+  grp_server : (cut : Bool) → (e.grp_cut ≡ true → cut ≡ true) → is_group_open n.grp_server.answers ≡ true → (n.grp_server.ended || cut) ≡ true
+  spin_server : (cut : Bool) → (e.spin_cut ≡ true → cut ≡ true) → is_group_open n.spin_server.answers ≡ true → (n.spin_server.ended || cut) ≡ true
 
 -- the client heard its lines too
 record Lined (s : Setting) (base : List Call) (calls : Option (List Call)) (turn : ℕ) (e : Ends) (n : Scene) : Type 0 where
   at : DemoAt s base calls e n
   turn_is : n.turn ≡ turn
   sent : IsSentTo s turn n
-  a : is_open n.a.answers ≡ false
-  b : is_open n.b.answers ≡ false
-  gap : is_open n.gap.answers ≡ false
+  a : is_group_open n.a.answers ≡ false
+  b : is_group_open n.b.answers ≡ false
+  gap : is_group_open n.gap.answers ≡ false
   grp_client : n.grp_client.answers ≡ []
   spin_client : n.spin_client.answers ≡ []
-  grp_server : (cut : Bool) → (e.grp_cut ≡ true → cut ≡ true) → is_open n.grp_server.answers ≡ true → (n.grp_server.ended || cut) ≡ true
-  spin_server : (cut : Bool) → (e.spin_cut ≡ true → cut ≡ true) → is_open n.spin_server.answers ≡ true → (n.spin_server.ended || cut) ≡ true
+  grp_server : (cut : Bool) → (e.grp_cut ≡ true → cut ≡ true) → is_group_open n.grp_server.answers ≡ true → (n.grp_server.ended || cut) ≡ true
+  spin_server : (cut : Bool) → (e.spin_cut ≡ true → cut ≡ true) → is_group_open n.spin_server.answers ≡ true → (n.spin_server.ended || cut) ≡ true
 
 module _ (s : Setting) (base : List Call) where
   -- ---- The servers
@@ -120,9 +120,9 @@ module _ (s : Setting) (base : List Call) where
   }
 
   -- ---- The lines
-  line_begins : (line : Line) (calls : Option (List Call)) (e : Ends) (now : Scene) → DemoAt s base calls e now → (on_line line now).answers ≡ [] → HearsOn s base calls e.client line [] now
+  line_begins : (line : Line) (calls : Option (List Call)) (e : Ends) (now : Scene) → DemoAt s base calls e now → (line_in line now).answers ≡ [] → HearsOn s base calls e.client line [] now
   line_begins line calls e now at none = record {
-    on = on_line line now;
+    on = line_in line now;
     heard = now.heard;
     answers_are = none;
     sent_is = refl;
@@ -130,7 +130,7 @@ module _ (s : Setting) (base : List Call) where
     plays = subst (Plays s base calls) (same line) at.plays;
   }
     where
-      same : (line : Line) → now ≡ record (with_line line (on_line line now) now) { heard = now.heard }
+      same : (line : Line) → now ≡ record (with_line line (line_in line now) now) { heard = now.heard }
       same A = refl
       same B = refl
       same Gap = refl
@@ -159,22 +159,22 @@ module _ (s : Setting) (base : List Call) where
 
   -- ---- The links
   -- one of them in the code
-  abbrev link_of : Side → Ends → Ending
-  link_of ProxySide e = e.gap_link
-  link_of SpinSide e = e.spin_link
+  abbrev link_of : Peer → Ends → Ending
+  link_of ProxyPeer e = e.gap_link
+  link_of SpinPeer e = e.spin_link
 
-  abbrev cut_of : Side → Ends → Bool
-  cut_of ProxySide e = e.grp_cut
-  cut_of SpinSide e = e.spin_cut
+  abbrev cut_of : Peer → Ends → Bool
+  cut_of ProxyPeer e = e.grp_cut
+  cut_of SpinPeer e = e.spin_cut
 
-  abbrev with_link : Side → Ending → UnitClient → Bool → Ends → Ends
-  with_link ProxySide link client cut e = record e { gap_link = link; client = client; grp_cut = cut }
-  with_link SpinSide link client cut e = record e { spin_link = link; client = client; spin_cut = cut }
+  abbrev with_link : Peer → Ending → UnitClient → Bool → Ends → Ends
+  with_link ProxyPeer link client cut e = record e { gap_link = link; client = client; grp_cut = cut }
+  with_link SpinPeer link client cut e = record e { spin_link = link; client = client; spin_cut = cut }
 
-  link_begins : (side : Side) (calls : Option (List Call)) (link : Ending) (client : UnitClient) (cut cut' : Bool) (end : AtEnd) (up : Pipe) (events : List (Event Lookups)) (now : Scene)
-      → LinkAt (setup_of side) link cut end cut' events up.put → ClientHas client now.heard → end.answers ≡ [] → end.put ≡ (at_end (end_of side) now).put → up.put ≡ said_at (end_of side) now
-      → Plays s base calls (with_side side end up events cut' now.heard now) → HearsLink side s base calls link client [] cut now
-  link_begins side calls link client cut cut' end up events now has heard none put_is up_is plays = record {
+  link_begins : (peer : Peer) (calls : Option (List Call)) (link : Ending) (client : UnitClient) (cut cut' : Bool) (end : AtEnd) (up : Pipe) (events : List (Event Lookups)) (now : Scene)
+      → LinkAt (peer_setup peer) link cut end cut' events up.put → ClientHas client now.heard → end.answers ≡ [] → end.put ≡ (at_end (end_of peer) now).put → up.put ≡ said_at (end_of peer) now
+      → Plays s base calls (with_client_end peer end up events cut' now.heard now) → HearsLink peer s base calls link client [] cut now
+  link_begins peer calls link client cut cut' end up events now has heard none put_is up_is plays = record {
     end = end;
     events = events;
     up = up;
@@ -185,28 +185,28 @@ module _ (s : Setting) (base : List Call) where
     up_is = up_is;
     link_has = has.has;
     has = heard;
-    plays = subst (λ (b : Bool). Plays s base calls (with_side side end up events b now.heard now)) (sym has.cut_is) plays;
+    plays = subst (λ (b : Bool). Plays s base calls (with_client_end peer end up events b now.heard now)) (sym has.cut_is) plays;
   }
 
-  hears_begins : (side : Side) (calls : Option (List Call)) (e : Ends) (now : Scene) → DemoAt s base calls e now → (at_end (end_of side) now).answers ≡ [] → HearsLink side s base calls (link_of side e) e.client [] (cut_of side e) now
-  hears_begins ProxySide calls e now at none = link_begins ProxySide calls e.gap_link e.client e.grp_cut now.grp_cut now.grp_client now.grp.up now.grp.link now at.has.gap_link at.has.client none refl refl at.plays
-  hears_begins SpinSide calls e now at none = link_begins SpinSide calls e.spin_link e.client e.spin_cut now.spin_cut now.spin_client now.spin.up now.spin.link now at.has.spin_link at.has.client none refl refl at.plays
+  hears_begins : (peer : Peer) (calls : Option (List Call)) (e : Ends) (now : Scene) → DemoAt s base calls e now → (at_end (end_of peer) now).answers ≡ [] → HearsLink peer s base calls (link_of peer e) e.client [] (cut_of peer e) now
+  hears_begins ProxyPeer calls e now at none = link_begins ProxyPeer calls e.gap_link e.client e.grp_cut now.grp_cut now.grp_client now.grp.up now.grp.link now at.has.gap_link at.has.client none refl refl at.plays
+  hears_begins SpinPeer calls e now at none = link_begins SpinPeer calls e.spin_link e.client e.spin_cut now.spin_cut now.spin_client now.spin.up now.spin.link now at.has.spin_link at.has.client none refl refl at.plays
 
-  abbrev link_heard : (side : Side) (calls : Option (List Call)) (link : Ending) (client : UnitClient) (answers : List NetTaken) (cut : Bool) (now : Scene) → HearsLink side s base calls link client answers cut now → Scene
-  link_heard side calls link client answers cut now h = with_side side h.end h.up h.events cut h.heard now
+  abbrev link_heard : (peer : Peer) (calls : Option (List Call)) (link : Ending) (client : UnitClient) (answers : List NetTaken) (cut : Bool) (now : Scene) → HearsLink peer s base calls link client answers cut now → Scene
+  link_heard peer calls link client answers cut now h = with_client_end peer h.end h.up h.events cut h.heard now
 
-  link_ends : (side : Side) (calls : Option (List Call)) (link : Ending) (client : UnitClient) (answers : List NetTaken) (cut : Bool) (now : Scene) → (h : HearsLink side s base calls link client answers cut now)
-      → (at_end (end_of side) now).put ≡ said_at (end_of side) now → LinkAt (setup_of side) link cut h.end cut h.events h.up.put
-  link_ends side calls link client answers cut now h put = record { has = h.link_has; cut_is = refl; ended = h.ended_is; put_is = h.put_is ∙ put ∙ sym h.up_is }
+  link_ends : (peer : Peer) (calls : Option (List Call)) (link : Ending) (client : UnitClient) (answers : List NetTaken) (cut : Bool) (now : Scene) → (h : HearsLink peer s base calls link client answers cut now)
+      → (at_end (end_of peer) now).put ≡ said_at (end_of peer) now → LinkAt (peer_setup peer) link cut h.end cut h.events h.up.put
+  link_ends peer calls link client answers cut now h put = record { has = h.link_has; cut_is = refl; ended = h.ended_is; put_is = h.put_is ∙ put ∙ sym h.up_is }
 
-  hears_ends : (side : Side) (calls : Option (List Call)) (e : Ends) (link : Ending) (client : UnitClient) (answers : List NetTaken) (cut : Bool) (now : Scene) → EndsHave e now → (h : HearsLink side s base calls link client answers cut now)
-      → DemoAt s base calls (with_link side link client cut e) (link_heard side calls link client answers cut now h)
-  hears_ends ProxySide calls e link client answers cut now has h = record {
+  hears_ends : (peer : Peer) (calls : Option (List Call)) (e : Ends) (link : Ending) (client : UnitClient) (answers : List NetTaken) (cut : Bool) (now : Scene) → EndsHave e now → (h : HearsLink peer s base calls link client answers cut now)
+      → DemoAt s base calls (with_link peer link client cut e) (link_heard peer calls link client answers cut now h)
+  hears_ends ProxyPeer calls e link client answers cut now has h = record {
     has = record {
       proxy = has.proxy;
       spin = has.spin;
       client = h.has;
-      gap_link = link_ends ProxySide calls link client answers cut now h has.gap_link.put_is;
+      gap_link = link_ends ProxyPeer calls link client answers cut now h has.gap_link.put_is;
       spin_link = has.spin_link;
       grp_server = has.grp_server;
       spin_server = has.spin_server;
@@ -214,13 +214,13 @@ module _ (s : Setting) (base : List Call) where
     };
     plays = h.plays;
   }
-  hears_ends SpinSide calls e link client answers cut now has h = record {
+  hears_ends SpinPeer calls e link client answers cut now has h = record {
     has = record {
       proxy = has.proxy;
       spin = has.spin;
       client = h.has;
       gap_link = has.gap_link;
-      spin_link = link_ends SpinSide calls link client answers cut now h has.spin_link.put_is;
+      spin_link = link_ends SpinPeer calls link client answers cut now h has.spin_link.put_is;
       grp_server = has.grp_server;
       spin_server = has.spin_server;
       replayed = has.replayed;
@@ -230,16 +230,16 @@ module _ (s : Setting) (base : List Call) where
 
   -- ---- Which groups of calls are over
   -- a server's end is asked no more where it got End, or its connection was cut before
-  server_over : (answers given : List NetTaken) (ended ends cut cut' : Bool) → given ≡ answers → ended ≡ ends → AreTaken answers (ends || cut) → (cut ≡ true → cut' ≡ true) → is_open given ≡ true → (ended || cut') ≡ true
-  server_over answers given ended ends cut cut' are is taken stays opened = ap (λ (b : Bool). b || cut') is ∙ by ends cut (taken (ap is_open (sym are) ∙ opened)) stays
+  server_over : (answers given : List NetTaken) (ended ends cut cut' : Bool) → given ≡ answers → ended ≡ ends → AreTaken answers (ends || cut) → (cut ≡ true → cut' ≡ true) → is_group_open given ≡ true → (ended || cut') ≡ true
+  server_over answers given ended ends cut cut' are is taken stays opened = ap (λ (b : Bool). b || cut') is ∙ by ends cut (taken (ap is_group_open (sym are) ∙ opened)) stays
     where
       by : (x y : Bool) → (x || y) ≡ true → (y ≡ true → cut' ≡ true) → (x || cut') ≡ true
       by true y e on = refl
       by false y e on = on e
 
   -- and the client's where its connection is cut
-  client_over : (answers given : List NetTaken) (ended cut : Bool) → given ≡ answers → AreTaken answers cut → is_open given ≡ true → (ended || cut) ≡ true
-  client_over answers given ended cut are taken opened = by ended cut (taken (ap is_open (sym are) ∙ opened))
+  client_over : (answers given : List NetTaken) (ended cut : Bool) → given ≡ answers → AreTaken answers cut → is_group_open given ≡ true → (ended || cut) ≡ true
+  client_over answers given ended cut are taken opened = by ended cut (taken (ap is_group_open (sym are) ∙ opened))
     where
       by : (x y : Bool) → y ≡ true → (x || y) ≡ true
       by true y e = refl
@@ -291,9 +291,9 @@ module _ (s : Setting) (base : List Call) where
           at = line_ends Gap c5 e4 gap z.0 n4 at4.has z.2;
           turn_is = so.turn_is;
           sent = record { on_a = x.2.sent_is ∙ so.sent.on_a; on_b = y.2.sent_is ∙ so.sent.on_b; ticked = so.sent.ticked };
-          a = ap is_open x.2.answers_are ∙ x.1;
-          b = ap is_open y.2.answers_are ∙ y.1;
-          gap = ap is_open z.2.answers_are ∙ z.1;
+          a = ap is_group_open x.2.answers_are ∙ x.1;
+          b = ap is_group_open y.2.answers_are ∙ y.1;
+          gap = ap is_group_open z.2.answers_are ∙ z.1;
           grp_client = so.grp_client;
           spin_client = so.spin_client;
           grp_server = so.grp_server;
@@ -302,22 +302,22 @@ module _ (s : Setting) (base : List Call) where
       )
 
   links_over : (turn : ℕ) (c5 c6 c7 : Option (List Call)) (e : Ends) (gap_link spin_link : Ending) (down last : UnitClient) (grp_cut spin_cut : Bool) (now : Scene) → Lined s base c5 turn e now
-      → ((n : Scene) → HearsLink ProxySide s base c5 e.gap_link e.client [] e.grp_cut n → (answers : List NetTaken) × AreTaken answers grp_cut × HearsLink ProxySide s base c6 gap_link down answers grp_cut n)
+      → ((n : Scene) → HearsLink ProxyPeer s base c5 e.gap_link e.client [] e.grp_cut n → (answers : List NetTaken) × AreTaken answers grp_cut × HearsLink ProxyPeer s base c6 gap_link down answers grp_cut n)
       → (e.grp_cut ≡ true → grp_cut ≡ true)
-      → ((n : Scene) → HearsLink SpinSide s base c6 e.spin_link down [] e.spin_cut n → (answers : List NetTaken) × AreTaken answers spin_cut × HearsLink SpinSide s base c7 spin_link last answers spin_cut n)
+      → ((n : Scene) → HearsLink SpinPeer s base c6 e.spin_link down [] e.spin_cut n → (answers : List NetTaken) × AreTaken answers spin_cut × HearsLink SpinPeer s base c7 spin_link last answers spin_cut n)
       → (e.spin_cut ≡ true → spin_cut ≡ true)
       → (after : Scene) × (after.turn ≡ turn) × DemoAt s base c7 (record e { gap_link = gap_link; spin_link = spin_link; client = last; grp_cut = grp_cut; spin_cut = spin_cut }) after × IsOver s after
   links_over turn c5 c6 c7 e gap_link spin_link down last grp_cut spin_cut now so by_gap_link grp_stays by_spin_link spin_stays =
-      let g = by_gap_link now (hears_begins ProxySide c5 e now so.at so.grp_client) in
-      let n6 : Scene = link_heard ProxySide c6 gap_link down g.0 grp_cut now g.2 in
+      let g = by_gap_link now (hears_begins ProxyPeer c5 e now so.at so.grp_client) in
+      let n6 : Scene = link_heard ProxyPeer c6 gap_link down g.0 grp_cut now g.2 in
       let e6 : Ends = record e { gap_link = gap_link; client = down; grp_cut = grp_cut } in
-      let at6 : DemoAt s base c6 e6 n6 = hears_ends ProxySide c6 e gap_link down g.0 grp_cut now so.at.has g.2 in
-      let l = by_spin_link n6 (hears_begins SpinSide c6 e6 n6 at6 so.spin_client) in
-      let n7 : Scene = link_heard SpinSide c7 spin_link last l.0 spin_cut n6 l.2 in
+      let at6 : DemoAt s base c6 e6 n6 = hears_ends ProxyPeer c6 e gap_link down g.0 grp_cut now so.at.has g.2 in
+      let l = by_spin_link n6 (hears_begins SpinPeer c6 e6 n6 at6 so.spin_client) in
+      let n7 : Scene = link_heard SpinPeer c7 spin_link last l.0 spin_cut n6 l.2 in
       let all : IsSentTo s n7.turn n7 = subst (λ (t : ℕ). IsSentTo s t n7) (sym so.turn_is) (record { on_a = so.sent.on_a; on_b = so.sent.on_b; ticked = so.sent.ticked }) in (
         n7,
         so.turn_is,
-        hears_ends SpinSide c7 e6 spin_link last l.0 spin_cut n6 at6.has l.2,
+        hears_ends SpinPeer c7 e6 spin_link last l.0 spin_cut n6 at6.has l.2,
         over_is s n7 so.a so.b so.gap
             (client_over g.0 g.2.end.answers g.2.end.ended grp_cut g.2.answers_are g.1)
             (so.grp_server grp_cut grp_stays)
@@ -334,9 +334,9 @@ module _ (s : Setting) (base : List Call) where
       → ((n : Scene) → HearsOn s base c2 e.client A [] n → (answers : List NetTaken) × AreGroup answers × HearsOn s base c3 a A answers n)
       → ((n : Scene) → HearsOn s base c3 a B [] n → (answers : List NetTaken) × AreGroup answers × HearsOn s base c4 b B answers n)
       → ((n : Scene) → HearsOn s base c4 b Gap [] n → (answers : List NetTaken) × AreGroup answers × HearsOn s base c5 gap Gap answers n)
-      → ((n : Scene) → HearsLink ProxySide s base c5 e.gap_link gap [] e.grp_cut n → (answers : List NetTaken) × AreTaken answers grp_cut × HearsLink ProxySide s base c6 gap_link down answers grp_cut n)
+      → ((n : Scene) → HearsLink ProxyPeer s base c5 e.gap_link gap [] e.grp_cut n → (answers : List NetTaken) × AreTaken answers grp_cut × HearsLink ProxyPeer s base c6 gap_link down answers grp_cut n)
       → (e.grp_cut ≡ true → grp_cut ≡ true)
-      → ((n : Scene) → HearsLink SpinSide s base c6 e.spin_link down [] e.spin_cut n → (answers : List NetTaken) × AreTaken answers spin_cut × HearsLink SpinSide s base c7 spin_link last answers spin_cut n)
+      → ((n : Scene) → HearsLink SpinPeer s base c6 e.spin_link down [] e.spin_cut n → (answers : List NetTaken) × AreTaken answers spin_cut × HearsLink SpinPeer s base c7 spin_link last answers spin_cut n)
       → (e.spin_cut ≡ true → spin_cut ≡ true)
       → (after : Scene) × (after.turn ≡ turn)
       × DemoAt s base c7 (record e { proxy = proxy; spin = spin; gap_link = gap_link; spin_link = spin_link; client = last; grp_cut = grp_cut; spin_cut = spin_cut; grp_ended = grp_ended; spin_ended = spin_ended }) after × IsOver s after
@@ -352,5 +352,5 @@ market_still s turn market store shelf has same_store same_shelf = record {
   unit_is = has.unit_is;
   venue = has.venue;
   store_is = same_store ∙ has.store_is;
-  shelf = subst (λ (x : Shelf). KeepsShelf x (messages s turn) (advertised s turn)) (sym same_shelf) has.shelf;
+  shelf = subst (λ (x : Shelf). KeepsShelf x (messages s turn) (advertised_until s turn)) (sym same_shelf) has.shelf;
 }

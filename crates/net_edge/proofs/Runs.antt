@@ -8,14 +8,14 @@ use Rattle.pitch_io.specs.declared.net.LinkEnd.{LinkEnd}
 use Rattle.pitch_io.specs.declared.net.LinkEnd.TheVariants.{GrpClient, GrpServer, SpinClient, SpinServer}
 use Rattle.pitch_io.specs.declared.net.NetDone.{NetDone}
 use Rattle.pitch_io.specs.Nets.{Call, ListsCall, Send}
-use Rattle.net_edge.specs.Acting.{called, moved, sent_on, put_at, ticked, next_turn}
+use Rattle.net_edge.specs.Acting.{called, scene_after, sent_on, end_puts, all_tick, next_turn}
 use Rattle.net_edge.specs.Due.{Setting, beat, is_tenth}
-use Rattle.net_edge.specs.Playing.{IsTold, Plays}
+use Rattle.net_edge.specs.Playing.{ListsCalls, Plays}
 use Rattle.net_edge.specs.Scene.{Scene}
 use Rattle.net_edge.specs.Steps.{Step, Did, Beat, Turn, call_at, calls_of}
-use Rattle.net_edge.specs.Turns.{MayCall, MayCome, IsOver, GoesOn}
+use Rattle.net_edge.specs.Turns.{MayCall, MayCome, IsOver, MayGoOn}
 
-told_more : (base : List Call) (calls calls' : Option (List Call)) (step : Step) (call : Call) (run : List Step) → call_at step ≡ call ∷ [] → IsTold base calls run → ListsCall calls calls' call → IsTold base calls' (step ∷ run)
+told_more : (base : List Call) (calls calls' : Option (List Call)) (step : Step) (call : Call) (run : List Step) → call_at step ≡ call ∷ [] → ListsCalls base calls run → ListsCall calls calls' call → ListsCalls base calls' (step ∷ run)
 told_more base calls None step call run at told lists = tt
 told_more base None (Some after) step call run at told lists = absurd lists
 told_more base (Some before) (Some after) step call run at told lists = lists ∙ ap (λ (x : List Call). call ∷ x) told ∙ ap (λ (x : List Call). (x ++ calls_of run) ++ base) (sym at)
@@ -33,18 +33,18 @@ play_call s base calls calls' now call lists may plays = (
 
 -- the turn's heartbeat on line B, with its tick
 pub play_beat : (s : Setting) (base : List Call) (calls calls' : Option (List Call)) (now : Scene) (heartbeat : List ℕ) (answer : NetDone) → ListsCall calls calls' (Send B heartbeat answer) → heartbeat ≡ beat s now.turn → is_tenth now.turn ≡ true
-    → Plays s base calls now → Plays s base calls' (ticked s (sent_on B (heartbeat ∷ []) now))
+    → Plays s base calls now → Plays s base calls' (all_tick s (sent_on B (heartbeat ∷ []) now))
 play_beat s base calls calls' now heartbeat answer lists is tenth plays = (
   Beat heartbeat answer ∷ plays.0,
   record {
     told = told_more base calls calls' (Beat heartbeat answer) (Send B heartbeat answer) plays.0 refl plays.1.told lists;
     steps = (subst (MayCome s (Beat heartbeat answer)) (sym plays.1.now_is) (is, tenth), plays.1.steps);
-    now_is = ap (moved s (Beat heartbeat answer)) plays.1.now_is;
+    now_is = ap (scene_after s (Beat heartbeat answer)) plays.1.now_is;
   },
 )
 
 -- the next turn begins
-pub play_turn : (s : Setting) (base : List Call) (calls : Option (List Call)) (now : Scene) → IsOver s now → GoesOn s now → Plays s base calls now → Plays s base calls (next_turn now)
+pub play_turn : (s : Setting) (base : List Call) (calls : Option (List Call)) (now : Scene) → IsOver s now → MayGoOn s now → Plays s base calls now → Plays s base calls (next_turn now)
 play_turn s base calls now over goes plays = (
   Turn ∷ plays.0,
   record {
@@ -54,7 +54,7 @@ play_turn s base calls now over goes plays = (
   },
 )
   where
-    told_turn : (base : List Call) (calls : Option (List Call)) (run : List Step) → IsTold base calls run → IsTold base calls (Turn ∷ run)
+    told_turn : (base : List Call) (calls : Option (List Call)) (run : List Step) → ListsCalls base calls run → ListsCalls base calls (Turn ∷ run)
     told_turn base None run told = tt
     told_turn base (Some calls) run told = told
 
@@ -69,21 +69,21 @@ sent_both A xs ys now = ap (λ (zs : List (List ℕ)). record now { a = record n
 sent_both B xs ys now = ap (λ (zs : List (List ℕ)). record now { b = record now.b { sent = zs } }) (append_assoc now.b.sent xs ys)
 sent_both Gap xs ys now = ap (λ (zs : List (List ℕ)). record now { gap = record now.gap { sent = zs } }) (append_assoc now.gap.sent xs ys)
 
-pub put_none : (at : LinkEnd) (now : Scene) → put_at at [] now ≡ now
+pub put_none : (at : LinkEnd) (now : Scene) → end_puts at [] now ≡ now
 put_none GrpClient now = ap (λ (xs : List ℕ). record now { grp_client = record now.grp_client { put = xs } }) (append-nil now.grp_client.put)
 put_none GrpServer now = ap (λ (xs : List ℕ). record now { grp_server = record now.grp_server { put = xs } }) (append-nil now.grp_server.put)
 put_none SpinClient now = ap (λ (xs : List ℕ). record now { spin_client = record now.spin_client { put = xs } }) (append-nil now.spin_client.put)
 put_none SpinServer now = ap (λ (xs : List ℕ). record now { spin_server = record now.spin_server { put = xs } }) (append-nil now.spin_server.put)
 
-pub put_both : (at : LinkEnd) (xs ys : List ℕ) (now : Scene) → put_at at ys (put_at at xs now) ≡ put_at at (xs ++ ys) now
+pub put_both : (at : LinkEnd) (xs ys : List ℕ) (now : Scene) → end_puts at ys (end_puts at xs now) ≡ end_puts at (xs ++ ys) now
 put_both GrpClient xs ys now = ap (λ (zs : List ℕ). record now { grp_client = record now.grp_client { put = zs } }) (append_assoc now.grp_client.put xs ys)
 put_both GrpServer xs ys now = ap (λ (zs : List ℕ). record now { grp_server = record now.grp_server { put = zs } }) (append_assoc now.grp_server.put xs ys)
 put_both SpinClient xs ys now = ap (λ (zs : List ℕ). record now { spin_client = record now.spin_client { put = zs } }) (append_assoc now.spin_client.put xs ys)
 put_both SpinServer xs ys now = ap (λ (zs : List ℕ). record now { spin_server = record now.spin_server { put = zs } }) (append_assoc now.spin_server.put xs ys)
 
 -- of some bytes the next piece was written
-pub put_next : (at : LinkEnd) (bytes piece : List ℕ) (done count : ℕ) (now : Scene) → piece ≡ drop done bytes → put_at at (take count piece) (put_at at (take done bytes) now) ≡ put_at at (take (done + count) bytes) now
+pub put_next : (at : LinkEnd) (bytes piece : List ℕ) (done count : ℕ) (now : Scene) → piece ≡ drop done bytes → end_puts at (take count piece) (end_puts at (take done bytes) now) ≡ end_puts at (take (done + count) bytes) now
 put_next at bytes piece done count now is =
-    ap (λ (p : List ℕ). put_at at (take count p) (put_at at (take done bytes) now)) is
+    ap (λ (p : List ℕ). end_puts at (take count p) (end_puts at (take done bytes) now)) is
     ∙ put_both at (take done bytes) (take count (drop done bytes)) now
-    ∙ ap (λ (xs : List ℕ). put_at at xs now) (sym (take-add done count bytes))
+    ∙ ap (λ (xs : List ℕ). end_puts at xs now) (sym (take-add done count bytes))

@@ -10,13 +10,13 @@ use Rattle.session_ends.specs.Answering.{Answer}
 use Rattle.session_ends.specs.Closing.{Setup}
 use Rattle.session_ends.specs.Events.{Event, Fed}
 use Rattle.session_ends.specs.Sending.{new_items}
-use Rattle.grp_session.specs.Budget.{Counts, Counted, Spent}
+use Rattle.grp_session.specs.Budget.{Counted, Spent}
 use Rattle.grp_session.specs.Budget as budget
 use Rattle.grp_session.specs.Serving.{Source, Answered, ProxyFeeds, StoreHasOneView, proxy_answer}
-use Rattle.net_edge.specs.Acting.{source_at, proxy_took, took, taken_at, is_open}
+use Rattle.net_edge.specs.Acting.{source_at, proxy_took, end_took, taken_at, is_group_open}
 use Rattle.net_edge.specs.Due.{Setting, gap_view}
 use Rattle.net_edge.specs.Playing.{ProxyHas, ProxyFed, ProxyAnswers, ProxyServes, Plays, with_proxy, proxy_said}
-use Rattle.net_edge.specs.Scene.{Scene, AtEnd, is_end}
+use Rattle.net_edge.specs.Scene.{Scene, AtEnd, got_end}
 use Rattle.net_edge.specs.declared.proxy.Proxy.{Proxy}
 use Rattle.net_edge.proofs.Runs.{play_call}
 
@@ -50,12 +50,12 @@ fed_at s now piece old new store store' none said nothing lines one has stored s
     }
 
 -- ---- A call of `take`
-may_take : (end : AtEnd) (answers : List NetTaken) (cut : Bool) → end.answers ≡ answers → is_open answers ≡ true → end.ended ≡ false → cut ≡ false → (is_open end.answers ≡ true) × ((end.ended || cut) ≡ false)
-may_take end answers cut are opened unended whole = (ap is_open are ∙ opened, ap (λ (b : Bool). b || cut) unended ∙ whole)
+may_take : (end : AtEnd) (answers : List NetTaken) (cut : Bool) → end.answers ≡ answers → is_group_open answers ≡ true → end.ended ≡ false → cut ≡ false → (is_group_open end.answers ≡ true) × ((end.ended || cut) ≡ false)
+may_take end answers cut are opened unended whole = (ap is_group_open are ∙ opened, ap (λ (b : Bool). b || cut) unended ∙ whole)
 
 -- something came
 pub serves_got : (s : Setting) (base : List Call) (calls calls' calls'' : Option (List Call)) (old new : Proxy) (bytes : List ℕ) (count : ℕ) (answers : List NetTaken) (now : Scene)
-    → ProxyServes s base calls old answers false now → now.grp_cut ≡ false → is_open answers ≡ true → ListsCall calls calls' (Take GrpServer bytes (taken.Got count))
+    → ProxyServes s base calls old answers false now → now.grp_cut ≡ false → is_group_open answers ≡ true → ListsCall calls calls' (Take GrpServer bytes (taken.Got count))
     → ((scene : Scene) → ProxyHas old scene.grp.server scene.spent → scene.turn ≡ now.turn → Plays s base calls' (taken_at s GrpServer bytes (taken.Got count) scene) → ProxyAnswers s base calls'' new bytes count scene)
     → ProxyServes s base calls'' new (taken.Got count ∷ answers) false now
 serves_got s base calls calls' calls'' old new bytes count answers now h whole opened lists serves =
@@ -77,16 +77,16 @@ serves_got s base calls calls' calls'' old new bytes count answers now h whole o
 
 -- nothing came
 pub serves_none : (s : Setting) (base : List Call) (calls calls' : Option (List Call)) (proxy : Proxy) (into : List ℕ) (answer : NetTaken) (answers : List NetTaken) (now : Scene)
-    → ProxyServes s base calls proxy answers false now → now.grp_cut ≡ false → is_open answers ≡ true → (answer ≡ taken.Quiet) ⊎ (answer ≡ taken.End) → ListsCall calls calls' (Take GrpServer (came answer into) answer)
-    → ProxyServes s base calls' proxy (answer ∷ answers) (is_end answer) now
+    → ProxyServes s base calls proxy answers false now → now.grp_cut ≡ false → is_group_open answers ≡ true → (answer ≡ taken.Quiet) ⊎ (answer ≡ taken.End) → ListsCall calls calls' (Take GrpServer (came answer into) answer)
+    → ProxyServes s base calls' proxy (answer ∷ answers) (got_end answer) now
 serves_none s base calls calls' proxy into answer answers now h whole opened which lists = record {
-  end = took (came answer into) answer h.end;
+  end = end_took (came answer into) answer h.end;
   server = h.server;
   down = h.down;
   spent = h.spent;
   lines = h.lines;
   answers_are = ap (λ (l : List NetTaken). answer ∷ l) h.answers_are;
-  ended_is = ap (λ (b : Bool). is_end answer || b) h.ended_is ∙ or-false (is_end answer);
+  ended_is = ap (λ (b : Bool). got_end answer || b) h.ended_is ∙ or-false (got_end answer);
   put_is = h.put_is;
   has = h.has;
   plays = subst (Plays s base calls') (idle which) (play_call s base calls calls' at (Take GrpServer (came answer into) answer) lists (may_take h.end answers now.grp_cut h.answers_are opened h.ended_is whole) h.plays);
@@ -96,7 +96,7 @@ serves_none s base calls calls' proxy into answer answers now h whole opened whi
     at = with_proxy h.end h.down h.server h.spent h.lines now
 
     after : Scene
-    after = record at { grp_server = took (came answer into) answer h.end }
+    after = record at { grp_server = end_took (came answer into) answer h.end }
 
     -- the proxy does nothing then
     idle : (answer ≡ taken.Quiet) ⊎ (answer ≡ taken.End) → proxy_took s (came answer into) answer after ≡ after

@@ -18,10 +18,10 @@ use Rattle.world_model.specs.State.{Connection}
 use Rattle.world_model.specs.Verbs.{at_spin_server, pumped_times, pumps, sent_whole, with_up}
 use Rattle.world_model.proofs.Pumping.{Pumping, pumping_begins, pumping_ends}
 use Rattle.world_model.proofs.SpinCarrying.{is_fed, shows_view}
-use Rattle.net_edge.specs.Acting.{is_open, bytes_by, spin_fed, spin_answered, put_at}
-use Rattle.net_edge.specs.Due.{Setting, demo_unit, messages, advertised, spin_view}
+use Rattle.net_edge.specs.Acting.{is_group_open, bytes_by, spin_server_fed, spin_answered, end_puts}
+use Rattle.net_edge.specs.Due.{Setting, demo_unit, messages, advertised_until, spin_view}
 use Rattle.net_edge.specs.Playing.{SpinHas, SpinSays, SpinServes, Plays}
-use Rattle.net_edge.specs.Scene.{Scene, AtEnd, is_got, is_end}
+use Rattle.net_edge.specs.Scene.{Scene, AtEnd, is_got, got_end}
 use Rattle.net_edge.proofs.Runs.{play_call}
 
 -- a connection of which these bytes are all that the server said
@@ -29,16 +29,16 @@ abbrev pub saying : List ℕ → Connection (List Served) → Connection (List S
 saying said c = record { up = c.up; down = record { put = said; taken = 0 }; server = c.server; link = c.link }
 
 -- it is fed over the shelf
-pub fed_at : (s : Setting) (turn count : ℕ) (c : Connection (List Served)) (piece : List ℕ) (old new : Serving) (shelf shelf' : Shelf) (none said : List ℕ) → SpinHas old c.server → KeepsShelf shelf (messages s turn) (advertised s turn) → shelf' ≡ shelf → none ≡ [] → new.end.setup ≡ old.end.setup
+pub fed_at : (s : Setting) (turn count : ℕ) (c : Connection (List Served)) (piece : List ℕ) (old new : Serving) (shelf shelf' : Shelf) (none said : List ℕ) → SpinHas old c.server → KeepsShelf shelf (messages s turn) (advertised_until s turn) → shelf' ≡ shelf → none ≡ [] → new.end.setup ≡ old.end.setup
     → ((es : List (Event (List Served))) (view : Served) → SpinStands old es → ShelfShows shelf view → SpinFeeds es piece old new view (λ v. ShelfShows shelf' v) none said)
-    → SpinSays new said c (spin_fed s piece (taken.Got count) turn c)
+    → SpinSays new said c (spin_server_fed s piece (taken.Got count) turn c)
 fed_at s turn count c piece old new shelf shelf' none said has keeps same no_said setup feeds =
     let k : Connection (List Served) = saying [] c in
     let fed : SpinFeeds c.server piece old new (spin_view s turn) (λ v. ShelfShows shelf v) none said =
-    subst (λ (x : Shelf). SpinFeeds c.server piece old new (spin_view s turn) (λ v. ShelfShows x v) none said) same (feeds c.server (spin_view s turn) has.stands (shows_view shelf (messages s turn) (advertised s turn) keeps)) in
+    subst (λ (x : Shelf). SpinFeeds c.server piece old new (spin_view s turn) (λ v. ShelfShows x v) none said) same (feeds c.server (spin_view s turn) has.stands (shows_view shelf (messages s turn) (advertised_until s turn) keeps)) in
     let pipe : IsPipe none k.down = record { within = omega arith; are = no_said } in
     let is : IsServed new said demo_unit (at_spin_server demo_unit (Fed piece (replicate (length (new_items c.server piece)) (spin_view s turn))) (with_up c.up k)) =
-    is_fed demo_unit (messages s turn) (advertised s turn) k c.up piece old new shelf none said keeps has.made setup pipe fed in
+    is_fed demo_unit (messages s turn) (advertised_until s turn) k c.up piece old new shelf none said keeps has.made setup pipe fed in
     record {
       has = record { made = is.made; stands = is.stands };
       says = ap (λ (b : List ℕ). c.down.put ++ b) (sym is.down.are);
@@ -98,26 +98,26 @@ says_nothing spin said c none has = record { has = has; says = sym (append-nil c
 
 -- ---- A call of `take`
 pub serves_on : (s : Setting) (base : List Call) (calls calls' calls'' : Option (List Call)) (old new : Serving) (bytes said : List ℕ) (answer : NetTaken) (goes_on : Bool) (answers : List NetTaken) (now : Scene)
-    → SpinServes s base calls old answers false now → now.spin_cut ≡ false → is_open answers ≡ true → is_open (answer ∷ answers) ≡ goes_on → ListsCall calls calls' (Take SpinServer bytes answer)
+    → SpinServes s base calls old answers false now → now.spin_cut ≡ false → is_group_open answers ≡ true → is_group_open (answer ∷ answers) ≡ goes_on → ListsCall calls calls' (Take SpinServer bytes answer)
     → ((c : Connection (List Served)) → SpinHas old c.server → SpinSays new said c (spin_answered s bytes answer now.turn goes_on c))
-    → ((scene : Scene) → Plays s base calls' scene → Plays s base calls'' (put_at SpinServer said scene))
-    → SpinServes s base calls'' new (answer ∷ answers) (is_end answer) now
+    → ((scene : Scene) → Plays s base calls' scene → Plays s base calls'' (end_puts SpinServer said scene))
+    → SpinServes s base calls'' new (answer ∷ answers) (got_end answer) now
 serves_on s base calls calls' calls'' old new bytes said answer goes_on answers now h whole opened more lists answered puts =
     let c : Connection (List Served) = record { up = now.spin.up; down = h.down; server = h.server; link = now.spin.link } in
     let at : Scene = record now { spin_server = h.end; spin = c } in
     let x : Connection (List Served) = spin_answered s bytes answer now.turn goes_on c in
     let is : SpinSays new said c x = answered c h.has in
-    let end : AtEnd = record { put = h.end.put ++ said; came = h.end.came ++ bytes_by answer bytes; answers = answer ∷ h.end.answers; ended = is_end answer || h.end.ended } in
+    let end : AtEnd = record { put = h.end.put ++ said; came = h.end.came ++ bytes_by answer bytes; answers = answer ∷ h.end.answers; ended = got_end answer || h.end.ended } in
     let scene : Connection (List Served) → Scene = λ k. record now { spin_server = end; spin = k } in
-    let goes : is_open (answer ∷ h.end.answers) ≡ goes_on = ap (λ (l : List NetTaken). is_open (answer ∷ l)) h.answers_are ∙ more in
-    let played = puts _ (play_call s base calls calls' at (Take SpinServer bytes answer) lists (ap is_open h.answers_are ∙ opened, ap (λ (b : Bool). b || now.spin_cut) h.ended_is ∙ whole) h.plays) in
+    let goes : is_group_open (answer ∷ h.end.answers) ≡ goes_on = ap (λ (l : List NetTaken). is_group_open (answer ∷ l)) h.answers_are ∙ more in
+    let played = puts _ (play_call s base calls calls' at (Take SpinServer bytes answer) lists (ap is_group_open h.answers_are ∙ opened, ap (λ (b : Bool). b || now.spin_cut) h.ended_is ∙ whole) h.plays) in
     let there : Plays s base calls'' (scene x) = subst (λ (b : Bool). Plays s base calls'' (scene (spin_answered s bytes answer now.turn b c))) goes played in
     record {
       end = end;
       server = x.server;
       down = x.down;
       answers_are = ap (λ (l : List NetTaken). answer ∷ l) h.answers_are;
-      ended_is = ap (λ (b : Bool). is_end answer || b) h.ended_is ∙ or-false (is_end answer);
+      ended_is = ap (λ (b : Bool). got_end answer || b) h.ended_is ∙ or-false (got_end answer);
       put_is = ap (λ (b : List ℕ). b ++ said) h.put_is ∙ sym is.says;
       has = is.has;
       plays = subst (λ (k : Connection (List Served)). Plays s base calls'' (scene k)) (λ i. record { up = is.up_is i; down = x.down; server = x.server; link = is.link_is i }) there;
@@ -125,13 +125,13 @@ serves_on s base calls calls' calls'' old new bytes said answer goes_on answers 
 
 -- ---- What is said of an answer
 pub answered_more : (s : Setting) (turn count : ℕ) (c : Connection (List Served)) (spin : Serving) (said into : List ℕ) (answer : NetTaken) (last : Bool) → answer ≡ taken.Got count → last ≡ false
-    → SpinSays spin said c (spin_fed s (take count into) (taken.Got count) turn c) → SpinSays spin said c (spin_answered s (came answer into) answer turn (is_got answer && not last) c)
+    → SpinSays spin said c (spin_server_fed s (take count into) (taken.Got count) turn c) → SpinSays spin said c (spin_answered s (came answer into) answer turn (is_got answer && not last) c)
 answered_more s turn count c spin said into answer last got more says =
     subst (λ (a : NetTaken). SpinSays spin said c (spin_answered s (came a into) a turn (is_got a && not last) c)) (sym got)
     (subst (λ (b : Bool). SpinSays spin said c (spin_answered s (take count into) (taken.Got count) turn (not b) c)) (sym more) says)
 
 pub answered_last : (s : Setting) (turn count : ℕ) (c : Connection (List Served)) (spin : Serving) (said into : List ℕ) (answer : NetTaken) (last : Bool) → answer ≡ taken.Got count → last ≡ true
-    → SpinSays spin said c (sent_whole demo_unit (spin_fed s (take count into) (taken.Got count) turn c)) → SpinSays spin said c (spin_answered s (came answer into) answer turn (is_got answer && not last) c)
+    → SpinSays spin said c (sent_whole demo_unit (spin_server_fed s (take count into) (taken.Got count) turn c)) → SpinSays spin said c (spin_answered s (came answer into) answer turn (is_got answer && not last) c)
 answered_last s turn count c spin said into answer last got is says =
     subst (λ (a : NetTaken). SpinSays spin said c (spin_answered s (came a into) a turn (is_got a && not last) c)) (sym got)
     (subst (λ (b : Bool). SpinSays spin said c (spin_answered s (take count into) (taken.Got count) turn (not b) c)) (sym is) says)

@@ -22,9 +22,9 @@ use Rattle.world_model.specs.Verbs.{at_spin_server, at_link, pumped_times, pumps
 use Rattle.world_model.specs.Witness.{Witnessed}
 use Rattle.world_model.proofs.SpinWitness as spin
 use Rattle.world_model.proofs.Witness as witness
-use Rattle.net_edge.specs.Acting.{moved, scene_of, is_open, spin_fed, spin_answered, where_stands, servers_tick, links_tick, asked_spin}
+use Rattle.net_edge.specs.Acting.{scene_after, scene_of, is_group_open, spin_server_fed, spin_answered, where_stands, servers_tick, links_tick, image_asked}
 use Rattle.net_edge.specs.Demo.{all_messages}
-use Rattle.net_edge.specs.Due.{Setting, demo_unit, hold_limit, accepted, advertised, is_tenth, spin_view}
+use Rattle.net_edge.specs.Due.{Setting, demo_unit, hold_limit, accepted, advertised_until, is_tenth, spin_view}
 use Rattle.net_edge.specs.Scene.{Scene}
 use Rattle.net_edge.specs.Steps.{Step, Did, Beat, Turn}
 use Rattle.net_edge.proofs.Feeding.{later_messages, messages_first, messages_many, all_many}
@@ -59,19 +59,19 @@ within_with ns top all = by (is_member nat_eq ns top)
     by false = all_both (λ n. n ≤ top) ns (top ∷ []) all (omega arith, tt)
 
 -- what was advertised is within what was accepted
-advertised_within : (s : Setting) (turn : ℕ) → AreWithin (accepted s turn) (advertised s turn)
+advertised_within : (s : Setting) (turn : ℕ) → AreWithin (accepted s turn) (advertised_until s turn)
 advertised_within s zero = tt
-advertised_within s (suc turn) = by (is_tenth (suc turn)) (within_more (accepted s turn) (accepted s (suc turn)) (advertised s turn) (omega arith) (advertised_within s turn))
+advertised_within s (suc turn) = by (is_tenth (suc turn)) (within_more (accepted s turn) (accepted s (suc turn)) (advertised_until s turn) (omega arith) (advertised_within s turn))
   where
-    by : (b : Bool) → AreWithin (accepted s (suc turn)) (advertised s turn) → AreWithin (accepted s (suc turn)) (cond b (with_sequence (advertised s turn) (accepted s (suc turn))) (advertised s turn))
-    by true before = within_with (advertised s turn) (accepted s (suc turn)) before
+    by : (b : Bool) → AreWithin (accepted s (suc turn)) (advertised_until s turn) → AreWithin (accepted s (suc turn)) (cond b (with_sequence (advertised_until s turn) (accepted s (suc turn))) (advertised_until s turn))
+    by true before = within_with (advertised_until s turn) (accepted s (suc turn)) before
     by false before = before
 
 shown_at : (s : Setting) (turn : ℕ) → IsShown (all_messages s) (spin_view s turn)
 shown_at s turn = record {
   more = later_messages s turn;
   messages_are = messages_first s turn;
-  within = subst (λ (k : ℕ). AreWithin k (last_ten (advertised s turn))) (sym (messages_many s turn)) (all_after (λ n. n ≤ accepted s turn) (length (advertised s turn) - 10) (advertised s turn) (advertised_within s turn));
+  within = subst (λ (k : ℕ). AreWithin k (last_ten (advertised_until s turn))) (sym (messages_many s turn)) (all_after (λ n. n ≤ accepted s turn) (length (advertised_until s turn) - 10) (advertised_until s turn) (advertised_within s turn));
 }
 
 -- ---- What it says
@@ -91,7 +91,7 @@ module _ (s : Setting) where
       let views : List Served = replicate (length (new_items c.server bytes)) (spin_view s turn) in
       spin.serves demo_unit V [] (spoken c) (Fed bytes views) (all_same (IsShown V) (length (new_items c.server bytes)) (spin_view s turn) (shown_at s turn)) w
 
-  fed_by : (c : Connection (List Served)) (bytes : List ℕ) (answer : NetTaken) (turn : ℕ) → Says c → Says (spin_fed s bytes answer turn c)
+  fed_by : (c : Connection (List Served)) (bytes : List ℕ) (answer : NetTaken) (turn : ℕ) → Says c → Says (spin_server_fed s bytes answer turn c)
   fed_by c bytes (Got count) turn w = fed c bytes turn w
   fed_by c bytes Quiet turn w = w
   fed_by c bytes End turn w = w
@@ -104,7 +104,7 @@ module _ (s : Setting) where
   answered : (c : Connection (List Served)) (bytes : List ℕ) (answer : NetTaken) (turn : ℕ) (goes_on : Bool) → Says c → Says (spin_answered s bytes answer turn goes_on c)
   answered c bytes answer turn true w = fed_by c bytes answer turn w
   answered c bytes answer turn false w =
-      let k : Connection (List Served) = spin_fed s bytes answer turn c in
+      let k : Connection (List Served) = spin_server_fed s bytes answer turn c in
       pumped (pumps demo_unit k.server) k (fed_by c bytes answer turn w)
 
   -- ---- A tick
@@ -122,17 +122,17 @@ module _ (s : Setting) where
   linked true c w = w
   linked false c w = w
 
-  asked_of : (ask : Option Ask) (c : Connection (List Served)) → Says c → Says (asked_spin ask c)
+  asked_of : (ask : Option Ask) (c : Connection (List Served)) → Says c → Says (image_asked ask c)
   asked_of None c w = w
   asked_of (Some (asks.Gap first count)) c w = w
   asked_of (Some (asks.Spin sequence)) c w = w
 
-  asked : (cut : Bool) (ask : Option Ask) (c : Connection (List Served)) → Says c → Says (where_stands cut (asked_spin ask) c)
+  asked : (cut : Bool) (ask : Option Ask) (c : Connection (List Served)) → Says c → Says (where_stands cut (image_asked ask) c)
   asked true ask c w = w
   asked false ask c w = asked_of ask c w
 
   -- ---- All steps
-  pub says_more : (step : Step) (n : Scene) → Says n.spin → Says (moved s step n).spin
+  pub says_more : (step : Step) (n : Scene) → Says n.spin → Says (scene_after s step n).spin
   says_more (Did (Begin answer)) n w = w
   says_more (Did (Send A datagram answer)) n w = w
   says_more (Did (Send B datagram answer)) n w = w
@@ -148,7 +148,7 @@ module _ (s : Setting) where
   says_more (Did (Take GrpServer bytes Quiet)) n w = w
   says_more (Did (Take GrpServer bytes End)) n w = w
   says_more (Did (Take GrpServer bytes Failed)) n w = w
-  says_more (Did (Take SpinServer bytes answer)) n w = answered n.spin bytes answer n.turn (is_open (answer ∷ n.spin_server.answers)) w
+  says_more (Did (Take SpinServer bytes answer)) n w = answered n.spin bytes answer n.turn (is_group_open (answer ∷ n.spin_server.answers)) w
   says_more (Did (Take GrpClient bytes (Got count))) n w = w
   says_more (Did (Take GrpClient bytes Quiet)) n w = w
   says_more (Did (Take GrpClient bytes End)) n w = w

@@ -7,12 +7,12 @@ use Rattle.pitch_model.specs.History.{Raw}
 use Rattle.pitch_model.specs.declared.status.Status.{Status}
 use Rattle.pitch_model.specs.declared.status.Status.TheVariants.{Current}
 use Rattle.venue_core.specs.Plan.{plan}
-use Rattle.net_edge.specs.Acting.{put_at}
+use Rattle.net_edge.specs.Acting.{end_puts}
 use Rattle.net_edge.specs.Demo.{IsLast}
 use Rattle.net_edge.specs.Due.{Setting, demo_unit, accepted}
 use Rattle.net_edge.specs.Playing.{Plays, MarketHas, MarketAt, IsSentTo, IsUncalled, calls_before}
 use Rattle.net_edge.specs.Scene.{Scene, first_scene, all_put, said_at}
-use Rattle.net_edge.specs.Turns.{GoesOn, status_at}
+use Rattle.net_edge.specs.Turns.{MayGoOn, client_status}
 use Rattle.net_edge.specs.declared.market.Market.{Market}
 use Rattle.net_edge.proofs.Runs.{play_call}
 
@@ -24,13 +24,13 @@ plays_none s (Some calls) = ([], record { told = refl; steps = tt; now_is = refl
 -- the net was set up, and both links put their logins
 pub begun : (s : Setting) (c0 c1 c2 c3 : Option (List Call)) (answer : NetDone) (login spin_login : List ℕ) → ListsCall c0 c1 (Begin answer)
     → login ≡ said_at GrpClient first_scene → spin_login ≡ said_at SpinClient first_scene
-    → ((n : Scene) → Plays s (calls_before c0) c1 n → Plays s (calls_before c0) c2 (put_at GrpClient login n))
-    → ((n : Scene) → Plays s (calls_before c0) c2 n → Plays s (calls_before c0) c3 (put_at SpinClient spin_login n))
+    → ((n : Scene) → Plays s (calls_before c0) c1 n → Plays s (calls_before c0) c2 (end_puts GrpClient login n))
+    → ((n : Scene) → Plays s (calls_before c0) c2 n → Plays s (calls_before c0) c3 (end_puts SpinClient spin_login n))
     → Plays s (calls_before c0) c3 (all_put first_scene)
 begun s c0 c1 c2 c3 answer login spin_login lists login_is spin_is puts spin_puts =
     let first : Plays s (calls_before c0) c1 first_scene = play_call s (calls_before c0) c0 c1 first_scene (Begin answer) lists tt (plays_none s c0) in
-    subst (λ (b : List ℕ). Plays s (calls_before c0) c3 (put_at SpinClient b (put_at GrpClient (said_at GrpClient first_scene) first_scene))) spin_is
-    (subst (λ (b : List ℕ). Plays s (calls_before c0) c3 (put_at SpinClient spin_login (put_at GrpClient b first_scene))) login_is (spin_puts (put_at GrpClient login first_scene) (puts first_scene first)))
+    subst (λ (b : List ℕ). Plays s (calls_before c0) c3 (end_puts SpinClient b (end_puts GrpClient (said_at GrpClient first_scene) first_scene))) spin_is
+    (subst (λ (b : List ℕ). Plays s (calls_before c0) c3 (end_puts SpinClient spin_login (end_puts GrpClient b first_scene))) login_is (spin_puts (end_puts GrpClient login first_scene) (puts first_scene first)))
 
 -- nothing was accepted before the first turn
 none_planned : (number unit : ℕ) → plan number unit 0 ≡ []
@@ -50,10 +50,10 @@ uncalled_first = record { a = refl; b = refl; gap = refl; grp_client = refl; grp
 
 -- ---- The end
 -- a run goes on after a turn with which it does not end
-pub goes_on : (s : Setting) (now : Scene) (turn : ℕ) (status : Status) → now.turn ≡ turn → status ≡ status_at now → (s.count < turn → status ≡ Current s.count → ⊥) → GoesOn s now
+pub goes_on : (s : Setting) (now : Scene) (turn : ℕ) (status : Status) → now.turn ≡ turn → status ≡ client_status now → (s.count < turn → status ≡ Current s.count → ⊥) → MayGoOn s now
 goes_on s now turn status turn_is status_is not above current = not (subst (λ (t : ℕ). s.count < t) turn_is above) (status_is ∙ current)
 
-pub last_is : (s : Setting) (now : Scene) (turn : ℕ) (status : Status) → now.turn ≡ turn → turn ≤ s.count + 200 → status ≡ status_at now → s.count < turn → (status ≡ Current s.count) ⊎ (turn ≡ s.count + 200) → IsLast s now
+pub last_is : (s : Setting) (now : Scene) (turn : ℕ) (status : Status) → now.turn ≡ turn → turn ≤ s.count + 200 → status ≡ client_status now → s.count < turn → (status ≡ Current s.count) ⊎ (turn ≡ s.count + 200) → IsLast s now
 last_is s now turn status turn_is within status_is above last = record {
   above = subst (λ (t : ℕ). s.count < t) (sym turn_is) above;
   within = subst (λ (t : ℕ). t ≤ s.count + 200) (sym turn_is) within;

@@ -15,11 +15,11 @@ use Rattle.client_core.specs.declared.client.UnitClient.{UnitClient}
 use Rattle.world_model.specs.Ends.{gap_link, spin_link}
 use Rattle.world_model.specs.State.{Connection, Pipe}
 use Rattle.world_model.specs.Verbs.{at_grp_server, at_spin_server, at_link}
-use Rattle.net_edge.specs.Acting.{where_stands, put_at, ticked, asked_grp, asked_spin}
+use Rattle.net_edge.specs.Acting.{where_stands, end_puts, all_tick, gap_asked, image_asked}
 use Rattle.net_edge.specs.Due.{Setting, demo_unit, hold_limit, accepted}
 use Rattle.net_edge.specs.Playing.{EndsHave, DemoAt, Plays, ProxyHas, ProxySays, ProxyActs, SpinHas, SpinSays, SpinActs, LinkHas, LinkSays, LinkActs, LinkTicks, ClientHas, closes, told_down}
 use Rattle.net_edge.specs.Scene.{Scene, all_put}
-use Rattle.net_edge.specs.Sides.{ProxySide, SpinSide}
+use Rattle.net_edge.specs.Peers.{ProxyPeer, SpinPeer}
 use Rattle.net_edge.specs.declared.ends.Ends.{Ends}
 
 module _ (s : Setting) (now : Scene) where
@@ -40,22 +40,22 @@ module _ (s : Setting) (now : Scene) where
   spin_linked = where_stands now.spin_cut (λ k. at_link (spin_link demo_unit) Ticked k) spin_served
 
   abbrev pub grp_cut_then : Bool
-  grp_cut_then = now.grp_cut || closes ProxySide now.grp_cut grp_linked.link
+  grp_cut_then = now.grp_cut || closes ProxyPeer now.grp_cut grp_linked.link
 
   abbrev pub spin_cut_then : Bool
-  spin_cut_then = now.spin_cut || closes SpinSide now.spin_cut spin_linked.link
+  spin_cut_then = now.spin_cut || closes SpinPeer now.spin_cut spin_linked.link
 
   abbrev pub heard_gap : List Entry
-  heard_gap = told_down ProxySide (closes ProxySide now.grp_cut grp_linked.link) now.heard
+  heard_gap = told_down ProxyPeer (closes ProxyPeer now.grp_cut grp_linked.link) now.heard
 
   abbrev pub heard_both : List Entry
-  heard_both = told_down SpinSide (closes SpinSide now.spin_cut spin_linked.link) heard_gap
+  heard_both = told_down SpinPeer (closes SpinPeer now.spin_cut spin_linked.link) heard_gap
 
   abbrev pub grp_asked : Connection Source
-  grp_asked = where_stands grp_cut_then (asked_grp (ask_of hold_limit heard_both)) grp_linked
+  grp_asked = where_stands grp_cut_then (gap_asked (ask_of hold_limit heard_both)) grp_linked
 
   abbrev pub spin_asked : Connection (List Served)
-  spin_asked = where_stands spin_cut_then (asked_spin (ask_of hold_limit heard_both)) spin_linked
+  spin_asked = where_stands spin_cut_then (image_asked (ask_of hold_limit heard_both)) spin_linked
 
   -- they are those of the scene
   pub all_ticked : (base : List Call) (calls : Option (List Call)) (e e' : Ends) (spin1 : Serving) (gap1 spl1 : Ending) (x1 x2 x3 x4 x5 x6 x7 : List ℕ) → EndsHave e now
@@ -64,10 +64,10 @@ module _ (s : Setting) (now : Scene) where
       → LinkSays gap_link e'.gap_link x6 grp_linked grp_asked → LinkSays (spin_link demo_unit) e'.spin_link x7 spin_linked spin_asked
       → ClientHas e'.client (EntryTicked (ask_of hold_limit heard_both) ∷ heard_both)
       → e'.grp_cut ≡ grp_cut_then → e'.spin_cut ≡ spin_cut_then → e'.grp_ended ≡ e.grp_ended → e'.spin_ended ≡ e.spin_ended
-      → Plays s base calls (put_at SpinClient x7 (put_at GrpClient x6 (put_at SpinClient x5 (put_at GrpClient x4 (put_at SpinServer x3 (put_at GrpServer x2 (put_at SpinServer x1 (ticked s now))))))))
-      → DemoAt s base calls e' (all_put (ticked s now))
+      → Plays s base calls (end_puts SpinClient x7 (end_puts GrpClient x6 (end_puts SpinClient x5 (end_puts GrpClient x4 (end_puts SpinServer x3 (end_puts GrpServer x2 (end_puts SpinServer x1 (all_tick s now))))))))
+      → DemoAt s base calls e' (all_put (all_tick s now))
   all_ticked base calls e e' spin1 gap1 spl1 x1 x2 x3 x4 x5 x6 x7 has a1 a2 a3 a4 a5 a6 a7 client grp_cut spin_cut grp_ended spin_ended plays =
-      let after : Scene = ticked s now in
+      let after : Scene = all_tick s now in
       let up : Pipe → List ℕ = λ p. p.put in
       let on_grp_client : (now.grp_client.put ++ x4) ++ x6 ≡ grp_asked.up.put =
       ap (λ (b : List ℕ). (b ++ x4) ++ x6) (has.gap_link.put_is ∙ sym (ap up a2.up_is)) ∙ ap (λ (b : List ℕ). b ++ x6) (sym a4.says) ∙ sym a6.says in
@@ -85,13 +85,13 @@ module _ (s : Setting) (now : Scene) where
           gap_link = record {
             has = a6.link_has;
             cut_is = grp_cut;
-            ended = λ ended. ap (λ (b : Bool). b || closes ProxySide now.grp_cut grp_linked.link) (has.gap_link.ended ended);
+            ended = λ ended. ap (λ (b : Bool). b || closes ProxyPeer now.grp_cut grp_linked.link) (has.gap_link.ended ended);
             put_is = refl;
           };
           spin_link = record {
             has = a7.link_has;
             cut_is = spin_cut;
-            ended = λ ended. ap (λ (b : Bool). b || closes SpinSide now.spin_cut spin_linked.link) (has.spin_link.ended ended);
+            ended = λ ended. ap (λ (b : Bool). b || closes SpinPeer now.spin_cut spin_linked.link) (has.spin_link.ended ended);
             put_is = refl;
           };
           grp_server = record { ended_is = grp_ended ∙ has.grp_server.ended_is; put_is = refl };
@@ -109,42 +109,42 @@ module _ (s : Setting) (now : Scene) where
 -- a tick in the code: what each call of it made, one after another
 module _ (s : Setting) (base : List Call) where
   pub tick_is : (c0 c1 c2 c3 c4 c5 c6 c7 : Option (List Call)) (e e' : Ends) (sequence : ℕ) (spin1 : Serving) (gap1 spl1 : Ending) (one two : UnitClient) (grp_cut spin_cut : Bool) (ask : Option Ask) (now : Scene)
-      → EndsHave e now → sequence ≡ accepted s now.turn → Plays s base c0 (ticked s now)
+      → EndsHave e now → sequence ≡ accepted s now.turn → Plays s base c0 (all_tick s now)
       → ((k : Connection (List Served)) (n : Scene) → SpinHas e.spin k.server → Plays s base c0 n → SpinActs s base c1 spin1 k (where_stands e.spin_cut (λ x. at_spin_server demo_unit (Told sequence) x) k) n)
       → ((k : Connection Source) (spent : Spent) (n : Scene) → ProxyHas e.proxy k.server spent → Plays s base c1 n → ProxyActs s base c2 e'.proxy k (where_stands e.grp_cut (λ x. at_grp_server demo_unit Ticked x) k) (next_second spent) n)
       → ((k : Connection (List Served)) (n : Scene) → SpinHas spin1 k.server → Plays s base c2 n → SpinActs s base c3 e'.spin k (where_stands e.spin_cut (λ x. at_spin_server demo_unit Ticked x) k) n)
       → ((k : Connection Source) (E : List Entry) (n : Scene) → LinkHas gap_link e.gap_link k.link → ClientHas e.client E → Plays s base c3 n
-      → LinkTicks ProxySide s base c4 gap1 one k (where_stands e.grp_cut (λ x. at_link gap_link Ticked x) k) E e.grp_cut grp_cut n)
+      → LinkTicks ProxyPeer s base c4 gap1 one k (where_stands e.grp_cut (λ x. at_link gap_link Ticked x) k) E e.grp_cut grp_cut n)
       → ((k : Connection (List Served)) (E : List Entry) (n : Scene) → LinkHas (spin_link demo_unit) e.spin_link k.link → ClientHas one E → Plays s base c4 n
-      → LinkTicks SpinSide s base c5 spl1 two k (where_stands e.spin_cut (λ x. at_link (spin_link demo_unit) Ticked x) k) E e.spin_cut spin_cut n)
+      → LinkTicks SpinPeer s base c5 spl1 two k (where_stands e.spin_cut (λ x. at_link (spin_link demo_unit) Ticked x) k) E e.spin_cut spin_cut n)
       → ((E : List Entry) → ClientHas two E → (ask ≡ ask_of hold_limit E) × ClientHas e'.client (EntryTicked ask ∷ E))
-      → ((k : Connection Source) (n : Scene) → LinkHas gap_link gap1 k.link → Plays s base c5 n → LinkActs ProxySide s base c6 e'.gap_link k (where_stands grp_cut (asked_grp ask) k) n)
-      → ((k : Connection (List Served)) (n : Scene) → LinkHas (spin_link demo_unit) spl1 k.link → Plays s base c6 n → LinkActs SpinSide s base c7 e'.spin_link k (where_stands spin_cut (asked_spin ask) k) n)
+      → ((k : Connection Source) (n : Scene) → LinkHas gap_link gap1 k.link → Plays s base c5 n → LinkActs ProxyPeer s base c6 e'.gap_link k (where_stands grp_cut (gap_asked ask) k) n)
+      → ((k : Connection (List Served)) (n : Scene) → LinkHas (spin_link demo_unit) spl1 k.link → Plays s base c6 n → LinkActs SpinPeer s base c7 e'.spin_link k (where_stands spin_cut (image_asked ask) k) n)
       → e'.grp_cut ≡ grp_cut → e'.spin_cut ≡ spin_cut → e'.grp_ended ≡ e.grp_ended → e'.spin_ended ≡ e.spin_ended
-      → DemoAt s base c7 e' (all_put (ticked s now))
+      → DemoAt s base c7 e' (all_put (all_tick s now))
   tick_is c0 c1 c2 c3 c4 c5 c6 c7 e e' sequence spin1 gap1 spl1 one two grp_cut spin_cut ask now has_now number plays_now tells proxy_ticks spin_ticks gap_ticks link_ticks client_ticks asks_proxy asks_spin cut_grp cut_spin ended_grp ended_spin =
       let n : Scene = record now { grp_cut = e.grp_cut; spin_cut = e.spin_cut } in
       let same : n ≡ now = λ i. record now { grp_cut = has_now.gap_link.cut_is i; spin_cut = has_now.spin_link.cut_is i } in
       let has : EndsHave e n = subst (EndsHave e) (sym same) has_now in
-      let plays : Plays s base c0 (ticked s n) = subst (λ (x : Scene). Plays s base c0 (ticked s x)) (sym same) plays_now in
-      let a1 = tells n.spin (ticked s n) has.spin plays in
+      let plays : Plays s base c0 (all_tick s n) = subst (λ (x : Scene). Plays s base c0 (all_tick s x)) (sym same) plays_now in
+      let a1 = tells n.spin (all_tick s n) has.spin plays in
       let told_is : SpinSays spin1 a1.said n.spin (told s n) = subst (λ (k : ℕ). SpinSays spin1 a1.said n.spin (where_stands e.spin_cut (λ x. at_spin_server demo_unit (Told k) x) n.spin)) number a1.is in
-      let a2 = proxy_ticks n.grp n.spent (put_at SpinServer a1.said (ticked s n)) has.proxy a1.plays in
-      let a3 = spin_ticks (told s n) (put_at GrpServer a2.said (put_at SpinServer a1.said (ticked s n))) told_is.has a2.plays in
+      let a2 = proxy_ticks n.grp n.spent (end_puts SpinServer a1.said (all_tick s n)) has.proxy a1.plays in
+      let a3 = spin_ticks (told s n) (end_puts GrpServer a2.said (end_puts SpinServer a1.said (all_tick s n))) told_is.has a2.plays in
       let link_of : LinkHas gap_link e.gap_link (grp_served s n).link = subst (LinkHas gap_link e.gap_link) (sym a2.is.link_is) has.gap_link.has in
-      let a4 = gap_ticks (grp_served s n) n.heard (put_at SpinServer a3.said (put_at GrpServer a2.said (put_at SpinServer a1.said (ticked s n)))) link_of has.client a3.plays in
+      let a4 = gap_ticks (grp_served s n) n.heard (end_puts SpinServer a3.said (end_puts GrpServer a2.said (end_puts SpinServer a1.said (all_tick s n)))) link_of has.client a3.plays in
       let spin_link_of : LinkHas (spin_link demo_unit) e.spin_link (spin_served s n).link = subst (LinkHas (spin_link demo_unit) e.spin_link) (sym (a3.is.link_is ∙ told_is.link_is)) has.spin_link.has in
-      let a5 = link_ticks (spin_served s n) (heard_gap s n) (put_at GrpClient a4.acts.said (put_at SpinServer a3.said (put_at GrpServer a2.said (put_at SpinServer a1.said (ticked s n))))) spin_link_of a4.has a4.acts.plays in
+      let a5 = link_ticks (spin_served s n) (heard_gap s n) (end_puts GrpClient a4.acts.said (end_puts SpinServer a3.said (end_puts GrpServer a2.said (end_puts SpinServer a1.said (all_tick s n))))) spin_link_of a4.has a4.acts.plays in
       let t = client_ticks (heard_both s n) a5.has in
-      let a6 = asks_proxy (grp_linked s n) (put_at SpinClient a5.acts.said (put_at GrpClient a4.acts.said (put_at SpinServer a3.said (put_at GrpServer a2.said (put_at SpinServer a1.said (ticked s n)))))) a4.acts.is.link_has a5.acts.plays in
-      let a7 = asks_spin (spin_linked s n) (put_at GrpClient a6.said (put_at SpinClient a5.acts.said (put_at GrpClient a4.acts.said (put_at SpinServer a3.said (put_at GrpServer a2.said (put_at SpinServer a1.said (ticked s n))))))) a5.acts.is.link_has a6.plays in
+      let a6 = asks_proxy (grp_linked s n) (end_puts SpinClient a5.acts.said (end_puts GrpClient a4.acts.said (end_puts SpinServer a3.said (end_puts GrpServer a2.said (end_puts SpinServer a1.said (all_tick s n)))))) a4.acts.is.link_has a5.acts.plays in
+      let a7 = asks_spin (spin_linked s n) (end_puts GrpClient a6.said (end_puts SpinClient a5.acts.said (end_puts GrpClient a4.acts.said (end_puts SpinServer a3.said (end_puts GrpServer a2.said (end_puts SpinServer a1.said (all_tick s n))))))) a5.acts.is.link_has a6.plays in
       let asked6 : LinkSays gap_link e'.gap_link a6.said (grp_linked s n) (grp_asked s n) =
-      subst (λ (a : Option Ask). LinkSays gap_link e'.gap_link a6.said (grp_linked s n) (where_stands (grp_cut_then s n) (asked_grp a) (grp_linked s n))) t.0
-      (subst (λ (b : Bool). LinkSays gap_link e'.gap_link a6.said (grp_linked s n) (where_stands b (asked_grp ask) (grp_linked s n))) a4.cut_is a6.is) in
+      subst (λ (a : Option Ask). LinkSays gap_link e'.gap_link a6.said (grp_linked s n) (where_stands (grp_cut_then s n) (gap_asked a) (grp_linked s n))) t.0
+      (subst (λ (b : Bool). LinkSays gap_link e'.gap_link a6.said (grp_linked s n) (where_stands b (gap_asked ask) (grp_linked s n))) a4.cut_is a6.is) in
       let asked7 : LinkSays (spin_link demo_unit) e'.spin_link a7.said (spin_linked s n) (spin_asked s n) =
-      subst (λ (a : Option Ask). LinkSays (spin_link demo_unit) e'.spin_link a7.said (spin_linked s n) (where_stands (spin_cut_then s n) (asked_spin a) (spin_linked s n))) t.0
-      (subst (λ (b : Bool). LinkSays (spin_link demo_unit) e'.spin_link a7.said (spin_linked s n) (where_stands b (asked_spin ask) (spin_linked s n))) a5.cut_is a7.is) in
+      subst (λ (a : Option Ask). LinkSays (spin_link demo_unit) e'.spin_link a7.said (spin_linked s n) (where_stands (spin_cut_then s n) (image_asked a) (spin_linked s n))) t.0
+      (subst (λ (b : Bool). LinkSays (spin_link demo_unit) e'.spin_link a7.said (spin_linked s n) (where_stands b (image_asked ask) (spin_linked s n))) a5.cut_is a7.is) in
       let heard : ClientHas e'.client (EntryTicked (ask_of hold_limit (heard_both s n)) ∷ heard_both s n) = subst (λ (a : Option Ask). ClientHas e'.client (EntryTicked a ∷ heard_both s n)) t.0 t.1 in
-      subst (λ (x : Scene). DemoAt s base c7 e' (all_put (ticked s x))) same
+      subst (λ (x : Scene). DemoAt s base c7 e' (all_put (all_tick s x))) same
       (all_ticked s n base c7 e e' spin1 gap1 spl1 a1.said a2.said a3.said a4.acts.said a5.acts.said a6.said a7.said has told_is a2.is a3.is a4.acts.is a5.acts.is asked6 asked7 heard
       (cut_grp ∙ a4.cut_is) (cut_spin ∙ a5.cut_is) ended_grp ended_spin a7.plays)

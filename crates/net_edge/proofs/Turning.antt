@@ -10,11 +10,11 @@ use Rattle.pitch_io.specs.declared.net.NetDone.{NetDone}
 use Rattle.pitch_io.specs.Nets.{Call, Send, ListsCall}
 use Rattle.pitch_model.specs.Advertising.{with_sequence}
 use Rattle.venue_core.specs.Losses.{is_lost}
-use Rattle.net_edge.specs.Acting.{is_open, sent_on, ticked, next_turn}
-use Rattle.net_edge.specs.Due.{Setting, demo_unit, accepted, advertised, beat, beats, copies, due, is_tenth, messages, new_datagrams, ticks}
-use Rattle.net_edge.specs.Playing.{EndsHave, DemoAt, Plays, MarketHas, MarketAt, IsFlushed, IsSentTo, IsUncalled, beaten, beaten_if}
-use Rattle.net_edge.specs.Scene.{Scene, OnLine, on_line, all_put}
-use Rattle.net_edge.specs.Turns.{IsOver, GoesOn, IsEndOver}
+use Rattle.net_edge.specs.Acting.{is_group_open, sent_on, all_tick, next_turn}
+use Rattle.net_edge.specs.Due.{Setting, demo_unit, accepted, advertised_until, beat, beats, copies, due, is_tenth, messages, new_datagrams, ticks}
+use Rattle.net_edge.specs.Playing.{EndsHave, DemoAt, Plays, MarketHas, MarketAt, IsFlushed, IsSentTo, IsUncalled, after_beat, after_due_beat}
+use Rattle.net_edge.specs.Scene.{Scene, OnLine, line_in, all_put}
+use Rattle.net_edge.specs.Turns.{IsOver, MayGoOn, IsEndOver}
 use Rattle.net_edge.specs.declared.ends.Ends.{Ends}
 use Rattle.net_edge.specs.declared.market.Market.{Market}
 use Rattle.net_edge.proofs.Runs.{play_beat, play_turn}
@@ -22,17 +22,17 @@ use Rattle.net_edge.proofs.Feeding.{messages_many}
 
 -- ---- What is due
 -- every tenth turn advertises the last message
-pub advertised_tenth : (s : Setting) (turn : ℕ) → 1 ≤ turn → is_tenth turn ≡ true → with_sequence (advertised s (turn - 1)) (accepted s turn) ≡ advertised s turn
+pub advertised_tenth : (s : Setting) (turn : ℕ) → 1 ≤ turn → is_tenth turn ≡ true → with_sequence (advertised_until s (turn - 1)) (accepted s turn) ≡ advertised_until s turn
 advertised_tenth s zero some tenth = absurd (omega (arith, some))
 advertised_tenth s (suc t) some tenth =
     let e : suc t - 1 ≡ t = omega arith in
-    ap (λ (k : ℕ). with_sequence (advertised s k) (accepted s (suc t))) e ∙ sym (ap (λ (b : Bool). cond b (with_sequence (advertised s t) (accepted s (suc t))) (advertised s t)) tenth)
+    ap (λ (k : ℕ). with_sequence (advertised_until s k) (accepted s (suc t))) e ∙ sym (ap (λ (b : Bool). cond b (with_sequence (advertised_until s t) (accepted s (suc t))) (advertised_until s t)) tenth)
 
-pub advertised_other : (s : Setting) (turn : ℕ) → is_tenth turn ≡ false → advertised s (turn - 1) ≡ advertised s turn
+pub advertised_other : (s : Setting) (turn : ℕ) → is_tenth turn ≡ false → advertised_until s (turn - 1) ≡ advertised_until s turn
 advertised_other s zero other = absurd (false≢true (sym other))
 advertised_other s (suc t) other =
     let e : suc t - 1 ≡ t = omega arith in
-    ap (advertised s) e ∙ sym (ap (λ (b : Bool). cond b (with_sequence (advertised s t) (accepted s (suc t))) (advertised s t)) other)
+    ap (advertised_until s) e ∙ sym (ap (λ (b : Bool). cond b (with_sequence (advertised_until s t) (accepted s (suc t))) (advertised_until s t)) other)
 
 due_more : (s : Setting) (line : Line) (turn : ℕ) → 1 ≤ turn → due s line turn ≡ due s line (turn - 1) ++ (copies s line turn ++ beats s turn)
 due_more s line zero some = absurd (omega (arith, some))
@@ -59,10 +59,10 @@ module _ (s : Setting) (now : Scene) (some : 1 ≤ now.turn) (sent : IsSentTo s 
       ∙ ap (λ (ds : List (List ℕ)). ds ++ (copies s line now.turn ++ beats s now.turn)) is
       ∙ sym (due_more s line now.turn some)
 
-  pub sent_to : IsSentTo s now.turn (beaten_if s (copied s now.turn now))
+  pub sent_to : IsSentTo s now.turn (after_due_beat s (copied s now.turn now))
   sent_to = by (is_tenth now.turn) refl
     where
-      by : (b : Bool) → is_tenth now.turn ≡ b → IsSentTo s now.turn (cond b (beaten s (copied s now.turn now)) (copied s now.turn now))
+      by : (b : Bool) → is_tenth now.turn ≡ b → IsSentTo s now.turn (cond b (after_beat s (copied s now.turn now)) (copied s now.turn now))
       by true tenth = record {
         on_a = ap (λ (bs : List (List ℕ)). (now.a.sent ++ copies s A now.turn) ++ bs) (sym (ap (λ (b : Bool). cond b (beat s now.turn ∷ []) []) tenth)) ∙ line_due A now.a.sent sent.on_a;
         on_b = ap (λ (bs : List (List ℕ)). (now.b.sent ++ copies s B now.turn) ++ bs) (sym (ap (λ (b : Bool). cond b (beat s now.turn ∷ []) []) tenth)) ∙ line_due B now.b.sent sent.on_b;
@@ -75,17 +75,17 @@ module _ (s : Setting) (now : Scene) (some : 1 ≤ now.turn) (sent : IsSentTo s 
       }
 
 -- no `next` and no `take` was called
-pub uncalled_then : (s : Setting) (turn : ℕ) (now : Scene) → IsUncalled now → IsUncalled (beaten_if s (copied s turn now))
+pub uncalled_then : (s : Setting) (turn : ℕ) (now : Scene) → IsUncalled now → IsUncalled (after_due_beat s (copied s turn now))
 uncalled_then s turn now is = by (is_tenth now.turn)
   where
-    by : (b : Bool) → IsUncalled (cond b (beaten s (copied s turn now)) (copied s turn now))
+    by : (b : Bool) → IsUncalled (cond b (after_beat s (copied s turn now)) (copied s turn now))
     by true = record { a = is.a; b = is.b; gap = is.gap; grp_client = is.grp_client; grp_server = is.grp_server; spin_client = is.spin_client; spin_server = is.spin_server }
     by false = record { a = is.a; b = is.b; gap = is.gap; grp_client = is.grp_client; grp_server = is.grp_server; spin_client = is.spin_client; spin_server = is.spin_server }
 
-pub turn_then : (s : Setting) (turn : ℕ) (now : Scene) → (beaten_if s (copied s turn now)).turn ≡ now.turn
+pub turn_then : (s : Setting) (turn : ℕ) (now : Scene) → (after_due_beat s (copied s turn now)).turn ≡ now.turn
 turn_then s turn now = by (is_tenth now.turn)
   where
-    by : (b : Bool) → (cond b (beaten s (copied s turn now)) (copied s turn now)).turn ≡ now.turn
+    by : (b : Bool) → (cond b (after_beat s (copied s turn now)) (copied s turn now)).turn ≡ now.turn
     by true = refl
     by false = refl
 
@@ -116,7 +116,7 @@ ends_turned e now has = record {
   replayed = has.replayed;
 }
 
-pub turn_next : (s : Setting) (base : List Call) (calls : Option (List Call)) (e : Ends) (now : Scene) → DemoAt s base calls e now → IsOver s now → GoesOn s now → DemoAt s base calls e (next_turn now)
+pub turn_next : (s : Setting) (base : List Call) (calls : Option (List Call)) (e : Ends) (now : Scene) → DemoAt s base calls e now → IsOver s now → MayGoOn s now → DemoAt s base calls e (next_turn now)
 turn_next s base calls e now at over goes = record { has = ends_turned e now at.has; plays = play_turn s base calls now over goes at.plays }
 
 pub sent_so : (s : Setting) (now : Scene) → IsOver s now → IsSentTo s now.turn (next_turn now)
@@ -126,7 +126,7 @@ pub uncalled_so : (now : Scene) → IsUncalled (next_turn now)
 uncalled_so now = record { a = refl; b = refl; gap = refl; grp_client = refl; grp_server = refl; spin_client = refl; spin_server = refl }
 
 -- ---- A turn is over
-pub over_is : (s : Setting) (now : Scene) → is_open now.a.answers ≡ false → is_open now.b.answers ≡ false → is_open now.gap.answers ≡ false
+pub over_is : (s : Setting) (now : Scene) → is_group_open now.a.answers ≡ false → is_group_open now.b.answers ≡ false → is_group_open now.gap.answers ≡ false
     → IsEndOver GrpClient now → IsEndOver GrpServer now → IsEndOver SpinClient now → IsEndOver SpinServer now → IsSentTo s now.turn now → IsOver s now
 over_is s now a b gap grp_client grp_server spin_client spin_server sent = record {
   lines = lines;
@@ -136,7 +136,7 @@ over_is s now a b gap grp_client grp_server spin_client spin_server sent = recor
   ticked = sent.ticked;
 }
   where
-    lines : (line : Line) → is_open (on_line line now).answers ≡ false
+    lines : (line : Line) → is_group_open (line_in line now).answers ≡ false
     lines A = a
     lines B = b
     lines Gap = gap
@@ -154,7 +154,7 @@ module _ (s : Setting) (base : List Call) where
       → lost_a ≡ is_lost s.number demo_unit turn 1 → lost_b ≡ is_lost s.number demo_unit turn 2 → given_a ≡ new_datagrams s turn → given_b ≡ new_datagrams s turn → IsFlushed s market turn
       → ((n : Scene) → Plays s base c0 n → Plays s base c1 (sent_on A (cond lost_a [] given_a) n))
       → ((n : Scene) → Plays s base c1 n → Plays s base c2 (sent_on B (cond lost_b [] given_b) n))
-      → ((n : Scene) → n.turn ≡ turn → DemoAt s base c2 e n → IsFlushed s market turn → DemoAt s base c3 e' (beaten_if s n) × MarketAt s market' turn)
+      → ((n : Scene) → n.turn ≡ turn → DemoAt s base c2 e n → IsFlushed s market turn → DemoAt s base c3 e' (after_due_beat s n) × MarketAt s market' turn)
       → (after : Scene) × (after.turn ≡ turn) × DemoAt s base c3 e' after × MarketAt s market' turn × IsSentTo s turn after × IsUncalled after
   published turn c0 c1 c2 c3 e e' market market' lost_a lost_b given_a given_b now some turn_is at before none by_a by_b are_a are_b flushed send_a send_b beat_on =
       let on_a : cond lost_a [] given_a ≡ copies s A turn = ap (λ (b : Bool). cond b [] given_a) by_a ∙ ap (λ (ds : List (List ℕ)). cond (is_lost s.number demo_unit turn 1) [] ds) are_a in
@@ -164,17 +164,17 @@ module _ (s : Setting) (base : List Call) where
       subst (λ (ds : List (List ℕ)). Plays s base c2 (sent_on B ds (sent_on A (copies s A turn) now))) on_b
       (subst (λ (ds : List (List ℕ)). Plays s base c2 (sent_on B (cond lost_b [] given_b) (sent_on A ds now))) on_a (send_b (sent_on A (cond lost_a [] given_a) now) (send_a now at.plays))) in
       let more = beat_on n turn_is (record { has = ends_sent e now n.a n.b at.has; plays = there }) flushed in
-      let all : IsSentTo s now.turn (beaten_if s (copied s now.turn now)) = sent_to s now (subst (λ (t : ℕ). 1 ≤ t) (sym turn_is) some) (subst (λ (t : ℕ). IsSentTo s (t - 1) now) (sym turn_is) before) in (
-        beaten_if s n,
+      let all : IsSentTo s now.turn (after_due_beat s (copied s now.turn now)) = sent_to s now (subst (λ (t : ℕ). 1 ≤ t) (sym turn_is) some) (subst (λ (t : ℕ). IsSentTo s (t - 1) now) (sym turn_is) before) in (
+        after_due_beat s n,
         turn_then s turn now ∙ turn_is,
         more.0,
         more.1,
-        subst (λ (t : ℕ). IsSentTo s t (beaten_if s (copied s t now))) turn_is all,
+        subst (λ (t : ℕ). IsSentTo s t (after_due_beat s (copied s t now))) turn_is all,
         uncalled_then s turn now none,
       )
 
   -- ---- Another turn
-  pub turn_again : (turn next : ℕ) (calls : Option (List Call)) (e : Ends) (market : Market) (now : Scene) → next ≡ turn + 1 → now.turn ≡ turn → DemoAt s base calls e now → MarketAt s market turn → IsOver s now → GoesOn s now
+  pub turn_again : (turn next : ℕ) (calls : Option (List Call)) (e : Ends) (market : Market) (now : Scene) → next ≡ turn + 1 → now.turn ≡ turn → DemoAt s base calls e now → MarketAt s market turn → IsOver s now → MayGoOn s now
       → (n : Scene) × (n.turn ≡ next) × DemoAt s base calls e n × MarketAt s market (next - 1) × IsSentTo s (next - 1) n × IsUncalled n
   turn_again turn next calls e market now next_is turn_is at has over goes =
       let back : turn ≡ next - 1 = omega (arith, next_is) in
@@ -190,29 +190,29 @@ module _ (s : Setting) (base : List Call) where
   -- ---- A heartbeat
   pub beats_then : (c0 c1 c2 c3 : Option (List Call)) (e e' : Ends) (heartbeat : List ℕ) (answer : NetDone) (sequence : ℕ) (now : Scene) → DemoAt s base c0 e now → is_tenth now.turn ≡ true → heartbeat ≡ beat s now.turn → sequence ≡ accepted s now.turn
       → ((n : Scene) → Plays s base c0 n → Plays s base c1 (sent_on A (heartbeat ∷ []) n)) → ListsCall c1 c2 (Send B heartbeat answer)
-      → ((n : Scene) → EndsHave e n → sequence ≡ accepted s n.turn → Plays s base c2 (ticked s n) → DemoAt s base c3 e' (all_put (ticked s n)))
-      → DemoAt s base c3 e' (beaten s now)
+      → ((n : Scene) → EndsHave e n → sequence ≡ accepted s n.turn → Plays s base c2 (all_tick s n) → DemoAt s base c3 e' (all_put (all_tick s n)))
+      → DemoAt s base c3 e' (after_beat s now)
   beats_then c0 c1 c2 c3 e e' heartbeat answer sequence now at tenth is number sends lists ticks_on =
       let first : Scene = sent_on A (heartbeat ∷ []) now in
       let n : Scene = sent_on B (heartbeat ∷ []) first in
-      let played : Plays s base c2 (ticked s n) = play_beat s base c1 c2 first heartbeat answer lists is tenth (sends now at.plays) in
-      subst (λ (b : List ℕ). DemoAt s base c3 e' (all_put (ticked s (sent_on B (b ∷ []) (sent_on A (b ∷ []) now))))) is (ticks_on n (ends_sent e now n.a n.b at.has) number played)
+      let played : Plays s base c2 (all_tick s n) = play_beat s base c1 c2 first heartbeat answer lists is tenth (sends now at.plays) in
+      subst (λ (b : List ℕ). DemoAt s base c3 e' (all_put (all_tick s (sent_on B (b ∷ []) (sent_on A (b ∷ []) now))))) is (ticks_on n (ends_sent e now n.a n.b at.has) number played)
 
-  pub beaten_tenth : (calls : Option (List Call)) (e : Ends) (now : Scene) (turn : ℕ) → now.turn ≡ turn → is_tenth turn ≡ true → DemoAt s base calls e (beaten s now) → DemoAt s base calls e (beaten_if s now)
-  beaten_tenth calls e now turn turn_is tenth at = subst (λ (b : Bool). DemoAt s base calls e (cond b (beaten s now) now)) (sym (ap is_tenth turn_is ∙ tenth)) at
+  pub beaten_tenth : (calls : Option (List Call)) (e : Ends) (now : Scene) (turn : ℕ) → now.turn ≡ turn → is_tenth turn ≡ true → DemoAt s base calls e (after_beat s now) → DemoAt s base calls e (after_due_beat s now)
+  beaten_tenth calls e now turn turn_is tenth at = subst (λ (b : Bool). DemoAt s base calls e (cond b (after_beat s now) now)) (sym (ap is_tenth turn_is ∙ tenth)) at
 
-  pub beaten_other : (calls : Option (List Call)) (e : Ends) (now : Scene) (turn : ℕ) → now.turn ≡ turn → is_tenth turn ≡ false → DemoAt s base calls e now → DemoAt s base calls e (beaten_if s now)
-  beaten_other calls e now turn turn_is other at = subst (λ (b : Bool). DemoAt s base calls e (cond b (beaten s now) now)) (sym (ap is_tenth turn_is ∙ other)) at
+  pub beaten_other : (calls : Option (List Call)) (e : Ends) (now : Scene) (turn : ℕ) → now.turn ≡ turn → is_tenth turn ≡ false → DemoAt s base calls e now → DemoAt s base calls e (after_due_beat s now)
+  beaten_other calls e now turn turn_is other at = subst (λ (b : Bool). DemoAt s base calls e (cond b (after_beat s now) now)) (sym (ap is_tenth turn_is ∙ other)) at
 
 -- ---- The market
 -- all that was accepted was sent
-pub flushed_is : (s : Setting) (turn : ℕ) (market : Market) → MarketHas market (messages s turn) (length (messages s turn)) (advertised s (turn - 1)) → IsFlushed s market turn
-flushed_is s turn market has = subst (λ (n : ℕ). MarketHas market (messages s turn) n (advertised s (turn - 1))) (messages_many s turn) has
+pub flushed_is : (s : Setting) (turn : ℕ) (market : Market) → MarketHas market (messages s turn) (length (messages s turn)) (advertised_until s (turn - 1)) → IsFlushed s market turn
+flushed_is s turn market has = subst (λ (n : ℕ). MarketHas market (messages s turn) n (advertised_until s (turn - 1))) (messages_many s turn) has
 
 -- at a tenth turn it is advertised
-pub advertised_is : (s : Setting) (turn : ℕ) (market : Market) → 1 ≤ turn → is_tenth turn ≡ true → MarketHas market (messages s turn) (accepted s turn) (with_sequence (advertised s (turn - 1)) (length (messages s turn))) → MarketAt s market turn
+pub advertised_is : (s : Setting) (turn : ℕ) (market : Market) → 1 ≤ turn → is_tenth turn ≡ true → MarketHas market (messages s turn) (accepted s turn) (with_sequence (advertised_until s (turn - 1)) (length (messages s turn))) → MarketAt s market turn
 advertised_is s turn market some tenth has =
-    subst (MarketHas market (messages s turn) (accepted s turn)) (ap (with_sequence (advertised s (turn - 1))) (messages_many s turn) ∙ advertised_tenth s turn some tenth) has
+    subst (MarketHas market (messages s turn) (accepted s turn)) (ap (with_sequence (advertised_until s (turn - 1))) (messages_many s turn) ∙ advertised_tenth s turn some tenth) has
 
 pub advertised_still : (s : Setting) (turn : ℕ) (market : Market) → is_tenth turn ≡ false → IsFlushed s market turn → MarketAt s market turn
 advertised_still s turn market other has = subst (MarketHas market (messages s turn) (accepted s turn)) (advertised_other s turn other) has

@@ -31,12 +31,12 @@ use Rattle.world_model.specs.Ends.{grp_server, gap_link, spin_link}
 use Rattle.world_model.specs.State.{Connection}
 use Rattle.world_model.specs.Verbs.{at_grp_server, at_spin_server, at_link, sent_whole}
 use Rattle.net_edge.specs.Due.{Setting, demo_unit, hold_limit, accepted, gap_view, spin_view}
-use Rattle.net_edge.specs.Scene.{Scene, OnLine, AtEnd, on_line, with_line, at_end, with_end, is_got, is_end, first_scene}
+use Rattle.net_edge.specs.Scene.{Scene, OnLine, AtEnd, line_in, with_line, at_end, with_end, is_got, got_end, first_scene}
 use Rattle.net_edge.specs.Steps.{Step, Did, Beat, Turn}
 
 -- ---- Lines
 abbrev pub sent_on : Line → List (List ℕ) → Scene → Scene
-sent_on line datagrams now = with_line line (record (on_line line now) { sent = (on_line line now).sent ++ datagrams }) now
+sent_on line datagrams now = with_line line (record (line_in line now) { sent = (line_in line now).sent ++ datagrams }) now
 
 -- the blocks of the demo's unit; the client passes over others
 abbrev pub ours : List Block → List Block
@@ -48,36 +48,36 @@ came_by (taken.Got count) bytes = bytes ∷ []
 came_by answer bytes = []
 
 -- the client hears the blocks of what came
-abbrev pub heard_by : NetTaken → List ℕ → List Entry → List Entry
-heard_by (taken.Got count) bytes E = heard_blocks (ours (blocks_of bytes)) E
-heard_by answer bytes E = E
+abbrev pub blocks_heard : NetTaken → List ℕ → List Entry → List Entry
+blocks_heard (taken.Got count) bytes E = heard_blocks (ours (blocks_of bytes)) E
+blocks_heard answer bytes E = E
 
 abbrev pub answered_on : Line → List ℕ → NetTaken → Scene → OnLine
-answered_on line bytes answer now = record (on_line line now) { came = (on_line line now).came ++ came_by answer bytes; answers = answer ∷ (on_line line now).answers }
+answered_on line bytes answer now = record (line_in line now) { came = (line_in line now).came ++ came_by answer bytes; answers = answer ∷ (line_in line now).answers }
 
 abbrev pub heard_on : Line → List ℕ → NetTaken → Scene → Scene
-heard_on line bytes answer now = record (with_line line (answered_on line bytes answer now) now) { heard = heard_by answer bytes now.heard }
+heard_on line bytes answer now = record (with_line line (answered_on line bytes answer now) now) { heard = blocks_heard answer bytes now.heard }
 
 -- ---- Ends
-abbrev pub put_at : LinkEnd → List ℕ → Scene → Scene
-put_at at bytes now = with_end at (record (at_end at now) { put = (at_end at now).put ++ bytes }) now
+abbrev pub end_puts : LinkEnd → List ℕ → Scene → Scene
+end_puts at bytes now = with_end at (record (at_end at now) { put = (at_end at now).put ++ bytes }) now
 
 -- the bytes that a put has written
-abbrev pub written : PutAnswer → List ℕ → List ℕ
-written (puts.Wrote count) piece = take count piece
-written puts.Failed piece = []
+abbrev pub bytes_put : PutAnswer → List ℕ → List ℕ
+bytes_put (puts.Wrote count) piece = take count piece
+bytes_put puts.Failed piece = []
 
 -- the bytes that came
 abbrev pub bytes_by : NetTaken → List ℕ → List ℕ
 bytes_by (taken.Got count) bytes = bytes
 bytes_by answer bytes = []
 
-abbrev pub took : List ℕ → NetTaken → AtEnd → AtEnd
-took bytes answer end = record end { came = end.came ++ bytes_by answer bytes; answers = answer ∷ end.answers; ended = is_end answer || end.ended }
+abbrev pub end_took : List ℕ → NetTaken → AtEnd → AtEnd
+end_took bytes answer end = record end { came = end.came ++ bytes_by answer bytes; answers = answer ∷ end.answers; ended = got_end answer || end.ended }
 
 -- further calls come in this turn: there were fewer than 100, and each got something
-abbrev pub is_open : List NetTaken → Bool
-is_open answers = nat_lt (length answers) 100 && list_all is_got answers
+abbrev pub is_group_open : List NetTaken → Bool
+is_group_open answers = nat_lt (length answers) 100 && list_all is_got answers
 
 -- what the proxy has when bytes come to it
 abbrev pub source_at : Setting → List ℕ → Scene → Source
@@ -100,49 +100,49 @@ proxy_took s bytes (taken.Got count) now = proxy_fed s bytes now
 proxy_took s bytes answer now = now
 
 -- bytes come to the spin server
-abbrev pub spin_fed : Setting → List ℕ → NetTaken → ℕ → Connection (List Served) → Connection (List Served)
-spin_fed s bytes (taken.Got count) turn c = at_spin_server demo_unit (Fed bytes (replicate (length (new_items c.server bytes)) (spin_view s turn))) c
-spin_fed s bytes answer turn c = c
+abbrev pub spin_server_fed : Setting → List ℕ → NetTaken → ℕ → Connection (List Served) → Connection (List Served)
+spin_server_fed s bytes (taken.Got count) turn c = at_spin_server demo_unit (Fed bytes (replicate (length (new_items c.server bytes)) (spin_view s turn))) c
+spin_server_fed s bytes answer turn c = c
 
 -- where the turn's calls of `take` are over, it sends a running image to its end
 abbrev pub spin_answered : Setting → List ℕ → NetTaken → ℕ → Bool → Connection (List Served) → Connection (List Served)
 spin_answered s bytes answer turn goes_on c =
-    let fed = spin_fed s bytes answer turn c in
+    let fed = spin_server_fed s bytes answer turn c in
     if goes_on then fed else sent_whole demo_unit fed
 
 abbrev pub spin_took : Setting → List ℕ → NetTaken → Scene → Scene
-spin_took s bytes answer now = record now { spin = spin_answered s bytes answer now.turn (is_open now.spin_server.answers) now.spin }
+spin_took s bytes answer now = record now { spin = spin_answered s bytes answer now.turn (is_group_open now.spin_server.answers) now.spin }
 
 -- a connection that stands and of which the client's end closed is cut, and the client hears it
 abbrev pub is_shut : Scene → Bool
 is_shut now = not now.grp_cut && is_some (closed_of gap_link now.grp.link)
 
-abbrev pub grp_settled : Scene → Scene
-grp_settled now = record now { grp_cut = now.grp_cut || is_shut now; heard = if is_shut now then GrpDown ∷ now.heard else now.heard }
+abbrev pub grp_cut_if_shut : Scene → Scene
+grp_cut_if_shut now = record now { grp_cut = now.grp_cut || is_shut now; heard = if is_shut now then GrpDown ∷ now.heard else now.heard }
 
 abbrev pub is_spin_shut : Scene → Bool
 is_spin_shut now = not now.spin_cut && is_some (closed_of (spin_link demo_unit) now.spin.link)
 
-abbrev pub spin_settled : Scene → Scene
-spin_settled now = record now { spin_cut = now.spin_cut || is_spin_shut now; heard = if is_spin_shut now then SpinDown ∷ now.heard else now.heard }
+abbrev pub spin_cut_if_shut : Scene → Scene
+spin_cut_if_shut now = record now { spin_cut = now.spin_cut || is_spin_shut now; heard = if is_spin_shut now then SpinDown ∷ now.heard else now.heard }
 
 -- bytes come to a link, and the client hears what it tells; End is heard as a cut
 abbrev pub gap_link_took : List ℕ → NetTaken → Scene → Scene
-gap_link_took bytes (taken.Got count) now = grp_settled (record now { grp = at_link gap_link (Fed bytes NoLookup) now.grp; heard = heard_all (link_tells gap_link now.grp.link bytes) now.heard })
+gap_link_took bytes (taken.Got count) now = grp_cut_if_shut (record now { grp = at_link gap_link (Fed bytes NoLookup) now.grp; heard = heard_all (link_tells gap_link now.grp.link bytes) now.heard })
 gap_link_took bytes taken.End now = record now { grp_cut = true; heard = GrpDown ∷ now.heard }
 gap_link_took bytes answer now = now
 
 abbrev pub spin_link_took : List ℕ → NetTaken → Scene → Scene
 spin_link_took bytes (taken.Got count) now =
-    spin_settled (record now { spin = at_link (spin_link demo_unit) (Fed bytes NoLookup) now.spin; heard = heard_all (link_tells (spin_link demo_unit) now.spin.link bytes) now.heard })
+    spin_cut_if_shut (record now { spin = at_link (spin_link demo_unit) (Fed bytes NoLookup) now.spin; heard = heard_all (link_tells (spin_link demo_unit) now.spin.link bytes) now.heard })
 spin_link_took bytes taken.End now = record now { spin_cut = true; heard = SpinDown ∷ now.heard }
 spin_link_took bytes answer now = now
 
 abbrev pub taken_at : Setting → LinkEnd → List ℕ → NetTaken → Scene → Scene
-taken_at s GrpServer bytes answer now = proxy_took s bytes answer (record now { grp_server = took bytes answer now.grp_server })
-taken_at s SpinServer bytes answer now = spin_took s bytes answer (record now { spin_server = took bytes answer now.spin_server })
-taken_at s GrpClient bytes answer now = gap_link_took bytes answer (record now { grp_client = took bytes answer now.grp_client })
-taken_at s SpinClient bytes answer now = spin_link_took bytes answer (record now { spin_client = took bytes answer now.spin_client })
+taken_at s GrpServer bytes answer now = proxy_took s bytes answer (record now { grp_server = end_took bytes answer now.grp_server })
+taken_at s SpinServer bytes answer now = spin_took s bytes answer (record now { spin_server = end_took bytes answer now.spin_server })
+taken_at s GrpClient bytes answer now = gap_link_took bytes answer (record now { grp_client = end_took bytes answer now.grp_client })
+taken_at s SpinClient bytes answer now = spin_link_took bytes answer (record now { spin_client = end_took bytes answer now.spin_client })
 
 -- ---- A tick
 -- something happens at an end of a connection, where it stands
@@ -161,32 +161,32 @@ servers_tick s now = record now {
 
 -- then the links tick; one that closes is cut
 abbrev pub links_tick : Scene → Scene
-links_tick now = spin_settled (grp_settled (record now {
+links_tick now = spin_cut_if_shut (grp_cut_if_shut (record now {
   grp = where_stands now.grp_cut (λ c. at_link gap_link Ticked c) now.grp;
   spin = where_stands now.spin_cut (λ c. at_link (spin_link demo_unit) Ticked c) now.spin;
 }))
 
 -- what is asked goes through its link, where the connection stands
-abbrev pub asked_grp : Option Ask → Connection Source → Connection Source
-asked_grp (Some (asks.Gap first count)) c = at_link gap_link (Asked (GapRequest demo_unit first count)) c
-asked_grp ask c = c
+abbrev pub gap_asked : Option Ask → Connection Source → Connection Source
+gap_asked (Some (asks.Gap first count)) c = at_link gap_link (Asked (GapRequest demo_unit first count)) c
+gap_asked ask c = c
 
-abbrev pub asked_spin : Option Ask → Connection (List Served) → Connection (List Served)
-asked_spin (Some (asks.Spin sequence)) c = at_link (spin_link demo_unit) (Asked (SpinRequest sequence)) c
-asked_spin ask c = c
+abbrev pub image_asked : Option Ask → Connection (List Served) → Connection (List Served)
+image_asked (Some (asks.Spin sequence)) c = at_link (spin_link demo_unit) (Asked (SpinRequest sequence)) c
+image_asked ask c = c
 
 -- then the client ticks, and asks for what it lacks, by what it heard
-abbrev pub client_ticks : Scene → Scene
-client_ticks now =
+abbrev pub client_tick : Scene → Scene
+client_tick now =
     let ask = ask_of hold_limit now.heard in
     record now {
       heard = entry.Ticked ask ∷ now.heard;
-      grp = where_stands now.grp_cut (asked_grp ask) now.grp;
-      spin = where_stands now.spin_cut (asked_spin ask) now.spin;
+      grp = where_stands now.grp_cut (gap_asked ask) now.grp;
+      spin = where_stands now.spin_cut (image_asked ask) now.spin;
     }
 
-abbrev pub ticked : Setting → Scene → Scene
-ticked s now = client_ticks (links_tick (servers_tick s now))
+abbrev pub all_tick : Setting → Scene → Scene
+all_tick s now = client_tick (links_tick (servers_tick s now))
 
 -- ---- Turns
 abbrev pub unanswered : OnLine → OnLine
@@ -213,15 +213,15 @@ abbrev pub called : Setting → Call → Scene → Scene
 called s (Begin answer) now = now
 called s (Send line datagram answer) now = sent_on line (datagram ∷ []) now
 called s (Next line bytes answer) now = heard_on line bytes answer now
-called s (Put at piece answer) now = put_at at (written answer piece) now
+called s (Put at piece answer) now = end_puts at (bytes_put answer piece) now
 called s (Take at bytes answer) now = taken_at s at bytes answer now
 
-abbrev pub moved : Setting → Step → Scene → Scene
-moved s (Did call) now = called s call now
-moved s (Beat heartbeat answer) now = ticked s (sent_on B (heartbeat ∷ []) now)
-moved s Turn now = next_turn now
+abbrev pub scene_after : Setting → Step → Scene → Scene
+scene_after s (Did call) now = called s call now
+scene_after s (Beat heartbeat answer) now = all_tick s (sent_on B (heartbeat ∷ []) now)
+scene_after s Turn now = next_turn now
 
 -- what stands after a run
 abbrev pub scene_of : Setting → List Step → Scene
 scene_of s [] = first_scene
-scene_of s (step ∷ before) = moved s step (scene_of s before)
+scene_of s (step ∷ before) = scene_after s step (scene_of s before)

@@ -4,7 +4,7 @@ use Rattle.std.specs.List.{AllByRecursion}
 use Rattle.std.specs.FinMap as map
 use Rattle.pitch_io.specs.declared.line.Line.{Line}
 use Rattle.pitch_io.specs.declared.net.LinkEnd.{LinkEnd}
-use Rattle.pitch_io.specs.Nets.{Call}
+use Rattle.pitch_io.specs.Nets.{Call, other_end}
 use Rattle.pitch_model.specs.Book.{Book, book_after}
 use Rattle.pitch_model.specs.Datagrams.{IsPiece}
 use Rattle.pitch_model.specs.Levels.{shares}
@@ -14,14 +14,14 @@ use Rattle.venue_core.specs.Plan.{plan}
 use Rattle.storm_plan.specs.StormText.{unit_line}
 use Rattle.net_edge.specs.Acting.{scene_of}
 use Rattle.net_edge.specs.Due.{Setting, demo_unit, hold_limit}
-use Rattle.net_edge.specs.Scene.{Scene, on_line, at_end, said_at, other_end}
+use Rattle.net_edge.specs.Scene.{Scene, line_in, at_end, said_at}
 use Rattle.net_edge.specs.Steps.{Step, calls_of}
-use Rattle.net_edge.specs.Turns.{AreSteps, IsOver, status_at}
+use Rattle.net_edge.specs.Turns.{AreSteps, IsOver, client_status}
 
 -- each datagram that came was sent on its line, and to each end came first bytes of those that
 -- were put at the other
 pub record IsCarried (now : Scene) : Type 0 where
-  pub lines : (line : Line) (datagram : List ℕ) → Contains (on_line line now).came datagram → Contains (on_line line now).sent datagram
+  pub lines : (line : Line) (datagram : List ℕ) → Contains (line_in line now).came datagram → Contains (line_in line now).sent datagram
   pub ends : (at : LinkEnd) → (later : List ℕ) × ((at_end (other_end at) now).put ≡ (at_end at now).came ++ later)
 
 -- the last turn is the first one above the count at whose end all is current, or there is none and
@@ -29,7 +29,7 @@ pub record IsCarried (now : Scene) : Type 0 where
 pub record IsLast (s : Setting) (now : Scene) : Type 0 where
   pub above : s.count < now.turn
   pub within : now.turn ≤ s.count + 200
-  pub last : (status_at now ≡ Current s.count) ⊎ (now.turn ≡ s.count + 200)
+  pub last : (client_status now ≡ Current s.count) ⊎ (now.turn ≡ s.count + 200)
 
 -- the venue's messages, and the book that they leave up to the client's reach
 abbrev pub all_messages : Setting → List (List ℕ)
@@ -39,21 +39,21 @@ abbrev pub reached_book : Setting → Scene → Book
 reached_book s now = book_after (take (reach hold_limit now.heard) (all_messages s))
 
 -- numbers of orders and shares are those of a book
-pub record AreOf (book : Book) (orders quantity : ℕ) : Type 0 where
+pub record AreTotalsOf (book : Book) (orders quantity : ℕ) : Type 0 where
   pub orders_are : orders ≡ map.len book.orders
   pub shares_are : quantity ≡ shares book
 
 -- at the end of a run that printed these numbers
-pub record IsEnd (s : Setting) (now : Scene) (orders quantity : ℕ) : Type 0 where
+pub record EndsDemo (s : Setting) (now : Scene) (orders quantity : ℕ) : Type 0 where
   pub over : IsOver s now
   pub last : IsLast s now
   -- what was put at an end is what it said, and on the gap line went what the proxy had for it
   pub put : (at : LinkEnd) → (at_end at now).put ≡ said_at at now
   pub replayed : now.gap.sent ≡ now.replayed
   -- each datagram has the venue's messages, at their sequences
-  pub pieces : (line : Line) → AllByRecursion (IsPiece (all_messages s) demo_unit) (on_line line now).sent
+  pub pieces : (line : Line) → AllByRecursion (IsPiece (all_messages s) demo_unit) (line_in line now).sent
   -- where the net carried what it was given, the numbers are those of the venue's book
-  pub book : IsCarried now → AreOf (reached_book s now) orders quantity
+  pub book : IsCarried now → AreTotalsOf (reached_book s now) orders quantity
 
 -- where the net lists its calls before and after a run, the calls of the run were added
 abbrev pub AddsCalls : List Step → Option (List Call) → Option (List Call) → Type 0
@@ -67,5 +67,5 @@ pub record IsDemo (s : Setting) (before after : Option (List Call)) (text text' 
   pub steps : AreSteps s run
   pub orders : ℕ
   pub quantity : ℕ
-  pub end : IsEnd s (scene_of s run) orders quantity
-  pub printed : text' ≡ text ++ unit_line demo_unit (status_at (scene_of s run)) orders quantity
+  pub end : EndsDemo s (scene_of s run) orders quantity
+  pub printed : text' ≡ text ++ unit_line demo_unit (client_status (scene_of s run)) orders quantity

@@ -75,13 +75,13 @@ ticks (suc turn) = if is_tenth (suc turn) then ticks turn + 1 else ticks turn
 
 -- the distinct sequences that were advertised up to a turn, in their order: at every tenth turn
 -- that of the last message
-abbrev pub advertised : Setting → ℕ → List ℕ
-advertised s zero = []
-advertised s (suc turn) = if is_tenth (suc turn) then with_sequence (advertised s turn) (accepted s (suc turn)) else advertised s turn
+abbrev pub advertised_until : Setting → ℕ → List ℕ
+advertised_until s zero = []
+advertised_until s (suc turn) = if is_tenth (suc turn) then with_sequence (advertised_until s turn) (accepted s (suc turn)) else advertised_until s turn
 
 -- in a turn the servers answer from all that was accepted and advertised up to it
 abbrev pub gap_view : Setting → ℕ → View
 gap_view s turn = record { messages = messages s turn; kept = kept_messages }
 
 abbrev pub spin_view : Setting → ℕ → Served
-spin_view s turn = record { messages = messages s turn; advertised = last_ten (advertised s turn) }
+spin_view s turn = record { messages = messages s turn; advertised = last_ten (advertised_until s turn) }

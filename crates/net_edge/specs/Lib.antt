@@ -4,5 +4,5 @@ pub mod Due
 pub mod Acting
 pub mod Turns
 pub mod Demo
-pub mod Sides
+pub mod Peers
 pub mod Playing

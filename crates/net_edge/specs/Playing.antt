@@ -28,10 +28,10 @@ use Rattle.client_core.specs.declared.client.UnitClient.{UnitClient}
 use Rattle.world_model.specs.Connections.{KeepsShelf}
 use Rattle.world_model.specs.Ends.{grp_server, spin_server, gap_link, spin_link}
 use Rattle.world_model.specs.State.{Connection, Pipe}
-use Rattle.net_edge.specs.Acting.{scene_of, is_open, source_at, sent_on, put_at, taken_at, ticked}
-use Rattle.net_edge.specs.Due.{Setting, demo_unit, kept_messages, hold_limit, accepted, messages, advertised, beat, due, is_tenth, ticks}
-use Rattle.net_edge.specs.Scene.{Scene, OnLine, AtEnd, on_line, with_line, at_end, said_at, all_put}
-use Rattle.net_edge.specs.Sides.{Side, Known, end_of, setup_of, down_of, with_side}
+use Rattle.net_edge.specs.Acting.{scene_of, is_group_open, source_at, sent_on, end_puts, taken_at, all_tick}
+use Rattle.net_edge.specs.Due.{Setting, demo_unit, kept_messages, hold_limit, accepted, messages, advertised_until, beat, due, is_tenth, ticks}
+use Rattle.net_edge.specs.Scene.{Scene, OnLine, AtEnd, line_in, with_line, at_end, said_at, all_put}
+use Rattle.net_edge.specs.Peers.{Peer, LooksIn, end_of, peer_setup, down_of, with_client_end}
 use Rattle.net_edge.specs.Steps.{Step, calls_of}
 use Rattle.net_edge.specs.Turns.{AreSteps}
 use Rattle.net_edge.specs.declared.market.Market.{Market}
@@ -39,9 +39,9 @@ use Rattle.net_edge.specs.declared.ends.Ends.{Ends}
 use Rattle.net_edge.specs.declared.proxy.Proxy.{Proxy}
 
 -- the net's calls, where it lists them: those of the run, and those before it
-abbrev pub IsTold : List Call → Option (List Call) → List Step → Type 0
-IsTold base None run = Unit {0}
-IsTold base (Some calls) run = calls ≡ calls_of run ++ base
+abbrev pub ListsCalls : List Call → Option (List Call) → List Step → Type 0
+ListsCalls base None run = Unit {0}
+ListsCalls base (Some calls) run = calls ≡ calls_of run ++ base
 
 -- the calls before a run
 abbrev pub calls_before : Option (List Call) → List Call
@@ -50,7 +50,7 @@ calls_before (Some calls) = calls
 
 -- a run that leads to a scene
 pub record LeadsTo (s : Setting) (base : List Call) (calls : Option (List Call)) (now : Scene) (run : List Step) : Type 0 where
-  pub told : IsTold base calls run
+  pub told : ListsCalls base calls run
   pub steps : AreSteps s run
   pub now_is : scene_of s run ≡ now
 
@@ -94,7 +94,7 @@ pub record HearsOn (s : Setting) (base : List Call) (calls : Option (List Call))
   pub on : OnLine
   pub heard : List Entry
   pub answers_are : on.answers ≡ answers
-  pub sent_is : on.sent ≡ (on_line line now).sent
+  pub sent_is : on.sent ≡ (line_in line now).sent
   pub has : ClientHas client heard
   pub plays : Plays s base calls (record (with_line line on now) { heard = heard })
 
@@ -129,7 +129,7 @@ pub record ProxyFed (s : Setting) (bytes : List ℕ) (now : Scene) (proxy : Prox
 -- the proxy was fed what it took from a scene, and what it said was put and sent
 pub record ProxyAnswers (s : Setting) (base : List Call) (calls : Option (List Call)) (proxy : Proxy) (bytes : List ℕ) (count : ℕ) (now : Scene) : Type 0 where
   pub has : ProxyHas proxy (Fed bytes (source_at s bytes now) ∷ now.grp.server) (proxy_said s bytes now).knows
-  pub plays : Plays s base calls (sent_on Gap (proxy_said s bytes now).lines (put_at GrpServer (proxy_said s bytes now).reply (taken_at s GrpServer bytes (Got count) now)))
+  pub plays : Plays s base calls (sent_on Gap (proxy_said s bytes now).lines (end_puts GrpServer (proxy_said s bytes now).reply (taken_at s GrpServer bytes (Got count) now)))
 
 -- the spin server took what came, and what it said was put
 pub record SpinServes (s : Setting) (base : List Call) (calls : Option (List Call)) (spin : Serving) (answers : List NetTaken) (ended : Bool) (now : Scene) : Type 0 where
@@ -150,32 +150,32 @@ pub record SpinSays (spin : Serving) (said : List ℕ) (before after : Connectio
   pub link_is : after.link ≡ before.link
 
 -- a connection that stands closes at its link
-abbrev pub closes : Side → Bool → List (Event Lookups) → Bool
-closes side cut events = not cut && is_some (closed_of (setup_of side) events)
+abbrev pub closes : Peer → Bool → List (Event Lookups) → Bool
+closes peer cut events = not cut && is_some (closed_of (peer_setup peer) events)
 
 -- where it closes, the client hears that it is down
-abbrev pub told_down : Side → Bool → List Entry → List Entry
-told_down side shut E = if shut then down_of side ∷ E else E
+abbrev pub told_down : Peer → Bool → List Entry → List Entry
+told_down peer shut E = if shut then down_of peer ∷ E else E
 
 -- a link was fed bytes, and the client heard what it told, and that it is down where it closed
-pub record LinkTells (side : Side) (link : Ending) (client : UnitClient) (bytes : List ℕ) (events : List (Event Lookups)) (E : List Entry) (shut : Bool) : Type 0 where
-  pub link_has : LinkHas (setup_of side) link (Fed bytes NoLookup ∷ events)
-  pub shut_is : shut ≡ closes side false (Fed bytes NoLookup ∷ events)
-  pub has : ClientHas client (told_down side shut (heard_all (link_tells (setup_of side) events bytes) E))
+pub record LinkTells (peer : Peer) (link : Ending) (client : UnitClient) (bytes : List ℕ) (events : List (Event Lookups)) (E : List Entry) (shut : Bool) : Type 0 where
+  pub link_has : LinkHas (peer_setup peer) link (Fed bytes NoLookup ∷ events)
+  pub shut_is : shut ≡ closes peer false (Fed bytes NoLookup ∷ events)
+  pub has : ClientHas client (told_down peer shut (heard_all (link_tells (peer_setup peer) events bytes) E))
 
 -- the client heard what one of its links took
-pub record HearsLink (side : Side) (s : Setting) (base : List Call) (calls : Option (List Call)) (link : Ending) (client : UnitClient) (answers : List NetTaken) (cut : Bool) (now : Scene) : Type 0 where
+pub record HearsLink (peer : Peer) (s : Setting) (base : List Call) (calls : Option (List Call)) (link : Ending) (client : UnitClient) (answers : List NetTaken) (cut : Bool) (now : Scene) : Type 0 where
   pub end : AtEnd
   pub events : List (Event Lookups)
   pub up : Pipe
   pub heard : List Entry
   pub answers_are : end.answers ≡ answers
   pub ended_is : end.ended ≡ true → cut ≡ true
-  pub put_is : end.put ≡ (at_end (end_of side) now).put
-  pub up_is : up.put ≡ said_at (end_of side) now
-  pub link_has : LinkHas (setup_of side) link events
+  pub put_is : end.put ≡ (at_end (end_of peer) now).put
+  pub up_is : up.put ≡ said_at (end_of peer) now
+  pub link_has : LinkHas (peer_setup peer) link events
   pub has : ClientHas client heard
-  pub plays : Plays s base calls (with_side side end up events cut heard now)
+  pub plays : Plays s base calls (with_client_end peer end up events cut heard now)
 
 -- ---- Ticks: an end made a connection of another, and what it said by that
 pub record ProxySays (proxy : Proxy) (said : List ℕ) (before after : Connection Source) (spent : Spent) : Type 0 where
@@ -194,23 +194,23 @@ pub record LinkSays {X : Type 0} (setup : Setup) (link : Ending) (said : List �
 pub record ProxyActs (s : Setting) (base : List Call) (calls : Option (List Call)) (proxy : Proxy) (before after : Connection Source) (spent : Spent) (now : Scene) : Type 0 where
   pub said : List ℕ
   pub is : ProxySays proxy said before after spent
-  pub plays : Plays s base calls (put_at GrpServer said now)
+  pub plays : Plays s base calls (end_puts GrpServer said now)
 
 pub record SpinActs (s : Setting) (base : List Call) (calls : Option (List Call)) (spin : Serving) (before after : Connection (List Served)) (now : Scene) : Type 0 where
   pub said : List ℕ
   pub is : SpinSays spin said before after
-  pub plays : Plays s base calls (put_at SpinServer said now)
+  pub plays : Plays s base calls (end_puts SpinServer said now)
 
-pub record LinkActs (side : Side) (s : Setting) (base : List Call) (calls : Option (List Call)) (link : Ending) (before after : Connection (Known side)) (now : Scene) : Type 0 where
+pub record LinkActs (peer : Peer) (s : Setting) (base : List Call) (calls : Option (List Call)) (link : Ending) (before after : Connection (LooksIn peer)) (now : Scene) : Type 0 where
   pub said : List ℕ
-  pub is : LinkSays (setup_of side) link said before after
-  pub plays : Plays s base calls (put_at (end_of side) said now)
+  pub is : LinkSays (peer_setup peer) link said before after
+  pub plays : Plays s base calls (end_puts (end_of peer) said now)
 
 -- a link ticked where its connection stands; the client heard where it closed then, and it is cut
-pub record LinkTicks (side : Side) (s : Setting) (base : List Call) (calls : Option (List Call)) (link : Ending) (client : UnitClient) (before after : Connection (Known side)) (E : List Entry) (cut cut' : Bool) (now : Scene) : Type 0 where
-  pub acts : LinkActs side s base calls link before after now
-  pub cut_is : cut' ≡ (cut || closes side cut after.link)
-  pub has : ClientHas client (told_down side (closes side cut after.link) E)
+pub record LinkTicks (peer : Peer) (s : Setting) (base : List Call) (calls : Option (List Call)) (link : Ending) (client : UnitClient) (before after : Connection (LooksIn peer)) (E : List Entry) (cut cut' : Bool) (now : Scene) : Type 0 where
+  pub acts : LinkActs peer s base calls link before after now
+  pub cut_is : cut' ≡ (cut || closes peer cut after.link)
+  pub has : ClientHas client (told_down peer (closes peer cut after.link) E)
 
 -- a link in the code is that of a scene: where its connection is cut, as it is once it ended, and
 -- all that was said was put
@@ -240,11 +240,11 @@ pub record EndsHave (ends : Ends) (now : Scene) : Type 0 where
 -- ---- Turns
 -- the market at the end of a turn's step with the venue
 abbrev pub MarketAt : Setting → Market → ℕ → Type 0
-MarketAt s market turn = MarketHas market (messages s turn) (accepted s turn) (advertised s turn)
+MarketAt s market turn = MarketHas market (messages s turn) (accepted s turn) (advertised_until s turn)
 
 -- the market in a turn, when what was accepted was sent and nothing was advertised yet
 abbrev pub IsFlushed : Setting → Market → ℕ → Type 0
-IsFlushed s market turn = MarketHas market (messages s turn) (accepted s turn) (advertised s (turn - 1))
+IsFlushed s market turn = MarketHas market (messages s turn) (accepted s turn) (advertised_until s (turn - 1))
 
 -- nothing was called in this turn yet
 pub record IsUncalled (now : Scene) : Type 0 where
@@ -270,17 +270,17 @@ pub record DemoAt (s : Setting) (base : List Call) (calls : Option (List Call)) 
 -- ---- Groups of calls
 -- so many calls, each of which got something
 abbrev pub AreGroup : List NetTaken → Type 0
-AreGroup answers = is_open answers ≡ false
+AreGroup answers = is_group_open answers ≡ false
 
 -- a group at an end: it is over, or the end is asked no more
 abbrev pub AreTaken : List NetTaken → Bool → Type 0
-AreTaken answers over = is_open answers ≡ true → over ≡ true
+AreTaken answers over = is_group_open answers ≡ true → over ≡ true
 
 -- ---- A heartbeat
 -- it was sent on both lines, all ticked, and what they said was put
-abbrev pub beaten : Setting → Scene → Scene
-beaten s now = all_put (ticked s (sent_on B (beat s now.turn ∷ []) (sent_on A (beat s now.turn ∷ []) now)))
+abbrev pub after_beat : Setting → Scene → Scene
+after_beat s now = all_put (all_tick s (sent_on B (beat s now.turn ∷ []) (sent_on A (beat s now.turn ∷ []) now)))
 
 -- the same in every tenth turn
-abbrev pub beaten_if : Setting → Scene → Scene
-beaten_if s now = if is_tenth now.turn then beaten s now else now
+abbrev pub after_due_beat : Setting → Scene → Scene
+after_due_beat s now = if is_tenth now.turn then after_beat s now else now

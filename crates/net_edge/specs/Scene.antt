@@ -84,10 +84,10 @@ first_scene = record {
 }
 
 -- ---- Its parts
-abbrev pub on_line : Line → Scene → OnLine
-on_line A now = now.a
-on_line B now = now.b
-on_line Gap now = now.gap
+abbrev pub line_in : Line → Scene → OnLine
+line_in A now = now.a
+line_in B now = now.b
+line_in Gap now = now.gap
 
 abbrev pub with_line : Line → OnLine → Scene → Scene
 with_line A line now = record now { a = line }
@@ -132,21 +132,14 @@ all_put now = record now {
   spin_server = put_all now.spin_server (said_at SpinServer now);
 }
 
--- the other end of its connection
-abbrev pub other_end : LinkEnd → LinkEnd
-other_end GrpClient = GrpServer
-other_end GrpServer = GrpClient
-other_end SpinClient = SpinServer
-other_end SpinServer = SpinClient
-
 -- ---- Answers
 abbrev pub is_got : NetTaken → Bool
 is_got (Got count) = true
 is_got answer = false
 
-abbrev pub is_end : NetTaken → Bool
-is_end End = true
-is_end answer = false
+abbrev pub got_end : NetTaken → Bool
+got_end End = true
+got_end answer = false
 
 -- it is asked no more: it got End, or its connection was cut
 abbrev pub is_done : LinkEnd → Scene → Bool

@@ -7,43 +7,43 @@ use Rattle.pitch_io.specs.Nets.{Call, Next, Take}
 use Rattle.pitch_model.specs.Status.{status_of}
 use Rattle.pitch_model.specs.declared.status.Status.{Status}
 use Rattle.pitch_model.specs.declared.status.Status.TheVariants.{Current}
-use Rattle.net_edge.specs.Acting.{is_open, scene_of}
+use Rattle.net_edge.specs.Acting.{is_group_open, scene_of}
 use Rattle.net_edge.specs.Due.{Setting, hold_limit, beat, due, is_tenth, ticks}
-use Rattle.net_edge.specs.Scene.{Scene, on_line, at_end, is_done}
+use Rattle.net_edge.specs.Scene.{Scene, line_in, at_end, is_done}
 use Rattle.net_edge.specs.Steps.{Step, Did, Beat, Turn}
 
 -- a call of `next` or `take` comes while the turn's group of them is open: it ends with its first
 -- Quiet or End, or with the 100th call; and no end is asked that got End or was cut
 abbrev pub MayCall : Call → Scene → Type 0
-MayCall (Next line bytes answer) now = is_open (on_line line now).answers ≡ true
-MayCall (Take at bytes answer) now = (is_open (at_end at now).answers ≡ true) × (is_done at now ≡ false)
+MayCall (Next line bytes answer) now = is_group_open (line_in line now).answers ≡ true
+MayCall (Take at bytes answer) now = (is_group_open (at_end at now).answers ≡ true) × (is_done at now ≡ false)
 MayCall call now = Unit {0}
 
 -- the turn's group of calls at an end is over, or the end is asked no more
 abbrev pub IsEndOver : LinkEnd → Scene → Type 0
-IsEndOver at now = is_open (at_end at now).answers ≡ true → is_done at now ≡ true
+IsEndOver at now = is_group_open (at_end at now).answers ≡ true → is_done at now ≡ true
 
 -- a turn is over: on each line and at each end its group of calls is, what it brings was sent, and
 -- its tick came
 pub record IsOver (s : Setting) (now : Scene) : Type 0 where
-  pub lines : (line : Line) → is_open (on_line line now).answers ≡ false
+  pub lines : (line : Line) → is_group_open (line_in line now).answers ≡ false
   pub ends : (at : LinkEnd) → IsEndOver at now
   pub on_a : now.a.sent ≡ due s A now.turn
   pub on_b : now.b.sent ≡ due s B now.turn
   pub ticked : now.ticked ≡ ticks now.turn
 
 -- the client's status
-abbrev pub status_at : Scene → Status
-status_at now = status_of hold_limit now.heard
+abbrev pub client_status : Scene → Status
+client_status now = status_of hold_limit now.heard
 
 -- no run goes on after a turn above the count at whose end all is current
-abbrev pub GoesOn : Setting → Scene → Type 0
-GoesOn s now = s.count < now.turn → status_at now ≡ Current s.count → ⊥
+abbrev pub MayGoOn : Setting → Scene → Type 0
+MayGoOn s now = s.count < now.turn → client_status now ≡ Current s.count → ⊥
 
 abbrev pub MayCome : Setting → Step → Scene → Type 0
 MayCome s (Did call) now = MayCall call now
 MayCome s (Beat heartbeat answer) now = (heartbeat ≡ beat s now.turn) × (is_tenth now.turn ≡ true)
-MayCome s Turn now = IsOver s now × GoesOn s now
+MayCome s Turn now = IsOver s now × MayGoOn s now
 
 -- each step may come after those before it
 abbrev pub AreSteps : Setting → List Step → Type 0

@@ -10,7 +10,7 @@ ghost use Rattle.client_links.specs.Linking.{Lookups, NoLookup, LinkStands, link
 ghost use Rattle.client_links.specs.Telling.{without_spare};
 ghost use Rattle.world_model.specs.State.{Connection};
 ghost use Rattle.net_edge.specs.Playing.{ClientHas, LinkHas, LinkSays};
-ghost use Rattle.net_edge.specs.Sides.{Side, ProxySide, SpinSide, Known, end_of, setup_of, down_of, asked_of};
+ghost use Rattle.net_edge.specs.Peers.{Peer, ProxyPeer, SpinPeer, LooksIn, end_of, peer_setup, down_of, asked_of};
 
 use client_core::UnitClient;
 use client_links::{GapLink, ItemList, SpinLink};
@@ -21,18 +21,18 @@ use pitch_model::{Ask, Item};
 /// A link at the client's end of a connection.
 pub(crate) trait ClientEnd {
     /// With whom it connects the client.
-    ghost side: { Side };
+    ghost peer: { Peer };
 
     /// How it stands.
     ghost ending: { Self → Ending };
 
     /// The end of the net at which it is.
     fn net_end() -> LinkEnd
-        ensures { result ≡ end_of side };
+        ensures { result ≡ end_of peer };
 
     /// The client hears that the connection is down.
     fn hear_down(client: &mut UnitClient) -> Result<(), OutOfMemory>
-        ensures { OnOk result ((E : List Entry) → ClientHas client.old E → ClientHas client.new (down_of side ∷ E)) };
+        ensures { OnOk result ((E : List Entry) → ClientHas client.old E → ClientHas client.new (down_of peer ∷ E)) };
 
     /// Whether it has closed.
     fn has_closed(&self) -> bool
@@ -53,11 +53,11 @@ pub(crate) trait ClientEnd {
     /// Says what it sends of what is asked.
     fn pass_on(&mut self, ask: Option<Ask>, said: &mut Vec<u8>) -> Result<(), OutOfMemory>
         requires { said.old.items ≡ [] }
-        ensures { OnOk result ((c : Connection (Known side)) → LinkHas (setup_of side) (ending self.old) c.link → LinkSays (setup_of side) (ending self.new) said.new.items c (asked_of side ask c)) };
+        ensures { OnOk result ((c : Connection (LooksIn peer)) → LinkHas (peer_setup peer) (ending self.old) c.link → LinkSays (peer_setup peer) (ending self.new) said.new.items c (asked_of peer ask c)) };
 }
 
 impl ClientEnd for GapLink {
-    ghost side = { ProxySide };
+    ghost peer = { ProxyPeer };
 
     ghost ending = { λ l. l };
 
@@ -99,7 +99,7 @@ impl ClientEnd for GapLink {
 }
 
 impl ClientEnd for SpinLink {
-    ghost side = { SpinSide };
+    ghost peer = { SpinPeer };
 
     ghost ending = { λ l. l };
 

@@ -4,9 +4,9 @@ ghost use Rattle.std.specs.Prelude.{◌≡◌, ◌≤◌, ◌<◌, ◌-◌, ℕ,
 ghost use Rattle.pitch_io.specs.Causes.{Rose};
 ghost use Rattle.pitch_io.specs.Nets.{Call};
 ghost use Rattle.net_edge.specs.declared.error.DemoError.TheVariants as errors;
-ghost use Rattle.net_edge.specs.Acting.{ticked};
+ghost use Rattle.net_edge.specs.Acting.{all_tick};
 ghost use Rattle.net_edge.specs.Due.{Setting, setting, accepted, is_tenth};
-ghost use Rattle.net_edge.specs.Playing.{Plays, EndsHave, MarketAt, IsFlushed, IsUncalled, IsSentTo, DemoAt, beaten, beaten_if};
+ghost use Rattle.net_edge.specs.Playing.{Plays, EndsHave, MarketAt, IsFlushed, IsUncalled, IsSentTo, DemoAt, after_beat, after_due_beat};
 ghost use Rattle.net_edge.specs.Scene.{Scene, all_put};
 ghost use Rattle.net_edge.specs.Turns.{IsOver};
 
@@ -44,8 +44,8 @@ impl Ends {
     // A second passes at all ends, after the turn's heartbeat was sent on line B. The spin server is
     // told of a sequence before.
     fn tick<N: Net>(&mut self, net: &mut N, sequence: u32) -> Result<(), DemoError>
-        ensures ticked { OnOk result ((s : Setting) (base : List Call) (now : Scene) → EndsHave self.old now → sequence ≡ accepted s now.turn → Plays s base (N.calls net.old) (ticked s now)
-            → DemoAt s base (N.calls net.new) self.new (all_put (ticked s now))) }
+        ensures ticked { OnOk result ((s : Setting) (base : List Call) (now : Scene) → EndsHave self.old now → sequence ≡ accepted s now.turn → Plays s base (N.calls net.old) (all_tick s now)
+            → DemoAt s base (N.calls net.new) self.new (all_put (all_tick s now))) }
         ensures fault { IfErr result (λ error. error ≡ errors.NetFault → Rose (N.faults net.old) (N.faults net.new)) }
         ensures later { N.faults net.old ≤ N.faults net.new }
     {
@@ -77,7 +77,7 @@ impl Ends {
     // The turn's heartbeat is sent, an image is advertised, and a second passes.
     fn beat<N: Net>(&mut self, net: &mut N, market: &mut Market) -> Result<(), DemoError>
         ensures beaten { OnOk result ((s : Setting) (base : List Call) (now : Scene) → DemoAt s base (N.calls net.old) self.old now → IsFlushed s market.old now.turn → 1 ≤ now.turn → is_tenth now.turn ≡ true
-            → DemoAt s base (N.calls net.new) self.new (beaten s now) × MarketAt s market.new now.turn) }
+            → DemoAt s base (N.calls net.new) self.new (after_beat s now) × MarketAt s market.new now.turn) }
         ensures fault { IfErr result (λ error. error ≡ errors.NetFault → Rose (N.faults net.old) (N.faults net.new)) }
         ensures later { N.faults net.old ≤ N.faults net.new }
     {
@@ -101,7 +101,7 @@ impl Ends {
     ) -> Result<(), DemoError>
         requires { 1 ≤ turn }
         ensures beaten { OnOk result ((s : Setting) (base : List Call) (now : Scene) → now.turn ≡ turn → DemoAt s base (N.calls net.old) self.old now → IsFlushed s market.old turn
-            → DemoAt s base (N.calls net.new) self.new (beaten_if s now) × MarketAt s market.new turn) }
+            → DemoAt s base (N.calls net.new) self.new (after_due_beat s now) × MarketAt s market.new turn) }
         ensures fault { IfErr result (λ error. error ≡ errors.NetFault → Rose (N.faults net.old) (N.faults net.new)) }
         ensures later { N.faults net.old ≤ N.faults net.new }
     {

@@ -8,7 +8,7 @@ ghost use Rattle.unit_packets.specs.Cutting.{blocks_of};
 ghost use Rattle.pitch_model.specs.Datagrams.{heard_blocks};
 ghost use Rattle.pitch_model.specs.History.{Entry};
 ghost use Rattle.net_edge.specs.declared.error.DemoError.TheVariants as errors;
-ghost use Rattle.net_edge.specs.Acting.{ours, is_open};
+ghost use Rattle.net_edge.specs.Acting.{ours, is_group_open};
 ghost use Rattle.net_edge.specs.Due.{Setting};
 ghost use Rattle.net_edge.specs.Playing.{ClientHas, HearsOn, AreGroup};
 ghost use Rattle.net_edge.specs.Scene.{Scene};
@@ -60,7 +60,7 @@ fn hear_one<N: Net>(
 ) -> Result<NetTaken, DemoError>
     requires { 0 < length into.old }
     ensures heard { IfOk result (λ answer. (s : Setting) (base : List Call) (answers : List TakenSaid) (now : Scene) → HearsOn s base (N.calls net.old) client.old line answers now
-        → is_open answers ≡ true → HearsOn s base (N.calls net.new) client.new line (answer ∷ answers) now) }
+        → is_group_open answers ≡ true → HearsOn s base (N.calls net.new) client.new line (answer ∷ answers) now) }
     ensures room { length into.new ≡ length into.old }
     ensures fault { IfErr result (λ error. error ≡ errors.NetFault → Rose (N.faults net.old) (N.faults net.new)) }
     ensures later { N.faults net.old ≤ N.faults net.new }

@@ -8,7 +8,7 @@ ghost use Rattle.pitch_model.specs.Advertising.{with_sequence};
 ghost use Rattle.pitch_model.specs.Datagrams.{IsPiece};
 ghost use Rattle.pitch_model.specs.History.{Raw as RawSaid};
 ghost use Rattle.venue_core.specs.Plan.{plan};
-ghost use Rattle.net_edge.specs.Due.{setting, demo_unit, accepted, messages, advertised};
+ghost use Rattle.net_edge.specs.Due.{setting, demo_unit, accepted, messages, advertised_until};
 ghost use Rattle.net_edge.specs.Playing.{MarketHas, MarketAt};
 
 use gap_store::GapStore;
@@ -74,7 +74,7 @@ impl Market {
     ) -> Result<(), OutOfMemory>
         requires { 1 ≤ turn }
         ensures { OnOk result (MarketAt (setting number count) self.old (turn - 1)
-            → MarketHas self.new (messages (setting number count) turn) (accepted (setting number count) (turn - 1)) (advertised (setting number count) (turn - 1))) }
+            → MarketHas self.new (messages (setting number count) turn) (accepted (setting number count) (turn - 1)) (advertised_until (setting number count) (turn - 1))) }
     {
         if turn > count {
             return Ok(());

@@ -14,10 +14,10 @@ ghost use Rattle.grp_session.specs.Serving.{Source};
 ghost use Rattle.world_model.specs.State.{Connection};
 ghost use Rattle.world_model.specs.Verbs.{at_grp_server};
 ghost use Rattle.net_edge.specs.declared.error.DemoError.TheVariants as errors;
-ghost use Rattle.net_edge.specs.Acting.{taken_at, where_stands, is_open};
+ghost use Rattle.net_edge.specs.Acting.{taken_at, where_stands, is_group_open};
 ghost use Rattle.net_edge.specs.Due.{Setting, demo_unit, gap_view};
 ghost use Rattle.net_edge.specs.Playing.{Plays, ProxyHas, ProxyFed, ProxyAnswers, ProxyServes, ProxySays, ProxyActs, AreTaken};
-ghost use Rattle.net_edge.specs.Scene.{Scene, is_end};
+ghost use Rattle.net_edge.specs.Scene.{Scene, got_end};
 
 use crate::error::DemoError;
 use crate::putting::{put_whole, send_all};

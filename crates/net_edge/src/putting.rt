@@ -5,7 +5,7 @@ ghost use Rattle.pitch_io.specs.Causes.{Rose};
 ghost use Rattle.pitch_io.specs.Nets.{Call};
 ghost use Rattle.unit_packets.specs.Packing.{bytes_in};
 ghost use Rattle.net_edge.specs.declared.error.DemoError.TheVariants as errors;
-ghost use Rattle.net_edge.specs.Acting.{sent_on, put_at};
+ghost use Rattle.net_edge.specs.Acting.{sent_on, end_puts};
 ghost use Rattle.net_edge.specs.Due.{Setting};
 ghost use Rattle.net_edge.specs.Playing.{Plays};
 ghost use Rattle.net_edge.specs.Scene.{Scene};
@@ -66,7 +66,7 @@ pub(crate) fn send_unless<N: Net>(
 /// Puts all of some bytes at an end.
 pub(crate) fn put_whole<N: Net>(net: &mut N, at: LinkEnd, bytes: &[u8]) -> Result<(), DemoError>
     ensures put { OnOk result ((s : Setting) (base : List Call) (now : Scene) → Plays s base (N.calls net.old) now
-        → Plays s base (N.calls net.new) (put_at at bytes.now now)) }
+        → Plays s base (N.calls net.new) (end_puts at bytes.now now)) }
     ensures fault { IfErr result (λ error. error ≡ errors.NetFault → Rose (N.faults net.old) (N.faults net.new)) }
     ensures later { N.faults net.old ≤ N.faults net.new }
 {

@@ -6,10 +6,10 @@ ghost use Rattle.pitch_io.specs.Causes.{Rose};
 ghost use Rattle.pitch_io.specs.Nets.{Call};
 ghost use Rattle.pitch_io.specs.declared.net.NetTaken.{NetTaken as TakenSaid};
 ghost use Rattle.net_edge.specs.declared.error.DemoError.TheVariants as errors;
-ghost use Rattle.net_edge.specs.Acting.{is_open};
+ghost use Rattle.net_edge.specs.Acting.{is_group_open};
 ghost use Rattle.net_edge.specs.Due.{Setting};
 ghost use Rattle.net_edge.specs.Playing.{AreTaken};
-ghost use Rattle.net_edge.specs.Scene.{Scene, is_got, is_end};
+ghost use Rattle.net_edge.specs.Scene.{Scene, is_got, got_end};
 
 use crate::error::DemoError;
 use crate::lines::MOST_CALLS;
@@ -41,7 +41,7 @@ pub(crate) trait ServerEnd {
     ) -> Result<NetTaken, DemoError>
         requires { 0 < length into.old }
         ensures served { IfOk result (λ answer. (s : Setting) (base : List Call) (answers : List TakenSaid) (now : Scene) → serves self.old s base (N.calls net.old) answers false now → is_cut now ≡ false → shows store.old s now
-            → is_open answers ≡ true → is_open (answer ∷ answers) ≡ (is_got answer && not last) → serves self.new s base (N.calls net.new) (answer ∷ answers) (is_end answer) now) }
+            → is_group_open answers ≡ true → is_group_open (answer ∷ answers) ≡ (is_got answer && not last) → serves self.new s base (N.calls net.new) (answer ∷ answers) (got_end answer) now) }
         ensures store { store.new ≡ store.old }
         ensures room { length into.new ≡ length into.old }
         ensures fault { IfErr result (λ error. error ≡ errors.NetFault → Rose (N.faults net.old) (N.faults net.new)) }

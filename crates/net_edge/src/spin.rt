@@ -11,10 +11,10 @@ ghost use Rattle.world_model.specs.Connections.{KeepsShelf};
 ghost use Rattle.world_model.specs.State.{Connection};
 ghost use Rattle.world_model.specs.Verbs.{at_spin_server, sent_whole};
 ghost use Rattle.net_edge.specs.declared.error.DemoError.TheVariants as errors;
-ghost use Rattle.net_edge.specs.Acting.{where_stands, is_open, spin_fed, spin_answered};
-ghost use Rattle.net_edge.specs.Due.{Setting, demo_unit, messages, advertised};
+ghost use Rattle.net_edge.specs.Acting.{where_stands, is_group_open, spin_server_fed, spin_answered};
+ghost use Rattle.net_edge.specs.Due.{Setting, demo_unit, messages, advertised_until};
 ghost use Rattle.net_edge.specs.Playing.{Plays, SpinHas, SpinSays, SpinActs, SpinServes, AreTaken};
-ghost use Rattle.net_edge.specs.Scene.{Scene, is_got, is_end};
+ghost use Rattle.net_edge.specs.Scene.{Scene, is_got, got_end};
 
 use crate::error::DemoError;
 use crate::putting::put_whole;
@@ -32,8 +32,8 @@ fn feed(
     said: &mut Vec<u8>,
 ) -> Result<(), OutOfMemory>
     requires { said.old.items ≡ [] }
-    ensures fed { OnOk result ((s : Setting) (count turn : ℕ) (c : Connection (List Served)) → SpinHas spin.old c.server → KeepsShelf shelf.old (messages s turn) (advertised s turn)
-        → SpinSays spin.new said.new.items c (spin_fed s piece.now (Got count) turn c)) }
+    ensures fed { OnOk result ((s : Setting) (count turn : ℕ) (c : Connection (List Served)) → SpinHas spin.old c.server → KeepsShelf shelf.old (messages s turn) (advertised_until s turn)
+        → SpinSays spin.new said.new.items c (spin_server_fed s piece.now (Got count) turn c)) }
     ensures shelf { shelf.new ≡ shelf.old }
 {
     spin.feed(piece, shelf, said)?;
@@ -64,7 +64,7 @@ fn answer(
 ) -> Result<(), OutOfMemory>
     requires none { said.old.items ≡ [] }
     requires within { CameWithin taken into.now }
-    ensures says { OnOk result ((s : Setting) (turn : ℕ) (c : Connection (List Served)) → SpinHas spin.old c.server → KeepsShelf shelf.old (messages s turn) (advertised s turn)
+    ensures says { OnOk result ((s : Setting) (turn : ℕ) (c : Connection (List Served)) → SpinHas spin.old c.server → KeepsShelf shelf.old (messages s turn) (advertised_until s turn)
         → SpinSays spin.new said.new.items c (spin_answered s (came taken into.now) taken turn (is_got taken && not last) c)) }
     ensures shelf { shelf.new ≡ shelf.old }
 {
@@ -89,7 +89,7 @@ impl ServerEnd for SpinServer {
 
     ghost serves = { λ spin s base calls answers ended now. SpinServes s base calls spin answers ended now };
 
-    ghost shows = { λ shelf s now. KeepsShelf shelf (messages s now.turn) (advertised s now.turn) };
+    ghost shows = { λ shelf s now. KeepsShelf shelf (messages s now.turn) (advertised_until s now.turn) };
 
     ghost is_cut = { λ now. now.spin_cut };
 

@@ -1,5 +1,5 @@
 -- A net in memory, of which the maker says which calls fail.
-use Rattle.std.specs.Prelude.{◌≡◌, ℕ, zero, suc, ◌<◌, ◌+◌, ◌-◌, ◌^◌, ◌++◌, Bool, true, false, List, [], ◌∷◌, ◌⊎◌, map, reverse, Contains, Option, None, Some, min, length, take, if◌then◌else◌}
+use Rattle.std.specs.Prelude.{◌≡◌, ℕ, zero, suc, ◌<◌, ◌+◌, ◌-◌, ◌^◌, Bool, true, false, List, [], ◌∷◌, ◌⊎◌, map, reverse, Contains, Option, None, Some, min, length, take, if◌then◌else◌}
 use Rattle.std.specs.Global.{Vec}
 use Rattle.pitch_io.specs.declared.line.Line.{Line}
 use Rattle.pitch_io.specs.declared.line.Line.TheVariants as line
@@ -68,17 +68,10 @@ end_changed w link.GrpServer f = record { a = w.a; b = w.b; gap = w.gap; grp_cli
 end_changed w link.SpinClient f = record { a = w.a; b = w.b; gap = w.gap; grp_client = w.grp_client; grp_server = w.grp_server; spin_client = f w.spin_client; spin_server = w.spin_server }
 end_changed w link.SpinServer f = record { a = w.a; b = w.b; gap = w.gap; grp_client = w.grp_client; grp_server = w.grp_server; spin_client = w.spin_client; spin_server = f w.spin_server }
 
--- the other end of a connection
-abbrev pub other_end : LinkEnd → LinkEnd
-other_end link.GrpClient = link.GrpServer
-other_end link.GrpServer = link.GrpClient
-other_end link.SpinClient = link.SpinServer
-other_end link.SpinServer = link.SpinClient
-
 -- a datagram as a line carries it: one without bytes is not carried
-abbrev pub carried : List ℕ → List (List ℕ)
-carried [] = []
-carried (byte ∷ bytes) = (byte ∷ bytes) ∷ []
+abbrev pub as_carried : List ℕ → List (List ℕ)
+as_carried [] = []
+as_carried (byte ∷ bytes) = (byte ∷ bytes) ∷ []
 
 -- the first datagram came, as much of it as there was room for; no byte came where there is none
 abbrev pub ComesFirst : List (List ℕ) → ℕ → List ℕ → Type 0
@@ -98,12 +91,12 @@ abbrev pub one_more : ℕ → ℕ
 one_more count = min (count + 1) (2 ^ 64 - 1)
 
 -- one call more of a verb
-abbrev pub counted : VerbCounts → NetVerb → VerbCounts
-counted c verb.Begin = record { begins = one_more c.begins; sends = c.sends; nexts = c.nexts; puts = c.puts; takes = c.takes }
-counted c verb.Send = record { begins = c.begins; sends = one_more c.sends; nexts = c.nexts; puts = c.puts; takes = c.takes }
-counted c verb.Next = record { begins = c.begins; sends = c.sends; nexts = one_more c.nexts; puts = c.puts; takes = c.takes }
-counted c verb.Put = record { begins = c.begins; sends = c.sends; nexts = c.nexts; puts = one_more c.puts; takes = c.takes }
-counted c verb.Take = record { begins = c.begins; sends = c.sends; nexts = c.nexts; puts = c.puts; takes = one_more c.takes }
+abbrev pub call_counted : VerbCounts → NetVerb → VerbCounts
+call_counted c verb.Begin = record { begins = one_more c.begins; sends = c.sends; nexts = c.nexts; puts = c.puts; takes = c.takes }
+call_counted c verb.Send = record { begins = c.begins; sends = one_more c.sends; nexts = c.nexts; puts = c.puts; takes = c.takes }
+call_counted c verb.Next = record { begins = c.begins; sends = c.sends; nexts = one_more c.nexts; puts = c.puts; takes = c.takes }
+call_counted c verb.Put = record { begins = c.begins; sends = c.sends; nexts = c.nexts; puts = one_more c.puts; takes = c.takes }
+call_counted c verb.Take = record { begins = c.begins; sends = c.sends; nexts = c.nexts; puts = c.puts; takes = one_more c.takes }
 
 -- the last call of a verb is listed as one that fails
 abbrev pub IsListed : List NetCall → VerbCounts → NetVerb → Type 0
@@ -112,7 +105,7 @@ IsListed failing counts verb = Contains failing (record { verb = verb; number = 
 -- a call of a verb under the same script: it is counted; it fails where it is listed, and where
 -- memory was refused; then the net lists no more
 pub record FollowsScript (old new : Carried) (verb : NetVerb) (failed : Type 0) : Type 0 where
-  pub counts : new.counts ≡ counted old.counts verb
+  pub counts : new.counts ≡ call_counted old.counts verb
   pub failing : new.failing ≡ old.failing
   pub listed : IsListed old.failing new.counts verb → failed
   pub others : failed → IsListed old.failing new.counts verb ⊎ (new.calls ≡ None)
@@ -175,8 +168,8 @@ abbrev pub LogsCall : CallLog → CallLog → Call → Bool → Type 0
 LogsCall old new newest true = listed_calls new ≡ with_call (listed_calls old) newest
 LogsCall old new newest false = listed_calls new ≡ None
 
-abbrev pub datagrams_of : List (Vec ℕ) → List (List ℕ)
-datagrams_of datagrams = map (λ (d : Vec ℕ). d.items) datagrams
+abbrev pub datagram_items : List (Vec ℕ) → List (List ℕ)
+datagram_items datagrams = map (λ (d : Vec ℕ). d.items) datagrams
 
 -- each datagram has bytes
 abbrev pub AreFull : List (List ℕ) → Type 0

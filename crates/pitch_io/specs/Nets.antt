@@ -3,6 +3,7 @@ use Rattle.std.specs.Prelude.{◌≡◌, ℕ, ◌<◌, ◌≤◌, List, [], ◌�
 use Rattle.pitch_io.specs.declared.line.Line.{Line}
 use Rattle.pitch_io.specs.declared.sink.Put.{Put as PutAnswer}
 use Rattle.pitch_io.specs.declared.net.LinkEnd.{LinkEnd}
+use Rattle.pitch_io.specs.declared.net.LinkEnd.TheVariants as link
 use Rattle.pitch_io.specs.declared.net.NetDone.{NetDone}
 use Rattle.pitch_io.specs.declared.net.NetDone.TheVariants as done
 use Rattle.pitch_io.specs.declared.net.NetTaken.{NetTaken}
@@ -16,6 +17,13 @@ pub data Call : Type 0 where
   Next : (line : Line) → (bytes : List ℕ) → (answer : NetTaken) → Call
   Put : (at : LinkEnd) → (piece : List ℕ) → (answer : PutAnswer) → Call
   Take : (at : LinkEnd) → (bytes : List ℕ) → (answer : NetTaken) → Call
+
+-- the other end of a connection
+abbrev pub other_end : LinkEnd → LinkEnd
+other_end link.GrpClient = link.GrpServer
+other_end link.GrpServer = link.GrpClient
+other_end link.SpinClient = link.SpinServer
+other_end link.SpinServer = link.SpinClient
 
 -- where the net lists its calls after this one, the newest first, it listed them before, and this
 -- one was added

@@ -2,8 +2,8 @@ ghost use Rattle.std.specs.Prelude.{◌≡◌, ◌↔◌, ◌<◌, [], Some, Non
 ghost use Rattle.pitch_io.specs.declared.memory_net.NetVerb.TheVariants as verb;
 ghost use Rattle.pitch_io.specs.Causes.{HasCause};
 ghost use Rattle.pitch_io.specs.Putting.{PutFailed, PutsWithin};
-ghost use Rattle.pitch_io.specs.Nets.{AnswersWhereListed, Begin, CameWithin, ListsCall, NetDoneFailed, NetTakeFailed, Next, Put as PutCall, Send, Take, came};
-ghost use Rattle.pitch_io.specs.MemoryNets.{ComesFirst, FollowsScript, IsListed, IsRest, IsSameButFaults, LeavesDone, LeavesPut, LeavesTaken, carried, end_changed, line_changed, other_end, size_of, taken_of, coming_items, counted, nothing_coming, on_line, one_more, times_called, to_end};
+ghost use Rattle.pitch_io.specs.Nets.{AnswersWhereListed, Begin, CameWithin, ListsCall, NetDoneFailed, NetTakeFailed, Next, Put as PutCall, Send, Take, came, other_end};
+ghost use Rattle.pitch_io.specs.MemoryNets.{ComesFirst, FollowsScript, IsListed, IsRest, IsSameButFaults, LeavesDone, LeavesPut, LeavesTaken, as_carried, end_changed, line_changed, size_of, taken_of, coming_items, call_counted, nothing_coming, on_line, one_more, times_called, to_end};
 
 use crate::call_log::CallLog;
 use crate::line::Line;
@@ -43,7 +43,7 @@ pub struct VerbCounts {
 impl VerbCounts {
     // One call more of a verb, counted up to the greatest number of its type. Answers its number.
     fn count(&mut self, verb: NetVerb) -> u64
-        ensures counted { self.new ≡ counted self.old verb }
+        ensures call_counted { self.new ≡ call_counted self.old verb }
         ensures number { result ≡ times_called self.new verb }
     {
         match verb {
@@ -58,7 +58,7 @@ impl VerbCounts {
 
 // One more, up to the greatest number of the type.
 fn count_up(count: &mut u64) -> u64
-    ensures counted { count.new ≡ one_more count.old }
+    ensures call_counted { count.new ≡ one_more count.old }
     ensures number { result ≡ count.new }
 {
     *count = count.saturating_add(1);
@@ -112,7 +112,7 @@ impl MemoryNet {
 
     // Counts a call of a verb. Answers whether it is listed as one that fails.
     fn is_listed(&mut self, verb: NetVerb) -> bool
-        ensures counts { self.new.counts ≡ counted self.old.counts verb }
+        ensures counts { self.new.counts ≡ call_counted self.old.counts verb }
         ensures listed { result ≡ true ↔ IsListed self.old.failing self.new.counts verb }
         ensures rest { IsRest self.old self.new }
     {
@@ -173,7 +173,7 @@ impl Net for MemoryNet {
         ensures cause { HasCause self.old.faults self.new.faults (NetDoneFailed result) }
         ensures still { ¬ NetDoneFailed result → self.new.faults ≡ self.old.faults }
         ensures script { FollowsScript self.old self.new verb.Send (NetDoneFailed result) }
-        ensures coming { LeavesDone self.old self.new (line_changed self.old.coming line (λ datagrams. datagrams ++ carried datagram.now)) result }
+        ensures coming { LeavesDone self.old self.new (line_changed self.old.coming line (λ datagrams. datagrams ++ as_carried datagram.now)) result }
     {
         if self.is_listed(NetVerb::Send) {
             self.log.keep_send(line, datagram, NetDone::Failed);

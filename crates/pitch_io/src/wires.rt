@@ -1,5 +1,6 @@
 ghost use Rattle.std.specs.Prelude.{◌≡◌, ◌<◌, ◌++◌, [], length, take, drop, min, true};
-ghost use Rattle.pitch_io.specs.MemoryNets.{AreFull, ComesFirst, carried, datagrams_of, end_changed, line_changed, nothing_coming, on_line, other_end, to_end};
+ghost use Rattle.pitch_io.specs.MemoryNets.{AreFull, ComesFirst, as_carried, datagram_items, end_changed, line_changed, nothing_coming, on_line, to_end};
+ghost use Rattle.pitch_io.specs.Nets.{other_end};
 
 use crate::line::Line;
 use crate::net::LinkEnd;
@@ -21,13 +22,13 @@ pub struct Wires {
 }
 
 impl Model for Wires {
-    ghost use Rattle.pitch_io.specs.MemoryNets.{AreFull, OnItsWay, datagrams_of};
+    ghost use Rattle.pitch_io.specs.MemoryNets.{AreFull, OnItsWay, datagram_items};
 
     ghost Value = { OnItsWay };
 
-    ghost view = { λ w. record { a = datagrams_of w.a.items; b = datagrams_of w.b.items; gap = datagrams_of w.gap.items; grp_client = w.grp_client.items; grp_server = w.grp_server.items; spin_client = w.spin_client.items; spin_server = w.spin_server.items } };
+    ghost view = { λ w. record { a = datagram_items w.a.items; b = datagram_items w.b.items; gap = datagram_items w.gap.items; grp_client = w.grp_client.items; grp_server = w.grp_server.items; spin_client = w.spin_client.items; spin_server = w.spin_server.items } };
 
-    ghost invariant = { λ w. AreFull (datagrams_of w.a.items) × AreFull (datagrams_of w.b.items) × AreFull (datagrams_of w.gap.items) };
+    ghost invariant = { λ w. AreFull (datagram_items w.a.items) × AreFull (datagram_items w.b.items) × AreFull (datagram_items w.gap.items) };
 }
 
 impl Wires {
@@ -61,7 +62,7 @@ impl Wires {
 
     // A datagram goes on a line. Answers whether there was memory for it.
     pub(crate) fn send(&mut self, line: Line, datagram: &[u8]) -> bool
-        ensures { result ≡ true → self.new ≡ line_changed self.old line (λ datagrams. datagrams ++ carried datagram.now) }
+        ensures { result ≡ true → self.new ≡ line_changed self.old line (λ datagrams. datagrams ++ as_carried datagram.now) }
     {
         match line {
             Line::A => append(&mut self.a, self.alloc, datagram),
@@ -115,9 +116,9 @@ impl Wires {
 
 // One more datagram at the end; one without bytes is not carried.
 fn append(datagrams: &mut VecDeque<Vec<u8>>, alloc: Global, datagram: &[u8]) -> bool
-    requires { AreFull (datagrams_of datagrams.old.items) }
-    ensures added { result ≡ true → datagrams_of datagrams.new.items ≡ datagrams_of datagrams.old.items ++ carried datagram.now }
-    ensures full { AreFull (datagrams_of datagrams.new.items) }
+    requires { AreFull (datagram_items datagrams.old.items) }
+    ensures added { result ≡ true → datagram_items datagrams.new.items ≡ datagram_items datagrams.old.items ++ as_carried datagram.now }
+    ensures full { AreFull (datagram_items datagrams.new.items) }
 {
     if datagram.is_empty() {
         return true;
@@ -130,11 +131,11 @@ fn append(datagrams: &mut VecDeque<Vec<u8>>, alloc: Global, datagram: &[u8]) -> 
 
 // Takes the first datagram out and copies as much of it as there is room for.
 fn take_first(datagrams: &mut VecDeque<Vec<u8>>, into: &mut [u8]) -> usize
-    requires { AreFull (datagrams_of datagrams.old.items) }
-    ensures way { datagrams_of datagrams.new.items ≡ drop 1 (datagrams_of datagrams.old.items) }
-    ensures came { ComesFirst (datagrams_of datagrams.old.items) result into.new }
-    ensures none { result ≡ 0 → 0 < length into.old → datagrams_of datagrams.old.items ≡ [] }
-    ensures full { AreFull (datagrams_of datagrams.new.items) }
+    requires { AreFull (datagram_items datagrams.old.items) }
+    ensures way { datagram_items datagrams.new.items ≡ drop 1 (datagram_items datagrams.old.items) }
+    ensures came { ComesFirst (datagram_items datagrams.old.items) result into.new }
+    ensures none { result ≡ 0 → 0 < length into.old → datagram_items datagrams.old.items ≡ [] }
+    ensures full { AreFull (datagram_items datagrams.new.items) }
     ensures size { length into.new ≡ length into.old }
 {
     match datagrams.pop_front() {

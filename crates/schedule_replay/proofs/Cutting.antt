@@ -12,7 +12,7 @@ use Rattle.text_lines.specs.declared.fault.TextError.{TextError}
 use Rattle.text_lines.specs.Text.{said_on, line_of, lines_of, item_of}
 use Rattle.text_lines.proofs.FieldLemmas.{split_first, parts_after}
 use Rattle.text_lines.proofs.TextLemmas.{is_feed, items_first}
-use Rattle.schedule_replay.specs.Stretches.{IsWhole, Splits, Part, items_at, items_in, parts_of}
+use Rattle.schedule_replay.specs.Stretches.{AreWholeLines, Splits, StretchPart, items_at, items_in, parts_of}
 use Rattle.schedule_replay.specs.declared.stretches.Stretch.{Stretch}
 
 abbrev Items : Type 0
@@ -39,7 +39,7 @@ option_front : (o : Option (Result ScheduleEntry TextError)) (xs : Items) → co
 option_front None xs = refl
 option_front (Some x) xs = refl
 
-feed_whole : (l : List ℕ) → ((after : List ℕ) → feed_at l after) → IsWhole 1 (l ++ 10 ∷ [])
+feed_whole : (l : List ℕ) → ((after : List ℕ) → feed_at l after) → AreWholeLines 1 (l ++ 10 ∷ [])
 feed_whole l at n after =
     let first : Option (Result ScheduleEntry TextError) = option_map (item_of schedule_entry) (said_on n (line_of entry (strip_carriage_return l))) in
     ap (items_at n) (append_assoc l (10 ∷ []) after)
@@ -77,15 +77,15 @@ fed : (text : List ℕ) → position_or_len is_feed text < length text → Fed t
 fed [] lt = absurd (omega arith)
 fed (b ∷ bs) lt = fed_cases b bs (eqb b 10) refl (fed bs) lt
 
-pub line_is_whole : (text : List ℕ) (k : ℕ) → k ≡ position_or_len is_feed text → min (k + 1) (length text) < length text → IsWhole 1 (take (min (k + 1) (length text)) text)
+pub line_is_whole : (text : List ℕ) (k : ℕ) → k ≡ position_or_len is_feed text → min (k + 1) (length text) < length text → AreWholeLines 1 (take (min (k + 1) (length text)) text)
 line_is_whole text k is lt =
     let small : min (k + 1) (length text) ≡ k + 1 = omega arith in
     let f = fed text (omega (arith, is, lt, small)) in
-    subst (λ (bytes : List ℕ). IsWhole 1 bytes) (sym (ap (λ (m : ℕ). take m text) (small ∙ ap (λ (m : ℕ). m + 1) is) ∙ f.front)) (feed_whole f.line f.at)
+    subst (λ (bytes : List ℕ). AreWholeLines 1 bytes) (sym (ap (λ (m : ℕ). take m text) (small ∙ ap (λ (m : ℕ). m + 1) is) ∙ f.front)) (feed_whole f.line f.at)
 
 -- ---- Many lines
 
-pub whole_more : (lines more : ℕ) (bytes others : List ℕ) → IsWhole lines bytes → IsWhole more others → IsWhole (lines + more) (bytes ++ others)
+pub whole_more : (lines more : ℕ) (bytes others : List ℕ) → AreWholeLines lines bytes → AreWholeLines more others → AreWholeLines (lines + more) (bytes ++ others)
 whole_more lines more bytes others a b n after =
     let e : n + lines + more ≡ n + (lines + more) = omega arith in
     ap (items_at n) (append_assoc bytes others after) ∙ a n (others ++ after)
@@ -103,12 +103,12 @@ pub record GrowingStretch (lines size : ℕ) (text : List ℕ) : Type 0 where
   pub some : 0 < size
   pub within : size ≤ length text
   pub few : lines ≤ size
-  pub whole : size < length text → IsWhole lines (take size text)
+  pub whole : size < length text → AreWholeLines lines (take size text)
 
-pub grows_first : (text : List ℕ) (size : ℕ) → 0 < size → size ≤ length text → (size < length text → IsWhole 1 (take size text)) → GrowingStretch 1 size text
+pub grows_first : (text : List ℕ) (size : ℕ) → 0 < size → size ≤ length text → (size < length text → AreWholeLines 1 (take size text)) → GrowingStretch 1 size text
 grows_first text size some within whole = record { some = some; within = within; few = omega arith; whole = whole }
 
-pub grows_more : (lines size more : ℕ) (text rest : List ℕ) → rest ≡ drop size text → GrowingStretch lines size text → 0 < more → more ≤ length rest → (more < length rest → IsWhole 1 (take more rest)) → size < length text
+pub grows_more : (lines size more : ℕ) (text rest : List ℕ) → rest ≡ drop size text → GrowingStretch lines size text → 0 < more → more ≤ length rest → (more < length rest → AreWholeLines 1 (take more rest)) → size < length text
     → GrowingStretch (lines + 1) (size + more) text
 grows_more lines size more text rest is g some within whole left =
     let long : length rest ≡ length text - size = ap (λ (l : List ℕ). length l) is ∙ length-drop size text in
@@ -116,7 +116,7 @@ grows_more lines size more text rest is g some within whole left =
       some = omega arith;
       within = omega (arith, long, within, left);
       few = omega (arith, g.few, some);
-      whole = λ lt. subst (λ (bytes : List ℕ). IsWhole (lines + 1) bytes) (ap (λ (l : List ℕ). take size text ++ take more l) is ∙ sym (take-add size more text))
+      whole = λ lt. subst (λ (bytes : List ℕ). AreWholeLines (lines + 1) bytes) (ap (λ (l : List ℕ). take size text ++ take more l) is ∙ sym (take-add size more text))
           (whole_more lines 1 (take size text) (take more rest) (g.whole left) (whole (omega (arith, long, lt))));
     }
 
@@ -142,7 +142,7 @@ stretches_rest (s ∷ ss) text = stretches_rest ss (drop s.size text)
 parts_snoc : (n : ℕ) (ss : List Stretch) (s : Stretch) (text : List ℕ) → parts_of n (ss ++ s ∷ []) text ≡ parts_of n ss text ++ parts_of (stretches_line n ss) (s ∷ []) (stretches_rest ss text)
 unfolding stretches_line stretches_rest
 parts_snoc n [] s text = refl
-parts_snoc n (x ∷ ss) s text = ap (λ (ps : List Part). record { unit = x.unit; items = items_at n (take x.size text) } ∷ ps) (parts_snoc (n + x.lines) ss s (drop x.size text))
+parts_snoc n (x ∷ ss) s text = ap (λ (ps : List StretchPart). record { unit = x.unit; items = items_at n (take x.size text) } ∷ ps) (parts_snoc (n + x.lines) ss s (drop x.size text))
 
 line_snoc : (n : ℕ) (ss : List Stretch) (s : Stretch) → stretches_line n (ss ++ s ∷ []) ≡ stretches_line n ss + s.lines
 unfolding stretches_line
@@ -154,7 +154,7 @@ unfolding stretches_rest
 bytes_snoc [] s text = refl
 bytes_snoc (x ∷ ss) s text = bytes_snoc ss s (drop x.size text)
 
-items_append : (ps qs : List Part) → items_in (ps ++ qs) ≡ items_in ps ++ items_in qs
+items_append : (ps qs : List StretchPart) → items_in (ps ++ qs) ≡ items_in ps ++ items_in qs
 items_append [] qs = refl
 items_append (p ∷ ps) qs = ap (λ (xs : Items). p.items ++ xs) (items_append ps qs) ∙ sym (append_assoc p.items (items_in ps) (items_in qs))
 
@@ -173,8 +173,8 @@ cuts_more text rest rest' ss s split next c =
     let n : ℕ = stretches_line 1 ss in
     let here : parts_of n (s ∷ []) (stretches_rest ss text) ≡ record { unit = s.unit; items = items_at n (take s.size rest) } ∷ [] = ap (parts_of n (s ∷ [])) (sym c.left) in
     let parts : items_in (parts_of 1 (ss ++ s ∷ []) text) ≡ items_in (parts_of 1 ss text) ++ items_at n (take s.size rest) =
-    ap (λ (ps : List Part). items_in ps) (parts_snoc 1 ss s text) ∙ items_append (parts_of 1 ss text) (parts_of n (s ∷ []) (stretches_rest ss text))
-    ∙ ap (λ (ps : List Part). items_in (parts_of 1 ss text) ++ items_in ps) here ∙ ap (λ (xs : Items). items_in (parts_of 1 ss text) ++ xs) (append-nil (items_at n (take s.size rest))) in
+    ap (λ (ps : List StretchPart). items_in ps) (parts_snoc 1 ss s text) ∙ items_append (parts_of 1 ss text) (parts_of n (s ∷ []) (stretches_rest ss text))
+    ∙ ap (λ (ps : List StretchPart). items_in (parts_of 1 ss text) ++ items_in ps) here ∙ ap (λ (xs : Items). items_in (parts_of 1 ss text) ++ xs) (append-nil (items_at n (take s.size rest))) in
     record {
       left = next ∙ ap (drop s.size) c.left ∙ sym (bytes_snoc ss s text);
       small = omega (arith, c.small, ap (λ (l : List ℕ). length l) next, length-drop s.size rest);

@@ -19,8 +19,8 @@ use Rattle.world_model.specs.Stands.{WorldStands}
 use Rattle.world_model.specs.declared.world.World.{World}
 use Rattle.schedule_replay.specs.Apart.{own, first_piece}
 use Rattle.schedule_replay.specs.Replay.{verbs_of, limits_of, replay_line, replay_text, schedule_of}
-use Rattle.schedule_replay.specs.Runs.{entries_among, without_fault, AreOf, ArePartsOf, part_entries, part_texts, cut, Ran, left_pieces, pieces_on, pieces_at, joined, AreRunsAt, is_filled, has_world}
-use Rattle.schedule_replay.specs.Stretches.{Part, items_at, items_in, parts_of}
+use Rattle.schedule_replay.specs.Runs.{entries_among, without_fault, AreOf, ArePartsOf, part_entries, part_texts, cut_by, Ran, left_pieces, pieces_on, pieces_at, put_together, AreRunsAt, is_filled, has_world}
+use Rattle.schedule_replay.specs.Stretches.{StretchPart, items_at, items_in, parts_of}
 use Rattle.schedule_replay.specs.Worlds.{IsPlace, ArePlaces}
 use Rattle.schedule_replay.specs.declared.merging.Left.{Left}
 use Rattle.schedule_replay.specs.declared.stretches.Stretch.{Stretch}
@@ -53,7 +53,7 @@ abbrev first_left : Run → Left
 first_left run = record { text = run.text; lengths = run.lengths; next = 0; at = 0 }
 
 -- a run at the place of its unit
-run_put : (parts : List Part) (places : List (Option World)) (lefts : List Left) (run : Run) → run.unit < length places → run.unit < length lefts → AreRunsAt parts places lefts → Ran parts run
+run_put : (parts : List StretchPart) (places : List (Option World)) (lefts : List Left) (run : Run) → run.unit < length places → run.unit < length lefts → AreRunsAt parts places lefts → Ran parts run
     → AreRunsAt parts (set places run.unit run.world) (set lefts run.unit (first_left run))
 run_put parts places lefts run low lower are ran = record {
   many = length-set places run.unit run.world ∙ are.many;
@@ -76,7 +76,7 @@ run_put parts places lefts run low lower are ran = record {
 }
 
 -- the same, where the place and what is put there come under names of their own
-pub puts_run : (parts : List Part) (places : List (Option World)) (lefts : List Left) (run : Run) (place : ℕ) (world : Option World) (left : Left) → place ≡ run.unit → world ≡ run.world → left ≡ record { text = run.text; lengths = run.lengths; next = 0; at = 0 }
+pub puts_run : (parts : List StretchPart) (places : List (Option World)) (lefts : List Left) (run : Run) (place : ℕ) (world : Option World) (left : Left) → place ≡ run.unit → world ≡ run.world → left ≡ record { text = run.text; lengths = run.lengths; next = 0; at = 0 }
     → place < length places → place < length lefts → AreRunsAt parts places lefts → Ran parts run → AreRunsAt parts (set places place world) (set lefts place left)
 puts_run parts places lefts run place world left at is put low lower are ran =
     subst (λ (p : ℕ). AreRunsAt parts (set places p world) (set lefts p left)) (sym at)
@@ -85,7 +85,7 @@ puts_run parts places lefts run place world left at is put low lower are ran =
     (run_put parts places lefts run (omega (arith, at, low)) (omega (arith, at, lower)) are ran)))
 
 -- no runs yet
-pub puts_none : (parts : List Part) (places : List (Option World)) (lefts : List Left) → ArePlaces [] places → length lefts ≡ 65 → AreRunsAt parts places lefts
+pub puts_none : (parts : List StretchPart) (places : List (Option World)) (lefts : List Left) → ArePlaces [] places → length lefts ≡ 65 → AreRunsAt parts places lefts
 puts_none parts places lefts none many = record {
   many = none.many;
   texts = many;
@@ -112,19 +112,19 @@ all_true p (x ∷ xs) h = let both = and_true (p x) (list_all p xs) h in (both.0
 
 -- ---- The entries of all parts
 
-pub all_entries : List Part → List ScheduleEntry
+pub all_entries : List StretchPart → List ScheduleEntry
 all_entries [] = []
 all_entries (p ∷ ps) = entries_among p.items ++ all_entries ps
 
-abbrev AllParts : List Part → Type 0
-AllParts parts = AllByRecursion (λ (p : Part). AreOf p.unit p.items) parts
+abbrev AllParts : List StretchPart → Type 0
+AllParts parts = AllByRecursion (λ (p : StretchPart). AreOf p.unit p.items) parts
 
 -- each part is its unit's, where each unit's parts are
-parts_each : (P : ℕ → Type 0) (ps : List Part) → AllByRecursion (λ (p : Part). P p.unit) ps → ((unit : ℕ) → P unit → ArePartsOf unit ps) → AllParts ps
+parts_each : (P : ℕ → Type 0) (ps : List StretchPart) → AllByRecursion (λ (p : StretchPart). P p.unit) ps → ((unit : ℕ) → P unit → ArePartsOf unit ps) → AllParts ps
 parts_each P [] has are = tt
 parts_each P (p ∷ ps) has are = ((are p.unit has.0).0 refl, parts_each P ps has.1 (λ unit it. (are unit it).1))
 
-parts_have : (P : ℕ → Type 0) (ss : List Stretch) (n : ℕ) (text : List ℕ) → AllByRecursion (λ (s : Stretch). P s.unit) ss → AllByRecursion (λ (p : Part). P p.unit) (parts_of n ss text)
+parts_have : (P : ℕ → Type 0) (ss : List Stretch) (n : ℕ) (text : List ℕ) → AllByRecursion (λ (s : Stretch). P s.unit) ss → AllByRecursion (λ (p : StretchPart). P p.unit) (parts_of n ss text)
 parts_have P [] n text has = tt
 parts_have P (s ∷ ss) n text has = (has.0, parts_have P ss (n + s.lines) (drop s.size text) has.1)
 
@@ -132,7 +132,7 @@ good_append : (es fs : List ScheduleEntry) → without_fault (es ++ fs) ≡ with
 good_append [] fs = refl
 good_append (e ∷ es) fs = ap (λ (xs : Items). Ok e ∷ xs) (good_append es fs)
 
-all_good : (ps : List Part) → AllParts ps → items_in ps ≡ without_fault (all_entries ps)
+all_good : (ps : List StretchPart) → AllParts ps → items_in ps ≡ without_fault (all_entries ps)
 unfolding all_entries
 all_good [] all = refl
 all_good (p ∷ ps) all =
@@ -172,7 +172,7 @@ own_reverse unit (e ∷ es) =
     ap (own unit) (reverse_onto es e []) ∙ own_append unit (reverse es) (e ∷ []) ∙ ap (λ (l : List ScheduleEntry). l ++ own unit (e ∷ [])) (own_reverse unit es)
     ∙ own_turned (eqb e.unit unit) e (own unit es)
 
-own_parts : (unit : ℕ) (ps : List Part) → AllParts ps → own unit (all_entries ps) ≡ part_entries unit ps
+own_parts : (unit : ℕ) (ps : List StretchPart) → AllParts ps → own unit (all_entries ps) ≡ part_entries unit ps
 unfolding all_entries
 own_parts unit [] all = refl
 own_parts unit (p ∷ ps) all = elim (cases_eq p.unit unit) [
@@ -188,7 +188,7 @@ own_parts unit (p ∷ ps) all = elim (cases_eq p.unit unit) [
       ∙ sym (ap (λ (b : Bool). cond b (entries_among p.items ++ part_entries unit ps) (part_entries unit ps)) (ne_eqb p.unit unit other))
 ]
 
-no_parts : (P : ℕ → Type 0) (unit : ℕ) (ps : List Part) → AllByRecursion (λ (p : Part). P p.unit) ps → (P unit → ⊥) → part_entries unit ps ≡ []
+no_parts : (P : ℕ → Type 0) (unit : ℕ) (ps : List StretchPart) → AllByRecursion (λ (p : StretchPart). P p.unit) ps → (P unit → ⊥) → part_entries unit ps ≡ []
 no_parts P unit [] has none = refl
 no_parts P unit (p ∷ ps) has none =
     ap (λ (b : Bool). cond b (entries_among p.items ++ part_entries unit ps) (part_entries unit ps)) (ne_eqb p.unit unit (λ same. none (subst P same has.0))) ∙ no_parts P unit ps has.1 none
@@ -223,13 +223,13 @@ own_others unit other es before apart all =
     own_append unit (reverse es) before ∙ ap (λ (l : List ScheduleEntry). l ++ own unit before) (own_reverse unit es ∙ ap (λ (l : List ScheduleEntry). reverse l) (own_none unit other es apart all))
 
 joins : (P : ℕ → Type 0) (ss : List Stretch) (n : ℕ) (text : List ℕ) (pieces : ℕ → List (List ℕ)) (before : List ScheduleEntry) → AllByRecursion (λ (s : Stretch). P s.unit) ss → AllParts (parts_of n ss text)
-    → ((unit : ℕ) → P unit → pieces unit ≡ part_texts unit (own unit before) (parts_of n ss text)) → texts_after replay_line before (all_entries (parts_of n ss text)) ≡ joined pieces ss
+    → ((unit : ℕ) → P unit → pieces unit ≡ part_texts unit (own unit before) (parts_of n ss text)) → texts_after replay_line before (all_entries (parts_of n ss text)) ≡ put_together pieces ss
 unfolding all_entries
 joins P [] n text pieces before has all are = texts_none replay_line before
 joins P (s ∷ ss) n text pieces before has all are =
     let items : Items = items_at n (take s.size text) in
     let es : List ScheduleEntry = entries_among items in
-    let ps : List Part = parts_of (n + s.lines) ss (drop s.size text) in
+    let ps : List StretchPart = parts_of (n + s.lines) ss (drop s.size text) in
     let here : pieces s.unit ≡ texts_after replay_line (own s.unit before) es ∷ part_texts s.unit (reverse es ++ own s.unit before) ps =
     are s.unit has.0 ∙ ap (λ (b : Bool). cond b (texts_after replay_line (own s.unit before) es ∷ part_texts s.unit (reverse es ++ own s.unit before) ps) (part_texts s.unit (own s.unit before) ps)) (eq-eqb s.unit s.unit refl) in
     let first : texts_after replay_line before es ≡ first_piece (pieces s.unit) = texts_apart s.unit es before all.0.own ∙ sym (ap first_piece here) in
@@ -259,7 +259,7 @@ filled_cases None h = absurd (true≢false (sym h))
 filled_cases (Some None) h = absurd (true≢false (sym h))
 filled_cases (Some (Some world)) h = (world, refl)
 
-parts_at : (parts : List Part) (places : List (Option World)) (lefts : List Left) → AreRunsAt parts places lefts → (unit : ℕ) → Filled places unit
+parts_at : (parts : List StretchPart) (places : List (Option World)) (lefts : List Left) → AreRunsAt parts places lefts → (unit : ℕ) → Filled places unit
     → ArePartsOf unit parts × (pieces_at lefts unit ≡ part_texts unit [] parts)
 parts_at parts places lefts are unit filled = let there = filled_cases (slice_get places unit) filled in let its = are.each unit there.0 there.1 in (its.are, its.texts)
 
@@ -279,14 +279,14 @@ own_again unit (e ∷ es) = elim (cases_Bool (eqb e.unit unit)) [
 ]
 
 -- what a unit's lines did, by the parts and by the whole
-verbs_by_parts : (unit : ℕ) (ps : List Part) → AllParts ps → verbs_of unit (reverse (part_entries unit ps)) ≡ verbs_of unit (reverse (all_entries ps))
+verbs_by_parts : (unit : ℕ) (ps : List StretchPart) → AllParts ps → verbs_of unit (reverse (part_entries unit ps)) ≡ verbs_of unit (reverse (all_entries ps))
 verbs_by_parts unit ps all =
     let its : own unit (all_entries ps) ≡ part_entries unit ps = own_parts unit ps all in
     verbs_by_own (reverse (part_entries unit ps)) (reverse (all_entries ps)) unit
     (ap (λ (l : List ScheduleEntry). own unit (reverse l)) (sym its) ∙ own_reverse unit (own unit (all_entries ps)) ∙ ap (λ (l : List ScheduleEntry). reverse l) (own_again unit (all_entries ps)) ∙ sym (own_reverse unit (all_entries ps)))
 
 -- every unit's place, by the whole
-whole_places : (ps : List Part) (places : List (Option World)) (lefts : List Left) → AreRunsAt ps places lefts → AllByRecursion (λ (p : Part). Filled places p.unit) ps → AllParts ps → ArePlaces (reverse (all_entries ps)) places
+whole_places : (ps : List StretchPart) (places : List (Option World)) (lefts : List Left) → AreRunsAt ps places lefts → AllByRecursion (λ (p : StretchPart). Filled places p.unit) ps → AllParts ps → ArePlaces (reverse (all_entries ps)) places
 whole_places ps places lefts are has all = record {
   many = are.many;
   low = λ unit named. elim (cases_lt unit 65) [
@@ -311,14 +311,14 @@ pub record RunsApart (text : List ℕ) (places : List (Option World)) (stretches
   pub entries : List ScheduleEntry
   pub read : schedule_of text ≡ Ok entries
   pub are : ArePlaces (reverse entries) places
-  pub written : replay_text entries ≡ joined (pieces_at lefts) stretches
+  pub written : replay_text entries ≡ put_together (pieces_at lefts) stretches
 
 pub runs_apart : (text : List ℕ) (ss : List Stretch) (places : List (Option World)) (lefts : List Left) → items_at 1 text ≡ items_in (parts_of 1 ss text) → AreRunsAt (parts_of 1 ss text) places lefts
     → list_all (λ (s : Stretch). has_world places s.unit) ss ≡ true → RunsApart text places ss lefts
 runs_apart text ss places lefts cuts are filled =
-    let ps : List Part = parts_of 1 ss text in
+    let ps : List StretchPart = parts_of 1 ss text in
     let has : AllByRecursion (λ (s : Stretch). Filled places s.unit) ss = all_true (λ (s : Stretch). has_world places s.unit) ss filled in
-    let have : AllByRecursion (λ (p : Part). Filled places p.unit) ps = parts_have (Filled places) ss 1 text has in
+    let have : AllByRecursion (λ (p : StretchPart). Filled places p.unit) ps = parts_have (Filled places) ss 1 text has in
     let all : AllParts ps = parts_each (Filled places) ps have (λ unit it. (parts_at ps places lefts are unit it).0) in
     let items : items_at 1 text ≡ without_fault (all_entries ps) = cuts ∙ all_good ps all in
     record {
@@ -340,15 +340,15 @@ drop_there {X} (y ∷ xs) (suc i) x at = let e : suc (i + 1) ≡ suc i + 1 = ome
 
 -- the next text, and those after it
 pub next_piece : (lengths text : List ℕ) (next at size : ℕ) → slice_get lengths next ≡ Some size
-    → cut (drop next lengths) (drop at text) ≡ take size (drop at text) ∷ cut (drop (next + 1) lengths) (drop (at + size) text)
+    → cut_by (drop next lengths) (drop at text) ≡ take size (drop at text) ∷ cut_by (drop (next + 1) lengths) (drop (at + size) text)
 next_piece lengths text next at size there =
-    ap (λ (ns : List ℕ). cut ns (drop at text)) (drop_there lengths next size there)
-    ∙ ap (λ (t : List ℕ). take size (drop at text) ∷ cut (drop (next + 1) lengths) t) (drop-drop size at text)
+    ap (λ (ns : List ℕ). cut_by ns (drop at text)) (drop_there lengths next size there)
+    ∙ ap (λ (t : List ℕ). take size (drop at text) ∷ cut_by (drop (next + 1) lengths) t) (drop-drop size at text)
 
-joined_same : (ss : List Stretch) (p q : ℕ → List (List ℕ)) → ((unit : ℕ) → p unit ≡ q unit) → joined p ss ≡ joined q ss
+joined_same : (ss : List Stretch) (p q : ℕ → List (List ℕ)) → ((unit : ℕ) → p unit ≡ q unit) → put_together p ss ≡ put_together q ss
 joined_same [] p q same = refl
 joined_same (s ∷ ss) p q same =
-    ap (λ (ps : List (List ℕ)). first_piece ps ++ joined (λ unit. cond (eqb s.unit unit) (drop 1 (p unit)) (p unit)) ss) (same s.unit)
+    ap (λ (ps : List (List ℕ)). first_piece ps ++ put_together (λ unit. cond (eqb s.unit unit) (drop 1 (p unit)) (p unit)) ss) (same s.unit)
     ∙ ap (λ (t : List ℕ). first_piece (q s.unit) ++ t) (joined_same ss (λ unit. cond (eqb s.unit unit) (drop 1 (p unit)) (p unit)) (λ unit. cond (eqb s.unit unit) (drop 1 (q unit)) (q unit))
     (λ unit. ap (λ (ps : List (List ℕ)). cond (eqb s.unit unit) (drop 1 ps) ps) (same unit)))
 
@@ -365,7 +365,7 @@ taken_at lefts unit left left' lt at taken v = elim (cases_eq unit v) [
 
 -- what was appended, and what is left, are the whole
 pub Merging : List Stretch → ℕ → List Left → List Left → List ℕ → List ℕ → Type 0
-Merging ss i first lefts old now = old ++ joined (pieces_at first) ss ≡ now ++ joined (pieces_at lefts) (drop i ss)
+Merging ss i first lefts old now = old ++ put_together (pieces_at first) ss ≡ now ++ put_together (pieces_at lefts) (drop i ss)
 
 pub merging_none : (ss : List Stretch) (lefts : List Left) (old : List ℕ) → Merging ss 0 lefts lefts old old
 unfolding Merging
@@ -376,13 +376,13 @@ pub merging_more : (ss : List Stretch) (i : ℕ) (s : Stretch) (first lefts : Li
 unfolding Merging
 merging_more ss i s first lefts old now new left left' there so_far lt at text taken =
     so_far
-    ∙ ap (λ (l : List Stretch). now ++ joined (pieces_at lefts) l) (drop_there ss i s there)
-    ∙ ap (λ (o : Option Left). now ++ (first_piece (pieces_on o) ++ joined (λ unit. cond (eqb s.unit unit) (drop 1 (pieces_at lefts unit)) (pieces_at lefts unit)) (drop (i + 1) ss))) at
+    ∙ ap (λ (l : List Stretch). now ++ put_together (pieces_at lefts) l) (drop_there ss i s there)
+    ∙ ap (λ (o : Option Left). now ++ (first_piece (pieces_on o) ++ put_together (λ unit. cond (eqb s.unit unit) (drop 1 (pieces_at lefts unit)) (pieces_at lefts unit)) (drop (i + 1) ss))) at
     ∙ ap (λ (t : List ℕ). now ++ (first_piece (left_pieces left) ++ t)) (joined_same (drop (i + 1) ss) (λ unit. cond (eqb s.unit unit) (drop 1 (pieces_at lefts unit)) (pieces_at lefts unit)) (pieces_at (set lefts s.unit left')) (taken_at lefts s.unit left left' lt at taken))
-    ∙ sym (append_assoc now (first_piece (left_pieces left)) (joined (pieces_at (set lefts s.unit left')) (drop (i + 1) ss)))
-    ∙ ap (λ (t : List ℕ). t ++ joined (pieces_at (set lefts s.unit left')) (drop (i + 1) ss)) (sym text)
+    ∙ sym (append_assoc now (first_piece (left_pieces left)) (put_together (pieces_at (set lefts s.unit left')) (drop (i + 1) ss)))
+    ∙ ap (λ (t : List ℕ). t ++ put_together (pieces_at (set lefts s.unit left')) (drop (i + 1) ss)) (sym text)
 
-pub merging_end : (ss : List Stretch) (i : ℕ) (first lefts : List Left) (old now : List ℕ) → length ss ≤ i → Merging ss i first lefts old now → now ≡ old ++ joined (pieces_at first) ss
+pub merging_end : (ss : List Stretch) (i : ℕ) (first lefts : List Left) (old now : List ℕ) → length ss ≤ i → Merging ss i first lefts old now → now ≡ old ++ put_together (pieces_at first) ss
 unfolding Merging
 merging_end ss i first lefts old now end all =
-    sym (append-nil now) ∙ ap (λ (l : List Stretch). now ++ joined (pieces_at lefts) l) (sym (drop_all i ss end)) ∙ sym all
+    sym (append-nil now) ∙ ap (λ (l : List Stretch). now ++ put_together (pieces_at lefts) l) (sym (drop_all i ss end)) ∙ sym all

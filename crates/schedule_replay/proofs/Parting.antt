@@ -17,8 +17,8 @@ use Rattle.text_lines.specs.declared.fault.TextError.{TextError}
 use Rattle.text_lines.specs.declared.fault.TextError.TheVariants as errors
 use Rattle.world_model.specs.declared.world.World.{World}
 use Rattle.schedule_replay.specs.Replay.{replay_line}
-use Rattle.schedule_replay.specs.Runs.{later, entries_among, without_fault, AreOf, ArePartsOf, part_entries, part_texts, RunsLines, cut, total, Ran}
-use Rattle.schedule_replay.specs.Stretches.{Part, items_at, parts_of}
+use Rattle.schedule_replay.specs.Runs.{later, entries_among, without_fault, AreOf, ArePartsOf, part_entries, part_texts, RunsLines, cut_by, lengths_total, Ran}
+use Rattle.schedule_replay.specs.Stretches.{StretchPart, items_at, parts_of}
 use Rattle.schedule_replay.specs.Worlds.{IsPlace}
 use Rattle.schedule_replay.specs.declared.stretches.Stretch.{Stretch}
 use Rattle.schedule_replay.specs.declared.units.Run.{Run}
@@ -148,7 +148,7 @@ goes_all unit lines bytes left first place old new none g before first_is =
 
 -- ---- One part more
 
-parts_are_more : (unit : ℕ) (ps : List Part) (p : Part) → ArePartsOf unit ps → (p.unit ≡ unit → AreOf unit p.items) → ArePartsOf unit (ps ++ p ∷ [])
+parts_are_more : (unit : ℕ) (ps : List StretchPart) (p : StretchPart) → ArePartsOf unit ps → (p.unit ≡ unit → AreOf unit p.items) → ArePartsOf unit (ps ++ p ∷ [])
 parts_are_more unit [] p all here = (here, tt)
 parts_are_more unit (q ∷ ps) p all here = (all.0, parts_are_more unit ps p all.1 here)
 
@@ -156,22 +156,22 @@ entries_cases : (b : Bool) (es l : List ScheduleEntry) (add : List ScheduleEntry
 entries_cases true es l add = sym (append_assoc es l add)
 entries_cases false es l add = refl
 
-entries_more : (unit : ℕ) (ps : List Part) (p : Part) → part_entries unit (ps ++ p ∷ []) ≡ part_entries unit ps ++ part_entries unit (p ∷ [])
+entries_more : (unit : ℕ) (ps : List StretchPart) (p : StretchPart) → part_entries unit (ps ++ p ∷ []) ≡ part_entries unit ps ++ part_entries unit (p ∷ [])
 entries_more unit [] p = refl
 entries_more unit (q ∷ ps) p =
     ap (λ (l : List ScheduleEntry). cond (eqb q.unit unit) (entries_among q.items ++ l) l) (entries_more unit ps p)
     ∙ entries_cases (eqb q.unit unit) (entries_among q.items) (part_entries unit ps) (part_entries unit (p ∷ []))
 
-entry_same : (unit : ℕ) (p : Part) → p.unit ≡ unit → part_entries unit (p ∷ []) ≡ entries_among p.items
+entry_same : (unit : ℕ) (p : StretchPart) → p.unit ≡ unit → part_entries unit (p ∷ []) ≡ entries_among p.items
 entry_same unit p same = ap (λ (b : Bool). cond b (entries_among p.items ++ []) []) (eq-eqb p.unit unit same) ∙ append-nil (entries_among p.items)
 
-entry_other : (unit : ℕ) (p : Part) → p.unit ≢ unit → part_entries unit (p ∷ []) ≡ []
+entry_other : (unit : ℕ) (p : StretchPart) → p.unit ≢ unit → part_entries unit (p ∷ []) ≡ []
 entry_other unit p other = ap (λ (b : Bool). cond b (entries_among p.items ++ []) []) (ne_eqb p.unit unit other)
 
 reverse_front : (es l before : List ScheduleEntry) → reverse l ++ (reverse es ++ before) ≡ reverse (es ++ l) ++ before
 reverse_front es l before = sym (append_assoc (reverse l) (reverse es) before) ∙ ap (λ (r : List ScheduleEntry). r ++ before) (sym (reverse-append es l))
 
-texts_cases : (b : Bool) (q : Part) (unit : ℕ) (before : List ScheduleEntry) (ps : List Part) (p : Part)
+texts_cases : (b : Bool) (q : StretchPart) (unit : ℕ) (before : List ScheduleEntry) (ps : List StretchPart) (p : StretchPart)
     → ((more : List ScheduleEntry) → part_texts unit more (ps ++ p ∷ []) ≡ part_texts unit more ps ++ part_texts unit (reverse (part_entries unit ps) ++ more) (p ∷ []))
     → cond b (texts_after replay_line before (entries_among q.items) ∷ part_texts unit (reverse (entries_among q.items) ++ before) (ps ++ p ∷ [])) (part_texts unit before (ps ++ p ∷ []))
     ≡ cond b (texts_after replay_line before (entries_among q.items) ∷ part_texts unit (reverse (entries_among q.items) ++ before) ps) (part_texts unit before ps)
@@ -181,31 +181,31 @@ texts_cases true q unit before ps p rest =
     ∙ ap (λ (l : List ScheduleEntry). part_texts unit (reverse (entries_among q.items) ++ before) ps ++ part_texts unit l (p ∷ [])) (reverse_front (entries_among q.items) (part_entries unit ps) before))
 texts_cases false q unit before ps p rest = rest before
 
-parts_texts_more : (unit : ℕ) (before : List ScheduleEntry) (ps : List Part) (p : Part) → part_texts unit before (ps ++ p ∷ []) ≡ part_texts unit before ps ++ part_texts unit (reverse (part_entries unit ps) ++ before) (p ∷ [])
+parts_texts_more : (unit : ℕ) (before : List ScheduleEntry) (ps : List StretchPart) (p : StretchPart) → part_texts unit before (ps ++ p ∷ []) ≡ part_texts unit before ps ++ part_texts unit (reverse (part_entries unit ps) ++ before) (p ∷ [])
 parts_texts_more unit before [] p = refl
 parts_texts_more unit before (q ∷ ps) p = texts_cases (eqb q.unit unit) q unit before ps p (λ more. parts_texts_more unit more ps p)
 
-text_same : (unit : ℕ) (before : List ScheduleEntry) (p : Part) → p.unit ≡ unit → part_texts unit before (p ∷ []) ≡ texts_after replay_line before (entries_among p.items) ∷ []
+text_same : (unit : ℕ) (before : List ScheduleEntry) (p : StretchPart) → p.unit ≡ unit → part_texts unit before (p ∷ []) ≡ texts_after replay_line before (entries_among p.items) ∷ []
 text_same unit before p same = ap (λ (b : Bool). cond b (texts_after replay_line before (entries_among p.items) ∷ []) []) (eq-eqb p.unit unit same)
 
-text_other : (unit : ℕ) (before : List ScheduleEntry) (p : Part) → p.unit ≢ unit → part_texts unit before (p ∷ []) ≡ []
+text_other : (unit : ℕ) (before : List ScheduleEntry) (p : StretchPart) → p.unit ≢ unit → part_texts unit before (p ∷ []) ≡ []
 text_other unit before p other = ap (λ (b : Bool). cond b (texts_after replay_line before (entries_among p.items) ∷ []) []) (ne_eqb p.unit unit other)
 
 -- ---- Texts end to end, cut by their lengths
 
-total_more : (ns : List ℕ) (n : ℕ) → total (ns ++ n ∷ []) ≡ total ns + n
+total_more : (ns : List ℕ) (n : ℕ) → lengths_total (ns ++ n ∷ []) ≡ lengths_total ns + n
 total_more [] n = omega arith
 total_more (m ∷ ns) n = omega (arith, total_more ns n)
 
-cut_more : (ns : List ℕ) (text piece : List ℕ) (n : ℕ) → total ns ≡ length text → n ≡ length piece → cut (ns ++ n ∷ []) (text ++ piece) ≡ cut ns text ++ piece ∷ []
+cut_more : (ns : List ℕ) (text piece : List ℕ) (n : ℕ) → lengths_total ns ≡ length text → n ≡ length piece → cut_by (ns ++ n ∷ []) (text ++ piece) ≡ cut_by ns text ++ piece ∷ []
 cut_more [] text piece n all is =
     let none : text ≡ [] = nil_from_length text (sym all) in
     ap (λ (t : List ℕ). take n (t ++ piece) ∷ []) none ∙ ap (λ (t : List ℕ). t ∷ []) (take_all n piece (omega (arith, is)))
 cut_more (m ∷ ns) text piece n all is =
     let le : m ≤ length text = omega (arith, all) in
-    let left : total ns ≡ length (drop m text) = omega (arith, all, length-drop m text) in
-    ap (λ (t : List ℕ). t ∷ cut (ns ++ n ∷ []) (drop m (text ++ piece))) (take-append-le m text piece le)
-    ∙ ap (λ (t : List ℕ). take m text ∷ cut (ns ++ n ∷ []) t) (drop-append-le m text piece le)
+    let left : lengths_total ns ≡ length (drop m text) = omega (arith, all, length-drop m text) in
+    ap (λ (t : List ℕ). t ∷ cut_by (ns ++ n ∷ []) (drop m (text ++ piece))) (take-append-le m text piece le)
+    ∙ ap (λ (t : List ℕ). take m text ∷ cut_by (ns ++ n ∷ []) t) (drop-append-le m text piece le)
     ∙ ap (λ (ps : List (List ℕ)). take m text ∷ ps) (cut_more ns (drop m text) piece n left is)
 
 -- ---- A unit's run
@@ -214,29 +214,29 @@ pub ran_none : (unit : ℕ) (run : Run) → run.world ≡ None → run.text.item
 ran_none unit run world text lengths = record {
   are = tt;
   done = subst (λ (w : Option World). IsPlace [] run.unit w) (sym world) refl;
-  texts = ap (λ (ns : List ℕ). cut ns run.text.items) lengths;
-  whole = ap (λ (ns : List ℕ). total ns) lengths ∙ sym (ap (λ (t : List ℕ). length t) text);
+  texts = ap (λ (ns : List ℕ). cut_by ns run.text.items) lengths;
+  whole = ap (λ (ns : List ℕ). lengths_total ns) lengths ∙ sym (ap (λ (t : List ℕ). length t) text);
 }
 
-pub ran_more : (parts : List Part) (unit : ℕ) (items : Items) (run run' : Run) (n : ℕ) → unit ≡ run.unit → run'.unit ≡ run.unit
+pub ran_more : (parts : List StretchPart) (unit : ℕ) (items : Items) (run run' : Run) (n : ℕ) → unit ≡ run.unit → run'.unit ≡ run.unit
     → ((before : List ScheduleEntry) → IsPlace before unit run.world → RunsLines unit items before run'.world run.text.items run'.text.items)
     → n ≡ length run'.text.items - length run.text.items → run'.lengths.items ≡ run.lengths.items ++ n ∷ [] → Ran parts run → Ran (parts ++ record { unit = unit; items = items } ∷ []) run'
 ran_more parts unit items run run' n own same runs size grown ran =
-    let p : Part = record { unit = unit; items = items } in
+    let p : StretchPart = record { unit = unit; items = items } in
     let back : run.unit ≡ unit = sym own in
     let u : run'.unit ≡ unit = same ∙ back in
     let before : List ScheduleEntry = reverse (part_entries unit parts) in
     let were : ArePartsOf unit parts = subst (λ (v : ℕ). ArePartsOf v parts) back ran.are in
     let place : IsPlace before unit run.world = subst (λ (v : ℕ). IsPlace (reverse (part_entries v parts)) v run.world) back ran.done in
-    let texts : cut run.lengths.items run.text.items ≡ part_texts unit [] parts = ran.texts ∙ ap (λ (v : ℕ). part_texts v [] parts) back in
+    let texts : cut_by run.lengths.items run.text.items ≡ part_texts unit [] parts = ran.texts ∙ ap (λ (v : ℕ). part_texts v [] parts) back in
     let new = runs before place in
     let piece : List ℕ = texts_after replay_line before (entries_among items) in
     let long : n ≡ length piece = omega (arith, size, ap (λ (t : List ℕ). length t) new.written, length-append run.text.items piece) in
     let entries : part_entries unit (parts ++ p ∷ []) ≡ part_entries unit parts ++ entries_among items = entries_more unit parts p ∙ ap (λ (l : List ScheduleEntry). part_entries unit parts ++ l) (entry_same unit p refl) in
     let turned : reverse (entries_among items) ++ before ≡ reverse (part_entries unit (parts ++ p ∷ [])) =
     sym (reverse-append (part_entries unit parts) (entries_among items)) ∙ ap (λ (l : List ScheduleEntry). reverse l) (sym entries) in
-    let cuts : cut run'.lengths.items run'.text.items ≡ part_texts unit [] (parts ++ p ∷ []) =
-    ap (λ (ns : List ℕ). cut ns run'.text.items) grown ∙ ap (cut (run.lengths.items ++ n ∷ [])) new.written ∙ cut_more run.lengths.items run.text.items piece n ran.whole long
+    let cuts : cut_by run'.lengths.items run'.text.items ≡ part_texts unit [] (parts ++ p ∷ []) =
+    ap (λ (ns : List ℕ). cut_by ns run'.text.items) grown ∙ ap (cut_by (run.lengths.items ++ n ∷ [])) new.written ∙ cut_more run.lengths.items run.text.items piece n ran.whole long
     ∙ ap (λ (ts : List (List ℕ)). ts ++ piece ∷ []) texts
     ∙ ap (λ (l : List ScheduleEntry). part_texts unit [] parts ++ texts_after replay_line l (entries_among items) ∷ []) (sym (append-nil before))
     ∙ ap (λ (ts : List (List ℕ)). part_texts unit [] parts ++ ts) (sym (text_same unit (before ++ []) p refl))
@@ -245,12 +245,12 @@ ran_more parts unit items run run' n own same runs size grown ran =
       are = subst (λ (v : ℕ). ArePartsOf v (parts ++ p ∷ [])) (sym u) (parts_are_more unit parts p were (λ e. new.are));
       done = subst (λ (v : ℕ). IsPlace (reverse (part_entries v (parts ++ p ∷ []))) v run'.world) (sym u) (subst (λ (l : List ScheduleEntry). IsPlace l unit run'.world) turned new.done);
       texts = cuts ∙ ap (λ (v : ℕ). part_texts v [] (parts ++ p ∷ [])) (sym u);
-      whole = ap (λ (ns : List ℕ). total ns) grown ∙ total_more run.lengths.items n ∙ (omega (arith, ran.whole, long, ap (λ (t : List ℕ). length t) new.written, length-append run.text.items piece));
+      whole = ap (λ (ns : List ℕ). lengths_total ns) grown ∙ total_more run.lengths.items n ∙ (omega (arith, ran.whole, long, ap (λ (t : List ℕ). length t) new.written, length-append run.text.items piece));
     }
 
-pub ran_other : (parts : List Part) (unit : ℕ) (items : Items) (run : Run) → unit ≢ run.unit → Ran parts run → Ran (parts ++ record { unit = unit; items = items } ∷ []) run
+pub ran_other : (parts : List StretchPart) (unit : ℕ) (items : Items) (run : Run) → unit ≢ run.unit → Ran parts run → Ran (parts ++ record { unit = unit; items = items } ∷ []) run
 ran_other parts unit items run other ran =
-    let p : Part = record { unit = unit; items = items } in
+    let p : StretchPart = record { unit = unit; items = items } in
     let entries : part_entries run.unit (parts ++ p ∷ []) ≡ part_entries run.unit parts =
     entries_more run.unit parts p ∙ ap (λ (l : List ScheduleEntry). part_entries run.unit parts ++ l) (entry_other run.unit p other) ∙ append-nil (part_entries run.unit parts) in
     record {
@@ -264,7 +264,7 @@ ran_other parts unit items run other ran =
 
 -- the stretches so far were done
 pub record Walking (all : List Stretch) (i : ℕ) (text rest : List ℕ) (lines : ℕ) (first run : Run) : Type 0 where
-  pub passed : List Part
+  pub passed : List StretchPart
   pub split : parts_of 1 all text ≡ passed ++ parts_of (lines + 1) (drop i all) rest
   pub ran : Ran [] first → Ran passed run
 
@@ -283,19 +283,19 @@ drop_there {X} (y ∷ xs) zero x at = ap (λ (z : X). z ∷ xs) (some_one at)
 drop_there {X} (y ∷ xs) (suc i) x at = let e : suc (i + 1) ≡ suc i + 1 = omega arith in drop_there xs i x at ∙ ap (λ (n : ℕ). x ∷ drop n (y ∷ xs)) e
 
 pub walks_more : (all : List Stretch) (i : ℕ) (s : Stretch) (text rest part rest' : List ℕ) (lines lines' : ℕ) (first run run' : Run) → slice_get all i ≡ Some s → part ≡ take s.size rest → rest' ≡ drop s.size rest → lines' ≡ lines + s.lines
-    → ((parts : List Part) → Ran parts run → Ran (parts ++ record { unit = s.unit; items = items_at (lines + 1) part } ∷ []) run') → Walking all i text rest lines first run → Walking all (i + 1) text rest' lines' first run'
+    → ((parts : List StretchPart) → Ran parts run → Ran (parts ++ record { unit = s.unit; items = items_at (lines + 1) part } ∷ []) run') → Walking all i text rest lines first run → Walking all (i + 1) text rest' lines' first run'
 walks_more all i s text rest part rest' lines lines' first run run' at is next counted goes w =
-    let p : Part = record { unit = s.unit; items = items_at (lines + 1) (take s.size rest) } in
+    let p : StretchPart = record { unit = s.unit; items = items_at (lines + 1) (take s.size rest) } in
     let n : lines + 1 + s.lines ≡ lines' + 1 = omega (arith, counted) in
     let behind : parts_of (lines + 1 + s.lines) (drop (i + 1) all) (drop s.size rest) ≡ parts_of (lines' + 1) (drop (i + 1) all) rest' =
     ap (λ (m : ℕ). parts_of m (drop (i + 1) all) (drop s.size rest)) n ∙ ap (parts_of (lines' + 1) (drop (i + 1) all)) (sym next) in
     record {
       passed = w.passed ++ p ∷ [];
-      split = w.split ∙ ap (λ (ss : List Stretch). w.passed ++ parts_of (lines + 1) ss rest) (drop_there all i s at) ∙ ap (λ (ps : List Part). w.passed ++ p ∷ ps) behind
+      split = w.split ∙ ap (λ (ss : List Stretch). w.passed ++ parts_of (lines + 1) ss rest) (drop_there all i s at) ∙ ap (λ (ps : List StretchPart). w.passed ++ p ∷ ps) behind
           ∙ sym (append_assoc w.passed (p ∷ []) (parts_of (lines' + 1) (drop (i + 1) all) rest'));
       ran = λ start. subst (λ (b : List ℕ). Ran (w.passed ++ record { unit = s.unit; items = items_at (lines + 1) b } ∷ []) run') is (goes w.passed (w.ran start));
     }
 
 pub walks_all : (all : List Stretch) (i : ℕ) (text rest : List ℕ) (lines : ℕ) (first run : Run) → length all ≤ i → Walking all i text rest lines first run → Ran [] first → Ran (parts_of 1 all text) run
 walks_all all i text rest lines first run end w start =
-    subst (λ (ps : List Part). Ran ps run) (sym (w.split ∙ ap (λ (ss : List Stretch). w.passed ++ parts_of (lines + 1) ss rest) (drop_all i all end) ∙ append-nil w.passed)) (w.ran start)
+    subst (λ (ps : List StretchPart). Ran ps run) (sym (w.split ∙ ap (λ (ss : List Stretch). w.passed ++ parts_of (lines + 1) ss rest) (drop_all i all end) ∙ append-nil w.passed)) (w.ran start)

@@ -7,7 +7,7 @@ use Rattle.text_lines.specs.declared.fault.TextError.{TextError}
 use Rattle.world_model.specs.declared.world.World.{World}
 use Rattle.schedule_replay.specs.Apart.{first_piece}
 use Rattle.schedule_replay.specs.Replay.{replay_line}
-use Rattle.schedule_replay.specs.Stretches.{Part}
+use Rattle.schedule_replay.specs.Stretches.{StretchPart}
 use Rattle.schedule_replay.specs.Worlds.{IsPlace}
 use Rattle.schedule_replay.specs.declared.stretches.Stretch.{Stretch}
 use Rattle.schedule_replay.specs.declared.merging.Left.{Left}
@@ -37,17 +37,17 @@ pub record AreOf (unit : ℕ) (items : List (Result ScheduleEntry TextError)) : 
   pub own : AllByRecursion (λ e. e.unit ≡ unit) (entries_among items)
 
 -- so are the lines of each part that is taken to be of this unit
-abbrev pub ArePartsOf : ℕ → List Part → Type 0
+abbrev pub ArePartsOf : ℕ → List StretchPart → Type 0
 ArePartsOf unit [] = Unit {0}
 ArePartsOf unit (p ∷ parts) = (p.unit ≡ unit → AreOf unit p.items) × ArePartsOf unit parts
 
 -- the entries of the parts of a unit
-abbrev pub part_entries : ℕ → List Part → List ScheduleEntry
+abbrev pub part_entries : ℕ → List StretchPart → List ScheduleEntry
 part_entries unit [] = []
 part_entries unit (p ∷ parts) = if p.unit == unit then entries_among p.items ++ part_entries unit parts else part_entries unit parts
 
 -- what each part of a unit writes, after other lines of the unit
-abbrev pub part_texts : ℕ → List ScheduleEntry → List Part → List (List ℕ)
+abbrev pub part_texts : ℕ → List ScheduleEntry → List StretchPart → List (List ℕ)
 part_texts unit before [] = []
 part_texts unit before (p ∷ parts) =
     if p.unit == unit then texts_after replay_line before (entries_among p.items) ∷ part_texts unit (reverse (entries_among p.items) ++ before) parts
@@ -63,24 +63,24 @@ pub record RunsLines (unit : ℕ) (items : List (Result ScheduleEntry TextError)
   pub written : new ≡ old ++ texts_after replay_line before (entries_among items)
 
 -- texts that stand end to end, cut by their lengths
-abbrev pub cut : List ℕ → List ℕ → List (List ℕ)
-cut [] text = []
-cut (n ∷ lengths) text = take n text ∷ cut lengths (drop n text)
+abbrev pub cut_by : List ℕ → List ℕ → List (List ℕ)
+cut_by [] text = []
+cut_by (n ∷ lengths) text = take n text ∷ cut_by lengths (drop n text)
 
 -- lengths, added up
-abbrev pub total : List ℕ → ℕ
-total [] = 0
-total (n ∷ lengths) = n + total lengths
+abbrev pub lengths_total : List ℕ → ℕ
+lengths_total [] = 0
+lengths_total (n ∷ lengths) = n + lengths_total lengths
 
 -- the lines of a unit were done, part by part
-pub record Ran (parts : List Part) (run : Run) : Type 0 where
+pub record Ran (parts : List StretchPart) (run : Run) : Type 0 where
   pub are : ArePartsOf run.unit parts
   pub done : IsPlace (reverse (part_entries run.unit parts)) run.unit run.world
-  pub texts : cut run.lengths.items run.text.items ≡ part_texts run.unit [] parts
-  pub whole : total run.lengths.items ≡ length run.text.items
+  pub texts : cut_by run.lengths.items run.text.items ≡ part_texts run.unit [] parts
+  pub whole : lengths_total run.lengths.items ≡ length run.text.items
 
 -- all the runs of a piece of the work
-abbrev pub AreRuns : List Part → Result (List Run) Unrun → Type 0
+abbrev pub AreRuns : List StretchPart → Result (List Run) Unrun → Type 0
 AreRuns parts (Ok runs) = AllByRecursion (Ran parts) runs
 AreRuns parts (Err why) = Unit {0}
 
@@ -88,7 +88,7 @@ AreRuns parts (Err why) = Unit {0}
 
 -- what is left of a unit's texts
 abbrev pub left_pieces : Left → List (List ℕ)
-left_pieces left = cut (drop left.next left.lengths.items) (drop left.at left.text.items)
+left_pieces left = cut_by (drop left.next left.lengths.items) (drop left.at left.text.items)
 
 abbrev pub pieces_on : Option Left → List (List ℕ)
 pieces_on None = []
@@ -99,17 +99,17 @@ abbrev pub pieces_at : List Left → ℕ → List (List ℕ)
 pieces_at lefts unit = pieces_on (slice_get lefts unit)
 
 -- the texts of units in the order of some stretches: at each the next text of its unit
-abbrev pub joined : (ℕ → List (List ℕ)) → List Stretch → List ℕ
-joined pieces [] = []
-joined pieces (s ∷ stretches) = first_piece (pieces s.unit) ++ joined (λ unit. if s.unit == unit then drop 1 (pieces unit) else pieces unit) stretches
+abbrev pub put_together : (ℕ → List (List ℕ)) → List Stretch → List ℕ
+put_together pieces [] = []
+put_together pieces (s ∷ stretches) = first_piece (pieces s.unit) ++ put_together (λ unit. if s.unit == unit then drop 1 (pieces unit) else pieces unit) stretches
 
 -- the run of a unit stands at its place: where a world does, all that was said of the run is so
-pub record IsRunAt (parts : List Part) (unit : ℕ) (world : World) (pieces : List (List ℕ)) : Type 0 where
+pub record IsRunAt (parts : List StretchPart) (unit : ℕ) (world : World) (pieces : List (List ℕ)) : Type 0 where
   pub are : ArePartsOf unit parts
   pub done : IsPlace (reverse (part_entries unit parts)) unit (Some world)
   pub texts : pieces ≡ part_texts unit [] parts
 
-pub record AreRunsAt (parts : List Part) (places : List (Option World)) (lefts : List Left) : Type 0 where
+pub record AreRunsAt (parts : List StretchPart) (places : List (Option World)) (lefts : List Left) : Type 0 where
   pub many : length places ≡ 65
   pub texts : length lefts ≡ 65
   pub each : (unit : ℕ) (world : World) → slice_get places unit ≡ Some (Some world) → IsRunAt parts unit world (pieces_at lefts unit)

@@ -3,8 +3,8 @@
 ghost use Rattle.std.specs.Prelude.{◌≡◌, ◌<◌, ◌++◌, ℕ, List, [], drop, length, take, OnOk, IfOk, IfSome, IsTrue, slice_get};
 ghost use Rattle.std.specs.List.{list_all, AllByRecursion};
 ghost use Rattle.schedule_replay.specs.Apart.{first_piece};
-ghost use Rattle.schedule_replay.specs.Runs.{joined, left_pieces, pieces_at, has_world, AreRunsAt, Ran};
-ghost use Rattle.schedule_replay.specs.Stretches.{Part};
+ghost use Rattle.schedule_replay.specs.Runs.{put_together, left_pieces, pieces_at, has_world, AreRunsAt, Ran};
+ghost use Rattle.schedule_replay.specs.Stretches.{StretchPart};
 ghost use Rattle.schedule_replay.specs.Worlds.{ArePlaces};
 
 use crate::running::put;
@@ -25,7 +25,7 @@ pub(crate) struct Left {
 
 // Puts a run at the place of its unit.
 fn put_run(places: &mut Vec<Option<World>>, lefts: &mut Vec<Left>, run: Run)
-    ensures { (parts : List Part) → AreRunsAt parts places.old.items lefts.old.items → Ran parts run
+    ensures { (parts : List StretchPart) → AreRunsAt parts places.old.items lefts.old.items → Ran parts run
         → AreRunsAt parts places.new.items lefts.new.items }
 {
     let place = usize::from(run.unit);
@@ -45,7 +45,7 @@ fn put_run(places: &mut Vec<Option<World>>, lefts: &mut Vec<Left>, run: Run)
 
 // Puts the runs of a piece at the places of their units.
 fn put_piece(places: &mut Vec<Option<World>>, lefts: &mut Vec<Left>, mut runs: Vec<Run>)
-    ensures { (parts : List Part) → AreRunsAt parts places.old.items lefts.old.items → AllByRecursion (Ran parts) runs.items
+    ensures { (parts : List StretchPart) → AreRunsAt parts places.old.items lefts.old.items → AllByRecursion (Ran parts) runs.items
         → AreRunsAt parts places.new.items lefts.new.items }
 {
     'turns: while let Some(run) = runs.pop() {
@@ -59,7 +59,7 @@ pub(crate) fn put_pieces(
     lefts: &mut Vec<Left>,
     mut pieces: Vec<Result<Vec<Run>, Unrun>>,
 ) -> Result<(), Unrun>
-    ensures { OnOk result ((parts : List Part) → AreRunsAt parts places.old.items lefts.old.items
+    ensures { OnOk result ((parts : List StretchPart) → AreRunsAt parts places.old.items lefts.old.items
         → ((n : ℕ) → IfSome (slice_get pieces.items n) (λ piece. IfOk piece (λ runs. AllByRecursion (Ran parts) runs.items)))
         → AreRunsAt parts places.new.items lefts.new.items) }
 {
@@ -145,7 +145,7 @@ pub(crate) fn merge(
     lefts: &mut Vec<Left>,
     out: &mut Vec<u8>,
 ) -> Result<(), Unrun>
-    ensures text { OnOk result (out.new.items ≡ out.old.items ++ joined (pieces_at lefts.old.items) stretches.now) }
+    ensures text { OnOk result (out.new.items ≡ out.old.items ++ put_together (pieces_at lefts.old.items) stretches.now) }
     ensures behind { take (length out.old.items) out.new.items ≡ out.old.items }
 {
     reserve_all(lefts, out)?;

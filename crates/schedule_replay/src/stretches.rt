@@ -1,7 +1,7 @@
 //! The lines of a text in stretches, each of one unit's lines.
 
 ghost use Rattle.std.specs.Prelude.{◌≡◌, ◌≤◌, ◌<◌, length, take, IfOk};
-ghost use Rattle.schedule_replay.specs.Stretches.{IsWhole, Splits, items_in, items_at, parts_of};
+ghost use Rattle.schedule_replay.specs.Stretches.{AreWholeLines, Splits, items_in, items_at, parts_of};
 
 use pitch_fields::OutOfMemory;
 use std::alloc::Global;
@@ -38,7 +38,7 @@ fn line_size(text: &[u8]) -> usize
     requires { 0 < length text.now }
     ensures some { 0 < result }
     ensures within { result ≤ length text.now }
-    ensures whole { result < length text.now → IsWhole 1 (take result text.now) }
+    ensures whole { result < length text.now → AreWholeLines 1 (take result text.now) }
 {
     (length_before(text, b'\n') + 1).min(text.len())
 }

@@ -6,7 +6,7 @@ ghost use Rattle.pitch_text.specs.WellFormed.{IsWellFormed};
 ghost use Rattle.pitch_text.specs.declared.verb.ScheduleEntry.{ScheduleEntry as EntrySaid};
 ghost use Rattle.schedule_replay.specs.Replay.{replay_line};
 ghost use Rattle.schedule_replay.specs.Runs.{later, RunsLines, Ran, AreRuns};
-ghost use Rattle.schedule_replay.specs.Stretches.{Part, items_at, parts_of};
+ghost use Rattle.schedule_replay.specs.Stretches.{StretchPart, items_at, parts_of};
 ghost use Rattle.schedule_replay.specs.Worlds.{IsPlace};
 
 use crate::running::run_in;
@@ -126,7 +126,7 @@ fn run_stretch(
     bytes: &[u8],
     run: &mut Run,
 ) -> Result<(), Unrun>
-    ensures { OnOk result ((parts : List Part) → Ran parts run.old
+    ensures { OnOk result ((parts : List StretchPart) → Ran parts run.old
         → Ran (parts ++ record { unit = unit; items = items_at (lines + 1) bytes.now } ∷ []) run.new) }
 {
     if unit != run.unit {

@@ -1,5 +1,5 @@
 -- What a copy keeps after an operation more.
-use Rattle.std.proofs.Common.{◌≡◌, ℕ, zero, suc, ◌+◌, ◌-◌, ◌≤◌, ◌⊎◌, List, [], ◌∷◌, ◌++◌, length, drop, map, take, ap, sym, ◌∙◌, subst, ⊎_elim, arith, length-append, cond, true, false, nat_eq, Option, Some, None, IfSome}
+use Rattle.std.proofs.Common.{◌≡◌, ℕ, zero, suc, ◌+◌, ◌-◌, ◌≤◌, ◌⊎◌, List, [], ◌∷◌, ◌++◌, length, drop, map, ap, sym, ◌∙◌, subst, ⊎_elim, arith, length-append, true, false, nat_eq, Option, Some, None, IfSome}
 use Rattle.std.proofs.lemmas.List.{append-nil, map-append, length-map, drop-append-le, drop-drop, length-drop, take-append-le, drop-map}
 use Rattle.std.proofs.lemmas.Bool.{cond-true, cond-false}
 use Rattle.std.specs.List.{AllByRecursion}
@@ -18,7 +18,7 @@ use Rattle.shared_unit.specs.declared.published.Shelves.{Shelves}
 use Rattle.shared_unit.specs.declared.published.What.{What}
 use Rattle.shared_unit.specs.declared.published.What.TheVariants as what
 use Rattle.shared_unit.specs.Histories.{kept_at, then_done}
-use Rattle.shared_unit.specs.Stored.{IsPicture, SamePicture, EndsWith, Follows, HasRoomFor, StandFor, TakesIn, operation_of, sequence_of, served_with, raws_in}
+use Rattle.shared_unit.specs.Stored.{IsPicture, SamePicture, EndsWith, ComesAfter, HasRoomFor, StandFor, IsTakenIn, operation_of, sequence_of, served_with, raws_in}
 use Rattle.shared_unit.proofs.Fronts.{prefix_shorter, prefix_whole, prefix_length}
 
 -- ---- The last of a list
@@ -82,7 +82,7 @@ advertised_new h s newest new = advertised_advertise h ∙ ap (with_sequence (ad
 advertised_again : (h : List Operation) → is_member nat_eq (advertised_by h) (length (accepted_by h)) ≡ true → advertised_by (then_done h Advertise) ≡ advertised_by h
 advertised_again h there = advertised_advertise h ∙ cond-true (is_member nat_eq (advertised_by h) (length (accepted_by h))) _ _ there
 
-pub served_grows : (published : What) (h : List Operation) (served : List ℕ) → served ≡ last_ten (advertised_by h) → Follows published h → served_with served published ≡ last_ten (advertised_by (then_done h (operation_of published)))
+pub served_grows : (published : What) (h : List Operation) (served : List ℕ) → served ≡ last_ten (advertised_by h) → ComesAfter published h → served_with served published ≡ last_ten (advertised_by (then_done h (operation_of published)))
 served_grows (what.Message raw) h served is follows = is ∙ ap last_ten (sym (advertised_accept h raw))
 served_grows (what.Image picture) h served is follows =
     ap (λ (x : List ℕ). last_ten (x ++ picture.sequence ∷ [])) is ∙ kept_again 10 (advertised_by h) picture.sequence ∙ ap last_ten (sym (advertised_new h picture.sequence follows.1 follows.2))
@@ -90,7 +90,7 @@ served_grows what.Again h served is follows = is ∙ ap last_ten (sym (advertise
 
 -- ---- A copy with one operation more
 module _ (kept : ℕ) (old new : Shelves) (h : List Operation) where
-  stored_message : (raw : List ℕ) → StandFor kept old h → TakesIn (what.Message raw) old new → StandFor kept new (then_done h (Accept raw))
+  stored_message : (raw : List ℕ) → StandFor kept old h → IsTakenIn (what.Message raw) old new → StandFor kept new (then_done h (Accept raw))
   stored_message raw store takes =
       let messages : accepted_by (then_done h (Accept raw)) ≡ accepted_by h ++ raw ∷ [] = accepted_more h (Accept raw) in
       record {
@@ -102,7 +102,7 @@ module _ (kept : ℕ) (old new : Shelves) (h : List Operation) where
             (all_more (IsPicture (accepted_by h)) (IsPicture (accepted_by h ++ raw ∷ [])) (picture_more (accepted_by h) (raw ∷ [])) old.pictures.items store.right));
       }
 
-  stored_image : (picture : Picture) → StandFor kept old h → Follows (what.Image picture) h → TakesIn (what.Image picture) old new → StandFor kept new (then_done h Advertise)
+  stored_image : (picture : Picture) → StandFor kept old h → ComesAfter (what.Image picture) h → IsTakenIn (what.Image picture) old new → StandFor kept new (then_done h Advertise)
   stored_image picture store follows takes =
       let messages : accepted_by (then_done h Advertise) ≡ accepted_by h = accepted_more h Advertise ∙ append-nil (accepted_by h) in
       let q : Picture = takes.1.0 in
@@ -120,7 +120,7 @@ module _ (kept : ℕ) (old new : Shelves) (h : List Operation) where
             (all_join (IsPicture (accepted_by h)) ps (q ∷ []) store.right (share_is (accepted_by h) picture q follows.0 takes.1.1, tt))));
       }
 
-  stored_again : StandFor kept old h → Follows what.Again h → TakesIn what.Again old new → StandFor kept new (then_done h Advertise)
+  stored_again : StandFor kept old h → ComesAfter what.Again h → IsTakenIn what.Again old new → StandFor kept new (then_done h Advertise)
   stored_again store follows takes =
       let messages : accepted_by (then_done h Advertise) ≡ accepted_by h = accepted_more h Advertise ∙ append-nil (accepted_by h) in
       subst (λ (s : Shelves). StandFor kept s (then_done h Advertise)) (sym takes)
@@ -131,7 +131,7 @@ module _ (kept : ℕ) (old new : Shelves) (h : List Operation) where
         right = subst (λ (V : List (List ℕ)). AllByRecursion (IsPicture V) old.pictures.items) (sym messages) store.right;
       })
 
-  stored : (published : What) → StandFor kept old h → Follows published h → TakesIn published old new → StandFor kept new (then_done h (operation_of published))
+  stored : (published : What) → StandFor kept old h → ComesAfter published h → IsTakenIn published old new → StandFor kept new (then_done h (operation_of published))
   stored (what.Message raw) store follows takes = stored_message raw store takes
   stored (what.Image picture) store follows takes = stored_image picture store follows takes
   stored what.Again store follows takes = stored_again store follows takes
@@ -144,12 +144,12 @@ before_is h o before op is p len =
     prefix_whole before h (prefix_shorter before h o q p (omega (arith, size, len))) (omega (arith, size, len))
 
 -- what is published after a copy's history follows it
-pub follows_it : (published : What) (h o : List Operation) (ends : EndsWith published o) → length o ≡ length h + 1 → IsPrefix h o → (then_done h (operation_of published) ≡ o) × Follows published h
+pub follows_it : (published : What) (h o : List Operation) (ends : EndsWith published o) → length o ≡ length h + 1 → IsPrefix h o → (then_done h (operation_of published) ≡ o) × ComesAfter published h
 follows_it published h o ends len p =
     let before : ends.before ≡ h = before_is h o ends.before (operation_of published) ends.is p len in
-    (ap (λ (x : List Operation). then_done x (operation_of published)) (sym before) ∙ ends.is, subst (λ (x : List Operation). Follows published x) before ends.follows)
+    (ap (λ (x : List Operation). then_done x (operation_of published)) (sym before) ∙ ends.is, subst (λ (x : List Operation). ComesAfter published x) before ends.follows)
 
-pub copy_grows : (published : What) (kept : ℕ) (old new : Shelves) (h o : List Operation) → StandFor kept old h → EndsWith published o → length o ≡ length h + 1 → IsPrefix h o → TakesIn published old new → StandFor kept new o
+pub copy_grows : (published : What) (kept : ℕ) (old new : Shelves) (h o : List Operation) → StandFor kept old h → EndsWith published o → length o ≡ length h + 1 → IsPrefix h o → IsTakenIn published old new → StandFor kept new o
 copy_grows published kept old new h o store ends len p takes =
     let f = follows_it published h o ends len p in
     subst (StandFor kept new) f.0 (stored kept old new h published store f.1 takes)

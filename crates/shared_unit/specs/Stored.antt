@@ -52,11 +52,11 @@ served_with served what.Again = served
 
 -- what is published after a history: a message; the image of all messages, whose sequence was not
 -- advertised before; or that sequence again, where it was
-abbrev pub Follows : What → List Operation → Type 0
-Follows (what.Message raw) before = Unit {0}
-Follows (what.Image picture) before = IsPicture (accepted_by before) picture × (picture.sequence ≡ length (accepted_by before))
+abbrev pub ComesAfter : What → List Operation → Type 0
+ComesAfter (what.Message raw) before = Unit {0}
+ComesAfter (what.Image picture) before = IsPicture (accepted_by before) picture × (picture.sequence ≡ length (accepted_by before))
     × (is_member nat_eq (advertised_by before) picture.sequence ≡ false)
-Follows what.Again before = is_member nat_eq (advertised_by before) (length (accepted_by before)) ≡ true
+ComesAfter what.Again before = is_member nat_eq (advertised_by before) (length (accepted_by before)) ≡ true
 
 -- there are sequences for all messages
 abbrev pub HasSequences : List Operation → Type 0
@@ -66,7 +66,7 @@ HasSequences history = length (accepted_by history) ≤ last_sequence
 pub record EndsWith (published : What) (history : List Operation) : Type 0 where
   pub before : List Operation
   pub is : then_done before (operation_of published) ≡ history
-  pub follows : Follows published before
+  pub follows : ComesAfter published before
   pub few : HasSequences history
 
 -- ---- What a copy keeps
@@ -88,12 +88,12 @@ HasRoomFor (what.Image picture) shelves = Unit {0}
 HasRoomFor what.Again shelves = Unit {0}
 
 -- what is published was taken in
-abbrev pub TakesIn : What → Shelves → Shelves → Type 0
-TakesIn (what.Message raw) old new =
+abbrev pub IsTakenIn : What → Shelves → Shelves → Type 0
+IsTakenIn (what.Message raw) old new =
     ((v : View) → old.gaps ≡ store_of v → new.gaps ≡ store_of (record { messages = v.messages ++ raw ∷ []; kept = v.kept })) × (new.pictures ≡ old.pictures)
-TakesIn (what.Image picture) old new =
+IsTakenIn (what.Image picture) old new =
     (new.gaps ≡ old.gaps) × ((q : Picture) × SamePicture picture q × (new.pictures ≡ buffer (keep_last old.pictures.capacity (old.pictures.items ++ q ∷ [])) old.pictures.capacity))
-TakesIn what.Again old new = new ≡ old
+IsTakenIn what.Again old new = new ≡ old
 
 -- what a published operation makes of the history of a copy: the history that it ends, where that is
 -- the copy's with one operation more

@@ -2,7 +2,7 @@
 ghost use Rattle.std.specs.Prelude.{◌≡◌, ◌<◌, ◌^◌, [], length, IfOk, MatchResult};
 ghost use mathlib.Core.List.{IsPrefix};
 ghost use Rattle.shared_unit.specs.Histories.{IsLegal, then_done};
-ghost use Rattle.shared_unit.specs.Stored.{AreBlank, Follows, HasSequences, operation_of};
+ghost use Rattle.shared_unit.specs.Stored.{AreBlank, ComesAfter, HasSequences, operation_of};
 
 use crate::book::{Book, Opened};
 use crate::holder::Holder;
@@ -82,7 +82,7 @@ impl<J: Naming, R: Run, W: Wait + Drop> Desk<J, R, W> {
     pub(crate) fn publish(&mut self, what: What) -> Result<(), OutOfMemory>
         requires room { length self.old < 2 ^ 63 }
         requires legal { IsLegal R.fixed R.plan (then_done self.old (operation_of what)) }
-        requires follows { Follows what self.old }
+        requires follows { ComesAfter what self.old }
         requires few { HasSequences (then_done self.old (operation_of what)) }
         ensures { MatchResult result (λ _. self.new ≡ then_done self.old (operation_of what)) (λ _. self.new ≡ self.old) }
     {

@@ -4,7 +4,7 @@ ghost use mathlib.Core.List.{IsPrefix};
 ghost use Rattle.std.specs.List.{list_any};
 ghost use Rattle.pitch_model.specs.Advertising.{advertised_by, last_ten, newest_of};
 ghost use Rattle.shared_unit.specs.Histories.{IsLegal, then_done};
-ghost use Rattle.shared_unit.specs.Stored.{Follows, operation_of, served_with};
+ghost use Rattle.shared_unit.specs.Stored.{ComesAfter, operation_of, served_with};
 
 use crate::book::{Book, Front};
 use crate::published::What;
@@ -111,7 +111,7 @@ impl<J: Naming, R: Run> Past<J, R> {
     pub(crate) fn extended(&self, book: &Book<J, R>, what: &What) -> Option<Past<J, R>>
         requires room { length self.now < 2 ^ 63 }
         requires legal { IsLegal R.fixed R.plan (then_done self.now (operation_of what.now)) }
-        requires follows { Follows what.now self.now }
+        requires follows { ComesAfter what.now self.now }
         ensures { IfSome result (λ past. past ≡ then_done self.now (operation_of what.now)) }
     {
         let front = self.front.extended(book, what)?;

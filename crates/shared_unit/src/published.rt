@@ -1,7 +1,7 @@
 //! What is published, and what a copy keeps of it.
 ghost use Rattle.std.specs.Prelude.{◌≡◌, ◌+◌, ◌<◌, ◌≤◌, IfOk};
 ghost use Rattle.pitch_fields.specs.Limits.{last_sequence, most_held};
-ghost use Rattle.shared_unit.specs.Stored.{AreBlank, HasRoomFor, SamePicture, TakesIn};
+ghost use Rattle.shared_unit.specs.Stored.{AreBlank, HasRoomFor, SamePicture, IsTakenIn};
 
 use circular_buffer::HeapCircularBuffer;
 use gap_store::GapStore;
@@ -68,7 +68,7 @@ impl Shelves {
     // Takes in what is published. It takes no memory.
     pub fn take_in(&mut self, what: &What)
         requires { HasRoomFor what.now self.old }
-        ensures { TakesIn what.now self.old self.new }
+        ensures { IsTakenIn what.now self.old self.new }
     {
         match what {
             What::Message(raw) => self.gaps.push(raw),

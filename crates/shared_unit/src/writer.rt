@@ -9,7 +9,7 @@ ghost use Rattle.pitch_model.specs.History.{adds};
 ghost use Rattle.pitch_model.specs.Image.{image_of};
 ghost use Rattle.venue_core.specs.Stands.{last_of};
 ghost use Rattle.shared_unit.specs.Histories.{IsLegal, then_done};
-ghost use Rattle.shared_unit.specs.Stored.{Follows, operation_of, raws_in};
+ghost use Rattle.shared_unit.specs.Stored.{ComesAfter, operation_of, raws_in};
 
 use crate::desk::Desk;
 use crate::past::Past;
@@ -115,7 +115,7 @@ impl<J: Naming, R: Run, W: Wait + Drop> Writer<J, R, W> {
 
     // What an advertising publishes.
     fn advertised(&self) -> Result<What, OutOfMemory>
-        ensures follows { IfOk result (λ what. Follows what self.now) }
+        ensures follows { IfOk result (λ what. ComesAfter what self.now) }
         ensures operation { IfOk result (λ what. operation_of what ≡ Advertise) }
     {
         let sequence = self.accepted();

@@ -1,5 +1,5 @@
 -- What the client of a side is answered.
-use Rattle.std.proofs.Common.{◌≡◌, ℕ, zero, suc, ◌+◌, ◌-◌, ◌≤◌, ◌<◌, ◌==◌, Bool, true, false, ◌||◌, List, [], ◌∷◌, ◌++◌, length, take, drop, cond, nat_lt, nat_eq, None, Option, inl, inr, ◌⊎◌, refl, sym, ap, ◌∙◌, subst, arith}
+use Rattle.std.proofs.Common.{◌≡◌, ℕ, zero, suc, ◌+◌, ◌-◌, ◌≤◌, ◌<◌, ◌==◌, Bool, true, false, ◌||◌, List, [], ◌∷◌, ◌++◌, length, drop, cond, nat_lt, nat_eq, None, Option, inl, inr, ◌⊎◌, refl, sym, ap, ◌∙◌, subst, arith}
 use Rattle.std.proofs.lemmas.Bool.{cases_lt, cond-true, cond-false}
 use Rattle.std.proofs.lemmas.Bool.Decides.{nat_tests}
 use Rattle.std.proofs.lemmas.List.{length-append, length-take, length-drop}
@@ -24,7 +24,7 @@ use Rattle.spin_server.specs.declared.lookup.Imaged.TheVariants as answers
 use Rattle.pitch_model.specs.Asking.{ask_of}
 use Rattle.pitch_model.specs.declared.ask.Ask.{Ask}
 use Rattle.client_core.specs.declared.client.UnitClient.{UnitClient}
-use Rattle.drill_client.specs.Following.{Follows, FollowsOn, GoesOn, IsImageOf}
+use Rattle.drill_client.specs.Following.{Follows, FollowsOn, KeepsFollowing, IsImageOf}
 use Rattle.unit_threads.specs.Turns.{KeepsLast}
 
 -- ---- Gaps
@@ -152,7 +152,7 @@ newest_there (n ∷ ns) k e = by (newest_there ns k) (n == k) refl
 -- ---- Counting
 -- a client goes on following with a datagram that is counted
 pub counted_goes : (old new : UnitClient) (n n' : ℕ) (ask : Option Ask) → (n < 9 → (n' ≡ n + 1) × (ask ≡ None) × (new ≡ old))
-    → (9 ≤ n → (V : List Raw) (H : ℕ) (E : List Entry) → Follows old H V E → (ask ≡ ask_of H E) × Follows new H V (Ticked ask ∷ E)) → (V : List Raw) → GoesOn old new V
+    → (9 ≤ n → (V : List Raw) (H : ℕ) (E : List Entry) → Follows old H V E → (ask ≡ ask_of H E) × Follows new H V (Ticked ask ∷ E)) → (V : List Raw) → KeepsFollowing old new V
 counted_goes old new n n' ask more asks V H p = by (cases_lt n 9)
   where
     by : (n < 9) ⊎ (9 ≤ n) → FollowsOn new H V

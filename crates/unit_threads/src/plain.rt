@@ -9,7 +9,7 @@ ghost use Rattle.unit_packets.specs.Packing.{bytes_in};
 ghost use Rattle.venue_core.specs.Plan.{plan, most_planned};
 ghost use Rattle.venue_core.specs.Stands.{Stands};
 ghost use Rattle.drill_client.specs.Ending.{IsAtEnd};
-ghost use Rattle.drill_client.specs.Following.{FollowsOn, GoesOn, ImageParts, IsImageOf};
+ghost use Rattle.drill_client.specs.Following.{FollowsOn, KeepsFollowing, ImageParts, IsImageOf};
 ghost use Rattle.unit_threads.specs.DrillText.{most_drilled, drill_kept, drill_line};
 ghost use Rattle.unit_threads.specs.Turns.{KeepsLast, HasImages, Serves};
 
@@ -154,7 +154,7 @@ fn answer_gap(
 ) -> Result<(), OutOfMemory>
     ensures same { store.new ≡ store.old }
     // Of every venue that begins with the messages of the store.
-    ensures goes { OnOk result ((messages more : List RawSaid) → KeepsLast store.old messages → GoesOn client.old client.new (messages ++ more)) }
+    ensures goes { OnOk result ((messages more : List RawSaid) → KeepsLast store.old messages → KeepsFollowing client.old client.new (messages ++ more)) }
 {
     look_laws();
     slices_are_the_venues();
@@ -186,7 +186,7 @@ fn answer_spin(
 ) -> Result<(), OutOfMemory>
     ensures same { shelf.new ≡ shelf.old }
     // Of every venue that begins with the messages of the shelf.
-    ensures goes { OnOk result ((messages more : List RawSaid) → HasImages shelf.old messages → GoesOn client.old client.new (messages ++ more)) }
+    ensures goes { OnOk result ((messages more : List RawSaid) → HasImages shelf.old messages → KeepsFollowing client.old client.new (messages ++ more)) }
 {
     shelves_show_what_was_pushed();
     image_look_laws();
@@ -232,7 +232,7 @@ fn advertise(
 ) -> Result<(), OutOfMemory>
     ensures shelf { OnOk result ((messages : List RawSaid) → HasImages shelf.old messages → HasImages shelf.new messages) }
     // Of every venue that begins with the messages of the shelf.
-    ensures goes { OnOk result ((messages more : List RawSaid) → HasImages shelf.old messages → GoesOn client.old client.new (messages ++ more)) }
+    ensures goes { OnOk result ((messages more : List RawSaid) → HasImages shelf.old messages → KeepsFollowing client.old client.new (messages ++ more)) }
 {
     operations_add_up();
     if index % ROUND != 0 && index != count {
@@ -253,7 +253,7 @@ fn answer(
 ) -> Result<(), OutOfMemory>
     ensures same { side.new ≡ side.old }
     // Of every venue that begins with the messages of the side.
-    ensures goes { OnOk result ((messages more : List RawSaid) (sent : ℕ) → Serves side.old unit messages sent → GoesOn client.old client.new (messages ++ more)) }
+    ensures goes { OnOk result ((messages more : List RawSaid) (sent : ℕ) → Serves side.old unit messages sent → KeepsFollowing client.old client.new (messages ++ more)) }
 {
     match ask {
         None => Ok(()),
@@ -277,7 +277,7 @@ fn hear_copy(
     ensures same { side.new ≡ side.old }
     // Of every venue that begins with the messages of the side.
     ensures goes { OnOk result ((messages more : List RawSaid) (sent : ℕ) → Serves side.old unit messages sent
-        → AllByRecursion (IsPiece messages unit) (bytes_in datagrams.now) → GoesOn client.old client.new (messages ++ more)) }
+        → AllByRecursion (IsPiece messages unit) (bytes_in datagrams.now) → KeepsFollowing client.old client.new (messages ++ more)) }
 {
     if is_lost {
         return Ok(());
@@ -302,7 +302,7 @@ fn play(
     requires count { course.count ≤ most_drilled }
     requires serves { Serves side.old course.unit (plan course.number course.unit (index - 1)) (index - 1) }
     ensures serves { OnOk result (Serves side.new course.unit (plan course.number course.unit index) index) }
-    ensures goes { OnOk result (GoesOn client.old client.new (plan course.number course.unit course.count)) }
+    ensures goes { OnOk result (KeepsFollowing client.old client.new (plan course.number course.unit course.count)) }
 {
     let Course {
         number,

@@ -5,7 +5,7 @@ use Rattle.net_edge.proofs.Grouping.{gots_none, call_more, take_last, takes_full
 use Rattle.net_edge.proofs.links.hear_link.Goals as goal
 
 pub returns-then-cut-clause-heard : goal.returns-then-cut-clause-heard
-returns-then-cut-clause-heard g c = λ s base now h. ([], (λ opened. refl), subst (λ (b : Bool). HearsLink g.L.ClientEnd.side s base (g.N.Net.calls c.args.net.now) (g.L.ClientEnd.ending c.args.link.now) c.args.client.now [] b now) c.if-cut.true h)
+returns-then-cut-clause-heard g c = λ s base now h. ([], (λ opened. refl), subst (λ (b : Bool). HearsLink g.L.ClientEnd.peer s base (g.N.Net.calls c.args.net.now) (g.L.ClientEnd.ending c.args.link.now) c.args.client.now [] b now) c.if-cut.true h)
 
 pub takes-init : goal.takes-init
 takes-init g c = record {
@@ -21,30 +21,30 @@ takes-preserved g c = record {
   heard = λ s base now h.
       call_more c.in_ok-answer.answer c.takes._index (omega arith) (c.takes.invariant.heard s base now h)
       (λ answers gots opened is.
-      subst (λ (b : Bool). HearsLink g.L.ClientEnd.side s base (g.N.Net.calls c.hear_link_once.new.net) (g.L.ClientEnd.ending c.hear_link_once.new.link) c.hear_link_once.new.client (c.in_ok-answer.answer ∷ answers) b now) c.if-shut.false
+      subst (λ (b : Bool). HearsLink g.L.ClientEnd.peer s base (g.N.Net.calls c.hear_link_once.new.net) (g.L.ClientEnd.ending c.hear_link_once.new.link) c.hear_link_once.new.client (c.in_ok-answer.answer ∷ answers) b now) c.if-shut.false
       (c.in_ok-answer.ensures.heard s base answers now is opened))
       (ap is_got c.in-Got.is);
 }
 
 pub returns-then-shut-clause-heard : goal.returns-then-shut-clause-heard
 returns-then-shut-clause-heard g c = λ s base now h.
-    let begun = subst (λ (b : Bool). HearsLink g.L.ClientEnd.side s base (g.N.Net.calls c.args.net.now) (g.L.ClientEnd.ending c.args.link.now) c.args.client.now [] b now) c.if-cut.false h in
+    let begun = subst (λ (b : Bool). HearsLink g.L.ClientEnd.peer s base (g.N.Net.calls c.args.net.now) (g.L.ClientEnd.ending c.args.link.now) c.args.client.now [] b now) c.if-cut.false h in
     take_last c.in_ok-answer.answer c.takes._index (omega arith) (c.takes.invariant.heard s base now begun)
     (λ answers gots opened is.
-    subst (λ (b : Bool). HearsLink g.L.ClientEnd.side s base (g.N.Net.calls c.hear_link_once.new.net) (g.L.ClientEnd.ending c.hear_link_once.new.link) c.hear_link_once.new.client (c.in_ok-answer.answer ∷ answers) b now) c.if-shut.true
+    subst (λ (b : Bool). HearsLink g.L.ClientEnd.peer s base (g.N.Net.calls c.hear_link_once.new.net) (g.L.ClientEnd.ending c.hear_link_once.new.link) c.hear_link_once.new.client (c.in_ok-answer.answer ∷ answers) b now) c.if-shut.true
     (c.in_ok-answer.ensures.heard s base answers now is opened))
     _ (inr refl)
 
 pub returns-in-Quiet-clause-heard : goal.returns-in-Quiet-clause-heard
 returns-in-Quiet-clause-heard g c = λ s base now h.
-    let begun = subst (λ (b : Bool). HearsLink g.L.ClientEnd.side s base (g.N.Net.calls c.args.net.now) (g.L.ClientEnd.ending c.args.link.now) c.args.client.now [] b now) c.if-cut.false h in
+    let begun = subst (λ (b : Bool). HearsLink g.L.ClientEnd.peer s base (g.N.Net.calls c.args.net.now) (g.L.ClientEnd.ending c.args.link.now) c.args.client.now [] b now) c.if-cut.false h in
     take_last c.in_ok-answer.answer c.takes._index (omega arith) (c.takes.invariant.heard s base now begun)
     (λ answers gots opened is.
-    subst (λ (b : Bool). HearsLink g.L.ClientEnd.side s base (g.N.Net.calls c.hear_link_once.new.net) (g.L.ClientEnd.ending c.hear_link_once.new.link) c.hear_link_once.new.client (c.in_ok-answer.answer ∷ answers) b now) c.if-shut.false
+    subst (λ (b : Bool). HearsLink g.L.ClientEnd.peer s base (g.N.Net.calls c.hear_link_once.new.net) (g.L.ClientEnd.ending c.hear_link_once.new.link) c.hear_link_once.new.client (c.in_ok-answer.answer ∷ answers) b now) c.if-shut.false
     (c.in_ok-answer.ensures.heard s base answers now is opened))
     false (inl (nothing c.in_ok-answer.answer c.in-Quiet.is))
 
 pub returns-clause-heard : goal.returns-clause-heard
 returns-clause-heard g c = λ s base now h.
-    let begun = subst (λ (b : Bool). HearsLink g.L.ClientEnd.side s base (g.N.Net.calls c.args.net.now) (g.L.ClientEnd.ending c.args.link.now) c.args.client.now [] b now) c.if-cut.false h in
+    let begun = subst (λ (b : Bool). HearsLink g.L.ClientEnd.peer s base (g.N.Net.calls c.args.net.now) (g.L.ClientEnd.ending c.args.link.now) c.args.client.now [] b now) c.if-cut.false h in
     takes_full c.takes._index (omega arith) (c.takes.invariant.heard s base now begun) false

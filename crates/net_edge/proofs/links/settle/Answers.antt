@@ -5,24 +5,24 @@ use Rattle.net_edge.proofs.links.settle.Goals as goal
 
 pub returns-then-cut : goal.returns-then-cut
 returns-then-cut g c = record {
-  cut = λ es is. sym (ap (λ (b : Bool). b || closes g.L.ClientEnd.side b es) c.if-cut.true);
-  heard = λ es E is has. settled_before g.L.ClientEnd.side c.args.client.now es E c.args.cut c.if-cut.true has;
+  cut = λ es is. sym (ap (λ (b : Bool). b || closes g.L.ClientEnd.peer b es) c.if-cut.true);
+  heard = λ es E is has. settled_before g.L.ClientEnd.peer c.args.client.now es E c.args.cut c.if-cut.true has;
 }
 
 pub returns-in_ok-hear_down : goal.returns-in_ok-hear_down
 returns-in_ok-hear_down g c =
-    let side = g.L.ClientEnd.side in
+    let peer = g.L.ClientEnd.peer in
     let link = g.L.ClientEnd.ending c.args.link.now in
     record {
-      cut = λ es is. settled_cut side link es c.args.cut c.has_closed-shut.result is c.if-cut.false c.has_closed-shut.ensures;
-      heard = λ es E is has. settled_heard side link c.hear_down.new.client es E c.args.cut c.has_closed-shut.result true is c.if-cut.false c.has_closed-shut.ensures c.if-shut.true (c.in_ok-hear_down.ensures E has);
+      cut = λ es is. settled_cut peer link es c.args.cut c.has_closed-shut.result is c.if-cut.false c.has_closed-shut.ensures;
+      heard = λ es E is has. settled_heard peer link c.hear_down.new.client es E c.args.cut c.has_closed-shut.result true is c.if-cut.false c.has_closed-shut.ensures c.if-shut.true (c.in_ok-hear_down.ensures E has);
     }
 
 pub returns-else-shut : goal.returns-else-shut
 returns-else-shut g c =
-    let side = g.L.ClientEnd.side in
+    let peer = g.L.ClientEnd.peer in
     let link = g.L.ClientEnd.ending c.args.link.now in
     record {
-      cut = λ es is. settled_cut side link es c.args.cut c.has_closed-shut.result is c.if-cut.false c.has_closed-shut.ensures;
-      heard = λ es E is has. settled_heard side link c.args.client.now es E c.args.cut c.has_closed-shut.result false is c.if-cut.false c.has_closed-shut.ensures c.if-shut.false has;
+      cut = λ es is. settled_cut peer link es c.args.cut c.has_closed-shut.result is c.if-cut.false c.has_closed-shut.ensures;
+      heard = λ es E is has. settled_heard peer link c.args.client.now es E c.args.cut c.has_closed-shut.result false is c.if-cut.false c.has_closed-shut.ensures c.if-shut.false has;
     }

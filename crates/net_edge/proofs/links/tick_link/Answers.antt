@@ -1,19 +1,19 @@
 use Rattle.session_ends.specs.Events.{Ticked}
 use Rattle.world_model.specs.Verbs.{at_link}
 use Rattle.net_edge.specs.Acting.{where_stands}
-use Rattle.net_edge.specs.Sides.{setup_of}
+use Rattle.net_edge.specs.Peers.{peer_setup}
 use Rattle.net_edge.proofs.Linking.{said_put}
 use Rattle.net_edge.proofs.links.tick_link.Goals as goal
 
 pub returns-clause-ticked : goal.returns-clause-ticked
 returns-clause-ticked g c = λ s base k E now is has plays.
     let says = c.in_ok-say_ticked.ensures k is in
-    let after = where_stands c.args.cut (λ x. at_link (setup_of g.L.ClientEnd.side) Ticked x) k in
+    let after = where_stands c.args.cut (λ x. at_link (peer_setup g.L.ClientEnd.peer) Ticked x) k in
     record {
       acts = record {
         said = c.say_ticked.new.said.items;
         is = says;
-        plays = said_put g.L.ClientEnd.side s base _ _ _ _ now c.net_end.ensures c.deref.ensures.value (c.in_ok-put_whole.ensures.put s base now plays);
+        plays = said_put g.L.ClientEnd.peer s base _ _ _ _ now c.net_end.ensures c.deref.ensures.value (c.in_ok-put_whole.ensures.put s base now plays);
       };
       cut_is = c.in_ok-after.ensures.cut after.link says.link_has;
       has = c.in_ok-after.ensures.heard after.link E says.link_has has;

@@ -4,7 +4,7 @@ use Rattle.pitch_io.specs.declared.net.LinkEnd.TheVariants.{GrpServer}
 use Rattle.pitch_io.specs.declared.net.NetTaken.TheVariants.{Got}
 use Rattle.pitch_messages.specs.Room.{Roomy}
 use Rattle.unit_packets.specs.Packing.{bytes_in}
-use Rattle.net_edge.specs.Acting.{sent_on, put_at, taken_at}
+use Rattle.net_edge.specs.Acting.{sent_on, end_puts, taken_at}
 use Rattle.net_edge.specs.Playing.{Plays, proxy_said}
 use Rattle.net_edge.specs.Scene.{Scene}
 use Rattle.net_edge.proofs.proxy.serve_piece.Goals as goal
@@ -17,7 +17,7 @@ returns-clause-served g c = λ s base count now has store plays.
     let lines_are : bytes_in c.as_slice.result.now ≡ (proxy_said s c.args.piece.now now).lines = ap (λ (ls : List (Roomy ℕ)). bytes_in ls) c.as_slice.ensures ∙ fed.lines_are in
     record {
       has = fed.has;
-      plays = subst (λ (ls : List (List ℕ)). Plays s base (g.N.Net.calls c.send_all.new.net) (sent_on Gap ls (put_at GrpServer (proxy_said s c.args.piece.now now).reply after))) lines_are
-          (subst (λ (b : List ℕ). Plays s base (g.N.Net.calls c.send_all.new.net) (sent_on Gap (bytes_in c.as_slice.result.now) (put_at GrpServer b after))) said_is
-          (c.in_ok-send_all.ensures.sent s base (put_at GrpServer c.deref.result.now after) (c.in_ok-put_whole.ensures.put s base after plays)));
+      plays = subst (λ (ls : List (List ℕ)). Plays s base (g.N.Net.calls c.send_all.new.net) (sent_on Gap ls (end_puts GrpServer (proxy_said s c.args.piece.now now).reply after))) lines_are
+          (subst (λ (b : List ℕ). Plays s base (g.N.Net.calls c.send_all.new.net) (sent_on Gap (bytes_in c.as_slice.result.now) (end_puts GrpServer b after))) said_is
+          (c.in_ok-send_all.ensures.sent s base (end_puts GrpServer c.deref.result.now after) (c.in_ok-put_whole.ensures.put s base after plays)));
     }

@@ -1,6 +1,6 @@
 use Rattle.std.proofs.Common.{List, subst}
 use Rattle.pitch_io.specs.declared.net.LinkEnd.TheVariants.{GrpServer}
-use Rattle.net_edge.specs.Acting.{put_at}
+use Rattle.net_edge.specs.Acting.{end_puts}
 use Rattle.net_edge.specs.Playing.{Plays}
 use Rattle.net_edge.proofs.proxy.tick_proxy.Goals as goal
 
@@ -8,5 +8,5 @@ pub returns-clause-acts : goal.returns-clause-acts
 returns-clause-acts g c = λ s base k spent now has plays. record {
   said = c.tick.new.said.items;
   is = c.in_ok-tick.ensures k spent has;
-  plays = subst (λ (b : List _). Plays s base (g.N.Net.calls c.put_whole.new.net) (put_at GrpServer b now)) c.deref.ensures.value (c.in_ok-put_whole.ensures.put s base now plays);
+  plays = subst (λ (b : List _). Plays s base (g.N.Net.calls c.put_whole.new.net) (end_puts GrpServer b now)) c.deref.ensures.value (c.in_ok-put_whole.ensures.put s base now plays);
 }

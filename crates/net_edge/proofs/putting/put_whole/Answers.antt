@@ -2,7 +2,7 @@ use Rattle.std.proofs.Common.{◌≡◌, ◌-◌, ℕ, List, length, take, drop,
 use Rattle.std.proofs.lemmas.List.{take_rest, take_all, length-drop}
 use Rattle.pitch_io.specs.Nets.{Put}
 use Rattle.pitch_io.specs.declared.sink.Put.TheVariants as puts
-use Rattle.net_edge.specs.Acting.{put_at}
+use Rattle.net_edge.specs.Acting.{end_puts}
 use Rattle.net_edge.specs.Playing.{Plays}
 use Rattle.net_edge.proofs.Runs.{play_call, put_none, put_next}
 use Rattle.net_edge.proofs.putting.put_whole.Goals as goal
@@ -24,10 +24,10 @@ puts-preserved g c =
       within = omega (arith, c.in-Wrote.ensures.count.1, ap (λ (x : List ℕ). length x) whole, length-drop c.puts.done bytes, c.puts.invariant.within);
       plays = λ s base now plays.
           subst (Plays s base (g.N.Net.calls c.put.new.self)) (put_next c.args.at bytes piece c.puts.done count now whole)
-          (play_call s base _ _ (put_at c.args.at (take c.puts.done bytes) now) (Put c.args.at piece (puts.Wrote count)) c.in-Wrote.ensures.calls tt (c.puts.invariant.plays s base now plays));
+          (play_call s base _ _ (end_puts c.args.at (take c.puts.done bytes) now) (Put c.args.at piece (puts.Wrote count)) c.in-Wrote.ensures.calls tt (c.puts.invariant.plays s base now plays));
       later = omega (arith, c.puts.invariant.later, c.put.ensures.cause.later);
     }
 
 pub returns-clause-put : goal.returns-clause-put
 returns-clause-put g c = λ s base now plays.
-    subst (λ (bytes : List ℕ). Plays s base (g.N.Net.calls c.puts.net) (put_at c.args.at bytes now)) (take_all c.puts.done c.args.bytes.now (omega arith)) (c.puts.invariant.plays s base now plays)
+    subst (λ (bytes : List ℕ). Plays s base (g.N.Net.calls c.puts.net) (end_puts c.args.at bytes now)) (take_all c.puts.done c.args.bytes.now (omega arith)) (c.puts.invariant.plays s base now plays)

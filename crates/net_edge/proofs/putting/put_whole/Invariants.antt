@@ -1,6 +1,6 @@
 use Rattle.std.proofs.Common.{◌≤◌, ◌-◌, List, length, take}
 use Rattle.pitch_io.specs.Nets.{Call}
-use Rattle.net_edge.specs.Acting.{put_at}
+use Rattle.net_edge.specs.Acting.{end_puts}
 use Rattle.net_edge.specs.Due.{Setting}
 use Rattle.net_edge.specs.Playing.{Plays}
 use Rattle.net_edge.specs.Scene.{Scene}
@@ -9,7 +9,7 @@ use Rattle.net_edge.proofs.putting.put_whole.Given as goal
 abbrev pub invariant-puts : goal.invariant-puts
 invariant-puts g l = record {
   within : l.done ≤ length l.bytes;
-  plays : (s : Setting) (base : List Call) (now : Scene) → Plays s base (g.N.Net.calls l.fn.net) now → Plays s base (g.N.Net.calls l.net) (put_at l.at (take l.done l.bytes) now);
+  plays : (s : Setting) (base : List Call) (now : Scene) → Plays s base (g.N.Net.calls l.fn.net) now → Plays s base (g.N.Net.calls l.net) (end_puts l.at (take l.done l.bytes) now);
   later : g.N.Net.faults l.fn.net ≤ g.N.Net.faults l.net;
 }
 

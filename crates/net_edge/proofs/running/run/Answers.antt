@@ -2,7 +2,7 @@ use Rattle.std.proofs.Common.{◌≡◌, ◌≢◌, ◌+◌, ℕ, refl, sym, ◌
 use Rattle.net_edge.specs.Due.{Setting, setting, hold_limit}
 use Rattle.net_edge.specs.Playing.{MarketAt}
 use Rattle.net_edge.specs.Scene.{first_scene, all_put}
-use Rattle.net_edge.specs.Turns.{GoesOn, status_at}
+use Rattle.net_edge.specs.Turns.{MayGoOn, client_status}
 use Rattle.net_edge.proofs.Starting.{market_first, sent_first, uncalled_first, goes_on, last_is}
 use Rattle.net_edge.proofs.Turning.{turn_again}
 use Rattle.net_edge.proofs.running.run.Goals as goal
@@ -31,8 +31,8 @@ turns-preserved g c =
       later = omega (arith, c.turns.invariant.later, c.turn-in-turns.ensures.later);
       ran = λ base at market.
           let now = c.turns.invariant.ran base at market in
-          let status : c.status.result ≡ status_at now.0 = c.status.ensures hold_limit now.0.heard now.2.has.client.tracks in
-          let goes : GoesOn s now.0 = goes_on s now.0 turn c.status.result now.1 status on.0 in
+          let status : c.status.result ≡ client_status now.0 = c.status.ensures hold_limit now.0.heard now.2.has.client.tracks in
+          let goes : MayGoOn s now.0 = goes_on s now.0 turn c.status.result now.1 status on.0 in
           let n = turn_again s base turn (turn + 1) (g.N.Net.calls c.turns.net) c.turns.ends c.turns.market now.0 refl now.1 now.2 now.3 now.4 goes in
           c.in_ok-turn-2.ensures.over base n.0 n.1 n.2 n.3 n.4 n.5;
     }
@@ -41,6 +41,6 @@ pub returns-clause-ran : goal.returns-clause-ran
 returns-clause-ran g c = λ base at market.
     let s : Setting = setting c.args.number c.args.count in
     let now = c.turns.invariant.ran base at market in
-    let status : c.status.result ≡ status_at now.0 = c.status.ensures hold_limit now.0.heard now.2.has.client.tracks in
+    let status : c.status.result ≡ client_status now.0 = c.status.ensures hold_limit now.0.heard now.2.has.client.tracks in
     let end = c.turns-test.ensures in
     (now.0, now.2, subst (MarketAt s c.turns.market) (sym now.1) now.3, now.4, last_is s now.0 c.turns.turn c.status.result now.1 c.turns.invariant.most status end.0 end.1)

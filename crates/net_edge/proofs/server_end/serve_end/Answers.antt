@@ -1,7 +1,7 @@
 use Rattle.std.proofs.Common.{◌≡◌, ◌||◌, Bool, true, false, [], ◌∷◌, ap, refl, sym, ◌∙◌, subst, arith, ◌⊎◌, inl, inr}
 use Rattle.pitch_io.specs.declared.net.NetTaken.{NetTaken}
 use Rattle.pitch_io.specs.declared.net.NetTaken.TheVariants as taken
-use Rattle.net_edge.specs.Scene.{is_got, is_end}
+use Rattle.net_edge.specs.Scene.{is_got, got_end}
 use Rattle.net_edge.proofs.Grouping.{gots_none, call_more, take_last, takes_full, none_over, open_then}
 use Rattle.net_edge.proofs.server_end.serve_end.Goals as goal
 
@@ -24,7 +24,7 @@ takes-preserved g c = record {
   served = λ s base now h whole stored.
       call_more c.in_ok-serve_one.field-0 c.takes.index (omega arith) (c.takes.invariant.served s base now h whole stored)
       (λ answers gots opened is.
-      subst (λ (b : Bool). g.E.ServerEnd.serves c.serve_one.new.self s base (g.N.Net.calls c.serve_one.new.net) (c.in_ok-serve_one.field-0 ∷ answers) b now) (ap is_end c.in-Got.is)
+      subst (λ (b : Bool). g.E.ServerEnd.serves c.serve_one.new.self s base (g.N.Net.calls c.serve_one.new.net) (c.in_ok-serve_one.field-0 ∷ answers) b now) (ap got_end c.in-Got.is)
       (c.in_ok-serve_one.ensures.served s base answers now is whole (subst (λ x. g.E.ServerEnd.shows x s now) (sym c.takes.invariant.store) stored) opened (open_then c.in_ok-serve_one.field-0 answers c.takes.index gots (omega arith))))
       (ap is_got c.in-Got.is);
 }
@@ -35,7 +35,7 @@ returns-in-End-clause-served g c = λ s base now h whole stored.
     let begun = subst (λ (b : Bool). g.E.ServerEnd.serves c.args.server.now s base (g.N.Net.calls c.args.net.now) [] b now) c.if-ended.false h in
     take_last c.in_ok-serve_one.field-0 c.takes.index (omega arith) (c.takes.invariant.served s base now begun stands stored)
     (λ answers gots opened is.
-    subst (λ (b : Bool). g.E.ServerEnd.serves c.serve_one.new.self s base (g.N.Net.calls c.serve_one.new.net) (c.in_ok-serve_one.field-0 ∷ answers) b now) (ap is_end c.in-End.is)
+    subst (λ (b : Bool). g.E.ServerEnd.serves c.serve_one.new.self s base (g.N.Net.calls c.serve_one.new.net) (c.in_ok-serve_one.field-0 ∷ answers) b now) (ap got_end c.in-End.is)
     (c.in_ok-serve_one.ensures.served s base answers now is stands (subst (λ x. g.E.ServerEnd.shows x s now) (sym c.takes.invariant.store) stored) opened (open_then c.in_ok-serve_one.field-0 answers c.takes.index gots (omega arith))))
     (true || c.args.cut) (inl (ap is_got c.in-End.is))
 
@@ -43,9 +43,9 @@ nothing : (answer : NetTaken) → (answer ≡ taken.Quiet) ⊎ (answer ≡ taken
 nothing answer (inl e) = ap is_got e
 nothing answer (inr e) = ap is_got e
 
-no_end : (answer : NetTaken) → (answer ≡ taken.Quiet) ⊎ (answer ≡ taken.Failed) → is_end answer ≡ false
-no_end answer (inl e) = ap is_end e
-no_end answer (inr e) = ap is_end e
+no_end : (answer : NetTaken) → (answer ≡ taken.Quiet) ⊎ (answer ≡ taken.Failed) → got_end answer ≡ false
+no_end answer (inl e) = ap got_end e
+no_end answer (inr e) = ap got_end e
 
 pub returns-in-Quiet-clause-served : goal.returns-in-Quiet-clause-served
 returns-in-Quiet-clause-served g c = λ s base now h whole stored.

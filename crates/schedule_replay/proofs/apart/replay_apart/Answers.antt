@@ -2,8 +2,8 @@ use Rattle.std.proofs.Common.{rules, ◌≡◌, ℕ, true, List, Option, ◌++�
 use Rattle.std.specs.List.{AllByRecursion, list_all}
 use Rattle.world_model.specs.declared.world.World.{World}
 use Rattle.schedule_replay.specs.Replay.{replay_text, replay_on}
-use Rattle.schedule_replay.specs.Runs.{Ran, AreRunsAt, pieces_at, joined, has_world}
-use Rattle.schedule_replay.specs.Stretches.{Part, parts_of}
+use Rattle.schedule_replay.specs.Runs.{Ran, AreRunsAt, pieces_at, put_together, has_world}
+use Rattle.schedule_replay.specs.Stretches.{StretchPart, parts_of}
 use Rattle.schedule_replay.specs.Worlds.{worlds_in}
 use Rattle.schedule_replay.specs.declared.merging.Left.{Left}
 use Rattle.schedule_replay.specs.declared.stretches.Stretch.{Stretch}
@@ -15,7 +15,7 @@ pub returns-clause-written : goal.returns-clause-written
 returns-clause-written g c =
     let text : List ℕ = c.args.text.now in
     let ss : List Stretch = c.in_ok-stretches.stretches.items in
-    let parts : List Part = parts_of 1 ss text in
+    let parts : List StretchPart = parts_of 1 ss text in
     let places : List (Option World) = c.put_pieces.new.places.items in
     let lefts : List Left = c.put_pieces.new.lefts.items in
     let each = subst (λ (l : List Stretch). (n : ℕ) → IfSome (slice_get c.in_ok-pieces.pieces.items n) (λ piece. IfOk piece (λ runs. AllByRecursion (Ran (parts_of 1 l text)) runs.items))) c.deref-2.ensures.value c.in_ok-pieces.ensures in
@@ -26,14 +26,14 @@ returns-clause-written g c =
     let all : RunsApart text places ss lefts = runs_apart text ss places lefts c.in_ok-stretches.ensures are filled in (
       replay_text all.entries,
       ap replay_on all.read,
-      c.in_ok-merge.ensures.text ∙ ap (λ (l : List Stretch). c.args.out.now.items ++ joined (pieces_at lefts) l) c.deref-6.ensures.value ∙ ap (λ (t : List ℕ). c.args.out.now.items ++ t) (sym all.written),
+      c.in_ok-merge.ensures.text ∙ ap (λ (l : List Stretch). c.args.out.now.items ++ put_together (pieces_at lefts) l) c.deref-6.ensures.value ∙ ap (λ (t : List ℕ). c.args.out.now.items ++ t) (sym all.written),
     )
 
 pub returns-clause-worlds : goal.returns-clause-worlds
 returns-clause-worlds g c =
     let text : List ℕ = c.args.text.now in
     let ss : List Stretch = c.in_ok-stretches.stretches.items in
-    let parts : List Part = parts_of 1 ss text in
+    let parts : List StretchPart = parts_of 1 ss text in
     let places : List (Option World) = c.put_pieces.new.places.items in
     let lefts : List Left = c.put_pieces.new.lefts.items in
     let each = subst (λ (l : List Stretch). (n : ℕ) → IfSome (slice_get c.in_ok-pieces.pieces.items n) (λ piece. IfOk piece (λ runs. AllByRecursion (Ran (parts_of 1 l text)) runs.items))) c.deref-2.ensures.value c.in_ok-pieces.ensures in

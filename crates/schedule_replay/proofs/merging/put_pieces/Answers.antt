@@ -2,7 +2,7 @@ use Rattle.std.proofs.Common.{◌≡◌, List, Option, Result, IfOk, ◌++◌, �
 use Rattle.std.specs.Option.{option_to_list}
 use Rattle.std.specs.List.{AllByRecursion}
 use Rattle.schedule_replay.specs.Runs.{Ran}
-use Rattle.schedule_replay.specs.Stretches.{Part}
+use Rattle.schedule_replay.specs.Stretches.{StretchPart}
 use Rattle.schedule_replay.specs.declared.units.Run.{Run}
 use Rattle.schedule_replay.specs.declared.units.Unrun.{Unrun}
 use Rattle.schedule_replay.proofs.Joining.{all_at, all_last}
@@ -11,7 +11,7 @@ use Rattle.schedule_replay.proofs.merging.put_pieces.Goals as goal
 abbrev Piece : Type 0
 Piece = Result (Vec Run Global) Unrun
 
-abbrev AreAll : List Part → Piece → Type 0
+abbrev AreAll : List StretchPart → Piece → Type 0
 AreAll parts piece = IfOk piece (λ runs. AllByRecursion (Ran parts) runs.items)
 
 pub turns-init : goal.turns-init

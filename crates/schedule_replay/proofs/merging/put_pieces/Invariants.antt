@@ -1,11 +1,11 @@
 use Rattle.std.proofs.Common.{List, vec_len, IfOk}
 use Rattle.std.specs.List.{AllByRecursion}
 use Rattle.schedule_replay.specs.Runs.{Ran, AreRunsAt}
-use Rattle.schedule_replay.specs.Stretches.{Part}
+use Rattle.schedule_replay.specs.Stretches.{StretchPart}
 use Rattle.schedule_replay.proofs.merging.put_pieces.Given as goal
 
 abbrev pub invariant-turns : goal.invariant-turns
-invariant-turns l = (parts : List Part) → AreRunsAt parts l.fn.places.items l.fn.lefts.items → AllByRecursion (λ piece. IfOk piece (λ runs. AllByRecursion (Ran parts) runs.items)) l.fn.pieces.items
+invariant-turns l = (parts : List StretchPart) → AreRunsAt parts l.fn.places.items l.fn.lefts.items → AllByRecursion (λ piece. IfOk piece (λ runs. AllByRecursion (Ran parts) runs.items)) l.fn.pieces.items
     → AreRunsAt parts l.places.items l.lefts.items × AllByRecursion (λ piece. IfOk piece (λ runs. AllByRecursion (Ran parts) runs.items)) l.pieces.items
 
 abbrev pub decreases-turns : goal.decreases-turns
