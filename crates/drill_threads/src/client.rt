@@ -5,7 +5,7 @@ ghost use Rattle.venue_core.specs.Plan.{plan};
 ghost use Rattle.drill_client.specs.Following.{FollowsOn, KeepsFollowing};
 ghost use Rattle.unit_threads.specs.DrillText.{drill_kept};
 
-use crate::course::{Course, KEPT};
+use crate::course::Course;
 use crate::ends::{ClientEnds, Request, send};
 use client_core::UnitClient;
 use crossbeam_channel::select;
@@ -17,6 +17,7 @@ use shared_unit::{Naming, Run};
 use std::alloc::Global;
 use std::sync::Wait;
 use std::time::Clock;
+use unit_threads::KEPT;
 use venue_core::plan_is_in_order;
 
 /// What comes to a client next.
@@ -24,7 +25,7 @@ use venue_core::plan_is_in_order;
 enum Next<R: DrillRun> {
     /// A word of the publisher.
     Word(Word<R>),
-    /// A word of the service.
+    /// A reply of the service.
     Reply(Reply<R>),
     /// The service has ended.
     NoReplies,
@@ -140,8 +141,8 @@ fn take_reply<J: Naming, R: DrillRun + Run, W: Wait, G: Gate>(
     Ok(())
 }
 
-/// A client that lived through what its publisher and its service said, until the publisher's last
-/// word or its end. It ticks after every ten datagrams.
+/// Makes a client, and has it hear its publisher and its service until the publisher's last word or
+/// end. It ticks after every ten datagrams.
 pub(crate) fn follow<J: Naming, R: DrillRun + Run, W: Wait + Clock, G: Gate>(
     rt: &W,
     alloc: Global,

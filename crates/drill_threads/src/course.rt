@@ -16,9 +16,6 @@ use shared_unit::Run;
 use std::alloc::Global;
 use std::marker::PhantomData;
 
-/// How many messages a copy keeps, and how many the client holds.
-pub(crate) const KEPT: u32 = 4096;
-
 /// The course of a unit's drill: the first `count` commands of the plan of its number and unit.
 #[derive(Drop)]
 pub(crate) struct Course<R: DrillRun + Run> {

@@ -81,6 +81,6 @@ pub(crate) fn send<T: Drop, W: Wait>(
 ) -> Result<(), OutOfMemory> {
     match to.send(rt, message) {
         Err(SendError::OutOfMemory(_message)) => Err(OutOfMemory),
-        _sent => Ok(()),
+        _sent_or_dropped => Ok(()),
     }
 }

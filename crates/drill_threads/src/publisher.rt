@@ -19,10 +19,8 @@ use shared_unit::{Naming, Run, Writer};
 use std::alloc::Global;
 use std::sync::Wait;
 use unit_packets::{DatagramList, pack};
+use unit_threads::ROUND;
 use venue_core::{VenueError, lost, plan_command, plan_is_accepted, plan_is_in_order};
-
-// After so many commands an image is advertised.
-const ROUND: u32 = 1000;
 
 // The writer accepts command `index` of the plan.
 fn accept<J: Naming, R: DrillRun + Run, H: Wait + Drop>(

@@ -9,7 +9,7 @@ ghost use Rattle.drill_threads.specs.Publishing.{HasAccepted, HasAdvertised, IsP
 
 use crate::client::follow;
 use crate::closing::close;
-use crate::course::{Course, KEPT};
+use crate::course::Course;
 use crate::ends::{ClientEnds, Ends, ServiceEnds};
 use crate::publisher::publish;
 use crate::service::serve;
@@ -24,7 +24,7 @@ use std::marker::Brand;
 use std::sync::Wait;
 use std::thread::{Threads, join};
 use std::time::Clock;
-use unit_threads::drill_plain;
+use unit_threads::{KEPT, drill_plain};
 
 // The client and the service run beside one another until both have ended. Where no thread can be
 // made, `join` calls its first closure last: so the client comes first then, and the service after
@@ -80,8 +80,8 @@ fn finish<J: Naming, R: DrillRun + Run, H: Wait + Drop>(
     }
 }
 
-// The client takes what it lacks. What is let go goes by a call, which is cheaper to prove than a
-// drop at each return.
+// The client takes what it lacks. Values are dropped by calls, which are cheaper to prove than a drop
+// at each return.
 fn finish_well<J: Naming, R: DrillRun + Run, H: Wait + Drop>(
     alloc: Global,
     course: &Course<R>,
@@ -175,7 +175,7 @@ fn run_unit<
     Ok(out)
 }
 
-// Picks the pair.
+// Runs a unit under a fresh name for its pair of copies.
 fn open_unit<R: DrillRun + Run + Send + Sync, W: Threads + Wait + Clock + Sync, G: Gate + Sync>(
     rt: &W,
     alloc: Global,
@@ -196,7 +196,7 @@ fn open_unit<R: DrillRun + Run + Send + Sync, W: Threads + Wait + Clock + Sync, 
     run_unit::<Brand, R, W, G>(rt, alloc, gate, course, opened)
 }
 
-/// The line of a unit. Picks the run.
+/// The line of a unit, played under a fresh name for its run.
 pub(crate) fn unit_text<W: Threads + Wait + Clock + Sync, G: Gate + Sync>(
     rt: &W,
     alloc: Global,

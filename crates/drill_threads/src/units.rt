@@ -11,7 +11,7 @@ use std::sync::Wait;
 use std::thread::{Threads, map_indices};
 use std::time::Clock;
 
-// Appends the lines of units to one another.
+// The lines of all units, in order; OutOfMemory where any unit ran out of memory.
 fn join_lines(
     alloc: Global,
     number: u64,

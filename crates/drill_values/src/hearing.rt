@@ -14,6 +14,7 @@ use drill_client::{hear_advertised, hear_datagram, hear_gap_reply, hear_image, h
 use pitch_fields::OutOfMemory;
 use venue_core::plan_is_in_order;
 
+// The client hears a datagram of the run.
 fn hear_piece<R: DrillRun>(
     client: &mut UnitClient,
     datagram: &Datagram<R>,
@@ -25,6 +26,7 @@ fn hear_piece<R: DrillRun>(
     Ok(())
 }
 
+// The client hears of a sequence that the run has reached.
 fn hear_reached<R: DrillRun>(client: &mut UnitClient, reached: &Reached<R>)
     ensures { (H : ℕ) (E : List Entry) → Follows client.old H (plan R.number R.unit R.count) E
         → Follows client.new H (plan R.number R.unit R.count) (Advertised reached.now ∷ E) }
@@ -33,6 +35,7 @@ fn hear_reached<R: DrillRun>(client: &mut UnitClient, reached: &Reached<R>)
     hear_advertised(client, reached.sequence());
 }
 
+// The client hears an image of the run, whole.
 fn hear_whole<R: DrillRun>(client: &mut UnitClient, image: Image<R>) -> Result<(), OutOfMemory>
     ensures { OnOk result ((H : ℕ) (E : List Entry) → Follows client.old H (plan R.number R.unit R.count) E
         → Follows client.new H (plan R.number R.unit R.count) (imaged_whole image.sequence image.orders image.raws E)) }

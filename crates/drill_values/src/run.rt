@@ -12,6 +12,8 @@ pub trait DrillRun {
     ghost count: { ℕ };
 }
 
+// A brand can be of any run, and which it is is said where one is picked; these numbers only show
+// that there is a run.
 impl DrillRun for Brand {
     ghost number = { 0 };
 

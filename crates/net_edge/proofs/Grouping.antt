@@ -7,7 +7,7 @@ use Rattle.std.proofs.Math.Bool.{and-false}
 use Rattle.pitch_io.specs.declared.net.NetTaken.{NetTaken}
 use Rattle.pitch_io.specs.declared.net.NetTaken.TheVariants as taken
 use Rattle.net_edge.specs.Acting.{is_group_open}
-use Rattle.net_edge.specs.Playing.{AreGroup, AreTaken}
+use Rattle.net_edge.specs.Playing.{IsGroupOver, AreTaken}
 use Rattle.net_edge.specs.Scene.{is_got}
 
 -- so many calls, each of which got something
@@ -34,14 +34,14 @@ pub gots_at : (answers : List NetTaken) (count other : ℕ) → count ≡ other 
 gots_at answers count other same gots = record { many = gots.many ∙ same; all = gots.all }
 
 -- a call that got nothing ends a group, and so does the hundredth
-pub ends_group : (answer : NetTaken) (answers : List NetTaken) → is_got answer ≡ false → AreGroup (answer ∷ answers)
+pub ends_group : (answer : NetTaken) (answers : List NetTaken) → is_got answer ≡ false → IsGroupOver (answer ∷ answers)
 ends_group answer answers nothing = ap (λ (b : Bool). nat_lt (length (answer ∷ answers)) 100 && (b && list_all is_got answers)) nothing ∙ and-false (nat_lt (length (answer ∷ answers)) 100)
 
-pub full_group : (answers : List NetTaken) → Gots answers 100 → AreGroup answers
+pub full_group : (answers : List NetTaken) → Gots answers 100 → IsGroupOver answers
 full_group answers gots = ap (λ (b : Bool). b && list_all is_got answers) (not_less (length answers) 100 (omega (arith, gots.many)))
 
 -- a group is over, whether the end is asked on or not
-pub taken_group : (answers : List NetTaken) (over : Bool) → AreGroup answers → AreTaken answers over
+pub taken_group : (answers : List NetTaken) (over : Bool) → IsGroupOver answers → AreTaken answers over
 taken_group answers over group = λ opened. absurd (false≢true (sym group ∙ opened))
 
 -- no call came where none was to come
@@ -56,7 +56,7 @@ module _ {P Q : List NetTaken → Type 0} (answer : NetTaken) (count : ℕ) (few
   pub call_more : is_got answer ≡ true → (answers : List NetTaken) × Gots answers (count + 1) × Q answers
   call_more got = (answer ∷ so_far.0, gots_more answer so_far.0 count got so_far.1, then so_far.0 so_far.1 (open_by so_far.0 count so_far.1 few) so_far.2)
 
-  pub call_last : is_got answer ≡ false → (answers : List NetTaken) × AreGroup answers × Q answers
+  pub call_last : is_got answer ≡ false → (answers : List NetTaken) × IsGroupOver answers × Q answers
   call_last nothing = (answer ∷ so_far.0, ends_group answer so_far.0 nothing, then so_far.0 so_far.1 (open_by so_far.0 count so_far.1 few) so_far.2)
 
   pub take_last : (over : Bool) → (is_got answer ≡ false) ⊎ (over ≡ true) → (answers : List NetTaken) × AreTaken answers over × Q answers
@@ -65,7 +65,7 @@ module _ {P Q : List NetTaken → Type 0} (answer : NetTaken) (count : ℕ) (few
 
 -- a hundred calls are a group
 module _ {P : List NetTaken → Type 0} (count : ℕ) (all : count ≡ 100) (so_far : (answers : List NetTaken) × Gots answers count × P answers) where
-  pub calls_full : (answers : List NetTaken) × AreGroup answers × P answers
+  pub calls_full : (answers : List NetTaken) × IsGroupOver answers × P answers
   calls_full = (so_far.0, full_group so_far.0 (gots_at so_far.0 count 100 all so_far.1), so_far.2)
 
   pub takes_full : (over : Bool) → (answers : List NetTaken) × AreTaken answers over × P answers

@@ -17,7 +17,7 @@ use Rattle.world_model.specs.State.{Pipe}
 use Rattle.net_edge.specs.Acting.{is_group_open}
 use Rattle.net_edge.specs.Due.{Setting, messages, advertised_until}
 use Rattle.pitch_model.specs.History.{Entry}
-use Rattle.net_edge.specs.Playing.{ClientHas, EndsHave, DemoAt, Plays, ProxyServes, SpinServes, HearsOn, HearsLink, LinkAt, MarketAt, IsSentTo, IsUncalled, AreGroup, AreTaken, with_proxy}
+use Rattle.net_edge.specs.Playing.{ClientHas, EndsHave, DemoAt, Plays, ProxyServes, SpinServes, HearsOn, HearsLink, LinkAt, MarketAt, IsSentTo, IsUncalled, IsGroupOver, AreTaken, with_proxy}
 use Rattle.net_edge.specs.Scene.{Scene, OnLine, AtEnd, line_in, with_line, at_end, said_at}
 use Rattle.net_edge.specs.Peers.{Peer, ProxyPeer, SpinPeer, end_of, peer_setup, with_client_end}
 use Rattle.net_edge.specs.Turns.{IsOver}
@@ -272,9 +272,9 @@ module _ (s : Setting) (base : List Call) where
       )
 
   lines_over : (turn : ℕ) (c2 c3 c4 c5 : Option (List Call)) (e : Ends) (a b gap : UnitClient) (now : Scene) → Served s base c2 turn e now
-      → ((n : Scene) → HearsOn s base c2 e.client A [] n → (answers : List NetTaken) × AreGroup answers × HearsOn s base c3 a A answers n)
-      → ((n : Scene) → HearsOn s base c3 a B [] n → (answers : List NetTaken) × AreGroup answers × HearsOn s base c4 b B answers n)
-      → ((n : Scene) → HearsOn s base c4 b Gap [] n → (answers : List NetTaken) × AreGroup answers × HearsOn s base c5 gap Gap answers n)
+      → ((n : Scene) → HearsOn s base c2 e.client A [] n → (answers : List NetTaken) × IsGroupOver answers × HearsOn s base c3 a A answers n)
+      → ((n : Scene) → HearsOn s base c3 a B [] n → (answers : List NetTaken) × IsGroupOver answers × HearsOn s base c4 b B answers n)
+      → ((n : Scene) → HearsOn s base c4 b Gap [] n → (answers : List NetTaken) × IsGroupOver answers × HearsOn s base c5 gap Gap answers n)
       → (after : Scene) × Lined s base c5 turn (record e { client = gap }) after
   lines_over turn c2 c3 c4 c5 e a b gap now so by_a by_b by_gap =
       let x = by_a now (line_begins A c2 e now so.at so.a) in
@@ -331,9 +331,9 @@ module _ (s : Setting) (base : List Call) where
       → DemoAt s base c0 e now → now.turn ≡ turn → IsSentTo s turn now → IsUncalled now
       → ((n : Scene) → ProxyServes s base c0 e.proxy [] e.grp_ended n → n.grp_cut ≡ e.grp_cut → n.turn ≡ turn → (answers : List NetTaken) × AreTaken answers (grp_ended || e.grp_cut) × ProxyServes s base c1 proxy answers grp_ended n)
       → ((n : Scene) → SpinServes s base c1 e.spin [] e.spin_ended n → n.spin_cut ≡ e.spin_cut → n.turn ≡ turn → (answers : List NetTaken) × AreTaken answers (spin_ended || e.spin_cut) × SpinServes s base c2 spin answers spin_ended n)
-      → ((n : Scene) → HearsOn s base c2 e.client A [] n → (answers : List NetTaken) × AreGroup answers × HearsOn s base c3 a A answers n)
-      → ((n : Scene) → HearsOn s base c3 a B [] n → (answers : List NetTaken) × AreGroup answers × HearsOn s base c4 b B answers n)
-      → ((n : Scene) → HearsOn s base c4 b Gap [] n → (answers : List NetTaken) × AreGroup answers × HearsOn s base c5 gap Gap answers n)
+      → ((n : Scene) → HearsOn s base c2 e.client A [] n → (answers : List NetTaken) × IsGroupOver answers × HearsOn s base c3 a A answers n)
+      → ((n : Scene) → HearsOn s base c3 a B [] n → (answers : List NetTaken) × IsGroupOver answers × HearsOn s base c4 b B answers n)
+      → ((n : Scene) → HearsOn s base c4 b Gap [] n → (answers : List NetTaken) × IsGroupOver answers × HearsOn s base c5 gap Gap answers n)
       → ((n : Scene) → HearsLink ProxyPeer s base c5 e.gap_link gap [] e.grp_cut n → (answers : List NetTaken) × AreTaken answers grp_cut × HearsLink ProxyPeer s base c6 gap_link down answers grp_cut n)
       → (e.grp_cut ≡ true → grp_cut ≡ true)
       → ((n : Scene) → HearsLink SpinPeer s base c6 e.spin_link down [] e.spin_cut n → (answers : List NetTaken) × AreTaken answers spin_cut × HearsLink SpinPeer s base c7 spin_link last answers spin_cut n)

@@ -99,7 +99,7 @@ abbrev pub proxy_took : Setting → List ℕ → NetTaken → Scene → Scene
 proxy_took s bytes (taken.Got count) now = proxy_fed s bytes now
 proxy_took s bytes answer now = now
 
--- bytes come to the spin server
+-- bytes come to the Spin Server
 abbrev pub spin_server_fed : Setting → List ℕ → NetTaken → ℕ → Connection (List Served) → Connection (List Served)
 spin_server_fed s bytes (taken.Got count) turn c = at_spin_server demo_unit (Fed bytes (replicate (length (new_items c.server bytes)) (spin_view s turn))) c
 spin_server_fed s bytes answer turn c = c
@@ -114,11 +114,11 @@ abbrev pub spin_took : Setting → List ℕ → NetTaken → Scene → Scene
 spin_took s bytes answer now = record now { spin = spin_answered s bytes answer now.turn (is_group_open now.spin_server.answers) now.spin }
 
 -- a connection that stands and of which the client's end closed is cut, and the client hears it
-abbrev pub is_shut : Scene → Bool
-is_shut now = not now.grp_cut && is_some (closed_of gap_link now.grp.link)
+abbrev pub is_grp_shut : Scene → Bool
+is_grp_shut now = not now.grp_cut && is_some (closed_of gap_link now.grp.link)
 
 abbrev pub grp_cut_if_shut : Scene → Scene
-grp_cut_if_shut now = record now { grp_cut = now.grp_cut || is_shut now; heard = if is_shut now then GrpDown ∷ now.heard else now.heard }
+grp_cut_if_shut now = record now { grp_cut = now.grp_cut || is_grp_shut now; heard = if is_grp_shut now then GrpDown ∷ now.heard else now.heard }
 
 abbrev pub is_spin_shut : Scene → Bool
 is_spin_shut now = not now.spin_cut && is_some (closed_of (spin_link demo_unit) now.spin.link)
@@ -149,7 +149,7 @@ taken_at s SpinClient bytes answer now = spin_link_took bytes answer (record now
 abbrev pub where_stands : {X : Type 0} → Bool → (Connection X → Connection X) → Connection X → Connection X
 where_stands cut happens c = if cut then c else happens c
 
--- the spin server is told of what is advertised, and then the servers tick, and the account of
+-- the Spin Server is told of what is advertised; then both servers tick, and so does the budget of
 -- requests
 abbrev pub servers_tick : Setting → Scene → Scene
 servers_tick s now = record now {

@@ -18,7 +18,7 @@ use Rattle.net_edge.specs.Scene.{Scene, line_in, at_end, said_at}
 use Rattle.net_edge.specs.Steps.{Step, calls_of}
 use Rattle.net_edge.specs.Turns.{AreSteps, IsOver, client_status}
 
--- each datagram that came was sent on its line, and to each end came first bytes of those that
+-- each datagram that came was sent on its line, and the bytes that came to each end begin those that
 -- were put at the other
 pub record IsCarried (now : Scene) : Type 0 where
   pub lines : (line : Line) (datagram : List ℕ) → Contains (line_in line now).came datagram → Contains (line_in line now).sent datagram

@@ -59,7 +59,7 @@ abbrev pub Plays : Setting → List Call → Option (List Call) → Scene → Ty
 Plays s base calls now = (run : List Step) × LeadsTo s base calls now run
 
 -- ---- The ends
--- the venue has these messages and sent so many of them, and proxy and spin server look them up
+-- the venue has these messages and sent so many of them, and proxy and Spin Server look them up
 pub record MarketHas (market : Market) (messages : List Raw) (sent : ℕ) (advertised : List ℕ) : Type 0 where
   pub unit_is : market.venue.unit ≡ demo_unit
   pub venue : VenueStands market.venue messages sent
@@ -73,7 +73,7 @@ pub record ProxyHas (proxy : Proxy) (events : List (Event Source)) (spent : Spen
   pub limits_are : proxy.budget.limits ≡ record { second = 10; minute = 100; day = 10000 }
   pub counted : Counted proxy.budget spent
 
--- the spin server stands for what happened to it
+-- the Spin Server stands for what happened to it
 pub record SpinHas (server : Serving) (events : List (Event (List Served))) : Type 0 where
   pub made : server.end.setup ≡ spin_server demo_unit
   pub stands : SpinStands server events
@@ -88,7 +88,7 @@ pub record ClientHas (client : UnitClient) (E : List Entry) : Type 0 where
   pub tracks : Tracks client hold_limit E
   pub keeps : (V : List Raw) → AllByRecursion AreBytes V → Honest image V E → Keeps client V
 
--- ---- Within a turn: what was done so far of one of its parts, and what it left else as it was
+-- ---- Within a turn: what one part of it has done so far; all else is as it was
 -- on a line the client heard what came
 pub record HearsOn (s : Setting) (base : List Call) (calls : Option (List Call)) (client : UnitClient) (line : Line) (answers : List NetTaken) (now : Scene) : Type 0 where
   pub on : OnLine
@@ -131,7 +131,7 @@ pub record ProxyAnswers (s : Setting) (base : List Call) (calls : Option (List C
   pub has : ProxyHas proxy (Fed bytes (source_at s bytes now) ∷ now.grp.server) (proxy_said s bytes now).knows
   pub plays : Plays s base calls (sent_on Gap (proxy_said s bytes now).lines (end_puts GrpServer (proxy_said s bytes now).reply (taken_at s GrpServer bytes (Got count) now)))
 
--- the spin server took what came, and what it said was put
+-- the Spin Server took what came, and what it said was put
 pub record SpinServes (s : Setting) (base : List Call) (calls : Option (List Call)) (spin : Serving) (answers : List NetTaken) (ended : Bool) (now : Scene) : Type 0 where
   pub end : AtEnd
   pub server : List (Event (List Served))
@@ -142,7 +142,7 @@ pub record SpinServes (s : Setting) (base : List Call) (calls : Option (List Cal
   pub has : SpinHas spin server
   pub plays : Plays s base calls (record now { spin_server = end; spin = record { up = now.spin.up; down = down; server = server; link = now.spin.link } })
 
--- the spin server made a connection of another, and what it said by that is to be put
+-- the Spin Server made a connection of another, and what it said by that is to be put
 pub record SpinSays (spin : Serving) (said : List ℕ) (before after : Connection (List Served)) : Type 0 where
   pub has : SpinHas spin after.server
   pub says : after.down.put ≡ before.down.put ++ said
@@ -212,8 +212,8 @@ pub record LinkTicks (peer : Peer) (s : Setting) (base : List Call) (calls : Opt
   pub cut_is : cut' ≡ (cut || closes peer cut after.link)
   pub has : ClientHas client (told_down peer (closes peer cut after.link) E)
 
--- a link in the code is that of a scene: where its connection is cut, as it is once it ended, and
--- all that was said was put
+-- a link in the code is that of a scene: it is cut where its connection is, an end that got End is
+-- cut, and all that it said was put
 pub record LinkAt (setup : Setup) (link : Ending) (cut : Bool) (end : AtEnd) (is_cut : Bool) (events : List (Event Lookups)) (said : List ℕ) : Type 0 where
   pub has : LinkHas setup link events
   pub cut_is : cut ≡ is_cut
@@ -262,17 +262,17 @@ pub record IsSentTo (s : Setting) (turn : ℕ) (now : Scene) : Type 0 where
   pub on_b : now.b.sent ≡ due s B turn
   pub ticked : now.ticked ≡ ticks turn
 
--- the demo stands at a scene
+-- the code's ends and the net's calls are those of a scene
 pub record DemoAt (s : Setting) (base : List Call) (calls : Option (List Call)) (ends : Ends) (now : Scene) : Type 0 where
   pub has : EndsHave ends now
   pub plays : Plays s base calls now
 
 -- ---- Groups of calls
--- so many calls, each of which got something
-abbrev pub AreGroup : List NetTaken → Type 0
-AreGroup answers = is_group_open answers ≡ false
+-- a group that is over: 100 calls were made, or one of them got nothing
+abbrev pub IsGroupOver : List NetTaken → Type 0
+IsGroupOver answers = is_group_open answers ≡ false
 
--- a group at an end: it is over, or the end is asked no more
+-- a group at an end that is over, unless the end is asked no more
 abbrev pub AreTaken : List NetTaken → Bool → Type 0
 AreTaken answers over = is_group_open answers ≡ true → over ≡ true
 

@@ -8,7 +8,7 @@ use Rattle.pitch_io.specs.Nets.{Call, Send}
 pub data Step : Type 0 where
   -- a call of the net
   Did : (call : Call) → Step
-  -- the turn's heartbeat is sent on line B, and there stands the turn's tick
+  -- the turn's heartbeat is sent on line B, and the turn's tick comes right after
   Beat : (heartbeat : List ℕ) → (answer : NetDone) → Step
   -- the turn is over, and the next one begins
   Turn : Step

@@ -50,7 +50,8 @@ pub(crate) trait ClientEnd {
         ensures says { OnOk result ((es : List (Event Lookups)) → LinkStands (ending self.old) es → said.new.items ≡ said.old.items ++ sent_at_tick (link_sends (ending self.old).setup) (ending self.old).setup es) }
         ensures setup { (ending self.new).setup ≡ (ending self.old).setup };
 
-    /// Says what it sends of what is asked.
+    /// Asks for what the client wants of this server, and appends what it sends: nothing where the
+    /// other server is meant.
     fn pass_on(&mut self, ask: Option<Ask>, said: &mut Vec<u8>) -> Result<(), OutOfMemory>
         requires { said.old.items ≡ [] }
         ensures { OnOk result ((c : Connection (LooksIn peer)) → LinkHas (peer_setup peer) (ending self.old) c.link → LinkSays (peer_setup peer) (ending self.new) said.new.items c (asked_of peer ask c)) };

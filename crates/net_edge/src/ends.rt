@@ -41,8 +41,8 @@ pub(crate) struct Ends {
 }
 
 impl Ends {
-    // A second passes at all ends, after the turn's heartbeat was sent on line B. The spin server is
-    // told of a sequence before.
+    // A second passes at all ends, once the turn's heartbeat was sent on line B. First the Spin
+    // Server is told of the sequence that was advertised.
     fn tick<N: Net>(&mut self, net: &mut N, sequence: u32) -> Result<(), DemoError>
         ensures ticked { OnOk result ((s : Setting) (base : List Call) (now : Scene) → EndsHave self.old now → sequence ≡ accepted s now.turn → Plays s base (N.calls net.old) (all_tick s now)
             → DemoAt s base (N.calls net.new) self.new (all_put (all_tick s now))) }
@@ -83,6 +83,7 @@ impl Ends {
     {
         let heartbeat = market.beat();
         send(net, Line::A, &heartbeat)?;
+        // Not by `send`: this call is the run's step with which all ends tick.
         match net.send(Line::B, &heartbeat) {
             NetDone::Done => {}
             NetDone::Failed => return Err(DemoError::NetFault),
@@ -92,7 +93,7 @@ impl Ends {
         Ok(())
     }
 
-    // The same in every tenth turn.
+    // Does what `beat` does, in every tenth turn.
     fn beat_if_tenth<N: Net>(
         &mut self,
         net: &mut N,

@@ -5,7 +5,7 @@ use pitch_fields::OutOfMemory;
 pub enum DemoError {
     /// The net failed, and its count of faults rose.
     NetFault,
-    /// Memory was refused.
+    /// Memory ran out.
     OutOfMemory,
 }
 

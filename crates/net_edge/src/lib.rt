@@ -1,7 +1,7 @@
 //! Both ends of a unit over a net, on one thread.
 //!
-//! [`demo`] runs a venue with its Gap Request Proxy and its Spin Server at the one ends of three
-//! lines and two connections, and a client at the others. Whatever the net loses, repeats, reorders
+//! [`demo`] runs a venue with its Gap Request Proxy and its Spin Server at one end of three lines
+//! and two connections, and a client at the other. Whatever the net loses, repeats, reorders
 //! or cuts, each end makes of what came to it just what the definitions of its crate say.
 //! `specs/Demo.antt` says what such a run is.
 #![tactic(auto)]

@@ -10,7 +10,7 @@ ghost use Rattle.pitch_model.specs.History.{Entry};
 ghost use Rattle.net_edge.specs.declared.error.DemoError.TheVariants as errors;
 ghost use Rattle.net_edge.specs.Acting.{ours, is_group_open};
 ghost use Rattle.net_edge.specs.Due.{Setting};
-ghost use Rattle.net_edge.specs.Playing.{ClientHas, HearsOn, AreGroup};
+ghost use Rattle.net_edge.specs.Playing.{ClientHas, HearsOn, IsGroupOver};
 ghost use Rattle.net_edge.specs.Scene.{Scene};
 
 use crate::error::DemoError;
@@ -85,7 +85,7 @@ pub(crate) fn hear_line<N: Net>(
 ) -> Result<(), DemoError>
     requires { 0 < length into.old }
     ensures heard { OnOk result ((s : Setting) (base : List Call) (now : Scene) → HearsOn s base (N.calls net.old) client.old line [] now
-        → (answers : List TakenSaid) × AreGroup answers × HearsOn s base (N.calls net.new) client.new line answers now) }
+        → (answers : List TakenSaid) × IsGroupOver answers × HearsOn s base (N.calls net.new) client.new line answers now) }
     ensures room { length into.new ≡ length into.old }
     ensures fault { IfErr result (λ error. error ≡ errors.NetFault → Rose (N.faults net.old) (N.faults net.new)) }
     ensures later { N.faults net.old ≤ N.faults net.new }

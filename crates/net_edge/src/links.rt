@@ -62,8 +62,8 @@ fn feed_link<L: ClientEnd>(
     Ok(shut)
 }
 
-// One call of `take` at the client's end of a connection. End is heard as a cut. Answers whether
-// another call may come, and whether the connection was cut.
+// One call of `take` at the client's end of a connection; End is heard as a cut. Answers what `take`
+// gave, and whether the connection is cut now.
 fn hear_link_once<N: Net, L: ClientEnd>(
     alloc: Global,
     net: &mut N,

@@ -12,7 +12,7 @@ ghost use Rattle.net_edge.specs.Due.{setting, demo_unit, accepted, messages, adv
 ghost use Rattle.net_edge.specs.Playing.{MarketHas, MarketAt};
 
 use gap_store::GapStore;
-use pitch_fields::OutOfMemory;
+use pitch_fields::{LAST_SEQUENCE, OutOfMemory};
 use pitch_model::laws::operations_add_up;
 use spin_server::ImageShelf;
 use std::alloc::Global;
@@ -54,10 +54,7 @@ impl Market {
         };
         self.venue.take_ready();
         // No venue accepts so many.
-        if self.store.last() >= 4294967294 {
-            return Err(OutOfMemory);
-        }
-        if self.shelf.pushed() >= 4294967294 {
+        if self.store.last() >= LAST_SEQUENCE || self.shelf.pushed() >= LAST_SEQUENCE {
             return Err(OutOfMemory);
         }
         self.store.push(&raw);

@@ -73,7 +73,7 @@ impl Proxy {
         Ok(())
     }
 
-    // A second passes: for the account of requests, and at its end where its connection stands.
+    // A second passes: for the budget of requests, and for the server while its connection stands.
     fn tick(&mut self, cut: bool, said: &mut Vec<u8>) -> Result<(), OutOfMemory>
         requires { said.old.items ≡ [] }
         ensures { OnOk result ((c : Connection Source) (spent : Spent) → ProxyHas self.old c.server spent
@@ -88,7 +88,7 @@ impl Proxy {
     }
 }
 
-/// A second passes: for the account of requests, and at the proxy's end where its connection stands.
+/// A second passes: for the budget of requests, and for the server while its connection stands.
 pub(crate) fn tick_proxy<N: Net>(
     alloc: Global,
     net: &mut N,

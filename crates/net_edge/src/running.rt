@@ -44,7 +44,7 @@ fn account() -> Account
     }
 }
 
-// A spin server that knows the account.
+// A Spin Server that knows the account.
 fn spin_server(alloc: Global) -> Result<SpinServer, OutOfMemory>
     ensures { IfOk result (λ spin. SpinHas spin []) }
 {
@@ -167,6 +167,7 @@ struct Parts {
     into: Vec<u8>,
 }
 
+// Makes them all, before anything was sent or heard.
 fn make_parts(alloc: Global) -> Result<Parts, OutOfMemory>
     ensures ends { IfOk result (λ parts. EndsHave parts.ends (all_put first_scene)) }
     ensures login { IfOk result (λ parts. parts.login.items ≡ said_at GrpClient first_scene) }

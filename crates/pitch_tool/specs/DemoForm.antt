@@ -16,9 +16,9 @@ abbrev pub of_demo : DemoError → Failure
 of_demo errors.NetFault = ending.Net
 of_demo errors.OutOfMemory = ending.OutOfMemory
 
--- a demo's venue can accept so many messages
-abbrev pub CanShow : (count : ℕ) → Type 0
-CanShow count = (1 ≤ count) × (count ≤ 1000)
+-- a demo may have so many messages
+abbrev pub IsDemoCount : (count : ℕ) → Type 0
+IsDemoCount count = (1 ≤ count) × (count ≤ 1000)
 
 -- a demo ran over the net, and this is its line
 abbrev pub RanDemo : (number count : ℕ) → Wires → List ℕ → Type 0

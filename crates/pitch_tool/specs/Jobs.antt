@@ -10,7 +10,7 @@ use Rattle.stream_print.specs.declared.failure.StreamFailure.{StreamFailure}
 use Rattle.stream_print.specs.declared.failure.StreamFailure.TheVariants as stream
 use Rattle.stream_print.specs.declared.failure.StreamTrouble.{StreamTrouble}
 use Rattle.stream_print.specs.declared.stream_form.StreamForm.TheVariants.{Follow, Show}
-use Rattle.pitch_tool.specs.DemoForm.{CanShow, DemoEnds}
+use Rattle.pitch_tool.specs.DemoForm.{IsDemoCount, DemoEnds}
 use Rattle.pitch_tool.specs.Devices.{Wires}
 use Rattle.pitch_tool.specs.DrillForm.{IsDrill, DrillEnds}
 use Rattle.pitch_tool.specs.StormForm.{IsStorm, StormEnds}
@@ -40,7 +40,7 @@ CanDo (Stream carrier form) = CanHold form
 CanDo (Text form) = CanMake form
 CanDo (Storm number units steps workers) = IsStorm units steps × AreWorkers workers
 CanDo (Drill number units count) = IsDrill units count
-CanDo (Demo number count) = CanShow count
+CanDo (Demo number count) = IsDemoCount count
 
 -- how many bytes of the source a job takes at most: one more than it reads
 abbrev pub most_taken : Job → ℕ

@@ -1,8 +1,9 @@
-//! The program `pitch` as one call over words, a source and two sinks.
+//! The program `pitch` as one call over words, a source, two sinks, a net and a gate.
 //!
 //! `pitch` finds the form that the words are, does its job and answers the exit status. Each status
 //! has one sentence, `Closes`, on the words, on what was read and written, and on what was said. A
-//! job reads a stream of blocks or a text; a new command is a form of one of these, or a new job.
+//! job reads a stream of blocks, reads a text, or reads nothing, as a storm, a drill and a demo do;
+//! a new command is a form of one of the first two, or a new job.
 #![tactic(auto)]
 
 mod commands;

@@ -185,34 +185,34 @@ fn close<R: Threads + Wait + Clock + Sync, I: Source, O: Sink, E: Sink, N: Net, 
 
 /// The program: does what the words ask for, and says on `err` why it ends before its whole text.
 ///
-/// `words` are those after the program's name: `follow`, and perhaps `--hold H` with H from 1 to
-/// 65,536 (4,096 where it isn't given), `follow --pcap`, and perhaps `--port P` with P from 0 to
-/// 65,535 and `--hold H`, `show`, `pack --unit U` with U from 1 to 255, `replay`, `storm` with
-/// `--number S`, `--units N` with N from 1 to 16 and `--steps M` with M from 1 to 10,000; with
-/// these two perhaps `--workers K` with K from 1 to 64 (1 where it isn't given); `drill` with
-/// `--number S`, `--units N` with N from 1 to 16 and `--count C` with C from 1 to 100,000; or
-/// `demo` with `--number S` and `--count C` with C from 1 to 1,000.
-/// The first three read a stream of at most 1,073,741,824 bytes from `input`: Sequenced Unit
-/// Header blocks, or with `--pcap` a classic capture file, of which the blocks are those that stand
-/// whole at the start of each UDP datagram, or of each to port P. `follow` writes to `out` a line
-/// for each block, and at the stream's end the books of all units that a block named, and of a
-/// capture how many packets it has, how many of them carried a datagram, and how many of these were
-/// faulty; `show` writes a line for each block and for each message.
-/// The next two read a text of at most 67,108,864 bytes, and write nothing before it was read
-/// whole. `pack` reads venue commands, and writes their datagrams, back to back, once the venue has
-/// accepted all. `replay` reads a schedule, and writes what each of its lines does in the world of
-/// its unit: venue, lines, servers and client. `storm` reads nothing: it makes a schedule, does all
-/// its lines in the worlds of its units, and writes where each unit ended. The units of these two
-/// run in at most K pieces of work, which `rt` may run beside one another, and `gate` is told of
-/// each unit; what is written does not depend on either. `drill` reads nothing: for each unit a
-/// publisher, a service and a client run as live threads, and it writes where each client ended;
-/// these threads wait for one another's words, and `gate` is told of each step. `demo` reads
-/// nothing either: it runs both ends of unit 1 over `net`, and writes where its client ended.
+/// `words` are those after the program's name, in one of the forms that `pitch_words` lists.
+///
+/// - `follow` and `show` read a stream of at most 1,073,741,824 bytes from `input`: Sequenced Unit
+///   Header blocks, or with `--pcap` a classic capture file, of which the blocks are those that are
+///   whole at the start of each UDP datagram, or of each to port P. `follow` writes to `out` a line
+///   for each block, and at the stream's end the books of all units that a block named, and of a
+///   capture how many packets it has, how many of them carried a datagram, and how many of these
+///   were faulty. `show` writes a line for each block and for each message.
+/// - `pack` and `replay` read a text of at most 67,108,864 bytes, and write nothing before it was
+///   read whole. `pack` reads venue commands, and writes their datagrams, back to back, once the
+///   venue has accepted all. `replay` reads a schedule, and writes what each of its lines does in
+///   the world of its unit: venue, lines, servers and client.
+/// - `storm` reads nothing: it makes a schedule, does all its lines in the worlds of its units, and
+///   writes where each unit ended. Its units and those of `replay` run in at most K pieces of work,
+///   which `rt` may run beside one another, and `gate` is told of each unit; what is written does
+///   not depend on either.
+/// - `drill` reads nothing: for each unit a publisher, a service and a client run as live threads,
+///   and it writes where each client ended. These threads wait for one another's words, and `gate`
+///   is told of each step.
+/// - `demo` reads nothing either: it runs both ends of unit 1 over `net`, and writes where its
+///   client ended.
 ///
 /// At `Done` the whole text was written and nothing was said. At `Usage` nothing was read or
 /// written. At `BadInput` the texts of the whole blocks before the trouble were written, and no
 /// book; by `pack` and `replay` nothing was, and `storm`, `drill` and `demo` never end so. At
-/// `ReadFault` the source had failed, at `WriteFault` the sink, and at `NetFault` the net.
+/// `ReadFault` the source had failed, at `WriteFault` the sink, and at `NetFault` the net. At
+/// `OutOfMemory` memory ran out: `follow` and `show` may have written a prefix of the text, the
+/// others wrote nothing.
 pub fn pitch<R: Threads + Wait + Clock + Sync, I: Source, O: Sink, E: Sink, N: Net, G: Gate + Sync>(
     rt: &R,
     alloc: Global,

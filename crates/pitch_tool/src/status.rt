@@ -8,7 +8,8 @@ pub enum ExitStatus {
     Done,
     /// The words are no form that the program has.
     Usage,
-    /// The input has a fault; what was whole before it was printed.
+    /// Something is wrong with the input. Of a stream the lines of the whole blocks before it were
+    /// written, of a text nothing was.
     BadInput,
     /// The source failed.
     ReadFault,

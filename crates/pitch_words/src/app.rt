@@ -4,6 +4,7 @@ ghost use Rattle.clap.specs.Walk.{rule_of};
 ghost use Rattle.clap.specs.Simple.{app_of, with_rule};
 ghost use Rattle.clap.specs.declared.builder.command.Command.TheViews.{out-Command as fields_of};
 ghost use Rattle.long_options.specs.Apps.{command_app, empty_program, option_rule, program};
+ghost use Rattle.long_options.specs.Words.{must_have};
 ghost use Rattle.pitch_words.specs.Forms.{follow as follow_words, show as show_words, pack as pack_words, replay as replay_words, storm as storm_words, drill as drill_words, demo as demo_words, pitch};
 
 use clap::{Arg, ArgAction, Command};
@@ -89,14 +90,28 @@ fn replay<'a>(alloc: Global) -> Result<Command<'a>, AllocError>
     with_option(alloc, command(alloc, "replay"), "workers", false)
 }
 
+// `NAME --number S`
+fn numbered<'a>(alloc: Global, name: &'a str) -> Result<Command<'a>, AllocError>
+    ensures app { IfOk result (λ r. app_of r ≡ command_app (name.now, must_have (codes "number") ∷ [])) }
+    ensures local { IfOk result (λ r. (fields_of r).has_globals ≡ false) }
+{
+    with_option(alloc, command(alloc, name), "number", true)
+}
+
+// `NAME --number S --units N`
+fn of_units<'a>(alloc: Global, name: &'a str) -> Result<Command<'a>, AllocError>
+    ensures app { IfOk result (λ r. app_of r ≡ command_app (name.now, must_have (codes "number") ∷ must_have (codes "units") ∷ [])) }
+    ensures local { IfOk result (λ r. (fields_of r).has_globals ≡ false) }
+{
+    with_option(alloc, numbered(alloc, name)?, "units", true)
+}
+
 // `storm --number S --units N --steps M [--workers K]`
 fn storm<'a>(alloc: Global) -> Result<Command<'a>, AllocError>
     ensures app { IfOk result (λ r. app_of r ≡ command_app storm_words) }
     ensures local { IfOk result (λ r. (fields_of r).has_globals ≡ false) }
 {
-    let number = with_option(alloc, command(alloc, "storm"), "number", true)?;
-    let units = with_option(alloc, number, "units", true)?;
-    let steps = with_option(alloc, units, "steps", true)?;
+    let steps = with_option(alloc, of_units(alloc, "storm")?, "steps", true)?;
     with_option(alloc, steps, "workers", false)
 }
 
@@ -105,9 +120,7 @@ fn drill<'a>(alloc: Global) -> Result<Command<'a>, AllocError>
     ensures app { IfOk result (λ r. app_of r ≡ command_app drill_words) }
     ensures local { IfOk result (λ r. (fields_of r).has_globals ≡ false) }
 {
-    let number = with_option(alloc, command(alloc, "drill"), "number", true)?;
-    let units = with_option(alloc, number, "units", true)?;
-    with_option(alloc, units, "count", true)
+    with_option(alloc, of_units(alloc, "drill")?, "count", true)
 }
 
 // `demo --number S --count C`
@@ -115,8 +128,7 @@ fn demo<'a>(alloc: Global) -> Result<Command<'a>, AllocError>
     ensures app { IfOk result (λ r. app_of r ≡ command_app demo_words) }
     ensures local { IfOk result (λ r. (fields_of r).has_globals ≡ false) }
 {
-    let number = with_option(alloc, command(alloc, "demo"), "number", true)?;
-    with_option(alloc, number, "count", true)
+    with_option(alloc, numbered(alloc, "demo")?, "count", true)
 }
 
 // The program without its commands, of which one must be there.
@@ -132,8 +144,8 @@ fn top<'a>(alloc: Global) -> Command<'a>
         .subcommand_required(true)
 }
 
-// The program with the commands whose input is no schedule.
-fn without_schedules<'a>(alloc: Global) -> Result<Command<'a>, AllocError>
+// The program with its commands up to `pack`.
+fn app_to_pack<'a>(alloc: Global) -> Result<Command<'a>, AllocError>
     ensures app { IfOk result (λ r. app_of r ≡ program (codes "pitch") (follow_words ∷ show_words ∷ pack_words ∷ [])) }
 {
     let with_follow = top(alloc).subcommand(follow(alloc)?)?;
@@ -141,11 +153,11 @@ fn without_schedules<'a>(alloc: Global) -> Result<Command<'a>, AllocError>
     with_show.subcommand(pack(alloc)?)
 }
 
-// The program without its live commands.
-fn without_live<'a>(alloc: Global) -> Result<Command<'a>, AllocError>
+// The program with its commands up to `storm`.
+fn app_to_storm<'a>(alloc: Global) -> Result<Command<'a>, AllocError>
     ensures app { IfOk result (λ r. app_of r ≡ program (codes "pitch") (follow_words ∷ show_words ∷ pack_words ∷ replay_words ∷ storm_words ∷ [])) }
 {
-    let with_replay = without_schedules(alloc)?.subcommand(replay(alloc)?)?;
+    let with_replay = app_to_pack(alloc)?.subcommand(replay(alloc)?)?;
     with_replay.subcommand(storm(alloc)?)
 }
 
@@ -153,6 +165,6 @@ fn without_live<'a>(alloc: Global) -> Result<Command<'a>, AllocError>
 pub(crate) fn app<'a>(alloc: Global) -> Result<Command<'a>, AllocError>
     ensures app { IfOk result (λ r. app_of r ≡ pitch) }
 {
-    let with_drill = without_live(alloc)?.subcommand(drill(alloc)?)?;
+    let with_drill = app_to_storm(alloc)?.subcommand(drill(alloc)?)?;
     with_drill.subcommand(demo(alloc)?)
 }

@@ -40,10 +40,7 @@ fn given(matches: &ArgMatches, name: &str, least: u64, most: u64) -> Option<u64>
     ensures none { IfNone result ((n : ℕ) → ¬ IsGivenNumber least most (first_of name.now (rows_of (found_of matches.now))) n) }
     ensures range { IfSome result (λ n. (least ≤ n) × (n ≤ most)) }
 {
-    match text_of(matches, name) {
-        Some(text) => number(text, least, most),
-        None => None,
-    }
+    number(text_of(matches, name)?, least, most)
 }
 
 // The number of an option that may be left out, and has a default then.
@@ -59,7 +56,8 @@ fn given_or(matches: &ArgMatches, name: &str, default: u64, least: u64, most: u6
     }
 }
 
-// The number of an option that may be left out, if it was given.
+// The number of an option that may be left out: `Some(None)` where it was, None where its value is no
+// number of the range.
 fn given_maybe(matches: &ArgMatches, name: &str, least: u64, most: u64) -> Option<Option<u64>>
     ensures some { IfSome result (λ n. IsGivenMaybe least most (first_of name.now (rows_of (found_of matches.now))) n) }
     ensures none { IfNone result ((n : Option ℕ) → ¬ IsGivenMaybe least most (first_of name.now (rows_of (found_of matches.now))) n) }
@@ -74,7 +72,7 @@ fn given_maybe(matches: &ArgMatches, name: &str, least: u64, most: u64) -> Optio
     }
 }
 
-// An option without a value was given.
+// Whether an option without a value was given.
 fn is_given(matches: &ArgMatches, name: &str) -> bool
     ensures { result ≡ is_set (first_of name.now (rows_of (found_of matches.now))) }
 {

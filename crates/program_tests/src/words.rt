@@ -4,7 +4,7 @@ use std::alloc::Global;
 use std::test::*;
 
 // Words, which single spaces part, and their form.
-static FORMS: [(&str, Form); 21] = [
+static FORMS: [(&str, Form); 23] = [
     ("follow", Form::Follow { hold: 4096 }),
     ("follow --hold 2", Form::Follow { hold: 2 }),
     ("follow --hold=2", Form::Follow { hold: 2 }),
@@ -85,10 +85,24 @@ static FORMS: [(&str, Form); 21] = [
             count: 1,
         },
     ),
+    (
+        "demo --number 0 --count 1000",
+        Form::Demo {
+            number: 0,
+            count: 1000,
+        },
+    ),
+    (
+        "demo --count=1 --number=0",
+        Form::Demo {
+            number: 0,
+            count: 1,
+        },
+    ),
 ];
 
 // Words that are no form.
-static REFUSED: [&str; 81] = [
+static REFUSED: [&str; 86] = [
     "follow --hold 0",
     "follow --hold 65537",
     "follow --hold=000000000000000000005",
@@ -170,6 +184,11 @@ static REFUSED: [&str; 81] = [
     "-h",
     "",
     " follow",
+    "demo",
+    "demo --number 0",
+    "demo --number 0 --count 0",
+    "demo --number 0 --count 1001",
+    "demo --number 0 --count 1 --units 1",
 ];
 
 // The answer to the words of the line.
@@ -192,7 +211,7 @@ fn all_have_forms(alloc: Global, lines: &[(&str, Form)]) -> Result<bool, OutOfMe
 }
 
 #[test]
-fn words_and_their_forms(rt: HostRuntime) -> Result<(), Fail> {
+fn each_form_is_read_from_its_words(rt: HostRuntime) -> Result<(), Fail> {
     assert!(rt; all_have_forms(rt.alloc(), &FORMS)?);
     Ok(())
 }
@@ -208,7 +227,7 @@ fn none_is_a_form(alloc: Global, lines: &[&str]) -> Result<bool, OutOfMemory> {
 }
 
 #[test]
-fn words_that_are_no_form(rt: HostRuntime) -> Result<(), Fail> {
+fn other_words_are_no_form(rt: HostRuntime) -> Result<(), Fail> {
     assert!(rt; none_is_a_form(rt.alloc(), &REFUSED)?);
     let none: Vec<String> = Vec::new(rt.alloc());
     assert!(rt; read(rt.alloc(), none.as_slice())? == None);

@@ -12,7 +12,8 @@ use pitch_io::Gate;
 use std::alloc::Global;
 use std::thread::Threads;
 
-// The units of some stretches, each once. There are none where a stretch has no unit of a schedule.
+// The units of some stretches, each once; NotApart where a stretch's is not one of a schedule, 1 to
+// 64.
 fn units_of(alloc: Global, stretches: &[Stretch]) -> Result<Vec<u8>, Unrun> {
     let mut named = [false; 256];
     for stretch in stretches {

@@ -12,11 +12,11 @@ pub enum ReplayError {
         column: u32,
         cause: TextCause,
     },
-    /// There was no memory.
+    /// Memory ran out.
     OutOfMemory,
 }
 
-/// The cause in words, as `bad input at line 1 column 9: bad-word`.
+/// The cause in words, such as `bad input at line 1 column 9: bad-word`.
 impl fmt::Display for ReplayError {
     ghost use Rattle.std.specs.Prelude.{Some};
     ghost use Rattle.schedule_replay.specs.Causes.{replay_error_text};

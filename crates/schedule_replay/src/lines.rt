@@ -180,7 +180,7 @@ fn put_outcome(out: &mut [u8], at: usize, verb: &Verb, outcome: Outcome) -> usiz
     }
 }
 
-// Writes a number of 32 bits.
+// Writes the number of a line.
 fn put_line_number(out: &mut [u8], at: usize, line: u32) -> usize
     requires { at + 20 ≤ length out.old }
     ensures end { result ≤ at + 20 }
@@ -190,7 +190,7 @@ fn put_line_number(out: &mut [u8], at: usize, line: u32) -> usize
     put_number(out, at, u64::from(line))
 }
 
-// Writes a number of 8 bits.
+// Writes the number of a unit.
 fn put_unit(out: &mut [u8], at: usize, unit: u8) -> usize
     requires { at + 20 ≤ length out.old }
     ensures end { result ≤ at + 20 }
@@ -213,7 +213,7 @@ fn put_place(out: &mut [u8], at: usize, line: u32, unit: u8) -> usize
     put_byte(out, of_unit, b' ')
 }
 
-// Writes what stands after them.
+// Writes the rest of the line: outcome, overflow mark and status.
 fn put_answer(out: &mut [u8], at: usize, verb: &Verb, printed: &Printed) -> usize
     requires { at + 400 ≤ length out.old }
     ensures end { result ≤ at + 400 }

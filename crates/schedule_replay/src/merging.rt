@@ -14,7 +14,8 @@ use pitch_fields::OutOfMemory;
 use std::alloc::Global;
 use world_model::World;
 
-/// What is left of a unit's texts, which stand end to end: the number and the place of the next.
+/// What is left of a unit's texts, which stand end to end: `next` is the number of the next text,
+/// and `at` the byte where it begins.
 #[derive(Drop)]
 pub(crate) struct Left {
     pub text: Vec<u8>,

@@ -57,8 +57,8 @@ fn replay_lines<R: Threads + Sync, G: Gate + Sync>(
 /// With 1 worker the text is gone over once, on this thread. With up to 64 each unit is run whole,
 /// in one of so many pieces of work at most, which may run beside one another; what comes of it is
 /// the same. The gate is called before a unit's first line is done and after its last, with the
-/// step 1. A text with a fault is then gone over once more, on this thread, and so is the gate told
-/// of it again.
+/// step 1. A text with a fault, or with a line of no unit from 1 to 64, is then gone over once more
+/// on this thread, and the gate is told of its units again.
 pub fn replay<R: Threads + Sync, G: Gate + Sync>(
     rt: &R,
     alloc: Global,

@@ -107,8 +107,8 @@ fn make_world(
     Ok(())
 }
 
-// Makes the world of a unit that has none.
-fn make_known(
+// Makes the unit's world if its place has none.
+fn make_if_missing(
     alloc: Global,
     unit: u8,
     verb: &Verb,
@@ -186,7 +186,7 @@ pub(crate) fn run_in(
         → out.new.items ≡ out.old.items ++ replay_line before entry.now) }
     ensures behind { take (length out.old.items) out.new.items ≡ out.old.items }
 {
-    make_known(alloc, entry.unit, &entry.verb, place)?;
+    make_if_missing(alloc, entry.unit, &entry.verb, place)?;
     match place {
         Some(world) => step_in(world, entry, out),
         None => unreachable!(),

@@ -11,7 +11,7 @@ use text_lines::length_before;
 /// many bytes with their line ends.
 ///
 /// The unit is that of the first line that begins with a number; lines of no unit go with those
-/// before them. 0 is that of lines of which none begins with a number.
+/// before them. It is 0 if none of the lines begins with a number.
 #[derive(Clone, Copy)]
 pub(crate) struct Stretch {
     pub unit: u8,

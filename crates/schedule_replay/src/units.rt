@@ -26,7 +26,7 @@ const LARGEST_TEXT: usize = 67_108_864;
 /// Why the units of a text were not run apart.
 #[derive(Clone, Copy, Drop)]
 pub(crate) enum Unrun {
-    /// There was no memory.
+    /// Memory ran out.
     OutOfMemory,
     /// A line has a fault, or names no unit.
     NotApart,
@@ -60,7 +60,8 @@ pub(crate) struct Run {
     pub lengths: Vec<usize>,
 }
 
-// Does a line that stands so many lines later than it says, where it is the unit's.
+// Does an entry of this unit. Its line is counted within its stretch, before which there are so many
+// lines.
 fn run_later(
     alloc: Global,
     unit: u8,

@@ -7,4 +7,4 @@
 
 mod plain;
 
-pub use crate::plain::drill_plain;
+pub use crate::plain::{KEPT, ROUND, drill_plain};

@@ -31,11 +31,11 @@ use std::alloc::Global;
 use unit_packets::DatagramList;
 use venue_core::{Venue, VenueError, lost, plan_command, plan_is_accepted, plan_is_in_order};
 
-// How many messages the gap store keeps, and how many the client holds.
-const KEPT: u32 = 4096;
+/// How many messages a drill's gap stores keep, and how many its clients hold.
+pub const KEPT: u32 = 4096;
 
-// After so many messages an image is advertised.
-const ROUND: u32 = 1000;
+/// An image is advertised after every so many commands, and after the last.
+pub const ROUND: u32 = 1000;
 
 /// Which messages a unit's drill has: the first `count` of the plan of its number and unit.
 #[derive(Clone, Copy)]

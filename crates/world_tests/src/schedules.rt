@@ -47,7 +47,7 @@ const FAULT: ReplayError = ReplayError::Text {
     cause: TextCause::ExtraField,
 };
 
-// Replays a text on two processors at most, and appends what is printed.
+// Replays a text with two workers, and appends what it prints.
 fn run<W: Threads + Sync>(
     rt: &W,
     alloc: Global,

@@ -1,7 +1,7 @@
 ghost use Rattle.std.specs.Prelude.{◌≡◌, ◌≢◌, Err};
 ghost use Rattle.pitch_io.specs.Causes.{HasCause};
 ghost use Rattle.stream_print.specs.Told.{told};
-ghost use Rattle.pitch_tool.specs.DemoForm.{CanShow, DemoEnds};
+ghost use Rattle.pitch_tool.specs.DemoForm.{IsDemoCount, DemoEnds};
 ghost use Rattle.pitch_tool.specs.Devices.{wires};
 
 use crate::failure::Failure;
@@ -18,7 +18,7 @@ pub fn print_demo<O: Sink, N: Net>(
     out: &mut O,
     net: &mut N,
 ) -> Result<(), Failure>
-    requires { CanShow count }
+    requires { IsDemoCount count }
     ensures ends { DemoEnds number count result (told O.written out.old out.new) (wires N.calls N.faults net.old net.new) }
     ensures unread { result ≢ Err Failure.Read }
     ensures write_cause { HasCause (O.faults out.old) (O.faults out.new) (result ≡ Err Failure.Write) }

@@ -19,7 +19,7 @@ returns-clause-world c =
     (λ stands before is.
     let done : List Verb = verbs_of e.unit before in
     let limits : Limits = limits_of (e.verb ∷ done) in
-    world_more e before c.step_in.new.world (stands limits done (subst (IsReady e.unit limits done) c.in-Some.is (c.in_ok-make_known.ensures.ready before is))))
+    world_more e before c.step_in.new.world (stands limits done (subst (IsReady e.unit limits done) c.in-Some.is (c.in_ok-make_if_missing.ensures.ready before is))))
 
 pub returns-clause-text : goal.returns-clause-text
 returns-clause-text c =
@@ -29,4 +29,4 @@ returns-clause-text c =
     (λ text before is.
     let done : List Verb = verbs_of e.unit before in
     let limits : Limits = limits_of (e.verb ∷ done) in
-    text limits done (subst (IsReady e.unit limits done) c.in-Some.is (c.in_ok-make_known.ensures.ready before is)) ∙ ap (λ (t : List ℕ). c.args.out.now.items ++ t) (line_is before e))
+    text limits done (subst (IsReady e.unit limits done) c.in-Some.is (c.in_ok-make_if_missing.ensures.ready before is)) ∙ ap (λ (t : List ℕ). c.args.out.now.items ++ t) (line_is before e))
