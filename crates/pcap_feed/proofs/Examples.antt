@@ -46,3 +46,40 @@ other_magic_is_none : capture_fault (0x0a ∷ 0x0d ∷ 0x0d ∷ 0x0a ∷ 0 ∷ 0
     ≡ Some (record { place = 0; error = BadMagic (0x0a ∷ 0x0d ∷ 0x0d ∷ 0x0a ∷ []) })
 unfolding judge_head left_from order_told_from
 other_magic_is_none = refl
+
+-- ---- Frames that carry nothing
+-- the same packet with other flags and another protocol, behind other types
+abbrev packet_of : ℕ → ℕ → List ℕ
+packet_of flags protocol =
+    0x45 ∷ 0 ∷ 0 ∷ 0x2a ∷ 0 ∷ 0 ∷ flags ∷ 0 ∷ 0x40 ∷ protocol ∷ 0 ∷ 0 ∷ 0x0a ∷ 0 ∷ 0 ∷ 1 ∷ 0xe0 ∷ 0 ∷ 0 ∷ 1
+    ∷ 0x13 ∷ 0x88 ∷ 0x75 ∷ 0x31 ∷ 0 ∷ 0x16 ∷ 0 ∷ 0 ∷ time_block
+
+abbrev frame_of : List ℕ → List ℕ → List ℕ
+frame_of types packet = (1 ∷ 0 ∷ 0x5e ∷ 0 ∷ 0 ∷ 1 ∷ 2 ∷ 0 ∷ 0 ∷ 0 ∷ 0 ∷ 1 ∷ []) ++ types ++ packet
+
+abbrev carried_by : ℕ → List ℕ → List (List ℕ)
+carried_by original frame = payloads_of None (record { seconds = 0; fraction = 0; original = original; bytes = frame } ∷ [])
+
+a_packet_that_may_not_be_parted : carried_by 56 (frame_of (8 ∷ 0 ∷ []) (packet_of 0x40 17)) ≡ time_block ∷ []
+unfolding payload in_frame in_ip in_udp
+a_packet_that_may_not_be_parted = refl
+
+not_a_first_fragment : carried_by 56 (frame_of (8 ∷ 0 ∷ []) (packet_of 0x20 17)) ≡ []
+unfolding payload in_frame in_ip in_udp
+not_a_first_fragment = refl
+
+not_of_another_protocol : carried_by 56 (frame_of (8 ∷ 0 ∷ []) (packet_of 0 6)) ≡ []
+unfolding payload in_frame in_ip in_udp
+not_of_another_protocol = refl
+
+behind_a_tag : carried_by 60 (frame_of (0x81 ∷ 0 ∷ 0 ∷ 1 ∷ 8 ∷ 0 ∷ []) (packet_of 0 17)) ≡ time_block ∷ []
+unfolding payload in_frame in_ip in_udp
+behind_a_tag = refl
+
+not_behind_another : carried_by 60 (frame_of (0x88 ∷ 0xa8 ∷ 0 ∷ 1 ∷ 8 ∷ 0 ∷ []) (packet_of 0 17)) ≡ []
+unfolding payload in_frame in_ip in_udp
+not_behind_another = refl
+
+not_where_it_is_cut_off : carried_by 57 (frame_of (8 ∷ 0 ∷ []) (packet_of 0 17)) ≡ []
+unfolding payload in_frame in_ip in_udp
+not_where_it_is_cut_off = refl

@@ -1,6 +1,7 @@
 -- Worked examples, computed by the definitions.
-use Rattle.std.proofs.Common.{◌≡◌, ◌≢◌, ℕ, true, false, List, [], ◌∷◌, reverse, map as mapped, inl, inr, refl, sym, ap, ◌∙◌, subst, arith, ◌+◌, cond, codes, Option, Some, None}
-use Rattle.std.specs.List.{AllByRecursion}
+use Rattle.std.proofs.Common.{◌≡◌, ◌≢◌, ℕ, true, false, List, [], ◌∷◌, ◌++◌, reverse, map as mapped, inl, inr, refl, sym, ap, ◌∙◌, subst, arith, ◌+◌, cond, codes, Option, Some, None}
+use Rattle.std.specs.List.{AllByRecursion, sum_by}
+use Rattle.std.specs.Prelude.{filter, bytes_eq, ◌==◌, ◌&&◌}
 use Rattle.std.specs.Option.{is_some, option_map}
 use Rattle.std.specs.Ordering.{nat_cmp}
 use Rattle.std.specs.FinMap as map
@@ -13,10 +14,14 @@ use Rattle.pitch_messages.specs.declared.message.Message.TheVariants.{Time}
 use Rattle.pitch_messages.specs.Forms.{add_message}
 use Rattle.pitch_messages.specs.Reading.{reads}
 use Rattle.pitch_messages.specs.Writing.{written}
-use Rattle.pitch_model.specs.Book.{Book, with_order, without_order, reformed, reduced_by, modified, after, book_after}
-use Rattle.pitch_model.specs.History.{Entry, Message, Next, GrpUp, GapReply, SpinUp, Advertised, SpinReply, ImageMessages, SpinFinished, Ticked}
-use Rattle.pitch_model.specs.Advertising.{Accept, Advertise, advertised_by}
-use Rattle.pitch_model.specs.Asking.{ask_of}
+use Rattle.pitch_model.specs.Book.{Book, with_order, without_order, reformed, reduced_by, left_with, modified, is_displayed, after, book_after}
+use Rattle.pitch_model.specs.History.{image_finished, Entry, Message, Next, GrpUp, GrpDown, GapReply, SpinUp, SpinDown, Advertised, SpinReply, ImageMessages, SpinFinished, Ticked, NoSpin, Asked, Running, spin_of}
+use Rattle.pitch_model.specs.Advertising.{Accept, Advertise, advertised_by, last_ten}
+use Rattle.pitch_model.specs.Asking.{ask_of, wants, gap_ask, owes, is_grp_up, is_spin_up, advertised_of}
+use Rattle.pitch_model.specs.Heard.{is_fresh, is_accepted, image_end_at, heard_block}
+use Rattle.pitch_model.specs.Datagrams.{block_messages}
+use Rattle.pitch_model.specs.Levels.{best_of, same_side, level}
+use Rattle.pitch_model.specs.declared.change.ImageEnd.TheVariants.{Stale, Taken, Bad}
 use Rattle.pitch_model.specs.Honest.{Honest}
 use Rattle.pitch_model.specs.Image.{image_of, image}
 use Rattle.pitch_model.specs.Units.{unit_history, AllHonest}
@@ -24,7 +29,8 @@ use Rattle.pitch_model.proofs.Units.{history_other}
 use Rattle.pitch_model.specs.declared.ask.Ask.TheVariants.{Gap, Spin}
 use Rattle.pitch_model.specs.Reach.{is_overflow, is_held, reach_of, held_count}
 use Rattle.pitch_model.specs.Status.{status_of}
-use Rattle.pitch_fields.specs.declared.side.Side.TheVariants.{Buy}
+use Rattle.pitch_fields.specs.declared.side.Side.{Side}
+use Rattle.pitch_fields.specs.declared.side.Side.TheVariants.{Buy, Sell}
 use Rattle.pitch_model.specs.declared.status.Status.TheVariants.{Silent, Current, Behind}
 
 -- a message, whose bytes do not matter
@@ -242,3 +248,197 @@ image_where_no_gap_can_be_asked = refl
 current_after_an_image : status_of 4096 (SpinFinished 4 ∷ SpinReply 4 0 true ∷ Ticked (Some (Spin 4)) ∷ message 5 ∷ Advertised 4 ∷ SpinUp ∷ []) ≡ Current 5
 unfolding reach_of held_count
 current_after_an_image = refl
+
+-- ---- What else messages do to a book
+-- 3 shares are executed; or at another price, and 2 are left
+abbrev execution : ℕ → List ℕ
+execution shares = 0x1a ∷ 0x23 ∷ 0 ∷ 0 ∷ 0 ∷ 0 ∷ 5 ∷ 0 ∷ 0 ∷ 0 ∷ 0 ∷ 0 ∷ 0 ∷ 0 ∷ shares ∷ 0 ∷ 0 ∷ 0 ∷ 9 ∷ 0 ∷ 0 ∷ 0 ∷ 0 ∷ 0 ∷ 0 ∷ 0 ∷ []
+
+abbrev execution_at : ℕ → ℕ → List ℕ
+execution_at shares left =
+    0x26 ∷ 0x24 ∷ 0 ∷ 0 ∷ 0 ∷ 0 ∷ 5 ∷ 0 ∷ 0 ∷ 0 ∷ 0 ∷ 0 ∷ 0 ∷ 0 ∷ shares ∷ 0 ∷ 0 ∷ 0 ∷ left ∷ 0 ∷ 0 ∷ 0
+    ∷ 9 ∷ 0 ∷ 0 ∷ 0 ∷ 0 ∷ 0 ∷ 0 ∷ 0 ∷ 0xa0 ∷ 0x86 ∷ 1 ∷ 0 ∷ 0 ∷ 0 ∷ 0 ∷ 0 ∷ []
+
+shares_are_executed : after (book_of_one (hidden 7)) (execution 3) ≡ with_order (book_of_one (hidden 7)) 5 (hidden 4)
+unfolding after reads
+shares_are_executed = ap (λ (o : Option Order). reformed (book_of_one (hidden 7)) 5 (option_map (reduced_by 3) o)) (stands (hidden 7))
+
+those_that_remain_are_told : after (book_of_one (hidden 7)) (execution_at 3 2) ≡ with_order (book_of_one (hidden 7)) 5 (hidden 2)
+unfolding after reads
+those_that_remain_are_told = ap (λ (o : Option Order). reformed (book_of_one (hidden 7)) 5 (option_map (left_with 2) o)) (stands (hidden 7))
+
+a_deletion_takes_the_order_out : after (book_of_one sold) deletion ≡ without_order (book_of_one sold) 5
+unfolding after reads
+a_deletion_takes_the_order_out = refl
+
+a_clear_keeps_the_second : after (record { second = Some 34200; orders = one_sold }) (0x06 ∷ 0x97 ∷ 0 ∷ 0 ∷ 0 ∷ 0 ∷ []) ≡ record { second = Some 34200; orders = no_orders }
+unfolding after reads
+a_clear_keeps_the_second = refl
+
+-- a trade under the order's id, and an add of it without a side
+abbrev traded : List ℕ
+traded =
+    0x21 ∷ 0x2b ∷ 0 ∷ 0 ∷ 0 ∷ 0 ∷ 5 ∷ 0 ∷ 0 ∷ 0 ∷ 0 ∷ 0 ∷ 0 ∷ 0 ∷ 0x42 ∷ 0x64 ∷ 0 ∷ 0x49 ∷ 0x42 ∷ 0x4d ∷ 0x20 ∷ 0x20 ∷ 0x20 ∷ 0xe8 ∷ 3
+    ∷ 9 ∷ 0 ∷ 0 ∷ 0 ∷ 0 ∷ 0 ∷ 0 ∷ 0 ∷ []
+
+abbrev sideless : List ℕ
+sideless =
+    0x1a ∷ 0x22 ∷ 0 ∷ 0 ∷ 0 ∷ 0 ∷ 5 ∷ 0 ∷ 0 ∷ 0 ∷ 0 ∷ 0 ∷ 0 ∷ 0 ∷ 0x58 ∷ 0x64 ∷ 0 ∷ 0x49 ∷ 0x42 ∷ 0x4d ∷ 0x20 ∷ 0x20 ∷ 0x20 ∷ 0xe8 ∷ 3 ∷ 1 ∷ []
+
+a_trade_leaves_the_book : after (book_of_one sold) traded ≡ book_of_one sold
+unfolding after reads
+a_trade_leaves_the_book = refl
+
+an_add_without_a_side_leaves_the_book : after (book_of_one sold) sideless ≡ book_of_one sold
+unfolding after reads
+an_add_without_a_side_leaves_the_book = refl
+
+bit_0_displays : is_displayed 3 ≡ true
+bit_0_displays = refl
+
+no_other_bit_displays : is_displayed 2 ≡ false
+no_other_bit_displays = refl
+
+the_lowest_price_to_sell_is_the_best : best_of Sell (3 ∷ 1 ∷ 2 ∷ []) ≡ Some 1
+the_lowest_price_to_sell_is_the_best = refl
+
+the_highest_price_to_buy_is_the_best : best_of Buy (1 ∷ 3 ∷ 2 ∷ []) ≡ Some 3
+the_highest_price_to_buy_is_the_best = refl
+
+the_sides_differ : same_side Buy Sell ≡ false
+the_sides_differ = refl
+
+-- ---- The limits of what is asked for
+at_most_100_messages_are_asked_for : gap_ask 5 None 500 ≡ Gap 6 100
+at_most_100_messages_are_asked_for = refl
+
+those_before_the_first_held_are_asked_for : gap_ask 5 (Some 8) 500 ≡ Gap 6 2
+those_before_the_first_held_are_asked_for = refl
+
+no_image_is_wanted_for_1000_messages : wants 4096 (message 1 ∷ []) 1001 ≡ false
+unfolding reach_of held_count
+no_image_is_wanted_for_1000_messages = refl
+
+one_is_for_1001 : wants 4096 (message 1 ∷ []) 1002 ≡ true
+unfolding reach_of held_count
+one_is_for_1001 = refl
+
+no_reply_is_owed_after_a_fall : owes (GrpDown ∷ Ticked (Some (Gap 2 1)) ∷ []) ≡ false
+no_reply_is_owed_after_a_fall = refl
+
+the_proxy_falls : is_grp_up (GrpDown ∷ GrpUp ∷ []) ≡ false
+the_proxy_falls = refl
+
+the_spin_server_falls : is_spin_up (SpinDown ∷ SpinUp ∷ []) ≡ false
+the_spin_server_falls = refl
+
+nothing_is_advertised_after_a_fall : advertised_of (SpinDown ∷ Advertised 4 ∷ []) ≡ None
+nothing_is_advertised_after_a_fall = refl
+
+the_greatest_advertised_counts : advertised_of (Advertised 3 ∷ Advertised 4 ∷ []) ≡ Some 4
+the_greatest_advertised_counts = refl
+
+behind_what_is_advertised : status_of 4096 (Advertised 4 ∷ []) ≡ Behind 0 4
+unfolding reach_of held_count
+behind_what_is_advertised = refl
+
+no_image_of_the_reach_is_asked_for : ask_of 4096 (Advertised 1 ∷ SpinUp ∷ message 3 ∷ message 1 ∷ []) ≡ None
+unfolding reach_of held_count
+no_image_of_the_reach_is_asked_for = refl
+
+an_image_is_asked_for_after_a_refusal : ask_of 4096 (GapReply false ∷ Ticked (Some (Gap 2 1)) ∷ Advertised 3 ∷ SpinUp ∷ message 3 ∷ message 1 ∷ GrpUp ∷ []) ≡ Some (Spin 3)
+unfolding reach_of held_count
+an_image_is_asked_for_after_a_refusal = refl
+
+a_gap_is_asked_for_after_an_acceptance : ask_of 4096 (GapReply true ∷ Ticked (Some (Gap 2 1)) ∷ Advertised 3 ∷ SpinUp ∷ message 3 ∷ message 1 ∷ GrpUp ∷ []) ≡ Some (Gap 2 1)
+unfolding reach_of held_count
+a_gap_is_asked_for_after_an_acceptance = refl
+
+-- ---- The spin
+a_fall_ends_a_spin : spin_of (SpinDown ∷ Ticked (Some (Spin 2)) ∷ []) ≡ NoSpin
+a_fall_ends_a_spin = refl
+
+more_orders_than_messages_are_no_promise : spin_of (SpinReply 2 3 true ∷ Ticked (Some (Spin 2)) ∷ []) ≡ NoSpin
+more_orders_than_messages_are_no_promise = refl
+
+a_reply_to_another_is_passed_over : spin_of (SpinReply 3 1 true ∷ Ticked (Some (Spin 2)) ∷ []) ≡ Asked 2
+a_reply_to_another_is_passed_over = refl
+
+messages_of_an_image_add_up : spin_of (ImageMessages (order ∷ []) ∷ ImageMessages (clock ∷ []) ∷ SpinReply 2 1 true ∷ Ticked (Some (Spin 2)) ∷ []) ≡ Running 2 1 (clock ∷ order ∷ [])
+messages_of_an_image_add_up = refl
+
+an_image_of_the_reach_is_stale : image_end_at 4 ((4, []) ∷ []) [] ≡ Stale
+an_image_of_the_reach_is_stale = refl
+
+an_image_above_it_is_taken : image_end_at 3 ((4, []) ∷ []) [] ≡ Taken
+an_image_above_it_is_taken = refl
+
+nothing_is_fresh_at_the_reach : is_fresh 4096 (SpinFinished 4 ∷ SpinReply 4 0 true ∷ Ticked (Some (Spin 4)) ∷ []) 4 ≡ false
+unfolding reach_of held_count
+nothing_is_fresh_at_the_reach = refl
+
+a_is_accepted : is_accepted 65 ≡ true
+a_is_accepted = refl
+
+no_other_is : is_accepted 66 ≡ false
+no_other_is = refl
+
+ten_are_served : last_ten (0 ∷ 1 ∷ 2 ∷ 3 ∷ 4 ∷ 5 ∷ 6 ∷ 7 ∷ 8 ∷ 9 ∷ 10 ∷ []) ≡ 1 ∷ 2 ∷ 3 ∷ 4 ∷ 5 ∷ 6 ∷ 7 ∷ 8 ∷ 9 ∷ 10 ∷ []
+ten_are_served = refl
+
+-- a bad image is told with all its orders
+all_orders_of_a_bad_image_are_told : image_end_at 3 [] ((1, order ∷ order ∷ order ∷ []) ∷ []) ≡ Bad 1 3
+all_orders_of_a_bad_image_are_told = refl
+
+-- ---- Levels
+-- so many shares of the one order stand at a price, of its symbol on its side
+level_of_one : (side : Side) (price : ℕ) → level (record { second = None; orders = one_sold }) (codes "IBM     ") side price ≡ sum_by (λ (o : Order). o.quantity) (filter (λ (o : Order). price == o.price) (filter (λ (o : Order). bytes_eq (codes "IBM     ") o.symbol && same_side side o.side) (sold ∷ [])))
+unfolding level
+level_of_one side price = ap (λ (es : List (ℕ × Order)). sum_by (λ (o : Order). o.quantity) (filter (λ (o : Order). price == o.price) (filter (λ (o : Order). bytes_eq (codes "IBM     ") o.symbol && same_side side o.side) (mapped (λ (e : ℕ × Order). e.1) es)))) entries_of_one
+
+all_shares_at_its_price : level (record { second = None; orders = one_sold }) (codes "IBM     ") Buy 100000 ≡ 100
+all_shares_at_its_price = level_of_one Buy 100000
+
+none_at_another_price : level (record { second = None; orders = one_sold }) (codes "IBM     ") Buy 110000 ≡ 0
+none_at_another_price = level_of_one Buy 110000
+
+none_on_the_other_side : level (record { second = None; orders = one_sold }) (codes "IBM     ") Sell 100000 ≡ 0
+none_on_the_other_side = level_of_one Sell 100000
+
+-- ---- One image at a time
+nothing_while_an_image_is_asked_for : ask_of 4096 (Ticked (Some (Spin 3)) ∷ Advertised 3 ∷ SpinUp ∷ message 3 ∷ message 1 ∷ []) ≡ None
+unfolding reach_of held_count
+nothing_while_an_image_is_asked_for = refl
+
+nothing_while_one_runs : ask_of 4096 (SpinReply 3 0 true ∷ Ticked (Some (Spin 3)) ∷ Advertised 3 ∷ SpinUp ∷ message 3 ∷ message 1 ∷ []) ≡ None
+unfolding reach_of held_count
+nothing_while_one_runs = refl
+
+nothing_of_a_server_that_fell : ask_of 4096 (Advertised 3 ∷ SpinDown ∷ SpinUp ∷ message 3 ∷ message 1 ∷ []) ≡ None
+unfolding reach_of held_count
+nothing_of_a_server_that_fell = refl
+
+a_refused_image_does_not_run : spin_of (SpinReply 2 0 false ∷ Ticked (Some (Spin 2)) ∷ []) ≡ NoSpin
+a_refused_image_does_not_run = refl
+
+another_sequence_finishes_nothing : image_finished (Running 2 0 []) 3 ≡ []
+another_sequence_finishes_nothing = refl
+
+an_image_is_asked_for_after_an_overflow : ask_of 2 (Advertised 3 ∷ SpinUp ∷ message 7 ∷ three ++ GrpUp ∷ []) ≡ Some (Spin 3)
+unfolding reach_of held_count
+an_image_is_asked_for_after_an_overflow = refl
+
+a_held_message_is_not_fresh : is_fresh 4096 (message 3 ∷ message 1 ∷ []) 3 ≡ false
+unfolding reach_of held_count
+a_held_message_is_not_fresh = refl
+
+the_missing_one_is : is_fresh 4096 (message 3 ∷ message 1 ∷ []) 2 ≡ true
+unfolding reach_of held_count
+the_missing_one_is = refl
+
+-- ---- Blocks without sequences
+nothing_is_heard_of_them : heard_block (block 0 (clock ∷ [])) [] ≡ []
+nothing_is_heard_of_them = refl
+
+nor_counted : block_messages (block 0 (clock ∷ [])) ≡ 0
+nor_counted = refl

@@ -3,3 +3,4 @@ pub mod Inboxes
 pub mod Runs
 pub mod Through
 pub mod Cuts
+mod Examples
