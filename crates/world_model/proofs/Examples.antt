@@ -1,16 +1,25 @@
 -- Worked examples of worlds, computed by the definitions. Verbs stand newest first.
-use Rattle.std.proofs.Common.{◌≡◌, ℕ, Bool, true, false, List, [], ◌∷◌, refl, zero, suc, map}
+use Rattle.std.proofs.Common.{◌≡◌, ℕ, Bool, true, false, List, [], ◌∷◌, ◌++◌, refl, zero, suc, map, Option, Some, None}
 use Rattle.pitch_io.specs.declared.line.Line.TheVariants.{A, B, Gap}
 use Rattle.pitch_text.specs.declared.command.Command.TheVariants as commands
+use Rattle.pitch_text.specs.declared.verb.Session.TheVariants.{Grp, Spin}
 use Rattle.pitch_text.specs.declared.verb.Verb.{Verb}
 use Rattle.pitch_text.specs.declared.verb.Verb.TheVariants as verbs
 use Rattle.unit_packets.specs.BlockBytes.{block_bytes}
-use Rattle.unit_packets.specs.Cutting.{blocks_of, blocks_by}
+use Rattle.unit_packets.specs.Cutting.{blocks_of, blocks_by, rest_of, rest_by}
 use Rattle.unit_packets.specs.Judging.{judge, messages_end}
 use Rattle.unit_packets.specs.Packing.{fits_datagram, packed_on}
 use Rattle.pitch_messages.specs.Raw.{raws_of}
 use Rattle.pitch_messages.specs.Reading.{reads}
 use Rattle.pitch_messages.specs.Writing.{written}
+use Rattle.pitch_messages.specs.Session.{session_reads, session_written}
+use Rattle.pitch_model.specs.declared.ask.Ask.TheVariants as asks
+use Rattle.session_ends.specs.Items.{stream_items}
+use Rattle.session_ends.specs.Closing.{login_status}
+use Rattle.session_ends.specs.declared.role.Role.TheVariants as roles
+use Rattle.grp_session.specs.Asking.{status_here}
+use Rattle.client_links.specs.Linking.{login_bytes}
+use Rattle.world_model.specs.Ends.{the_account}
 use Rattle.pitch_model.specs.Reach.{reach_of, held_count}
 use Rattle.pitch_model.specs.declared.status.Status.{Status}
 use Rattle.pitch_model.specs.declared.status.Status.TheVariants.{Silent, Current, Behind}
@@ -74,3 +83,78 @@ nothing_there = refl
 beaten : map (λ (p : Printed). p.status) (prints (heard 3 ∷ verbs.Beat ∷ heard 1 ∷ verbs.Flush ∷ verbs.Command (commands.Time 0) ∷ verbs.Beat ∷ [])) ≡ Behind 0 1 ∷ Current 0 ∷ Current 0 ∷ Silent ∷ Silent ∷ Silent ∷ []
 unfolding reads written block_bytes blocks_of blocks_by judge messages_end fits_datagram packed_on raws_of reach_of held_count
 beaten = refl
+
+-- ---- Sessions
+-- the outcome of each, and the status behind it
+abbrev ends : List Printed → List (Outcome × Status)
+ends [] = []
+ends (p ∷ ps) = (p.outcome, p.status) ∷ ends ps
+
+-- what verbs of unit 7 print, which come after others, the newest first
+abbrev prints_after : Limits → List Verb → List Verb → List Printed
+prints_after limits before [] = []
+prints_after limits before (verb ∷ verbs) = printed 7 limits verb (state_of 7 limits (verbs ++ before)) ∷ prints_after limits before verbs
+
+-- one request a second
+abbrev sparing : Limits
+sparing = record { hold = 2; kept = 1; second = 1; minute = 100; day = 10000 }
+
+-- the second of two messages came, and both ends of the session with the proxy are logged in
+abbrev asking : List Verb
+asking = verbs.Down Grp None ∷ verbs.Up Grp None ∷ verbs.Connect Grp ∷ heard 2 ∷ sent 2
+
+-- the first is asked for, in two pieces, and comes on the gap line
+gap_is_filled : ends (prints_after limits asking (verbs.Rest Gap ∷ verbs.Down Grp None ∷ verbs.Up Grp None ∷ verbs.Up Grp (Some 2) ∷ verbs.Up Grp (Some 16) ∷ verbs.Tick ∷ []))
+    ≡ (outcome.Heard 1, Current 2) ∷ (outcome.Carried 18, Behind 0 2) ∷ (outcome.Carried 1, Behind 0 2) ∷ (outcome.TooFew 2 1, Behind 0 2) ∷ (outcome.Carried 16, Behind 0 2) ∷ (outcome.Asked (asks.Gap 1 1), Behind 0 2) ∷ []
+unfolding reads written block_bytes blocks_of blocks_by judge messages_end fits_datagram packed_on raws_of reach_of held_count rest_of rest_by session_reads session_written stream_items login_status status_here
+gap_is_filled = refl
+
+-- a second later one more request is accepted
+asked_in_each_second : ends (prints_after (record sparing { kept = 2 }) asking (verbs.Rest Gap ∷ verbs.Down Grp None ∷ verbs.Up Grp None ∷ verbs.Tick ∷ verbs.Down Grp None ∷ verbs.Up Grp None ∷ verbs.Tick ∷ []))
+    ≡ (outcome.Heard 2, Current 2) ∷ (outcome.Carried 18, Behind 0 2) ∷ (outcome.Carried 17, Behind 0 2) ∷ (outcome.Asked (asks.Gap 1 1), Behind 0 2) ∷ (outcome.Carried 18, Behind 0 2) ∷ (outcome.Carried 17, Behind 0 2) ∷ (outcome.Asked (asks.Gap 1 1), Behind 0 2) ∷ []
+unfolding reads written block_bytes blocks_of blocks_by judge messages_end fits_datagram packed_on raws_of reach_of held_count rest_of rest_by session_reads session_written stream_items login_status status_here
+asked_in_each_second = refl
+
+-- what is not kept any more is not sent
+nothing_of_what_is_gone : ends (prints_after sparing asking (verbs.Rest Gap ∷ verbs.Down Grp None ∷ verbs.Up Grp None ∷ verbs.Tick ∷ []))
+    ≡ (outcome.Heard 0, Behind 0 2) ∷ (outcome.Carried 18, Behind 0 2) ∷ (outcome.Carried 17, Behind 0 2) ∷ (outcome.Asked (asks.Gap 1 1), Behind 0 2) ∷ []
+unfolding reads written block_bytes blocks_of blocks_by judge messages_end fits_datagram packed_on raws_of reach_of held_count rest_of rest_by session_reads session_written stream_items login_status status_here
+nothing_of_what_is_gone = refl
+
+-- nothing is carried: the link's heartbeats wait behind its login, and at the fifth silent tick it
+-- is cut off
+link_is_cut_by_silence : ends (prints_after limits [] (verbs.Cut Grp ∷ verbs.Tick ∷ verbs.Up Grp None ∷ verbs.Tick ∷ verbs.Tick ∷ verbs.Tick ∷ verbs.Tick ∷ verbs.Connect Grp ∷ []))
+    ≡ (outcome.NotOpen, Silent) ∷ (outcome.Ticked, Silent) ∷ (outcome.Carried 54, Silent) ∷ (outcome.Ticked, Silent) ∷ (outcome.Ticked, Silent) ∷ (outcome.Ticked, Silent) ∷ (outcome.Ticked, Silent) ∷ (outcome.Opened, Silent) ∷ []
+unfolding reads written block_bytes blocks_of blocks_by judge messages_end fits_datagram packed_on raws_of reach_of held_count rest_of rest_by session_reads session_written stream_items login_status status_here
+link_is_cut_by_silence = refl
+
+-- the link hears the server's heartbeats and lives; the server hears nothing and closes
+server_closes_by_silence : ends (prints_after limits [] (verbs.Down Grp None ∷ verbs.Up Grp None ∷ verbs.Tick ∷ verbs.Down Grp None ∷ verbs.Tick ∷ verbs.Tick ∷ verbs.Tick ∷ verbs.Tick ∷ verbs.Connect Grp ∷ []))
+    ≡ (outcome.Carried 0, Silent) ∷ (outcome.Carried 62, Silent) ∷ (outcome.Ticked, Silent) ∷ (outcome.Carried 32, Silent) ∷ (outcome.Ticked, Silent) ∷ (outcome.Ticked, Silent) ∷ (outcome.Ticked, Silent) ∷ (outcome.Ticked, Silent) ∷ (outcome.Opened, Silent) ∷ []
+unfolding reads written block_bytes blocks_of blocks_by judge messages_end fits_datagram packed_on raws_of reach_of held_count rest_of rest_by session_reads session_written stream_items login_status status_here
+server_closes_by_silence = refl
+
+-- the same of the session with the Spin Server, which tells of each advertise, a repeat too
+told_again : ends (prints_after limits [] (verbs.Up Spin None ∷ verbs.Tick ∷ verbs.Down Spin None ∷ verbs.Tick ∷ verbs.Down Spin (Some 25) ∷ verbs.Advertise ∷ verbs.Advertise ∷ verbs.Up Spin None ∷ verbs.Connect Spin ∷ []))
+    ≡ (outcome.Carried 8, Current 0) ∷ (outcome.Ticked, Current 0) ∷ (outcome.Carried 14, Current 0) ∷ (outcome.Ticked, Current 0) ∷ (outcome.Carried 25, Current 0) ∷ (outcome.Advertised 0, Silent) ∷ (outcome.Advertised 0, Silent) ∷ (outcome.Carried 30, Silent) ∷ (outcome.Opened, Silent) ∷ []
+unfolding reads written block_bytes blocks_of blocks_by judge messages_end fits_datagram packed_on raws_of reach_of held_count rest_of rest_by session_reads session_written stream_items login_status status_here
+told_again = refl
+
+-- a cut of the proxy is heard: what was asked is owed no more, and nothing is asked of a proxy that is not up
+owed_no_more : ends (prints_after limits asking (verbs.Tick ∷ verbs.Down Grp None ∷ verbs.Up Grp None ∷ verbs.Tick ∷ verbs.Connect Grp ∷ verbs.Cut Grp ∷ verbs.Tick ∷ []))
+    ≡ (outcome.Asked (asks.Gap 1 1), Behind 0 2) ∷ (outcome.Carried 19, Behind 0 2) ∷ (outcome.Carried 30, Behind 0 2) ∷ (outcome.Ticked, Behind 0 2) ∷ (outcome.Opened, Behind 0 2) ∷ (outcome.Cut, Behind 0 2) ∷ (outcome.Asked (asks.Gap 1 1), Behind 0 2) ∷ []
+unfolding reads written block_bytes blocks_of blocks_by judge messages_end fits_datagram packed_on raws_of reach_of held_count rest_of rest_by session_reads session_written stream_items login_status status_here
+owed_no_more = refl
+
+-- ---- The rest of a line
+-- what comes after the greatest number that was heard, and not after the last
+rest_after_the_greatest : ends (prints_after limits (sent 3) (verbs.Rest A ∷ heard 1 ∷ heard 2 ∷ [])) ≡ (outcome.Heard 1, Current 3) ∷ (outcome.Heard 1, Current 2) ∷ (outcome.Heard 1, Behind 0 2) ∷ []
+unfolding reads written block_bytes blocks_of blocks_by judge messages_end fits_datagram packed_on raws_of reach_of held_count
+rest_after_the_greatest = refl
+
+-- ---- The login
+-- as both links of unit 1 send it
+login_of_the_proxy : login_bytes roles.GapLink 0 the_account
+    ≡ 0x1e ∷ 0 ∷ 1 ∷ 0 ∷ 0 ∷ 0 ∷ 0 ∷ 0 ∷ 0x16 ∷ 1 ∷ 0x30 ∷ 0x30 ∷ 0x30 ∷ 0x31 ∷ 0x46 ∷ 0x45 ∷ 0x45 ∷ 0x44 ∷ 0x20 ∷ 0x20 ∷ 0x50 ∷ 0x49 ∷ 0x54 ∷ 0x43 ∷ 0x48 ∷ 0x20 ∷ 0x20 ∷ 0x20 ∷ 0x20 ∷ 0x20 ∷ []
+unfolding block_bytes session_written
+login_of_the_proxy = refl

@@ -14,3 +14,4 @@ mod Sessions
 mod SpinActing
 mod Ticking
 mod Examples
+pub mod Spending

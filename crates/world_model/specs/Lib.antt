@@ -7,3 +7,4 @@ pub mod Sound
 pub mod Connections
 pub mod Hearing
 pub mod Stands
+pub mod Spending

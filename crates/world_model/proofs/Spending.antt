@@ -1,0 +1,241 @@
+-- No more requests are accepted than the limits allow.
+use Rattle.std.proofs.Common.{◌≡◌, ◌≢◌, ℕ, zero, suc, ◌+◌, ◌-◌, ◌/◌, ◌≤◌, ◌<◌, Bool, true, false, not, List, [], ◌∷◌, length, refl, sym, ap, ◌∙◌, subst, arith, Option, Some, None, ◌⊎◌, inl, inr, nat_eq, cond, take}
+use Rattle.std.specs.Prelude.{nat_lt, nat_le, unwrap_or, is_some, ◌==◌, ◌||◌, if◌then◌else◌}
+use Rattle.std.specs.List.{AllByRecursion}
+use Rattle.std.proofs.lemmas.Bool.{cases_eq, ne_eqb, eq-eqb, leb-false}
+use Rattle.pitch_text.specs.declared.verb.Session.TheVariants.{Grp, Spin}
+use Rattle.pitch_text.specs.declared.verb.Verb.{Verb}
+use Rattle.pitch_text.specs.declared.verb.Verb.TheVariants as verbs
+use Rattle.pitch_text.specs.declared.command.Command.{Command}
+use Rattle.pitch_io.specs.declared.line.Line.{Line}
+use Rattle.pitch_messages.specs.declared.session.SessionMessage.{SessionMessage}
+use Rattle.pitch_messages.specs.declared.session.SessionMessage.TheVariants.{Login, LoginReply, GapRequest, GapReply, SpinAvailable, SpinRequest, SpinReply, SpinFinished}
+use Rattle.session_ends.specs.Answering.{Answer, no_answer, answers}
+use Rattle.session_ends.specs.Closing.{Setup, closed_of, cause_of, logs_in, logged_in}
+use Rattle.session_ends.specs.Events.{Event, Fed}
+use Rattle.session_ends.specs.Saying.{heard_by}
+use Rattle.session_ends.specs.Sending.{new_items}
+use Rattle.session_ends.specs.declared.inbox.Heard.{Heard}
+use Rattle.session_ends.specs.declared.role.Said.{Said}
+use Rattle.session_ends.specs.declared.role.Said.TheVariants.{Skipped, TooShort, Message}
+use Rattle.gap_store.specs.Look.{View, look}
+use Rattle.gap_store.specs.declared.found.Found.{Found}
+use Rattle.gap_store.specs.declared.found.Found.TheVariants.{Kept, Ahead, NotKept}
+use Rattle.grp_session.specs.Asking.{gap_status, status_here, status_found, spent_after}
+use Rattle.grp_session.specs.Budget.{Spent, how_many, this_second, this_minute, limit_reached, next_second, spending}
+use Rattle.grp_session.specs.Budget as budget
+use Rattle.grp_session.specs.Serving.{Source, grp_answer, said_answer, message_answer, request_answer, proxy_answer}
+use Rattle.spin_server.specs.Served.{Served}
+use Rattle.venue_core.specs.declared.error.VenueError.{VenueError}
+use Rattle.venue_core.specs.Refusals.{refusal}
+use Rattle.world_model.specs.Ends.{grp_server, gap_link, spin_link}
+use Rattle.world_model.specs.Spending.{ticks_in, SpendsWithin}
+use Rattle.world_model.specs.State.{State, Connection, Pipe, waiting, datagrams_on}
+use Rattle.world_model.specs.Verbs.{Done, done, does, next_state, state_of, commanded_on, delivered_on, numbered, grp_connected, spin_connected, cut_on, grp_cut, spin_cut, carried, wanted, grp_fed, spin_fed, with_up, with_down, took, grp_up_on, spin_up_on, grp_down_on, spin_down_on, gap_link_fed, spin_link_fed, grp_cut_where, spin_cut_where, source_of, shut}
+use Rattle.world_model.specs.declared.limits.Limits.{Limits}
+
+abbrev limits_of : Limits → budget.Limits
+limits_of l = record { second = l.second; minute = l.minute; day = l.day }
+
+-- ---- Counts
+none_passes : (p : ℕ → Bool) (n : ℕ) (ticks : List ℕ) → ((t : ℕ) → t ≤ n → p t ≡ false) → AllByRecursion (λ tick. tick ≤ n) ticks → how_many p ticks ≡ 0
+none_passes p n [] fails all = refl
+none_passes p n (t ∷ ticks) fails all = ap (λ (b : Bool). cond b (suc (how_many p ticks)) (how_many p ticks)) (fails t all.0) ∙ none_passes p n ticks fails all.1
+
+later : (n m : ℕ) (ticks : List ℕ) → n ≤ m → AllByRecursion (λ tick. tick ≤ n) ticks → AllByRecursion (λ tick. tick ≤ m) ticks
+later n m [] le all = tt
+later n m (t ∷ ticks) le all = (omega (arith, all.0), later n m ticks le all.1)
+
+counts_one : (p : ℕ → Bool) (t : ℕ) (ticks : List ℕ) → p t ≡ true → how_many p (t ∷ ticks) ≡ suc (how_many p ticks)
+counts_one p t ticks h = ap (λ (b : Bool). cond b (suc (how_many p ticks)) (how_many p ticks)) h
+
+-- ---- A second passes
+minute_later : (l : Limits) (s : Spent) → this_minute s ≤ l.minute → AllByRecursion (λ tick. tick ≤ s.now) s.accepted → ((s.now + 1) / 60 ≡ s.now / 60) ⊎ ((s.now + 1) / 60 ≢ s.now / 60) → this_minute (next_second s) ≤ l.minute
+minute_later l s few past (inl same) = subst (λ (q : ℕ). how_many (λ tick. nat_eq (tick / 60) q) s.accepted ≤ l.minute) (sym same) few
+minute_later l s few past (inr other) =
+    let none = none_passes (λ tick. nat_eq (tick / 60) ((s.now + 1) / 60)) s.now s.accepted (λ t le. ne_eqb (t / 60) ((s.now + 1) / 60) (λ e. other (omega (arith, e, le)))) past in
+    omega (arith, none)
+
+second_passes : (l : Limits) (n : ℕ) (s : Spent) → SpendsWithin l n s → SpendsWithin l (n + 1) (next_second s)
+second_passes l n s w = record {
+  now_is = ap (λ (k : ℕ). k + 1) w.now_is;
+  second = let none = none_passes (λ tick. nat_eq tick (s.now + 1)) s.now s.accepted (λ t le. ne_eqb t (s.now + 1) (λ e. omega (arith, e, le))) w.past in omega (arith, none);
+  minute = minute_later l s w.minute w.past (cases_eq ((s.now + 1) / 60) (s.now / 60));
+  day = w.day;
+  past = later s.now (s.now + 1) s.accepted (omega arith) w.past;
+}
+
+-- ---- A request is accepted
+record IsFree (l : Limits) (s : Spent) : Type 0 where
+  day : length s.accepted < l.day
+  minute : this_minute s < l.minute
+  second : this_second s < l.second
+
+accepts : (l : Limits) (n : ℕ) (s : Spent) → SpendsWithin l n s → IsFree l s → SpendsWithin l n (spending s)
+accepts l n s w free = record {
+  now_is = w.now_is;
+  second = let one = counts_one (λ tick. nat_eq tick s.now) s.now s.accepted (eq-eqb s.now s.now refl) in let few = free.second in omega (arith, one, few);
+  minute = let one = counts_one (λ tick. nat_eq (tick / 60) (s.now / 60)) s.now s.accepted (eq-eqb (s.now / 60) (s.now / 60) refl) in let few = free.minute in omega (arith, one, few);
+  day = let few = free.day in omega (arith, few);
+  past = (omega arith, w.past);
+}
+
+abbrev limit_by : (day minute second : Bool) → Option ℕ
+limit_by day minute second = if day then Some 68 else if minute then Some 77 else if second then Some 83 else None
+
+abbrev status_by : (there many empty : Bool) → ℕ → ℕ
+status_by there many empty found = if not there then 85 else if many then 67 else if empty then 79 else found
+
+limit_of : (a b c : Bool) → unwrap_or (limit_by a b c) 65 ≡ 65 → (a ≡ false) × (b ≡ false) × (c ≡ false)
+limit_of true b c e = absurd (omega (arith, e))
+limit_of false true c e = absurd (omega (arith, e))
+limit_of false false true e = absurd (omega (arith, e))
+limit_of false false false e = (refl, refl, refl)
+
+free_found : (l : Limits) (s : Spent) (found : Found) → status_found (limits_of l) s found ≡ 65 → IsFree l s
+free_found l s Kept e =
+    let no = limit_of (nat_le l.day (length s.accepted)) (nat_le l.minute (this_minute s)) (nat_le l.second (this_second s)) e in
+    record { day = leb-false l.day (length s.accepted) no.0; minute = leb-false l.minute (this_minute s) no.1; second = leb-false l.second (this_second s) no.2 }
+free_found l s (Ahead last) e = absurd (omega (arith, e))
+free_found l s (NotKept first) e = absurd (omega (arith, e))
+
+free_after : (there many empty : Bool) (l : Limits) (s : Spent) (found : Found) → status_by there many empty (status_found (limits_of l) s found) ≡ 65 → IsFree l s
+free_after false many empty l s found e = absurd (omega (arith, e))
+free_after true true empty l s found e = absurd (omega (arith, e))
+free_after true false true l s found e = absurd (omega (arith, e))
+free_after true false false l s found e = free_found l s found e
+
+free_where : (mine there : Bool) (l : Limits) (view : View) (s : Spent) (sequence count : ℕ) → gap_status mine there (limits_of l) view s sequence count ≡ 65 → IsFree l s
+unfolding status_here
+free_where false there l view s sequence count e = absurd (omega (arith, e))
+free_where true there l view s sequence count e = free_after there (nat_lt 100 count) ((count == 0) || (sequence == 0)) l s (look view sequence count) e
+
+spent_by : (l : Limits) (n : ℕ) (s : Spent) (status : ℕ) → SpendsWithin l n s → (status ≡ 65 → IsFree l s) → (status ≡ 65) ⊎ (status ≢ 65) → SpendsWithin l n (spent_after status s)
+spent_by l n s status w free (inl is) = subst (λ (b : Bool). SpendsWithin l n (if b then spending s else s)) (sym (eq-eqb status 65 is)) (accepts l n s w (free is))
+spent_by l n s status w free (inr other) = subst (λ (b : Bool). SpendsWithin l n (if b then spending s else s)) (sym (ne_eqb status 65 other)) w
+
+-- ---- Bytes come to the proxy
+module _ (setup : Setup) (there : Bool) (l : Limits) (n : ℕ) where
+  requested : (view : View) (s : Spent) (unit sequence count : ℕ) → SpendsWithin l n s → SpendsWithin l n (request_answer setup there (limits_of l) view s unit sequence count).knows
+  requested view s unit sequence count w =
+      let status : ℕ = gap_status (unit == setup.unit) there (limits_of l) view s sequence count in
+      spent_by l n s status w (free_where (unit == setup.unit) there l view s sequence count) (cases_eq status 65)
+
+  requested_where : (logged : Bool) (view : View) (s : Spent) (unit sequence count : ℕ) → SpendsWithin l n s
+      → SpendsWithin l n (if logged then request_answer setup there (limits_of l) view s unit sequence count else no_answer s).knows
+  requested_where false view s unit sequence count w = w
+  requested_where true view s unit sequence count w = requested view s unit sequence count w
+
+  messaged : (logged : Bool) (view : View) (s : Spent) (message : SessionMessage) → SpendsWithin l n s → SpendsWithin l n (message_answer setup there (limits_of l) logged s view message).knows
+  messaged logged view s (Login sub user password) w = w
+  messaged logged view s (GapRequest unit sequence count) w = requested_where logged view s unit sequence count w
+  messaged logged view s (LoginReply status) w = w
+  messaged logged view s (GapReply unit sequence count status) w = w
+  messaged logged view s (SpinAvailable sequence) w = w
+  messaged logged view s (SpinRequest sequence) w = w
+  messaged logged view s (SpinReply sequence orders status) w = w
+  messaged logged view s (SpinFinished sequence) w = w
+
+  said : (logged : Bool) (view : View) (s : Spent) (what : Said) → SpendsWithin l n s → SpendsWithin l n (said_answer setup there (limits_of l) logged s view what).knows
+  said logged view s (Message message) w = messaged logged view s message w
+  said logged view s Skipped w = w
+  said logged view s TooShort w = w
+
+  either : (b : Bool) (s : Spent) (more : Answer Spent) → SpendsWithin l n s → SpendsWithin l n more.knows → SpendsWithin l n (if b then no_answer s else more).knows
+  either true s more w m = w
+  either false s more w m = m
+
+  answered : (views : List View) (items : List Heard) (logged : Bool) (s : Spent) → SpendsWithin l n s → SpendsWithin l n (answers setup (grp_answer setup there (limits_of l)) logged s views items).knows
+  answered [] items logged s w = w
+  answered (view ∷ views) [] logged s w = w
+  answered (view ∷ views) (item ∷ items) logged s w =
+      let one : Answer Spent = grp_answer setup there (limits_of l) logged s view item in
+      let first : SpendsWithin l n one.knows = said logged view s (heard_by setup.role item) w in
+      either (is_some (cause_of setup logged item)) one.knows (answers setup (grp_answer setup there (limits_of l)) (logged || logs_in setup.role item) one.knows views items) first
+      (answered views items (logged || logs_in setup.role item) one.knows first)
+
+fed : (unit : ℕ) (l : Limits) (n : ℕ) (piece : List ℕ) (c : Connection Source) (s : State) → SpendsWithin l n s.spent → SpendsWithin l n (grp_fed unit l piece c s).spent
+fed unit l n piece c s w =
+    let source : Source = source_of l s c.server piece in
+    either (grp_server unit) true l n (is_some (closed_of (grp_server unit) c.server)) s.spent
+    (answers (grp_server unit) (grp_answer (grp_server unit) true (limits_of l)) (logged_in (grp_server unit).role c.server) s.spent source.views (new_items c.server piece)) w
+    (answered (grp_server unit) true l n source.views (new_items c.server piece) (logged_in (grp_server unit).role c.server) s.spent w)
+
+-- ---- Each verb
+module _ (l : Limits) (n : ℕ) where
+  abbrev Within : State → Type 0
+  Within s = SpendsWithin l n s.spent
+
+  command_on : (o : Option VenueError) (command : Command) (s : State) → Within s → Within (commanded_on o command s).state
+  command_on None command s w = w
+  command_on (Some error) command s w = w
+
+  delivers_on : (unit : ℕ) (line : Line) (number : ℕ) (o : Option (List ℕ)) (s : State) → Within s → Within (delivered_on unit l line number o s).state
+  delivers_on unit line number None s w = w
+  delivers_on unit line number (Some datagram) s w = w
+
+  connects_grp : (o : Option (Connection Source)) (s : State) → Within s → Within (grp_connected o s).state
+  connects_grp None s w = w
+  connects_grp (Some c) s w = w
+
+  connects_spin : (unit : ℕ) (o : Option (Connection (List Served))) (s : State) → Within s → Within (spin_connected unit o s).state
+  connects_spin unit None s w = w
+  connects_spin unit (Some c) s w = w
+
+  cuts : {X : Type 0} (o : Option X) (after s : State) → Within after → Within s → Within (cut_on o after s).state
+  cuts None after s a w = w
+  cuts (Some c) after s a w = a
+
+  carries_on : (b : Bool) (few many : Done) → Within few.state → Within many.state → Within (if b then few else many).state
+  carries_on true few many w a = w
+  carries_on false few many w a = a
+
+  grp_settles : (b : Bool) (s : State) → Within s → Within (grp_cut_where b s)
+  grp_settles false s w = w
+  grp_settles true s w = w
+
+  spin_settles : (b : Bool) (s : State) → Within s → Within (spin_cut_where b s)
+  spin_settles false s w = w
+  spin_settles true s w = w
+
+  ups_grp : (unit : ℕ) (bytes : Option ℕ) (o : Option (Connection Source)) (s : State) → Within s → Within (grp_up_on unit l bytes o s).state
+  ups_grp unit bytes None s w = w
+  ups_grp unit bytes (Some c) s w =
+      let m : ℕ = wanted bytes c.up in
+      carries_on (nat_lt (length (waiting c.up)) m) _ _ w (fed unit l n (take m (waiting c.up)) (with_up (took m c.up) c) s w)
+
+  ups_spin : (unit : ℕ) (bytes : Option ℕ) (o : Option (Connection (List Served))) (s : State) → Within s → Within (spin_up_on unit bytes o s).state
+  ups_spin unit bytes None s w = w
+  ups_spin unit bytes (Some c) s w = carries_on (nat_lt (length (waiting c.up)) (wanted bytes c.up)) _ _ w w
+
+  downs_grp : (bytes : Option ℕ) (o : Option (Connection Source)) (s : State) → Within s → Within (grp_down_on bytes o s).state
+  downs_grp bytes None s w = w
+  downs_grp bytes (Some c) s w = carries_on (nat_lt (length (waiting c.down)) (wanted bytes c.down)) _ _ w (grp_settles _ _ w)
+
+  downs_spin : (unit : ℕ) (bytes : Option ℕ) (o : Option (Connection (List Served))) (s : State) → Within s → Within (spin_down_on unit bytes o s).state
+  downs_spin unit bytes None s w = w
+  downs_spin unit bytes (Some c) s w = carries_on (nat_lt (length (waiting c.down)) (wanted bytes c.down)) _ _ w (spin_settles _ _ w)
+
+verb_spends : (unit : ℕ) (l : Limits) (n : ℕ) (verb : Verb) (before : List Verb) (s : State) → SpendsWithin l (ticks_in before) s.spent → SpendsWithin l (ticks_in (verb ∷ before)) (does unit l verb s).state.spent
+verb_spends unit l n (verbs.Command command) before s w = command_on l (ticks_in before) (refusal s.accepted command) command s w
+verb_spends unit l n (verbs.Setup hold kept second minute day) before s w = w
+verb_spends unit l n verbs.Flush before s w = w
+verb_spends unit l n verbs.Beat before s w = w
+verb_spends unit l n (verbs.Deliver line number) before s w = delivers_on l (ticks_in before) unit line number (numbered (datagrams_on s line) number) s w
+verb_spends unit l n (verbs.Rest line) before s w = w
+verb_spends unit l n (verbs.Connect Grp) before s w = connects_grp l (ticks_in before) s.grp s w
+verb_spends unit l n (verbs.Connect Spin) before s w = connects_spin l (ticks_in before) unit s.spin s w
+verb_spends unit l n (verbs.Cut Grp) before s w = cuts l (ticks_in before) s.grp (grp_cut s) s w w
+verb_spends unit l n (verbs.Cut Spin) before s w = cuts l (ticks_in before) s.spin (spin_cut s) s w w
+verb_spends unit l n (verbs.Up Grp bytes) before s w = ups_grp l (ticks_in before) unit bytes s.grp s w
+verb_spends unit l n (verbs.Up Spin bytes) before s w = ups_spin l (ticks_in before) unit bytes s.spin s w
+verb_spends unit l n (verbs.Down Grp bytes) before s w = downs_grp l (ticks_in before) bytes s.grp s w
+verb_spends unit l n (verbs.Down Spin bytes) before s w = downs_spin l (ticks_in before) unit bytes s.spin s w
+verb_spends unit l n verbs.Advertise before s w = w
+verb_spends unit l n verbs.Tick before s w = spin_settles l (ticks_in before + 1) _ _ (grp_settles l (ticks_in before + 1) _ _ (second_passes l (ticks_in before) s.spent w))
+verb_spends unit l n verbs.Show before s w = w
+verb_spends unit l n (verbs.Quote symbol) before s w = w
+
+pub spends_within : (unit : ℕ) (l : Limits) (done : List Verb) → SpendsWithin l (ticks_in done) (state_of unit l done).spent
+spends_within unit l [] = record { now_is = refl; second = omega arith; minute = omega arith; day = omega arith; past = tt }
+spends_within unit l (verb ∷ before) = verb_spends unit l 0 verb before (state_of unit l before) (spends_within unit l before)
