@@ -1,6 +1,6 @@
 -- A stream that is taken piece by piece.
-use Rattle.std.proofs.Common.{◌≡◌, ℕ, ◌+◌, ◌≤◌, List, [], ◌++◌, length, take, drop, ◌-◌, reverse, refl, sym, ap, ◌∙◌, subst, arith, length-append, Option, None}
-use Rattle.std.specs.Io.KnownBytes.{Consumes}
+use Rattle.std.proofs.Common.{◌≡◌, ℕ, ◌+◌, ◌≤◌, List, [], ◌++◌, length, take, drop, ◌-◌, reverse, refl, sym, ap, ◌∙◌, subst, arith, length-append, append-nil, Option, None}
+use Rattle.std.specs.Io.KnownBytes.{Consumes, Keeps}
 use Rattle.std.proofs.lemmas.List.{take-append-le}
 use Rattle.pitch_io.specs.Causes.{HasCause}
 use Rattle.pitch_io.specs.Putting.{Grows}
@@ -10,14 +10,14 @@ use Rattle.stream_print.specs.Told.{between}
 use Rattle.stream_print.specs.declared.carrier.Carrier.{Carrier}
 use Rattle.stream_print.specs.declared.stream_form.StreamForm.{StreamForm}
 use Rattle.stream_print.specs.Feeding.{Fed}
-use Rattle.stream_print.specs.Inputs.{lasting_trouble, WritesSome}
+use Rattle.stream_print.specs.Inputs.{lasting_trouble, StopsSoon, WritesSome}
 use Rattle.stream_print.specs.Knowing.{task_form, HasPrinted}
 use Rattle.stream_print.specs.Readers.{HasRead, rest_size}
 use Rattle.stream_print.specs.Texts.{block_text, texts_for}
 use Rattle.stream_print.specs.declared.printer.Printer.{Printer}
 use Rattle.stream_print.specs.declared.reader.StreamReader.{StreamReader}
 use Rattle.stream_print.proofs.Carriers.{no_blocks, no_trouble}
-use Rattle.stream_print.proofs.Feeding.{take_prefix, consumes_more, consumes_none, writes_texts}
+use Rattle.stream_print.proofs.Feeding.{take_prefix, consumes_more, consumes_kept, consumes_none, writes_texts}
 use Rattle.stream_print.proofs.Flow.{grows_none}
 
 -- the bytes that were taken so far were fed
@@ -89,3 +89,25 @@ own_form carrier form start u f r bytes fed = subst (λ (k : StreamForm). Fed ca
 pub given_bytes : (count len : ℕ) (into items buffer : List ℕ) → count ≤ length into → length into ≤ len → buffer ≡ take len (into ++ drop (length into) items) → take count buffer ≡ take count into
 given_bytes count len into items buffer le fits is =
     ap (take count) (is ∙ take_prefix len into (drop (length into) items) fits) ∙ take-append-le count into (take (len - length into) (drop (length into) items)) le
+
+-- ---- Nothing is taken after a trouble
+pub stops_none : (carrier : Carrier) (first : Option (List ℕ)) → StopsSoon carrier (between first first)
+stops_none carrier first = record { sound = []; last = []; read = consumes_none first; untroubled = no_trouble carrier; short = omega arith }
+
+pub stops_kept : (carrier : Carrier) (bytes : List ℕ) (first before now : Option (List ℕ)) → Consumes first before bytes → Keeps before now → lasting_trouble carrier bytes ≡ None → StopsSoon carrier (between first now)
+stops_kept carrier bytes first before now read kept none = record {
+  sound = bytes;
+  last = [];
+  read = subst (Consumes first now) (sym (append-nil bytes)) (consumes_kept first before now bytes read kept);
+  untroubled = none;
+  short = omega arith;
+}
+
+pub stops_more : (carrier : Carrier) (bytes piece : List ℕ) (first left left' : Option (List ℕ)) → Consumes first left bytes → Consumes left left' piece → lasting_trouble carrier bytes ≡ None → length piece ≤ 65536 → StopsSoon carrier (between first left')
+stops_more carrier bytes piece first left left' read took none short = record {
+  sound = bytes;
+  last = piece;
+  read = consumes_more first left left' bytes piece read took;
+  untroubled = none;
+  short = short;
+}

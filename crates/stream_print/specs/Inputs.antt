@@ -1,5 +1,5 @@
 -- A stream of blocks: what is wrong with it, and what is written for it.
-use Rattle.std.specs.Prelude.{◌≡◌, ℕ, List, [], length, take, nat_lt, cond, option_map, Option, Some, None, Result, Ok, Err, ◌⊎◌}
+use Rattle.std.specs.Prelude.{◌≡◌, ◌≤◌, ℕ, List, ◌++◌, [], length, take, nat_lt, cond, option_map, Option, Some, None, Result, Ok, Err, ◌⊎◌}
 use Rattle.std.specs.Io.KnownBytes.{Consumes}
 use Rattle.pitch_io.specs.Putting.{Grows}
 use Rattle.unit_packets.specs.Cutting.{fault_of, fault_at_end}
@@ -39,6 +39,15 @@ or_trouble None other = other
 -- a packet
 unfoldable pub trouble_of : Carrier → ℕ → List ℕ → Option StreamTrouble
 trouble_of carrier most bytes = or_trouble (lasting_trouble carrier (take most bytes)) (cond (nat_lt most (length bytes)) (Some TooLong) (end_trouble carrier bytes))
+
+-- all but the last piece of what was taken had no trouble that lasts, so no piece is taken after the
+-- one that shows a trouble
+pub record StopsSoon (carrier : Carrier) (input : Told) : Type 0 where
+  pub sound : List ℕ
+  pub last : List ℕ
+  pub read : Consumes input.old input.new (sound ++ last)
+  pub untroubled : lasting_trouble carrier sound ≡ None
+  pub short : length last ≤ 65536
 
 -- ---- How a stream ends
 -- where a source told its bytes, these are all of them, and nothing is left

@@ -2,7 +2,7 @@ ghost use Rattle.std.specs.Prelude.{◌≡◌, ◌≢◌, Option, None, ◌≤�
 ghost use Rattle.std.specs.Io.KnownBytes.{Consumes, Keeps, IsAtEnd};
 ghost use Rattle.pitch_io.specs.Causes.{HasCause};
 ghost use Rattle.stream_print.specs.Feeding.{Fed, StreamFeeds};
-ghost use Rattle.stream_print.specs.Inputs.{stream_limit, lasting_trouble, StreamEnds};
+ghost use Rattle.stream_print.specs.Inputs.{stream_limit, lasting_trouble, StopsSoon, StreamEnds};
 ghost use Rattle.stream_print.specs.Told.{between, told, TakesAtMost};
 ghost use Rattle.stream_print.specs.Holding.{CanHold};
 ghost use Rattle.stream_print.specs.Knowing.{task_form};
@@ -95,6 +95,8 @@ pub fn print_stream<I: Source, O: Sink>(
     ensures ends { StreamEnds carrier form stream_limit result (told I.left input.old input.new) (told O.written out.old out.new) }
     // However it ended, at most one byte was taken past the limit.
     ensures reads { TakesAtMost (stream_limit + 1) (told I.left input.old input.new) }
+    // Nothing was taken after the piece that shows a trouble which lasts.
+    ensures stops { StopsSoon carrier (told I.left input.old input.new) }
     ensures read_cause { HasCause (I.faults input.old) (I.faults input.new) (result ≡ Err StreamFailure.Read) }
     ensures write_cause { HasCause (O.faults out.old) (O.faults out.new) (result ≡ Err StreamFailure.Write) }
 {

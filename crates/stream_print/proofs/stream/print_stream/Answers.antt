@@ -8,7 +8,7 @@ use Rattle.stream_print.specs.Inputs.{stream_limit}
 use Rattle.stream_print.specs.Told.{between}
 use Rattle.stream_print.specs.declared.failure.StreamFailure.TheVariants.{Read, Write}
 use Rattle.stream_print.proofs.Feeding.{consumes_more, consumes_kept}
-use Rattle.stream_print.proofs.Taking.{given_bytes, taken_none, taken_more, writes_none, later_cause, own_form}
+use Rattle.stream_print.proofs.Taking.{stops_none, stops_kept, stops_more, given_bytes, taken_none, taken_more, writes_none, later_cause, own_form}
 use Rattle.stream_print.proofs.Finishing.{ends_same, same_stop}
 use Rattle.stream_print.proofs.stream.print_stream.Goals as goal
 
@@ -148,3 +148,28 @@ unreachable-requires g c =
     let turns = c.takes.invariant.turns in
     let past : 1073741825 ≤ c.takes.turn = search rules in
     absurd (omega (arith, within, size, turns, past))
+
+pub returns-in_err-printer-clause-stops : goal.returns-in_err-printer-clause-stops
+returns-in_err-printer-clause-stops g c = stops_none c.args.carrier (g.I.Source.left c.args.input.now)
+
+pub returns-in_err-piece-clause-stops : goal.returns-in_err-piece-clause-stops
+returns-in_err-piece-clause-stops g c = stops_none c.args.carrier (g.I.Source.left c.args.input.now)
+
+pub returns-in_err-feed-in-Got-clause-stops : goal.returns-in_err-feed-in-Got-clause-stops
+returns-in_err-feed-in-Got-clause-stops g c =
+    let t = c.takes.invariant.taken in
+    let place = c.takes.invariant.place in
+    let within = c.in-Got.ensures.count.2 in
+    let fits : length c.take_at_most.new.piece ≤ c.takes.piece.len = search rules in
+    stops_more c.args.carrier t.bytes (take c.in-Got.count c.take_at_most.new.piece) (g.I.Source.left c.args.input.now) (g.I.Source.left c.takes.input) (g.I.Source.left c.take_at_most.new.input) t.read c.in-Got.ensures.bytes t.unended
+    (omega (arith, within, fits, place, length-take-le c.in-Got.count c.take_at_most.new.piece c.in-Got.ensures.count.2))
+
+pub returns-in-End-clause-stops : goal.returns-in-End-clause-stops
+returns-in-End-clause-stops g c =
+    let t = c.takes.invariant.taken in
+    stops_kept c.args.carrier t.bytes (g.I.Source.left c.args.input.now) (g.I.Source.left c.takes.input) (g.I.Source.left c.take_at_most.new.input) t.read c.in-End.ensures.bytes.1 t.unended
+
+pub returns-in-Failed-clause-stops : goal.returns-in-Failed-clause-stops
+returns-in-Failed-clause-stops g c =
+    let t = c.takes.invariant.taken in
+    stops_kept c.args.carrier t.bytes (g.I.Source.left c.args.input.now) (g.I.Source.left c.takes.input) (g.I.Source.left c.take_at_most.new.input) t.read c.in-Failed.ensures.bytes t.unended
