@@ -1,8 +1,9 @@
-ghost use Rattle.std.specs.Prelude.{◌≡◌, List, [], ◌∷◌, ◌++◌, map, OnOk, OnErr, IsOk, IfOk, IfSome, Some};
+ghost use Rattle.std.specs.Prelude.{◌≡◌, List, [], ◌∷◌, ◌++◌, ◌+◌, length, map, OnOk, OnErr, IsOk, IfOk, IfSome, Some};
 ghost use Rattle.pitch_messages.specs.declared.session.SessionMessage.TheVariants.{GapRequest};
 ghost use Rattle.session_ends.specs.declared.closed.CloseCause.TheVariants.{Memory};
 ghost use Rattle.session_ends.specs.declared.role.Role.TheVariants.{GapLink as LinkRole};
 ghost use Rattle.session_ends.specs.Closing.{closed_of};
+ghost use Rattle.unit_packets.specs.Causes.{counted};
 ghost use Rattle.session_ends.specs.Events.{Event, Fed, Ticked, Asked};
 ghost use Rattle.session_ends.specs.Items.{closed_at};
 ghost use Rattle.session_ends.specs.Sending.{sent_at_tick};
@@ -70,7 +71,7 @@ impl GapLink {
         // lists of the items have.
         ensures tells { OnOk result ((es : List (Event Lookups)) → LinkStands self.old es → map without_spare items.new.items ≡ map without_spare items.old.items ++ link_tells self.old.setup es piece.now) }
         ensures setup { self.new.setup ≡ self.old.setup }
-        ensures err_closed { OnErr result (self.new.closed ≡ Some (closed_at Memory self.new.inbox.fed)) }
+        ensures err_closed { OnErr result (self.new.closed ≡ Some (closed_at Memory (counted (self.old.inbox.fed + length piece.now)))) }
         ensures err_items { OnErr result (items.new.items ≡ items.old.items) }
         ensures shut { IfSome self.old.closed (λ c. self.new ≡ self.old) }
         ensures shut_ok { IfSome self.old.closed (λ c. IsOk result × (items.new.items ≡ items.old.items)) }
@@ -121,7 +122,7 @@ impl GapLink {
         // Of all that happened to it: what is then sent at a tick was appended.
         ensures says { OnOk result ((es : List (Event Lookups)) → LinkStands self.old es → out.new.items ≡ out.old.items ++ sent_at_tick (link_sends self.old.setup) self.old.setup es) }
         ensures setup { self.new.setup ≡ self.old.setup }
-        ensures err_closed { OnErr result (self.new.closed ≡ Some (closed_at Memory self.new.inbox.fed)) }
+        ensures err_closed { OnErr result (self.new.closed ≡ Some (closed_at Memory self.old.inbox.fed)) }
         ensures err_out { OnErr result (out.new.items ≡ out.old.items) }
         ensures shut { IfSome self.old.closed (λ c. self.new ≡ self.old) }
         ensures shut_ok { IfSome self.old.closed (λ c. IsOk result × (out.new.items ≡ out.old.items)) }

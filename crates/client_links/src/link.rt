@@ -1,5 +1,6 @@
-ghost use Rattle.std.specs.Prelude.{◌≡◌, ℕ, ◌||◌, List, [], ◌∷◌, ◌++◌, map, OnOk, OnErr, IsOk, IfOk, IfSome, None, Some};
+ghost use Rattle.std.specs.Prelude.{◌≡◌, ℕ, ◌||◌, List, [], ◌∷◌, ◌++◌, ◌+◌, length, map, OnOk, OnErr, IsOk, IfOk, IfSome, None, Some};
 ghost use Rattle.std.specs.List.{list_any};
+ghost use Rattle.unit_packets.specs.Causes.{counted};
 ghost use Rattle.session_ends.specs.declared.closed.CloseCause.TheVariants.{Memory};
 ghost use Rattle.session_ends.specs.declared.inbox.Heard.{Heard};
 ghost use Rattle.session_ends.specs.Closing.{cause_of, first_cause, logs_in};
@@ -242,6 +243,7 @@ impl Link {
         ensures stands { OnOk result ((es : List (Event Lookups)) → LinkStands self.old es → LinkStands self.new (Fed piece.now NoLookup ∷ es)) }
         ensures tells { OnOk result ((es : List (Event Lookups)) → LinkStands self.old es → map without_spare told.new.items ≡ link_tells self.old.setup es piece.now) }
         ensures setup { self.new.setup ≡ self.old.setup }
+        ensures count { self.new.inbox.fed ≡ counted (self.old.inbox.fed + length piece.now) }
     {
         let reader = self.end.take(piece)?;
         let mut run = RawList::make(self.alloc);
@@ -257,7 +259,7 @@ impl Link {
         ensures stands { OnOk result ((es : List (Event Lookups)) → LinkStands self.old es → LinkStands self.new (Fed piece.now NoLookup ∷ es)) }
         ensures tells { OnOk result ((es : List (Event Lookups)) → LinkStands self.old es → map without_spare items.new.items ≡ map without_spare items.old.items ++ link_tells self.old.setup es piece.now) }
         ensures setup { self.new.setup ≡ self.old.setup }
-        ensures err_closed { OnErr result (self.new.closed ≡ Some (closed_at Memory self.new.inbox.fed)) }
+        ensures err_closed { OnErr result (self.new.closed ≡ Some (closed_at Memory (counted (self.old.inbox.fed + length piece.now)))) }
         ensures err_items { OnErr result (items.new.items ≡ items.old.items) }
         ensures shut { IfSome self.old.closed (λ c. self.new ≡ self.old) }
         ensures shut_ok { IfSome self.old.closed (λ c. IsOk result × (items.new.items ≡ items.old.items)) }
@@ -304,7 +306,7 @@ impl Link {
         ensures stands { OnOk result ((es : List (Event Lookups)) → LinkStands self.old es → LinkStands self.new (Ticked ∷ es)) }
         ensures says { OnOk result ((es : List (Event Lookups)) → LinkStands self.old es → out.new.items ≡ out.old.items ++ sent_at_tick (link_sends self.old.setup) self.old.setup es) }
         ensures setup { self.new.setup ≡ self.old.setup }
-        ensures err_closed { OnErr result (self.new.closed ≡ Some (closed_at Memory self.new.inbox.fed)) }
+        ensures err_closed { OnErr result (self.new.closed ≡ Some (closed_at Memory self.old.inbox.fed)) }
         ensures err_out { OnErr result (out.new.items ≡ out.old.items) }
         ensures shut { IfSome self.old.closed (λ c. self.new ≡ self.old) }
         ensures shut_ok { IfSome self.old.closed (λ c. IsOk result × (out.new.items ≡ out.old.items)) }

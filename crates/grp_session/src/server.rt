@@ -1,6 +1,7 @@
-ghost use Rattle.std.specs.Prelude.{◌≡◌, ℕ, ◌||◌, Bool, true, false, List, [], ◌∷◌, ◌++◌, OnOk, OnErr, IsOk, IfOk, IfSome, None, Some, is_some};
+ghost use Rattle.std.specs.Prelude.{◌≡◌, ℕ, ◌||◌, Bool, true, false, List, [], ◌∷◌, ◌++◌, ◌+◌, length, OnOk, OnErr, IsOk, IfOk, IfSome, None, Some, is_some};
 ghost use Rattle.std.specs.List.{list_any};
 ghost use Rattle.unit_packets.specs.Packing.{bytes_in};
+ghost use Rattle.unit_packets.specs.Causes.{counted};
 ghost use Rattle.pitch_messages.specs.declared.session.SessionMessage.TheVariants.{GapReply};
 ghost use Rattle.gap_store.specs.Look.{View, IsLater};
 ghost use Rattle.session_ends.specs.declared.closed.CloseCause.TheVariants.{Memory};
@@ -318,6 +319,7 @@ impl GrpServer {
         ensures fed { OnOk result ((es : List (Event Source)) (spent : Spent) (view : View) → ProxyStands self.old es → Counted budget.old spent → L.shows lookup.old view
             → ProxyFeeds es piece.now self.old self.new there budget.old.limits spent view (Counted budget.new) (L.shows lookup.new) [] said.new.items [] (bytes_in lines.new.items)) }
         ensures setup { self.new.setup ≡ self.old.setup }
+        ensures count { self.new.inbox.fed ≡ counted (self.old.inbox.fed + length piece.now) }
         ensures limits { budget.new.limits ≡ budget.old.limits }
     {
         let reader = self.end.take(piece)?;
@@ -343,7 +345,7 @@ impl GrpServer {
             reply.old.items reply.new.items (bytes_in gap_line.old.items) (bytes_in gap_line.new.items)) }
         ensures setup { self.new.setup ≡ self.old.setup }
         ensures limits { budget.new.limits ≡ budget.old.limits }
-        ensures err_closed { OnErr result (self.new.closed ≡ Some (closed_at Memory self.new.inbox.fed)) }
+        ensures err_closed { OnErr result (self.new.closed ≡ Some (closed_at Memory (counted (self.old.inbox.fed + length piece.now)))) }
         ensures err_budget { OnErr result (budget.new ≡ budget.old) }
         ensures err_reply { OnErr result (reply.new.items ≡ reply.old.items) }
         ensures err_lines { OnErr result (gap_line.new.items ≡ gap_line.old.items) }
@@ -402,7 +404,7 @@ impl GrpServer {
             reply.old.items reply.new.items (bytes_in gap_line.old.items) (bytes_in gap_line.new.items))) }
         ensures setup { self.new.setup ≡ self.old.setup }
         ensures limits { budget.new.limits ≡ budget.old.limits }
-        ensures err_closed { OnErr result (self.new.closed ≡ Some (closed_at Memory self.new.inbox.fed)) }
+        ensures err_closed { OnErr result (self.new.closed ≡ Some (closed_at Memory (counted (self.old.inbox.fed + length piece.now)))) }
         ensures err_budget { OnErr result (budget.new ≡ budget.old) }
         ensures err_reply { OnErr result (reply.new.items ≡ reply.old.items) }
         ensures err_lines { OnErr result (gap_line.new.items ≡ gap_line.old.items) }
@@ -433,7 +435,7 @@ impl GrpServer {
         // Of all that happened to it: what is then sent at a tick was appended.
         ensures says { OnOk result ((es : List (Event Source)) → ProxyStands self.old es → reply.new.items ≡ reply.old.items ++ sent_at_tick (grp_sends self.old.setup) self.old.setup es) }
         ensures setup { self.new.setup ≡ self.old.setup }
-        ensures err_closed { OnErr result (self.new.closed ≡ Some (closed_at Memory self.new.inbox.fed)) }
+        ensures err_closed { OnErr result (self.new.closed ≡ Some (closed_at Memory self.old.inbox.fed)) }
         ensures err_reply { OnErr result (reply.new.items ≡ reply.old.items) }
         ensures shut { IfSome self.old.closed (λ c. self.new ≡ self.old) }
         ensures shut_ok { IfSome self.old.closed (λ c. IsOk result × (reply.new.items ≡ reply.old.items)) }

@@ -341,7 +341,7 @@ impl End {
         // Of all that was known of its events: what a tick then sends was appended.
         ensures says { OnOk result ((k : Known) → EndKnows self.old k → out.new.items ≡ out.old.items ++ tick_bytes self.old.setup k) }
         ensures setup { self.new.setup ≡ self.old.setup }
-        ensures err_closed { OnErr result (self.new.closed ≡ Some (closed_at Memory self.new.inbox.fed)) }
+        ensures err_closed { OnErr result (self.new.closed ≡ Some (closed_at Memory self.old.inbox.fed)) }
         ensures err_out { OnErr result (out.new.items ≡ out.old.items) }
         ensures shut { IfSome self.old.closed (λ c. self.new ≡ self.old) }
         ensures shut_ok { IfSome self.old.closed (λ c. IsOk result × (out.new.items ≡ out.old.items)) }

@@ -1,4 +1,4 @@
-ghost use Rattle.std.specs.Prelude.{◌≡◌, ◌<◌, ℕ, ◌||◌, Bool, true, false, List, [], ◌∷◌, ◌++◌, OnOk, OnErr, IsOk, IfOk, IfSome, None, Some, is_some, is_none, if◌then◌else◌};
+ghost use Rattle.std.specs.Prelude.{◌≡◌, ◌<◌, ℕ, ◌||◌, Bool, true, false, List, [], ◌∷◌, ◌++◌, ◌+◌, length, OnOk, OnErr, IsOk, IfOk, IfSome, None, Some, is_some, is_none, if◌then◌else◌};
 ghost use Rattle.std.specs.List.{list_any};
 ghost use Rattle.pitch_messages.specs.declared.session.SessionMessage.TheVariants.{SpinReply};
 ghost use Rattle.session_ends.specs.declared.closed.CloseCause.TheVariants.{Memory};
@@ -10,6 +10,7 @@ ghost use Rattle.session_ends.specs.Hearing.{reader_items, IsThrough};
 ghost use Rattle.session_ends.specs.Items.{closed_at};
 ghost use Rattle.session_ends.specs.Sending.{sent_bytes, sent_at_tick};
 ghost use Rattle.spin_server.specs.Served.{Served, ServedLater};
+ghost use Rattle.unit_packets.specs.Causes.{counted};
 ghost use Rattle.spin_server.specs.Serving.{pump_bytes, pumped, blocks_left, available_bytes, spin_login_answer, spin_request_answer, spin_message_answer, spin_said_answer, spin_answer, spin_sends, runs, SpinStands, SpinFeeds};
 
 use crate::lookup::{ImageLookup, Imaged};
@@ -326,6 +327,7 @@ impl SpinServer {
         ensures fed { OnOk result ((es : List (Event (List Served))) (view : Served) → SpinStands self.old es → L.shows lookup.old view
             → SpinFeeds es piece.now self.old self.new view (L.shows lookup.new) [] said.new.items) }
         ensures setup { self.new.end.setup ≡ self.old.end.setup }
+        ensures count { self.new.end.inbox.fed ≡ counted (self.old.end.inbox.fed + length piece.now) }
     {
         let reader = self.end.take(piece)?;
         let count = self.hear_all(&reader, lookup, said)?;
@@ -353,7 +355,7 @@ impl SpinServer {
         ensures fed { OnOk result ((es : List (Event (List Served))) (view : Served) → SpinStands self.old es → L.shows lookup.old view
             → SpinFeeds es piece.now self.old self.new view (L.shows lookup.new) reply.old.items reply.new.items) }
         ensures setup { self.new.end.setup ≡ self.old.end.setup }
-        ensures err_closed { OnErr result (self.new.end.closed ≡ Some (closed_at Memory self.new.end.inbox.fed)) }
+        ensures err_closed { OnErr result (self.new.end.closed ≡ Some (closed_at Memory (counted (self.old.end.inbox.fed + length piece.now)))) }
         ensures err_reply { OnErr result (reply.new.items ≡ reply.old.items) }
         ensures shut { IfSome self.old.end.closed (λ c. self.new ≡ self.old) }
         ensures shut_ok { IfSome self.old.end.closed (λ c. IsOk result × (reply.new.items ≡ reply.old.items)) }
@@ -444,7 +446,7 @@ impl SpinServer {
         // Of everything that happened before: what a tick then sends was appended.
         ensures says { OnOk result ((es : List (Event (List Served))) → SpinStands self.old es → reply.new.items ≡ reply.old.items ++ sent_at_tick (spin_sends self.old.end.setup) self.old.end.setup es) }
         ensures setup { self.new.end.setup ≡ self.old.end.setup }
-        ensures err_closed { OnErr result (self.new.end.closed ≡ Some (closed_at Memory self.new.end.inbox.fed)) }
+        ensures err_closed { OnErr result (self.new.end.closed ≡ Some (closed_at Memory self.old.end.inbox.fed)) }
         ensures err_reply { OnErr result (reply.new.items ≡ reply.old.items) }
         ensures shut { IfSome self.old.end.closed (λ c. self.new ≡ self.old) }
         ensures shut_ok { IfSome self.old.end.closed (λ c. IsOk result × (reply.new.items ≡ reply.old.items)) }
