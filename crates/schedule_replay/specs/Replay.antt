@@ -1,7 +1,7 @@
 -- What a schedule writes. Entries that came before stand newest first, as the verbs of a world do.
-use Rattle.std.specs.Prelude.{ℕ, List, [], ◌∷◌, ◌==◌, map, Result, Ok, Err, if◌then◌else◌}
+use Rattle.std.specs.Prelude.{ℕ, List, [], ◌∷◌, ◌==◌, map, None, Result, Ok, Err, if◌then◌else◌}
 use Rattle.feed_lines.specs.Texts.{texts_after}
-use Rattle.pitch_text.specs.ScheduleGrammar.{entry, schedule_entry}
+use Rattle.pitch_text.specs.ScheduleGrammar.{entry, schedule_entry, setup_of}
 use Rattle.pitch_text.specs.declared.verb.ScheduleEntry.{ScheduleEntry}
 use Rattle.pitch_text.specs.declared.verb.Verb.{Verb}
 use Rattle.pitch_text.specs.declared.verb.Verb.TheVariants as verbs
@@ -33,6 +33,10 @@ abbrev pub limits_of : List Verb → Limits
 limits_of [] = default_limits
 limits_of (verb ∷ []) = limits_at verb
 limits_of (verb ∷ earlier ∷ before) = limits_of (earlier ∷ before)
+
+-- no `open` says what an `open` without fields does
+abbrev pub open_alone : Verb
+open_alone = setup_of (record { hold = None; kept = None; second = None; minute = None; day = None })
 
 -- ---- The text
 

@@ -1,7 +1,9 @@
 //! Laws of the definitions. These functions do nothing: what they ensure is proved of the
 //! definitions alone.
 
+ghost use Rattle.std.specs.Prelude.{◌≡◌};
 ghost use Rattle.schedule_replay.specs.Apart.{LinesStandApart, UnitsRunApart};
+ghost use Rattle.schedule_replay.specs.Replay.{open_alone, limits_at, default_limits};
 
 /// A line writes what it writes after the lines of its own unit alone. So a schedule writes what
 /// its units write, each alone, put together in the schedule's order, whoever ran them.
@@ -9,4 +11,5 @@ ghost use Rattle.schedule_replay.specs.Apart.{LinesStandApart, UnitsRunApart};
 pub fn units_run_apart()
     ensures lines { LinesStandApart }
     ensures text { UnitsRunApart }
+    ensures limits { limits_at open_alone ≡ default_limits }
 {}
