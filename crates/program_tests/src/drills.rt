@@ -49,3 +49,18 @@ fn the_threads_of_a_drill_meet(rt: HostRuntime) -> Result<(), Fail> {
     assert!(rt; gate.most(Role::Client) >= copies_kept());
     Ok(())
 }
+
+// Ten of the first 3,500 messages are lost on both lines, so the client asks its service for them.
+#[test]
+fn a_client_asks_its_service(rt: HostRuntime) -> Result<(), Fail> {
+    let gate = MeetGate::make();
+    let words = "drill --number 0 --units 1 --count 3500";
+    let outcome = run_over(&rt, rt.alloc(), words, b"", &mut NoNet, &gate)?;
+    assert!(rt;
+        outcome
+            .written()
+            .starts_with(b"unit 1 current 3500 orders ")
+    );
+    assert!(rt; gate.most(Role::Service) >= 1);
+    Ok(())
+}
