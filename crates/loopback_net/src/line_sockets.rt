@@ -16,7 +16,8 @@ pub(crate) struct LineSockets {
 }
 
 impl LineSockets {
-    /// Opens both. From then on each takes datagrams of the other alone.
+    /// Opens both. Each takes datagrams of the other alone: what a stranger sent before they were
+    /// connected is dropped.
     pub(crate) fn open<R: net::Net>(rt: &R) -> io::Result<LineSockets> {
         let any_port = SocketAddr::from((Ipv4Addr::LOCALHOST, 0));
         let sender = UdpSocket::bind(rt, any_port)?;
@@ -25,6 +26,7 @@ impl LineSockets {
         sender.connect(receiver.local_addr()?)?;
         sender.set_nonblocking(true)?;
         receiver.set_nonblocking(true)?;
+        drop_waiting(&receiver)?;
         Ok(LineSockets { sender, receiver })
     }
 
@@ -53,4 +55,17 @@ impl LineSockets {
             },
         }
     }
+}
+
+// Takes what waits, until nothing does.
+fn drop_waiting(receiver: &UdpSocket) -> io::Result<()> {
+    let mut into = [0u8; 1];
+    for _ in 0..10_000u32 {
+        match receiver.recv(&mut into) {
+            Err(error) if error.kind() == ErrorKind::WouldBlock => return Ok(()),
+            Err(error) => return Err(error),
+            Ok(_) => {}
+        }
+    }
+    Err(io::Error::from(ErrorKind::TimedOut))
 }

@@ -11,11 +11,14 @@ use crate::connection::{Connection, open_connection};
 use crate::line_sockets::LineSockets;
 use pitch_io::{Line, LinkEnd, Net, NetDone, NetTaken, Put};
 use std::marker::Model;
+use std::net::{Ipv4Addr, SocketAddr, UdpSocket};
+use std::os::fd::AsRawFd;
 use std::{io, net};
 
 // All that is open.
 #[derive(Drop)]
 struct Sockets<S> {
+    low: [Option<UdpSocket>; 3],
     a: LineSockets,
     b: LineSockets,
     gap: LineSockets,
@@ -55,9 +58,27 @@ impl<S: io::Read + io::Write> Sockets<S> {
     }
 }
 
+// Where one of the descriptors 0 to 2 is free, a socket would take it, and what is written to
+// standard output would go out on a line. So sockets that carry nothing are kept there: a write to
+// one fails.
+fn keep_low<R: net::Net>(rt: &R) -> io::Result<[Option<UdpSocket>; 3]> {
+    let any_port = SocketAddr::from((Ipv4Addr::LOCALHOST, 0));
+    let mut low = [None, None, None];
+    for place in &mut low {
+        let socket = UdpSocket::bind(rt, any_port)?;
+        if socket.as_raw_fd() > 2 {
+            break;
+        }
+        *place = Some(socket);
+    }
+    Ok(low)
+}
+
 // Opens all, or nothing.
 fn open<R: net::Net>(rt: &R) -> io::Result<Sockets<R::Stream>> {
+    let low = keep_low(rt)?;
     Ok(Sockets {
+        low,
         a: LineSockets::open(rt)?,
         b: LineSockets::open(rt)?,
         gap: LineSockets::open(rt)?,

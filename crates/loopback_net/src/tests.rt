@@ -231,6 +231,42 @@ impl<R: net::Net> net::Net for Crowded<R> {
     }
 }
 
+// A network on which a stranger sends to each UDP port as soon as it is bound.
+#[derive(Drop)]
+struct Strange<R>(R);
+
+impl<R: net::Net> net::Net for Strange<R> {
+    type Stream = R::Stream;
+
+    type Listener = R::Listener;
+
+    fn bind(&self, addr: SocketAddr) -> io::Result<R::Listener> {
+        self.0.bind(addr)
+    }
+
+    fn connect(&self, addr: SocketAddr) -> io::Result<R::Stream> {
+        self.0.connect(addr)
+    }
+
+    fn connect_timeout(&self, addr: SocketAddr, timeout: Duration) -> io::Result<R::Stream> {
+        self.0.connect_timeout(addr, timeout)
+    }
+
+    fn bind_udp(&self, addr: SocketAddr) -> io::Result<UdpSocket> {
+        let socket = self.0.bind_udp(addr)?;
+        let stranger = self.0.bind_udp(addr)?;
+        stranger.send_to(b"strange", socket.local_addr()?)?;
+        Ok(socket)
+    }
+}
+
+#[test]
+fn what_a_stranger_sent_does_not_come(rt: HostRuntime) {
+    let mut net = StdNet::make(Strange(&rt));
+    assert!(rt; net.begin() == NetDone::Done);
+    assert!(rt; answers_of_all(&rt, &mut net).as_slice() == [NetTaken::Quiet; 7].as_slice());
+}
+
 // The answers of a net that could not begin.
 fn answers_of_unopened<R: Abort + AllocGlobal, N: Net>(rt: &R, net: &mut N) -> Vec<NetTaken> {
     assert!(rt; net.begin() == NetDone::Failed);

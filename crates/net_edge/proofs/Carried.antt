@@ -155,7 +155,7 @@ module _ (s : Setting) (R : Scene) (carried : IsCarried R) (puts : (at : LinkEnd
   came_more (Did (Take GrpClient bytes Quiet)) n may before w = w
   came_more (Did (Take GrpClient bytes End)) n may before w = hears_down V (stands n) true n.heard w
   came_more (Did (Take GrpClient bytes Failed)) n may before w = w
-  came_more (Did (Take SpinClient bytes (Got count))) n may before w = spin_took n bytes may.1 before.spin w (is_some (closed_of (spin_link demo_unit) (Fed bytes NoLookup ∷ n.spin.link)))
+  came_more (Did (Take SpinClient bytes (Got count))) n may before w = spin_took n bytes may.1.1 before.spin w (is_some (closed_of (spin_link demo_unit) (Fed bytes NoLookup ∷ n.spin.link)))
   came_more (Did (Take SpinClient bytes Quiet)) n may before w = spin_still n w
   came_more (Did (Take SpinClient bytes End)) n may before w = spin.ends demo_unit V (stands n) n.heard (omega arith) w
   came_more (Did (Take SpinClient bytes Failed)) n may before w = spin_still n w

@@ -47,14 +47,7 @@ adds None (Some calls) run told = tt
 adds (Some calls) None run told = tt
 adds (Some before) (Some after) run told = told
 
--- all that was said was put
-all_was_put : (ends : Ends) (now : Scene) → EndsHave ends now → (at : LinkEnd) → (at_end at now).put ≡ said_at at now
-all_was_put ends now has GrpClient = has.gap_link.put_is
-all_was_put ends now has GrpServer = has.grp_server.put_is
-all_was_put ends now has SpinClient = has.spin_link.put_is
-all_was_put ends now has SpinServer = has.spin_server.put_is
-
--- and what was sent are pieces
+-- what was sent are pieces
 all_are_pieces : (s : Setting) (ends : Ends) (run : List Step) → AreMessages (all_messages s) → EndsHave ends (scene_of s run) → IsOver s (scene_of s run)
     → (line : Line) → AllByRecursion (IsPiece (all_messages s) demo_unit) (line_in line (scene_of s run)).sent
 all_are_pieces s ends run are has over A = subst (AllByRecursion (IsPiece (all_messages s) demo_unit)) (sym over.on_a) (due_pieces s are.raws are.few A (scene_of s run).turn)
@@ -66,15 +59,12 @@ run_ends : (s : Setting) (ends : Ends) (market : Market) (run : List Step) → A
 run_ends s ends market run steps has over last at =
     let R : Scene = scene_of s run in
     let are : AreMessages (all_messages s) = all_accepted s market R.turn last.above at in
-    let puts = all_was_put ends R has in
     let pieces = all_are_pieces s ends run are has over in
     record {
       over = over;
       last = last;
-      put = puts;
-      replayed = has.replayed;
       pieces = pieces;
-      book = λ carried. carried_book s run carried puts pieces ends.client are.bytes are.few steps has.client;
+      book = λ carried. carried_book s run carried over.put pieces ends.client are.bytes are.few steps has.client;
     }
 
 pub demo_is : (s : Setting) (before after : Option (List Call)) (text text' : List ℕ) (ends : Ends) (market : Market) (now : Scene) → DemoAt s (calls_before before) after ends now → IsOver s now → IsLast s now → MarketAt s market now.turn

@@ -7,7 +7,7 @@ use Rattle.pitch_io.specs.declared.line.Line.{Line}
 use Rattle.pitch_io.specs.declared.line.Line.TheVariants.{A, B, Gap}
 use Rattle.pitch_io.specs.declared.net.NetTaken.{NetTaken}
 use Rattle.pitch_io.specs.declared.net.NetTaken.TheVariants as taken
-use Rattle.pitch_io.specs.Nets.{Call, Next, ListsCall}
+use Rattle.pitch_io.specs.Nets.{Call, Next, ListsCall, NetTakeFailed}
 use Rattle.pitch_messages.specs.Room.{Roomy}
 use Rattle.unit_packets.specs.Packing.{bytes_in}
 use Rattle.unit_packets.specs.Blocks.{Block}
@@ -135,8 +135,8 @@ heard_at line on E now = refl
 
 -- a call more on a line, of which the client heard what came
 pub hears_on : (s : Setting) (base : List Call) (calls calls' : Option (List Call)) (one two : UnitClient) (line : Line) (bytes : List ℕ) (answer : NetTaken) (answers : List NetTaken) (now : Scene) → (h : HearsOn s base calls one line answers now)
-    → ListsCall calls calls' (Next line bytes answer) → is_group_open answers ≡ true → ClientHas two (blocks_heard answer bytes h.heard) → HearsOn s base calls' two line (answer ∷ answers) now
-hears_on s base calls calls' one two line bytes answer answers now h lists opened has =
+    → ListsCall calls calls' (Next line bytes answer) → (NetTakeFailed answer → ⊥) → is_group_open answers ≡ true → ClientHas two (blocks_heard answer bytes h.heard) → HearsOn s base calls' two line (answer ∷ answers) now
+hears_on s base calls calls' one two line bytes answer answers now h lists well opened has =
     let on : OnLine = record { sent = h.on.sent; came = h.on.came ++ came_by answer bytes; answers = answer ∷ h.on.answers } in
     let at : Scene = record (with_line line h.on now) { heard = h.heard } in
     record {
@@ -148,8 +148,13 @@ hears_on s base calls calls' one two line bytes answer answers now h lists opene
       plays = subst (Plays s base calls')
           (ap (λ (l : OnLine). record (with_line line (record l { came = l.came ++ came_by answer bytes; answers = answer ∷ l.answers }) at) { heard = blocks_heard answer bytes h.heard }) (line_at line h.on h.heard now)
           ∙ line_with line h.on on h.heard (blocks_heard answer bytes h.heard) now)
-          (play_call s base calls calls' at (Next line bytes answer) lists (ap (λ (l : OnLine). is_group_open l.answers) (line_at line h.on h.heard now) ∙ ap is_group_open h.answers_are ∙ opened) h.plays);
+          (play_call s base calls calls' at (Next line bytes answer) lists well (ap (λ (l : OnLine). is_group_open l.answers) (line_at line h.on h.heard now) ∙ ap is_group_open h.answers_are ∙ opened) h.plays);
     }
+
+-- a call that got nothing has not failed
+pub not_failed : (answer : NetTaken) → (answer ≡ taken.Quiet) ⊎ (answer ≡ taken.End) → NetTakeFailed answer → ⊥
+not_failed answer (inl quiet) = subst (λ (a : NetTaken). NetTakeFailed a → ⊥) (sym quiet) (λ f. f)
+not_failed answer (inr end) = subst (λ (a : NetTaken). NetTakeFailed a → ⊥) (sym end) (λ f. f)
 
 -- where nothing came, nothing is heard
 pub heard_nothing_of : (client : UnitClient) (answer : NetTaken) (bytes : List ℕ) (E : List Entry) → (answer ≡ taken.Quiet) ⊎ (answer ≡ taken.End) → ClientHas client E → ClientHas client (blocks_heard answer bytes E)

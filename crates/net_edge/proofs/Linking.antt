@@ -7,7 +7,7 @@ use Rattle.pitch_fields.specs.Fields.{AreBytes}
 use Rattle.pitch_io.specs.declared.net.LinkEnd.{LinkEnd}
 use Rattle.pitch_io.specs.declared.net.NetTaken.{NetTaken}
 use Rattle.pitch_io.specs.declared.net.NetTaken.TheVariants as taken
-use Rattle.pitch_io.specs.Nets.{Call, Take, ListsCall}
+use Rattle.pitch_io.specs.Nets.{Call, Take, ListsCall, NetTakeFailed}
 use Rattle.pitch_model.specs.declared.item.Item.{Item}
 use Rattle.pitch_model.specs.History.{Entry, Raw}
 use Rattle.pitch_model.specs.Honest.{Honest}
@@ -91,12 +91,12 @@ may_take SpinPeer end up events E now bytes answer opened unended = (opened, sta
 -- what the client heard so far, and then of one call more
 module _ (peer : Peer) (s : Setting) (base : List Call) (calls calls' : Option (List Call)) (at : LinkEnd) (link link' : Ending) (client client' : UnitClient) (answers : List NetTaken) (now : Scene) where
   -- the call is a step
-  took_so : (bytes : List ℕ) (answer : NetTaken) (after : Scene) → (h : HearsLink peer s base calls link client answers false now) → at ≡ end_of peer → is_group_open answers ≡ true → ListsCall calls calls' (Take at bytes answer)
+  took_so : (bytes : List ℕ) (answer : NetTaken) (after : Scene) → (h : HearsLink peer s base calls link client answers false now) → at ≡ end_of peer → is_group_open answers ≡ true → (NetTakeFailed answer → ⊥) → ListsCall calls calls' (Take at bytes answer)
       → taken_at s (end_of peer) bytes answer (with_client_end peer h.end h.up h.events false h.heard now) ≡ after → Plays s base calls' after
-  took_so bytes answer after h is opened lists makes =
+  took_so bytes answer after h is opened well lists makes =
       let listed : ListsCall calls calls' (Take (end_of peer) bytes answer) = subst (λ (e : LinkEnd). ListsCall calls calls' (Take e bytes answer)) is lists in
       let may : MayCall (Take (end_of peer) bytes answer) (with_client_end peer h.end h.up h.events false h.heard now) = may_take peer h.end h.up h.events h.heard now bytes answer (ap is_group_open h.answers_are ∙ opened) h.ended_is in
-      subst (Plays s base calls') makes (play_call s base calls calls' (with_client_end peer h.end h.up h.events false h.heard now) (Take (end_of peer) bytes answer) listed may h.plays)
+      subst (Plays s base calls') makes (play_call s base calls calls' (with_client_end peer h.end h.up h.events false h.heard now) (Take (end_of peer) bytes answer) listed well may h.plays)
 
   pub link_got : (bytes : List ℕ) (count : ℕ) (shut : Bool) → (h : HearsLink peer s base calls link client answers false now) → at ≡ end_of peer → is_group_open answers ≡ true → ListsCall calls calls' (Take at bytes (taken.Got count))
       → LinkTells peer link' client' bytes h.events h.heard shut → HearsLink peer s base calls' link' client' (taken.Got count ∷ answers) shut now
@@ -114,7 +114,7 @@ module _ (peer : Peer) (s : Setting) (base : List Call) (calls calls' : Option (
         up_is = append-nil h.up.put ∙ h.up_is;
         link_has = tells.link_has;
         has = subst (λ (b : Bool). ClientHas client' (told_down peer b told)) tells.shut_is tells.has;
-        plays = took_so bytes (taken.Got count) _ h is opened lists (took_some s h.end h.up h.events h.heard now peer bytes count);
+        plays = took_so bytes (taken.Got count) _ h is opened (λ f. f) lists (took_some s h.end h.up h.events h.heard now peer bytes count);
       })
 
   pub link_quiet : (h : HearsLink peer s base calls link client answers false now) → at ≡ end_of peer → is_group_open answers ≡ true → ListsCall calls calls' (Take at [] taken.Quiet) → HearsLink peer s base calls' link client (taken.Quiet ∷ answers) false now
@@ -129,7 +129,7 @@ module _ (peer : Peer) (s : Setting) (base : List Call) (calls calls' : Option (
     up_is = h.up_is;
     link_has = h.link_has;
     has = h.has;
-    plays = took_so [] taken.Quiet _ h is opened lists (took_none s h.end h.up h.events h.heard now peer);
+    plays = took_so [] taken.Quiet _ h is opened (λ f. f) lists (took_none s h.end h.up h.events h.heard now peer);
   }
 
   pub link_end : (h : HearsLink peer s base calls link client answers false now) → at ≡ end_of peer → is_group_open answers ≡ true → ListsCall calls calls' (Take at [] taken.End) → ClientHas client' (down_of peer ∷ h.heard)
@@ -145,7 +145,7 @@ module _ (peer : Peer) (s : Setting) (base : List Call) (calls calls' : Option (
     up_is = h.up_is;
     link_has = h.link_has;
     has = has;
-    plays = took_so [] taken.End _ h is opened lists (took_end s h.end h.up h.events h.heard now peer);
+    plays = took_so [] taken.End _ h is opened (λ f. f) lists (took_end s h.end h.up h.events h.heard now peer);
   }
 
 -- ---- Whether the link closed

@@ -323,7 +323,7 @@ module _ (s : Setting) (base : List Call) where
             (so.grp_server grp_cut grp_stays)
             (client_over l.0 l.2.end.answers l.2.end.ended spin_cut l.2.answers_are l.1)
             (so.spin_server spin_cut spin_stays)
-            all,
+            all _ (hears_ends SpinPeer c7 e6 spin_link last l.0 spin_cut n6 at6.has l.2).has,
       )
 
   -- ---- All of them

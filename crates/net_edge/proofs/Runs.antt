@@ -7,13 +7,13 @@ use Rattle.pitch_io.specs.declared.line.Line.TheVariants.{A, B, Gap}
 use Rattle.pitch_io.specs.declared.net.LinkEnd.{LinkEnd}
 use Rattle.pitch_io.specs.declared.net.LinkEnd.TheVariants.{GrpClient, GrpServer, SpinClient, SpinServer}
 use Rattle.pitch_io.specs.declared.net.NetDone.{NetDone}
-use Rattle.pitch_io.specs.Nets.{Call, ListsCall, Send}
+use Rattle.pitch_io.specs.Nets.{Call, ListsCall, NetDoneFailed, Send}
 use Rattle.net_edge.specs.Acting.{called, scene_after, sent_on, end_puts, all_tick, next_turn}
 use Rattle.net_edge.specs.Due.{Setting, beat, is_tenth}
 use Rattle.net_edge.specs.Playing.{ListsCalls, Plays}
 use Rattle.net_edge.specs.Scene.{Scene}
 use Rattle.net_edge.specs.Steps.{Step, Did, Beat, Turn, call_at, calls_of}
-use Rattle.net_edge.specs.Turns.{MayCall, MayCome, IsOver, MayGoOn}
+use Rattle.net_edge.specs.Turns.{GoesWell, MayCall, MayCome, IsOver, MayGoOn}
 
 told_more : (base : List Call) (calls calls' : Option (List Call)) (step : Step) (call : Call) (run : List Step) → call_at step ≡ call ∷ [] → ListsCalls base calls run → ListsCall calls calls' call → ListsCalls base calls' (step ∷ run)
 told_more base calls None step call run at told lists = tt
@@ -21,24 +21,24 @@ told_more base None (Some after) step call run at told lists = absurd lists
 told_more base (Some before) (Some after) step call run at told lists = lists ∙ ap (λ (x : List Call). call ∷ x) told ∙ ap (λ (x : List Call). (x ++ calls_of run) ++ base) (sym at)
 
 -- a call more
-pub play_call : (s : Setting) (base : List Call) (calls calls' : Option (List Call)) (now : Scene) (call : Call) → ListsCall calls calls' call → MayCall call now → Plays s base calls now → Plays s base calls' (called s call now)
-play_call s base calls calls' now call lists may plays = (
+pub play_call : (s : Setting) (base : List Call) (calls calls' : Option (List Call)) (now : Scene) (call : Call) → ListsCall calls calls' call → GoesWell call → MayCall call now → Plays s base calls now → Plays s base calls' (called s call now)
+play_call s base calls calls' now call lists well may plays = (
   Did call ∷ plays.0,
   record {
     told = told_more base calls calls' (Did call) call plays.0 refl plays.1.told lists;
-    steps = (subst (MayCall call) (sym plays.1.now_is) may, plays.1.steps);
+    steps = ((well, subst (MayCall call) (sym plays.1.now_is) may), plays.1.steps);
     now_is = ap (called s call) plays.1.now_is;
   },
 )
 
 -- the turn's heartbeat on line B, with its tick
-pub play_beat : (s : Setting) (base : List Call) (calls calls' : Option (List Call)) (now : Scene) (heartbeat : List ℕ) (answer : NetDone) → ListsCall calls calls' (Send B heartbeat answer) → heartbeat ≡ beat s now.turn → is_tenth now.turn ≡ true
+pub play_beat : (s : Setting) (base : List Call) (calls calls' : Option (List Call)) (now : Scene) (heartbeat : List ℕ) (answer : NetDone) → ListsCall calls calls' (Send B heartbeat answer) → (NetDoneFailed answer → ⊥) → heartbeat ≡ beat s now.turn → is_tenth now.turn ≡ true
     → Plays s base calls now → Plays s base calls' (all_tick s (sent_on B (heartbeat ∷ []) now))
-play_beat s base calls calls' now heartbeat answer lists is tenth plays = (
+play_beat s base calls calls' now heartbeat answer lists well is tenth plays = (
   Beat heartbeat answer ∷ plays.0,
   record {
     told = told_more base calls calls' (Beat heartbeat answer) (Send B heartbeat answer) plays.0 refl plays.1.told lists;
-    steps = (subst (MayCome s (Beat heartbeat answer)) (sym plays.1.now_is) (is, tenth), plays.1.steps);
+    steps = (subst (MayCome s (Beat heartbeat answer)) (sym plays.1.now_is) (well, is, tenth), plays.1.steps);
     now_is = ap (scene_after s (Beat heartbeat answer)) plays.1.now_is;
   },
 )

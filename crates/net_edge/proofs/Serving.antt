@@ -19,6 +19,7 @@ use Rattle.net_edge.specs.Playing.{ProxyHas, ProxyFed, ProxyAnswers, ProxyServes
 use Rattle.net_edge.specs.Scene.{Scene, AtEnd, got_end}
 use Rattle.net_edge.specs.declared.proxy.Proxy.{Proxy}
 use Rattle.net_edge.proofs.Runs.{play_call}
+use Rattle.net_edge.proofs.Hearing.{not_failed}
 
 abbrev source_of : budget.Limits → Spent → List View → Source
 source_of m spent views = record { there = true; views = views; limits = m; spent = spent }
@@ -60,7 +61,7 @@ pub serves_got : (s : Setting) (base : List Call) (calls calls' calls'' : Option
     → ProxyServes s base calls'' new (taken.Got count ∷ answers) false now
 serves_got s base calls calls' calls'' old new bytes count answers now h whole opened lists serves =
     let at : Scene = with_proxy h.end h.down h.server h.spent h.lines now in
-    let after : ProxyAnswers s base calls'' new bytes count at = serves at h.has refl (play_call s base calls calls' at (Take GrpServer bytes (taken.Got count)) lists (may_take h.end answers now.grp_cut h.answers_are opened h.ended_is whole) h.plays) in
+    let after : ProxyAnswers s base calls'' new bytes count at = serves at h.has refl (play_call s base calls calls' at (Take GrpServer bytes (taken.Got count)) lists (λ f. f) (may_take h.end answers now.grp_cut h.answers_are opened h.ended_is whole) h.plays) in
     let said : Answer Spent = proxy_said s bytes at in
     record {
       end = record { put = h.end.put ++ said.reply; came = h.end.came ++ bytes; answers = taken.Got count ∷ h.end.answers; ended = h.end.ended };
@@ -89,7 +90,7 @@ serves_none s base calls calls' proxy into answer answers now h whole opened whi
   ended_is = ap (λ (b : Bool). got_end answer || b) h.ended_is ∙ or-false (got_end answer);
   put_is = h.put_is;
   has = h.has;
-  plays = subst (Plays s base calls') (idle which) (play_call s base calls calls' at (Take GrpServer (came answer into) answer) lists (may_take h.end answers now.grp_cut h.answers_are opened h.ended_is whole) h.plays);
+  plays = subst (Plays s base calls') (idle which) (play_call s base calls calls' at (Take GrpServer (came answer into) answer) lists (not_failed answer which) (may_take h.end answers now.grp_cut h.answers_are opened h.ended_is whole) h.plays);
 }
   where
     at : Scene

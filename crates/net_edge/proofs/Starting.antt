@@ -2,6 +2,7 @@
 use Rattle.std.proofs.Common.{◌≡◌, ℕ, ◌+◌, ◌<◌, ◌≤◌, ◌⊎◌, inl, inr, List, [], Option, None, Some, refl, sym, ◌∙◌, subst, arith}
 use Rattle.pitch_io.specs.declared.net.LinkEnd.TheVariants.{GrpClient, SpinClient}
 use Rattle.pitch_io.specs.declared.net.NetDone.{NetDone}
+use Rattle.pitch_io.specs.declared.net.NetDone.TheVariants.{Done}
 use Rattle.pitch_io.specs.Nets.{Call, Begin, ListsCall}
 use Rattle.pitch_model.specs.History.{Raw}
 use Rattle.pitch_model.specs.declared.status.Status.{Status}
@@ -14,21 +15,21 @@ use Rattle.net_edge.specs.Playing.{Plays, MarketHas, MarketAt, IsSentTo, IsUncal
 use Rattle.net_edge.specs.Scene.{Scene, first_scene, all_put, said_at}
 use Rattle.net_edge.specs.Turns.{MayGoOn, client_status}
 use Rattle.net_edge.specs.declared.market.Market.{Market}
-use Rattle.net_edge.proofs.Runs.{play_call}
 
 -- ---- The start
-plays_none : (s : Setting) (calls : Option (List Call)) → Plays s (calls_before calls) calls first_scene
-plays_none s None = ([], record { told = tt; steps = tt; now_is = refl })
-plays_none s (Some calls) = ([], record { told = refl; steps = tt; now_is = refl })
+plays_none : (s : Setting) (before after : Option (List Call)) → ListsCall before after (Begin Done) → Plays s (calls_before before) after first_scene
+plays_none s before None lists = ([], record { told = tt; steps = tt; now_is = refl })
+plays_none s None (Some calls) lists = absurd lists
+plays_none s (Some before) (Some calls) lists = ([], record { told = lists; steps = tt; now_is = refl })
 
 -- the net was set up, and both links put their logins
-pub begun : (s : Setting) (c0 c1 c2 c3 : Option (List Call)) (answer : NetDone) (login spin_login : List ℕ) → ListsCall c0 c1 (Begin answer)
+pub begun : (s : Setting) (c0 c1 c2 c3 : Option (List Call)) (answer : NetDone) (login spin_login : List ℕ) → ListsCall c0 c1 (Begin answer) → answer ≡ Done
     → login ≡ said_at GrpClient first_scene → spin_login ≡ said_at SpinClient first_scene
     → ((n : Scene) → Plays s (calls_before c0) c1 n → Plays s (calls_before c0) c2 (end_puts GrpClient login n))
     → ((n : Scene) → Plays s (calls_before c0) c2 n → Plays s (calls_before c0) c3 (end_puts SpinClient spin_login n))
     → Plays s (calls_before c0) c3 (all_put first_scene)
-begun s c0 c1 c2 c3 answer login spin_login lists login_is spin_is puts spin_puts =
-    let first : Plays s (calls_before c0) c1 first_scene = play_call s (calls_before c0) c0 c1 first_scene (Begin answer) lists tt (plays_none s c0) in
+begun s c0 c1 c2 c3 answer login spin_login lists done login_is spin_is puts spin_puts =
+    let first : Plays s (calls_before c0) c1 first_scene = plays_none s c0 c1 (subst (λ (a : NetDone). ListsCall c0 c1 (Begin a)) done lists) in
     subst (λ (b : List ℕ). Plays s (calls_before c0) c3 (end_puts SpinClient b (end_puts GrpClient (said_at GrpClient first_scene) first_scene))) spin_is
     (subst (λ (b : List ℕ). Plays s (calls_before c0) c3 (end_puts SpinClient spin_login (end_puts GrpClient b first_scene))) login_is (spin_puts (end_puts GrpClient login first_scene) (puts first_scene first)))
 

@@ -7,13 +7,13 @@ use Rattle.pitch_io.specs.declared.line.Line.TheVariants.{A, B, Gap}
 use Rattle.pitch_io.specs.declared.net.LinkEnd.{LinkEnd}
 use Rattle.pitch_io.specs.declared.net.LinkEnd.TheVariants.{GrpClient, GrpServer, SpinClient, SpinServer}
 use Rattle.pitch_io.specs.declared.net.NetDone.{NetDone}
-use Rattle.pitch_io.specs.Nets.{Call, Send, ListsCall}
+use Rattle.pitch_io.specs.Nets.{Call, Send, ListsCall, NetDoneFailed}
 use Rattle.pitch_model.specs.Advertising.{with_sequence}
 use Rattle.venue_core.specs.Losses.{is_lost}
 use Rattle.net_edge.specs.Acting.{is_group_open, sent_on, all_tick, next_turn}
 use Rattle.net_edge.specs.Due.{Setting, demo_unit, accepted, advertised_until, beat, beats, copies, due, is_tenth, messages, new_datagrams, ticks}
 use Rattle.net_edge.specs.Playing.{EndsHave, DemoAt, Plays, MarketHas, MarketAt, IsFlushed, IsSentTo, IsUncalled, after_beat, after_due_beat}
-use Rattle.net_edge.specs.Scene.{Scene, OnLine, line_in, all_put}
+use Rattle.net_edge.specs.Scene.{Scene, OnLine, line_in, at_end, said_at, all_put}
 use Rattle.net_edge.specs.Turns.{IsOver, MayGoOn, IsEndOver}
 use Rattle.net_edge.specs.declared.ends.Ends.{Ends}
 use Rattle.net_edge.specs.declared.market.Market.{Market}
@@ -126,14 +126,23 @@ pub uncalled_so : (now : Scene) → IsUncalled (next_turn now)
 uncalled_so now = record { a = refl; b = refl; gap = refl; grp_client = refl; grp_server = refl; spin_client = refl; spin_server = refl }
 
 -- ---- A turn is over
+-- all that was said was put
+all_was_put : (ends : Ends) (now : Scene) → EndsHave ends now → (at : LinkEnd) → (at_end at now).put ≡ said_at at now
+all_was_put ends now has GrpClient = has.gap_link.put_is
+all_was_put ends now has GrpServer = has.grp_server.put_is
+all_was_put ends now has SpinClient = has.spin_link.put_is
+all_was_put ends now has SpinServer = has.spin_server.put_is
+
 pub over_is : (s : Setting) (now : Scene) → is_group_open now.a.answers ≡ false → is_group_open now.b.answers ≡ false → is_group_open now.gap.answers ≡ false
-    → IsEndOver GrpClient now → IsEndOver GrpServer now → IsEndOver SpinClient now → IsEndOver SpinServer now → IsSentTo s now.turn now → IsOver s now
-over_is s now a b gap grp_client grp_server spin_client spin_server sent = record {
+    → IsEndOver GrpClient now → IsEndOver GrpServer now → IsEndOver SpinClient now → IsEndOver SpinServer now → IsSentTo s now.turn now → (e : Ends) → EndsHave e now → IsOver s now
+over_is s now a b gap grp_client grp_server spin_client spin_server sent e has = record {
   lines = lines;
   ends = ends;
   on_a = sent.on_a;
   on_b = sent.on_b;
   ticked = sent.ticked;
+  put = all_was_put e now has;
+  replayed = has.replayed;
 }
   where
     lines : (line : Line) → is_group_open (line_in line now).answers ≡ false
@@ -189,13 +198,13 @@ module _ (s : Setting) (base : List Call) where
 
   -- ---- A heartbeat
   pub beats_then : (c0 c1 c2 c3 : Option (List Call)) (e e' : Ends) (heartbeat : List ℕ) (answer : NetDone) (sequence : ℕ) (now : Scene) → DemoAt s base c0 e now → is_tenth now.turn ≡ true → heartbeat ≡ beat s now.turn → sequence ≡ accepted s now.turn
-      → ((n : Scene) → Plays s base c0 n → Plays s base c1 (sent_on A (heartbeat ∷ []) n)) → ListsCall c1 c2 (Send B heartbeat answer)
+      → ((n : Scene) → Plays s base c0 n → Plays s base c1 (sent_on A (heartbeat ∷ []) n)) → ListsCall c1 c2 (Send B heartbeat answer) → (NetDoneFailed answer → ⊥)
       → ((n : Scene) → EndsHave e n → sequence ≡ accepted s n.turn → Plays s base c2 (all_tick s n) → DemoAt s base c3 e' (all_put (all_tick s n)))
       → DemoAt s base c3 e' (after_beat s now)
-  beats_then c0 c1 c2 c3 e e' heartbeat answer sequence now at tenth is number sends lists ticks_on =
+  beats_then c0 c1 c2 c3 e e' heartbeat answer sequence now at tenth is number sends lists well ticks_on =
       let first : Scene = sent_on A (heartbeat ∷ []) now in
       let n : Scene = sent_on B (heartbeat ∷ []) first in
-      let played : Plays s base c2 (all_tick s n) = play_beat s base c1 c2 first heartbeat answer lists is tenth (sends now at.plays) in
+      let played : Plays s base c2 (all_tick s n) = play_beat s base c1 c2 first heartbeat answer lists well is tenth (sends now at.plays) in
       subst (λ (b : List ℕ). DemoAt s base c3 e' (all_put (all_tick s (sent_on B (b ∷ []) (sent_on A (b ∷ []) now))))) is (ticks_on n (ends_sent e now n.a n.b at.has) number played)
 
   pub beaten_tenth : (calls : Option (List Call)) (e : Ends) (now : Scene) (turn : ℕ) → now.turn ≡ turn → is_tenth turn ≡ true → DemoAt s base calls e (after_beat s now) → DemoAt s base calls e (after_due_beat s now)

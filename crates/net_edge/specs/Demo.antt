@@ -1,10 +1,11 @@
 -- What a demo of both ends does over a net that lists its calls.
-use Rattle.std.specs.Prelude.{◌≡◌, ℕ, ◌+◌, ◌<◌, ◌≤◌, ◌⊎◌, List, ◌++◌, Option, Some, take, Contains}
+use Rattle.std.specs.Prelude.{◌≡◌, ℕ, ◌+◌, ◌<◌, ◌≤◌, ◌⊎◌, List, ◌∷◌, ◌++◌, Option, Some, take, Contains}
 use Rattle.std.specs.List.{AllByRecursion}
 use Rattle.std.specs.FinMap as map
 use Rattle.pitch_io.specs.declared.line.Line.{Line}
 use Rattle.pitch_io.specs.declared.net.LinkEnd.{LinkEnd}
-use Rattle.pitch_io.specs.Nets.{Call, other_end}
+use Rattle.pitch_io.specs.Nets.{Call, Begin, other_end}
+use Rattle.pitch_io.specs.declared.net.NetDone.TheVariants.{Done}
 use Rattle.pitch_model.specs.Book.{Book, book_after}
 use Rattle.pitch_model.specs.Datagrams.{IsPiece}
 use Rattle.pitch_model.specs.Levels.{shares}
@@ -14,7 +15,7 @@ use Rattle.venue_core.specs.Plan.{plan}
 use Rattle.storm_plan.specs.StormText.{unit_line}
 use Rattle.net_edge.specs.Acting.{scene_of}
 use Rattle.net_edge.specs.Due.{Setting, demo_unit, hold_limit}
-use Rattle.net_edge.specs.Scene.{Scene, line_in, at_end, said_at}
+use Rattle.net_edge.specs.Scene.{Scene, line_in, at_end}
 use Rattle.net_edge.specs.Steps.{Step, calls_of}
 use Rattle.net_edge.specs.Turns.{AreSteps, IsOver, client_status}
 
@@ -47,17 +48,15 @@ pub record AreTotalsOf (book : Book) (orders quantity : ℕ) : Type 0 where
 pub record EndsDemo (s : Setting) (now : Scene) (orders quantity : ℕ) : Type 0 where
   pub over : IsOver s now
   pub last : IsLast s now
-  -- what was put at an end is what it said, and on the gap line went what the proxy had for it
-  pub put : (at : LinkEnd) → (at_end at now).put ≡ said_at at now
-  pub replayed : now.gap.sent ≡ now.replayed
   -- each datagram has the venue's messages, at their sequences
   pub pieces : (line : Line) → AllByRecursion (IsPiece (all_messages s) demo_unit) (line_in line now).sent
   -- where the net carried what it was given, the numbers are those of the venue's book
   pub book : IsCarried now → AreTotalsOf (reached_book s now) orders quantity
 
--- where the net lists its calls before and after a run, the calls of the run were added
+-- where the net lists its calls before and after a run, `begin` and then the calls of the run were
+-- added
 abbrev pub AddsCalls : List Step → Option (List Call) → Option (List Call) → Type 0
-AddsCalls run (Some before) (Some after) = after ≡ calls_of run ++ before
+AddsCalls run (Some before) (Some after) = after ≡ calls_of run ++ (Begin Done ∷ before)
 AddsCalls run before after = Unit {0}
 
 -- a demo did such a run, and printed the unit's line

@@ -7,7 +7,8 @@ use Rattle.pitch_io.specs.declared.line.Line.TheVariants.{A, B, Gap}
 use Rattle.pitch_io.specs.declared.net.LinkEnd.TheVariants.{GrpServer, SpinServer}
 use Rattle.pitch_io.specs.declared.net.NetTaken.TheVariants.{Got}
 use Rattle.pitch_io.specs.declared.net.NetTaken.{NetTaken}
-use Rattle.pitch_io.specs.Nets.{Call}
+use Rattle.pitch_io.specs.Nets.{Call, Begin}
+use Rattle.pitch_io.specs.declared.net.NetDone.TheVariants.{Done}
 use Rattle.pitch_model.specs.History.{Entry, Raw}
 use Rattle.pitch_model.specs.Honest.{Honest}
 use Rattle.pitch_model.specs.Image.{image}
@@ -43,10 +44,10 @@ abbrev pub ListsCalls : List Call → Option (List Call) → List Step → Type 
 ListsCalls base None run = Unit {0}
 ListsCalls base (Some calls) run = calls ≡ calls_of run ++ base
 
--- the calls before a run
+-- the calls before a run, of which the last is `begin`
 abbrev pub calls_before : Option (List Call) → List Call
 calls_before None = []
-calls_before (Some calls) = calls
+calls_before (Some calls) = Begin Done ∷ calls
 
 -- a run that leads to a scene
 pub record LeadsTo (s : Setting) (base : List Call) (calls : Option (List Call)) (now : Scene) (run : List Step) : Type 0 where

@@ -3,14 +3,23 @@ use Rattle.std.specs.Prelude.{◌≡◌, ◌<◌, true, false, List, [], ◌∷�
 use Rattle.pitch_io.specs.declared.line.Line.{Line}
 use Rattle.pitch_io.specs.declared.line.Line.TheVariants.{A, B}
 use Rattle.pitch_io.specs.declared.net.LinkEnd.{LinkEnd}
-use Rattle.pitch_io.specs.Nets.{Call, Next, Take}
+use Rattle.pitch_io.specs.Nets.{Call, Begin, Send, Next, Put, Take, NetDoneFailed, NetTakeFailed}
+use Rattle.pitch_io.specs.Putting.{PutFailed}
 use Rattle.pitch_model.specs.Status.{status_of}
 use Rattle.pitch_model.specs.declared.status.Status.{Status}
 use Rattle.pitch_model.specs.declared.status.Status.TheVariants.{Current}
 use Rattle.net_edge.specs.Acting.{is_group_open, scene_of}
 use Rattle.net_edge.specs.Due.{Setting, hold_limit, beat, due, is_tenth, ticks}
-use Rattle.net_edge.specs.Scene.{Scene, line_in, at_end, is_done}
+use Rattle.net_edge.specs.Scene.{Scene, line_in, at_end, said_at, is_done}
 use Rattle.net_edge.specs.Steps.{Step, Did, Beat, Turn}
+
+-- a run has no call that failed, and `begin` comes before it alone
+abbrev pub GoesWell : Call → Type 0
+GoesWell (Begin answer) = ⊥
+GoesWell (Send line datagram answer) = NetDoneFailed answer → ⊥
+GoesWell (Next line bytes answer) = NetTakeFailed answer → ⊥
+GoesWell (Put at piece answer) = PutFailed answer → ⊥
+GoesWell (Take at bytes answer) = NetTakeFailed answer → ⊥
 
 -- a call of `next` or `take` comes while the turn's group of them is open: it ends with its first
 -- Quiet or End, or with the 100th call; and no end is asked that got End or was cut
@@ -24,13 +33,16 @@ abbrev pub IsEndOver : LinkEnd → Scene → Type 0
 IsEndOver at now = is_group_open (at_end at now).answers ≡ true → is_done at now ≡ true
 
 -- a turn is over: on each line and at each end its group of calls is, what it brings was sent, and
--- its tick came
+-- its tick came; what was put at an end is what it said, and on the gap line went what the proxy had
+-- for it
 pub record IsOver (s : Setting) (now : Scene) : Type 0 where
   pub lines : (line : Line) → is_group_open (line_in line now).answers ≡ false
   pub ends : (at : LinkEnd) → IsEndOver at now
   pub on_a : now.a.sent ≡ due s A now.turn
   pub on_b : now.b.sent ≡ due s B now.turn
   pub ticked : now.ticked ≡ ticks now.turn
+  pub put : (at : LinkEnd) → (at_end at now).put ≡ said_at at now
+  pub replayed : now.gap.sent ≡ now.replayed
 
 -- the client's status
 abbrev pub client_status : Scene → Status
@@ -41,8 +53,8 @@ abbrev pub MayGoOn : Setting → Scene → Type 0
 MayGoOn s now = s.count < now.turn → client_status now ≡ Current s.count → ⊥
 
 abbrev pub MayCome : Setting → Step → Scene → Type 0
-MayCome s (Did call) now = MayCall call now
-MayCome s (Beat heartbeat answer) now = (heartbeat ≡ beat s now.turn) × (is_tenth now.turn ≡ true)
+MayCome s (Did call) now = GoesWell call × MayCall call now
+MayCome s (Beat heartbeat answer) now = (NetDoneFailed answer → ⊥) × (heartbeat ≡ beat s now.turn) × (is_tenth now.turn ≡ true)
 MayCome s Turn now = IsOver s now × MayGoOn s now
 
 -- each step may come after those before it

@@ -48,6 +48,7 @@ impl Ends {
             → DemoAt s base (N.calls net.new) self.new (all_put (all_tick s now))) }
         ensures fault { IfErr result (λ error. error ≡ errors.NetFault → Rose (N.faults net.old) (N.faults net.new)) }
         ensures later { N.faults net.old ≤ N.faults net.new }
+        ensures still { OnOk result (N.faults net.new ≡ N.faults net.old) }
     {
         tell_spin(self.alloc, net, &mut self.spin, sequence, self.spin_cut)?;
         tick_proxy(self.alloc, net, &mut self.proxy, self.grp_cut)?;
@@ -80,6 +81,7 @@ impl Ends {
             → DemoAt s base (N.calls net.new) self.new (after_beat s now) × MarketAt s market.new now.turn) }
         ensures fault { IfErr result (λ error. error ≡ errors.NetFault → Rose (N.faults net.old) (N.faults net.new)) }
         ensures later { N.faults net.old ≤ N.faults net.new }
+        ensures still { OnOk result (N.faults net.new ≡ N.faults net.old) }
     {
         let heartbeat = market.beat();
         send(net, Line::A, &heartbeat)?;
@@ -105,6 +107,7 @@ impl Ends {
             → DemoAt s base (N.calls net.new) self.new (after_due_beat s now) × MarketAt s market.new turn) }
         ensures fault { IfErr result (λ error. error ≡ errors.NetFault → Rose (N.faults net.old) (N.faults net.new)) }
         ensures later { N.faults net.old ≤ N.faults net.new }
+        ensures still { OnOk result (N.faults net.new ≡ N.faults net.old) }
     {
         if turn % 10 != 0 {
             return Ok(());
@@ -130,6 +133,7 @@ impl Ends {
             × IsSentTo (setting number count) turn after × IsUncalled after) }
         ensures fault { IfErr result (λ error. error ≡ errors.NetFault → Rose (N.faults net.old) (N.faults net.new)) }
         ensures later { N.faults net.old ≤ N.faults net.new }
+        ensures still { OnOk result (N.faults net.new ≡ N.faults net.old) }
     {
         market.accept_next(number, count, turn)?;
         let datagrams = market.flush()?;
@@ -159,6 +163,7 @@ impl Ends {
         ensures room { length into.new ≡ length into.old }
         ensures fault { IfErr result (λ error. error ≡ errors.NetFault → Rose (N.faults net.old) (N.faults net.new)) }
         ensures later { N.faults net.old ≤ N.faults net.new }
+        ensures still { OnOk result (N.faults net.new ≡ N.faults net.old) }
     {
         self.publish(net, market, number, count, turn)?;
         self.grp_ended = serve_end(

@@ -64,6 +64,7 @@ fn hear_one<N: Net>(
     ensures room { length into.new ≡ length into.old }
     ensures fault { IfErr result (λ error. error ≡ errors.NetFault → Rose (N.faults net.old) (N.faults net.new)) }
     ensures later { N.faults net.old ≤ N.faults net.new }
+    ensures still { OnOk result (N.faults net.new ≡ N.faults net.old) }
 {
     let answer = net.next(line, into);
     match answer {
@@ -89,6 +90,7 @@ pub(crate) fn hear_line<N: Net>(
     ensures room { length into.new ≡ length into.old }
     ensures fault { IfErr result (λ error. error ≡ errors.NetFault → Rose (N.faults net.old) (N.faults net.new)) }
     ensures later { N.faults net.old ≤ N.faults net.new }
+    ensures still { OnOk result (N.faults net.new ≡ N.faults net.old) }
 {
     'calls: for _index in 0..MOST_CALLS {
         match hear_one(net, line, client, into)? {

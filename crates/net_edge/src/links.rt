@@ -77,6 +77,7 @@ fn hear_link_once<N: Net, L: ClientEnd>(
     ensures room { length into.new ≡ length into.old }
     ensures fault { IfErr result (λ error. error ≡ errors.NetFault → Rose (N.faults net.old) (N.faults net.new)) }
     ensures later { N.faults net.old ≤ N.faults net.new }
+    ensures still { OnOk result (N.faults net.new ≡ N.faults net.old) }
 {
     let end = L::net_end();
     let answer = net.take(end, into);
@@ -111,6 +112,7 @@ pub(crate) fn hear_link<N: Net, L: ClientEnd>(
     ensures room { length into.new ≡ length into.old }
     ensures fault { IfErr result (λ error. error ≡ errors.NetFault → Rose (N.faults net.old) (N.faults net.new)) }
     ensures later { N.faults net.old ≤ N.faults net.new }
+    ensures still { OnOk result (N.faults net.new ≡ N.faults net.old) }
 {
     if cut {
         return Ok(true);
@@ -154,6 +156,7 @@ pub(crate) fn tick_link<N: Net, L: ClientEnd>(
         → Plays s base (N.calls net.old) now → LinkTicks L.peer s base (N.calls net.new) (L.ending link.new) client.new c (where_stands cut (λ k. at_link (peer_setup L.peer) Ticked k) c) E cut after now) }
     ensures fault { IfErr result (λ error. error ≡ errors.NetFault → Rose (N.faults net.old) (N.faults net.new)) }
     ensures later { N.faults net.old ≤ N.faults net.new }
+    ensures still { OnOk result (N.faults net.new ≡ N.faults net.old) }
 {
     let mut said = Vec::new(alloc);
     say_ticked(link, cut, &mut said)?;
@@ -192,6 +195,7 @@ pub(crate) fn ask_link<N: Net, L: ClientEnd>(
         → LinkActs L.peer s base (N.calls net.new) (L.ending link.new) c (where_stands cut (asked_of L.peer ask) c) now) }
     ensures fault { IfErr result (λ error. error ≡ errors.NetFault → Rose (N.faults net.old) (N.faults net.new)) }
     ensures later { N.faults net.old ≤ N.faults net.new }
+    ensures still { OnOk result (N.faults net.new ≡ N.faults net.old) }
 {
     let mut said = Vec::new(alloc);
     say_asked(link, ask, cut, &mut said)?;

@@ -99,6 +99,7 @@ pub(crate) fn tick_proxy<N: Net>(
         → ProxyActs s base (N.calls net.new) proxy.new c (where_stands cut (λ k. at_grp_server demo_unit Ticked k) c) (next_second spent) now) }
     ensures fault { IfErr result (λ error. error ≡ errors.NetFault → Rose (N.faults net.old) (N.faults net.new)) }
     ensures later { N.faults net.old ≤ N.faults net.new }
+    ensures still { OnOk result (N.faults net.new ≡ N.faults net.old) }
 {
     let mut said = Vec::new(alloc);
     proxy.tick(cut, &mut said)?;
@@ -119,6 +120,7 @@ fn serve_piece<N: Net>(
     ensures store { store.new ≡ store.old }
     ensures fault { IfErr result (λ error. error ≡ errors.NetFault → Rose (N.faults net.old) (N.faults net.new)) }
     ensures later { N.faults net.old ≤ N.faults net.new }
+    ensures still { OnOk result (N.faults net.new ≡ N.faults net.old) }
 {
     let mut said = Vec::new(alloc);
     let mut lines = DatagramList::make(alloc);

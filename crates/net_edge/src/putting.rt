@@ -20,6 +20,7 @@ pub(crate) fn send<N: Net>(net: &mut N, line: Line, datagram: &[u8]) -> Result<(
         → Plays s base (N.calls net.new) (sent_on line (datagram.now ∷ []) now)) }
     ensures fault { IfErr result (λ error. error ≡ errors.NetFault → Rose (N.faults net.old) (N.faults net.new)) }
     ensures later { N.faults net.old ≤ N.faults net.new }
+    ensures still { OnOk result (N.faults net.new ≡ N.faults net.old) }
 {
     match net.send(line, datagram) {
         NetDone::Done => Ok(()),
@@ -37,6 +38,7 @@ pub(crate) fn send_all<N: Net>(
         → Plays s base (N.calls net.new) (sent_on line (bytes_in datagrams.now) now)) }
     ensures fault { IfErr result (λ error. error ≡ errors.NetFault → Rose (N.faults net.old) (N.faults net.new)) }
     ensures later { N.faults net.old ≤ N.faults net.new }
+    ensures still { OnOk result (N.faults net.new ≡ N.faults net.old) }
 {
     'sends: for datagram in datagrams {
         send(net, line, datagram.bytes())?;
@@ -55,6 +57,7 @@ pub(crate) fn send_unless<N: Net>(
         → Plays s base (N.calls net.new) (sent_on line (if lost then [] else bytes_in datagrams.now) now)) }
     ensures fault { IfErr result (λ error. error ≡ errors.NetFault → Rose (N.faults net.old) (N.faults net.new)) }
     ensures later { N.faults net.old ≤ N.faults net.new }
+    ensures still { OnOk result (N.faults net.new ≡ N.faults net.old) }
 {
     if lost {
         return Ok(());
@@ -69,6 +72,7 @@ pub(crate) fn put_whole<N: Net>(net: &mut N, at: LinkEnd, bytes: &[u8]) -> Resul
         → Plays s base (N.calls net.new) (end_puts at bytes.now now)) }
     ensures fault { IfErr result (λ error. error ≡ errors.NetFault → Rose (N.faults net.old) (N.faults net.new)) }
     ensures later { N.faults net.old ≤ N.faults net.new }
+    ensures still { OnOk result (N.faults net.new ≡ N.faults net.old) }
 {
     let mut done = 0;
     'puts: while done < bytes.len() {

@@ -97,6 +97,7 @@ fn set_up<N: Net>(net: &mut N, login: &[u8], spin_login: &[u8]) -> Result<(), De
         → Plays s (calls_before (N.calls net.old)) (N.calls net.new) (all_put first_scene)) }
     ensures fault { IfErr result (λ error. error ≡ errors.NetFault → Rose (N.faults net.old) (N.faults net.new)) }
     ensures later { N.faults net.old ≤ N.faults net.new }
+    ensures still { OnOk result (N.faults net.new ≡ N.faults net.old) }
 {
     match net.begin() {
         NetDone::Done => {}
@@ -136,6 +137,7 @@ fn run<N: Net>(
         → (now : Scene) × DemoAt (setting number count) base (N.calls net.new) ends.new now × MarketAt (setting number count) market.new now.turn × IsOver (setting number count) now × IsLast (setting number count) now) }
     ensures fault { IfErr result (λ error. error ≡ errors.NetFault → Rose (N.faults net.old) (N.faults net.new)) }
     ensures later { N.faults net.old ≤ N.faults net.new }
+    ensures still { OnOk result (N.faults net.new ≡ N.faults net.old) }
 {
     let mut turn = 1;
     ends.turn(net, market, number, count, turn, into)?;
@@ -203,6 +205,7 @@ fn play<N: Net>(
         → IsDemo (setting number count) (N.calls net.old) (N.calls net.new) out.old.items out.new.items) }
     ensures fault { IfErr result (λ error. error ≡ errors.NetFault → Rose (N.faults net.old) (N.faults net.new)) }
     ensures later { N.faults net.old ≤ N.faults net.new }
+    ensures still { OnOk result (N.faults net.new ≡ N.faults net.old) }
     ensures err { OnErr result (out.new.items ≡ out.old.items) }
 {
     set_up(net, &parts.login, &parts.spin_login)?;
@@ -242,6 +245,7 @@ pub fn demo<N: Net>(
     // The net failed only where its count of faults rose.
     ensures fault { IfErr result (λ error. error ≡ errors.NetFault → Rose (N.faults net.old) (N.faults net.new)) }
     ensures later { N.faults net.old ≤ N.faults net.new }
+    ensures still { OnOk result (N.faults net.new ≡ N.faults net.old) }
     ensures err { OnErr result (out.new.items ≡ out.old.items) }
 {
     let mut parts = make_parts(alloc)?;

@@ -1,7 +1,7 @@
 //! The servers' two ends as one: a turn's calls of `take` at the proxy's end, and at that of the
 //! Spin Server.
 
-ghost use Rattle.std.specs.Prelude.{◌≡◌, ◌≤◌, ◌<◌, Bool, false, true, ◌||◌, ◌&&◌, not, List, [], ◌∷◌, length, Option, IfOk, IfErr};
+ghost use Rattle.std.specs.Prelude.{◌≡◌, ◌≤◌, ◌<◌, Bool, false, true, ◌||◌, ◌&&◌, not, List, [], ◌∷◌, length, Option, IfOk, IfErr, OnOk};
 ghost use Rattle.pitch_io.specs.Causes.{Rose};
 ghost use Rattle.pitch_io.specs.Nets.{Call};
 ghost use Rattle.pitch_io.specs.declared.net.NetTaken.{NetTaken as TakenSaid};
@@ -45,7 +45,8 @@ pub(crate) trait ServerEnd {
         ensures store { store.new ≡ store.old }
         ensures room { length into.new ≡ length into.old }
         ensures fault { IfErr result (λ error. error ≡ errors.NetFault → Rose (N.faults net.old) (N.faults net.new)) }
-        ensures later { N.faults net.old ≤ N.faults net.new };
+        ensures later { N.faults net.old ≤ N.faults net.new }
+        ensures still { OnOk result (N.faults net.new ≡ N.faults net.old) };
 }
 
 /// A turn's calls of `take` at a server's end, where its connection stands and it did not get End
@@ -66,6 +67,7 @@ pub(crate) fn serve_end<N: Net, E: ServerEnd>(
     ensures room { length into.new ≡ length into.old }
     ensures fault { IfErr result (λ error. error ≡ errors.NetFault → Rose (N.faults net.old) (N.faults net.new)) }
     ensures later { N.faults net.old ≤ N.faults net.new }
+    ensures still { OnOk result (N.faults net.new ≡ N.faults net.old) }
 {
     if cut || ended {
         return Ok(ended);

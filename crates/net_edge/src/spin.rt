@@ -156,6 +156,7 @@ pub(crate) fn tell_spin<N: Net>(
         → SpinActs s base (N.calls net.new) spin.new c (where_stands cut (λ k. at_spin_server demo_unit (Told sequence) k) c) now) }
     ensures fault { IfErr result (λ error. error ≡ errors.NetFault → Rose (N.faults net.old) (N.faults net.new)) }
     ensures later { N.faults net.old ≤ N.faults net.new }
+    ensures still { OnOk result (N.faults net.new ≡ N.faults net.old) }
 {
     let mut said = Vec::new(alloc);
     say_told(spin, sequence, cut, &mut said)?;
@@ -174,6 +175,7 @@ pub(crate) fn tick_spin<N: Net>(
         → SpinActs s base (N.calls net.new) spin.new c (where_stands cut (λ k. at_spin_server demo_unit Ticked k) c) now) }
     ensures fault { IfErr result (λ error. error ≡ errors.NetFault → Rose (N.faults net.old) (N.faults net.new)) }
     ensures later { N.faults net.old ≤ N.faults net.new }
+    ensures still { OnOk result (N.faults net.new ≡ N.faults net.old) }
 {
     let mut said = Vec::new(alloc);
     say_ticked(spin, cut, &mut said)?;

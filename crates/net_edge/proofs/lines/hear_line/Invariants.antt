@@ -11,6 +11,7 @@ abbrev pub invariant-calls : goal.invariant-calls
 invariant-calls g l = record {
   room : length l.into ≡ length l.fn.into;
   later : g.N.Net.faults l.fn.net ≤ g.N.Net.faults l.net;
+  still : g.N.Net.faults l.net ≡ g.N.Net.faults l.fn.net;
   heard : (s : Setting) (base : List Call) (now : Scene) → HearsOn s base (g.N.Net.calls l.fn.net) l.fn.client l.line [] now
       → (answers : List NetTaken) × Gots answers l._index × HearsOn s base (g.N.Net.calls l.net) l.client l.line answers now;
 }

@@ -23,3 +23,12 @@ returns-in_ok-hear_down-in-End-clause-heard g c = λ s base answers now h opened
     let link = g.L.ClientEnd.ending c.args.link.now in
     subst (λ (a : NetTaken). HearsLink peer s base (g.N.Net.calls c.take-answer.new.self) link c.hear_down.new.client (a ∷ answers) true now) (sym c.in-End.is)
     (link_end peer s base _ _ c.net_end-end.result link link c.args.client.now c.hear_down.new.client answers now h c.net_end-end.ensures opened c.in-End.ensures.calls (c.in_ok-hear_down-in-End.ensures h.heard h.has))
+
+pub returns-in_ok-shut-in-Got-clause-still : goal.returns-in_ok-shut-in-Got-clause-still
+returns-in_ok-shut-in-Got-clause-still g c = c.in-Got.ensures.still (λ f. f)
+
+pub returns-in-Quiet-clause-still : goal.returns-in-Quiet-clause-still
+returns-in-Quiet-clause-still g c = c.in-Quiet.ensures.still (λ f. f)
+
+pub returns-in_ok-hear_down-in-End-clause-still : goal.returns-in_ok-hear_down-in-End-clause-still
+returns-in_ok-hear_down-in-End-clause-still g c = c.in-End.ensures.still (λ f. f)

@@ -1,4 +1,4 @@
-use Rattle.std.proofs.Common.{◌≡◌, ◌-◌, ℕ, List, length, take, drop, ap, sym, subst, arith}
+use Rattle.std.proofs.Common.{◌≡◌, ◌-◌, ℕ, List, length, take, drop, refl, ap, sym, ◌∙◌, subst, arith}
 use Rattle.std.proofs.lemmas.List.{take_rest, take_all, length-drop}
 use Rattle.pitch_io.specs.Nets.{Put}
 use Rattle.pitch_io.specs.declared.sink.Put.TheVariants as puts
@@ -12,6 +12,7 @@ puts-init g c = record {
   within = omega arith;
   plays = λ s base now plays. subst (Plays s base (g.N.Net.calls c.args.net.now)) (sym (put_none c.args.at now)) plays;
   later = omega arith;
+  still = refl;
 }
 
 pub puts-preserved : goal.puts-preserved
@@ -24,8 +25,9 @@ puts-preserved g c =
       within = omega (arith, c.in-Wrote.ensures.count.1, ap (λ (x : List ℕ). length x) whole, length-drop c.puts.done bytes, c.puts.invariant.within);
       plays = λ s base now plays.
           subst (Plays s base (g.N.Net.calls c.put.new.self)) (put_next c.args.at bytes piece c.puts.done count now whole)
-          (play_call s base _ _ (end_puts c.args.at (take c.puts.done bytes) now) (Put c.args.at piece (puts.Wrote count)) c.in-Wrote.ensures.calls tt (c.puts.invariant.plays s base now plays));
+          (play_call s base _ _ (end_puts c.args.at (take c.puts.done bytes) now) (Put c.args.at piece (puts.Wrote count)) c.in-Wrote.ensures.calls (λ f. f) tt (c.puts.invariant.plays s base now plays));
       later = omega (arith, c.puts.invariant.later, c.put.ensures.cause.later);
+      still = c.in-Wrote.ensures.still (λ f. f) ∙ c.puts.invariant.still;
     }
 
 pub returns-clause-put : goal.returns-clause-put

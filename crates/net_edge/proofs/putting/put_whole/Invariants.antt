@@ -1,4 +1,4 @@
-use Rattle.std.proofs.Common.{◌≤◌, ◌-◌, List, length, take}
+use Rattle.std.proofs.Common.{◌≡◌, ◌≤◌, ◌-◌, List, length, take}
 use Rattle.pitch_io.specs.Nets.{Call}
 use Rattle.net_edge.specs.Acting.{end_puts}
 use Rattle.net_edge.specs.Due.{Setting}
@@ -11,6 +11,7 @@ invariant-puts g l = record {
   within : l.done ≤ length l.bytes;
   plays : (s : Setting) (base : List Call) (now : Scene) → Plays s base (g.N.Net.calls l.fn.net) now → Plays s base (g.N.Net.calls l.net) (end_puts l.at (take l.done l.bytes) now);
   later : g.N.Net.faults l.fn.net ≤ g.N.Net.faults l.net;
+  still : g.N.Net.faults l.net ≡ g.N.Net.faults l.fn.net;
 }
 
 abbrev pub decreases-puts : goal.decreases-puts

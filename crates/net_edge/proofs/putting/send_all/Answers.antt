@@ -13,6 +13,7 @@ pub sends-init : goal.sends-init
 sends-init g c = record {
   plays = λ s base now plays. subst (Plays s base (g.N.Net.calls c.args.net.now)) (sym (sent_none c.args.line now)) plays;
   later = omega arith;
+  still = refl;
 }
 
 pub sends-preserved : goal.sends-preserved
@@ -28,6 +29,7 @@ sends-preserved g c =
           ∙ ap (λ (xs : List (List _)). sent_on c.args.line xs now) (sym (bytes_more all i c.datagram-item.result at)))
           (c.in_ok-send.ensures.sent s base (sent_on c.args.line (bytes_in (take i all)) now) (c.sends.invariant.plays s base now plays));
       later = omega (arith, c.sends.invariant.later, c.send.ensures.later);
+      still = c.in_ok-send.ensures.still ∙ c.sends.invariant.still;
     }
 
 pub returns-clause-sent : goal.returns-clause-sent

@@ -13,6 +13,7 @@ turns-init g c = record {
   most = omega arith;
   room = c.turn.ensures.room;
   later = c.turn.ensures.later;
+  still = c.in_ok-turn.ensures.still;
   ran = λ base at market.
       let s : Setting = setting c.args.number c.args.count in
       c.in_ok-turn.ensures.over base (all_put first_scene) refl at (market_first s c.args.market.now market) (sent_first s) uncalled_first;
@@ -29,6 +30,7 @@ turns-preserved g c =
       most = omega (arith, c.turns.invariant.most, ne);
       room = c.turn-in-turns.ensures.room ∙ c.turns.invariant.room;
       later = omega (arith, c.turns.invariant.later, c.turn-in-turns.ensures.later);
+      still = c.in_ok-turn-2.ensures.still ∙ c.turns.invariant.still;
       ran = λ base at market.
           let now = c.turns.invariant.ran base at market in
           let status : c.status.result ≡ client_status now.0 = c.status.ensures hold_limit now.0.heard now.2.has.client.tracks in

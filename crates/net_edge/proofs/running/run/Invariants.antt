@@ -12,6 +12,7 @@ invariant-turns g l = record {
   most : l.turn ≤ l.count + 200;
   room : length l.into ≡ length l.fn.into;
   later : g.N.Net.faults l.fn.net ≤ g.N.Net.faults l.net;
+  still : g.N.Net.faults l.net ≡ g.N.Net.faults l.fn.net;
   ran : (base : List Call) → DemoAt (setting l.number l.count) base (g.N.Net.calls l.fn.net) l.fn.ends (all_put first_scene) → MarketHas l.fn.market [] 0 []
       → (now : Scene) × (now.turn ≡ l.turn) × DemoAt (setting l.number l.count) base (g.N.Net.calls l.net) l.ends now × MarketAt (setting l.number l.count) l.market l.turn × IsOver (setting l.number l.count) now;
 }

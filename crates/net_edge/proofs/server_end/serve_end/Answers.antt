@@ -13,6 +13,7 @@ takes-init g c = record {
   room = refl;
   store = refl;
   later = omega arith;
+  still = refl;
   served = λ s base now h whole stored. ([], gots_none, h);
 }
 
@@ -21,6 +22,7 @@ takes-preserved g c = record {
   room = c.serve_one.ensures.room ∙ c.takes.invariant.room;
   store = c.serve_one.ensures.store ∙ c.takes.invariant.store;
   later = omega (arith, c.takes.invariant.later, c.serve_one.ensures.later);
+  still = c.in_ok-serve_one.ensures.still ∙ c.takes.invariant.still;
   served = λ s base now h whole stored.
       call_more c.in_ok-serve_one.field-0 c.takes.index (omega arith) (c.takes.invariant.served s base now h whole stored)
       (λ answers gots opened is.

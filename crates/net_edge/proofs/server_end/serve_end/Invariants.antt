@@ -11,6 +11,7 @@ invariant-takes g l = record {
   room : length l.into ≡ length l.fn.into;
   store : l.store ≡ l.fn.store;
   later : g.N.Net.faults l.fn.net ≤ g.N.Net.faults l.net;
+  still : g.N.Net.faults l.net ≡ g.N.Net.faults l.fn.net;
   served : (s : Setting) (base : List Call) (now : Scene) → g.E.ServerEnd.serves l.fn.server s base (g.N.Net.calls l.fn.net) [] false now → g.E.ServerEnd.is_cut now ≡ false → g.E.ServerEnd.shows l.fn.store s now
       → (answers : List NetTaken) × Gots answers l.index × g.E.ServerEnd.serves l.server s base (g.N.Net.calls l.net) answers false now;
 }
