@@ -3,10 +3,12 @@ use Rattle.std.proofs.Common.{◌≡◌, ℕ, ◌<◌, ◌≤◌, Bool, true, fa
 use Rattle.std.proofs.lemmas.List.{append-nil}
 use Rattle.std.proofs.lemmas.Bool.{ne_eqb, cond-true, cond-false, lt-ltb, le-ltb}
 use Rattle.unit_packets.specs.Packing.{packed, packed_on}
-use Rattle.gap_store.specs.Look.{View, IsLater, look, slice_of, given, PacksRange}
+use Rattle.gap_store.specs.Look.{View, IsLater, look, slice_of, given, FindsAt, PacksRange, PacksAt}
 use Rattle.gap_store.specs.declared.found.Found.{Found}
 use Rattle.gap_store.specs.declared.found.Found.TheVariants.{Kept}
+use Rattle.session_ends.specs.Showing.{ShowsLater}
 use Rattle.session_ends.proofs.Runs.{IsOrder}
+use Rattle.session_ends.proofs.Showing.{shown_same}
 use Rattle.grp_session.specs.Budget.{Limits, Spent, limit_reached, spending}
 use Rattle.grp_session.specs.Asking.{status_found, status_here, IsAsked}
 
@@ -22,6 +24,17 @@ later_then a b c p q = record {
 
 pub later_order : IsOrder IsLater
 later_order = record { same = later_same; then = later_then }
+
+-- ---- What is seen after a look-up
+-- the same as before
+pub still_shown : (shown : View → Type 0) (view : View) → shown view → ShowsLater IsLater shown view
+still_shown = shown_same IsLater later_order
+
+pub found_shown : (shown : View → Type 0) (view : View) (first count : ℕ) (found : Found) → FindsAt shown view first count found → ShowsLater IsLater shown view
+found_shown shown view first count found f = record { now = f.now; later = f.later; shows = f.shows }
+
+pub packed_shown : (shown : View → Type 0) (view : View) (unit first count : ℕ) (found : Found) (before after : List (List ℕ)) → PacksAt shown view unit first count found before after → ShowsLater IsLater shown view
+packed_shown shown view unit first count found before after p = record { now = p.now; later = p.later; shows = p.shows }
 
 -- ---- The first status that applies
 pub status_there : (l : Limits) (view : View) (spent : Spent) (sequence count : ℕ) → 85 ≡ status_here false l view spent sequence count

@@ -1,6 +1,7 @@
 ghost use Rattle.std.specs.Prelude.{◌≡◌, ℕ, true, IfOk, ◌==◌};
 ghost use Rattle.unit_packets.specs.Packing.{bytes_in};
-ghost use Rattle.gap_store.specs.Look.{View};
+ghost use Rattle.gap_store.specs.Look.{View, IsLater};
+ghost use Rattle.session_ends.specs.Showing.{ShowsLater};
 ghost use Rattle.grp_session.specs.Budget.{Spent, Counted};
 ghost use Rattle.grp_session.specs.Asking.{IsAsked};
 
@@ -30,6 +31,8 @@ pub(crate) fn ask<L: GapLookup>(
     gap_line: &mut DatagramList,
 ) -> Result<u8, OutOfMemory>
     ensures same { L.still ≡ true → lookup.new ≡ lookup.old }
+    // Of every view that the source shows before.
+    ensures left { (view : View) → L.shows lookup.old view → ShowsLater IsLater (L.shows lookup.new) view }
     // Of what was spent, and of every view that the source shows before.
     ensures asked { IfOk result (λ status. (spent : Spent) (view : View) → Counted budget.old spent → L.shows lookup.old view
         → IsAsked range.unit there budget.old.limits range.first range.count spent view status (Counted budget.new) (L.shows lookup.new) (bytes_in gap_line.old.items) (bytes_in gap_line.new.items)) }

@@ -12,6 +12,7 @@ ghost use Rattle.session_ends.specs.Events.{Event, Ticked};
 ghost use Rattle.session_ends.specs.Hearing.{reader_items, IsThrough};
 ghost use Rattle.session_ends.specs.Items.{closed_at};
 ghost use Rattle.session_ends.specs.Sending.{sent_bytes, sent_at_tick};
+ghost use Rattle.session_ends.specs.Showing.{ShowsLater};
 ghost use Rattle.grp_session.specs.Budget.{Spent, Counted};
 ghost use Rattle.grp_session.specs.Lent.{OnLent, OnNone, Left};
 ghost use Rattle.grp_session.specs.Serving.{Source, request_answer, message_answer, said_answer, grp_answer, grp_sends, ProxyStands, ProxyFeeds};
@@ -154,6 +155,7 @@ impl GrpServer {
         gap_line: &mut DatagramList,
     ) -> Result<(), OutOfMemory>
         ensures same { L.still ≡ true → lookup.new ≡ lookup.old }
+        ensures left { (view : View) → L.shows lookup.old view → ShowsLater IsLater (L.shows lookup.new) view }
         ensures limits { budget.new.limits ≡ budget.old.limits }
         ensures hears { OnOk result ((spent : Spent) (view : View) → Counted budget.old spent → L.shows lookup.old view
             → Hears (λ v. request_answer self.now.setup there budget.old.limits v spent range.unit range.first range.count) IsLater view (Counted budget.new) (L.shows lookup.new)
@@ -179,6 +181,7 @@ impl GrpServer {
         gap_line: &mut DatagramList,
     ) -> Result<(), OutOfMemory>
         ensures same { L.still ≡ true → lookup.new ≡ lookup.old }
+        ensures left { (view : View) → L.shows lookup.old view → ShowsLater IsLater (L.shows lookup.new) view }
         ensures limits { budget.new.limits ≡ budget.old.limits }
         ensures hears { OnOk result ((spent : Spent) (view : View) → Counted budget.old spent → L.shows lookup.old view
             → Hears (λ v. message_answer self.now.setup there budget.old.limits self.now.logged spent v message.now) IsLater view (Counted budget.new) (L.shows lookup.new)
@@ -229,6 +232,7 @@ impl GrpServer {
         gap_line: &mut DatagramList,
     ) -> Result<(), OutOfMemory>
         ensures same { L.still ≡ true → lookup.new ≡ lookup.old }
+        ensures left { (view : View) → L.shows lookup.old view → ShowsLater IsLater (L.shows lookup.new) view }
         ensures limits { budget.new.limits ≡ budget.old.limits }
         ensures hears { OnOk result ((spent : Spent) (view : View) → Counted budget.old spent → L.shows lookup.old view
             → Hears (λ v. said_answer self.now.setup there budget.old.limits self.now.logged spent v said.now) IsLater view (Counted budget.new) (L.shows lookup.new)
@@ -256,6 +260,7 @@ impl GrpServer {
     ) -> Result<(), OutOfMemory>
         requires { self.old.closed ≡ None }
         ensures same { L.still ≡ true → lookup.new ≡ lookup.old }
+        ensures left { (view : View) → L.shows lookup.old view → ShowsLater IsLater (L.shows lookup.new) view }
         ensures closed { OnOk result (self.new.closed ≡ cause_of self.old.setup self.old.logged item.now) }
         ensures logged { OnOk result (self.new.logged ≡ (self.old.logged || logs_in self.old.setup.role item.now)) }
         ensures rest { self.new ≡ record self.old { closed = self.new.closed; logged = self.new.logged } }
@@ -283,6 +288,7 @@ impl GrpServer {
     ) -> Result<usize, OutOfMemory>
         requires { self.old.closed ≡ None }
         ensures same { L.still ≡ true → lookup.new ≡ lookup.old }
+        ensures left { (view : View) → L.shows lookup.old view → ShowsLater IsLater (L.shows lookup.new) view }
         ensures through { IfOk result (λ count. IsThrough reader.now.rest count) }
         ensures closed { OnOk result (self.new.closed ≡ first_cause self.old.setup self.old.logged (reader_items reader.now)) }
         ensures logged { OnOk result (self.new.closed ≡ None → self.new.logged ≡ (self.old.logged || list_any (logs_in self.old.setup.role) (reader_items reader.now))) }
@@ -316,6 +322,7 @@ impl GrpServer {
         requires no_said { said.old.items ≡ [] }
         requires no_lines { lines.old.items ≡ [] }
         ensures same { L.still ≡ true → lookup.new ≡ lookup.old }
+        ensures left { (view : View) → L.shows lookup.old view → ShowsLater IsLater (L.shows lookup.new) view }
         ensures fed { OnOk result ((es : List (Event Source)) (spent : Spent) (view : View) → ProxyStands self.old es → Counted budget.old spent → L.shows lookup.old view
             → ProxyFeeds es piece.now self.old self.new there budget.old.limits spent view (Counted budget.new) (L.shows lookup.new) [] said.new.items [] (bytes_in lines.new.items)) }
         ensures setup { self.new.setup ≡ self.old.setup }
@@ -340,6 +347,7 @@ impl GrpServer {
         gap_line: &mut DatagramList,
     ) -> Result<(), OutOfMemory>
         ensures same { L.still ≡ true → lookup.new ≡ lookup.old }
+        ensures left { (view : View) → L.shows lookup.old view → ShowsLater IsLater (L.shows lookup.new) view }
         ensures fed { OnOk result ((es : List (Event Source)) (spent : Spent) (view : View) → ProxyStands self.old es → Counted budget.old spent → L.shows lookup.old view
             → ProxyFeeds es piece.now self.old self.new there budget.old.limits spent view (Counted budget.new) (L.shows lookup.new)
             reply.old.items reply.new.items (bytes_in gap_line.old.items) (bytes_in gap_line.new.items)) }
@@ -392,6 +400,9 @@ impl GrpServer {
     ) -> Result<(), OutOfMemory>
         // A source to which nobody else pushes is left as it was.
         ensures same { OnLent lookup.entry (λ before. L.still ≡ true → Left lookup.exit (λ after. after ≡ before)) }
+        // Of every view of the source that is lent: whatever comes of the call, one that is no earlier
+        // is shown after it.
+        ensures left { OnLent lookup.entry (λ before. (view : View) → L.shows before view → Left lookup.exit (λ after. ShowsLater IsLater (L.shows after) view)) }
         // Of all that happened to the end, of what was spent, and of every view of the source that
         // is lent: the piece came too, and its messages were answered at views that rise from that
         // one.

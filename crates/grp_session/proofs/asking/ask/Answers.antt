@@ -2,7 +2,7 @@ use Rattle.std.proofs.Common.{◌≡◌, true, false, ◌||◌, ap, sym, refl, a
 use Rattle.gap_store.specs.declared.found.Found.TheVariants.{Ahead, NotKept}
 use Rattle.grp_session.specs.Asking.{status_found}
 use Rattle.grp_session.specs.Budget.{Counted}
-use Rattle.grp_session.proofs.Asked.{asked_plain, status_there, status_count, status_range, asked_refused, asked_limited, asked_gone, asked_taken}
+use Rattle.grp_session.proofs.Asked.{still_shown, found_shown, packed_shown, asked_plain, status_there, status_count, status_range, asked_refused, asked_limited, asked_gone, asked_taken}
 use Rattle.grp_session.proofs.asking.ask.Goals as goal
 
 pub returns-then-not-there-clause-asked : goal.returns-then-not-there-clause-asked
@@ -59,3 +59,36 @@ returns-in-Kept-2-clause-asked g c = λ spent view counted shows.
     let found = c.in_ok-pack-in-None.ensures.found view shows in
     asked_taken c.args.range.unit c.args.there _ _ _ spent view found.now _ c.in_ok-pack-in-None.field-0 found.later found.shows found.answer there (omega arith) (omega arith) (omega arith)
     (Counted c.spend.new.self) _ _ c.in-Kept-2.is (c.in-None.ensures.reached spent counted) found.packs (c.spend.ensures.spent spent counted)
+
+pub returns-then-not-there-clause-left : goal.returns-then-not-there-clause-left
+returns-then-not-there-clause-left g c = λ view shows. still_shown _ view shows
+
+pub returns-then-range-gt100-clause-left : goal.returns-then-range-gt100-clause-left
+returns-then-range-gt100-clause-left g c = λ view shows. still_shown _ view shows
+
+pub returns-then-range-eq0-clause-left : goal.returns-then-range-eq0-clause-left
+returns-then-range-eq0-clause-left g c = λ view shows. still_shown _ view shows
+
+pub returns-in_err-find-in-Some-clause-left : goal.returns-in_err-find-in-Some-clause-left
+returns-in_err-find-in-Some-clause-left g c = λ view shows. still_shown _ view (c.in_err-find-in-Some.ensures.shown view shows)
+
+pub returns-in_err-pack-in-None-clause-left : goal.returns-in_err-pack-in-None-clause-left
+returns-in_err-pack-in-None-clause-left g c = λ view shows. still_shown _ view (c.in_err-pack-in-None.ensures.shown view shows)
+
+pub returns-in-Ahead-clause-left : goal.returns-in-Ahead-clause-left
+returns-in-Ahead-clause-left g c = λ view shows. found_shown _ view _ _ _ (c.in_ok-find-in-Some.ensures.found view shows)
+
+pub returns-in-NotKept-clause-left : goal.returns-in-NotKept-clause-left
+returns-in-NotKept-clause-left g c = λ view shows. found_shown _ view _ _ _ (c.in_ok-find-in-Some.ensures.found view shows)
+
+pub returns-in-Kept-clause-left : goal.returns-in-Kept-clause-left
+returns-in-Kept-clause-left g c = λ view shows. found_shown _ view _ _ _ (c.in_ok-find-in-Some.ensures.found view shows)
+
+pub returns-in-Ahead-2-clause-left : goal.returns-in-Ahead-2-clause-left
+returns-in-Ahead-2-clause-left g c = λ view shows. packed_shown _ view _ _ _ _ _ _ (c.in_ok-pack-in-None.ensures.found view shows)
+
+pub returns-in-NotKept-2-clause-left : goal.returns-in-NotKept-2-clause-left
+returns-in-NotKept-2-clause-left g c = λ view shows. packed_shown _ view _ _ _ _ _ _ (c.in_ok-pack-in-None.ensures.found view shows)
+
+pub returns-in-Kept-2-clause-left : goal.returns-in-Kept-2-clause-left
+returns-in-Kept-2-clause-left g c = λ view shows. packed_shown _ view _ _ _ _ _ _ (c.in_ok-pack-in-None.ensures.found view shows)

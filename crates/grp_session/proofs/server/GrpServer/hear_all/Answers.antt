@@ -6,6 +6,7 @@ use Rattle.session_ends.specs.Closing.{Setup, cause_of, logs_in}
 use Rattle.session_ends.specs.Ending.{Ending}
 use Rattle.session_ends.proofs.Ends.{none_is, some_is}
 use Rattle.session_ends.specs.Hearing.{reader_items, says}
+use Rattle.session_ends.proofs.Showing.{shown_same, shown_then}
 use Rattle.session_ends.proofs.Runs.{Left, Going, left_none, left_more, left_stop, left_end, going_none, going_more, going_stop, going_end, going_at}
 use Rattle.grp_session.specs.Budget.{Counted}
 use Rattle.grp_session.specs.Serving.{grp_answer}
@@ -18,6 +19,7 @@ items-init g c = record {
   still = c.requires;
   rest = refl;
   same = λ on. refl;
+  shown = λ view shows. shown_same IsLater later_order _ view shows;
   limits = refl;
   bytes = c.of-items.ensures.bytes;
   left = subst (λ (l : List Heard). Left c.args.self.now.setup c.args.self.now.logged (reader_items c.args.reader.now) c.args.self.now.logged l) (sym c.of-items.ensures.says) (left_none _ _ _);
@@ -59,6 +61,7 @@ items-preserved g c =
       still = none;
       rest = c.in_ok-hear.ensures.rest ∙ ap (λ (v : Ending). record v { closed = c.hear.new.self.closed; logged = c.hear.new.self.logged }) c.items.invariant.rest;
       same = λ on. c.in_ok-hear.ensures.same on ∙ c.items.invariant.same on;
+      shown = λ view shows. shown_then IsLater later_order _ _ view (c.items.invariant.shown view shows) c.in_ok-hear.ensures.left;
       bytes = c.in-Some.ensures.bytes ∙ c.items.invariant.bytes;
       limits = c.in_ok-hear.ensures.limits ∙ c.items.invariant.limits;
       left = subst (λ (b : Bool). Left c.args.self.now.setup c.args.self.now.logged (reader_items c.args.reader.now) b (says c.next_item.new.self)) logged (left_more _ _ _ _ item _ _ c.items.invariant.left d cause);
@@ -78,3 +81,9 @@ returns-clause-logged g c = λ still. (left_end _ _ _ _ _ c.items.invariant.left
 pub returns-clause-hears : goal.returns-clause-hears
 returns-clause-hears g c = λ spent view counted shows.
     going_end _ _ IsLater _ _ spent view _ _ _ _ _ _ _ _ (c.items.invariant.going spent view counted shows) c.in_default.ensures.says.0
+
+pub returns-in_err-hear-clause-left : goal.returns-in_err-hear-clause-left
+returns-in_err-hear-clause-left g c = λ view shows. shown_then IsLater later_order _ _ view (c.items.invariant.shown view shows) c.in_err-hear.ensures.left
+
+pub returns-then-is_closed-clause-left : goal.returns-then-is_closed-clause-left
+returns-then-is_closed-clause-left g c = λ view shows. shown_then IsLater later_order _ _ view (c.items.invariant.shown view shows) c.in_ok-hear.ensures.left

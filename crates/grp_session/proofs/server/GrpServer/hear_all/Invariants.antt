@@ -2,6 +2,7 @@ use Rattle.std.proofs.Common.{◌≡◌, None, true, length}
 use Rattle.unit_packets.specs.Packing.{bytes_in}
 use Rattle.gap_store.specs.Look.{View, IsLater}
 use Rattle.session_ends.specs.Hearing.{reader_items, says}
+use Rattle.session_ends.specs.Showing.{ShowsLater}
 use Rattle.session_ends.proofs.Runs.{Going, Left}
 use Rattle.grp_session.specs.Budget.{Spent, Counted}
 use Rattle.grp_session.specs.Serving.{grp_answer}
@@ -12,6 +13,7 @@ invariant-items g l = record {
   still : l.self.closed ≡ None;
   rest : l.self ≡ record l.fn.self { closed = l.self.closed; logged = l.self.logged };
   same : g.L.GapLookup.still ≡ true → l.lookup ≡ l.fn.lookup;
+  shown : (view : View) → g.L.GapLookup.shows l.fn.lookup view → ShowsLater IsLater (g.L.GapLookup.shows l.lookup) view;
   bytes : l.items.bytes ≡ l.reader.rest;
   limits : l.budget.limits ≡ l.fn.budget.limits;
   left : Left l.fn.self.setup l.fn.self.logged (reader_items l.reader) l.self.logged (says l.items);
