@@ -16,7 +16,8 @@ pub enum Imaged {
 /// Where images of a unit can be looked up.
 pub trait ImageLookup {
     /// Which messages so far, and which sequences that were advertised, it may be seen as. They
-    /// only grow.
+    /// only grow within a call. From one call to the next sequences may go: a shelf shows the last
+    /// ten alone.
     ghost shows: { Self → Served → Type 0 };
 
     /// Whether nobody else pushes or advertises there: then a look-up leaves it as it was.
