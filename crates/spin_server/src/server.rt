@@ -9,6 +9,7 @@ ghost use Rattle.session_ends.specs.Events.{Event, Ticked, Pumped, Told};
 ghost use Rattle.session_ends.specs.Hearing.{reader_items, IsThrough};
 ghost use Rattle.session_ends.specs.Items.{closed_at};
 ghost use Rattle.session_ends.specs.Sending.{sent_bytes, sent_at_tick};
+ghost use Rattle.session_ends.specs.Showing.{ShowsLater};
 ghost use Rattle.spin_server.specs.Served.{Served, ServedLater};
 ghost use Rattle.unit_packets.specs.Causes.{counted};
 ghost use Rattle.spin_server.specs.Serving.{pump_bytes, pumped, blocks_left, available_bytes, spin_login_answer, spin_request_answer, spin_message_answer, spin_said_answer, spin_answer, spin_sends, runs, SpinStands, SpinFeeds};
@@ -121,6 +122,7 @@ impl SpinServer {
         reply: &mut Vec<u8>,
     ) -> Result<(), OutOfMemory>
         ensures same { L.still ≡ true → lookup.new ≡ lookup.old }
+        ensures left { (view : Served) → L.shows lookup.old view → ShowsLater ServedLater (L.shows lookup.new) view }
         // Of every view that the look-up shows before: it is answered right at a view that it shows
         // after, which is no earlier.
         ensures hears { OnOk result ((view : Served) → L.shows lookup.old view
@@ -165,6 +167,7 @@ impl SpinServer {
         reply: &mut Vec<u8>,
     ) -> Result<(), OutOfMemory>
         ensures same { L.still ≡ true → lookup.new ≡ lookup.old }
+        ensures left { (view : Served) → L.shows lookup.old view → ShowsLater ServedLater (L.shows lookup.new) view }
         ensures end { self.new.end ≡ self.old.end }
         // Of every view that the look-up shows before: it is answered right at a view that it shows
         // after, which is no earlier.
@@ -200,6 +203,7 @@ impl SpinServer {
         reply: &mut Vec<u8>,
     ) -> Result<(), OutOfMemory>
         ensures same { L.still ≡ true → lookup.new ≡ lookup.old }
+        ensures left { (view : Served) → L.shows lookup.old view → ShowsLater ServedLater (L.shows lookup.new) view }
         ensures end { self.new.end ≡ self.old.end }
         // Of every view that the look-up shows before: it is answered right at a view that it shows
         // after, which is no earlier.
@@ -240,6 +244,7 @@ impl SpinServer {
         reply: &mut Vec<u8>,
     ) -> Result<(), OutOfMemory>
         ensures same { L.still ≡ true → lookup.new ≡ lookup.old }
+        ensures left { (view : Served) → L.shows lookup.old view → ShowsLater ServedLater (L.shows lookup.new) view }
         ensures end { self.new.end ≡ self.old.end }
         // Of every view that the look-up shows before: it is answered right at a view that it shows
         // after, which is no earlier.
@@ -266,6 +271,7 @@ impl SpinServer {
     ) -> Result<(), OutOfMemory>
         requires { self.old.end.closed ≡ None }
         ensures same { L.still ≡ true → lookup.new ≡ lookup.old }
+        ensures left { (view : Served) → L.shows lookup.old view → ShowsLater ServedLater (L.shows lookup.new) view }
         ensures closed { OnOk result (self.new.end.closed ≡ cause_of self.old.end.setup self.old.end.logged item.now) }
         ensures logged { OnOk result (self.new.end.logged ≡ (self.old.end.logged || logs_in self.old.end.setup.role item.now)) }
         ensures rest { self.new.end ≡ record self.old.end { closed = self.new.end.closed; logged = self.new.end.logged } }
@@ -291,6 +297,7 @@ impl SpinServer {
     ) -> Result<usize, OutOfMemory>
         requires { self.old.end.closed ≡ None }
         ensures same { L.still ≡ true → lookup.new ≡ lookup.old }
+        ensures left { (view : Served) → L.shows lookup.old view → ShowsLater ServedLater (L.shows lookup.new) view }
         ensures through { IfOk result (λ count. IsThrough reader.now.rest count) }
         ensures closed { OnOk result (self.new.end.closed ≡ first_cause self.old.end.setup self.old.end.logged (reader_items reader.now)) }
         ensures logged { OnOk result (self.new.end.closed ≡ None → self.new.end.logged ≡ (self.old.end.logged || list_any (logs_in self.old.end.setup.role) (reader_items reader.now))) }
@@ -321,6 +328,7 @@ impl SpinServer {
         requires open { self.old.end.closed ≡ None }
         requires no_said { said.old.items ≡ [] }
         ensures same { L.still ≡ true → lookup.new ≡ lookup.old }
+        ensures left { (view : Served) → L.shows lookup.old view → ShowsLater ServedLater (L.shows lookup.new) view }
         // Of everything that happened before, and of every view that the look-up shows before: the
         // piece was fed too, each message was answered at its view, and these rise to one that the
         // look-up shows after.
@@ -349,6 +357,9 @@ impl SpinServer {
         reply: &mut Vec<u8>,
     ) -> Result<(), OutOfMemory>
         ensures same { L.still ≡ true → lookup.new ≡ lookup.old }
+        // Of every view that the look-up shows before: whatever comes of the call, it shows one after it
+        // that is no earlier.
+        ensures left { (view : Served) → L.shows lookup.old view → ShowsLater ServedLater (L.shows lookup.new) view }
         // Of everything that happened before, and of every view that the look-up shows before: the
         // piece was fed too, each message was answered at its view, and these rise to one that the
         // look-up shows after.

@@ -4,7 +4,9 @@ use Rattle.spin_server.specs.Serving.{Serving}
 use Rattle.session_ends.specs.Sending.{sent_bytes}
 use Rattle.pitch_messages.specs.declared.session.SessionMessage.TheVariants.{LoginReply}
 use Rattle.session_ends.specs.Closing.{login_status}
-use Rattle.spin_server.proofs.Serves.{hears_login}
+use Rattle.session_ends.proofs.Showing.{shown_same}
+use Rattle.spin_server.specs.Served.{ServedLater}
+use Rattle.spin_server.proofs.Serves.{later_order, hears_login}
 use Rattle.spin_server.proofs.server.SpinServer.answer_login.Goals as goal
 
 pub returns-then-status-ne65 : goal.returns-then-status-ne65
@@ -13,8 +15,12 @@ returns-then-status-ne65 g c =
     c.login_status-status.ensures ∙ ap (λ (v : Serving). login_status v.end.setup v.end.logged c.args.sub.now c.args.user.now c.args.password.now) c.self.view_is in
     record {
       same = λ on. refl;
+      left = λ view shows. shown_same ServedLater later_order _ view shows;
       hears = λ view shows.
           hears_login c.args.self.now.end.setup _ c.args.self.now.spin view _ _ _ _ (ap (λ (n : ℕ). nat_eq n 65) (sym status) ∙ ne_eqb c.login_status-status.result 65 c.if-status-ne65.true)
           (c.in_ok-put.ensures.ok ∙ ap (λ (v : Serving). c.args.reply.now.items ++ sent_bytes v.end.setup (LoginReply c.login_status-status.result)) c.self.view_is
           ∙ ap (λ (n : ℕ). c.args.reply.now.items ++ sent_bytes c.args.self.now.end.setup (LoginReply n)) status) refl shows;
     }
+
+pub returns-in_err-put-clause-left : goal.returns-in_err-put-clause-left
+returns-in_err-put-clause-left g c = λ view shows. shown_same ServedLater later_order _ view shows

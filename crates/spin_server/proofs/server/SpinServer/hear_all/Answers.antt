@@ -4,6 +4,7 @@ use Rattle.session_ends.specs.Closing.{Setup, cause_of, logs_in}
 use Rattle.session_ends.specs.Ending.{Ending}
 use Rattle.session_ends.proofs.Ends.{none_is, some_is}
 use Rattle.session_ends.specs.Hearing.{reader_items, says}
+use Rattle.session_ends.proofs.Showing.{shown_same, shown_then}
 use Rattle.session_ends.proofs.Runs.{Left, Going, left_none, left_more, left_stop, left_end, going_none, going_more, going_stop, going_end, going_at}
 use Rattle.spin_server.specs.Served.{ServedLater}
 use Rattle.spin_server.specs.Serving.{Spin, spin_answer}
@@ -15,6 +16,7 @@ items-init g c = record {
   still = c.requires;
   rest = refl;
   same = λ on. refl;
+  shown = λ view shows. shown_same ServedLater later_order _ view shows;
   bytes = c.of-items.ensures.bytes;
   left = subst (λ (l : List Heard). Left c.args.self.now.end.setup c.args.self.now.end.logged (reader_items c.args.reader.now) c.args.self.now.end.logged l) (sym c.of-items.ensures.says) (left_none _ _ _);
   going = λ view shows.
@@ -55,6 +57,7 @@ items-preserved g c =
       still = none;
       rest = c.in_ok-hear.ensures.rest ∙ ap (λ (v : Ending). record v { closed = c.hear.new.self.end.closed; logged = c.hear.new.self.end.logged }) c.items.invariant.rest;
       same = λ on. c.in_ok-hear.ensures.same on ∙ c.items.invariant.same on;
+      shown = λ view shows. shown_then ServedLater later_order _ _ view (c.items.invariant.shown view shows) c.in_ok-hear.ensures.left;
       bytes = c.in-Some.ensures.bytes ∙ c.items.invariant.bytes;
       left = subst (λ (b : Bool). Left c.args.self.now.end.setup c.args.self.now.end.logged (reader_items c.args.reader.now) b (says c.next_item.new.self)) logged (left_more _ _ _ _ item _ _ c.items.invariant.left d cause);
       going = λ view shows.
@@ -73,3 +76,9 @@ returns-clause-logged g c = λ still. (left_end _ _ _ _ _ c.items.invariant.left
 pub returns-clause-hears : goal.returns-clause-hears
 returns-clause-hears g c = λ view shows.
     going_end _ _ ServedLater _ _ _ view _ _ _ _ _ _ _ _ (c.items.invariant.going view shows) c.in_default.ensures.says.0
+
+pub returns-in_err-hear-clause-left : goal.returns-in_err-hear-clause-left
+returns-in_err-hear-clause-left g c = λ view shows. shown_then ServedLater later_order _ _ view (c.items.invariant.shown view shows) c.in_err-hear.ensures.left
+
+pub returns-then-is_closed-clause-left : goal.returns-then-is_closed-clause-left
+returns-then-is_closed-clause-left g c = λ view shows. shown_then ServedLater later_order _ _ view (c.items.invariant.shown view shows) c.in_ok-hear.ensures.left

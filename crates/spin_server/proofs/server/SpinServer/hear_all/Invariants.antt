@@ -1,5 +1,6 @@
 use Rattle.std.proofs.Common.{◌≡◌, length, true, None, [], Option}
 use Rattle.session_ends.specs.Hearing.{reader_items, says}
+use Rattle.session_ends.specs.Showing.{ShowsLater}
 use Rattle.session_ends.proofs.Runs.{Going, Left}
 use Rattle.spin_server.specs.Served.{Served, ServedLater}
 use Rattle.spin_server.specs.Serving.{Spin, spin_answer}
@@ -10,6 +11,7 @@ invariant-items g l = record {
   still : l.self.end.closed ≡ None;
   rest : l.self.end ≡ record l.fn.self.end { closed = l.self.end.closed; logged = l.self.end.logged };
   same : g.L.ImageLookup.still ≡ true → l.lookup ≡ l.fn.lookup;
+  shown : (view : Served) → g.L.ImageLookup.shows l.fn.lookup view → ShowsLater ServedLater (g.L.ImageLookup.shows l.lookup) view;
   bytes : l.items.bytes ≡ l.reader.rest;
   left : Left l.fn.self.end.setup l.fn.self.end.logged (reader_items l.reader) l.self.end.logged (says l.items);
   going : (view : Served) → g.L.ImageLookup.shows l.fn.lookup view

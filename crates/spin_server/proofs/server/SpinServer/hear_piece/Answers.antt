@@ -6,9 +6,10 @@ use Rattle.session_ends.specs.Hearing.{reader_items}
 use Rattle.session_ends.specs.Sending.{some_bytes}
 use Rattle.session_ends.proofs.Ends.{takes}
 use Rattle.session_ends.proofs.Through.{Went, went}
-use Rattle.spin_server.specs.Served.{Served}
+use Rattle.session_ends.proofs.Showing.{shown_same}
+use Rattle.spin_server.specs.Served.{Served, ServedLater}
 use Rattle.spin_server.specs.Serving.{Serving, spin_sends}
-use Rattle.spin_server.proofs.Serves.{fed_serves}
+use Rattle.spin_server.proofs.Serves.{later_order, fed_serves}
 use Rattle.spin_server.proofs.server.SpinServer.hear_piece.Goals as goal
 
 pub returns-clause-fed : goal.returns-clause-fed
@@ -37,3 +38,6 @@ returns-clause-fed g c = λ es view stands shows.
     let t = takes (spin_sends old.setup) old.setup es piece any old last.inbox [] (reader_items reader) c.requires.open stands.end_is refl w.takes in
     fed_serves es piece c.args.self.now _ (reader_items reader) last.inbox taken.setup taken.logged _ _ view _ _ said c.requires.open stands c.requires.no_said t w.did
     (ap (λ (v : Ending). v.setup) first) (ap (λ (v : Ending). v.logged) first) (ap (λ (v : Serving). v.spin) c.self.view_is) (ap (λ (v : Serving). v.spin) (sym c.self-2.view_is)) (c.in_ok-count.ensures.hears view shows)
+
+pub returns-in_err-reader-clause-left : goal.returns-in_err-reader-clause-left
+returns-in_err-reader-clause-left g c = λ view shows. shown_same ServedLater later_order _ view shows
