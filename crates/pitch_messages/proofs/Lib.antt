@@ -1,3 +1,4 @@
+mod Examples
 pub mod Chains
 pub mod LongestChain
 pub mod Rows
