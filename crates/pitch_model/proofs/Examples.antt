@@ -20,7 +20,7 @@ use Rattle.pitch_model.specs.Advertising.{Accept, Advertise, advertised_by, last
 use Rattle.pitch_model.specs.Asking.{ask_of, wants, gap_ask, owes, is_grp_up, is_spin_up, advertised_of}
 use Rattle.pitch_model.specs.Heard.{is_fresh, is_accepted, image_end_at, heard_block}
 use Rattle.pitch_model.specs.Datagrams.{block_messages}
-use Rattle.pitch_model.specs.Levels.{best_of, same_side, level}
+use Rattle.pitch_model.specs.Levels.{best, best_of, same_side, level, shares, with_level}
 use Rattle.pitch_model.specs.declared.change.ImageEnd.TheVariants.{Stale, Taken, Bad}
 use Rattle.pitch_model.specs.Honest.{Honest}
 use Rattle.pitch_model.specs.Image.{image_of, image}
@@ -391,19 +391,41 @@ all_orders_of_a_bad_image_are_told : image_end_at 3 [] ((1, order ∷ order ∷ 
 all_orders_of_a_bad_image_are_told = refl
 
 -- ---- Levels
--- so many shares of the one order stand at a price, of its symbol on its side
-level_of_one : (side : Side) (price : ℕ) → level (record { second = None; orders = one_sold }) (codes "IBM     ") side price ≡ sum_by (λ (o : Order). o.quantity) (filter (λ (o : Order). price == o.price) (filter (λ (o : Order). bytes_eq (codes "IBM     ") o.symbol && same_side side o.side) (sold ∷ [])))
+-- the book of the one order
+abbrev of_one : Book
+of_one = record { second = None; orders = one_sold }
+
+-- so many shares of it stand at a price, for a symbol on a side
+level_of_one : (symbol : List ℕ) (side : Side) (price : ℕ) → level of_one symbol side price ≡ sum_by (λ (o : Order). o.quantity) (filter (λ (o : Order). price == o.price) (filter (λ (o : Order). bytes_eq symbol o.symbol && same_side side o.side) (sold ∷ [])))
 unfolding level
-level_of_one side price = ap (λ (es : List (ℕ × Order)). sum_by (λ (o : Order). o.quantity) (filter (λ (o : Order). price == o.price) (filter (λ (o : Order). bytes_eq (codes "IBM     ") o.symbol && same_side side o.side) (mapped (λ (e : ℕ × Order). e.1) es)))) entries_of_one
+level_of_one symbol side price = ap (λ (es : List (ℕ × Order)). sum_by (λ (o : Order). o.quantity) (filter (λ (o : Order). price == o.price) (filter (λ (o : Order). bytes_eq symbol o.symbol && same_side side o.side) (mapped (λ (e : ℕ × Order). e.1) es)))) entries_of_one
 
-all_shares_at_its_price : level (record { second = None; orders = one_sold }) (codes "IBM     ") Buy 100000 ≡ 100
-all_shares_at_its_price = level_of_one Buy 100000
+all_shares_at_its_price : level of_one (codes "IBM     ") Buy 100000 ≡ 100
+all_shares_at_its_price = level_of_one (codes "IBM     ") Buy 100000
 
-none_at_another_price : level (record { second = None; orders = one_sold }) (codes "IBM     ") Buy 110000 ≡ 0
-none_at_another_price = level_of_one Buy 110000
+none_at_another_price : level of_one (codes "IBM     ") Buy 110000 ≡ 0
+none_at_another_price = level_of_one (codes "IBM     ") Buy 110000
 
-none_on_the_other_side : level (record { second = None; orders = one_sold }) (codes "IBM     ") Sell 100000 ≡ 0
-none_on_the_other_side = level_of_one Sell 100000
+none_on_the_other_side : level of_one (codes "IBM     ") Sell 100000 ≡ 0
+none_on_the_other_side = level_of_one (codes "IBM     ") Sell 100000
+
+none_of_another_symbol : level of_one (codes "IBM.A   ") Buy 100000 ≡ 0
+none_of_another_symbol = level_of_one (codes "IBM.A   ") Buy 100000
+
+all_shares_of_the_book : shares of_one ≡ 100
+unfolding shares
+all_shares_of_the_book = ap (λ (es : List (ℕ × Order)). sum_by (λ (o : Order). o.quantity) (mapped (λ (e : ℕ × Order). e.1) es)) entries_of_one
+
+-- the best price is its price, with its shares
+best_of_one : (side : Side) → best of_one (codes "IBM     ") side ≡ option_map (with_level of_one (codes "IBM     ") side) (best_of side (mapped (λ (o : Order). o.price) (filter (λ (o : Order). bytes_eq (codes "IBM     ") o.symbol && same_side side o.side) (sold ∷ []))))
+unfolding best
+best_of_one side = ap (λ (es : List (ℕ × Order)). option_map (with_level of_one (codes "IBM     ") side) (best_of side (mapped (λ (o : Order). o.price) (filter (λ (o : Order). bytes_eq (codes "IBM     ") o.symbol && same_side side o.side) (mapped (λ (e : ℕ × Order). e.1) es))))) entries_of_one
+
+the_best_bid : best of_one (codes "IBM     ") Buy ≡ Some (100000, 100)
+the_best_bid = best_of_one Buy ∙ ap (λ (n : ℕ). Some (100000, n)) all_shares_at_its_price
+
+no_best_offer : best of_one (codes "IBM     ") Sell ≡ None
+no_best_offer = best_of_one Sell
 
 -- ---- One image at a time
 nothing_while_an_image_is_asked_for : ask_of 4096 (Ticked (Some (Spin 3)) ∷ Advertised 3 ∷ SpinUp ∷ message 3 ∷ message 1 ∷ []) ≡ None
