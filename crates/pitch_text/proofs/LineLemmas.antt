@@ -24,6 +24,7 @@ use Rattle.text_lines.specs.Fields.{Field, Rest, placed, fields_of}
 use Rattle.pitch_fields.specs.Name.{is_printing}
 use Rattle.pitch_fields.specs.Name.{no_participant}
 use Rattle.text_lines.specs.Kinds.{padded_of, participant_of}
+use Rattle.pitch_text.specs.Defaults.{default_hold, default_kept, default_second, default_minute, default_day}
 use Rattle.pitch_text.specs.ScheduleGrammar.{entry}
 use Rattle.text_lines.specs.Text.{line_of, lines_of, said_of, entries_of}
 use Rattle.pitch_text.specs.WellFormed.{IsVerb, IsCommand, IsOrder, IsOffset, IsSymbol, IsWellFormed}
@@ -166,16 +167,16 @@ count_word_ok (Some n) h = count_is_word n h
 
 setup_ok : (hold kept second minute day : ℕ) → IsVerb (verbs.Setup hold kept second minute day) → AreFew (verb_words (verbs.Setup hold kept second minute day))
 setup_ok hold kept second minute day h =
-    let holds = number_words (codes "hold=") 4096 hold in
-    let keeps = number_words (codes "kept=") 65536 kept in
-    let seconds = number_words (codes "second=") 10 second in
-    let minutes = number_words (codes "minute=") 100 minute in
-    let days = number_words (codes "day=") 10000 day in
-    let w0 = number_words_ok (codes "hold=") 4096 hold 5 (eqb hold 4096) refl (omega arith) (omega arith) (omega arith) (omega (arith, h.1)) (omega (arith, h.1)) in
-    let w1 = number_words_ok (codes "kept=") 65536 kept 5 (eqb kept 65536) refl (omega arith) (omega arith) (omega arith) (omega (arith, h.3)) (omega (arith, h.3)) in
-    let w2 = number_words_ok (codes "second=") 10 second 7 (eqb second 10) refl (omega arith) (omega arith) (omega arith) (omega (arith, h.5)) (omega (arith, h.5)) in
-    let w3 = number_words_ok (codes "minute=") 100 minute 7 (eqb minute 100) refl (omega arith) (omega arith) (omega arith) (omega (arith, h.7)) (omega (arith, h.7)) in
-    let w4 = number_words_ok (codes "day=") 10000 day 7 (eqb day 10000) refl (omega arith) (omega arith) (omega arith) (omega (arith, h.9)) (omega (arith, h.9)) in
+    let holds = number_words (codes "hold=") default_hold hold in
+    let keeps = number_words (codes "kept=") default_kept kept in
+    let seconds = number_words (codes "second=") default_second second in
+    let minutes = number_words (codes "minute=") default_minute minute in
+    let days = number_words (codes "day=") default_day day in
+    let w0 = number_words_ok (codes "hold=") default_hold hold 5 (eqb hold default_hold) refl (omega arith) (omega arith) (omega arith) (omega (arith, h.1)) (omega (arith, h.1)) in
+    let w1 = number_words_ok (codes "kept=") default_kept kept 5 (eqb kept default_kept) refl (omega arith) (omega arith) (omega arith) (omega (arith, h.3)) (omega (arith, h.3)) in
+    let w2 = number_words_ok (codes "second=") default_second second 7 (eqb second default_second) refl (omega arith) (omega arith) (omega arith) (omega (arith, h.5)) (omega (arith, h.5)) in
+    let w3 = number_words_ok (codes "minute=") default_minute minute 7 (eqb minute default_minute) refl (omega arith) (omega arith) (omega arith) (omega (arith, h.7)) (omega (arith, h.7)) in
+    let w4 = number_words_ok (codes "day=") default_day day 7 (eqb day default_day) refl (omega arith) (omega arith) (omega arith) (omega (arith, h.9)) (omega (arith, h.9)) in
     record {
       words = (literal (codes "open") refl refl refl, are_append holds (keeps ++ (seconds ++ (minutes ++ days))) w0.0 (are_append keeps (seconds ++ (minutes ++ days)) w1.0 (are_append seconds (minutes ++ days) w2.0 (are_append minutes days w3.0 w4.0))));
       few = omega (arith, length-append holds (keeps ++ (seconds ++ (minutes ++ days))), length-append keeps (seconds ++ (minutes ++ days)), length-append seconds (minutes ++ days), length-append minutes days, w0.1, w1.1, w2.1, w3.1, w4.1);

@@ -14,6 +14,7 @@ use Rattle.pitch_text.specs.declared.verb.Session.{Session}
 use Rattle.pitch_text.specs.declared.verb.Session.TheVariants.{Grp, Spin}
 use Rattle.pitch_text.specs.declared.verb.Verb.{Verb}
 use Rattle.pitch_text.specs.declared.verb.Verb.TheVariants as verbs
+use Rattle.pitch_text.specs.Defaults.{default_hold, default_kept, default_second, default_minute, default_day}
 use Rattle.pitch_fields.specs.Name.{no_participant}
 
 -- ---- the words of a line
@@ -78,8 +79,10 @@ count_word word (Some n) = decimal n
 
 -- the limits that are not the default ones
 abbrev pub setup_words : ℕ → ℕ → ℕ → ℕ → ℕ → List (List ℕ)
-setup_words hold kept second minute day = number_words (codes "hold=") 4096 hold ++ (number_words (codes "kept=") 65536 kept
-    ++ (number_words (codes "second=") 10 second ++ (number_words (codes "minute=") 100 minute ++ number_words (codes "day=") 10000 day)))
+setup_words hold kept second minute day = number_words (codes "hold=") default_hold hold
+    ++ (number_words (codes "kept=") default_kept kept
+    ++ (number_words (codes "second=") default_second second
+    ++ (number_words (codes "minute=") default_minute minute ++ number_words (codes "day=") default_day day)))
 
 -- the words of a verb
 abbrev pub verb_words : Verb → List (List ℕ)

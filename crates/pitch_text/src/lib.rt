@@ -9,6 +9,7 @@
 mod command;
 mod command_rules;
 mod command_text;
+mod defaults;
 pub mod laws;
 mod options;
 mod print;
@@ -19,6 +20,9 @@ mod well_formed;
 
 pub use crate::command::{Command, CommandEntry};
 pub use crate::command_text::{CommandList, Commands, read_commands};
+pub use crate::defaults::{
+    DEFAULT_DAY, DEFAULT_HOLD, DEFAULT_KEPT, DEFAULT_MINUTE, DEFAULT_SECOND,
+};
 pub use crate::print::print_entry;
 pub use crate::schedule_text::{Schedule, ScheduleList, read_schedule};
 pub use crate::verb::{ScheduleEntry, Session, Verb};

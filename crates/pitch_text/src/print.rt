@@ -6,6 +6,7 @@ ghost use Rattle.text_lines.specs.Text.{entries_of};
 ghost use Rattle.pitch_text.specs.WellFormed.{IsWellFormed};
 
 use crate::command::Command;
+use crate::defaults::{DEFAULT_DAY, DEFAULT_HOLD, DEFAULT_KEPT, DEFAULT_MINUTE, DEFAULT_SECOND};
 use crate::verb::{ScheduleEntry, Session, Verb};
 use pitch_fields::{OutOfMemory, Price, Symbol, number_text, price_text};
 use pitch_io::Line;
@@ -236,11 +237,11 @@ fn push_limits(
 ) -> Result<(), OutOfMemory>
     ensures { OnOk result (line.new.items ≡ line.old.items ++ spaced (setup_words hold kept second minute day)) }
 {
-    push_named(line, b"hold=", 4096, hold)?;
-    push_named(line, b"kept=", 65_536, kept)?;
-    push_named(line, b"second=", 10, second)?;
-    push_named(line, b"minute=", 100, minute)?;
-    push_named(line, b"day=", 10_000, day)
+    push_named(line, b"hold=", DEFAULT_HOLD, hold)?;
+    push_named(line, b"kept=", DEFAULT_KEPT, kept)?;
+    push_named(line, b"second=", DEFAULT_SECOND, second)?;
+    push_named(line, b"minute=", DEFAULT_MINUTE, minute)?;
+    push_named(line, b"day=", DEFAULT_DAY, day)
 }
 
 // `name=` and a number, where it is not the default.
