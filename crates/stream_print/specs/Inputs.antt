@@ -40,8 +40,8 @@ or_trouble None other = other
 unfoldable pub trouble_of : Carrier → ℕ → List ℕ → Option StreamTrouble
 trouble_of carrier most bytes = or_trouble (lasting_trouble carrier (take most bytes)) (cond (nat_lt most (length bytes)) (Some TooLong) (end_trouble carrier bytes))
 
--- all but the last piece of what was taken had no trouble that lasts, so no piece is taken after the
--- one that shows a trouble
+-- what was taken is some bytes without a trouble that lasts, and then at most the 65,536 of one piece:
+-- so less than a piece is taken behind the byte with which a trouble shows
 pub record StopsSoon (carrier : Carrier) (input : Told) : Type 0 where
   pub sound : List ℕ
   pub last : List ℕ
