@@ -8,3 +8,4 @@ pub mod Whole
 pub mod Moves
 pub mod Carries
 pub mod Pumps
+mod Examples
