@@ -13,6 +13,8 @@ mod paths;
 #[cfg(test)]
 mod proxies;
 #[cfg(test)]
+mod silences;
+#[cfg(test)]
 mod spins;
 #[cfg(test)]
 mod stores;

@@ -4,7 +4,7 @@ use std::alloc::Global;
 use std::process::Abort;
 use unit_packets::BlockError;
 
-const ACCOUNT: Account = Account {
+pub(crate) const ACCOUNT: Account = Account {
     sub: *b"0001",
     user: *b"FEED",
     password: *b"PITCH     ",

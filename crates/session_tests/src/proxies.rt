@@ -6,9 +6,9 @@ use std::alloc::Global;
 use std::process::Abort;
 use unit_packets::{BlockError, DatagramList, put_session};
 
-const LOGIN: &[u8] = b"\x1e\0\x01\0\0\0\0\0\x16\x010001FEED  PITCH     ";
+pub(crate) const LOGIN: &[u8] = b"\x1e\0\x01\0\0\0\0\0\x16\x010001FEED  PITCH     ";
 
-fn server(rt: &impl Abort, alloc: Global, in_use: bool) -> GrpServer {
+pub(crate) fn server(rt: &impl Abort, alloc: Global, in_use: bool) -> GrpServer {
     let mut accounts = Vec::new(alloc);
     let account = Account {
         sub: *b"0001",
@@ -132,33 +132,11 @@ fn all_end_so(rt: &impl Abort, alloc: Global, cases: &[Case]) {
     assert!(rt; gap_line.len() == 0);
 }
 
-const NO_STORE: Option<&mut GapStore> = None;
+pub(crate) const NO_STORE: Option<&mut GapStore> = None;
 
 #[test]
 fn hostile_and_refused(rt: HostRuntime) {
     all_end_so(&rt, rt.alloc(), &CASES);
-}
-
-// So many ticks, after each of which the server is open.
-fn tick_open(rt: &impl Abort, server: &mut GrpServer, reply: &mut Vec<u8>, ticks: u8) {
-    for _ in 0..ticks {
-        server.tick(reply).expect(rt, "memory");
-        assert!(rt; server.closed().is_none());
-    }
-}
-
-#[test]
-fn five_silent_ticks(rt: HostRuntime) {
-    let mut server = server(&rt, rt.alloc(), false);
-    let mut reply = Vec::new(rt.alloc());
-    tick_open(&rt, &mut server, &mut reply, 4);
-    assert!(rt; reply.len() == 32);
-    server.tick(&mut reply).expect(&rt, "memory");
-    let closed = Closed {
-        cause: CloseCause::Silent,
-        place: 0,
-    };
-    assert!(rt; server.closed() == Some(closed) && reply.len() == 32);
 }
 
 // A request's unit, first sequence and count, and its status.
@@ -202,7 +180,16 @@ fn asked(rt: &impl Abort, alloc: Global, unit: u8, sequence: u32, count: u16) ->
     block
 }
 
-// Makes requests, and compares their statuses.
+// The block of a reply to a request of one byte of unit, four of sequence and two of count.
+fn replied(unit: u8, sequence: u32, count: u16, status: u8) -> [u8; 18] {
+    let [a, b, c, d] = sequence.to_le_bytes();
+    let [e, f] = count.to_le_bytes();
+    [
+        18, 0, 1, 0, 0, 0, 0, 0, 10, 4, unit, a, b, c, d, e, f, status,
+    ]
+}
+
+// Makes requests, and compares the reply to each.
 fn ask(rt: &impl Abort, alloc: Global, proxy: &mut Proxy, requests: &[Request]) {
     for ((unit, sequence, count), status) in requests {
         let block = asked(rt, alloc, *unit, *sequence, *count);
@@ -218,7 +205,8 @@ fn ask(rt: &impl Abort, alloc: Global, proxy: &mut Proxy, requests: &[Request]) 
                 &mut proxy.line,
             )
             .expect(rt, "memory");
-        assert!(rt; reply.len() == 18 && reply[17] == *status);
+        let expected = replied(*unit, *sequence, *count, *status);
+        assert!(rt; reply.as_slice() == expected.as_slice());
     }
 }
 
@@ -279,23 +267,27 @@ fn each_status_in_turn(rt: HostRuntime) {
     assert!(rt; datagram.bytes() == bytes.as_slice());
 }
 
-// Limits for a second, a minute and a day; what is answered to a second request, and to a third
-// after a minute.
-const LIMITS: [((u32, u32, u32), u8, u8); 5] = [
-    ((1, 9, 9), b'S', b'A'),
-    ((9, 1, 9), b'M', b'A'),
-    ((9, 9, 1), b'D', b'D'),
-    ((1, 1, 9), b'M', b'A'),
-    ((1, 1, 1), b'D', b'D'),
+// Limits for a second, a minute and a day; what is answered to a second request, to one after 59
+// ticks, and to one after a minute.
+type Limited = ((u32, u32, u32), [u8; 3]);
+
+const LIMITS: [Limited; 5] = [
+    ((1, 9, 9), *b"SAA"),
+    ((9, 1, 9), *b"MMA"),
+    ((9, 9, 1), *b"DDD"),
+    ((1, 1, 9), *b"MMA"),
+    ((1, 1, 1), *b"DDD"),
 ];
 
-fn limits_hold(rt: &impl Abort, alloc: Global, limits: &[((u32, u32, u32), u8, u8)]) {
-    for ((second, minute, day), then, later) in limits {
+fn limits_hold(rt: &impl Abort, alloc: Global, limits: &[Limited]) {
+    for ((second, minute, day), [then, late, later]) in limits {
         let mut proxy = logged_in(rt, alloc, GapBudget::make(*second, *minute, *day));
         ask(rt, alloc, &mut proxy, &[ACCEPTED, ((1, 299, 2), *then)]);
-        for _ in 0..60u8 {
+        for _ in 0..59u8 {
             proxy.budget.tick();
         }
+        ask(rt, alloc, &mut proxy, &[((1, 299, 2), *late)]);
+        proxy.budget.tick();
         ask(rt, alloc, &mut proxy, &[((1, 299, 2), *later)]);
     }
 }
