@@ -207,7 +207,7 @@ impl CaptureReader {
         self.stream.place()
     }
 
-    /// What was more_loaded and is not behind.
+    /// What was loaded and is not behind.
     pub fn rest(&self) -> &[u8]
         ensures { result.now ≡ self.now.rest }
     {
@@ -251,7 +251,7 @@ impl CaptureReader {
         self.stream.pass(count);
     }
 
-    /// FeedsCapture the next piece of the file, and appends each record that became whole.
+    /// Feeds the next piece of the file, and appends each record that became whole.
     ///
     /// The answer is the fault of the file so far, unless more bytes may mend it; the records
     /// before it are in `out`, and each later call answers it again and appends nothing. Reader and
