@@ -1,5 +1,5 @@
 -- A net in memory, of which the maker says which calls fail.
-use Rattle.std.specs.Prelude.{◌≡◌, ℕ, zero, suc, ◌<◌, ◌+◌, ◌-◌, ◌^◌, Bool, true, false, List, [], ◌∷◌, ◌⊎◌, map, reverse, Contains, Option, None, Some, min, length, take, if◌then◌else◌}
+use Rattle.std.specs.Prelude.{◌≡◌, ℕ, zero, suc, ◌<◌, ◌+◌, ◌-◌, ◌^◌, Bool, true, false, List, [], ◌∷◌, ◌++◌, ◌⊎◌, map, reverse, Contains, Option, None, Some, min, length, take, drop, if◌then◌else◌}
 use Rattle.std.specs.Global.{Vec}
 use Rattle.pitch_io.specs.declared.line.Line.{Line}
 use Rattle.pitch_io.specs.declared.line.Line.TheVariants as line
@@ -19,7 +19,7 @@ use Rattle.pitch_io.specs.declared.call_log.KeptCall.{KeptCall}
 use Rattle.pitch_io.specs.declared.call_log.KeptCall.TheVariants as kept
 use Rattle.pitch_io.specs.declared.call_log.CallLog.{CallLog}
 use Rattle.std.specs.List.{AllByRecursion}
-use Rattle.pitch_io.specs.Nets.{Call, Coming}
+use Rattle.pitch_io.specs.Nets.{Call, Coming, other_end}
 use Rattle.pitch_io.specs.Nets as call
 
 -- what is on its way on the three lines and to the four ends
@@ -151,9 +151,9 @@ pub record IsRest (old new : Carried) : Type 0 where
 abbrev pub call_of : KeptCall → Call
 call_of (kept.Begin answer) = call.Begin answer
 call_of (kept.Send on datagram answer) = call.Send on datagram.items answer
-call_of (kept.Next on bytes answer) = call.Next on bytes.items answer
+call_of (kept.Next on room bytes answer) = call.Next on room bytes.items answer
 call_of (kept.Put at piece answer) = call.Put at piece.items answer
-call_of (kept.Take at bytes answer) = call.Take at bytes.items answer
+call_of (kept.Take at room bytes answer) = call.Take at room bytes.items answer
 
 -- the calls that are kept, the newest first, where none is missing
 abbrev pub listed_calls : CallLog → Option (List Call)
@@ -178,3 +178,33 @@ AreFull datagrams = AllByRecursion (λ datagram. 0 < length datagram) datagrams
 -- nothing in memory is ended
 abbrev pub coming_items : {A : Type 0} → List A → Coming A
 coming_items items = record { items = items; ended = false }
+
+-- ---- What its calls leave
+-- what is on its way after these calls: all that was sent and put since the net last began, in its
+-- order, but what came
+abbrev pub way_after : List Call → OnItsWay
+way_after [] = nothing_coming
+way_after (call.Begin done.Done ∷ calls) = nothing_coming
+way_after (call.Send line datagram done.Done ∷ calls) = line_changed (way_after calls) line (λ datagrams. datagrams ++ as_carried datagram)
+way_after (call.Next line room bytes (taken.Got n) ∷ calls) = line_changed (way_after calls) line (drop 1)
+way_after (call.Put at piece (put.Wrote n) ∷ calls) = end_changed (way_after calls) (other_end at) (λ bytes. bytes ++ take n piece)
+way_after (call.Take at room bytes (taken.Got n) ∷ calls) = end_changed (way_after calls) at (drop n)
+way_after (call ∷ calls) = way_after calls
+
+-- so many bytes of the first datagram came, as many as there was room for
+abbrev pub FirstCame : List (List ℕ) → ℕ → ℕ → List ℕ → Type 0
+FirstCame [] room count bytes = ⊥
+FirstCame (datagram ∷ datagrams) room count bytes = (count ≡ min (length datagram) room) × (bytes ≡ take count datagram)
+
+-- what came by each call was the first that was on its way
+abbrev pub CameInOrder : List Call → Type 0
+CameInOrder [] = Unit {0}
+CameInOrder (call.Next line room bytes (taken.Got n) ∷ calls) = FirstCame (on_line (way_after calls) line) room n bytes × CameInOrder calls
+CameInOrder (call.Take at room bytes (taken.Got n) ∷ calls) = (bytes ≡ take n (to_end (way_after calls) at)) × CameInOrder calls
+CameInOrder (call ∷ calls) = CameInOrder calls
+
+-- where a net lists its calls, these were carried: what is on its way is what they leave, and what
+-- came was that
+abbrev pub CarriesAll : Option (List Call) → OnItsWay → Type 0
+CarriesAll None way = Unit {0}
+CarriesAll (Some calls) way = (way ≡ way_after calls) × CameInOrder calls

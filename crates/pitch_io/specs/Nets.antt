@@ -9,14 +9,14 @@ use Rattle.pitch_io.specs.declared.net.NetDone.TheVariants as done
 use Rattle.pitch_io.specs.declared.net.NetTaken.{NetTaken}
 use Rattle.pitch_io.specs.declared.net.NetTaken.TheVariants as taken
 
--- a call with its line or end, its bytes and its answer; the bytes of Next and Take are those that
--- came
+-- a call with its line or end, its bytes and its answer; Next and Take have the length of the slice
+-- that was handed in, and the bytes that came
 pub data Call : Type 0 where
   Begin : (answer : NetDone) → Call
   Send : (line : Line) → (datagram : List ℕ) → (answer : NetDone) → Call
-  Next : (line : Line) → (bytes : List ℕ) → (answer : NetTaken) → Call
+  Next : (line : Line) → (room : ℕ) → (bytes : List ℕ) → (answer : NetTaken) → Call
   Put : (at : LinkEnd) → (piece : List ℕ) → (answer : PutAnswer) → Call
-  Take : (at : LinkEnd) → (bytes : List ℕ) → (answer : NetTaken) → Call
+  Take : (at : LinkEnd) → (room : ℕ) → (bytes : List ℕ) → (answer : NetTaken) → Call
 
 -- the other end of a connection
 abbrev pub other_end : LinkEnd → LinkEnd

@@ -12,9 +12,9 @@ use std::alloc::Global;
 pub enum KeptCall {
     Begin(NetDone),
     Send(Line, Vec<u8>, NetDone),
-    Next(Line, Vec<u8>, NetTaken),
+    Next(Line, usize, Vec<u8>, NetTaken),
     Put(LinkEnd, Vec<u8>, Put),
-    Take(LinkEnd, Vec<u8>, NetTaken),
+    Take(LinkEnd, usize, Vec<u8>, NetTaken),
 }
 
 // The calls so far, the oldest first, until memory is refused.
@@ -60,11 +60,17 @@ impl CallLog {
         }
     }
 
-    pub(crate) fn keep_next(&mut self, line: Line, bytes: &[u8], answer: NetTaken) -> bool
-        ensures { LogsCall self.old self.new (Next line bytes.now answer) result }
+    pub(crate) fn keep_next(
+        &mut self,
+        line: Line,
+        room: usize,
+        bytes: &[u8],
+        answer: NetTaken,
+    ) -> bool
+        ensures { LogsCall self.old self.new (Next line room bytes.now answer) result }
     {
         match Vec::from_slice(self.alloc, bytes) {
-            Ok(copy) => self.keep(KeptCall::Next(line, copy, answer)),
+            Ok(copy) => self.keep(KeptCall::Next(line, room, copy, answer)),
             Err(_) => self.refuse(),
         }
     }
@@ -78,11 +84,17 @@ impl CallLog {
         }
     }
 
-    pub(crate) fn keep_take(&mut self, end: LinkEnd, bytes: &[u8], answer: NetTaken) -> bool
-        ensures { LogsCall self.old self.new (Take end bytes.now answer) result }
+    pub(crate) fn keep_take(
+        &mut self,
+        end: LinkEnd,
+        room: usize,
+        bytes: &[u8],
+        answer: NetTaken,
+    ) -> bool
+        ensures { LogsCall self.old self.new (Take end room bytes.now answer) result }
     {
         match Vec::from_slice(self.alloc, bytes) {
-            Ok(copy) => self.keep(KeptCall::Take(end, copy, answer)),
+            Ok(copy) => self.keep(KeptCall::Take(end, room, copy, answer)),
             Err(_) => self.refuse(),
         }
     }

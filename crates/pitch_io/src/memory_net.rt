@@ -3,7 +3,7 @@ ghost use Rattle.pitch_io.specs.declared.memory_net.NetVerb.TheVariants as verb;
 ghost use Rattle.pitch_io.specs.Causes.{HasCause};
 ghost use Rattle.pitch_io.specs.Putting.{PutFailed, PutsWithin};
 ghost use Rattle.pitch_io.specs.Nets.{AnswersWhereListed, Begin, CameWithin, ListsCall, NetDoneFailed, NetTakeFailed, Next, Put as PutCall, Send, Take, came, other_end};
-ghost use Rattle.pitch_io.specs.MemoryNets.{ComesFirst, FollowsScript, IsListed, IsRest, IsSameButFaults, LeavesDone, LeavesPut, LeavesTaken, as_carried, end_changed, line_changed, size_of, taken_of, coming_items, call_counted, nothing_coming, on_line, one_more, times_called, to_end};
+ghost use Rattle.pitch_io.specs.MemoryNets.{CarriesAll, ComesFirst, FollowsScript, IsListed, IsRest, IsSameButFaults, LeavesDone, LeavesPut, LeavesTaken, as_carried, end_changed, line_changed, size_of, taken_of, coming_items, call_counted, listed_calls, nothing_coming, on_line, one_more, times_called, to_end};
 
 use crate::call_log::CallLog;
 use crate::line::Line;
@@ -79,11 +79,13 @@ pub struct MemoryNet {
 }
 
 impl Model for MemoryNet {
-    ghost use Rattle.pitch_io.specs.MemoryNets.{Carried, listed_calls};
+    ghost use Rattle.pitch_io.specs.MemoryNets.{Carried, CarriesAll, listed_calls};
 
     ghost Value = { Carried };
 
     ghost view = { λ n. record { coming = n.wires; calls = listed_calls n.log; failing = n.failing.items; counts = n.counts; faults = n.faults } };
+
+    ghost invariant = { λ n. CarriesAll (listed_calls n.log) n.wires };
 }
 
 impl MemoryNet {
@@ -128,15 +130,21 @@ impl MemoryNet {
         self.faults = self.faults.saturating_add(1);
     }
 
-    // Memory was refused: a fault, and the net lists no more.
-    fn give_up(&mut self)
-        ensures cause { HasCause self.old.faults self.new.faults (Unit {0}) }
-        ensures calls { self.new.calls ≡ None }
-        ensures script { (self.new.failing ≡ self.old.failing) × (self.new.counts ≡ self.old.counts) }
+    /// That it carries: what is on its way is what its calls leave.
+    pub fn carries(&self)
+        ensures { CarriesAll self.now.calls self.now.coming }
     {
-        self.log.refuse();
-        self.fault();
+        let _ = &self.log;
     }
+}
+
+// Memory was refused: a fault, and the net lists no more.
+fn give_up(log: &mut CallLog, faults: &mut u64)
+    ensures cause { HasCause faults.old faults.new (Unit {0}) }
+    ensures calls { listed_calls log.new ≡ None }
+{
+    log.refuse();
+    *faults = faults.saturating_add(1);
 }
 
 impl Net for MemoryNet {
@@ -161,7 +169,7 @@ impl Net for MemoryNet {
             return NetDone::Failed;
         }
         if !self.log.keep_begin(NetDone::Done) {
-            self.give_up();
+            give_up(&mut self.log, &mut self.faults);
             return NetDone::Failed;
         }
         self.wires.clear();
@@ -183,14 +191,14 @@ impl Net for MemoryNet {
         if self.wires.send(line, datagram) && self.log.keep_send(line, datagram, NetDone::Done) {
             return NetDone::Done;
         }
-        self.give_up();
+        give_up(&mut self.log, &mut self.faults);
         NetDone::Failed
     }
 
     fn next(&mut self, line: Line, into: &mut [u8]) -> NetTaken
         requires { 0 < length into.old }
         ensures count { CameWithin result into.new }
-        ensures calls { ListsCall self.old.calls self.new.calls (Next line (came result into.new) result) }
+        ensures calls { ListsCall self.old.calls self.new.calls (Next line (length into.old) (came result into.new) result) }
         ensures coming { AnswersWhereListed self.new.calls (coming_items (on_line self.old.coming line)) result }
         ensures cause { HasCause self.old.faults self.new.faults (NetTakeFailed result) }
         ensures still { ¬ NetTakeFailed result → self.new.faults ≡ self.old.faults }
@@ -199,16 +207,16 @@ impl Net for MemoryNet {
         ensures rest { LeavesTaken self.old self.new (line_changed self.old.coming line (drop 1)) result }
     {
         if self.is_listed(NetVerb::Next) {
-            self.log.keep_next(line, &[], NetTaken::Failed);
+            self.log.keep_next(line, into.len(), &[], NetTaken::Failed);
             self.fault();
             return NetTaken::Failed;
         }
         let count = self.wires.next(line, into);
         let answer = taken(count);
-        if self.log.keep_next(line, &into[..count], answer) {
+        if self.log.keep_next(line, into.len(), &into[..count], answer) {
             return answer;
         }
-        self.give_up();
+        give_up(&mut self.log, &mut self.faults);
         NetTaken::Failed
     }
 
@@ -230,14 +238,14 @@ impl Net for MemoryNet {
         if self.wires.put(end, piece) && self.log.keep_put(end, piece, whole) {
             return whole;
         }
-        self.give_up();
+        give_up(&mut self.log, &mut self.faults);
         Put::Failed
     }
 
     fn take(&mut self, end: LinkEnd, into: &mut [u8]) -> NetTaken
         requires { 0 < length into.old }
         ensures count { CameWithin result into.new }
-        ensures calls { ListsCall self.old.calls self.new.calls (Take end (came result into.new) result) }
+        ensures calls { ListsCall self.old.calls self.new.calls (Take end (length into.old) (came result into.new) result) }
         ensures coming { AnswersWhereListed self.new.calls (coming_items (to_end self.old.coming end)) result }
         ensures cause { HasCause self.old.faults self.new.faults (NetTakeFailed result) }
         ensures still { ¬ NetTakeFailed result → self.new.faults ≡ self.old.faults }
@@ -246,16 +254,16 @@ impl Net for MemoryNet {
         ensures rest { LeavesTaken self.old self.new (end_changed self.old.coming end (drop (size_of result))) result }
     {
         if self.is_listed(NetVerb::Take) {
-            self.log.keep_take(end, &[], NetTaken::Failed);
+            self.log.keep_take(end, into.len(), &[], NetTaken::Failed);
             self.fault();
             return NetTaken::Failed;
         }
         let count = self.wires.take(end, into);
         let answer = taken(count);
-        if self.log.keep_take(end, &into[..count], answer) {
+        if self.log.keep_take(end, into.len(), &into[..count], answer) {
             return answer;
         }
-        self.give_up();
+        give_up(&mut self.log, &mut self.faults);
         NetTaken::Failed
     }
 }

@@ -71,7 +71,7 @@ pub trait Net {
     fn next(&mut self, line: Line, into: &mut [u8]) -> NetTaken
         requires { 0 < length into.old }
         ensures count { CameWithin result into.new }
-        ensures calls { ListsCall (calls self.old) (calls self.new) (Next line (came result into.new) result) }
+        ensures calls { ListsCall (calls self.old) (calls self.new) (Next line (length into.old) (came result into.new) result) }
         ensures coming { AnswersWhereListed (calls self.new) (lines self.old line) result }
         ensures cause { HasCause (faults self.old) (faults self.new) (NetTakeFailed result) }
         ensures still { ¬ NetTakeFailed result → faults self.new ≡ faults self.old };
@@ -88,7 +88,7 @@ pub trait Net {
     fn take(&mut self, end: LinkEnd, into: &mut [u8]) -> NetTaken
         requires { 0 < length into.old }
         ensures count { CameWithin result into.new }
-        ensures calls { ListsCall (calls self.old) (calls self.new) (Take end (came result into.new) result) }
+        ensures calls { ListsCall (calls self.old) (calls self.new) (Take end (length into.old) (came result into.new) result) }
         ensures coming { AnswersWhereListed (calls self.new) (ends self.old end) result }
         ensures cause { HasCause (faults self.old) (faults self.new) (NetTakeFailed result) }
         ensures still { ¬ NetTakeFailed result → faults self.new ≡ faults self.old };
