@@ -6,8 +6,6 @@ use Rattle.pitch_fields.specs.Fields.{AreBytes}
 use Rattle.pitch_fields.specs.Limits.{last_sequence}
 use Rattle.pitch_io.specs.declared.line.Line.{Line}
 use Rattle.pitch_io.specs.declared.line.Line.TheVariants.{A, B, Gap}
-use Rattle.pitch_io.specs.declared.net.LinkEnd.{LinkEnd}
-use Rattle.pitch_io.specs.declared.net.LinkEnd.TheVariants.{GrpClient, GrpServer, SpinClient, SpinServer}
 use Rattle.pitch_io.specs.Nets.{Call}
 use Rattle.pitch_messages.specs.Raw.{IsRaw}
 use Rattle.pitch_model.specs.Datagrams.{IsPiece}
@@ -21,7 +19,7 @@ use Rattle.net_edge.specs.Acting.{scene_of}
 use Rattle.net_edge.specs.Demo.{IsDemo, EndsDemo, IsLast, AddsCalls, all_messages}
 use Rattle.net_edge.specs.Due.{Setting, demo_unit, hold_limit, accepted}
 use Rattle.net_edge.specs.Playing.{DemoAt, EndsHave, ListsCalls, MarketAt, calls_before}
-use Rattle.net_edge.specs.Scene.{Scene, line_in, at_end, said_at}
+use Rattle.net_edge.specs.Scene.{Scene, line_in}
 use Rattle.net_edge.specs.Steps.{Step}
 use Rattle.net_edge.specs.Turns.{AreSteps, IsOver, client_status}
 use Rattle.net_edge.specs.declared.ends.Ends.{Ends}

@@ -22,10 +22,10 @@ heartbeat = 8 ∷ 0 ∷ 0 ∷ 1 ∷ 1 ∷ 0 ∷ 0 ∷ 0 ∷ []
 
 -- nothing comes to an end, or on a line
 served : List Step → List Step
-served run = Did (Take SpinServer [] taken.Quiet) ∷ Did (Take GrpServer [] taken.Quiet) ∷ run
+served run = Did (Take SpinServer 65535 [] taken.Quiet) ∷ Did (Take GrpServer 65535 [] taken.Quiet) ∷ run
 
 heard : List Step → List Step
-heard run = Did (Take SpinClient [] taken.Quiet) ∷ Did (Take GrpClient [] taken.Quiet) ∷ Did (Next Gap [] taken.Quiet) ∷ Did (Next B [] taken.Quiet) ∷ Did (Next A [] taken.Quiet) ∷ run
+heard run = Did (Take SpinClient 65535 [] taken.Quiet) ∷ Did (Take GrpClient 65535 [] taken.Quiet) ∷ Did (Next Gap 65535 [] taken.Quiet) ∷ Did (Next B 65535 [] taken.Quiet) ∷ Did (Next A 65535 [] taken.Quiet) ∷ run
 
 -- so many quiet turns, after each of which another begins
 quiet_turns : ℕ → List Step
@@ -33,7 +33,7 @@ quiet_turns zero = Did (Begin done.Done) ∷ []
 quiet_turns (suc n) = Turn ∷ heard (served (quiet_turns n))
 
 run : List Step
-run = heard (Did (Next A heartbeat (taken.Got 8)) ∷ served (Beat heartbeat done.Done ∷ Did (Send A heartbeat done.Done) ∷ quiet_turns 9))
+run = heard (Did (Next A 65535 heartbeat (taken.Got 8)) ∷ served (Beat heartbeat done.Done ∷ Did (Send A heartbeat done.Done) ∷ quiet_turns 9))
 
 turn_is : (scene_of s run).turn ≡ 10
 unfolding s heartbeat served heard quiet_turns run

@@ -111,29 +111,29 @@ module _ (s : Setting) (raws : AllByRecursion IsRaw (all_messages s)) (few : len
   replies_more (Did (Send A datagram answer)) n p = p
   replies_more (Did (Send B datagram answer)) n p = p
   replies_more (Did (Send Gap datagram answer)) n p = p
-  replies_more (Did (Next A bytes answer)) n p = p
-  replies_more (Did (Next B bytes answer)) n p = p
-  replies_more (Did (Next Gap bytes answer)) n p = p
+  replies_more (Did (Next A room bytes answer)) n p = p
+  replies_more (Did (Next B room bytes answer)) n p = p
+  replies_more (Did (Next Gap room bytes answer)) n p = p
   replies_more (Did (Put GrpClient piece answer)) n p = p
   replies_more (Did (Put GrpServer piece answer)) n p = p
   replies_more (Did (Put SpinClient piece answer)) n p = p
   replies_more (Did (Put SpinServer piece answer)) n p = p
-  replies_more (Did (Take GrpServer bytes (Got count))) n p =
+  replies_more (Did (Take GrpServer room bytes (Got count))) n p =
       let source : Source = source_at s bytes n in
       pieces_append (all_messages s) demo_unit n.replayed (proxy_answer (grp_server demo_unit) n.grp.server bytes source).lines p
       (reply_pieces n.turn n.grp.server bytes source (views_same _ (gap_view s n.turn) (messages s n.turn) refl))
-  replies_more (Did (Take GrpServer bytes Quiet)) n p = p
-  replies_more (Did (Take GrpServer bytes End)) n p = p
-  replies_more (Did (Take GrpServer bytes Failed)) n p = p
-  replies_more (Did (Take SpinServer bytes answer)) n p = p
-  replies_more (Did (Take GrpClient bytes (Got count))) n p = p
-  replies_more (Did (Take GrpClient bytes Quiet)) n p = p
-  replies_more (Did (Take GrpClient bytes End)) n p = p
-  replies_more (Did (Take GrpClient bytes Failed)) n p = p
-  replies_more (Did (Take SpinClient bytes (Got count))) n p = p
-  replies_more (Did (Take SpinClient bytes Quiet)) n p = p
-  replies_more (Did (Take SpinClient bytes End)) n p = p
-  replies_more (Did (Take SpinClient bytes Failed)) n p = p
+  replies_more (Did (Take GrpServer room bytes Quiet)) n p = p
+  replies_more (Did (Take GrpServer room bytes End)) n p = p
+  replies_more (Did (Take GrpServer room bytes Failed)) n p = p
+  replies_more (Did (Take SpinServer room bytes answer)) n p = p
+  replies_more (Did (Take GrpClient room bytes (Got count))) n p = p
+  replies_more (Did (Take GrpClient room bytes Quiet)) n p = p
+  replies_more (Did (Take GrpClient room bytes End)) n p = p
+  replies_more (Did (Take GrpClient room bytes Failed)) n p = p
+  replies_more (Did (Take SpinClient room bytes (Got count))) n p = p
+  replies_more (Did (Take SpinClient room bytes Quiet)) n p = p
+  replies_more (Did (Take SpinClient room bytes End)) n p = p
+  replies_more (Did (Take SpinClient room bytes Failed)) n p = p
   replies_more (Beat heartbeat answer) n p = p
   replies_more Turn n p = p
 

@@ -51,25 +51,25 @@ grows s (Did (Begin answer)) n = before_same n
 grows s (Did (Send A datagram answer)) n = still n _ refl refl refl refl
 grows s (Did (Send B datagram answer)) n = still n _ refl refl refl refl
 grows s (Did (Send Gap datagram answer)) n = still n _ refl refl refl refl
-grows s (Did (Next A bytes answer)) n = record { a = (came_by answer bytes, refl); b = begins_same n.b.came; gap = begins_same n.gap.came; spin = begins_same n.spin_client.came }
-grows s (Did (Next B bytes answer)) n = record { a = begins_same n.a.came; b = (came_by answer bytes, refl); gap = begins_same n.gap.came; spin = begins_same n.spin_client.came }
-grows s (Did (Next Gap bytes answer)) n = record { a = begins_same n.a.came; b = begins_same n.b.came; gap = (came_by answer bytes, refl); spin = begins_same n.spin_client.came }
+grows s (Did (Next A room bytes answer)) n = record { a = (came_by answer bytes, refl); b = begins_same n.b.came; gap = begins_same n.gap.came; spin = begins_same n.spin_client.came }
+grows s (Did (Next B room bytes answer)) n = record { a = begins_same n.a.came; b = (came_by answer bytes, refl); gap = begins_same n.gap.came; spin = begins_same n.spin_client.came }
+grows s (Did (Next Gap room bytes answer)) n = record { a = begins_same n.a.came; b = begins_same n.b.came; gap = (came_by answer bytes, refl); spin = begins_same n.spin_client.came }
 grows s (Did (Put GrpClient piece answer)) n = still n _ refl refl refl refl
 grows s (Did (Put GrpServer piece answer)) n = still n _ refl refl refl refl
 grows s (Did (Put SpinClient piece answer)) n = still n _ refl refl refl refl
 grows s (Did (Put SpinServer piece answer)) n = still n _ refl refl refl refl
-grows s (Did (Take GrpServer bytes (Got count))) n = still n _ refl refl refl refl
-grows s (Did (Take GrpServer bytes Quiet)) n = still n _ refl refl refl refl
-grows s (Did (Take GrpServer bytes End)) n = still n _ refl refl refl refl
-grows s (Did (Take GrpServer bytes Failed)) n = still n _ refl refl refl refl
-grows s (Did (Take SpinServer bytes answer)) n = still n _ refl refl refl refl
-grows s (Did (Take GrpClient bytes (Got count))) n = still n _ refl refl refl refl
-grows s (Did (Take GrpClient bytes Quiet)) n = still n _ refl refl refl refl
-grows s (Did (Take GrpClient bytes End)) n = still n _ refl refl refl refl
-grows s (Did (Take GrpClient bytes Failed)) n = still n _ refl refl refl refl
-grows s (Did (Take SpinClient bytes (Got count))) n = record { a = begins_same n.a.came; b = begins_same n.b.came; gap = begins_same n.gap.came; spin = (bytes, refl) }
-grows s (Did (Take SpinClient bytes Quiet)) n = record { a = begins_same n.a.came; b = begins_same n.b.came; gap = begins_same n.gap.came; spin = ([], refl) }
-grows s (Did (Take SpinClient bytes End)) n = record { a = begins_same n.a.came; b = begins_same n.b.came; gap = begins_same n.gap.came; spin = ([], refl) }
-grows s (Did (Take SpinClient bytes Failed)) n = record { a = begins_same n.a.came; b = begins_same n.b.came; gap = begins_same n.gap.came; spin = ([], refl) }
+grows s (Did (Take GrpServer room bytes (Got count))) n = still n _ refl refl refl refl
+grows s (Did (Take GrpServer room bytes Quiet)) n = still n _ refl refl refl refl
+grows s (Did (Take GrpServer room bytes End)) n = still n _ refl refl refl refl
+grows s (Did (Take GrpServer room bytes Failed)) n = still n _ refl refl refl refl
+grows s (Did (Take SpinServer room bytes answer)) n = still n _ refl refl refl refl
+grows s (Did (Take GrpClient room bytes (Got count))) n = still n _ refl refl refl refl
+grows s (Did (Take GrpClient room bytes Quiet)) n = still n _ refl refl refl refl
+grows s (Did (Take GrpClient room bytes End)) n = still n _ refl refl refl refl
+grows s (Did (Take GrpClient room bytes Failed)) n = still n _ refl refl refl refl
+grows s (Did (Take SpinClient room bytes (Got count))) n = record { a = begins_same n.a.came; b = begins_same n.b.came; gap = begins_same n.gap.came; spin = (bytes, refl) }
+grows s (Did (Take SpinClient room bytes Quiet)) n = record { a = begins_same n.a.came; b = begins_same n.b.came; gap = begins_same n.gap.came; spin = ([], refl) }
+grows s (Did (Take SpinClient room bytes End)) n = record { a = begins_same n.a.came; b = begins_same n.b.came; gap = begins_same n.gap.came; spin = ([], refl) }
+grows s (Did (Take SpinClient room bytes Failed)) n = record { a = begins_same n.a.came; b = begins_same n.b.came; gap = begins_same n.gap.came; spin = ([], refl) }
 grows s (Beat heartbeat answer) n = still n _ refl refl refl refl
 grows s Turn n = still n _ refl refl refl refl

@@ -27,7 +27,7 @@ use Rattle.client_core.specs.Blocks.{Carries}
 use Rattle.client_core.specs.Tracks.{Tracks, Keeps}
 use Rattle.client_core.specs.declared.client.UnitClient.{UnitClient}
 use Rattle.net_edge.specs.Acting.{ours, is_group_open, came_by, blocks_heard}
-use Rattle.net_edge.specs.Due.{Setting, demo_unit}
+use Rattle.net_edge.specs.Due.{Setting, demo_unit, call_room}
 use Rattle.net_edge.specs.Playing.{ClientHas, HearsOn, Plays}
 use Rattle.net_edge.specs.Scene.{Scene, OnLine, line_in, with_line}
 use Rattle.net_edge.proofs.Runs.{play_call}
@@ -134,9 +134,9 @@ heard_at : (line : Line) (on : OnLine) (E : List Entry) (now : Scene) → (recor
 heard_at line on E now = refl
 
 -- a call more on a line, of which the client heard what came
-pub hears_on : (s : Setting) (base : List Call) (calls calls' : Option (List Call)) (one two : UnitClient) (line : Line) (bytes : List ℕ) (answer : NetTaken) (answers : List NetTaken) (now : Scene) → (h : HearsOn s base calls one line answers now)
-    → ListsCall calls calls' (Next line bytes answer) → (NetTakeFailed answer → ⊥) → is_group_open answers ≡ true → ClientHas two (blocks_heard answer bytes h.heard) → HearsOn s base calls' two line (answer ∷ answers) now
-hears_on s base calls calls' one two line bytes answer answers now h lists well opened has =
+pub hears_on : (s : Setting) (base : List Call) (calls calls' : Option (List Call)) (one two : UnitClient) (line : Line) (room : ℕ) (bytes : List ℕ) (answer : NetTaken) (answers : List NetTaken) (now : Scene) → (h : HearsOn s base calls one line answers now)
+    → ListsCall calls calls' (Next line room bytes answer) → room ≡ call_room → (NetTakeFailed answer → ⊥) → is_group_open answers ≡ true → ClientHas two (blocks_heard answer bytes h.heard) → HearsOn s base calls' two line (answer ∷ answers) now
+hears_on s base calls calls' one two line room bytes answer answers now h lists roomy well opened has =
     let on : OnLine = record { sent = h.on.sent; came = h.on.came ++ came_by answer bytes; answers = answer ∷ h.on.answers } in
     let at : Scene = record (with_line line h.on now) { heard = h.heard } in
     record {
@@ -148,7 +148,7 @@ hears_on s base calls calls' one two line bytes answer answers now h lists well 
       plays = subst (Plays s base calls')
           (ap (λ (l : OnLine). record (with_line line (record l { came = l.came ++ came_by answer bytes; answers = answer ∷ l.answers }) at) { heard = blocks_heard answer bytes h.heard }) (line_at line h.on h.heard now)
           ∙ line_with line h.on on h.heard (blocks_heard answer bytes h.heard) now)
-          (play_call s base calls calls' at (Next line bytes answer) lists well (ap (λ (l : OnLine). is_group_open l.answers) (line_at line h.on h.heard now) ∙ ap is_group_open h.answers_are ∙ opened) h.plays);
+          (play_call s base calls calls' at (Next line room bytes answer) lists well (roomy, ap (λ (l : OnLine). is_group_open l.answers) (line_at line h.on h.heard now) ∙ ap is_group_open h.answers_are ∙ opened) h.plays);
     }
 
 -- a call that got nothing has not failed

@@ -26,7 +26,7 @@ use Rattle.world_model.specs.Hearing.{IsTold, HearsItems}
 use Rattle.world_model.proofs.HeardItems.{honest_first}
 use Rattle.world_model.proofs.LinkItems.{link_told, told_spare}
 use Rattle.net_edge.specs.Acting.{is_group_open, end_puts, end_took, taken_at}
-use Rattle.net_edge.specs.Due.{Setting, hold_limit}
+use Rattle.net_edge.specs.Due.{Setting, call_room, hold_limit}
 use Rattle.net_edge.specs.Playing.{Plays, ClientHas, LinkHas, LinkSays, LinkTells, HearsLink, closes, told_down}
 use Rattle.net_edge.specs.Scene.{Scene, AtEnd}
 use Rattle.net_edge.specs.Peers.{Peer, ProxyPeer, SpinPeer, end_of, peer_setup, down_of, with_client_end}
@@ -83,22 +83,22 @@ stands true so = sym (so refl)
 stands false so = refl
 
 -- it may come while the turn's group is open
-may_take : (peer : Peer) (end : AtEnd) (up : Pipe) (events : List (Event Lookups)) (E : List Entry) (now : Scene) (bytes : List ℕ) (answer : NetTaken) → is_group_open end.answers ≡ true → (end.ended ≡ true → false ≡ true)
-    → MayCall (Take (end_of peer) bytes answer) (with_client_end peer end up events false E now)
-may_take ProxyPeer end up events E now bytes answer opened unended = (opened, stands end.ended unended)
-may_take SpinPeer end up events E now bytes answer opened unended = (opened, stands end.ended unended)
+may_take : (peer : Peer) (end : AtEnd) (up : Pipe) (events : List (Event Lookups)) (E : List Entry) (now : Scene) (room : ℕ) (bytes : List ℕ) (answer : NetTaken) → room ≡ call_room → is_group_open end.answers ≡ true → (end.ended ≡ true → false ≡ true)
+    → MayCall (Take (end_of peer) room bytes answer) (with_client_end peer end up events false E now)
+may_take ProxyPeer end up events E now room bytes answer roomy opened unended = (roomy, opened, stands end.ended unended)
+may_take SpinPeer end up events E now room bytes answer roomy opened unended = (roomy, opened, stands end.ended unended)
 
 -- what the client heard so far, and then of one call more
-module _ (peer : Peer) (s : Setting) (base : List Call) (calls calls' : Option (List Call)) (at : LinkEnd) (link link' : Ending) (client client' : UnitClient) (answers : List NetTaken) (now : Scene) where
+module _ (peer : Peer) (s : Setting) (base : List Call) (calls calls' : Option (List Call)) (at : LinkEnd) (link link' : Ending) (client client' : UnitClient) (room : ℕ) (roomy : room ≡ call_room) (answers : List NetTaken) (now : Scene) where
   -- the call is a step
-  took_so : (bytes : List ℕ) (answer : NetTaken) (after : Scene) → (h : HearsLink peer s base calls link client answers false now) → at ≡ end_of peer → is_group_open answers ≡ true → (NetTakeFailed answer → ⊥) → ListsCall calls calls' (Take at bytes answer)
+  took_so : (bytes : List ℕ) (answer : NetTaken) (after : Scene) → (h : HearsLink peer s base calls link client answers false now) → at ≡ end_of peer → is_group_open answers ≡ true → (NetTakeFailed answer → ⊥) → ListsCall calls calls' (Take at room bytes answer)
       → taken_at s (end_of peer) bytes answer (with_client_end peer h.end h.up h.events false h.heard now) ≡ after → Plays s base calls' after
   took_so bytes answer after h is opened well lists makes =
-      let listed : ListsCall calls calls' (Take (end_of peer) bytes answer) = subst (λ (e : LinkEnd). ListsCall calls calls' (Take e bytes answer)) is lists in
-      let may : MayCall (Take (end_of peer) bytes answer) (with_client_end peer h.end h.up h.events false h.heard now) = may_take peer h.end h.up h.events h.heard now bytes answer (ap is_group_open h.answers_are ∙ opened) h.ended_is in
-      subst (Plays s base calls') makes (play_call s base calls calls' (with_client_end peer h.end h.up h.events false h.heard now) (Take (end_of peer) bytes answer) listed well may h.plays)
+      let listed : ListsCall calls calls' (Take (end_of peer) room bytes answer) = subst (λ (e : LinkEnd). ListsCall calls calls' (Take e room bytes answer)) is lists in
+      let may : MayCall (Take (end_of peer) room bytes answer) (with_client_end peer h.end h.up h.events false h.heard now) = may_take peer h.end h.up h.events h.heard now room bytes answer roomy (ap is_group_open h.answers_are ∙ opened) h.ended_is in
+      subst (Plays s base calls') makes (play_call s base calls calls' (with_client_end peer h.end h.up h.events false h.heard now) (Take (end_of peer) room bytes answer) listed well may h.plays)
 
-  pub link_got : (bytes : List ℕ) (count : ℕ) (shut : Bool) → (h : HearsLink peer s base calls link client answers false now) → at ≡ end_of peer → is_group_open answers ≡ true → ListsCall calls calls' (Take at bytes (taken.Got count))
+  pub link_got : (bytes : List ℕ) (count : ℕ) (shut : Bool) → (h : HearsLink peer s base calls link client answers false now) → at ≡ end_of peer → is_group_open answers ≡ true → ListsCall calls calls' (Take at room bytes (taken.Got count))
       → LinkTells peer link' client' bytes h.events h.heard shut → HearsLink peer s base calls' link' client' (taken.Got count ∷ answers) shut now
   link_got bytes count shut h is opened lists tells =
       let told : List Entry = heard_all (link_tells (peer_setup peer) h.events bytes) h.heard in
@@ -117,7 +117,7 @@ module _ (peer : Peer) (s : Setting) (base : List Call) (calls calls' : Option (
         plays = took_so bytes (taken.Got count) _ h is opened (λ f. f) lists (took_some s h.end h.up h.events h.heard now peer bytes count);
       })
 
-  pub link_quiet : (h : HearsLink peer s base calls link client answers false now) → at ≡ end_of peer → is_group_open answers ≡ true → ListsCall calls calls' (Take at [] taken.Quiet) → HearsLink peer s base calls' link client (taken.Quiet ∷ answers) false now
+  pub link_quiet : (h : HearsLink peer s base calls link client answers false now) → at ≡ end_of peer → is_group_open answers ≡ true → ListsCall calls calls' (Take at room [] taken.Quiet) → HearsLink peer s base calls' link client (taken.Quiet ∷ answers) false now
   link_quiet h is opened lists = record {
     end = end_took [] taken.Quiet h.end;
     events = h.events;
@@ -132,7 +132,7 @@ module _ (peer : Peer) (s : Setting) (base : List Call) (calls calls' : Option (
     plays = took_so [] taken.Quiet _ h is opened (λ f. f) lists (took_none s h.end h.up h.events h.heard now peer);
   }
 
-  pub link_end : (h : HearsLink peer s base calls link client answers false now) → at ≡ end_of peer → is_group_open answers ≡ true → ListsCall calls calls' (Take at [] taken.End) → ClientHas client' (down_of peer ∷ h.heard)
+  pub link_end : (h : HearsLink peer s base calls link client answers false now) → at ≡ end_of peer → is_group_open answers ≡ true → ListsCall calls calls' (Take at room [] taken.End) → ClientHas client' (down_of peer ∷ h.heard)
       → HearsLink peer s base calls' link client' (taken.End ∷ answers) true now
   link_end h is opened lists has = record {
     end = end_took [] taken.End h.end;

@@ -14,7 +14,7 @@ use Rattle.grp_session.specs.Budget.{Counted, Spent}
 use Rattle.grp_session.specs.Budget as budget
 use Rattle.grp_session.specs.Serving.{Source, Answered, ProxyFeeds, StoreHasOneView, proxy_answer}
 use Rattle.net_edge.specs.Acting.{source_at, proxy_took, end_took, taken_at, is_group_open}
-use Rattle.net_edge.specs.Due.{Setting, gap_view}
+use Rattle.net_edge.specs.Due.{Setting, call_room, gap_view}
 use Rattle.net_edge.specs.Playing.{ProxyHas, ProxyFed, ProxyAnswers, ProxyServes, Plays, with_proxy, proxy_said}
 use Rattle.net_edge.specs.Scene.{Scene, AtEnd, got_end}
 use Rattle.net_edge.specs.declared.proxy.Proxy.{Proxy}
@@ -51,17 +51,17 @@ fed_at s now piece old new store store' none said nothing lines one has stored s
     }
 
 -- ---- A call of `take`
-may_take : (end : AtEnd) (answers : List NetTaken) (cut : Bool) → end.answers ≡ answers → is_group_open answers ≡ true → end.ended ≡ false → cut ≡ false → (is_group_open end.answers ≡ true) × ((end.ended || cut) ≡ false)
-may_take end answers cut are opened unended whole = (ap is_group_open are ∙ opened, ap (λ (b : Bool). b || cut) unended ∙ whole)
+may_take : (room : ℕ) (end : AtEnd) (answers : List NetTaken) (cut : Bool) → room ≡ call_room → end.answers ≡ answers → is_group_open answers ≡ true → end.ended ≡ false → cut ≡ false → (room ≡ call_room) × (is_group_open end.answers ≡ true) × ((end.ended || cut) ≡ false)
+may_take room end answers cut roomy are opened unended whole = (roomy, ap is_group_open are ∙ opened, ap (λ (b : Bool). b || cut) unended ∙ whole)
 
 -- something came
-pub serves_got : (s : Setting) (base : List Call) (calls calls' calls'' : Option (List Call)) (old new : Proxy) (bytes : List ℕ) (count : ℕ) (answers : List NetTaken) (now : Scene)
-    → ProxyServes s base calls old answers false now → now.grp_cut ≡ false → is_group_open answers ≡ true → ListsCall calls calls' (Take GrpServer bytes (taken.Got count))
+pub serves_got : (s : Setting) (base : List Call) (calls calls' calls'' : Option (List Call)) (old new : Proxy) (room : ℕ) (bytes : List ℕ) (count : ℕ) (answers : List NetTaken) (now : Scene)
+    → ProxyServes s base calls old answers false now → now.grp_cut ≡ false → is_group_open answers ≡ true → ListsCall calls calls' (Take GrpServer room bytes (taken.Got count)) → room ≡ call_room
     → ((scene : Scene) → ProxyHas old scene.grp.server scene.spent → scene.turn ≡ now.turn → Plays s base calls' (taken_at s GrpServer bytes (taken.Got count) scene) → ProxyAnswers s base calls'' new bytes count scene)
     → ProxyServes s base calls'' new (taken.Got count ∷ answers) false now
-serves_got s base calls calls' calls'' old new bytes count answers now h whole opened lists serves =
+serves_got s base calls calls' calls'' old new room bytes count answers now h whole opened lists roomy serves =
     let at : Scene = with_proxy h.end h.down h.server h.spent h.lines now in
-    let after : ProxyAnswers s base calls'' new bytes count at = serves at h.has refl (play_call s base calls calls' at (Take GrpServer bytes (taken.Got count)) lists (λ f. f) (may_take h.end answers now.grp_cut h.answers_are opened h.ended_is whole) h.plays) in
+    let after : ProxyAnswers s base calls'' new bytes count at = serves at h.has refl (play_call s base calls calls' at (Take GrpServer room bytes (taken.Got count)) lists (λ f. f) (may_take room h.end answers now.grp_cut roomy h.answers_are opened h.ended_is whole) h.plays) in
     let said : Answer Spent = proxy_said s bytes at in
     record {
       end = record { put = h.end.put ++ said.reply; came = h.end.came ++ bytes; answers = taken.Got count ∷ h.end.answers; ended = h.end.ended };
@@ -77,10 +77,10 @@ serves_got s base calls calls' calls'' old new bytes count answers now h whole o
     }
 
 -- nothing came
-pub serves_none : (s : Setting) (base : List Call) (calls calls' : Option (List Call)) (proxy : Proxy) (into : List ℕ) (answer : NetTaken) (answers : List NetTaken) (now : Scene)
-    → ProxyServes s base calls proxy answers false now → now.grp_cut ≡ false → is_group_open answers ≡ true → (answer ≡ taken.Quiet) ⊎ (answer ≡ taken.End) → ListsCall calls calls' (Take GrpServer (came answer into) answer)
+pub serves_none : (s : Setting) (base : List Call) (calls calls' : Option (List Call)) (proxy : Proxy) (room : ℕ) (into : List ℕ) (answer : NetTaken) (answers : List NetTaken) (now : Scene)
+    → ProxyServes s base calls proxy answers false now → now.grp_cut ≡ false → is_group_open answers ≡ true → (answer ≡ taken.Quiet) ⊎ (answer ≡ taken.End) → ListsCall calls calls' (Take GrpServer room (came answer into) answer) → room ≡ call_room
     → ProxyServes s base calls' proxy (answer ∷ answers) (got_end answer) now
-serves_none s base calls calls' proxy into answer answers now h whole opened which lists = record {
+serves_none s base calls calls' proxy room into answer answers now h whole opened which lists roomy = record {
   end = end_took (came answer into) answer h.end;
   server = h.server;
   down = h.down;
@@ -90,7 +90,7 @@ serves_none s base calls calls' proxy into answer answers now h whole opened whi
   ended_is = ap (λ (b : Bool). got_end answer || b) h.ended_is ∙ or-false (got_end answer);
   put_is = h.put_is;
   has = h.has;
-  plays = subst (Plays s base calls') (idle which) (play_call s base calls calls' at (Take GrpServer (came answer into) answer) lists (not_failed answer which) (may_take h.end answers now.grp_cut h.answers_are opened h.ended_is whole) h.plays);
+  plays = subst (Plays s base calls') (idle which) (play_call s base calls calls' at (Take GrpServer room (came answer into) answer) lists (not_failed answer which) (may_take room h.end answers now.grp_cut roomy h.answers_are opened h.ended_is whole) h.plays);
 }
   where
     at : Scene

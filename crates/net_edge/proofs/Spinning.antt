@@ -19,7 +19,7 @@ use Rattle.world_model.specs.Verbs.{at_spin_server, pumped_times, pumps, sent_wh
 use Rattle.world_model.proofs.Pumping.{Pumping, pumping_begins, pumping_ends}
 use Rattle.world_model.proofs.SpinCarrying.{is_fed, shows_view}
 use Rattle.net_edge.specs.Acting.{is_group_open, bytes_by, spin_server_fed, spin_answered, end_puts}
-use Rattle.net_edge.specs.Due.{Setting, demo_unit, messages, advertised_until, spin_view}
+use Rattle.net_edge.specs.Due.{Setting, demo_unit, call_room, messages, advertised_until, spin_view}
 use Rattle.net_edge.specs.Playing.{SpinHas, SpinSays, SpinServes, Plays}
 use Rattle.net_edge.specs.Scene.{Scene, AtEnd, is_got, got_end}
 use Rattle.net_edge.proofs.Runs.{play_call}
@@ -97,12 +97,12 @@ pub says_nothing : (spin : Serving) (said : List ℕ) (c : Connection (List Serv
 says_nothing spin said c none has = record { has = has; says = sym (append-nil c.down.put) ∙ ap (λ (b : List ℕ). c.down.put ++ b) (sym none); up_is = refl; link_is = refl }
 
 -- ---- A call of `take`
-pub serves_on : (s : Setting) (base : List Call) (calls calls' calls'' : Option (List Call)) (old new : Serving) (bytes said : List ℕ) (answer : NetTaken) (goes_on : Bool) (answers : List NetTaken) (now : Scene)
-    → SpinServes s base calls old answers false now → now.spin_cut ≡ false → is_group_open answers ≡ true → is_group_open (answer ∷ answers) ≡ goes_on → ListsCall calls calls' (Take SpinServer bytes answer) → (NetTakeFailed answer → ⊥)
+pub serves_on : (s : Setting) (base : List Call) (calls calls' calls'' : Option (List Call)) (old new : Serving) (room : ℕ) (bytes said : List ℕ) (answer : NetTaken) (goes_on : Bool) (answers : List NetTaken) (now : Scene)
+    → SpinServes s base calls old answers false now → now.spin_cut ≡ false → is_group_open answers ≡ true → is_group_open (answer ∷ answers) ≡ goes_on → ListsCall calls calls' (Take SpinServer room bytes answer) → room ≡ call_room → (NetTakeFailed answer → ⊥)
     → ((c : Connection (List Served)) → SpinHas old c.server → SpinSays new said c (spin_answered s bytes answer now.turn goes_on c))
     → ((scene : Scene) → Plays s base calls' scene → Plays s base calls'' (end_puts SpinServer said scene))
     → SpinServes s base calls'' new (answer ∷ answers) (got_end answer) now
-serves_on s base calls calls' calls'' old new bytes said answer goes_on answers now h whole opened more lists well answered puts =
+serves_on s base calls calls' calls'' old new room bytes said answer goes_on answers now h whole opened more lists roomy well answered puts =
     let c : Connection (List Served) = record { up = now.spin.up; down = h.down; server = h.server; link = now.spin.link } in
     let at : Scene = record now { spin_server = h.end; spin = c } in
     let x : Connection (List Served) = spin_answered s bytes answer now.turn goes_on c in
@@ -110,7 +110,7 @@ serves_on s base calls calls' calls'' old new bytes said answer goes_on answers 
     let end : AtEnd = record { put = h.end.put ++ said; came = h.end.came ++ bytes_by answer bytes; answers = answer ∷ h.end.answers; ended = got_end answer || h.end.ended } in
     let scene : Connection (List Served) → Scene = λ k. record now { spin_server = end; spin = k } in
     let goes : is_group_open (answer ∷ h.end.answers) ≡ goes_on = ap (λ (l : List NetTaken). is_group_open (answer ∷ l)) h.answers_are ∙ more in
-    let played = puts _ (play_call s base calls calls' at (Take SpinServer bytes answer) lists well (ap is_group_open h.answers_are ∙ opened, ap (λ (b : Bool). b || now.spin_cut) h.ended_is ∙ whole) h.plays) in
+    let played = puts _ (play_call s base calls calls' at (Take SpinServer room bytes answer) lists well (roomy, ap is_group_open h.answers_are ∙ opened, ap (λ (b : Bool). b || now.spin_cut) h.ended_is ∙ whole) h.plays) in
     let there : Plays s base calls'' (scene x) = subst (λ (b : Bool). Plays s base calls'' (scene (spin_answered s bytes answer now.turn b c))) goes played in
     record {
       end = end;

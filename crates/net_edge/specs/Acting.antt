@@ -212,9 +212,9 @@ next_turn now = record now {
 abbrev pub called : Setting → Call → Scene → Scene
 called s (Begin answer) now = now
 called s (Send line datagram answer) now = sent_on line (datagram ∷ []) now
-called s (Next line bytes answer) now = heard_on line bytes answer now
+called s (Next line room bytes answer) now = heard_on line bytes answer now
 called s (Put at piece answer) now = end_puts at (bytes_put answer piece) now
-called s (Take at bytes answer) now = taken_at s at bytes answer now
+called s (Take at room bytes answer) now = taken_at s at bytes answer now
 
 abbrev pub scene_after : Setting → Step → Scene → Scene
 scene_after s (Did call) now = called s call now

@@ -20,7 +20,8 @@ pub record Setting : Type 0 where
 abbrev pub setting : ℕ → ℕ → Setting
 setting number count = record { number = number; count = count }
 
--- the unit; how many messages the proxy keeps; how many the client can hold
+-- the unit; how many messages the proxy keeps; how many the client can hold; the room for what one
+-- call of `next` or `take` brings, which no datagram passes
 abbrev pub demo_unit : ℕ
 demo_unit = 1
 
@@ -29,6 +30,9 @@ kept_messages = 65536
 
 abbrev pub hold_limit : ℕ
 hold_limit = 4096
+
+abbrev pub call_room : ℕ
+call_room = 65535
 
 -- in each turn one message of the plan is accepted, until all are
 abbrev pub accepted : Setting → ℕ → ℕ

@@ -9,7 +9,7 @@ use Rattle.pitch_model.specs.Status.{status_of}
 use Rattle.pitch_model.specs.declared.status.Status.{Status}
 use Rattle.pitch_model.specs.declared.status.Status.TheVariants.{Current}
 use Rattle.net_edge.specs.Acting.{is_group_open, scene_of}
-use Rattle.net_edge.specs.Due.{Setting, hold_limit, beat, due, is_tenth, ticks}
+use Rattle.net_edge.specs.Due.{Setting, call_room, hold_limit, beat, due, is_tenth, ticks}
 use Rattle.net_edge.specs.Scene.{Scene, line_in, at_end, said_at, is_done}
 use Rattle.net_edge.specs.Steps.{Step, Did, Beat, Turn}
 
@@ -17,15 +17,16 @@ use Rattle.net_edge.specs.Steps.{Step, Did, Beat, Turn}
 abbrev pub GoesWell : Call → Type 0
 GoesWell (Begin answer) = ⊥
 GoesWell (Send line datagram answer) = NetDoneFailed answer → ⊥
-GoesWell (Next line bytes answer) = NetTakeFailed answer → ⊥
+GoesWell (Next line room bytes answer) = NetTakeFailed answer → ⊥
 GoesWell (Put at piece answer) = PutFailed answer → ⊥
-GoesWell (Take at bytes answer) = NetTakeFailed answer → ⊥
+GoesWell (Take at room bytes answer) = NetTakeFailed answer → ⊥
 
--- a call of `next` or `take` comes while the turn's group of them is open: it ends with its first
--- Quiet or End, or with the 100th call; and no end is asked that got End or was cut
+-- a call of `next` or `take` has room for the longest datagram; it comes while the turn's group of
+-- them is open, which ends with its first Quiet or End, or with the 100th call; and no end is asked
+-- that got End or was cut
 abbrev pub MayCall : Call → Scene → Type 0
-MayCall (Next line bytes answer) now = is_group_open (line_in line now).answers ≡ true
-MayCall (Take at bytes answer) now = (is_group_open (at_end at now).answers ≡ true) × (is_done at now ≡ false)
+MayCall (Next line room bytes answer) now = (room ≡ call_room) × (is_group_open (line_in line now).answers ≡ true)
+MayCall (Take at room bytes answer) now = (room ≡ call_room) × (is_group_open (at_end at now).answers ≡ true) × (is_done at now ≡ false)
 MayCall call now = Unit {0}
 
 -- the turn's group of calls at an end is over, or the end is asked no more

@@ -5,7 +5,7 @@ ghost use Rattle.pitch_io.specs.Causes.{Rose};
 ghost use Rattle.pitch_io.specs.Nets.{Call};
 ghost use Rattle.net_edge.specs.declared.error.DemoError.TheVariants as errors;
 ghost use Rattle.net_edge.specs.Acting.{all_tick};
-ghost use Rattle.net_edge.specs.Due.{Setting, setting, accepted, is_tenth};
+ghost use Rattle.net_edge.specs.Due.{Setting, setting, call_room, accepted, is_tenth};
 ghost use Rattle.net_edge.specs.Playing.{Plays, EndsHave, MarketAt, IsFlushed, IsUncalled, IsSentTo, DemoAt, after_beat, after_due_beat};
 ghost use Rattle.net_edge.specs.Scene.{Scene, all_put};
 ghost use Rattle.net_edge.specs.Turns.{IsOver};
@@ -156,7 +156,7 @@ impl Ends {
         into: &mut [u8],
     ) -> Result<(), DemoError>
         requires some { 1 ≤ turn }
-        requires room { 0 < length into.old }
+        requires room { length into.old ≡ call_room }
         ensures over { OnOk result ((base : List Call) (now : Scene) → now.turn ≡ turn → DemoAt (setting number count) base (N.calls net.old) self.old now → MarketAt (setting number count) market.old (turn - 1)
             → IsSentTo (setting number count) (turn - 1) now → IsUncalled now
             → (after : Scene) × (after.turn ≡ turn) × DemoAt (setting number count) base (N.calls net.new) self.new after × MarketAt (setting number count) market.new turn × IsOver (setting number count) after) }

@@ -9,7 +9,7 @@ ghost use Rattle.pitch_model.specs.Datagrams.{heard_blocks};
 ghost use Rattle.pitch_model.specs.History.{Entry};
 ghost use Rattle.net_edge.specs.declared.error.DemoError.TheVariants as errors;
 ghost use Rattle.net_edge.specs.Acting.{ours, is_group_open};
-ghost use Rattle.net_edge.specs.Due.{Setting};
+ghost use Rattle.net_edge.specs.Due.{Setting, call_room};
 ghost use Rattle.net_edge.specs.Playing.{ClientHas, HearsOn, IsGroupOver};
 ghost use Rattle.net_edge.specs.Scene.{Scene};
 
@@ -58,7 +58,7 @@ fn hear_one<N: Net>(
     client: &mut UnitClient,
     into: &mut [u8],
 ) -> Result<NetTaken, DemoError>
-    requires { 0 < length into.old }
+    requires { length into.old ≡ call_room }
     ensures heard { IfOk result (λ answer. (s : Setting) (base : List Call) (answers : List TakenSaid) (now : Scene) → HearsOn s base (N.calls net.old) client.old line answers now
         → is_group_open answers ≡ true → HearsOn s base (N.calls net.new) client.new line (answer ∷ answers) now) }
     ensures room { length into.new ≡ length into.old }
@@ -84,7 +84,7 @@ pub(crate) fn hear_line<N: Net>(
     client: &mut UnitClient,
     into: &mut [u8],
 ) -> Result<(), DemoError>
-    requires { 0 < length into.old }
+    requires { length into.old ≡ call_room }
     ensures heard { OnOk result ((s : Setting) (base : List Call) (now : Scene) → HearsOn s base (N.calls net.old) client.old line [] now
         → (answers : List TakenSaid) × IsGroupOver answers × HearsOn s base (N.calls net.new) client.new line answers now) }
     ensures room { length into.new ≡ length into.old }

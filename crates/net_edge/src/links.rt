@@ -11,7 +11,7 @@ ghost use Rattle.world_model.specs.State.{Connection};
 ghost use Rattle.world_model.specs.Verbs.{at_link};
 ghost use Rattle.net_edge.specs.declared.error.DemoError.TheVariants as errors;
 ghost use Rattle.net_edge.specs.Acting.{is_group_open, where_stands};
-ghost use Rattle.net_edge.specs.Due.{Setting};
+ghost use Rattle.net_edge.specs.Due.{Setting, call_room};
 ghost use Rattle.net_edge.specs.Playing.{Plays, ClientHas, LinkHas, LinkTells, LinkSays, LinkActs, LinkTicks, closes, told_down, HearsLink, AreTaken};
 ghost use Rattle.net_edge.specs.Scene.{Scene};
 ghost use Rattle.net_edge.specs.Peers.{LooksIn, peer_setup, asked_of};
@@ -71,7 +71,7 @@ fn hear_link_once<N: Net, L: ClientEnd>(
     client: &mut UnitClient,
     into: &mut [u8],
 ) -> Result<(NetTaken, bool), DemoError>
-    requires { 0 < length into.old }
+    requires { length into.old ≡ call_room }
     ensures heard { IfOk result (λ both. (s : Setting) (base : List Call) (answers : List TakenSaid) (now : Scene) → HearsLink L.peer s base (N.calls net.old) (L.ending link.old) client.old answers false now
         → is_group_open answers ≡ true → HearsLink L.peer s base (N.calls net.new) (L.ending link.new) client.new (both.0 ∷ answers) both.1 now) }
     ensures room { length into.new ≡ length into.old }
@@ -105,7 +105,7 @@ pub(crate) fn hear_link<N: Net, L: ClientEnd>(
     into: &mut [u8],
     cut: bool,
 ) -> Result<bool, DemoError>
-    requires { 0 < length into.old }
+    requires { length into.old ≡ call_room }
     ensures heard { IfOk result (λ after. (s : Setting) (base : List Call) (now : Scene) → HearsLink L.peer s base (N.calls net.old) (L.ending link.old) client.old [] cut now
         → (answers : List TakenSaid) × AreTaken answers after × HearsLink L.peer s base (N.calls net.new) (L.ending link.new) client.new answers after now) }
     ensures stays { IfOk result (λ after. cut ≡ true → after ≡ true) }

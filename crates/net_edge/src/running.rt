@@ -14,7 +14,7 @@ ghost use Rattle.storm_plan.specs.StormText.{unit_line};
 ghost use Rattle.world_model.specs.Ends.{the_account};
 ghost use Rattle.net_edge.specs.declared.error.DemoError.TheVariants as errors;
 ghost use Rattle.net_edge.specs.Demo.{IsDemo, IsLast};
-ghost use Rattle.net_edge.specs.Due.{Setting, setting, demo_unit, hold_limit};
+ghost use Rattle.net_edge.specs.Due.{Setting, setting, demo_unit, call_room, hold_limit};
 ghost use Rattle.net_edge.specs.Playing.{ClientHas, SpinHas, EndsHave, DemoAt, MarketHas, MarketAt, Plays, calls_before};
 ghost use Rattle.net_edge.specs.Scene.{Scene, first_scene, all_put, said_at};
 ghost use Rattle.net_edge.specs.Turns.{IsOver};
@@ -55,7 +55,7 @@ fn spin_server(alloc: Global) -> Result<SpinServer, OutOfMemory>
 
 // Room for the longest datagram.
 fn room(alloc: Global) -> Result<Vec<u8>, OutOfMemory>
-    ensures { IfOk result (λ bytes. 0 < length bytes.items) }
+    ensures { IfOk result (λ bytes. length bytes.items ≡ call_room) }
 {
     Ok(vec![in alloc; 0u8; 65535]?)
 }
@@ -132,7 +132,7 @@ fn run<N: Net>(
     into: &mut [u8],
 ) -> Result<(), DemoError>
     requires many { (1 ≤ count) × (count ≤ 1000) }
-    requires room { 0 < length into.old }
+    requires room { length into.old ≡ call_room }
     ensures ran { OnOk result ((base : List Call) → DemoAt (setting number count) base (N.calls net.old) ends.old (all_put first_scene) → MarketHas market.old [] 0 []
         → (now : Scene) × DemoAt (setting number count) base (N.calls net.new) ends.new now × MarketAt (setting number count) market.new now.turn × IsOver (setting number count) now × IsLast (setting number count) now) }
     ensures fault { IfErr result (λ error. error ≡ errors.NetFault → Rose (N.faults net.old) (N.faults net.new)) }
@@ -175,7 +175,7 @@ fn make_parts(alloc: Global) -> Result<Parts, OutOfMemory>
     ensures login { IfOk result (λ parts. parts.login.items ≡ said_at GrpClient first_scene) }
     ensures spin_login { IfOk result (λ parts. parts.spin_login.items ≡ said_at SpinClient first_scene) }
     ensures market { IfOk result (λ parts. MarketHas parts.market [] 0 []) }
-    ensures room { IfOk result (λ parts. 0 < length parts.into.items) }
+    ensures room { IfOk result (λ parts. length parts.into.items ≡ call_room) }
 {
     let mut login = Vec::new(alloc);
     let mut spin_login = Vec::new(alloc);
@@ -200,7 +200,7 @@ fn play<N: Net>(
     out: &mut Vec<u8>,
 ) -> Result<(), DemoError>
     requires many { (1 ≤ count) × (count ≤ 1000) }
-    requires room { 0 < length parts.old.into.items }
+    requires room { length parts.old.into.items ≡ call_room }
     ensures played { OnOk result (EndsHave parts.old.ends (all_put first_scene) → parts.old.login.items ≡ said_at GrpClient first_scene → parts.old.spin_login.items ≡ said_at SpinClient first_scene → MarketHas parts.old.market [] 0 []
         → IsDemo (setting number count) (N.calls net.old) (N.calls net.new) out.old.items out.new.items) }
     ensures fault { IfErr result (λ error. error ≡ errors.NetFault → Rose (N.faults net.old) (N.faults net.new)) }

@@ -7,7 +7,7 @@ ghost use Rattle.pitch_io.specs.Nets.{Call};
 ghost use Rattle.pitch_io.specs.declared.net.NetTaken.{NetTaken as TakenSaid};
 ghost use Rattle.net_edge.specs.declared.error.DemoError.TheVariants as errors;
 ghost use Rattle.net_edge.specs.Acting.{is_group_open};
-ghost use Rattle.net_edge.specs.Due.{Setting};
+ghost use Rattle.net_edge.specs.Due.{Setting, call_room};
 ghost use Rattle.net_edge.specs.Playing.{AreTaken};
 ghost use Rattle.net_edge.specs.Scene.{Scene, is_got, got_end};
 
@@ -39,7 +39,7 @@ pub(crate) trait ServerEnd {
         into: &mut [u8],
         last: bool,
     ) -> Result<NetTaken, DemoError>
-        requires { 0 < length into.old }
+        requires { length into.old ≡ call_room }
         ensures served { IfOk result (λ answer. (s : Setting) (base : List Call) (answers : List TakenSaid) (now : Scene) → serves self.old s base (N.calls net.old) answers false now → is_cut now ≡ false → shows store.old s now
             → is_group_open answers ≡ true → is_group_open (answer ∷ answers) ≡ (is_got answer && not last) → serves self.new s base (N.calls net.new) (answer ∷ answers) (got_end answer) now) }
         ensures store { store.new ≡ store.old }
@@ -60,7 +60,7 @@ pub(crate) fn serve_end<N: Net, E: ServerEnd>(
     cut: bool,
     ended: bool,
 ) -> Result<bool, DemoError>
-    requires { 0 < length into.old }
+    requires { length into.old ≡ call_room }
     ensures served { IfOk result (λ ends. (s : Setting) (base : List Call) (now : Scene) → E.serves server.old s base (N.calls net.old) [] ended now → E.is_cut now ≡ cut → E.shows store.old s now
         → (answers : List TakenSaid) × AreTaken answers (ends || cut) × E.serves server.new s base (N.calls net.new) answers ends now) }
     ensures store { store.new ≡ store.old }

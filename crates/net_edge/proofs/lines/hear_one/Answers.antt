@@ -1,4 +1,4 @@
-use Rattle.std.proofs.Common.{ℕ, List, take}
+use Rattle.std.proofs.Common.{ℕ, List, length, take}
 use Rattle.pitch_io.specs.Nets.{came}
 use Rattle.pitch_io.specs.declared.net.NetTaken.TheVariants.{Got}
 use Rattle.net_edge.proofs.Hearing.{not_failed, hears_on, heard_nothing_of}
@@ -6,12 +6,12 @@ use Rattle.net_edge.proofs.lines.hear_one.Goals as goal
 
 pub returns-in_ok-hear_datagram-in-Got-clause-heard : goal.returns-in_ok-hear_datagram-in-Got-clause-heard
 returns-in_ok-hear_datagram-in-Got-clause-heard g c = λ s base answers now h opened.
-    hears_on s base _ _ c.args.client.now _ c.args.line (take c.in-Got.count c.next-answer.new.into) (Got c.in-Got.count) answers now h c.in-Got.ensures.calls (λ f. f) opened (c.in_ok-hear_datagram-in-Got.ensures h.heard h.has)
+    hears_on s base _ _ c.args.client.now _ c.args.line (length c.args.into.now) (take c.in-Got.count c.next-answer.new.into) (Got c.in-Got.count) answers now h c.in-Got.ensures.calls c.requires (λ f. f) opened (c.in_ok-hear_datagram-in-Got.ensures h.heard h.has)
 
 pub returns-in-Quiet-clause-heard : goal.returns-in-Quiet-clause-heard
 returns-in-Quiet-clause-heard g c = λ s base answers now h opened.
     let bytes : List ℕ = came c.next-answer.result c.next-answer.new.into in
-    hears_on s base _ _ c.args.client.now c.args.client.now c.args.line bytes c.next-answer.result answers now h c.next-answer.ensures.calls (not_failed c.next-answer.result c.in-Quiet.is) opened (heard_nothing_of c.args.client.now c.next-answer.result bytes h.heard c.in-Quiet.is h.has)
+    hears_on s base _ _ c.args.client.now c.args.client.now c.args.line (length c.args.into.now) bytes c.next-answer.result answers now h c.next-answer.ensures.calls c.requires (not_failed c.next-answer.result c.in-Quiet.is) opened (heard_nothing_of c.args.client.now c.next-answer.result bytes h.heard c.in-Quiet.is h.has)
 
 pub returns-in_ok-hear_datagram-in-Got-clause-still : goal.returns-in_ok-hear_datagram-in-Got-clause-still
 returns-in_ok-hear_datagram-in-Got-clause-still g c = c.in-Got.ensures.still (λ f. f)

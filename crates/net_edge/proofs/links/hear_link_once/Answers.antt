@@ -1,4 +1,4 @@
-use Rattle.std.proofs.Common.{◌∷◌, true, false, take, sym, subst}
+use Rattle.std.proofs.Common.{◌∷◌, true, false, length, take, sym, subst}
 use Rattle.pitch_io.specs.declared.net.NetTaken.{NetTaken}
 use Rattle.net_edge.specs.Playing.{HearsLink}
 use Rattle.net_edge.proofs.Linking.{link_got, link_quiet, link_end}
@@ -6,7 +6,7 @@ use Rattle.net_edge.proofs.links.hear_link_once.Goals as goal
 
 pub returns-in_ok-shut-in-Got-clause-heard : goal.returns-in_ok-shut-in-Got-clause-heard
 returns-in_ok-shut-in-Got-clause-heard g c = λ s base answers now h opened.
-    link_got g.L.ClientEnd.peer s base _ _ c.net_end-end.result (g.L.ClientEnd.ending c.args.link.now) (g.L.ClientEnd.ending c.feed_link.new.link) c.args.client.now c.feed_link.new.client answers now
+    link_got g.L.ClientEnd.peer s base _ _ c.net_end-end.result (g.L.ClientEnd.ending c.args.link.now) (g.L.ClientEnd.ending c.feed_link.new.link) c.args.client.now c.feed_link.new.client (length c.args.into.now) c.requires answers now
     (take c.in-Got.count c.take-answer.new.into) c.in-Got.count c.in_ok-shut-in-Got.shut h c.net_end-end.ensures opened c.in-Got.ensures.calls
     (c.in_ok-shut-in-Got.ensures h.events h.heard h.link_has h.has)
 
@@ -15,14 +15,14 @@ returns-in-Quiet-clause-heard g c = λ s base answers now h opened.
     let peer = g.L.ClientEnd.peer in
     let link = g.L.ClientEnd.ending c.args.link.now in
     subst (λ (a : NetTaken). HearsLink peer s base (g.N.Net.calls c.take-answer.new.self) link c.args.client.now (a ∷ answers) false now) (sym c.in-Quiet.is)
-    (link_quiet peer s base _ _ c.net_end-end.result link link c.args.client.now c.args.client.now answers now h c.net_end-end.ensures opened c.in-Quiet.ensures.calls)
+    (link_quiet peer s base _ _ c.net_end-end.result link link c.args.client.now c.args.client.now (length c.args.into.now) c.requires answers now h c.net_end-end.ensures opened c.in-Quiet.ensures.calls)
 
 pub returns-in_ok-hear_down-in-End-clause-heard : goal.returns-in_ok-hear_down-in-End-clause-heard
 returns-in_ok-hear_down-in-End-clause-heard g c = λ s base answers now h opened.
     let peer = g.L.ClientEnd.peer in
     let link = g.L.ClientEnd.ending c.args.link.now in
     subst (λ (a : NetTaken). HearsLink peer s base (g.N.Net.calls c.take-answer.new.self) link c.hear_down.new.client (a ∷ answers) true now) (sym c.in-End.is)
-    (link_end peer s base _ _ c.net_end-end.result link link c.args.client.now c.hear_down.new.client answers now h c.net_end-end.ensures opened c.in-End.ensures.calls (c.in_ok-hear_down-in-End.ensures h.heard h.has))
+    (link_end peer s base _ _ c.net_end-end.result link link c.args.client.now c.hear_down.new.client (length c.args.into.now) c.requires answers now h c.net_end-end.ensures opened c.in-End.ensures.calls (c.in_ok-hear_down-in-End.ensures h.heard h.has))
 
 pub returns-in_ok-shut-in-Got-clause-still : goal.returns-in_ok-shut-in-Got-clause-still
 returns-in_ok-shut-in-Got-clause-still g c = c.in-Got.ensures.still (λ f. f)
