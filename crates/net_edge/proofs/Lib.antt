@@ -17,3 +17,4 @@ mod Spoken
 mod Carried
 mod Ending
 mod Examples
+mod InMemory

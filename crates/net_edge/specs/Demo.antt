@@ -1,5 +1,5 @@
 -- What a demo of both ends does over a net that lists its calls.
-use Rattle.std.specs.Prelude.{◌≡◌, ℕ, ◌+◌, ◌<◌, ◌≤◌, ◌⊎◌, List, ◌∷◌, ◌++◌, Option, Some, take, Contains}
+use Rattle.std.specs.Prelude.{◌≡◌, ℕ, ◌+◌, ◌<◌, ◌≤◌, ◌⊎◌, List, ◌∷◌, ◌++◌, Option, Some, length, take, Contains}
 use Rattle.std.specs.List.{AllByRecursion}
 use Rattle.std.specs.FinMap as map
 use Rattle.pitch_io.specs.declared.line.Line.{Line}
@@ -14,7 +14,7 @@ use Rattle.pitch_model.specs.declared.status.Status.TheVariants.{Current}
 use Rattle.venue_core.specs.Plan.{plan}
 use Rattle.storm_plan.specs.StormText.{unit_line}
 use Rattle.net_edge.specs.Acting.{scene_of}
-use Rattle.net_edge.specs.Due.{Setting, demo_unit, hold_limit}
+use Rattle.net_edge.specs.Due.{Setting, call_room, demo_unit, hold_limit}
 use Rattle.net_edge.specs.Scene.{Scene, line_in, at_end}
 use Rattle.net_edge.specs.Steps.{Step, calls_of}
 use Rattle.net_edge.specs.Turns.{AreSteps, IsOver, client_status}
@@ -24,6 +24,10 @@ use Rattle.net_edge.specs.Turns.{AreSteps, IsOver, client_status}
 pub record IsCarried (now : Scene) : Type 0 where
   pub lines : (line : Line) (datagram : List ℕ) → Contains (line_in line now).came datagram → Contains (line_in line now).sent datagram
   pub ends : (at : LinkEnd) → (later : List ℕ) × ((at_end (other_end at) now).put ≡ (at_end at now).came ++ later)
+
+-- each datagram that was sent has room in one call
+abbrev pub FitsCalls : Scene → Type 0
+FitsCalls now = (line : Line) → AllByRecursion (λ (datagram : List ℕ). length datagram ≤ call_room) (line_in line now).sent
 
 -- the last turn is the first one above the count at whose end all is current, or there is none and
 -- it is 200 above the count

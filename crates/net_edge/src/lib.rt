@@ -9,6 +9,7 @@
 mod client_end;
 mod ends;
 mod error;
+mod in_memory;
 mod lines;
 mod links;
 mod market;
@@ -19,4 +20,5 @@ mod server_end;
 mod spin;
 
 pub use crate::error::DemoError;
+pub use crate::in_memory::carried_in_memory;
 pub use crate::running::demo;
