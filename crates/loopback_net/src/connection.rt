@@ -10,6 +10,9 @@ use std::net::{Ipv4Addr, OpenListener, OpenStream, SocketAddr, TcpListener, TcpS
 use std::time::Duration;
 use std::{io, net, thread};
 
+/// How often a call is tried that a signal breaks off.
+pub(crate) const MOST_TRIES: u32 = 1_000;
+
 /// A connection's streams: what one writes comes to the other.
 #[derive(Drop)]
 pub(crate) struct Connection<S> {
@@ -53,22 +56,31 @@ fn accept<L: OpenListener>(listener: &L) -> io::Result<(L::Stream, SocketAddr)> 
 pub(crate) fn put<S: Write>(stream: &mut S, piece: &[u8]) -> Put
     ensures count { PutsWithin result piece.now }
 {
-    match stream.write(piece) {
-        Ok(0) | Err(_) => Put::Failed,
-        Ok(count) => Put::Wrote(count),
+    for _ in 0..MOST_TRIES {
+        match stream.write(piece) {
+            Ok(0) => return Put::Failed,
+            Ok(count) => return Put::Wrote(count),
+            Err(error) if error.kind() == ErrorKind::Interrupted => {}
+            Err(_) => return Put::Failed,
+        }
     }
+    Put::Failed
 }
 
 /// Takes the next bytes to the start of the slice.
 pub(crate) fn take<S: Read>(stream: &mut S, into: &mut [u8]) -> NetTaken
     ensures count { CameWithin result into.new }
 {
-    match stream.read(into) {
-        Ok(0) => NetTaken::End,
-        Ok(count) => NetTaken::Got(count),
-        Err(error) => match error.kind() {
-            ErrorKind::WouldBlock => NetTaken::Quiet,
-            _ => NetTaken::Failed,
-        },
+    for _ in 0..MOST_TRIES {
+        match stream.read(into) {
+            Ok(0) => return NetTaken::End,
+            Ok(count) => return NetTaken::Got(count),
+            Err(error) => match error.kind() {
+                ErrorKind::Interrupted => {}
+                ErrorKind::WouldBlock => return NetTaken::Quiet,
+                _ => return NetTaken::Failed,
+            },
+        }
     }
+    NetTaken::Failed
 }

@@ -3,6 +3,7 @@
 ghost use Rattle.std.specs.Prelude.{◌<◌, length};
 ghost use Rattle.pitch_io.specs.Nets.{CameWithin};
 
+use crate::connection::MOST_TRIES;
 use pitch_io::{NetDone, NetTaken};
 use std::io::ErrorKind;
 use std::net::{Ipv4Addr, SocketAddr, UdpSocket};
@@ -11,8 +12,8 @@ use std::{io, net};
 /// The socket that sends a line's datagrams, and the one to which they come.
 #[derive(Drop)]
 pub(crate) struct LineSockets {
-    sender: UdpSocket,
-    receiver: UdpSocket,
+    pub(crate) sender: UdpSocket,
+    pub(crate) receiver: UdpSocket,
 }
 
 impl LineSockets {
@@ -36,24 +37,32 @@ impl LineSockets {
         if datagram.is_empty() {
             return NetDone::Done;
         }
-        match self.sender.send(datagram) {
-            Ok(_) => NetDone::Done,
-            Err(_) => NetDone::Failed,
+        for _ in 0..MOST_TRIES {
+            match self.sender.send(datagram) {
+                Ok(_) => return NetDone::Done,
+                Err(error) if error.kind() == ErrorKind::Interrupted => {}
+                Err(_) => return NetDone::Failed,
+            }
         }
+        NetDone::Failed
     }
 
     /// Takes the next datagram to the start of the slice; one that is longer is cut.
     pub(crate) fn next(&self, into: &mut [u8]) -> NetTaken
         ensures count { CameWithin result into.new }
     {
-        match self.receiver.recv(into) {
-            Ok(0) => NetTaken::Quiet,
-            Ok(count) => NetTaken::Got(count),
-            Err(error) => match error.kind() {
-                ErrorKind::WouldBlock => NetTaken::Quiet,
-                _ => NetTaken::Failed,
-            },
+        for _ in 0..MOST_TRIES {
+            match self.receiver.recv(into) {
+                Ok(0) => return NetTaken::Quiet,
+                Ok(count) => return NetTaken::Got(count),
+                Err(error) => match error.kind() {
+                    ErrorKind::Interrupted => {}
+                    ErrorKind::WouldBlock => return NetTaken::Quiet,
+                    _ => return NetTaken::Failed,
+                },
+            }
         }
+        NetTaken::Failed
     }
 }
 
@@ -63,6 +72,7 @@ fn drop_waiting(receiver: &UdpSocket) -> io::Result<()> {
     for _ in 0..10_000u32 {
         match receiver.recv(&mut into) {
             Err(error) if error.kind() == ErrorKind::WouldBlock => return Ok(()),
+            Err(error) if error.kind() == ErrorKind::Interrupted => {}
             Err(error) => return Err(error),
             Ok(_) => {}
         }

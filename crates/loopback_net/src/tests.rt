@@ -1,8 +1,9 @@
 use crate::StdNet;
 use crate::connection::{Connection, open_connection, put, take};
+use crate::line_sockets::LineSockets;
 use pitch_io::{Line, LinkEnd, Net, NetDone, NetTaken, Put};
 use std::io::ErrorKind;
-use std::net::{OpenListener, SocketAddr, TcpListener, TcpStream, UdpSocket};
+use std::net::{IpAddr, Ipv4Addr, OpenListener, SocketAddr, TcpListener, TcpStream, UdpSocket};
 use std::process::Abort;
 use std::time::Duration;
 use std::{io, net, thread};
@@ -185,6 +186,85 @@ fn a_stream_ends_where_the_other_is_dropped(rt: HostRuntime) {
     assert!(rt; answers == [NetTaken::Got(4), NetTaken::End]);
 }
 
+// A stream of which the first calls are broken off by a signal, and each later one fails so.
+#[derive(Drop)]
+struct Broken {
+    signals: u32,
+    kind: ErrorKind,
+}
+
+impl Broken {
+    fn error(&mut self) -> io::Error {
+        if self.signals == 0 {
+            return io::Error::from(self.kind);
+        }
+        self.signals -= 1;
+        io::Error::from(ErrorKind::Interrupted)
+    }
+}
+
+impl io::Read for Broken {
+    fn read(&mut self, _into: &mut [u8]) -> io::Result<usize> {
+        Err(self.error())
+    }
+}
+
+impl io::Write for Broken {
+    fn write(&mut self, _piece: &[u8]) -> io::Result<usize> {
+        Err(self.error())
+    }
+
+    fn flush(&mut self) -> io::Result<()> {
+        Ok(())
+    }
+}
+
+// What a stream says, and what `take` answers. A signal has no answer: the call is made again.
+const ANSWERS: [(ErrorKind, NetTaken); 4] = [
+    (ErrorKind::WouldBlock, NetTaken::Quiet),
+    (ErrorKind::ConnectionReset, NetTaken::Failed),
+    (ErrorKind::Other, NetTaken::Failed),
+    (ErrorKind::Interrupted, NetTaken::Failed),
+];
+
+fn broken_streams_answer<R: Abort>(rt: &R, answers: &[(ErrorKind, NetTaken)]) {
+    for (kind, answer) in answers {
+        let mut broken = Broken {
+            signals: 3,
+            kind: *kind,
+        };
+        assert!(rt; take(&mut broken, &mut [0u8; 64]) == *answer);
+        assert!(rt; broken.signals == 0);
+        broken.signals = 3;
+        assert!(rt; put(&mut broken, b"piece") == Put::Failed);
+        assert!(rt; broken.signals == 0);
+    }
+}
+
+#[test]
+fn a_stream_that_fails_is_a_fault(rt: HostRuntime) {
+    broken_streams_answer(&rt, &ANSWERS);
+}
+
+// What a stranger sends is not heard, and a receiver whose sender is gone is told so by the system.
+#[test]
+fn a_line_hears_its_sender_alone(rt: HostRuntime) {
+    let mut sockets = LineSockets::open(&rt).expect(&rt, "a line");
+    let mut into = [0u8; 64];
+    let stranger = UdpSocket::bind(&rt, ANY_PORT).expect(&rt, "a port");
+    let port = sockets.receiver.local_addr().expect(&rt, "an address");
+    assert!(rt; stranger.send_to(b"strange", port).is_ok());
+    assert!(rt; sockets.next(&mut into) == NetTaken::Quiet);
+    assert!(rt; sockets.send(b"own") == NetDone::Done);
+    assert!(rt; sockets.next(&mut into) == NetTaken::Got(3));
+    sockets.sender = stranger;
+    assert!(rt; sockets.receiver.send(b"gone").is_ok());
+    assert!(rt; sockets.next(&mut into) == NetTaken::Failed);
+}
+
+// A port of this machine alone.
+const ANY_PORT: (Ipv4Addr, u16) = (Ipv4Addr::LOCALHOST, 0);
+
 // A network that opens nothing.
 #[derive(Drop)]
 struct NoNetwork;
@@ -258,6 +338,46 @@ impl<R: net::Net> net::Net for Strange<R> {
         stranger.send_to(b"strange", socket.local_addr()?)?;
         Ok(socket)
     }
+}
+
+// A network that opens what is of this machine alone.
+#[derive(Drop)]
+struct Local<R>(R);
+
+impl<R: net::Net> net::Net for Local<R> {
+    type Stream = R::Stream;
+
+    type Listener = R::Listener;
+
+    fn bind(&self, addr: SocketAddr) -> io::Result<R::Listener> {
+        self.0.bind(of_this_machine(addr)?)
+    }
+
+    fn connect(&self, addr: SocketAddr) -> io::Result<R::Stream> {
+        self.0.connect(of_this_machine(addr)?)
+    }
+
+    fn connect_timeout(&self, addr: SocketAddr, timeout: Duration) -> io::Result<R::Stream> {
+        self.0.connect_timeout(of_this_machine(addr)?, timeout)
+    }
+
+    fn bind_udp(&self, addr: SocketAddr) -> io::Result<UdpSocket> {
+        self.0.bind_udp(of_this_machine(addr)?)
+    }
+}
+
+// An address, where it is 127.0.0.1.
+fn of_this_machine(addr: SocketAddr) -> io::Result<SocketAddr> {
+    if addr.ip() == IpAddr::V4(Ipv4Addr::LOCALHOST) {
+        return Ok(addr);
+    }
+    Err(io::Error::from(ErrorKind::AddrNotAvailable))
+}
+
+#[test]
+fn nothing_is_opened_to_other_machines(rt: HostRuntime) {
+    assert!(rt; of_this_machine(SocketAddr::from((Ipv4Addr::UNSPECIFIED, 0))).is_err());
+    assert!(rt; StdNet::make(Local(&rt)).begin() == NetDone::Done);
 }
 
 #[test]
