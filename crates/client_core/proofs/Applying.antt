@@ -9,10 +9,10 @@ use Rattle.hold_buffer.specs.HoldView.{HoldView}
 use Rattle.client_core.specs.Keeping.{KeepsAt}
 use Rattle.client_core.specs.Applying.{Applies}
 use Rattle.client_core.specs.Tracks.{Keeps, IsStill, reached, held_number}
-use Rattle.client_core.specs.Bookkeeping.{NotesApplied, noted, with_more}
+use Rattle.client_core.specs.Bookkeeping.{NotesApplied, noted, with_more, KeepsLogRoom}
 use Rattle.client_core.specs.declared.applied_log.AppliedLog.{AppliedLog}
 use Rattle.client_core.specs.declared.client.UnitClient.{UnitClient}
-use Rattle.client_core.proofs.Slices.{more_then, none_more, noted_still}
+use Rattle.client_core.proofs.Slices.{can_less, more_then, none_more, noted_still}
 
 applied_then : (n m n' : ℕ) (a b c : Standing) (xs ys : List (List ℕ)) → Applies n m a b xs → Applies m n' b c ys → Applies n n' a c (xs ++ ys)
 applied_then n m n' a b c xs ys first later =
@@ -69,3 +69,6 @@ module _ (c c' : UnitClient) (still : IsStill c c') where
 
   pub still_venues : (V : List (List ℕ)) (log : AppliedLog) → noted log ≡ with_more (drop (reached c) (take (reached c') V)) (noted log)
   still_venues V log = subst (λ n. noted log ≡ with_more (drop c.hold.floor (take n V)) (noted log)) (sym (ap (λ (h : HoldView). h.floor) still.hold_is)) (noted_still V c.hold.floor (noted log))
+
+  pub still_log : (count : ℕ) (log : AppliedLog) → KeepsLogRoom c c' count log log
+  still_log count log more room = let held = ap (λ (h : HoldView). len h.held) still.hold_is in can_less (held_number c' + more) ((count + held_number c) + more) log (omega arith) room

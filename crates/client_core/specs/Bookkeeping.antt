@@ -13,6 +13,8 @@ use Rattle.pitch_model.specs.declared.item.Item.{Item}
 use Rattle.client_core.specs.Keeping.{holds, order_count}
 use Rattle.client_core.specs.Applying.{Applies}
 use Rattle.client_core.specs.Items.{NeedsNoMemory}
+use Rattle.client_core.specs.Tracks.{held_number}
+use Rattle.client_core.specs.declared.client.UnitClient.{UnitClient}
 use Rattle.client_core.specs.declared.applied_log.AppliedLog.{AppliedLog}
 use Rattle.client_core.specs.declared.applied_log.AppliedLog.TheVariants.{Off, On}
 use Rattle.client_core.specs.declared.hearing.Heard.{Heard}
@@ -65,6 +67,10 @@ CanNote count (On list) = count ≤ list.spare
 abbrev pub CanNoteItem : Item → ℕ → AppliedLog → Type 0
 CanNoteItem item held Off = Unit {0}
 CanNoteItem item held (On list) = NeedsNoMemory item held list.spare
+
+-- beyond what is held, a log's room that served so many messages and more now serves those more
+abbrev pub KeepsLogRoom : UnitClient → UnitClient → ℕ → AppliedLog → AppliedLog → Type 0
+KeepsLogRoom c c' count log log' = (more : ℕ) → CanNote ((count + held_number c) + more) log → CanNote (held_number c' + more) log'
 
 -- some messages were applied, and just these were noted
 pub record NotesApplied (n n' : ℕ) (book book' : Standing) (log log' : AppliedLog) : Type 0 where

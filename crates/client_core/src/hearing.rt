@@ -103,10 +103,10 @@ impl UnitClient {
     ghost use Rattle.pitch_model.specs.Reach.{is_overflow, reach};
     ghost use Rattle.pitch_model.specs.Status.{status_of};
     ghost use Rattle.hold_buffer.specs.HoldView.{IsHold};
-    ghost use Rattle.client_core.specs.Tracks.{Tracks, Keeps, IsAsBefore, IsStill, Applied, KeepsRoom, held_number, reached, spare_of};
+    ghost use Rattle.client_core.specs.Tracks.{Tracks, Keeps, IsAsBefore, IsStill, Applied, KeepsRoom, KeepsListRoom, held_number, reached, spare_of};
     ghost use Rattle.client_core.specs.Blocks.{Carries};
     ghost use Rattle.client_core.specs.Items.{IsImage, NeedsNoMemory, message_count};
-    ghost use Rattle.client_core.specs.Bookkeeping.{HasRoom, IsImageReady, noted, with_more, CanNote, CanNoteItem, NotesApplied, Tells};
+    ghost use Rattle.client_core.specs.Bookkeeping.{HasRoom, IsImageReady, noted, with_more, CanNote, CanNoteItem, KeepsLogRoom, NotesApplied, Tells};
 
     // What changed since the client had a status, as something was heard.
     fn changed_since(&self, before: Status, heard: Heard) -> Change
@@ -157,6 +157,7 @@ impl UnitClient {
         ensures notes { NotesApplied (reached self.old) (reached self.new) self.old.book self.new.book log.old log.new }
         ensures held { reached self.new + held_number self.new ≤ (reached self.old + held_number self.old) + length raws.entry }
         ensures venues { (V : List Raw) → AreVenues V first raws.entry → Keeps self.old V → noted log.new ≡ with_more (drop (reached self.old) (take (reached self.new) V)) (noted log.old) }
+        ensures log { KeepsLogRoom self.old self.new (length raws.entry) log.old log.new }
     {
         let mut raws = raws;
         let mut sequence = first;
@@ -187,8 +188,10 @@ impl UnitClient {
         ensures notes { OnOk result (NotesApplied (reached self.old) (reached self.new) self.old.book self.new.book log.old log.new) }
         ensures held { OnOk result (reached self.new + held_number self.new ≤ (reached self.old + held_number self.old) + length raws.entry) }
         ensures venues { OnOk result ((V : List Raw) → AreVenues V first raws.entry → Keeps self.old V → noted log.new ≡ with_more (drop (reached self.old) (take (reached self.new) V)) (noted log.old)) }
+        ensures log { OnOk result (KeepsLogRoom self.old self.new (length raws.entry) log.old log.new) }
         ensures err { OnErr result (IsAsBefore self.old self.new) }
         ensures err_noted { OnErr result (noted log.new ≡ noted log.old) }
+        ensures err_log { OnErr result ((left : ℕ) → CanNote left log.old → CanNote left log.new) }
         ensures memory { CanNote (length raws.entry + held_number self.old) log.old → length raws.entry + held_number self.old ≤ spare_of self.old → IsOk result }
     {
         if is_old(first, raws.len(), self.hold.floor()) {
@@ -375,7 +378,7 @@ impl UnitClient {
     }
 
     // Hears an item, and notes what is applied. After OutOfMemory no more is noted.
-    #[tactic(auto, using(crate::proofs::Applying::still_keeps, crate::proofs::Applying::still_notes, crate::proofs::Applying::still_held, crate::proofs::Applying::still_venues))]
+    #[tactic(auto, using(crate::proofs::Applying::still_keeps, crate::proofs::Applying::still_notes, crate::proofs::Applying::still_held, crate::proofs::Applying::still_venues, crate::proofs::Applying::still_log))]
     fn hear_item(&mut self, log: &mut AppliedLog, item: &Item) -> Result<Heard, OutOfMemory>
         requires { IsItem item.now }
         ensures tracks { OnOk result ((H : ℕ) (E : List Entry) → Tracks self.old H E → Tracks self.new H (heard item.now E)) }
@@ -385,9 +388,11 @@ impl UnitClient {
         ensures held { IfOk result (λ told. told.image ≢ ImageEnd.Taken → reached self.new + held_number self.new ≤ (reached self.old + held_number self.old) + message_count item.now) }
         ensures venues { IfOk result (λ told. told.image ≢ ImageEnd.Taken → (Image : List Raw → ℕ → List Raw) (V : List Raw) (E : List Entry) → Honest Image V (heard item.now E) → Keeps self.old V
             → noted log.new ≡ with_more (drop (reached self.old) (take (reached self.new) V)) (noted log.old)) }
-        ensures taken { IfOk result (λ told. told.image ≡ ImageEnd.Taken → noted log.new ≡ noted log.old) }
+        ensures log { IfOk result (λ told. told.image ≢ ImageEnd.Taken → KeepsLogRoom self.old self.new (message_count item.now) log.old log.new) }
+        ensures taken { IfOk result (λ told. told.image ≡ ImageEnd.Taken → log.new ≡ log.old) }
         ensures err { OnErr result (IsAsBefore self.old self.new) }
         ensures err_noted { OnErr result (noted log.new ≡ noted log.old) }
+        ensures err_log { OnErr result ((left : ℕ) → CanNote left log.old → CanNote left log.new) }
         ensures memory { NeedsNoMemory item.now (held_number self.old) (spare_of self.old) → CanNoteItem item.now (held_number self.old) log.old → IsOk result }
     {
         match item {
@@ -453,7 +458,9 @@ impl UnitClient {
     /// book, in their order. Where an image replaced the book, nothing is appended.
     ///
     /// After OutOfMemory both are as before the item. That never comes where it wouldn't in `hear`
-    /// and `applied` too has room for the item's messages and those held.
+    /// and `applied` too has room for the item's messages and those held. What the caller reserved
+    /// in `applied` stays, but for the messages that are appended: the messages of several items,
+    /// and those held, can be reserved for at once.
     pub fn hear_into(&mut self, item: &Item, applied: &mut RawList) -> Result<Change, OutOfMemory>
         requires { IsItem item.now }
         // Whatever history the client stood for, it now stands for that history and this item.
@@ -471,11 +478,14 @@ impl UnitClient {
         // one.
         ensures venues { IfOk result (λ change. change.image ≢ ImageEnd.Taken → (Image : List Raw → ℕ → List Raw) (V : List Raw) (H : ℕ) (E : List Entry) → Tracks self.old H E → Honest Image V (heard item.now E) → Keeps self.old V
             → applied.new.items ≡ applied.old.items ++ drop (reach H E) (take (reach H (heard item.now E)) V)) }
-        ensures taken { IfOk result (λ change. change.image ≡ ImageEnd.Taken → applied.new.items ≡ applied.old.items) }
-        // Where there was room for this item and for more messages, there is still room for those.
+        ensures taken { IfOk result (λ change. change.image ≡ ImageEnd.Taken → applied.new ≡ applied.old) }
+        // Where there was room for this item and for more messages, there is still room for those:
+        // in the book, and in the list.
         ensures room { IfOk result (λ change. change.image ≢ ImageEnd.Taken → KeepsRoom self.old self.new (message_count item.now)) }
+        ensures room_applied { IfOk result (λ change. change.image ≢ ImageEnd.Taken → KeepsListRoom self.old self.new (message_count item.now) applied.old.spare applied.new.spare) }
         ensures err { OnErr result (IsAsBefore self.old self.new) }
         ensures err_applied { OnErr result (applied.new.items ≡ applied.old.items) }
+        ensures err_room { OnErr result (applied.old.spare ≤ applied.new.spare) }
         ensures memory { NeedsNoMemory item.now (held_number self.old) (spare_of self.old) → NeedsNoMemory item.now (held_number self.old) applied.old.spare → IsOk result }
     {
         let before = self.status();

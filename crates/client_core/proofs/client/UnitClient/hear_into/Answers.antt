@@ -1,6 +1,10 @@
-use Rattle.std.proofs.Common.{◌≡◌, List, ℕ, [], ◌++◌, Option, Some, MatchOption, ap, ◌∙◌, subst, take, drop}
+use Rattle.std.proofs.Common.{◌≡◌, List, ℕ, ◌≤◌, [], ◌++◌, Option, Some, MatchOption, refl, sym, ap, ◌∙◌, subst, take, drop, arith}
+use Rattle.std.proofs.lemmas.Option.{none-some}
+use Rattle.pitch_messages.specs.Room.{Roomy}
 use Rattle.client_core.specs.Tracks.{reached}
-use Rattle.client_core.specs.Bookkeeping.{with_more}
+use Rattle.client_core.specs.Bookkeeping.{noted, with_more, CanNote}
+use Rattle.client_core.specs.declared.applied_log.AppliedLog.{AppliedLog}
+use Rattle.client_core.specs.declared.applied_log.AppliedLog.TheVariants.{Off, On}
 use Rattle.client_core.proofs.client.UnitClient.hear_into.Goals as goal
 
 -- the list of a log in which more was noted
@@ -13,6 +17,16 @@ returns-clause-venues c = λ other Image V H E T honest K.
     let to = (c.in_ok-heard.ensures.tracks H E T).floor_is in
     let is = c.in_ok-heard.ensures.venues (λ e. other (c.changed_since.ensures.image ∙ e)) Image V E honest K in
     let before = ap (λ (list : _). list.items) c.replace.ensures.value in
-    listed _ c.replace.result.items _ c.into_list.result.items is c.into_list.ensures
+    listed _ c.replace.result.items _ c.into_list.result.items is c.into_list.ensures.items
     ∙ ap (λ items. items ++ drop (reached c.args.self.now) (take (reached c.hear_item-heard.new.self) V)) before
     ∙ (λ i. c.args.applied.now.items ++ drop (from i) (take (to i) V))
+
+-- the room of a log is that of its list
+listed_room : (log : AppliedLog) (list : Roomy (List ℕ)) (items : List (List ℕ)) (room : ℕ) → noted log ≡ Some items → ((l : Roomy (List ℕ)) → log ≡ On l → list ≡ l) → CanNote room log → room ≤ list.spare
+listed_room Off list items room e is can = absurd (none-some items e)
+listed_room (On l) list items room e is can = subst (λ (x : Roomy (List ℕ)). room ≤ x.spare) (sym (is l refl)) can
+
+pub returns-clause-room_applied : goal.returns-clause-room_applied
+returns-clause-room_applied c = λ other more r.
+    let before = ap (λ (list : Roomy (List ℕ)). list.spare) c.replace.ensures.value in
+    listed_room _ c.into_list.result _ _ (c.in_ok-heard.ensures.notes (λ e. other (c.changed_since.ensures.image ∙ e))).noted_is c.into_list.ensures.list (c.in_ok-heard.ensures.log (λ e. other (c.changed_since.ensures.image ∙ e)) more (omega arith))

@@ -1,4 +1,7 @@
-use Rattle.std.proofs.Common.{List, ℕ, sym, subst}
+use Rattle.std.proofs.Common.{List, ℕ, ◌+◌, length, sym, ap, subst, arith}
+use Rattle.client_core.specs.Items.{message_count}
+use Rattle.client_core.specs.Tracks.{held_number}
+use Rattle.client_core.proofs.Slices.{can_less}
 use Rattle.pitch_model.specs.History.{Entry}
 use Rattle.pitch_model.specs.Honest.{AreVenues, Honest}
 use Rattle.pitch_model.specs.Heard.{heard}
@@ -18,3 +21,10 @@ returns-in-Messages-clause-venues c = λ other Image V E honest K. c.in_ok-count
 pub returns-in-SpinFinished-clause-keeps : goal.returns-in-SpinFinished-clause-keeps
 returns-in-SpinFinished-clause-keeps c = λ Image V law H E T honest K.
     c.in_ok-image-in-SpinFinished.ensures.keeps Image V law H E T (subst (λ item. Honest Image V (heard item E)) c.in-SpinFinished.is honest).0 K
+
+pub returns-in-Messages-clause-log : goal.returns-in-Messages-clause-log
+returns-in-Messages-clause-log c = λ other more r.
+    let count = ap message_count c.in-Messages.is in
+    let same = ap (λ (raws : List (List ℕ)). length raws) c.raws.ensures in
+    c.in_ok-counts-in-Messages.ensures.log more
+    (can_less ((length c.raws.result + held_number c.args.self.now) + more) ((message_count c.args.item.now + held_number c.args.self.now) + more) c.args.log.now (omega arith) r)
