@@ -1,5 +1,5 @@
 -- Worked examples of `follow`, computed by the definitions.
-use Rattle.std.proofs.Common.{◌≡◌, ℕ, ◌++◌, true, false, List, [], ◌∷◌, reverse, refl, ap, ◌∙◌, ◌-◌, cond, codes, Option, Some}
+use Rattle.std.proofs.Common.{◌≡◌, ℕ, ◌++◌, true, false, List, [], ◌∷◌, reverse, refl, ap, ◌∙◌, ◌-◌, cond, codes, Option, Some, None}
 use Rattle.std.specs.Option.{is_some}
 use Rattle.std.specs.List.{flat_map}
 use Rattle.std.specs.Ordering.{nat_cmp}
@@ -56,6 +56,10 @@ line_of_a_hidden_order : order_line 7 (record { id = 7; side = Sell; quantity = 
     ≡ codes "order 7 S 1 A.B 0.0005 hidden mpid=MM\n"
 unfolding order_line name_shown digits
 line_of_a_hidden_order = refl
+
+head_without_a_clock : book_head 2 0 None 0 ≡ codes "book unit 2 at 0 second - orders 0\n"
+unfolding digits
+head_without_a_clock = refl
 
 -- a book with so many orders and these entries
 shown : (unit n second count : ℕ) (es : List (ℕ × Order)) (book : Book) → book.second ≡ Some second → map.len book.orders ≡ count → map.entries book.orders ≡ es

@@ -1,4 +1,5 @@
 pub mod Pieces
+pub mod Behind
 pub mod Texts
 mod Shown
 mod Followed

@@ -3,7 +3,9 @@ use Rattle.std.proofs.Common.{◌≡◌, ℕ, ◌++◌, List, [], ◌∷◌, ref
 use Rattle.std.specs.Fmt.{digits}
 use Rattle.unit_packets.specs.Blocks.{Block}
 use Rattle.pitch_fields.specs.Name.{name_shown}
+use Rattle.pitch_fields.specs.declared.side.Side.TheVariants.{Buy, Sell}
 use Rattle.pitch_messages.specs.Reading.{reads}
+use Rattle.pitch_messages.specs.declared.message.Message.TheVariants.{AddLong, Executed, ExecutedAt, ReduceLong, ReduceShort, ModifyLong, ModifyShort, TradeLong, TradeShort, TradeBreak, EndOfSession, AddExpanded, TradeExpanded, UnitClear}
 use Rattle.feed_lines.specs.Show.{message_line, message_lines, message_text, said_text, show_text, shown_head}
 use Rattle.feed_lines.specs.Texts.{texts_after}
 
@@ -35,3 +37,60 @@ add_without_side :
     ≡ codes "3 bad-side kind=22 byte=5a\n"
 unfolding message_line message_text said_text reads digits
 add_without_side = refl
+
+-- ---- Each other type: its word, and its fields in the order of the table
+long_add_text : message_text (AddLong 0 5 Buy 100 (codes "IBM   ") 100000 1) ≡ codes "add-long offset=0 id=5 side=B quantity=100 symbol=IBM price=10.0000 flags=01"
+unfolding message_text name_shown digits
+long_add_text = refl
+
+expanded_add_text : message_text (AddExpanded 7 5 Sell 1 (codes "A.B     ") 5 0 (codes "MM  ")) ≡ codes "add-expanded offset=7 id=5 side=S quantity=1 symbol=A.B price=0.0005 flags=00 participant=MM"
+unfolding message_text name_shown digits
+expanded_add_text = refl
+
+execution_text : message_text (Executed 1 5 3 9) ≡ codes "executed offset=1 id=5 executed=3 execution=9"
+unfolding message_text digits
+execution_text = refl
+
+execution_at_a_price_text : message_text (ExecutedAt 1 5 3 2 9 99900) ≡ codes "executed-at offset=1 id=5 executed=3 remaining=2 execution=9 price=9.9900"
+unfolding message_text digits
+execution_at_a_price_text = refl
+
+long_reduction_text : message_text (ReduceLong 0 5 70000) ≡ codes "reduce-long offset=0 id=5 quantity=70000"
+unfolding message_text digits
+long_reduction_text = refl
+
+short_reduction_text : message_text (ReduceShort 0 5 7) ≡ codes "reduce-short offset=0 id=5 quantity=7"
+unfolding message_text digits
+short_reduction_text = refl
+
+long_modification_text : message_text (ModifyLong 0 5 7 110001 0) ≡ codes "modify-long offset=0 id=5 quantity=7 price=11.0001 flags=00"
+unfolding message_text digits
+long_modification_text = refl
+
+short_modification_text : message_text (ModifyShort 0 5 7 1100 1) ≡ codes "modify-short offset=0 id=5 quantity=7 price=11.0000 flags=01"
+unfolding message_text digits
+short_modification_text = refl
+
+long_trade_text : message_text (TradeLong 0 5 Buy 100 (codes "IBM   ") 100000 9) ≡ codes "trade-long offset=0 id=5 side=B quantity=100 symbol=IBM price=10.0000 execution=9"
+unfolding message_text name_shown digits
+long_trade_text = refl
+
+short_trade_text : message_text (TradeShort 0 5 Sell 100 (codes "IBM   ") 1000 9) ≡ codes "trade-short offset=0 id=5 side=S quantity=100 symbol=IBM price=10.0000 execution=9"
+unfolding message_text name_shown digits
+short_trade_text = refl
+
+expanded_trade_text : message_text (TradeExpanded 0 5 Buy 100 (codes "GAMMADLT") 100000 9) ≡ codes "trade-expanded offset=0 id=5 side=B quantity=100 symbol=GAMMADLT price=10.0000 execution=9"
+unfolding message_text name_shown digits
+expanded_trade_text = refl
+
+broken_trade_text : message_text (TradeBreak 3 9) ≡ codes "trade-break offset=3 execution=9"
+unfolding message_text digits
+broken_trade_text = refl
+
+end_text : message_text (EndOfSession 3) ≡ codes "end offset=3"
+unfolding message_text digits
+end_text = refl
+
+clear_text : message_text (UnitClear 3) ≡ codes "unit-clear offset=3"
+unfolding message_text digits
+clear_text = refl

@@ -1,6 +1,6 @@
 //! Fields of messages, each with its name, written into a buffer at an index.
 
-ghost use Rattle.std.specs.Prelude.{◌≡◌, ◌≤◌, ◌+◌, ◌++◌, [], ◌∷◌, take, length};
+ghost use Rattle.std.specs.Prelude.{◌≡◌, ◌≤◌, ◌+◌, ◌++◌, [], ◌∷◌, take, drop, length};
 ghost use Rattle.pitch_messages.specs.Raw.{IsRaw};
 ghost use Rattle.feed_lines.specs.Show.{number_field, head_text, price_text, flags_text, side_text, symbol_text, kind_text, extra_text, sequence_text};
 ghost use Rattle.feed_lines.specs.Terms.{shown};
@@ -16,6 +16,7 @@ pub fn put_number_field(out: &mut [u8], at: usize, name: &[u8], value: u64) -> u
     requires { at + length name.now + 20 ≤ length out.old }
     ensures end { result ≤ at + length name.now + 20 }
     ensures text { take result out.new ≡ take at out.old ++ number_field name.now value }
+    ensures rest { drop result out.new ≡ drop result out.old }
     ensures kept { length out.new ≡ length out.old }
 {
     let named = put_text(out, at, name);
@@ -28,6 +29,7 @@ pub fn put_count_field(out: &mut [u8], at: usize, name: &[u8], value: u32) -> us
     requires { at + length name.now + 20 ≤ length out.old }
     ensures end { result ≤ at + length name.now + 20 }
     ensures text { take result out.new ≡ take at out.old ++ number_field name.now value }
+    ensures rest { drop result out.new ≡ drop result out.old }
     ensures kept { length out.new ≡ length out.old }
 {
     put_number_field(out, at, name, u64::from(value))
@@ -39,6 +41,7 @@ pub fn put_byte_field(out: &mut [u8], at: usize, name: &[u8], value: u8) -> usiz
     requires { at + length name.now + 20 ≤ length out.old }
     ensures end { result ≤ at + length name.now + 20 }
     ensures text { take result out.new ≡ take at out.old ++ number_field name.now value }
+    ensures rest { drop result out.new ≡ drop result out.old }
     ensures kept { length out.new ≡ length out.old }
 {
     put_number_field(out, at, name, u64::from(value))
@@ -50,6 +53,7 @@ pub fn put_head(out: &mut [u8], at: usize, name: &[u8], offset: u32, id: u64) ->
     requires { at + length name.now + 60 ≤ length out.old }
     ensures end { result ≤ at + length name.now + 60 }
     ensures text { take result out.new ≡ take at out.old ++ head_text name.now offset id }
+    ensures rest { drop result out.new ≡ drop result out.old }
     ensures kept { length out.new ≡ length out.old }
 {
     let named = put_text(out, at, name);
@@ -63,6 +67,7 @@ pub fn put_price_field(out: &mut [u8], at: usize, price: Price) -> usize
     requires { at + 31 ≤ length out.old }
     ensures end { result ≤ at + 31 }
     ensures text { take result out.new ≡ take at out.old ++ price_text price }
+    ensures rest { drop result out.new ≡ drop result out.old }
     ensures kept { length out.new ≡ length out.old }
 {
     let named = put_text(out, at, b" price=");
@@ -75,6 +80,7 @@ pub fn put_flags(out: &mut [u8], at: usize, flags: u8) -> usize
     requires { at + 9 ≤ length out.old }
     ensures end { result ≤ at + 9 }
     ensures text { take result out.new ≡ take at out.old ++ flags_text flags }
+    ensures rest { drop result out.new ≡ drop result out.old }
     ensures kept { length out.new ≡ length out.old }
 {
     let named = put_text(out, at, b" flags=");
@@ -88,6 +94,7 @@ pub fn put_kind(out: &mut [u8], at: usize, raw: &[u8]) -> usize
     requires raw { IsRaw raw.now }
     ensures end { result ≤ at + 8 }
     ensures text { take result out.new ≡ take at out.old ++ kind_text raw.now }
+    ensures rest { drop result out.new ≡ drop result out.old }
     ensures kept { length out.new ≡ length out.old }
 {
     let named = put_text(out, at, b" kind=");
@@ -100,6 +107,7 @@ pub fn put_side(out: &mut [u8], at: usize, side: Side) -> usize
     requires { at + 7 ≤ length out.old }
     ensures end { result ≤ at + 7 }
     ensures text { take result out.new ≡ take at out.old ++ side_text side }
+    ensures rest { drop result out.new ≡ drop result out.old }
     ensures kept { length out.new ≡ length out.old }
 {
     let named = put_text(out, at, b" side=");
@@ -112,6 +120,7 @@ pub fn put_symbol(out: &mut [u8], at: usize, symbol: Symbol) -> usize
     requires { at + 40 ≤ length out.old }
     ensures end { result ≤ at + 40 }
     ensures text { take result out.new ≡ take at out.old ++ symbol_text symbol }
+    ensures rest { drop result out.new ≡ drop result out.old }
     ensures kept { length out.new ≡ length out.old }
 {
     let named = put_text(out, at, b" symbol=");
@@ -125,6 +134,7 @@ pub fn put_terms(out: &mut [u8], at: usize, terms: Terms) -> usize
     requires { at + 120 ≤ length out.old }
     ensures end { result ≤ at + 120 }
     ensures text { take result out.new ≡ take at out.old ++ shown terms }
+    ensures rest { drop result out.new ≡ drop result out.old }
     ensures kept { length out.new ≡ length out.old }
 {
     let sided = put_side(out, at, terms.side);
@@ -139,6 +149,7 @@ pub fn put_extra(out: &mut [u8], at: usize, extra: usize) -> usize
     requires { at + 27 ≤ length out.old }
     ensures end { result ≤ at + 27 }
     ensures text { take result out.new ≡ take at out.old ++ extra_text extra }
+    ensures rest { drop result out.new ≡ drop result out.old }
     ensures kept { length out.new ≡ length out.old }
 {
     if extra == 0 {
@@ -153,6 +164,7 @@ pub fn put_sequence(out: &mut [u8], at: usize, sequence: u32) -> usize
     requires { at + 20 ≤ length out.old }
     ensures end { result ≤ at + 20 }
     ensures text { take result out.new ≡ take at out.old ++ sequence_text sequence }
+    ensures rest { drop result out.new ≡ drop result out.old }
     ensures kept { length out.new ≡ length out.old }
 {
     if sequence == 0 {

@@ -1,6 +1,6 @@
 //! Lines written into a buffer at an index. Each function answers where the line ends.
 
-ghost use Rattle.std.specs.Prelude.{◌≡◌, ◌≤◌, ◌+◌, ◌++◌, [], ◌∷◌, take, length};
+ghost use Rattle.std.specs.Prelude.{◌≡◌, ◌≤◌, ◌+◌, ◌++◌, [], ◌∷◌, take, drop, length};
 ghost use Rattle.feed_lines.specs.LineSize.{line_size};
 ghost use Rattle.feed_lines.specs.BookText.{hidden_text, participant_text, second_text, order_head, order_tail, order_line, book_place, book_head};
 ghost use Rattle.feed_lines.specs.Follow.{block_line, overflow_text};
@@ -21,6 +21,7 @@ fn put_block_head(out: &mut [u8], at: usize, number: u64, header: Header) -> usi
     requires { at + 120 ≤ length out.old }
     ensures end { result ≤ at + 120 }
     ensures text { take result out.new ≡ take at out.old ++ block_head number header.unit header.sequence header.count }
+    ensures rest { drop result out.new ≡ drop result out.old }
     ensures kept { length out.new ≡ length out.old }
 {
     let block = put_text(out, at, b"block ");
@@ -38,6 +39,7 @@ pub fn put_status(out: &mut [u8], at: usize, status: Status) -> usize
     requires { at + 60 ≤ length out.old }
     ensures end { result ≤ at + 60 }
     ensures text { take result out.new ≡ take at out.old ++ status_text status }
+    ensures rest { drop result out.new ≡ drop result out.old }
     ensures kept { length out.new ≡ length out.old }
 {
     match status {
@@ -60,6 +62,7 @@ pub fn put_overflow(out: &mut [u8], at: usize, overflow: bool) -> usize
     requires { at + 9 ≤ length out.old }
     ensures end { result ≤ at + 9 }
     ensures text { take result out.new ≡ take at out.old ++ overflow_text overflow }
+    ensures rest { drop result out.new ≡ drop result out.old }
     ensures kept { length out.new ≡ length out.old }
 {
     if overflow {
@@ -82,6 +85,7 @@ pub fn put_block_line(
     requires { at + line_size ≤ length out.old }
     ensures end { result ≤ at + line_size }
     ensures text { take result out.new ≡ take at out.old ++ block_line number header.unit header.sequence header.count overflow status }
+    ensures rest { drop result out.new ≡ drop result out.old }
     ensures kept { length out.new ≡ length out.old }
 {
     let head = put_block_head(out, at, number, header);
@@ -97,6 +101,7 @@ pub fn put_shown_head(out: &mut [u8], at: usize, number: u64, header: Header) ->
     requires { at + line_size ≤ length out.old }
     ensures end { result ≤ at + line_size }
     ensures text { take result out.new ≡ take at out.old ++ shown_head number header.unit header.sequence header.count }
+    ensures rest { drop result out.new ≡ drop result out.old }
     ensures kept { length out.new ≡ length out.old }
 {
     let head = put_block_head(out, at, number, header);
@@ -108,6 +113,7 @@ fn put_second(out: &mut [u8], at: usize, second: Option<u32>) -> usize
     requires { at + 20 ≤ length out.old }
     ensures end { result ≤ at + 20 }
     ensures text { take result out.new ≡ take at out.old ++ second_text second }
+    ensures rest { drop result out.new ≡ drop result out.old }
     ensures kept { length out.new ≡ length out.old }
 {
     match second {
@@ -121,6 +127,7 @@ fn put_book_place(out: &mut [u8], at: usize, unit: u8, reach: u32, second: Optio
     requires { at + 120 ≤ length out.old }
     ensures end { result ≤ at + 120 }
     ensures text { take result out.new ≡ take at out.old ++ book_place unit reach second }
+    ensures rest { drop result out.new ≡ drop result out.old }
     ensures kept { length out.new ≡ length out.old }
 {
     let book = put_text(out, at, b"book unit ");
@@ -143,6 +150,7 @@ pub fn put_book_head(
     requires { at + line_size ≤ length out.old }
     ensures end { result ≤ at + line_size }
     ensures text { take result out.new ≡ take at out.old ++ book_head unit reach second count }
+    ensures rest { drop result out.new ≡ drop result out.old }
     ensures kept { length out.new ≡ length out.old }
 {
     let timed = put_book_place(out, at, unit, reach, second);
@@ -155,6 +163,7 @@ fn put_hidden(out: &mut [u8], at: usize, display: bool) -> usize
     requires { at + 7 ≤ length out.old }
     ensures end { result ≤ at + 7 }
     ensures text { take result out.new ≡ take at out.old ++ hidden_text display }
+    ensures rest { drop result out.new ≡ drop result out.old }
     ensures kept { length out.new ≡ length out.old }
 {
     if display {
@@ -168,6 +177,7 @@ fn put_participant(out: &mut [u8], at: usize, participant: [u8; 4]) -> usize
     requires { at + 40 ≤ length out.old }
     ensures end { result ≤ at + 40 }
     ensures text { take result out.new ≡ take at out.old ++ participant_text participant }
+    ensures rest { drop result out.new ≡ drop result out.old }
     ensures kept { length out.new ≡ length out.old }
 {
     if is_blank(&participant) {
@@ -181,6 +191,7 @@ fn put_order_head(out: &mut [u8], at: usize, order: &Order) -> usize
     requires { at + 60 ≤ length out.old }
     ensures end { result ≤ at + 60 }
     ensures text { take result out.new ≡ take at out.old ++ order_head order.now.id order.now }
+    ensures rest { drop result out.new ≡ drop result out.old }
     ensures kept { length out.new ≡ length out.old }
 {
     let open = put_text(out, at, b"order ");
@@ -196,6 +207,7 @@ fn put_order_tail(out: &mut [u8], at: usize, order: &Order) -> usize
     requires { at + 120 ≤ length out.old }
     ensures end { result ≤ at + 120 }
     ensures text { take result out.new ≡ take at out.old ++ order_tail order.now }
+    ensures rest { drop result out.new ≡ drop result out.old }
     ensures kept { length out.new ≡ length out.old }
 {
     let symbol = order.symbol.bytes();
@@ -213,6 +225,7 @@ pub fn put_order_line(out: &mut [u8], at: usize, order: &Order) -> usize
     requires { at + line_size ≤ length out.old }
     ensures end { result ≤ at + line_size }
     ensures text { take result out.new ≡ take at out.old ++ order_line order.now.id order.now }
+    ensures rest { drop result out.new ≡ drop result out.old }
     ensures kept { length out.new ≡ length out.old }
 {
     let head = put_order_head(out, at, order);

@@ -1,6 +1,6 @@
 //! Lines of messages, field by field.
 
-ghost use Rattle.std.specs.Prelude.{◌≡◌, ◌≤◌, ◌<◌, ◌+◌, ◌++◌, take, length, codes, Result, Err, IsTrue};
+ghost use Rattle.std.specs.Prelude.{◌≡◌, ◌≤◌, ◌<◌, ◌+◌, ◌++◌, take, drop, length, codes, Result, Err, IsTrue};
 ghost use Rattle.pitch_fields.specs.Limits.{last_sequence};
 ghost use Rattle.pitch_fields.specs.Name.{name_shown};
 ghost use Rattle.pitch_messages.specs.Raw.{IsRaw, kind_of};
@@ -31,6 +31,7 @@ fn put_add(
     requires { at + length name.now + 189 ≤ length out.old }
     ensures end { result ≤ at + length name.now + 189 }
     ensures text { take result out.new ≡ take at out.old ++ add_text name.now offset id (shown terms) flags }
+    ensures rest { drop result out.new ≡ drop result out.old }
     ensures kept { length out.new ≡ length out.old }
 {
     let head = put_head(out, at, name, offset, id);
@@ -51,6 +52,7 @@ fn put_trade(
     requires { at + length name.now + 211 ≤ length out.old }
     ensures end { result ≤ at + length name.now + 211 }
     ensures text { take result out.new ≡ take at out.old ++ trade_text name.now offset id (shown terms) execution }
+    ensures rest { drop result out.new ≡ drop result out.old }
     ensures kept { length out.new ≡ length out.old }
 {
     let head = put_head(out, at, name, offset, id);
@@ -63,6 +65,7 @@ fn put_reduce(out: &mut [u8], at: usize, name: &[u8], offset: u32, id: u64, quan
     requires { at + length name.now + 90 ≤ length out.old }
     ensures end { result ≤ at + length name.now + 90 }
     ensures text { take result out.new ≡ take at out.old ++ reduce_text name.now offset id quantity }
+    ensures rest { drop result out.new ≡ drop result out.old }
     ensures kept { length out.new ≡ length out.old }
 {
     let head = put_head(out, at, name, offset, id);
@@ -75,6 +78,7 @@ fn put_modified(out: &mut [u8], at: usize, price: Price, flags: u8) -> usize
     requires { at + 40 ≤ length out.old }
     ensures end { result ≤ at + 40 }
     ensures text { take result out.new ≡ take at out.old ++ (price_text price ++ flags_text flags) }
+    ensures rest { drop result out.new ≡ drop result out.old }
     ensures kept { length out.new ≡ length out.old }
 {
     let priced = put_price_field(out, at, price);
@@ -93,6 +97,7 @@ fn put_executed(
     requires { at + length name.now + 90 ≤ length out.old }
     ensures end { result ≤ at + length name.now + 90 }
     ensures text { take result out.new ≡ take at out.old ++ executed_text name.now offset id executed }
+    ensures rest { drop result out.new ≡ drop result out.old }
     ensures kept { length out.new ≡ length out.old }
 {
     let head = put_head(out, at, name, offset, id);
@@ -105,6 +110,7 @@ fn put_remaining(out: &mut [u8], at: usize, remaining: u32, execution: u64, pric
     requires { at + 93 ≤ length out.old }
     ensures end { result ≤ at + 93 }
     ensures text { take result out.new ≡ take at out.old ++ (number_field (codes " remaining=") remaining ++ (number_field (codes " execution=") execution ++ price_text price)) }
+    ensures rest { drop result out.new ≡ drop result out.old }
     ensures kept { length out.new ≡ length out.old }
 {
     let left = put_count_field(out, at, b" remaining=", remaining);
@@ -117,6 +123,7 @@ fn put_participant(out: &mut [u8], at: usize, participant: [u8; 4]) -> usize
     requires { at + 45 ≤ length out.old }
     ensures end { result ≤ at + 45 }
     ensures text { take result out.new ≡ take at out.old ++ (codes " participant=" ++ name_shown participant) }
+    ensures rest { drop result out.new ≡ drop result out.old }
     ensures kept { length out.new ≡ length out.old }
 {
     let named = put_text(out, at, b" participant=");
@@ -128,6 +135,7 @@ fn put_trade_break(out: &mut [u8], at: usize, offset: u32, execution: u64) -> us
     requires { at + 70 ≤ length out.old }
     ensures end { result ≤ at + 70 }
     ensures text { take result out.new ≡ take at out.old ++ (number_field (codes "trade-break offset=") offset ++ number_field (codes " execution=") execution) }
+    ensures rest { drop result out.new ≡ drop result out.old }
     ensures kept { length out.new ≡ length out.old }
 {
     let placed = put_count_field(out, at, b"trade-break offset=", offset);
@@ -140,6 +148,7 @@ fn put_other(out: &mut [u8], at: usize, raw: &[u8]) -> usize
     requires raw { IsRaw raw.now }
     ensures end { result ≤ at + 41 }
     ensures text { take result out.new ≡ take at out.old ++ (codes "other" ++ (kind_text raw.now ++ number_field (codes " length=") (length raw.now))) }
+    ensures rest { drop result out.new ≡ drop result out.old }
     ensures kept { length out.new ≡ length out.old }
 {
     let named = put_text(out, at, b"other");
@@ -155,6 +164,7 @@ fn put_with_terms(out: &mut [u8], at: usize, message: &Message) -> usize
     requires terms { IsTrue (has_terms message.now) }
     ensures end { result ≤ at + 300 }
     ensures text { take result out.new ≡ take at out.old ++ message_text message.now }
+    ensures rest { drop result out.new ≡ drop result out.old }
     ensures kept { length out.new ≡ length out.old }
 {
     match *message {
@@ -243,6 +253,7 @@ fn put_message(out: &mut [u8], at: usize, message: &Message) -> usize
     requires { at + 300 ≤ length out.old }
     ensures end { result ≤ at + 300 }
     ensures text { take result out.new ≡ take at out.old ++ message_text message.now }
+    ensures rest { drop result out.new ≡ drop result out.old }
     ensures kept { length out.new ≡ length out.old }
 {
     match *message {
@@ -312,6 +323,7 @@ fn put_short(out: &mut [u8], at: usize, raw: &[u8], needs: u8, has: u8) -> usize
     requires raw { IsRaw raw.now }
     ensures end { result ≤ at + 90 }
     ensures text { take result out.new ≡ take at out.old ++ short_text raw.now needs has }
+    ensures rest { drop result out.new ≡ drop result out.old }
     ensures kept { length out.new ≡ length out.old }
 {
     let named = put_text(out, at, b"short");
@@ -326,6 +338,7 @@ fn put_bad_side(out: &mut [u8], at: usize, raw: &[u8], byte: u8) -> usize
     requires raw { IsRaw raw.now }
     ensures end { result ≤ at + 90 }
     ensures text { take result out.new ≡ take at out.old ++ bad_side_text raw.now byte }
+    ensures rest { drop result out.new ≡ drop result out.old }
     ensures kept { length out.new ≡ length out.old }
 {
     let named = put_text(out, at, b"bad-side");
@@ -341,6 +354,7 @@ fn put_unread(out: &mut [u8], at: usize, raw: &[u8], error: ReadError) -> usize
     requires raw { IsRaw raw.now }
     ensures end { result ≤ at + 90 }
     ensures text { take result out.new ≡ take at out.old ++ said_text raw.now (Err error) }
+    ensures rest { drop result out.new ≡ drop result out.old }
     ensures kept { length out.new ≡ length out.old }
 {
     match error {
@@ -357,6 +371,7 @@ fn put_read(out: &mut [u8], at: usize, raw: &[u8], read: Result<Message, ReadErr
     requires raw { IsRaw raw.now }
     ensures end { result ≤ at + 400 }
     ensures text { take result out.new ≡ take at out.old ++ said_text raw.now read }
+    ensures rest { drop result out.new ≡ drop result out.old }
     ensures kept { length out.new ≡ length out.old }
 {
     match read {
@@ -376,6 +391,7 @@ fn put_said(out: &mut [u8], at: usize, raw: &[u8]) -> usize
     requires raw { IsRaw raw.now }
     ensures end { result ≤ at + 400 }
     ensures text { take result out.new ≡ take at out.old ++ said_text raw.now (reads raw.now) }
+    ensures rest { drop result out.new ≡ drop result out.old }
     ensures kept { length out.new ≡ length out.old }
 {
     match raw[1] {
@@ -403,6 +419,7 @@ fn put_any(out: &mut [u8], at: usize, raw: &[u8], kind: u8) -> usize
     requires kind { kind ≡ kind_of raw.now }
     ensures end { result ≤ at + 400 }
     ensures text { take result out.new ≡ take at out.old ++ said_text raw.now (reads raw.now) }
+    ensures rest { drop result out.new ≡ drop result out.old }
     ensures kept { length out.new ≡ length out.old }
 {
     put_read(out, at, raw, read_as(kind, raw))
@@ -416,6 +433,7 @@ pub fn put_message_line(out: &mut [u8], at: usize, sequence: u32, raw: &[u8]) ->
     requires raw { IsRaw raw.now }
     ensures end { result ≤ at + line_size }
     ensures text { take result out.new ≡ take at out.old ++ message_line sequence raw.now }
+    ensures rest { drop result out.new ≡ drop result out.old }
     ensures kept { length out.new ≡ length out.old }
 {
     let numbered = put_sequence(out, at, sequence);

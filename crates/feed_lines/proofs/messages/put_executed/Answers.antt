@@ -1,5 +1,11 @@
+use Rattle.std.proofs.Common.{arith}
 use Rattle.feed_lines.proofs.Pieces.{two}
+use Rattle.feed_lines.proofs.Behind.{left_behind}
 use Rattle.feed_lines.proofs.messages.put_executed.Goals as goal
 
 pub returns-clause-text : goal.returns-clause-text
 returns-clause-text c = two _ _ _ _ _ c.put_head-head.ensures.text c.put_count_field.ensures.text
+
+pub returns-clause-rest : goal.returns-clause-rest
+returns-clause-rest c =
+    left_behind _ _ _ _ _ _ c.put_count_field.ensures.rest c.put_count_field.ensures.text (omega arith) c.put_head-head.ensures.rest

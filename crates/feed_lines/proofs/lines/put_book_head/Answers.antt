@@ -1,0 +1,9 @@
+use Rattle.std.proofs.Common.{arith}
+use Rattle.feed_lines.proofs.Behind.{left_behind}
+use Rattle.feed_lines.proofs.lines.put_book_head.Goals as goal
+
+pub returns-clause-rest : goal.returns-clause-rest
+returns-clause-rest c =
+    left_behind _ _ _ _ _ _ c.put_byte.ensures.rest c.put_byte.ensures.text (omega arith)
+    (left_behind _ _ _ _ _ _ c.put_number-counted.ensures.rest c.put_number-counted.ensures.text (omega arith)
+    (left_behind _ _ _ _ _ _ c.put_text-orders.ensures.rest c.put_text-orders.ensures.text (omega arith) c.put_book_place-timed.ensures.rest))
