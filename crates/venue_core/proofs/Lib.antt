@@ -1,4 +1,5 @@
 pub mod Accepting
+mod Examples
 pub mod Judging
 pub mod PlanAccepted
 pub mod PlanBooks
