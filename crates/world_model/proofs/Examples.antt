@@ -1,5 +1,18 @@
 -- Worked examples of worlds, computed by the definitions. Verbs stand newest first.
-use Rattle.std.proofs.Common.{◌≡◌, ℕ, Bool, true, false, List, [], ◌∷◌, ◌++◌, refl, zero, suc, map, Option, Some, None}
+use Rattle.std.proofs.Common.{◌≡◌, ℕ, Bool, true, false, List, [], ◌∷◌, ◌++◌, refl, ap, ◌∙◌, zero, suc, map, Option, Some, None}
+use Rattle.std.specs.FinMap as finite
+use Rattle.std.specs.List.{sum_by}
+use Rattle.std.specs.Option.{option_map}
+use Rattle.std.specs.Ordering.{nat_cmp}
+use Rattle.std.specs.Prelude.{filter, bytes_eq, ◌==◌, ◌&&◌}
+use Rattle.std.proofs.lemmas.Cmp.{nat_cmp_total}
+use Rattle.pitch_fields.specs.declared.side.Side.{Side}
+use Rattle.pitch_fields.specs.declared.side.Side.TheVariants.{Buy, Sell}
+use Rattle.pitch_messages.specs.declared.order.Order.{Order}
+use Rattle.pitch_model.proofs.Examples.{order, sold, no_orders, one_sold, no_entries}
+use Rattle.pitch_model.specs.Book.{after}
+use Rattle.pitch_model.specs.History.{Message}
+use Rattle.pitch_model.specs.Levels.{best, best_of, level, same_side}
 use Rattle.pitch_io.specs.declared.line.Line.TheVariants.{A, B, Gap}
 use Rattle.pitch_text.specs.declared.command.Command.TheVariants as commands
 use Rattle.pitch_text.specs.declared.verb.Session.TheVariants.{Grp, Spin}
@@ -26,7 +39,8 @@ use Rattle.pitch_model.specs.declared.status.Status.TheVariants.{Silent, Current
 use Rattle.venue_core.specs.declared.error.VenueError.TheVariants as errors
 use Rattle.line_arbiter.specs.Noted.{line_count}
 use Rattle.world_model.specs.Printed.{printed}
-use Rattle.world_model.specs.Verbs.{state_of}
+use Rattle.world_model.specs.State.{State, start}
+use Rattle.world_model.specs.Verbs.{state_of, quoted}
 use Rattle.world_model.specs.declared.limits.Limits.{Limits}
 use Rattle.world_model.specs.declared.outcome.Outcome.{Outcome}
 use Rattle.world_model.specs.declared.outcome.Outcome.TheVariants as outcome
@@ -158,3 +172,22 @@ login_of_the_proxy : login_bytes roles.GapLink 0 the_account
     ≡ 0x1e ∷ 0 ∷ 1 ∷ 0 ∷ 0 ∷ 0 ∷ 0 ∷ 0 ∷ 0x16 ∷ 1 ∷ 0x30 ∷ 0x30 ∷ 0x30 ∷ 0x31 ∷ 0x46 ∷ 0x45 ∷ 0x45 ∷ 0x44 ∷ 0x20 ∷ 0x20 ∷ 0x50 ∷ 0x49 ∷ 0x54 ∷ 0x43 ∷ 0x48 ∷ 0x20 ∷ 0x20 ∷ 0x20 ∷ 0x20 ∷ 0x20 ∷ []
 unfolding block_bytes session_written
 login_of_the_proxy = refl
+
+-- ---- A quote
+-- the client heard the venue's one message, which adds an order to buy 100 IBM at 10.0000
+abbrev buying : State
+buying = record start { accepted = order ∷ []; heard = Message 1 order ∷ [] }
+
+one_entry : finite.entries one_sold ≡ (5, sold) ∷ []
+one_entry = finite.entries-insert nat_cmp_total no_orders 5 sold ∙ ap (finite.put nat_cmp 5 sold) (no_entries no_orders (finite.len-empty nat_cmp Order))
+
+-- the best price of such entries on a side
+abbrev best_in : Side → List (ℕ × Order) → Option (ℕ × ℕ)
+best_in side entries =
+    let orders = filter (λ (o : Order). bytes_eq sold.symbol o.symbol && same_side side o.side) (map (λ (e : ℕ × Order). e.1) entries) in
+    option_map (λ price. (price, sum_by (λ (o : Order). o.quantity) (filter (λ (o : Order). price == o.price) orders))) (best_of side (map (λ (o : Order). o.price) orders))
+
+-- it is the bid, and there is no offer
+an_order_to_buy_is_the_bid : (quoted limits sold.symbol buying).outcome ≡ outcome.Quoted (Some (100000, 100)) None
+unfolding after reads reach_of held_count best level
+an_order_to_buy_is_the_bid = ap (λ (es : List (ℕ × Order)). outcome.Quoted (best_in Buy es) (best_in Sell es)) one_entry
