@@ -1,6 +1,7 @@
 -- What a schedule writes. Entries that came before stand newest first, as the verbs of a world do.
 use Rattle.std.specs.Prelude.{ℕ, List, [], ◌∷◌, ◌==◌, map, None, Result, Ok, Err, if◌then◌else◌}
 use Rattle.feed_lines.specs.Texts.{texts_after}
+use Rattle.pitch_text.specs.Defaults.{default_hold, default_kept, default_second, default_minute, default_day}
 use Rattle.pitch_text.specs.ScheduleGrammar.{entry, schedule_entry, setup_of}
 use Rattle.pitch_text.specs.declared.verb.ScheduleEntry.{ScheduleEntry}
 use Rattle.pitch_text.specs.declared.verb.Verb.{Verb}
@@ -21,7 +22,13 @@ verbs_of unit (entry ∷ before) = if entry.unit == unit then entry.verb ∷ ver
 
 -- the limits of a unit that does not begin with an `open` line
 abbrev pub default_limits : Limits
-default_limits = record { hold = 4096; kept = 65536; second = 10; minute = 100; day = 10000 }
+default_limits = record {
+  hold = default_hold;
+  kept = default_kept;
+  second = default_second;
+  minute = default_minute;
+  day = default_day;
+}
 
 -- the limits of a unit that begins with this verb
 abbrev pub limits_at : Verb → Limits

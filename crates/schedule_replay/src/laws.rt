@@ -11,5 +11,9 @@ ghost use Rattle.schedule_replay.specs.Replay.{open_alone, limits_at, default_li
 pub fn units_run_apart()
     ensures lines { LinesStandApart }
     ensures text { UnitsRunApart }
-    ensures limits { limits_at open_alone ≡ default_limits }
+{}
+
+/// An `open` line without fields sets the limits that a unit has which begins with another line.
+pub fn an_open_alone_sets_the_default_limits()
+    ensures { limits_at open_alone ≡ default_limits }
 {}

@@ -19,7 +19,10 @@ use crate::units::replay_work;
 use pitch_fields::OutOfMemory;
 use pitch_io::Gate;
 use pitch_text::laws::schedules_are_well_formed;
-use pitch_text::{Schedule, ScheduleEntry, TextError, Verb};
+use pitch_text::{
+    DEFAULT_DAY, DEFAULT_HOLD, DEFAULT_KEPT, DEFAULT_MINUTE, DEFAULT_SECOND, Schedule,
+    ScheduleEntry, TextError, Verb,
+};
 use std::alloc::Global;
 use world_model::{Limits, World};
 
@@ -38,11 +41,11 @@ fn default_limits() -> Limits
     ensures can { AreLimits result }
 {
     Limits {
-        hold: 4096,
-        kept: 65_536,
-        second: 10,
-        minute: 100,
-        day: 10_000,
+        hold: DEFAULT_HOLD,
+        kept: DEFAULT_KEPT,
+        second: DEFAULT_SECOND,
+        minute: DEFAULT_MINUTE,
+        day: DEFAULT_DAY,
     }
 }
 
