@@ -16,7 +16,7 @@ use Rattle.venue_core.specs.Plan.{plan}
 use Rattle.client_core.specs.Tracks.{current_book}
 use Rattle.storm_plan.specs.StormText.{unit_line}
 use Rattle.net_edge.specs.Acting.{scene_of}
-use Rattle.net_edge.specs.Demo.{IsDemo, EndsDemo, IsLast, AddsCalls, all_messages}
+use Rattle.net_edge.specs.Demo.{IsDemo, EndsDemo, IsLast, AddsCalls, all_messages, AreShort}
 use Rattle.net_edge.specs.Due.{Setting, demo_unit, hold_limit, accepted}
 use Rattle.net_edge.specs.Playing.{DemoAt, EndsHave, ListsCalls, MarketAt, calls_before}
 use Rattle.net_edge.specs.Scene.{Scene, line_in}
@@ -25,6 +25,7 @@ use Rattle.net_edge.specs.Turns.{AreSteps, IsOver, client_status}
 use Rattle.net_edge.specs.declared.ends.Ends.{Ends}
 use Rattle.net_edge.specs.declared.market.Market.{Market}
 use Rattle.net_edge.proofs.Feeding.{due_pieces, replied_pieces}
+use Rattle.net_edge.proofs.Fitting.{due_short, replied_short}
 use Rattle.net_edge.proofs.Carried.{carried_book}
 
 -- what the venue's messages are
@@ -52,6 +53,11 @@ all_are_pieces s ends run are has over A = subst (AllByRecursion (IsPiece (all_m
 all_are_pieces s ends run are has over B = subst (AllByRecursion (IsPiece (all_messages s) demo_unit)) (sym over.on_b) (due_pieces s are.raws are.few B (scene_of s run).turn)
 all_are_pieces s ends run are has over Gap = subst (AllByRecursion (IsPiece (all_messages s) demo_unit)) (sym has.replayed) (replied_pieces s are.raws are.few run)
 
+all_are_short : (s : Setting) (ends : Ends) (run : List Step) → AreMessages (all_messages s) → EndsHave ends (scene_of s run) → IsOver s (scene_of s run) → (line : Line) → AreShort (line_in line (scene_of s run)).sent
+all_are_short s ends run are has over A = subst AreShort (sym over.on_a) (due_short s are.raws are.few A (scene_of s run).turn)
+all_are_short s ends run are has over B = subst AreShort (sym over.on_b) (due_short s are.raws are.few B (scene_of s run).turn)
+all_are_short s ends run are has over Gap = subst AreShort (sym has.replayed) (replied_short s are.raws are.few run)
+
 run_ends : (s : Setting) (ends : Ends) (market : Market) (run : List Step) → AreSteps s run → EndsHave ends (scene_of s run) → IsOver s (scene_of s run) → IsLast s (scene_of s run) → MarketAt s market (scene_of s run).turn
     → EndsDemo s (scene_of s run) (map.len (current_book ends.client).orders) (shares (current_book ends.client))
 run_ends s ends market run steps has over last at =
@@ -62,6 +68,7 @@ run_ends s ends market run steps has over last at =
       over = over;
       last = last;
       pieces = pieces;
+      short = all_are_short s ends run are has over;
       book = λ carried. carried_book s run carried over.put pieces ends.client are.bytes are.few steps has.client;
     }
 

@@ -1,7 +1,7 @@
 -- Over a net that carries all in order, what came was sent, and what came to an end begins what was
 -- put at the other.
 use Rattle.std.proofs.Common.{◌≡◌, ◌≤◌, ℕ, ◌++◌, List, [], ◌∷◌, length, take, drop, refl, sym, ap, ◌∙◌, subst, append_assoc, arith, ◌⊎◌, inl, inr}
-use Rattle.std.specs.List.{AllByRecursion, Contains}
+use Rattle.std.specs.List.{Contains}
 use Rattle.std.proofs.lemmas.List.{append-nil, take_all, take-append-drop}
 use Rattle.std.proofs.lemmas.List.Elements.{All-from_recursion, All-contains, Contains-append_cases, Contains-append_left, Contains-append_right, Contains-push, Contains-push_cases}
 use Rattle.pitch_io.specs.declared.line.Line.{Line}
@@ -15,8 +15,9 @@ use Rattle.pitch_io.specs.declared.net.NetTaken.TheVariants.{Got, Quiet, End, Fa
 use Rattle.pitch_io.specs.declared.sink.Put.TheVariants as puts
 use Rattle.pitch_io.specs.Nets.{Call, Begin, Send, Next, Put, Take, other_end}
 use Rattle.pitch_io.specs.MemoryNets.{OnItsWay, CameInOrder, FirstCame, as_carried, nothing_coming, way_after}
+use Rattle.unit_packets.specs.Packing.{datagram_size}
 use Rattle.net_edge.specs.Acting.{scene_after, scene_of}
-use Rattle.net_edge.specs.Demo.{FitsCalls, IsCarried}
+use Rattle.net_edge.specs.Demo.{AreShort, IsCarried}
 use Rattle.net_edge.specs.Due.{Setting, call_room}
 use Rattle.net_edge.specs.Scene.{Scene, OnLine, line_in, at_end, first_scene}
 use Rattle.net_edge.specs.Steps.{Step, Did, Beat, Turn, call_at, calls_of}
@@ -27,10 +28,7 @@ use Rattle.net_edge.specs.Turns.{AreSteps, MayCome}
 abbrev LineOk : OnLine → List (List ℕ) → Type 0
 LineOk on way = ((d : List ℕ) → Contains on.came d → Contains on.sent d) × ((d : List ℕ) → Contains way d → Contains on.sent d)
 
-abbrev Fits : List (List ℕ) → Type 0
-Fits datagrams = AllByRecursion (λ (d : List ℕ). length d ≤ call_room) datagrams
-
-fits_before : (xs ys : List (List ℕ)) → Fits (xs ++ ys) → Fits xs
+fits_before : (xs ys : List (List ℕ)) → AreShort (xs ++ ys) → AreShort xs
 fits_before [] ys fits = tt
 fits_before (x ∷ xs) ys fits = (fits.0, fits_before xs ys fits.1)
 
@@ -46,11 +44,11 @@ line_sent on way d ok = (λ x came. Contains-append_left on.sent (d ∷ []) x (o
     by x (inr new) = Contains-append_right on.sent (d ∷ []) x (carried d x new)
 
 -- the first that was on its way came, whole
-first_whole : (way : List (List ℕ)) (room count : ℕ) (bytes : List ℕ) → room ≡ call_room → ((d : List ℕ) → Contains way d → length d ≤ call_room) → FirstCame way room count bytes → Contains way bytes
+first_whole : (way : List (List ℕ)) (room count : ℕ) (bytes : List ℕ) → room ≡ call_room → ((d : List ℕ) → Contains way d → length d ≤ datagram_size) → FirstCame way room count bytes → Contains way bytes
 first_whole [] room count bytes roomy fits first = absurd first
 first_whole (d ∷ ds) room count bytes roomy fits first =
     let here : Contains (d ∷ ds) d = Contains-append_left (d ∷ []) ds d (Contains-push [] d) in
-    let fit : length d ≤ call_room = fits d here in
+    let fit : length d ≤ datagram_size = fits d here in
     let all : length d ≤ count = omega (arith, first.0, roomy, fit) in
     subst (λ (x : List ℕ). Contains (d ∷ ds) x) (sym (first.1 ∙ take_all count d all)) here
 
@@ -58,12 +56,12 @@ rest_waits : (way : List (List ℕ)) (x : List ℕ) → Contains (drop 1 way) x 
 rest_waits [] x there = there
 rest_waits (d ∷ ds) x there = Contains-append_right (d ∷ []) ds x there
 
-line_came : (on : OnLine) (way : List (List ℕ)) (room count : ℕ) (bytes : List ℕ) (answers : List NetTaken) → room ≡ call_room → Fits on.sent → FirstCame way room count bytes → LineOk on way
+line_came : (on : OnLine) (way : List (List ℕ)) (room count : ℕ) (bytes : List ℕ) (answers : List NetTaken) → room ≡ call_room → AreShort on.sent → FirstCame way room count bytes → LineOk on way
     → LineOk (record { sent = on.sent; came = on.came ++ bytes ∷ []; answers = answers }) (drop 1 way)
 line_came on way room count bytes answers roomy fits first ok = (λ x there. by x (Contains-push_cases on.came bytes x there), λ x waits. ok.1 x (rest_waits way x waits))
   where
-    fit : (d : List ℕ) → Contains way d → length d ≤ call_room
-    fit d waits = All-contains (λ (x : List ℕ). length x ≤ call_room) on.sent d (All-from_recursion (λ (x : List ℕ). length x ≤ call_room) on.sent fits) (ok.1 d waits)
+    fit : (d : List ℕ) → Contains way d → length d ≤ datagram_size
+    fit d waits = All-contains (λ (x : List ℕ). length x ≤ datagram_size) on.sent d (All-from_recursion (λ (x : List ℕ). length x ≤ datagram_size) on.sent fits) (ok.1 d waits)
 
     by : (x : List ℕ) → Contains on.came x ⊎ (bytes ≡ x) → Contains on.sent x
     by x (inl came) = ok.0 x came
@@ -95,7 +93,7 @@ Balance n w =
     × EndOk n.spin_server.put n.spin_client.came w.spin_client × EndOk n.spin_client.put n.spin_server.came w.spin_server
 
 abbrev FitLines : Scene → Type 0
-FitLines n = Fits n.a.sent × Fits n.b.sent × Fits n.gap.sent
+FitLines n = AreShort n.a.sent × AreShort n.b.sent × AreShort n.gap.sent
 
 -- each datagram that was sent before a step fits, where each that was sent after it does
 fit_before : (s : Setting) (step : Step) (n : Scene) → FitLines (scene_after s step n) → FitLines n
@@ -216,7 +214,7 @@ module _ (s : Setting) (base : List Call) where
       keeps step (calls_of before) n steps.0 fit came (balanced before none steps.1 fit (step_before step (calls_of before) came))
 
 -- the network carries
-pub run_carried : (s : Setting) (run : List Step) (before : List Call) → AreSteps s run → FitsCalls (scene_of s run) → CameInOrder (calls_of run ++ (Begin done.Done ∷ before)) → IsCarried (scene_of s run)
+pub run_carried : (s : Setting) (run : List Step) (before : List Call) → AreSteps s run → ((line : Line) → AreShort (line_in line (scene_of s run)).sent) → CameInOrder (calls_of run ++ (Begin done.Done ∷ before)) → IsCarried (scene_of s run)
 run_carried s run before steps fits came =
     let n : Scene = scene_of s run in
     let w : OnItsWay = way_after (calls_of run ++ (Begin done.Done ∷ before)) in

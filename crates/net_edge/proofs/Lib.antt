@@ -15,6 +15,7 @@ mod Feeding
 mod Honesty
 mod Spoken
 mod Carried
+mod Fitting
 mod Ending
 mod Examples
 mod InMemory

@@ -6,6 +6,7 @@ use Rattle.pitch_io.specs.declared.line.Line.{Line}
 use Rattle.pitch_io.specs.declared.net.LinkEnd.{LinkEnd}
 use Rattle.pitch_io.specs.Nets.{Call, Begin, other_end}
 use Rattle.pitch_io.specs.declared.net.NetDone.TheVariants.{Done}
+use Rattle.unit_packets.specs.Packing.{datagram_size}
 use Rattle.pitch_model.specs.Book.{Book, book_after}
 use Rattle.pitch_model.specs.Datagrams.{IsPiece}
 use Rattle.pitch_model.specs.Levels.{shares}
@@ -14,7 +15,7 @@ use Rattle.pitch_model.specs.declared.status.Status.TheVariants.{Current}
 use Rattle.venue_core.specs.Plan.{plan}
 use Rattle.storm_plan.specs.StormText.{unit_line}
 use Rattle.net_edge.specs.Acting.{scene_of}
-use Rattle.net_edge.specs.Due.{Setting, call_room, demo_unit, hold_limit}
+use Rattle.net_edge.specs.Due.{Setting, demo_unit, hold_limit}
 use Rattle.net_edge.specs.Scene.{Scene, line_in, at_end}
 use Rattle.net_edge.specs.Steps.{Step, calls_of}
 use Rattle.net_edge.specs.Turns.{AreSteps, IsOver, client_status}
@@ -25,9 +26,9 @@ pub record IsCarried (now : Scene) : Type 0 where
   pub lines : (line : Line) (datagram : List ℕ) → Contains (line_in line now).came datagram → Contains (line_in line now).sent datagram
   pub ends : (at : LinkEnd) → (later : List ℕ) × ((at_end (other_end at) now).put ≡ (at_end at now).came ++ later)
 
--- each datagram that was sent has room in one call
-abbrev pub FitsCalls : Scene → Type 0
-FitsCalls now = (line : Line) → AllByRecursion (λ (datagram : List ℕ). length datagram ≤ call_room) (line_in line now).sent
+-- no datagram is longer than a packer makes one
+abbrev pub AreShort : List (List ℕ) → Type 0
+AreShort datagrams = AllByRecursion (λ (datagram : List ℕ). length datagram ≤ datagram_size) datagrams
 
 -- the last turn is the first one above the count at whose end all is current, or there is none and
 -- it is 200 above the count
@@ -54,6 +55,7 @@ pub record EndsDemo (s : Setting) (now : Scene) (orders quantity : ℕ) : Type 0
   pub last : IsLast s now
   -- each datagram has the venue's messages, at their sequences
   pub pieces : (line : Line) → AllByRecursion (IsPiece (all_messages s) demo_unit) (line_in line now).sent
+  pub short : (line : Line) → AreShort (line_in line now).sent
   -- where the net carried what it was given, the numbers are those of the venue's book
   pub book : IsCarried now → AreTotalsOf (reached_book s now) orders quantity
 

@@ -5,6 +5,6 @@ use Rattle.net_edge.proofs.InMemory.{run_carried}
 use Rattle.net_edge.proofs.in_memory.carried_in_memory.Goals as goal
 
 pub returns : goal.returns
-returns c = λ s run before after are adds steps fits.
+returns c = λ s before after text text' demo are.
     let carries = subst (λ (calls : Option (List Call)). CarriesAll calls c.args.net.now.coming) are c.carries.ensures in
-    run_carried s run before steps fits (subst CameInOrder adds carries.1)
+    run_carried s demo.run before demo.steps demo.end.short (subst CameInOrder demo.calls carries.1)

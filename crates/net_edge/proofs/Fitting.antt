@@ -1,0 +1,176 @@
+-- No datagram that a demo sends is longer than a packer makes one.
+use Rattle.std.proofs.Common.{◌≡◌, ℕ, zero, suc, ◌+◌, ◌-◌, ◌≤◌, ◌++◌, Bool, true, false, ◌||◌, cond, eqb, List, [], ◌∷◌, length, drop, take, replicate, refl, arith, is_some, length-append}
+use Rattle.std.specs.List.{AllByRecursion, concat}
+use Rattle.pitch_fields.specs.Limits.{last_sequence}
+use Rattle.pitch_io.specs.declared.line.Line.{Line}
+use Rattle.pitch_io.specs.declared.line.Line.TheVariants.{A, B, Gap}
+use Rattle.pitch_io.specs.declared.net.LinkEnd.TheVariants.{GrpClient, GrpServer, SpinClient, SpinServer}
+use Rattle.pitch_io.specs.declared.net.NetTaken.TheVariants.{Got, Quiet, End, Failed}
+use Rattle.pitch_io.specs.Nets.{Begin, Send, Next, Put, Take}
+use Rattle.pitch_messages.specs.Raw.{IsRaw}
+use Rattle.pitch_messages.specs.declared.session.SessionMessage.{SessionMessage}
+use Rattle.pitch_messages.specs.declared.session.SessionMessage.TheVariants.{Login, LoginReply, GapRequest, GapReply, SpinAvailable, SpinRequest, SpinReply, SpinFinished}
+use Rattle.unit_packets.specs.Blocks.{Block}
+use Rattle.unit_packets.specs.BlockBytes.{block_bytes, header_bytes}
+use Rattle.unit_packets.specs.Lending.{header_for}
+use Rattle.unit_packets.specs.Packing.{datagram_size, fits_datagram, begun_datagrams, packed_on, packed, sequence_after}
+use Rattle.unit_packets.proofs.Packs.{fits_of, one_fits}
+use Rattle.pitch_model.specs.History.{Raw}
+use Rattle.gap_store.specs.Look.{View, slice_of}
+use Rattle.session_ends.specs.Answering.{Answer, answers, no_answer}
+use Rattle.session_ends.specs.Closing.{Setup, cause_of, closed_of, logged_in, logs_in}
+use Rattle.session_ends.specs.Events.{Event}
+use Rattle.session_ends.specs.Saying.{heard_by}
+use Rattle.session_ends.specs.Sending.{new_items}
+use Rattle.session_ends.specs.declared.inbox.Heard.{Heard}
+use Rattle.session_ends.specs.declared.role.Said.{Said}
+use Rattle.session_ends.specs.declared.role.Said.TheVariants.{Skipped, TooShort, Message}
+use Rattle.grp_session.specs.Asking.{datagrams_of}
+use Rattle.grp_session.specs.Budget.{Limits, Spent}
+use Rattle.grp_session.specs.Serving.{Source, message_answer, said_answer, grp_answer, proxy_answer}
+use Rattle.venue_core.specs.Losses.{is_lost}
+use Rattle.world_model.specs.Ends.{grp_server}
+use Rattle.net_edge.specs.Acting.{scene_after, scene_of, source_at}
+use Rattle.net_edge.specs.Demo.{all_messages, AreShort}
+use Rattle.net_edge.specs.Due.{Setting, demo_unit, accepted, messages, new_datagrams, copies, line_number, beat, beats, is_tenth, due, gap_view}
+use Rattle.net_edge.specs.Scene.{Scene}
+use Rattle.net_edge.specs.Steps.{Step, Did, Beat, Turn}
+use Rattle.net_edge.proofs.Feeding.{raws_at}
+
+short_append : (xs ys : List (List ℕ)) → AreShort xs → AreShort ys → AreShort (xs ++ ys)
+short_append [] ys a b = b
+short_append (x ∷ xs) ys a b = (a.0, short_append xs ys a.1 b)
+
+-- ---- What a packer makes
+block_long : (block : Block) → length (block_bytes block) ≡ 8 + length (concat block.raws)
+unfolding block_bytes
+block_long block = length-append (header_bytes (header_for block)) (concat block.raws)
+
+begun_short : (unit sequence : ℕ) (begun : List Raw) → 8 + length (concat begun) ≤ datagram_size → AreShort (begun_datagrams unit sequence begun)
+begun_short unit sequence [] fits = tt
+begun_short unit sequence (raw ∷ raws) fits = let long = block_long (record { unit = unit; sequence = sequence; raws = raw ∷ raws }) in (omega (arith, long, fits), tt)
+
+packed_short : (raws : List Raw) (unit sequence : ℕ) (begun : List Raw) → AllByRecursion IsRaw raws → 8 + length (concat begun) ≤ datagram_size → AreShort (packed_on unit sequence begun raws)
+unfolding packed_on
+packed_short [] unit sequence begun are fits = begun_short unit sequence begun fits
+packed_short (raw ∷ raws) unit sequence begun are fits = by (fits_datagram (begun ++ raw ∷ [])) refl (λ next held short. packed_short raws unit next held are.1 short)
+  where
+    by : (b : Bool) → fits_datagram (begun ++ raw ∷ []) ≡ b → ((next : ℕ) (held : List Raw) → 8 + length (concat held) ≤ datagram_size → AreShort (packed_on unit next held raws))
+        → AreShort (cond b (packed_on unit sequence (begun ++ raw ∷ []) raws) (begun_datagrams unit sequence begun ++ packed_on unit (sequence_after sequence (length begun)) (raw ∷ []) raws))
+    by true is rest = rest sequence (begun ++ raw ∷ []) (fits_of (begun ++ raw ∷ []) is).size
+    by false is rest =
+        short_append (begun_datagrams unit sequence begun) (packed_on unit (sequence_after sequence (length begun)) (raw ∷ []) raws) (begun_short unit sequence begun fits)
+        (rest (sequence_after sequence (length begun)) (raw ∷ []) (fits_of (raw ∷ []) (one_fits raw are.0)).size)
+
+raws_after : (n : ℕ) (raws : List Raw) → AllByRecursion IsRaw raws → AllByRecursion IsRaw (drop n raws)
+raws_after zero raws all = all
+raws_after (suc n) [] all = tt
+raws_after (suc n) (raw ∷ raws) all = raws_after n raws all.1
+
+raws_first : (n : ℕ) (raws : List Raw) → AllByRecursion IsRaw raws → AllByRecursion IsRaw (take n raws)
+raws_first zero raws all = tt
+raws_first (suc n) [] all = tt
+raws_first (suc n) (raw ∷ raws) all = (all.0, raws_first n raws all.1)
+
+-- ---- What the proxy sends
+abbrev AreRawsOf : View → Type 0
+AreRawsOf v = AllByRecursion IsRaw v.messages
+
+range_short : (status unit first count : ℕ) (v : View) → AreRawsOf v → AreShort (datagrams_of status unit v first count)
+range_short status unit first count v are = by (eqb status 65)
+  where
+    by : (b : Bool) → AreShort (cond b (packed unit first (slice_of v first count)) [])
+    by true = packed_short (slice_of v first count) unit first [] (raws_first count (drop (first - 1) v.messages) (raws_after (first - 1) v.messages are)) (omega arith)
+    by false = tt
+
+message_short : (s : Setup) (there : Bool) (l : Limits) (logged : Bool) (spent : Spent) (v : View) (m : SessionMessage) → AreRawsOf v → AreShort (message_answer s there l logged spent v m).lines
+message_short s there l logged spent v (Login sub user password) are = tt
+message_short s there l true spent v (GapRequest u first count) are = range_short _ s.unit first count v are
+message_short s there l false spent v (GapRequest u first count) are = tt
+message_short s there l logged spent v (LoginReply status) are = tt
+message_short s there l logged spent v (GapReply u first count status) are = tt
+message_short s there l logged spent v (SpinAvailable sequence) are = tt
+message_short s there l logged spent v (SpinRequest sequence) are = tt
+message_short s there l logged spent v (SpinReply sequence orders status) are = tt
+message_short s there l logged spent v (SpinFinished sequence) are = tt
+
+said_short : (s : Setup) (there : Bool) (l : Limits) (logged : Bool) (spent : Spent) (v : View) (said : Said) → AreRawsOf v → AreShort (said_answer s there l logged spent v said).lines
+said_short s there l logged spent v (Message m) are = message_short s there l logged spent v m are
+said_short s there l logged spent v Skipped are = tt
+said_short s there l logged spent v TooShort are = tt
+
+answers_short : (s : Setup) (there : Bool) (l : Limits) (logged : Bool) (spent : Spent) (views : List View) (items : List Heard) → AllByRecursion AreRawsOf views → AreShort (answers s (grp_answer s there l) logged spent views items).lines
+answers_short s there l logged spent [] items are = tt
+answers_short s there l logged spent (v ∷ views) [] are = tt
+answers_short s there l logged spent (v ∷ views) (item ∷ items) are =
+    let a : Answer Spent = grp_answer s there l logged spent v item in
+    short_append a.lines _ (said_short s there l logged spent v (heard_by s.role item) are.0) (by a (is_some (cause_of s logged item)) (answers_short s there l (logged || logs_in s.role item) a.knows views items are.1))
+  where
+    by : (a : Answer Spent) (b : Bool) → AreShort (answers s (grp_answer s there l) (logged || logs_in s.role item) a.knows views items).lines
+        → AreShort (cond b (no_answer a.knows) (answers s (grp_answer s there l) (logged || logs_in s.role item) a.knows views items)).lines
+    by a true rest = tt
+    by a false rest = rest
+
+proxy_short : (s : Setup) (es : List (Event Source)) (bytes : List ℕ) (source : Source) → AllByRecursion AreRawsOf source.views → AreShort (proxy_answer s es bytes source).lines
+proxy_short s es bytes source are = by (is_some (closed_of s es))
+  where
+    by : (b : Bool) → AreShort (cond b (no_answer source.spent) (answers s (grp_answer s source.there source.limits) (logged_in s.role es) source.spent source.views (new_items es bytes))).lines
+    by true = tt
+    by false = answers_short s source.there source.limits (logged_in s.role es) source.spent source.views (new_items es bytes) are
+
+views_raws : (n : ℕ) (v : View) → AreRawsOf v → AllByRecursion AreRawsOf (replicate n v)
+views_raws zero v are = tt
+views_raws (suc n) v are = (are, views_raws n v are)
+
+-- ---- Where the venue's messages are raws
+module _ (s : Setting) (raws : AllByRecursion IsRaw (all_messages s)) (few : length (all_messages s) ≤ last_sequence) where
+  turn_short : (line : Line) (turn : ℕ) → AreShort (copies s line turn ++ beats s turn)
+  turn_short line turn = short_append (copies s line turn) (beats s turn) (by (is_lost s.number demo_unit turn (line_number line))) (with_beat (is_tenth turn))
+    where
+      by : (b : Bool) → AreShort (cond b [] (new_datagrams s turn))
+      by true = tt
+      by false = packed_short (drop (accepted s (turn - 1)) (messages s turn)) demo_unit (accepted s (turn - 1) + 1) [] (raws_after (accepted s (turn - 1)) (messages s turn) (raws_at s raws few turn)) (omega arith)
+
+      with_beat : (b : Bool) → AreShort (cond b (beat s turn ∷ []) [])
+      with_beat true = let long = block_long (record { unit = demo_unit; sequence = accepted s turn + 1; raws = [] }) in (omega (arith, long), tt)
+      with_beat false = tt
+
+  pub due_short : (line : Line) (turn : ℕ) → AreShort (due s line turn)
+  due_short line zero = tt
+  due_short line (suc turn) = short_append (due s line turn) (copies s line (suc turn) ++ beats s (suc turn)) (due_short line turn) (turn_short line (suc turn))
+
+  -- a step adds short ones to what the proxy has for the gap line
+  replies_short : (step : Step) (n : Scene) → AreShort n.replayed → AreShort (scene_after s step n).replayed
+  replies_short (Did (Begin answer)) n p = p
+  replies_short (Did (Send A datagram answer)) n p = p
+  replies_short (Did (Send B datagram answer)) n p = p
+  replies_short (Did (Send Gap datagram answer)) n p = p
+  replies_short (Did (Next A room bytes answer)) n p = p
+  replies_short (Did (Next B room bytes answer)) n p = p
+  replies_short (Did (Next Gap room bytes answer)) n p = p
+  replies_short (Did (Put GrpClient piece answer)) n p = p
+  replies_short (Did (Put GrpServer piece answer)) n p = p
+  replies_short (Did (Put SpinClient piece answer)) n p = p
+  replies_short (Did (Put SpinServer piece answer)) n p = p
+  replies_short (Did (Take GrpServer room bytes (Got count))) n p =
+      let source : Source = source_at s bytes n in
+      short_append n.replayed (proxy_answer (grp_server demo_unit) n.grp.server bytes source).lines p
+      (proxy_short (grp_server demo_unit) n.grp.server bytes source (views_raws (length (new_items n.grp.server bytes)) (gap_view s n.turn) (raws_at s raws few n.turn)))
+  replies_short (Did (Take GrpServer room bytes Quiet)) n p = p
+  replies_short (Did (Take GrpServer room bytes End)) n p = p
+  replies_short (Did (Take GrpServer room bytes Failed)) n p = p
+  replies_short (Did (Take SpinServer room bytes answer)) n p = p
+  replies_short (Did (Take GrpClient room bytes (Got count))) n p = p
+  replies_short (Did (Take GrpClient room bytes Quiet)) n p = p
+  replies_short (Did (Take GrpClient room bytes End)) n p = p
+  replies_short (Did (Take GrpClient room bytes Failed)) n p = p
+  replies_short (Did (Take SpinClient room bytes (Got count))) n p = p
+  replies_short (Did (Take SpinClient room bytes Quiet)) n p = p
+  replies_short (Did (Take SpinClient room bytes End)) n p = p
+  replies_short (Did (Take SpinClient room bytes Failed)) n p = p
+  replies_short (Beat heartbeat answer) n p = p
+  replies_short Turn n p = p
+
+  pub replied_short : (run : List Step) → AreShort (scene_of s run).replayed
+  replied_short [] = tt
+  replied_short (step ∷ run) = replies_short step (scene_of s run) (replied_short run)
