@@ -313,7 +313,7 @@ fn have_nothing<J: Naming, R: Run>(alloc: Global, servers: &mut Vec<Server<J, R>
     }
 }
 
-// What two servers answer of three commands, told of them or not.
+// What two servers answer of three commands and their image, told of them or not.
 fn three_are_right<J: Naming, R: Run, H: Wait + Drop>(
     alloc: Global,
     writer: &mut Writer<J, R, H>,
@@ -325,17 +325,19 @@ fn three_are_right<J: Naming, R: Run, H: Wait + Drop>(
 {
     accept_plan(writer, 3)?;
     let untold = sees_three(alloc, one) && sees_three(alloc, two);
-    let told = hears(writer, one, 3) && hands_out(alloc, one, 1, FIRST)?;
-    Ok(untold && told)
+    let advertised = writer.advertise()? == 3;
+    // still nothing was told
+    let newest = one.has_image(3) && two.available() == Some(3);
+    let told = hears(writer, one, 4) && hands_out(alloc, one, 1, FIRST)?;
+    Ok(untold && advertised && newest && told)
 }
 
-// Whether a server that was told nothing sees three commands: no clause says so, but what is
-// published is seen.
+// Whether a server that was told nothing sees three commands.
 fn sees_three<J: Naming, R: Run>(alloc: Global, server: &mut Server<J, R>) -> bool {
     answers_first(alloc, server) && server.seen() == 3
 }
 
-// Whether a server has no memory for an answer, and no image.
+// Whether a server has no memory for an answer, and names the image that it saw last.
 fn has_nothing<J: Naming, R: Run>(alloc: Global, server: &mut Server<J, R>) -> bool {
-    hands_out(alloc, server, 1, FIRST).is_err() && server.available().is_none()
+    hands_out(alloc, server, 1, FIRST).is_err() && server.available() == Some(3)
 }

@@ -1,7 +1,7 @@
 -- What a copy keeps after an operation more.
-use Rattle.std.proofs.Common.{◌≡◌, ℕ, zero, suc, ◌+◌, ◌-◌, ◌≤◌, ◌⊎◌, List, [], ◌∷◌, ◌++◌, length, drop, map, ap, sym, ◌∙◌, subst, ⊎_elim, arith, length-append, true, false, nat_eq, Option, Some, None, IfSome}
+use Rattle.std.proofs.Common.{◌≡◌, ℕ, zero, suc, ◌+◌, ◌-◌, ◌==◌, ◌≤◌, ◌⊎◌, List, [], ◌∷◌, ◌++◌, length, drop, map, ap, sym, ◌∙◌, subst, ⊎_elim, arith, length-append, true, false, nat_eq, Option, Some, None, IfSome}
 use Rattle.std.proofs.lemmas.List.{append-nil, map-append, length-map, drop-append-le, drop-drop, length-drop, take-append-le, drop-map}
-use Rattle.std.proofs.lemmas.Bool.{cond-true, cond-false}
+use Rattle.std.proofs.lemmas.Bool.{cond-true, cond-false, ne_eqb}
 use Rattle.std.specs.List.{AllByRecursion}
 use Rattle.std.specs.Set.{is_member}
 use mathlib.Core.List.{IsPrefix}
@@ -18,7 +18,7 @@ use Rattle.shared_unit.specs.declared.published.Shelves.{Shelves}
 use Rattle.shared_unit.specs.declared.published.What.{What}
 use Rattle.shared_unit.specs.declared.published.What.TheVariants as what
 use Rattle.shared_unit.specs.Histories.{kept_at, then_done}
-use Rattle.shared_unit.specs.Stored.{IsPicture, SamePicture, EndsWith, ComesAfter, HasRoomFor, StandFor, IsTakenIn, operation_of, sequence_of, served_with, raws_in}
+use Rattle.shared_unit.specs.Stored.{IsPicture, SamePicture, EndsWith, ComesAfter, EndsOrIsNothing, HasRoomFor, StandFor, IsTakenIn, grown_by, operation_of, sequence_of, served_with, raws_in}
 use Rattle.shared_unit.proofs.Fronts.{prefix_shorter, prefix_whole, prefix_length}
 
 -- ---- The last of a list
@@ -164,6 +164,13 @@ has_room (what.Message raw) kept shelves h o store ends len p =
     omega (arith, pushed, more, few)
 has_room (what.Image picture) kept shelves h o store ends len p = tt
 has_room what.Again kept shelves h o store ends len p = tt
+
+-- where nothing is published the history stays
+pub grown_none : (h o : List Operation) → o ≡ [] → grown_by h o ≡ h
+grown_none h o none = subst (λ (l : List Operation). grown_by h l ≡ h) (sym none) (cond-false (0 == length h + 1) _ _ (ne_eqb 0 (length h + 1) (omega arith)))
+
+pub grown_nothing : (published : Option What) (h o : List Operation) → EndsOrIsNothing published o → published ≡ None → grown_by h o ≡ h
+grown_nothing published h o ends none = grown_none h o (subst (λ (p : Option What). EndsOrIsNothing p o) none ends)
 
 -- of the two histories it is the longer one
 pub grown_whole : (h o res : List Operation) → length o ≡ length h + 1 → (res ≡ h) ⊎ (res ≡ o) → IsPrefix o res → res ≡ o

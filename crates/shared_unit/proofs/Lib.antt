@@ -1,6 +1,6 @@
-pub mod Adding
 pub mod Copying
 pub mod Fronts
 pub mod Growing
 pub mod Looking
+pub mod Steps
 pub mod Writing

@@ -1,8 +1,8 @@
 -- A server's look-ups are those of a view which is no earlier.
-use Rattle.std.proofs.Common.{◌≡◌, ℕ, ◌==◌, Bool, true, false, cond, List, [], ◌∷◌, ◌++◌, length, refl, sym, ap, ◌∙◌, subst, append_assoc, Option, nat_eq}
+use Rattle.std.proofs.Common.{◌≡◌, ℕ, zero, suc, ◌==◌, ◌≤◌, arith, IfSome, slice_get, Bool, true, false, cond, List, [], ◌∷◌, ◌++◌, length, refl, sym, ap, ◌∙◌, subst, append_assoc, Option, nat_eq}
 use Rattle.std.proofs.lemmas.List.{append-nil}
 use Rattle.std.proofs.lemmas.Grind.{flat_map-append}
-use Rattle.std.specs.List.{list_any}
+use Rattle.std.specs.List.{AllByRecursion, list_any}
 use Rattle.std.specs.Set.{is_member}
 use mathlib.Core.List.{IsPrefix}
 use Rattle.gap_store.specs.Look.{View, IsLater, LooksAt, FindsAt, PacksAt, AnswersLook, AnswersPack, look}
@@ -13,6 +13,7 @@ use Rattle.spin_server.specs.Served.{Served, ServedLater, SeesNewest, SeesServed
 use Rattle.spin_server.specs.declared.lookup.Imaged.{Imaged}
 use Rattle.shared_unit.specs.Answers.{AnswersImage}
 use Rattle.shared_unit.specs.Histories.{kept_at, served_at, then_done}
+use Rattle.shared_unit.specs.Moments.{Moment, Answering, Sight, HappensAfter, IsNewest, AreNumbered, history_in}
 
 -- ---- What is seen later
 accepted_later : (h r o : List Operation) → h ++ r ≡ o → accepted_by o ≡ accepted_by h ++ accepted_by r
@@ -73,3 +74,29 @@ module _ (h o : List Operation) (v : Served) (p : IsPrefix h o) (is : v ≡ serv
 
   pub image_at : (sequence : ℕ) (imaged : Imaged) (before after : List (List ℕ)) → AnswersImage (served_at o) sequence imaged before after → LooksUpImage (λ w. w ≡ served_at o) v sequence imaged before after
   image_at sequence imaged before after answers = record { now = served_at o; later = seen_later; shows = refl; answer_is = answers.answer_is; given = answers.given }
+
+-- ---- The newest
+pub newest_is : (server : ℕ) (seen begun now : List Moment) (published : ℕ) (history : List Operation) → HappensAfter (Answering server) seen begun published → IsPrefix begun now → published ≤ length history → IsPrefix history (history_in now)
+    → IsNewest server seen now history
+newest_is server seen begun now published history happens later enough done = record {
+  between = happens.between;
+  begun = subst (λ (l : List Moment). IsPrefix l now) happens.now_is later;
+  newest = omega (arith, happens.published_is, enough);
+  done = done;
+}
+
+-- ---- Lists of servers
+pub all_more : {X : Type 0} (P : X → Type 0) (xs : List X) (x : X) → AllByRecursion P xs → P x → AllByRecursion P (xs ++ x ∷ [])
+all_more P [] x all is = (is, tt)
+all_more P (y ∷ ys) x all is = (all.0, all_more P ys x all.1 is)
+
+numbered_by : (f : ℕ → ℕ) (servers : List Sight) (server : Sight) → ((place : ℕ) → IfSome (slice_get servers place) (λ s. s.number ≡ f place)) → server.number ≡ f (length servers)
+    → (place : ℕ) → IfSome (slice_get (servers ++ server ∷ []) place) (λ s. s.number ≡ f place)
+numbered_by f [] server all is zero = is
+numbered_by f [] server all is (suc place) = tt
+numbered_by f (x ∷ xs) server all is zero = all zero
+numbered_by f (x ∷ xs) server all is (suc place) = numbered_by (λ p. f (suc p)) xs server (λ p. all (suc p)) is place
+
+-- one server more, whose number is its place
+pub numbered_more : (servers : List Sight) (server : Sight) → AreNumbered servers → server.number ≡ length servers → AreNumbered (servers ++ server ∷ [])
+numbered_more servers server all is = numbered_by (λ p. p) servers server all is

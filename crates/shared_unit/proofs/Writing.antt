@@ -38,6 +38,10 @@ accepted_next h raw = sym (accepted_more h (Accept raw))
 pub sequences_left : (h : List Operation) (raw : List ℕ) → length (accepted_by h) < 4294967294 → HasSequences (then_done h (Accept raw))
 sequences_left h raw left = omega (arith, left, ap (λ (l : List (List ℕ)). length l) (accepted_more h (Accept raw)), length-append (accepted_by h) (raw ∷ []))
 
+-- ---- Publishing
+pub done_length : (h : List Operation) (operation : Operation) → length (then_done h operation) ≡ length h + 1
+done_length h operation = length-append h (operation ∷ [])
+
 -- ---- Advertising
 pub accepted_same : (h : List Operation) → accepted_by (then_done h Advertise) ≡ accepted_by h
 accepted_same h = accepted_more h Advertise ∙ append-nil (accepted_by h)

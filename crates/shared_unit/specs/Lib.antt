@@ -1,5 +1,6 @@
 pub mod Answers
 pub mod Coding
 pub mod Histories
+pub mod Moments
 pub mod Rules
 pub mod Stored

@@ -1,5 +1,5 @@
 -- What is published: the last messages, and the images of the last ten sequences that were advertised.
-use Rattle.std.specs.Prelude.{◌≡◌, ℕ, ◌+◌, ◌==◌, ◌<◌, ◌≤◌, false, true, List, [], ◌∷◌, ◌++◌, length, map, Option, Some, IfSome, nat_eq, if◌then◌else◌}
+use Rattle.std.specs.Prelude.{◌≡◌, ℕ, ◌+◌, ◌==◌, ◌<◌, ◌≤◌, false, true, List, [], ◌∷◌, ◌++◌, length, map, Option, None, Some, IfSome, nat_eq, if◌then◌else◌}
 use Rattle.std.specs.List.{AllByRecursion}
 use Rattle.std.specs.Option.{option_map}
 use Rattle.std.specs.Set.{is_member}
@@ -68,6 +68,11 @@ pub record EndsWith (published : What) (history : List Operation) : Type 0 where
   pub is : then_done before (operation_of published) ≡ history
   pub follows : ComesAfter published before
   pub few : HasSequences history
+
+-- the history ends with what is published; where that is nothing, there is no history
+abbrev pub EndsOrIsNothing : Option What → List Operation → Type 0
+EndsOrIsNothing None history = history ≡ []
+EndsOrIsNothing (Some published) history = EndsWith published history
 
 -- ---- What a copy keeps
 -- nothing was accepted or advertised

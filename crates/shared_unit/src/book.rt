@@ -1,9 +1,11 @@
-//! The history, which is known to proofs alone: what threads share of it is its length.
+//! All that happens, which is known to proofs alone: what threads share of it is how many operations
+//! were done, and how many of them were published.
 ghost use Rattle.std.specs.Prelude.{◌≡◌, ◌+◌, ◌==◌, ◌<◌, ◌≤◌, ◌^◌, ◌++◌, ◌∷◌, ◌⊎◌, [], length, MatchBool, IfOk, IfSome};
 ghost use mathlib.Core.List.{IsPrefix};
 ghost use Rattle.pitch_fields.specs.Limits.{most_held};
 ghost use Rattle.shared_unit.specs.Histories.{IsLegal, then_done};
-ghost use Rattle.shared_unit.specs.Rules.{length_word};
+ghost use Rattle.shared_unit.specs.Moments.{Answering, HappensAfter, history_in, published_in};
+ghost use Rattle.shared_unit.specs.Rules.{length_word, published_word};
 ghost use Rattle.shared_unit.specs.Stored.{AreBlank, operation_of};
 
 use crate::published::{Shelves, What};
@@ -14,24 +16,26 @@ use pitch_messages::Raw;
 use std::alloc::Global;
 use std::marker::{Model, PhantomData};
 
-/// An operation of the history, as proofs see it. No value of it is made.
+/// What happens at one moment, as proofs see it. No value of it is made.
 #[derive(Drop)]
 pub struct Entry {
-    raw: Option<Raw>,
+    operation: Option<Option<Raw>>,
+    server: Option<u64>,
 }
 
 impl Model for Entry {
-    ghost use Rattle.pitch_model.specs.Advertising.{Operation};
-    ghost use Rattle.shared_unit.specs.Coding.{operation_code, operation_from};
+    ghost use Rattle.shared_unit.specs.Coding.{moment_code, moment_from};
+    ghost use Rattle.shared_unit.specs.Moments.{Moment};
 
-    ghost Value = { Operation };
+    ghost Value = { Moment };
 
-    ghost coded = { operation_code };
+    ghost coded = { moment_code };
 
-    ghost view = { λ e. operation_from e.raw };
+    ghost view = { λ e. moment_from e.operation e.server };
 }
 
-/// The rule of the history: it is as long as the shared word says, and legal for its run.
+/// The rule of what happens: the history is as long as the first shared word says, and legal for its
+/// run; so many of its operations were published as the second says.
 pub struct Law<R: Run> {
     of: PhantomData<R>,
 }
@@ -74,14 +78,52 @@ impl<R: Run> Play<Entry, u64> for Add<R> {
     ghost then = { AddsOperation R.fixed R.plan };
 }
 
-// It asks for the operation that is published.
+// It asks for the operation that is to be published.
 impl<R: Run> Plain<What, Entry, u64> for Add<R> {
     ghost use Rattle.std.specs.Prelude.{None};
+    ghost use Rattle.shared_unit.specs.Moments.{Doing};
     ghost use Rattle.shared_unit.specs.Stored.{operation_of};
 
-    ghost ask = { λ what. operation_of what };
+    ghost ask = { λ what. Doing (operation_of what) };
 
     ghost state = { λ what. None };
+}
+
+// A step that says that one operation more was published.
+pub(crate) struct Publish;
+
+impl Play<Entry, u64> for Publish {
+    ghost use Rattle.shared_unit.specs.Rules.{PublishesNext};
+
+    ghost then = { PublishesNext };
+}
+
+impl Plain<u64, Entry, u64> for Publish {
+    ghost use Rattle.std.specs.Prelude.{None};
+    ghost use Rattle.shared_unit.specs.Moments.{Publishing};
+
+    ghost ask = { λ number. Publishing };
+
+    ghost state = { λ number. None };
+}
+
+// A step that begins an answer.
+pub(crate) struct Begin;
+
+impl Play<Entry, u64> for Begin {
+    ghost use Rattle.shared_unit.specs.Rules.{BeginsAnswer};
+
+    ghost then = { BeginsAnswer };
+}
+
+// It asks for the answer of the server with this number.
+impl Plain<u64, Entry, u64> for Begin {
+    ghost use Rattle.std.specs.Prelude.{None};
+    ghost use Rattle.shared_unit.specs.Moments.{Answering};
+
+    ghost ask = { λ server. Answering server };
+
+    ghost state = { λ server. None };
 }
 
 /// A pair of copies with the empty history, for a unit, a number of messages that are kept and a
@@ -90,6 +132,7 @@ impl<R: Run> Plain<What, Entry, u64> for Add<R> {
 #[derive(Drop)]
 pub struct Opened<R: Run> {
     head: Word<Entry, u64, Law<R>>,
+    published: Word<Entry, u64, Law<R>>,
     pub seen: Seen<Entry, u64, Law<R>>,
     pub unit: u8,
     pub kept: u32,
@@ -98,6 +141,7 @@ pub struct Opened<R: Run> {
     second: Shelves,
     pub ghost empty: { seen.log ≡ [] },
     pub ghost head_is: { head ≡ length_word seen.book },
+    pub ghost published_is: { published ≡ published_word seen.book },
     pub ghost some: { (0 < servers) × (servers < 256) },
     pub ghost blank: { AreBlank kept first },
     pub ghost other_blank: { AreBlank kept second },
@@ -116,9 +160,10 @@ impl<R: Run> Opened<R> {
     {
         let first = Shelves::make(alloc, kept)?;
         let second = Shelves::make(alloc, kept)?;
-        let (seen, mut pen, _other) = Seen::open(Start::alone(), 0, 0);
+        let (seen, mut pen, mut other) = Seen::open(Start::alone(), 0, 0);
         Ok(Opened {
             head: Word::tracked(0, &mut pen),
+            published: Word::tracked(0, &mut other),
             seen,
             unit,
             kept,
@@ -128,17 +173,19 @@ impl<R: Run> Opened<R> {
         })
     }
 
-    // The word of the history under its name, the front that has seen nothing, and what the two
-    // copies keep.
+    // The words that are shared under their name, the front and the eye that have seen nothing, and
+    // what the two copies keep.
     #[tactic(auto, using(crate::proofs::Fronts::prefix_empty))]
     pub(crate) fn named<J: Naming>(self) -> Named<J, R>
         requires { self.seen.book ≡ J.book }
         ensures front { result.front ≡ [] }
+        ensures eye { result.eye ≡ [] }
         ensures first { AreBlank self.kept result.first }
         ensures second { AreBlank self.kept result.second }
     {
         let Opened {
             head,
+            published,
             seen,
             unit: _,
             kept: _,
@@ -149,6 +196,11 @@ impl<R: Run> Opened<R> {
         Named {
             book: Book {
                 head,
+                published,
+                of: PhantomData,
+            },
+            eye: Eye {
+                seen: seen.again(),
                 of: PhantomData,
             },
             front: Front {
@@ -166,17 +218,21 @@ impl<R: Run> Opened<R> {
 #[derive(Drop)]
 pub(crate) struct Named<J: Naming, R: Run> {
     pub(crate) book: Book<J, R>,
+    pub(crate) eye: Eye<J, R>,
     pub(crate) front: Front<J, R>,
     pub(crate) first: Shelves,
     pub(crate) second: Shelves,
 }
 
-// The word that all threads share: the length of the history.
+// The words that all threads share: the length of the history, and how many of its operations were
+// published.
 #[derive(Drop)]
 pub(crate) struct Book<J: Naming, R: Run> {
     head: Word<Entry, u64, Law<R>>,
+    published: Word<Entry, u64, Law<R>>,
     of: PhantomData<J>,
     ghost head_is: { head ≡ length_word J.book },
+    ghost published_is: { published ≡ published_word J.book },
 }
 
 // A beginning of the history that was seen. Contracts see it as that list.
@@ -192,14 +248,15 @@ impl<J: Naming, R: Run> Model for Front<J, R> {
     ghost use Rattle.pitch_model.specs.Advertising.{Operation};
     ghost use Rattle.shared_unit.specs.Coding.{history_code};
     ghost use Rattle.shared_unit.specs.Histories.{IsLegal};
+    ghost use Rattle.shared_unit.specs.Moments.{history_in};
 
     ghost Value = { List Operation };
 
     ghost coded = { history_code };
 
-    ghost view = { λ f. f.seen.log };
+    ghost view = { λ f. history_in f.seen.log };
 
-    ghost invariant = { λ f. (f.count ≡ length f.seen.log) × (f.seen.book ≡ J.book) × IsLegal R.fixed R.plan f.seen.log };
+    ghost invariant = { λ f. (f.count ≡ length (history_in f.seen.log)) × (f.seen.book ≡ J.book) × IsLegal R.fixed R.plan (history_in f.seen.log) };
 }
 
 impl<J: Naming, R: Run> Front<J, R> {
@@ -257,5 +314,88 @@ impl<J: Naming, R: Run> Front<J, R> {
             seen,
             of: PhantomData,
         })
+    }
+}
+
+// All that an end has seen happen. Contracts see that list.
+#[derive(Drop)]
+pub(crate) struct Eye<J: Naming, R: Run> {
+    seen: Seen<Entry, u64, Law<R>>,
+    of: PhantomData<J>,
+}
+
+impl<J: Naming, R: Run> Model for Eye<J, R> {
+    ghost use Rattle.std.specs.Prelude.{◌≡◌, List};
+    ghost use Rattle.shared_unit.specs.Coding.{moments_code};
+    ghost use Rattle.shared_unit.specs.Moments.{Moment};
+
+    ghost Value = { List Moment };
+
+    ghost coded = { moments_code };
+
+    ghost view = { λ e. e.seen.log };
+
+    ghost invariant = { λ e. e.seen.book ≡ J.book };
+}
+
+impl<J: Naming, R: Run> Eye<J, R> {
+    // A copy.
+    pub(crate) fn again(&self) -> Eye<J, R>
+        ensures { result ≡ self.now }
+    {
+        Eye {
+            seen: self.seen.again(),
+            of: PhantomData,
+        }
+    }
+
+    // Has seen afterwards what both had seen.
+    pub(crate) fn learn(&mut self, other: &Eye<J, R>)
+        ensures this { IsPrefix self.old self.new }
+        ensures that { IsPrefix other.now self.new }
+    {
+        self.seen.learn(&other.seen);
+    }
+
+    // Has seen afterwards that the operations of this history were done.
+    pub(crate) fn learn_done(&mut self, front: &Front<J, R>)
+        ensures this { IsPrefix self.old self.new }
+        ensures that { IsPrefix front.now (history_in self.new) }
+    {
+        self.seen.learn(&front.seen);
+    }
+
+    // Says that the last operation of a history was published, and has seen that.
+    pub(crate) fn publish(&mut self, book: &Book<J, R>, front: &Front<J, R>)
+        requires some { 0 < length front.now }
+        requires before { length front.now ≤ published_in self.old + 1 }
+        ensures { length front.now ≤ published_in self.new }
+    {
+        self.seen.learn(&front.seen);
+        let mut offer: Offer<Entry, u64, Law<R>, Nothing> = self
+            .seen
+            .plain::<Nothing, u64, Publish>(&front.count);
+        let mut pen = self.seen.no_pen();
+        let before = front.count - 1;
+        book.published
+            .compare_exchange::<Publish, Nothing>(
+                before,
+                before + 1,
+                &mut self.seen,
+                &mut offer,
+                &mut pen,
+            );
+    }
+
+    // Begins an answer of the server with this number, and tells how many operations were published
+    // by then.
+    pub(crate) fn begin(&mut self, book: &Book<J, R>, server: u64) -> u64
+        ensures { HappensAfter (Answering server) self.old self.new result }
+    {
+        let mut offer: Offer<Entry, u64, Law<R>, Nothing> = self
+            .seen
+            .plain::<Nothing, u64, Begin>(&server);
+        book.published
+            .load::<Begin, Nothing>(&mut self.seen, &mut offer)
     }
 }

@@ -2,33 +2,39 @@
 ghost use Rattle.std.specs.Prelude.{◌≡◌, ◌<◌, ◌^◌, [], length, IfOk, MatchResult};
 ghost use mathlib.Core.List.{IsPrefix};
 ghost use Rattle.shared_unit.specs.Histories.{IsLegal, then_done};
+ghost use Rattle.shared_unit.specs.Moments.{IsNew, IsPublished};
 ghost use Rattle.shared_unit.specs.Stored.{AreBlank, ComesAfter, HasSequences, operation_of};
 
-use crate::book::{Book, Opened};
+use crate::book::{Book, Eye, Opened};
 use crate::holder::Holder;
 use crate::past::Past;
 use crate::published::What;
 use crate::run::{Naming, Run};
+use crate::server::Server;
 use crate::store::{Published, Store};
-use left_right::ReadHandle;
+use crate::told::Told;
 use pitch_fields::OutOfMemory;
 use std::alloc::Global;
 use std::marker::Model;
-use std::sync::Wait;
+use std::sync::{Arc, Wait};
 
-// The pair of copies, the history's word and what is known of it. Contracts see the history.
+// The pair of copies, the words that are shared and what is known of them. Contracts see the history.
 #[derive(Drop)]
 pub(crate) struct Desk<J: Naming, R: Run, W: Wait + Drop> {
     holder: Holder<Store<J, R>, Published<J, R>, W>,
-    book: Book<J, R>,
+    book: Arc<Book<J, R>>,
     past: Past<J, R>,
+    eye: Eye<J, R>,
+    // what a new server knows
     none: Past<J, R>,
+    shut: Eye<J, R>,
 }
 
 impl<J: Naming, R: Run, W: Wait + Drop> Model for Desk<J, R, W> {
-    ghost use Rattle.std.specs.Prelude.{◌≡◌, List, []};
+    ghost use Rattle.std.specs.Prelude.{◌≡◌, ◌≤◌, List, [], length};
     ghost use Rattle.pitch_model.specs.Advertising.{Operation};
     ghost use Rattle.shared_unit.specs.Coding.{history_code};
+    ghost use Rattle.shared_unit.specs.Moments.{published_in};
 
     ghost Value = { List Operation };
 
@@ -36,11 +42,12 @@ impl<J: Naming, R: Run, W: Wait + Drop> Model for Desk<J, R, W> {
 
     ghost view = { λ d. d.past };
 
-    ghost invariant = { λ d. (d.holder.0 ≡ d.past) × (d.holder.1 ≡ []) × (d.none ≡ []) };
+    ghost invariant = { λ d. (d.holder.0 ≡ d.past) × (d.holder.1 ≡ []) × (d.none ≡ []) × (d.shut ≡ []) × (length d.past ≤ published_in d.eye) };
 }
 
 impl<J: Naming, R: Run, W: Wait + Drop> Desk<J, R, W> {
     // The pair that was opened, under its name.
+    #[tactic(auto, using(crate::proofs::Growing::grown_none))]
     pub(crate) fn open(
         alloc: Global,
         rt: W,
@@ -55,11 +62,18 @@ impl<J: Naming, R: Run, W: Wait + Drop> Desk<J, R, W> {
         let none = Past::none(named.front);
         let first = Store::new(named.first, none.again());
         let second = Store::new(named.second, none.again());
+        let mut holder = Holder::new(alloc, rt, first, second, servers)?;
+        // The pair keeps at most two operations for the other copy. Room for them is taken here, so
+        // that no later one wants memory.
+        holder.push(Published::nothing(none.again()))?;
+        holder.push(Published::nothing(none.again()))?;
         Ok(Desk {
-            holder: Holder::new(alloc, rt, first, second, servers)?,
-            book: named.book,
+            holder,
+            book: Arc::new(alloc, named.book)?,
             past: none.again(),
+            eye: named.eye.again(),
             none,
+            shut: named.eye,
         })
     }
 
@@ -70,15 +84,17 @@ impl<J: Naming, R: Run, W: Wait + Drop> Desk<J, R, W> {
         &self.past
     }
 
-    // The history with nothing done.
-    pub(crate) fn none(&self) -> Past<J, R>
-        ensures { result ≡ [] }
+    // What stands for the history, which was published.
+    pub(crate) fn told(&self) -> Told<J, R>
+        ensures history { result.history ≡ self.now }
+        ensures published { IsPublished result }
     {
-        self.none.again()
+        Told::new(self.past.again(), self.eye.again())
     }
 
     // Adds an operation to the history and publishes it. The history is as before after
     // OutOfMemory.
+    #[tactic(auto, using(crate::proofs::Writing::done_length))]
     pub(crate) fn publish(&mut self, what: What) -> Result<(), OutOfMemory>
         requires room { length self.old < 2 ^ 63 }
         requires legal { IsLegal R.fixed R.plan (then_done self.old (operation_of what)) }
@@ -86,7 +102,7 @@ impl<J: Naming, R: Run, W: Wait + Drop> Desk<J, R, W> {
         requires few { HasSequences (then_done self.old (operation_of what)) }
         ensures { MatchResult result (λ _. self.new ≡ then_done self.old (operation_of what)) (λ _. self.new ≡ self.old) }
     {
-        let Some(past) = self.past.extended(&self.book, &what) else {
+        let Some(past) = self.past.extended(&*self.book, &what) else {
             return Err(OutOfMemory);
         };
         let published = Published::new(what, past.again());
@@ -94,13 +110,18 @@ impl<J: Naming, R: Run, W: Wait + Drop> Desk<J, R, W> {
             Ok(()) => {}
             Err(_) => return Err(OutOfMemory),
         }
+        self.eye.publish(&*self.book, past.front());
         self.past = past;
         Ok(())
     }
 
-    // A place for a server.
-    pub(crate) fn place(&self) -> Result<ReadHandle<Store<J, R>>, OutOfMemory> {
-        Ok(self.holder.place()?)
+    // One more server, which has seen nothing.
+    pub(crate) fn place(&self) -> Result<Server<J, R>, OutOfMemory>
+        ensures { IfOk result IsNew }
+    {
+        let inner = self.holder.place()?;
+        let book = Arc::try_clone(&self.book)?;
+        Ok(Server::new(inner, book, self.none.again(), self.shut.again()))
     }
 
     // Ends publishing. Servers go on.
@@ -109,7 +130,9 @@ impl<J: Naming, R: Run, W: Wait + Drop> Desk<J, R, W> {
             holder,
             book: _,
             past: _,
+            eye: _,
             none: _,
+            shut: _,
         } = self;
         holder.keep();
     }

@@ -46,6 +46,13 @@ impl<J: Naming, R: Run> Past<J, R> {
         }
     }
 
+    // The beginning alone.
+    pub(crate) fn front(&self) -> &Front<J, R>
+        ensures { result.now ≡ self.now }
+    {
+        &self.front
+    }
+
     // How many operations it has.
     pub(crate) fn len(&self) -> u64
         ensures length { result ≡ length self.now }

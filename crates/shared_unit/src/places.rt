@@ -1,7 +1,8 @@
 //! Where the places of servers come from.
-ghost use Rattle.std.specs.Prelude.{◌≡◌, ◌≤◌, ℕ, [], IfOk, IfErr, length};
+ghost use Rattle.std.specs.Prelude.{◌≡◌, ◌≤◌, ℕ, [], IfOk, IfErr, OnOk, length};
 ghost use Rattle.std.specs.List.{AllByRecursion};
 ghost use Rattle.pitch_io.specs.Causes.{Rose};
+ghost use Rattle.shared_unit.specs.Moments.{IsNew, AreNumbered};
 ghost use Rattle.shared_unit.specs.declared.places.MakeError.TheVariants.{NoPlace};
 
 use crate::book::Opened;
@@ -65,7 +66,7 @@ pub trait Places<J: Naming, R: Run, W: Wait + Drop> {
     /// One more server of that writer, which has seen nothing. There is no place for more servers at
     /// a time than the pair was opened for.
     fn place(&mut self, writer: &mut Writer<J, R, W>) -> Result<Server<J, R>, MakeError>
-        ensures nothing { IfOk result (λ server. server ≡ []) }
+        ensures nothing { IfOk result IsNew }
         ensures same { writer.new ≡ writer.old }
         ensures later { refusals self.old ≤ refusals self.new }
         // No place comes only where the count rose in this call.
@@ -113,6 +114,32 @@ impl<J: Naming, R: Run, W: Wait + Drop> Places<J, R, W> for LeftRightPlaces {
     }
 }
 
+// Places of a writer for so many servers, which have seen nothing. The number of each is its place.
+#[tactic(auto, using(crate::proofs::Looking::numbered_more))]
+fn place_all<J: Naming, R: Run, W: Wait + Drop, P: Places<J, R, W>>(
+    places: &mut P,
+    writer: &mut Writer<J, R, W>,
+    count: u8,
+    servers: &mut Vec<Server<J, R>>,
+) -> Result<(), MakeError>
+    requires { servers.old.items ≡ [] }
+    ensures same { writer.new ≡ writer.old }
+    ensures servers { OnOk result (AllByRecursion IsNew servers.new.items) }
+    ensures numbers { OnOk result (AreNumbered servers.new.items) }
+    ensures count { OnOk result (length servers.new.items ≡ count) }
+    ensures later { P.refusals places.old ≤ P.refusals places.new }
+    ensures cause { IfErr result (λ error. error ≡ NoPlace → Rose (P.refusals places.old) (P.refusals places.new)) }
+{
+    'servers: for number in 0..count {
+        let server = places.place(writer)?;
+        match servers.push(server.numbered(u64::from(number))) {
+            Ok(()) => {}
+            Err(_) => return Err(MakeError::OutOfMemory),
+        }
+    }
+    Ok(())
+}
+
 /// The writer and as many servers as the pair was opened for, with the empty history. The error is
 /// that of `places`, or OutOfMemory; nothing is handed back then.
 pub fn make<J: Naming, R: Run, W: Wait + Drop, P: Places<J, R, W>>(
@@ -125,7 +152,9 @@ pub fn make<J: Naming, R: Run, W: Wait + Drop, P: Places<J, R, W>>(
     requires book { opened.seen.book ≡ J.book }
     requires kept { opened.kept ≡ J.kept }
     ensures writer { IfOk result (λ made. made.0 ≡ []) }
-    ensures servers { IfOk result (λ made. AllByRecursion (λ server. server ≡ []) made.1.items) }
+    ensures servers { IfOk result (λ made. AllByRecursion IsNew made.1.items) }
+    // The number of each is its place.
+    ensures numbers { IfOk result (λ made. AreNumbered made.1.items) }
     ensures count { IfOk result (λ made. length made.1.items ≡ opened.servers) }
     ensures later { P.refusals places.old ≤ P.refusals places.new }
     // No place comes only where the count of the places rose in this call.
@@ -135,12 +164,12 @@ pub fn make<J: Naming, R: Run, W: Wait + Drop, P: Places<J, R, W>>(
     let mut servers = Vec::new(alloc);
     let desk = Desk::open(alloc, rt, opened)?;
     let mut writer = Writer::new(alloc, desk, unit);
-    'servers: for _ in 0..count {
-        let server = places.place(&mut writer)?;
-        match servers.push(server) {
-            Ok(()) => {}
-            Err(_) => return Err(MakeError::OutOfMemory),
+    match place_all(places, &mut writer, count, &mut servers) {
+        Ok(()) => Ok((writer, servers)),
+        Err(error) => {
+            drop(writer);
+            drop(servers);
+            Err(error)
         }
     }
-    Ok((writer, servers))
 }

@@ -1,5 +1,5 @@
 //! A server.
-ghost use Rattle.std.specs.Prelude.{◌≡◌, ◌+◌, ◌==◌, ◌≤◌, ◌⊎◌, length, IfOk, OnOk, OnErr};
+ghost use Rattle.std.specs.Prelude.{◌≡◌, ◌+◌, ◌==◌, ◌≤◌, ◌⊎◌, [], false, length, IfOk, OnOk, OnErr};
 ghost use mathlib.Core.List.{IsPrefix};
 ghost use Rattle.std.specs.List.{list_any};
 ghost use Rattle.pitch_fields.specs.Limits.{last_sequence};
@@ -8,11 +8,13 @@ ghost use Rattle.unit_packets.specs.Packing.{bytes_in};
 ghost use Rattle.gap_store.specs.Look.{look, AnswersLook, AnswersPack};
 ghost use Rattle.shared_unit.specs.Answers.{AnswersImage};
 ghost use Rattle.shared_unit.specs.Histories.{IsLegal, kept_at, served_at};
+ghost use Rattle.shared_unit.specs.Moments.{Answering, AnswersNewest, HappensAfter, IsNew, IsNewest};
 
+use crate::book::{Book, Eye};
 use crate::past::Past;
 use crate::run::{Naming, Run};
 use crate::store::Store;
-use crate::writer::Told;
+use crate::told::Told;
 use gap_store::Found;
 use left_right::ReadHandle;
 use pitch_fields::OutOfMemory;
@@ -20,56 +22,94 @@ use pitch_messages::RawList;
 use spin_server::Imaged;
 use std::alloc::Global;
 use std::marker::Model;
+use std::sync::Arc;
 use unit_packets::DatagramList;
 
-/// One that answers, without waiting. Contracts see the longest history that it has answered from
-/// or was told of; it begins the writer's.
+/// One that answers, without waiting. Contracts see its number, the longest history that it has
+/// answered from or was told of, which begins the writer's, all that it saw happen, and whether it
+/// was cut off: whether [`Server::available`] or `has_image` could not have what is published. One
+/// that was cut off is out of memory for each look-up of messages or images from then on.
 #[derive(Drop)]
 pub struct Server<J: Naming, R: Run> {
     inner: ReadHandle<Store<J, R>>,
+    book: Arc<Book<J, R>>,
+    number: u64,
+    cut_off: bool,
     pub(crate) past: Past<J, R>,
+    eye: Eye<J, R>,
 }
 
 impl<J: Naming, R: Run> Model for Server<J, R> {
-    ghost use Rattle.std.specs.Prelude.{List};
-    ghost use Rattle.pitch_model.specs.Advertising.{Operation};
-    ghost use Rattle.shared_unit.specs.Coding.{history_code};
+    ghost use Rattle.shared_unit.specs.Coding.{sight_code};
+    ghost use Rattle.shared_unit.specs.Moments.{Sight};
 
-    ghost Value = { List Operation };
+    ghost Value = { Sight };
 
-    ghost coded = { history_code };
+    ghost coded = { sight_code };
 
-    ghost view = { λ s. s.past };
+    ghost view = { λ s. record { number = s.number; cut_off = s.cut_off; history = s.past; moments = s.eye } };
 }
 
-// The history of a copy, where that begins with all that was seen. From a shorter copy, which never
-// comes, nothing is answered.
+// An answer that began: all that its server has seen happen by then, and how many operations were
+// published.
+#[derive(Drop)]
+struct Begun<J: Naming, R: Run> {
+    eye: Eye<J, R>,
+    published: u64,
+}
+
+// Begins an answer of the server with this number.
+fn begin<J: Naming, R: Run>(book: &Book<J, R>, eye: &Eye<J, R>, server: u64) -> Begun<J, R>
+    ensures { HappensAfter (Answering server) eye.now result.eye result.published }
+{
+    let mut eye = eye.again();
+    let published = eye.begin(book, server);
+    Begun { eye, published }
+}
+
+// Ends an answer from a history that has all that was published when it began.
+#[tactic(auto, using(crate::proofs::Looking::newest_is))]
+fn end<J: Naming, R: Run>(eye: &mut Eye<J, R>, begun: Begun<J, R>, past: &Past<J, R>, server: u64)
+    requires begun { HappensAfter (Answering server) eye.old begun.eye begun.published }
+    requires enough { begun.published ≤ length past.now }
+    ensures { IsNewest server eye.old eye.new past.now }
+{
+    let mut all = begun.eye;
+    all.learn_done(past.front());
+    *eye = all;
+}
+
+// The history of a copy, where that has all that was seen and so many operations. From a shorter
+// copy, which never comes, nothing is answered.
 fn history_of<J: Naming, R: Run>(
     store: &Store<J, R>,
     seen: &Past<J, R>,
+    published: u64,
 ) -> Result<Past<J, R>, OutOfMemory>
     ensures copy { IfOk result (λ history. history ≡ store.now) }
     ensures later { IfOk result (λ history. IsPrefix seen.now history) }
+    ensures enough { IfOk result (λ history. published ≤ length history) }
 {
-    if !store.past().covers(seen) {
+    if store.past().len() < published || !store.past().covers(seen) {
         return Err(OutOfMemory);
     }
     Ok(store.past().again())
 }
 
-// Takes over the history of a copy, where that has all that was seen.
-fn catch_up<J: Naming, R: Run>(store: &Store<J, R>, past: &mut Past<J, R>)
+// Takes over the history of a copy, where that has all that was seen and so many operations.
+fn catch_up<J: Naming, R: Run>(store: &Store<J, R>, past: &mut Past<J, R>, published: u64)
     ensures later { IsPrefix past.old past.new }
 {
-    if let Ok(history) = history_of(store, past) {
+    if let Ok(history) = history_of(store, past, published) {
         *past = history;
     }
 }
 
-// Looks messages up in a copy that has all that was seen.
+// Looks messages up in a copy that has all that was seen and published.
 fn look_in<J: Naming, R: Run>(
     store: &Store<J, R>,
     past: &mut Past<J, R>,
+    published: u64,
     first: u32,
     count: u16,
     out: &mut RawList,
@@ -79,19 +119,21 @@ fn look_in<J: Naming, R: Run>(
     ensures answer { IfOk result (λ found. AnswersLook (kept_at J.kept past.new) first count found out.old.items out.new.items) }
     ensures within { OnOk result (first + length out.new.items ≤ (last_sequence + 1) + length out.old.items) }
     ensures later { IsPrefix past.old past.new }
+    ensures enough { OnOk result (published ≤ length past.new) }
     ensures same { OnErr result (past.new ≡ past.old) }
     ensures err { OnErr result (out.new.items ≡ out.old.items) }
 {
-    let history = history_of(store, past)?;
+    let history = history_of(store, past, published)?;
     let found = store.look(first, count, out)?;
     *past = history;
     Ok(found)
 }
 
-// Whether messages are in a copy that has all that was seen.
+// Whether messages are in a copy that has all that was seen and published.
 fn find_in<J: Naming, R: Run>(
     store: &Store<J, R>,
     past: &mut Past<J, R>,
+    published: u64,
     first: u32,
     count: u16,
 ) -> Result<Found, OutOfMemory>
@@ -99,16 +141,18 @@ fn find_in<J: Naming, R: Run>(
     requires count { 1 ≤ count }
     ensures answer { IfOk result (λ found. found ≡ look (kept_at J.kept past.new) first count) }
     ensures later { IsPrefix past.old past.new }
+    ensures enough { OnOk result (published ≤ length past.new) }
     ensures same { OnErr result (past.new ≡ past.old) }
 {
-    *past = history_of(store, past)?;
+    *past = history_of(store, past, published)?;
     Ok(store.find(first, count))
 }
 
-// Looks messages up in a copy that has all that was seen, and packs them.
+// Looks messages up in a copy that has all that was seen and published, and packs them.
 fn pack_in<J: Naming, R: Run>(
     store: &Store<J, R>,
     past: &mut Past<J, R>,
+    published: u64,
     alloc: Global,
     unit: u8,
     first: u32,
@@ -119,44 +163,72 @@ fn pack_in<J: Naming, R: Run>(
     requires count { 1 ≤ count }
     ensures answer { IfOk result (λ found. AnswersPack (kept_at J.kept past.new) unit first count found (bytes_in out.old.items) (bytes_in out.new.items)) }
     ensures later { IsPrefix past.old past.new }
+    ensures enough { OnOk result (published ≤ length past.new) }
     ensures same { OnErr result (past.new ≡ past.old) }
     ensures err { OnErr result (out.new.items ≡ out.old.items) }
 {
-    let history = history_of(store, past)?;
+    let history = history_of(store, past, published)?;
     let found = store.pack(alloc, unit, first, count, out)?;
     *past = history;
     Ok(found)
 }
 
-// Looks an image up in a copy that has all that was seen.
+// Looks an image up in a copy that has all that was seen and published.
 fn image_in<J: Naming, R: Run>(
     store: &Store<J, R>,
     past: &mut Past<J, R>,
+    published: u64,
     sequence: u32,
     out: &mut RawList,
 ) -> Result<Imaged, OutOfMemory>
     ensures answer { IfOk result (λ imaged. AnswersImage (served_at past.new) sequence imaged out.old.items out.new.items) }
     ensures later { IsPrefix past.old past.new }
+    ensures enough { OnOk result (published ≤ length past.new) }
     ensures same { OnErr result (past.new ≡ past.old) }
     ensures err { OnErr result (out.new.items ≡ out.old.items) }
 {
-    let history = history_of(store, past)?;
+    let history = history_of(store, past, published)?;
     let imaged = store.image(sequence, out)?;
     *past = history;
     Ok(imaged)
 }
 
 impl<J: Naming, R: Run> Server<J, R> {
-    pub(crate) fn new(inner: ReadHandle<Store<J, R>>, past: Past<J, R>) -> Server<J, R>
-        ensures { result ≡ past }
+    // It has the number 0, and has seen nothing.
+    pub(crate) fn new(
+        inner: ReadHandle<Store<J, R>>,
+        book: Arc<Book<J, R>>,
+        past: Past<J, R>,
+        eye: Eye<J, R>,
+    ) -> Server<J, R>
+        requires past { past ≡ [] }
+        requires eye { eye ≡ [] }
+        ensures { IsNew result }
     {
-        Server { inner, past }
+        Server {
+            inner,
+            book,
+            number: 0,
+            cut_off: false,
+            past,
+            eye,
+        }
+    }
+
+    // This server under a number.
+    pub(crate) fn numbered(self, number: u64) -> Server<J, R>
+        ensures new { IsNew self → IsNew result }
+        ensures number { result.number ≡ number }
+    {
+        let mut server = self;
+        server.number = number;
+        server
     }
 
     /// How many operations of the one history it has seen or was told of.
     pub fn seen(&self) -> u64
-        ensures number { result ≡ length self.now }
-        ensures run { IsLegal R.fixed R.plan self.now }
+        ensures number { result ≡ length self.now.history }
+        ensures run { IsLegal R.fixed R.plan self.now.history }
     {
         self.past.len()
     }
@@ -164,11 +236,17 @@ impl<J: Naming, R: Run> Server<J, R> {
     /// What this server has seen then includes what was told.
     pub fn hear_told(&mut self, told: Told<J, R>)
         // Of the two histories the shorter begins the longer, which is then what was seen.
-        ensures one { (self.new ≡ self.old) ⊎ (self.new ≡ told) }
-        ensures this { IsPrefix self.old self.new }
-        ensures that { IsPrefix told self.new }
+        ensures one { (self.new.history ≡ self.old.history) ⊎ (self.new.history ≡ told.history) }
+        ensures this { IsPrefix self.old.history self.new.history }
+        ensures that { IsPrefix told.history self.new.history }
+        // It has seen happen all that it had and all that the writer had.
+        ensures seen { IsPrefix self.old.moments self.new.moments }
+        ensures told { IsPrefix told.moments self.new.moments }
+        ensures number { self.new.number ≡ self.old.number }
+        ensures reaches { self.new.cut_off ≡ self.old.cut_off }
     {
         self.past.learn(&told.past);
+        self.eye.learn(&told.eye);
     }
 
     /// Looks up `count` messages from the sequence `first` on, and appends them where all are kept.
@@ -177,19 +255,26 @@ impl<J: Naming, R: Run> Server<J, R> {
         requires first { 1 ≤ first }
         requires count { 1 ≤ count }
         // The answer is right at one point of the history, and that is seen then.
-        ensures answer { IfOk result (λ found. AnswersLook (kept_at J.kept self.new) first count found out.old.items out.new.items) }
+        ensures answer { IfOk result (λ found. AnswersLook (kept_at J.kept self.new.history) first count found out.old.items out.new.items) }
+        // It is no earlier than what was published when the answer began.
+        ensures newest { OnOk result (AnswersNewest self.old self.new) }
         // It is no earlier than all that was seen before.
-        ensures later { IsPrefix self.old self.new }
+        ensures later { IsPrefix self.old.history self.new.history }
         // Where the run fixes its messages, those accepted then are the first of them.
-        ensures run { OnOk result (IsLegal R.fixed R.plan self.new) }
+        ensures run { OnOk result (IsLegal R.fixed R.plan self.new.history) }
         ensures within { OnOk result (first + length out.new.items ≤ (last_sequence + 1) + length out.old.items) }
         ensures same { OnErr result (self.new ≡ self.old) }
         ensures err { OnErr result (out.new.items ≡ out.old.items) }
     {
+        if self.cut_off {
+            return Err(OutOfMemory);
+        }
+        let begun = begin(&*self.book, &self.eye, self.number);
         let found = match self.inner.enter() {
-            Some(store) => look_in(&store, &mut self.past, first, count, out)?,
+            Some(store) => look_in(&store, &mut self.past, begun.published, first, count, out)?,
             None => return Err(OutOfMemory),
         };
+        end(&mut self.eye, begun, &self.past, self.number);
         // What was seen is legal.
         let _seen = self.past.len();
         Ok(found)
@@ -199,14 +284,21 @@ impl<J: Naming, R: Run> Server<J, R> {
     pub(crate) fn found(&mut self, first: u32, count: u16) -> Result<Found, OutOfMemory>
         requires first { 1 ≤ first }
         requires count { 1 ≤ count }
-        ensures answer { IfOk result (λ found. found ≡ look (kept_at J.kept self.new) first count) }
-        ensures later { IsPrefix self.old self.new }
+        ensures answer { IfOk result (λ found. found ≡ look (kept_at J.kept self.new.history) first count) }
+        ensures newest { OnOk result (AnswersNewest self.old self.new) }
+        ensures later { IsPrefix self.old.history self.new.history }
         ensures same { OnErr result (self.new ≡ self.old) }
     {
-        match self.inner.enter() {
-            Some(store) => find_in(&store, &mut self.past, first, count),
-            None => Err(OutOfMemory),
+        if self.cut_off {
+            return Err(OutOfMemory);
         }
+        let begun = begin(&*self.book, &self.eye, self.number);
+        let found = match self.inner.enter() {
+            Some(store) => find_in(&store, &mut self.past, begun.published, first, count)?,
+            None => return Err(OutOfMemory),
+        };
+        end(&mut self.eye, begun, &self.past, self.number);
+        Ok(found)
     }
 
     // Looks messages up, and appends them packed.
@@ -220,46 +312,74 @@ impl<J: Naming, R: Run> Server<J, R> {
     ) -> Result<Found, OutOfMemory>
         requires first { 1 ≤ first }
         requires count { 1 ≤ count }
-        ensures answer { IfOk result (λ found. AnswersPack (kept_at J.kept self.new) unit first count found (bytes_in out.old.items) (bytes_in out.new.items)) }
-        ensures later { IsPrefix self.old self.new }
+        ensures answer { IfOk result (λ found. AnswersPack (kept_at J.kept self.new.history) unit first count found (bytes_in out.old.items) (bytes_in out.new.items)) }
+        ensures newest { OnOk result (AnswersNewest self.old self.new) }
+        ensures later { IsPrefix self.old.history self.new.history }
         ensures same { OnErr result (self.new ≡ self.old) }
         ensures err { OnErr result (out.new.items ≡ out.old.items) }
     {
-        match self.inner.enter() {
-            Some(store) => pack_in(&store, &mut self.past, alloc, unit, first, count, out),
-            None => Err(OutOfMemory),
+        if self.cut_off {
+            return Err(OutOfMemory);
         }
+        let begun = begin(&*self.book, &self.eye, self.number);
+        let past = &mut self.past;
+        let found = match self.inner.enter() {
+            Some(store) => pack_in(
+                &store,
+                past,
+                begun.published,
+                alloc,
+                unit,
+                first,
+                count,
+                out,
+            )?,
+            None => return Err(OutOfMemory),
+        };
+        end(&mut self.eye, begun, &self.past, self.number);
+        Ok(found)
     }
 
     /// Looks up the image through a sequence, and appends it where it is among the last ten that
     /// were advertised. Server and `out` are as before after OutOfMemory.
     pub fn image(&mut self, sequence: u32, out: &mut RawList) -> Result<Imaged, OutOfMemory>
         // The answer is right at one point of the history, and that is seen then.
-        ensures answer { IfOk result (λ imaged. AnswersImage (served_at self.new) sequence imaged out.old.items out.new.items) }
+        ensures answer { IfOk result (λ imaged. AnswersImage (served_at self.new.history) sequence imaged out.old.items out.new.items) }
+        // It is no earlier than what was published when the answer began.
+        ensures newest { OnOk result (AnswersNewest self.old self.new) }
         // It is no earlier than all that was seen before.
-        ensures later { IsPrefix self.old self.new }
+        ensures later { IsPrefix self.old.history self.new.history }
         // Where the run fixes its messages, those accepted then are the first of them.
-        ensures run { OnOk result (IsLegal R.fixed R.plan self.new) }
+        ensures run { OnOk result (IsLegal R.fixed R.plan self.new.history) }
         ensures same { OnErr result (self.new ≡ self.old) }
         ensures err { OnErr result (out.new.items ≡ out.old.items) }
     {
+        if self.cut_off {
+            return Err(OutOfMemory);
+        }
+        let begun = begin(&*self.book, &self.eye, self.number);
         let imaged = match self.inner.enter() {
-            Some(store) => image_in(&store, &mut self.past, sequence, out)?,
+            Some(store) => image_in(&store, &mut self.past, begun.published, sequence, out)?,
             None => return Err(OutOfMemory),
         };
+        end(&mut self.eye, begun, &self.past, self.number);
         // What was seen is legal.
         let _seen = self.past.len();
         Ok(imaged)
     }
 
     /// The newest sequence that was advertised, or None exactly where none was. It takes no memory.
+    /// Where what is published can't be had, as once the writer was let go without being closed, it
+    /// is the newest of what was seen; the server is cut off then.
     pub fn available(&mut self) -> Option<u32>
         // The answer is right at one point of the history, and that is seen then.
-        ensures answer { result ≡ newest_of (advertised_by self.new) }
+        ensures answer { result ≡ newest_of (advertised_by self.new.history) }
+        // It is no earlier than what was published when the answer began.
+        ensures newest { self.new.cut_off ≡ false → AnswersNewest self.old self.new }
         // It is no earlier than all that was seen before.
-        ensures later { IsPrefix self.old self.new }
+        ensures later { IsPrefix self.old.history self.new.history }
         // Where the run fixes its messages, those accepted then are the first of them.
-        ensures run { IsLegal R.fixed R.plan self.new }
+        ensures run { IsLegal R.fixed R.plan self.new.history }
     {
         self.look_up();
         // What was seen is legal.
@@ -269,19 +389,27 @@ impl<J: Naming, R: Run> Server<J, R> {
 
     // Whether the image through a sequence is served.
     pub(crate) fn serves(&mut self, sequence: u32) -> bool
-        ensures answer { result ≡ list_any (λ n. n == sequence) (last_ten (advertised_by self.new)) }
-        ensures later { IsPrefix self.old self.new }
+        ensures answer { result ≡ list_any (λ n. n == sequence) (last_ten (advertised_by self.new.history)) }
+        ensures newest { self.new.cut_off ≡ false → AnswersNewest self.old self.new }
+        ensures later { IsPrefix self.old.history self.new.history }
     {
         self.look_up();
         self.past.serves(sequence)
     }
 
-    // Sees what is published, where that has all that was seen.
+    // Begins an answer, and sees what is published. Where that can't be had, the server is cut off.
     fn look_up(&mut self)
-        ensures { IsPrefix self.old self.new }
+        ensures newest { self.new.cut_off ≡ false → AnswersNewest self.old self.new }
+        ensures later { IsPrefix self.old.history self.new.history }
     {
+        let begun = begin(&*self.book, &self.eye, self.number);
         if let Some(store) = self.inner.enter() {
-            catch_up(&store, &mut self.past);
+            catch_up(&store, &mut self.past, begun.published);
         }
+        if self.past.len() < begun.published {
+            self.cut_off = true;
+            return;
+        }
+        end(&mut self.eye, begun, &self.past, self.number);
     }
 }

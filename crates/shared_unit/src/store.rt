@@ -43,10 +43,11 @@ impl<J: Naming, R: Run> Model for Store<J, R> {
     ghost invariant = { λ s. StandFor J.kept s.shelves s.past };
 }
 
-// What is published, with the history that it ends. Contracts see that history.
+// What is published, with the history that it ends; or nothing, with no history. Contracts see the
+// history.
 #[derive(Drop)]
 pub struct Published<J: Naming, R: Run> {
-    what: What,
+    what: Option<What>,
     past: Past<J, R>,
 }
 
@@ -54,7 +55,7 @@ impl<J: Naming, R: Run> Model for Published<J, R> {
     ghost use Rattle.std.specs.Prelude.{List};
     ghost use Rattle.pitch_model.specs.Advertising.{Operation};
     ghost use Rattle.shared_unit.specs.Coding.{history_code};
-    ghost use Rattle.shared_unit.specs.Stored.{EndsWith};
+    ghost use Rattle.shared_unit.specs.Stored.{EndsOrIsNothing};
 
     ghost Value = { List Operation };
 
@@ -62,7 +63,7 @@ impl<J: Naming, R: Run> Model for Published<J, R> {
 
     ghost view = { λ p. p.past };
 
-    ghost invariant = { λ p. EndsWith p.what p.past };
+    ghost invariant = { λ p. EndsOrIsNothing p.what p.past };
 }
 
 impl<J: Naming, R: Run> Published<J, R> {
@@ -70,7 +71,18 @@ impl<J: Naming, R: Run> Published<J, R> {
         requires { EndsWith what past }
         ensures { result ≡ past }
     {
-        Published { what, past }
+        Published {
+            what: Some(what),
+            past,
+        }
+    }
+
+    // Nothing is published, which changes no copy.
+    pub(crate) fn nothing(past: Past<J, R>) -> Published<J, R>
+        requires { past ≡ [] }
+        ensures { result ≡ [] }
+    {
+        Published { what: None, past }
     }
 }
 
@@ -203,15 +215,19 @@ impl<J: Naming, R: Run> Absorb<Published<J, R>> for Store<J, R> {
 
     ghost never_fails = { Unit {0} };
 
+    #[tactic(auto, using(crate::proofs::Growing::grown_nothing))]
     fn absorb_first(
         &mut self,
         published: &Published<J, R>,
         _other: &Store<J, R>,
     ) -> Result<(), AllocError> {
+        let Some(what) = &published.what else {
+            return Ok(());
+        };
         let (had, has) = (self.past.len(), published.past.len());
         if has > had && has - had == 1 {
             self.past.learn(&published.past);
-            self.shelves.take_in(&published.what);
+            self.shelves.take_in(what);
         }
         Ok(())
     }

@@ -1,4 +1,4 @@
-//! The writer, and what it tells.
+//! The writer.
 ghost use Rattle.std.specs.Prelude.{◌≡◌, ◌+◌, ◌<◌, ◌^◌, [], length, Some, IfOk, MatchBool, MatchResult};
 ghost use mathlib.Core.List.{IsPrefix};
 ghost use Rattle.std.specs.Option.{option_copied};
@@ -9,13 +9,14 @@ ghost use Rattle.pitch_model.specs.History.{adds};
 ghost use Rattle.pitch_model.specs.Image.{image_of};
 ghost use Rattle.venue_core.specs.Stands.{last_of};
 ghost use Rattle.shared_unit.specs.Histories.{IsLegal, then_done};
+ghost use Rattle.shared_unit.specs.Moments.{IsNew, IsPublished};
 ghost use Rattle.shared_unit.specs.Stored.{ComesAfter, operation_of, raws_in};
 
 use crate::desk::Desk;
-use crate::past::Past;
 use crate::published::{Picture, What};
 use crate::run::{Naming, Run};
 use crate::server::Server;
+use crate::told::Told;
 use order_book::UnitBook;
 use pitch_fields::OutOfMemory;
 use pitch_messages::{Raw, RawList};
@@ -25,24 +26,6 @@ use std::alloc::Global;
 use std::marker::Model;
 use std::sync::{Arc, Wait};
 use venue_core::{Venue, VenueError};
-
-/// A history that was told. Contracts see it. It may go to another thread.
-#[derive(Drop)]
-pub struct Told<J: Naming, R: Run> {
-    pub(crate) past: Past<J, R>,
-}
-
-impl<J: Naming, R: Run> Model for Told<J, R> {
-    ghost use Rattle.std.specs.Prelude.{List};
-    ghost use Rattle.pitch_model.specs.Advertising.{Operation};
-    ghost use Rattle.shared_unit.specs.Coding.{history_code};
-
-    ghost Value = { List Operation };
-
-    ghost coded = { history_code };
-
-    ghost view = { λ t. t.past };
-}
 
 /// The one who writes: it accepts the commands of a unit and advertises its images. Contracts see
 /// the history of what it did.
@@ -101,9 +84,9 @@ impl<J: Naming, R: Run, W: Wait + Drop> Writer<J, R, W> {
 
     // One more server, which has seen nothing.
     pub(crate) fn place(&self) -> Result<Server<J, R>, OutOfMemory>
-        ensures { IfOk result (λ server. server ≡ []) }
+        ensures { IfOk result IsNew }
     {
-        Ok(Server::new(self.desk.place()?, self.desk.none()))
+        self.desk.place()
     }
 
     // How many messages were accepted.
@@ -176,18 +159,18 @@ impl<J: Naming, R: Run, W: Wait + Drop> Writer<J, R, W> {
 
     /// What stands for the history so far.
     pub fn tell(&mut self) -> Told<J, R>
-        ensures told { result ≡ self.old }
+        ensures told { result.history ≡ self.old }
+        // Whoever hears it knows that all of it was published.
+        ensures published { IsPublished result }
         ensures same { self.new ≡ self.old }
     {
-        Told {
-            past: self.desk.past().again(),
-        }
+        self.desk.told()
     }
 
     /// Whether what a server has seen begins this history. It always does; but that nobody else
     /// writes is not a clause, so who rests on it asks.
     pub fn covers(&self, server: &Server<J, R>) -> bool
-        ensures { MatchBool result (IsPrefix server.now self.now) (IsPrefix self.now server.now × (length self.now < length server.now)) }
+        ensures { MatchBool result (IsPrefix server.now.history self.now) (IsPrefix self.now server.now.history × (length self.now < length server.now.history)) }
     {
         self.desk.past().covers(&server.past)
     }

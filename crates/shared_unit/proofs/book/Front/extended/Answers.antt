@@ -1,7 +1,8 @@
-use Rattle.std.proofs.Common.{sym, ◌∙◌, ap, ◌++◌, ◌∷◌, []}
-use Rattle.shared_unit.specs.Histories.{IsLegal}
+use Rattle.std.proofs.Common.{sym, ◌∙◌, ap}
+use Rattle.shared_unit.specs.Histories.{IsLegal, then_done}
+use Rattle.shared_unit.specs.Moments.{history_in}
 use Rattle.shared_unit.specs.Stored.{operation_of}
-use Rattle.shared_unit.proofs.Adding.{adds_moves}
+use Rattle.shared_unit.proofs.Steps.{adds_moves}
 use Rattle.shared_unit.proofs.book.Front.extended.Goals as goal
 
 pub compare_exchange-found-requires : goal.compare_exchange-found-requires
@@ -11,7 +12,7 @@ compare_exchange-found-requires g c =
     let pen = c.no_pen-pen.ensures in
     let again = c.again-seen.ensures in
     let book = ap (λ s. s.book) again ∙ c.self.invariant.1 in
-    let may : IsLegal g.R.Run.fixed g.R.Run.plan (c.self.inside.seen.log ++ operation_of c.args.what.now ∷ []) = rw c.self.view_is c.requires.legal in (
+    let may : IsLegal g.R.Run.fixed g.R.Run.plan (then_done (history_in c.self.inside.seen.log) (operation_of c.args.what.now)) = rw c.self.view_is c.requires.legal in (
       ap (λ w. w.tracked) h,
       book ∙ sym (ap (λ w. w.book) h),
       pen.0 ∙ (book ∙ sym (ap (λ w. w.book) h)),
