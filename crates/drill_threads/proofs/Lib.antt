@@ -1,3 +1,6 @@
 pub mod Publishing
+pub mod Replying
+pub mod Saying
 pub mod Serving
+pub mod Telling
 pub mod Texts

@@ -1,1 +1,5 @@
+pub mod Listening
 pub mod Publishing
+pub mod Replying
+pub mod Saying
+pub mod Telling

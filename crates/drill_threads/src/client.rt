@@ -1,14 +1,18 @@
 //! The client.
 
-ghost use Rattle.std.specs.Prelude.{OnOk, IfOk};
+ghost use Rattle.std.specs.Prelude.{◌≡◌, ◌++◌, ℕ, List, OnOk, IfOk};
+ghost use Rattle.pitch_model.specs.History.{Entry};
 ghost use Rattle.venue_core.specs.Plan.{plan};
-ghost use Rattle.drill_client.specs.Following.{FollowsOn, KeepsFollowing};
+ghost use Rattle.drill_client.specs.Following.{Follows, FollowsOn};
+ghost use Rattle.drill_values.specs.Words.{heard_word, heard_reply};
 ghost use Rattle.unit_threads.specs.DrillText.{drill_kept};
+ghost use Rattle.drill_threads.specs.Listening.{heard_with_one, with_tick, tick_requests, is_sent, is_again, after_heard, heard_after, asks_after};
 
 use crate::course::Course;
-use crate::ends::{ClientEnds, Request, send};
+use crate::ends::{ClientEnds, Request};
+use crate::outbox::Outbox;
 use client_core::UnitClient;
-use crossbeam_channel::select;
+use crossbeam_channel::{Receiver, select};
 use drill_client::{begin, count_datagram};
 use drill_values::{DrillRun, Reply, Word, hear_reply, hear_word};
 use pitch_fields::OutOfMemory;
@@ -44,27 +48,28 @@ struct Counts {
 
 impl Counts {
     // The step of one datagram more.
-    fn next<R: DrillRun + Run>(&mut self, course: &Course<R>) -> Work {
+    fn next<R: DrillRun + Run>(&mut self, course: &Course<R>) -> Work
+        ensures { self.new.heard ≡ self.old.heard }
+    {
         self.step = self.step.saturating_add(1);
         course.work(Role::Client, self.step)
     }
 }
 
 // Waits for a word of the publisher.
-fn next_word<J: Naming, R: DrillRun + Run, W: Wait>(rt: &W, ends: &ClientEnds<J, R>) -> Next<R> {
-    match ends.words.recv(rt) {
+fn next_word<R: DrillRun, W: Wait>(rt: &W, words: &Receiver<Word<R>>) -> Next<R> {
+    match words.recv(rt) {
         Ok(word) => Next::Word(word),
         Err(_) => Next::NoWords,
     }
 }
 
 // Waits for a word of the publisher or of the service.
-fn next_of_both<J: Naming, R: DrillRun + Run, W: Wait + Clock>(
+fn next_of_both<R: DrillRun, W: Wait + Clock>(
     rt: &W,
-    ends: &ClientEnds<J, R>,
+    words: &Receiver<Word<R>>,
+    replies: &Receiver<Reply<R>>,
 ) -> Next<R> {
-    let words = &ends.words;
-    let replies = &ends.replies;
     select! {
         rt;
         recv(words) -> got => match got {
@@ -83,14 +88,33 @@ fn tick<J: Naming, R: DrillRun + Run, W: Wait>(
     rt: &W,
     client: &mut UnitClient,
     counts: &mut Counts,
-    ends: &ClientEnds<J, R>,
+    asks: &mut Outbox<Request<J, R>>,
 ) -> Result<(), OutOfMemory>
-    ensures { OnOk result (KeepsFollowing client.old client.new (plan R.number R.unit R.count)) }
+    ensures heard { OnOk result (counts.new.heard ≡ heard_with_one counts.old.heard) }
+    ensures history { OnOk result ((H : ℕ) (E : List Entry) → Follows client.old H (plan R.number R.unit R.count) E
+        → Follows client.new H (plan R.number R.unit R.count) (with_tick H counts.old.heard E)) }
+    // What a client asks for at a tick is sent.
+    ensures asks { OnOk result ((H : ℕ) (E : List Entry) → Follows client.old H (plan R.number R.unit R.count) E
+        → asks.new ≡ asks.old ++ tick_requests H counts.old.heard E) }
 {
     if let Some(ask) = count_datagram(client, &mut counts.heard) {
-        send(rt, &ends.asks, Request::Asked(ask))?;
+        asks.send(rt, Request::Asked(ask))?;
     }
     Ok(())
+}
+
+// Whether a word is a datagram.
+fn is_sent<R: DrillRun>(word: &Word<R>) -> bool
+    ensures { result ≡ is_sent word.now }
+{
+    matches!(word, Word::Sent(_))
+}
+
+// Whether a reply is a datagram.
+fn is_again<R: DrillRun>(reply: &Reply<R>) -> bool
+    ensures { result ≡ is_again reply.now }
+{
+    matches!(reply, Reply::Again(_))
 }
 
 // The client hears a word of its publisher.
@@ -101,11 +125,15 @@ fn take_word<J: Naming, R: DrillRun + Run, W: Wait, G: Gate>(
     client: &mut UnitClient,
     counts: &mut Counts,
     word: Word<R>,
-    ends: &ClientEnds<J, R>,
+    asks: &mut Outbox<Request<J, R>>,
 ) -> Result<(), OutOfMemory>
-    ensures { OnOk result (KeepsFollowing client.old client.new (plan R.number R.unit R.count)) }
+    ensures heard { OnOk result (counts.new.heard ≡ heard_after (is_sent word) counts.old.heard) }
+    ensures history { OnOk result ((H : ℕ) (E : List Entry) → Follows client.old H (plan R.number R.unit R.count) E
+        → Follows client.new H (plan R.number R.unit R.count) (after_heard (is_sent word) H counts.old.heard (heard_word word E))) }
+    ensures asks { OnOk result ((H : ℕ) (E : List Entry) → Follows client.old H (plan R.number R.unit R.count) E
+        → asks.new ≡ asks.old ++ asks_after (is_sent word) H counts.old.heard (heard_word word E)) }
 {
-    if !matches!(&word, Word::Sent(_)) {
+    if !is_sent(&word) {
         hear_word(client, &word)?;
         return Ok(());
     }
@@ -113,7 +141,7 @@ fn take_word<J: Naming, R: DrillRun + Run, W: Wait, G: Gate>(
     gate.before(work);
     hear_word(client, &word)?;
     gate.after(work);
-    tick(rt, client, counts, ends)?;
+    tick(rt, client, counts, asks)?;
     Ok(())
 }
 
@@ -125,11 +153,15 @@ fn take_reply<J: Naming, R: DrillRun + Run, W: Wait, G: Gate>(
     client: &mut UnitClient,
     counts: &mut Counts,
     reply: Reply<R>,
-    ends: &ClientEnds<J, R>,
+    asks: &mut Outbox<Request<J, R>>,
 ) -> Result<(), OutOfMemory>
-    ensures { OnOk result (KeepsFollowing client.old client.new (plan R.number R.unit R.count)) }
+    ensures heard { OnOk result (counts.new.heard ≡ heard_after (is_again reply) counts.old.heard) }
+    ensures history { OnOk result ((H : ℕ) (E : List Entry) → Follows client.old H (plan R.number R.unit R.count) E
+        → Follows client.new H (plan R.number R.unit R.count) (after_heard (is_again reply) H counts.old.heard (heard_reply reply E))) }
+    ensures asks { OnOk result ((H : ℕ) (E : List Entry) → Follows client.old H (plan R.number R.unit R.count) E
+        → asks.new ≡ asks.old ++ asks_after (is_again reply) H counts.old.heard (heard_reply reply E)) }
 {
-    if !matches!(&reply, Reply::Again(_)) {
+    if !is_again(&reply) {
         hear_reply(client, reply)?;
         return Ok(());
     }
@@ -137,7 +169,7 @@ fn take_reply<J: Naming, R: DrillRun + Run, W: Wait, G: Gate>(
     gate.before(work);
     hear_reply(client, reply)?;
     gate.after(work);
-    tick(rt, client, counts, ends)?;
+    tick(rt, client, counts, asks)?;
     Ok(())
 }
 
@@ -156,21 +188,27 @@ pub(crate) fn follow<J: Naming, R: DrillRun + Run, W: Wait + Clock, G: Gate>(
     plan_is_in_order();
     let mut client = begin(alloc, KEPT)?;
     let mut counts = Counts { heard: 0, step: 0 };
-    let mut replies = true;
+    let ClientEnds {
+        words,
+        replies,
+        asks,
+    } = ends;
+    let mut asks = Outbox::make(alloc, asks);
+    let mut served = true;
     'said: for _ in rt.forever() {
-        let next = if replies {
-            next_of_both(rt, &ends)
+        let next = if served {
+            next_of_both(rt, &words, &replies)
         } else {
-            next_word(rt, &ends)
+            next_word(rt, &words)
         };
         match next {
             Next::NoWords | Next::Word(Word::Last) => break,
-            Next::NoReplies => replies = false,
+            Next::NoReplies => served = false,
             Next::Word(word) => {
-                take_word(rt, gate, course, &mut client, &mut counts, word, &ends)?;
+                take_word(rt, gate, course, &mut client, &mut counts, word, &mut asks)?;
             }
             Next::Reply(reply) => {
-                take_reply(rt, gate, course, &mut client, &mut counts, reply, &ends)?;
+                take_reply(rt, gate, course, &mut client, &mut counts, reply, &mut asks)?;
             }
         }
     }

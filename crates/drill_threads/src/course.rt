@@ -1,19 +1,12 @@
-//! Which messages a unit's drill has, and the pieces of their feed.
+//! Which messages a unit's drill has.
 
-ghost use Rattle.std.specs.Prelude.{◌≡◌, ◌≤◌, IfOk};
-ghost use Rattle.std.specs.List.{AllByRecursion};
-ghost use Rattle.unit_packets.specs.Packing.{bytes_in};
-ghost use Rattle.pitch_model.specs.Datagrams.{IsPiece};
-ghost use Rattle.venue_core.specs.Plan.{plan};
+ghost use Rattle.std.specs.Prelude.{◌≡◌, ◌≤◌};
 ghost use Rattle.unit_threads.specs.DrillText.{most_drilled};
 ghost use Rattle.drill_threads.specs.Publishing.{IsPlanned};
 
-use drill_values::{Datagram, DrillRun};
-use pitch_fields::OutOfMemory;
+use drill_values::DrillRun;
 use pitch_io::{Role, Work};
-use pitch_messages::ByteList;
 use shared_unit::Run;
-use std::alloc::Global;
 use std::marker::PhantomData;
 
 /// The course of a unit's drill: the first `count` commands of the plan of its number and unit.
@@ -58,19 +51,4 @@ impl<R: DrillRun + Run> Course<R> {
             step,
         }
     }
-}
-
-/// Copies of datagrams, each with memory for just its bytes.
-pub(crate) fn copies<R: DrillRun>(
-    alloc: Global,
-    datagrams: &[ByteList],
-) -> Result<Vec<Datagram<R>>, OutOfMemory>
-    requires { AllByRecursion (IsPiece (plan R.number R.unit R.count) R.unit) (bytes_in datagrams.now) }
-{
-    let mut out = Vec::new(alloc);
-    'copied: for datagram in datagrams {
-        let copy = Datagram::of_bytes(alloc, datagram.bytes())?;
-        out.push(copy)?;
-    }
-    Ok(out)
 }

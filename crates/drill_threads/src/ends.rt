@@ -1,12 +1,11 @@
 //! The channels between the parties of a unit, and their ends.
 
-use crossbeam_channel::{Receiver, SendError, Sender, unbounded};
+use crossbeam_channel::{Receiver, Sender, unbounded};
 use drill_values::{DrillRun, Reply, Word};
 use pitch_fields::OutOfMemory;
 use pitch_model::Ask;
 use shared_unit::{Naming, Run, Told};
 use std::alloc::Global;
-use std::sync::Wait;
 
 /// What a service hears.
 #[derive(Drop)]
@@ -70,17 +69,5 @@ impl<J: Naming, R: DrillRun + Run> Ends<J, R> {
                 replies: answers,
             },
         })
-    }
-}
-
-/// Sends a message. It is dropped where the other party has ended.
-pub(crate) fn send<T: Drop, W: Wait>(
-    rt: &W,
-    to: &Sender<T>,
-    message: T,
-) -> Result<(), OutOfMemory> {
-    match to.send(rt, message) {
-        Err(SendError::OutOfMemory(_message)) => Err(OutOfMemory),
-        _sent_or_dropped => Ok(()),
     }
 }

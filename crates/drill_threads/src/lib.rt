@@ -12,6 +12,7 @@ mod client;
 mod closing;
 mod course;
 mod ends;
+mod outbox;
 mod publisher;
 mod service;
 mod unit;

@@ -1,16 +1,20 @@
 //! The publisher.
 
-ghost use Rattle.std.specs.Prelude.{◌≡◌, ◌+◌, ◌-◌, ◌*◌, ◌≤◌, ◌<◌, [], length, OnOk, IfOk};
+ghost use Rattle.std.specs.Prelude.{◌≡◌, ◌+◌, ◌-◌, ◌*◌, ◌≤◌, ◌<◌, ◌++◌, ◌∷◌, [], length, map, OnOk, IfOk};
 ghost use Rattle.std.specs.List.{AllByRecursion};
 ghost use Rattle.unit_packets.specs.Packing.{bytes_in};
 ghost use Rattle.pitch_model.specs.Advertising.{accepted_by};
 ghost use Rattle.pitch_model.specs.Datagrams.{IsPiece};
 ghost use Rattle.venue_core.specs.Plan.{plan};
+ghost use Rattle.drill_values.specs.declared.words.Word.TheVariants.{Sent, Last};
 ghost use Rattle.drill_threads.specs.Publishing.{HasAccepted, HasAdvertised};
+ghost use Rattle.drill_threads.specs.Saying.{command_datagrams, line_words, is_round, round_words, words_for_command, words_through};
+ghost use Rattle.drill_threads.specs.Telling.{told_in, told_with};
 
-use crate::course::{Course, copies};
-use crate::ends::{PublisherEnds, Request, send};
-use drill_values::{DrillRun, Reached, Word};
+use crate::course::Course;
+use crate::ends::{PublisherEnds, Request};
+use crate::outbox::Outbox;
+use drill_values::{Datagram, DrillRun, Reached, Word};
 use pitch_fields::OutOfMemory;
 use pitch_io::{Gate, Role};
 use pitch_messages::{ByteList, RawList};
@@ -21,6 +25,26 @@ use std::sync::Wait;
 use unit_packets::{DatagramList, pack};
 use unit_threads::ROUND;
 use venue_core::{VenueError, lost, plan_command, plan_is_accepted, plan_is_in_order};
+
+// What the publisher sends on: words to its client, and what its service is told.
+#[derive(Drop)]
+struct Outgoing<J: Naming, R: DrillRun + Run> {
+    words: Outbox<Word<R>>,
+    told: Outbox<Request<J, R>>,
+}
+
+impl<J: Naming, R: DrillRun + Run> Outgoing<J, R> {
+    // Nothing was sent yet.
+    fn make(alloc: Global, ends: PublisherEnds<J, R>) -> Outgoing<J, R>
+        ensures { result.words ≡ [] }
+    {
+        let PublisherEnds { words, told } = ends;
+        Outgoing {
+            words: Outbox::make(alloc, words),
+            told: Outbox::make(alloc, told),
+        }
+    }
+}
 
 // The writer accepts command `index` of the plan.
 fn accept<J: Naming, R: DrillRun + Run, H: Wait + Drop>(
@@ -50,7 +74,8 @@ fn packed_last<J: Naming, R: DrillRun + Run, H: Wait + Drop>(
 ) -> Result<DatagramList, OutOfMemory>
     requires index { (1 ≤ index) × (index ≤ course.now.count) }
     requires accepted { HasAccepted writer.now course.now.number course.now.unit index (2 * index - 1) }
-    ensures { IfOk result (λ list. AllByRecursion (IsPiece (plan R.number R.unit R.count) R.unit) (bytes_in list.items)) }
+    ensures datagrams { IfOk result (λ list. bytes_in list.items ≡ command_datagrams course.now.number course.now.unit index) }
+    ensures pieces { IfOk result (λ list. AllByRecursion (IsPiece (plan R.number R.unit R.count) R.unit) (bytes_in list.items)) }
 {
     packed_messages_are_pieces();
     let Some(raw) = writer.last_raw() else {
@@ -63,18 +88,41 @@ fn packed_last<J: Naming, R: DrillRun + Run, H: Wait + Drop>(
     Ok(out)
 }
 
-// Sends the copies of datagrams on one line.
-fn send_copies<J: Naming, R: DrillRun + Run, W: Wait>(
+// Sends copies of datagrams, each with memory for just its bytes.
+fn send_copies<R: DrillRun, W: Wait>(
     rt: &W,
     alloc: Global,
     datagrams: &[ByteList],
-    ends: &PublisherEnds<J, R>,
+    words: &mut Outbox<Word<R>>,
 ) -> Result<(), OutOfMemory>
     requires { AllByRecursion (IsPiece (plan R.number R.unit R.count) R.unit) (bytes_in datagrams.now) }
+    ensures { OnOk result (words.new ≡ words.old ++ map Sent (bytes_in datagrams.now)) }
 {
-    for copy in copies::<R>(alloc, datagrams)? {
-        send(rt, &ends.words, Word::Sent(copy))?;
+    'copied: for datagram in datagrams {
+        let copy = Datagram::of_bytes(alloc, datagram.bytes())?;
+        words.send(rt, Word::Sent(copy))?;
     }
+    Ok(())
+}
+
+// Sends the datagrams of command `index` on one line, unless this copy is lost.
+fn send_on<R: DrillRun + Run, W: Wait>(
+    rt: &W,
+    alloc: Global,
+    course: &Course<R>,
+    index: u32,
+    line: u8,
+    datagrams: &[ByteList],
+    words: &mut Outbox<Word<R>>,
+) -> Result<(), OutOfMemory>
+    requires datagrams { bytes_in datagrams.now ≡ command_datagrams course.now.number course.now.unit index }
+    requires pieces { AllByRecursion (IsPiece (plan R.number R.unit R.count) R.unit) (bytes_in datagrams.now) }
+    ensures { OnOk result (words.new ≡ words.old ++ line_words course.now.number course.now.unit index line) }
+{
+    if lost(course.number, course.unit, index, line) {
+        return Ok(());
+    }
+    send_copies(rt, alloc, datagrams, words)?;
     Ok(())
 }
 
@@ -85,43 +133,66 @@ fn send_last<J: Naming, R: DrillRun + Run, H: Wait + Drop, W: Wait>(
     writer: &Writer<J, R, H>,
     course: &Course<R>,
     index: u32,
-    ends: &PublisherEnds<J, R>,
+    words: &mut Outbox<Word<R>>,
 ) -> Result<(), OutOfMemory>
     requires index { (1 ≤ index) × (index ≤ course.now.count) }
     requires accepted { HasAccepted writer.now course.now.number course.now.unit index (2 * index - 1) }
+    ensures { OnOk result (words.new ≡ (words.old ++ line_words course.now.number course.now.unit index 1) ++ line_words course.now.number course.now.unit index 2) }
 {
     let sent = packed_last(alloc, writer, course, index)?;
-    if !lost(course.number, course.unit, index, 1) {
-        send_copies(rt, alloc, sent.as_slice(), ends)?;
-    }
-    if !lost(course.number, course.unit, index, 2) {
-        send_copies(rt, alloc, sent.as_slice(), ends)?;
-    }
+    send_on(rt, alloc, course, index, 1, sent.as_slice(), words)?;
+    send_on(rt, alloc, course, index, 2, sent.as_slice(), words)?;
     Ok(())
 }
 
-// Advertises where it is time: after every 1,000th command, and after the last. The client hears
-// the sequence, and the service is told.
+// Whether it is time to advertise: after every 1,000th command, and after the last.
+fn is_round(index: u32, count: u32) -> bool
+    ensures { result ≡ is_round index count }
+{
+    index % ROUND == 0 || index == count
+}
+
+// The writer advertises all that it accepted, the commands up to `index`.
+fn advertise_all<J: Naming, R: DrillRun + Run, H: Wait + Drop>(
+    writer: &mut Writer<J, R, H>,
+    course: &Course<R>,
+    index: u32,
+) -> Result<Reached<R>, OutOfMemory>
+    requires index { (1 ≤ index) × (index ≤ course.now.count) }
+    requires accepted { HasAccepted writer.old course.now.number course.now.unit index (2 * index - 1) }
+    ensures accepted { OnOk result (HasAccepted writer.new course.now.number course.now.unit index (2 * index)) }
+    ensures advertised { OnOk result (HasAdvertised writer.new index) }
+    ensures sequence { IfOk result (λ reached. reached ≡ index) }
+{
+    operations_add_up();
+    plan_is_in_order();
+    let sequence = writer.advertise()?;
+    Ok(Reached::make(sequence))
+}
+
+// Advertises where it is time. The client hears the sequence, and the service is told.
+#[tactic(auto, using(crate::proofs::Telling::told_more))]
 fn advertise<J: Naming, R: DrillRun + Run, H: Wait + Drop, W: Wait>(
     rt: &W,
     writer: &mut Writer<J, R, H>,
     course: &Course<R>,
     index: u32,
-    ends: &PublisherEnds<J, R>,
+    to: &mut Outgoing<J, R>,
 ) -> Result<(), OutOfMemory>
     requires index { (1 ≤ index) × (index ≤ course.now.count) }
     requires accepted { HasAccepted writer.old course.now.number course.now.unit index (2 * index - 1) }
     ensures accepted { OnOk result (HasAccepted writer.new course.now.number course.now.unit index (2 * index)) }
     ensures last { OnOk result (index ≡ course.now.count → HasAdvertised writer.new index) }
+    ensures words { OnOk result (to.new.words ≡ to.old.words ++ round_words index course.now.count) }
+    // The service is told of all that the writer did.
+    ensures told { OnOk result (told_in to.new.told ≡ told_in to.old.told ++ told_with writer.new index course.now.count) }
 {
-    operations_add_up();
-    plan_is_in_order();
-    if index % ROUND != 0 && index != course.count {
+    if !is_round(index, course.count) {
         return Ok(());
     }
-    let sequence = writer.advertise()?;
-    send(rt, &ends.words, Word::Advertised(Reached::make(sequence)))?;
-    send(rt, &ends.told, Request::Told(writer.tell()))?;
+    let reached = advertise_all(writer, course, index)?;
+    to.words.send(rt, Word::Advertised(reached))?;
+    to.told.send(rt, Request::Told(writer.tell()))?;
     Ok(())
 }
 
@@ -132,21 +203,49 @@ fn publish_one<J: Naming, R: DrillRun + Run, H: Wait + Drop, W: Wait>(
     writer: &mut Writer<J, R, H>,
     course: &Course<R>,
     index: u32,
-    ends: &PublisherEnds<J, R>,
+    to: &mut Outgoing<J, R>,
 ) -> Result<(), OutOfMemory>
     requires index { (1 ≤ index) × (index ≤ course.now.count) }
     requires before { HasAccepted writer.old course.now.number course.now.unit (index - 1) (2 * (index - 1)) }
     ensures accepted { OnOk result (HasAccepted writer.new course.now.number course.now.unit index (2 * index)) }
     ensures last { OnOk result (index ≡ course.now.count → HasAdvertised writer.new index) }
+    ensures words { OnOk result (to.new.words ≡ to.old.words ++ words_for_command course.now.number course.now.unit course.now.count index) }
+    ensures told { OnOk result (told_in to.new.told ≡ told_in to.old.told ++ told_with writer.new index course.now.count) }
 {
     accept(writer, course, index)?;
-    send_last(rt, alloc, writer, course, index, ends)?;
-    advertise(rt, writer, course, index, ends)?;
+    send_last(rt, alloc, writer, course, index, &mut to.words)?;
+    advertise(rt, writer, course, index, to)?;
     Ok(())
 }
 
-/// Publishes the commands of the course, and hands the writer back. The last word to the client
-/// comes after all else.
+// Publishes the commands of the course. The last word to the client comes after all else.
+fn publish_all<J: Naming, R: DrillRun + Run, H: Wait + Drop, W: Wait, G: Gate>(
+    rt: &W,
+    alloc: Global,
+    gate: &G,
+    course: &Course<R>,
+    writer: &mut Writer<J, R, H>,
+    to: &mut Outgoing<J, R>,
+) -> Result<(), OutOfMemory>
+    requires writer { writer.old ≡ [] }
+    requires words { to.old.words ≡ [] }
+    // All commands were accepted, and the image of all was advertised.
+    ensures accepted { OnOk result (HasAccepted writer.new course.now.number course.now.unit course.now.count (2 * course.now.count)) }
+    ensures advertised { OnOk result (HasAdvertised writer.new course.now.count) }
+    // The client was told of each command, and that nothing more comes.
+    ensures words { OnOk result (to.new.words ≡ words_through course.now.number course.now.unit course.now.count course.now.count ++ Last ∷ []) }
+{
+    'commands: for before in 0..course.count {
+        let work = course.work(Role::Publisher, before + 1);
+        gate.before(work);
+        publish_one(rt, alloc, writer, course, before + 1, to)?;
+        gate.after(work);
+    }
+    to.words.send(rt, Word::Last)?;
+    Ok(())
+}
+
+/// Publishes the commands of the course, and hands the writer back.
 pub(crate) fn publish<J: Naming, R: DrillRun + Run, H: Wait + Drop, W: Wait, G: Gate>(
     rt: &W,
     alloc: Global,
@@ -160,12 +259,7 @@ pub(crate) fn publish<J: Naming, R: DrillRun + Run, H: Wait + Drop, W: Wait, G: 
     ensures accepted { IfOk result (λ writer. HasAccepted writer course.now.number course.now.unit course.now.count (2 * course.now.count)) }
     ensures advertised { IfOk result (λ writer. HasAdvertised writer course.now.count) }
 {
-    'commands: for before in 0..course.count {
-        let work = course.work(Role::Publisher, before + 1);
-        gate.before(work);
-        publish_one(rt, alloc, &mut writer, course, before + 1, &ends)?;
-        gate.after(work);
-    }
-    send(rt, &ends.words, Word::Last)?;
+    let mut to = Outgoing::make(alloc, ends);
+    publish_all(rt, alloc, gate, course, &mut writer, &mut to)?;
     Ok(writer)
 }

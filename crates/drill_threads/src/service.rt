@@ -1,19 +1,28 @@
 //! The service.
 
-ghost use Rattle.std.specs.Prelude.{◌≡◌, false, IfOk, IfSome, IfNone, OnOk};
+ghost use Rattle.std.specs.Prelude.{◌≡◌, ◌++◌, true, false, map, IfOk, IfSome, IfNone, OnOk};
+ghost use Rattle.std.specs.List.{AllByRecursion};
 ghost use mathlib.Core.List.{IsPrefix};
+ghost use Rattle.unit_packets.specs.Packing.{bytes_in, packed};
+ghost use Rattle.gap_store.specs.Look.{slice_of};
+ghost use Rattle.pitch_model.specs.Datagrams.{IsPiece};
+ghost use Rattle.pitch_model.specs.History.{adds};
+ghost use Rattle.pitch_model.specs.Image.{image};
 ghost use Rattle.spin_server.specs.Served.{is_served};
-ghost use Rattle.shared_unit.specs.Histories.{IsLegal, served_at};
+ghost use Rattle.shared_unit.specs.Histories.{IsLegal, kept_at, served_at};
+ghost use Rattle.venue_core.specs.Plan.{plan};
+ghost use Rattle.drill_values.specs.declared.words.Reply.TheVariants.{Again};
 ghost use Rattle.drill_threads.specs.Publishing.{HasAll};
+ghost use Rattle.drill_threads.specs.Replying.{keeps_range, replies_to_gap, replies_to_spin, replies_to};
 
-use crate::course::{Course, copies};
-use crate::ends::{Request, ServiceEnds, send};
-use crossbeam_channel::Sender;
+use crate::course::Course;
+use crate::ends::{Request, ServiceEnds};
+use crate::outbox::Outbox;
 use drill_values::{Datagram, DrillRun, Image, Reply};
 use gap_store::{Found, GapLookup};
 use pitch_fields::OutOfMemory;
 use pitch_io::{Gate, Role};
-use pitch_messages::RawList;
+use pitch_messages::{ByteList, RawList};
 use pitch_model::Ask;
 use pitch_model::laws::{advertised_sequences_rise, operations_add_up};
 use shared_unit::{Naming, Run, Server};
@@ -29,16 +38,26 @@ fn range<J: Naming, R: DrillRun + Run>(
     server: &mut Server<J, R>,
     first: u32,
     count: u16,
-) -> Result<Option<Vec<Datagram<R>>>, OutOfMemory> {
-    if first == 0 || count == 0 {
+) -> Result<Option<DatagramList>, OutOfMemory>
+    // None is handed out just where not all of the range is kept.
+    ensures none { IfOk result (λ found. IfNone found (keeps_range (kept_at J.kept server.new.history) first count ≡ false)) }
+    ensures kept { IfOk result (λ found. IfSome found (λ _. keeps_range (kept_at J.kept server.new.history) first count ≡ true)) }
+    ensures datagrams { IfOk result (λ found. IfSome found (λ list. bytes_in list.items ≡ packed course.now.unit first (slice_of (kept_at J.kept server.new.history) first count))) }
+    ensures pieces { IfOk result (λ found. IfSome found (λ list. AllByRecursion (IsPiece (plan R.number R.unit R.count) R.unit) (bytes_in list.items))) }
+{
+    if first == 0 {
+        return Ok(None);
+    }
+    if count == 0 {
         return Ok(None);
     }
     let mut out = DatagramList::make(alloc);
     let found = server.pack(alloc, course.unit, first, count, &mut out)?;
     let _seen = server.seen();
     match found {
-        Found::Kept => Ok(Some(copies::<R>(alloc, out.as_slice())?)),
-        _ => Ok(None),
+        Found::Kept => Ok(Some(out)),
+        Found::Ahead { last: _ } => Ok(None),
+        Found::NotKept { first: _ } => Ok(None),
     }
 }
 
@@ -50,9 +69,13 @@ fn image<J: Naming, R: DrillRun + Run>(
     sequence: u32,
 ) -> Result<Option<Image<R>>, OutOfMemory>
     ensures sequence { IfOk result (λ served. IfSome served (λ image. image.sequence ≡ sequence)) }
-    ensures none { IfOk result (λ served. IfNone served (is_served (served_at server.new) sequence ≡ false)) }
-    ensures later { IsPrefix server.old server.new }
-    ensures run { OnOk result (IsLegal R.fixed R.plan server.new) }
+    // None is handed out just where the image is not served.
+    ensures none { IfOk result (λ served. IfNone served (is_served (served_at server.new.history) sequence ≡ false)) }
+    ensures served { IfOk result (λ served. IfSome served (λ _. is_served (served_at server.new.history) sequence ≡ true)) }
+    ensures raws { IfOk result (λ served. IfSome served (λ out. out.raws ≡ image (served_at server.new.history).messages sequence)) }
+    ensures orders { IfOk result (λ served. IfSome served (λ out. out.orders ≡ adds (image (served_at server.new.history).messages sequence))) }
+    ensures later { IsPrefix server.old.history server.new.history }
+    ensures run { OnOk result (IsLegal R.fixed R.plan server.new.history) }
 {
     advertised_sequences_rise();
     let mut raws = RawList::make(alloc);
@@ -68,7 +91,7 @@ pub(crate) fn image_of_all<J: Naming, R: DrillRun + Run>(
     course: &Course<R>,
     server: &mut Server<J, R>,
 ) -> Result<Image<R>, OutOfMemory>
-    requires { HasAll server.old course.now.number course.now.unit course.now.count }
+    requires { HasAll server.old.history course.now.number course.now.unit course.now.count }
     ensures { IfOk result (λ image. image.sequence ≡ course.now.count) }
 {
     operations_add_up();
@@ -80,6 +103,23 @@ pub(crate) fn image_of_all<J: Naming, R: DrillRun + Run>(
     }
 }
 
+// Sends datagrams again, each with memory for just its bytes.
+fn send_again<R: DrillRun, W: Wait>(
+    rt: &W,
+    alloc: Global,
+    datagrams: &[ByteList],
+    replies: &mut Outbox<Reply<R>>,
+) -> Result<(), OutOfMemory>
+    requires { AllByRecursion (IsPiece (plan R.number R.unit R.count) R.unit) (bytes_in datagrams.now) }
+    ensures { OnOk result (replies.new ≡ replies.old ++ map Again (bytes_in datagrams.now)) }
+{
+    'copied: for datagram in datagrams {
+        let copy = Datagram::of_bytes(alloc, datagram.bytes())?;
+        replies.send(rt, Reply::Again(copy))?;
+    }
+    Ok(())
+}
+
 // Answers a gap ask: with the range where all of it is kept.
 fn answer_gap<J: Naming, R: DrillRun + Run, W: Wait>(
     rt: &W,
@@ -88,15 +128,18 @@ fn answer_gap<J: Naming, R: DrillRun + Run, W: Wait>(
     server: &mut Server<J, R>,
     first: u32,
     count: u16,
-    to: &Sender<Reply<R>>,
-) -> Result<(), OutOfMemory> {
+    replies: &mut Outbox<Reply<R>>,
+) -> Result<(), OutOfMemory>
+    ensures { OnOk result (replies.new ≡ replies.old ++ replies_to_gap (kept_at J.kept server.new.history) course.now.unit first count) }
+{
     match range(alloc, course, server, first, count)? {
-        None => send(rt, to, Reply::Gap { accepted: false }),
+        None => {
+            replies.send(rt, Reply::Gap { accepted: false })?;
+            Ok(())
+        }
         Some(datagrams) => {
-            send(rt, to, Reply::Gap { accepted: true })?;
-            for datagram in datagrams {
-                send(rt, to, Reply::Again(datagram))?;
-            }
+            replies.send(rt, Reply::Gap { accepted: true })?;
+            send_again(rt, alloc, datagrams.as_slice(), replies)?;
             Ok(())
         }
     }
@@ -109,11 +152,19 @@ fn answer_spin<J: Naming, R: DrillRun + Run, W: Wait>(
     course: &Course<R>,
     server: &mut Server<J, R>,
     sequence: u32,
-    to: &Sender<Reply<R>>,
-) -> Result<(), OutOfMemory> {
+    replies: &mut Outbox<Reply<R>>,
+) -> Result<(), OutOfMemory>
+    ensures { OnOk result (replies.new ≡ replies.old ++ replies_to_spin (served_at server.new.history) sequence) }
+{
     match image(alloc, course, server, sequence)? {
-        Some(image) => send(rt, to, Reply::Spin(image)),
-        None => send(rt, to, Reply::NoSpin { sequence }),
+        Some(image) => {
+            replies.send(rt, Reply::Spin(image))?;
+            Ok(())
+        }
+        None => {
+            replies.send(rt, Reply::NoSpin { sequence })?;
+            Ok(())
+        }
     }
 }
 
@@ -124,11 +175,20 @@ fn answer<J: Naming, R: DrillRun + Run, W: Wait>(
     course: &Course<R>,
     server: &mut Server<J, R>,
     ask: Ask,
-    to: &Sender<Reply<R>>,
-) -> Result<(), OutOfMemory> {
+    replies: &mut Outbox<Reply<R>>,
+) -> Result<(), OutOfMemory>
+    // The replies are right at what the server has seen then.
+    ensures { OnOk result (replies.new ≡ replies.old ++ replies_to J.kept course.now.unit server.new.history ask) }
+{
     match ask {
-        Ask::Gap { first, count } => answer_gap(rt, alloc, course, server, first, count, to),
-        Ask::Spin { sequence } => answer_spin(rt, alloc, course, server, sequence, to),
+        Ask::Gap { first, count } => {
+            answer_gap(rt, alloc, course, server, first, count, replies)?;
+            Ok(())
+        }
+        Ask::Spin { sequence } => {
+            answer_spin(rt, alloc, course, server, sequence, replies)?;
+            Ok(())
+        }
     }
 }
 
@@ -142,15 +202,17 @@ pub(crate) fn serve<J: Naming, R: DrillRun + Run, W: Wait, G: Gate>(
     mut server: Server<J, R>,
     ends: ServiceEnds<J, R>,
 ) -> Result<Server<J, R>, OutOfMemory> {
+    let ServiceEnds { requests, replies } = ends;
+    let mut replies = Outbox::make(alloc, replies);
     let mut step = 0u32;
     'requests: for _ in rt.forever() {
-        match ends.requests.recv(rt) {
+        match requests.recv(rt) {
             Ok(Request::Told(told)) => server.hear_told(told),
             Ok(Request::Asked(ask)) => {
                 step = step.saturating_add(1);
                 let work = course.work(Role::Service, step);
                 gate.before(work);
-                answer(rt, alloc, course, &mut server, ask, &ends.replies)?;
+                answer(rt, alloc, course, &mut server, ask, &mut replies)?;
                 gate.after(work);
             }
             Err(_) => break,

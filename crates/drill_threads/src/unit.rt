@@ -153,6 +153,8 @@ fn run_unit<
 ) -> Result<Vec<u8>, OutOfMemory>
     requires book { opened.seen.book ≡ J.book }
     requires kept { opened.kept ≡ J.kept }
+    // What a service can hand out again are the last so many messages.
+    requires drill { J.kept ≡ drill_kept }
     requires servers { opened.servers ≡ 1 }
     ensures { IfOk result (λ line. line.items ≡ drill_line course.number course.unit course.count) }
 {

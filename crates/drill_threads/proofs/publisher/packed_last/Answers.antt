@@ -18,8 +18,21 @@ unreachable-requires g c =
     let course = c.args.course.now in
     last_is_there course.number course.unit c.args.index c.requires.index.0 (sym (ap option_copied c.in_default.is) ∙ c.last_raw.ensures ∙ ap last_of c.requires.accepted.accepted)
 
-pub returns : goal.returns
-returns g c =
+pub returns-clause-datagrams : goal.returns-clause-datagrams
+returns-clause-datagrams g c =
+    let course = c.args.course.now in
+    let raw : Raw = c.in-Some.raw.now in
+    let is : raw ≡ raw_of (plan_command course.number course.unit c.args.index) =
+    last_is course.number course.unit c.args.index raw c.requires.index.0 (sym (ap option_copied c.in-Some.is) ∙ c.last_raw.ensures ∙ ap last_of c.requires.accepted.accepted) in
+    let raws : List Raw = c.raws.result in
+    let list : raws ≡ raw_of (plan_command course.number course.unit c.args.index) ∷ [] =
+    c.raws.ensures ∙ c.in_ok-push.ensures.ok ∙ ap (λ (l : List Raw). l ++ raw ∷ []) c.make-last.ensures ∙ ap (λ (r : Raw). r ∷ []) is in
+    c.in_ok-pack.ensures.ok
+    ∙ ap (λ (l : List (Roomy ℕ)). bytes_in l ++ packed course.unit c.args.index raws) c.make-out.ensures
+    ∙ ap (λ (rs : List Raw). packed course.unit c.args.index rs) list
+
+pub returns-clause-pieces : goal.returns-clause-pieces
+returns-clause-pieces g c =
     let course = c.args.course.now in
     let raw : Raw = c.in-Some.raw.now in
     let is : raw ≡ raw_of (plan_command course.number course.unit c.args.index) =

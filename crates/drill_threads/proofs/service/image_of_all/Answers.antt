@@ -15,10 +15,10 @@ unreachable-requires g c =
       newest = c.advertised_sequences_rise.ensures.newest;
       last = c.shelves_show_what_was_pushed.ensures.newest;
     } in
-    let served : Bool = is_served (served_at c.image.new.server) course.count in
+    let served : Bool = is_served (served_at c.image.new.server.history) course.count in
     let none : served ≡ false = subst (λ o. IfNone o (served ≡ false)) c.in-None.is c.in_ok-image.ensures.none in
-    let prefix = planned_prefix g.R.Run.fixed g.R.Run.plan course.number course.unit course.count c.image.new.server course.planned c.in_ok-image.ensures.run in
-    let yes : served ≡ true = serves_all laws c.args.server.now c.image.new.server course.number course.unit course.count c.requires c.in_ok-image.ensures.later prefix in
+    let prefix = planned_prefix g.R.Run.fixed g.R.Run.plan course.number course.unit course.count c.image.new.server.history course.planned c.in_ok-image.ensures.run in
+    let yes : served ≡ true = serves_all laws c.args.server.now.history c.image.new.server.history course.number course.unit course.count c.requires c.in_ok-image.ensures.later prefix in
     apart (sym yes ∙ none)
   where
     apart : true ≡ false → ⊥

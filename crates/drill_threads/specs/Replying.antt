@@ -1,0 +1,41 @@
+-- What a service replies to an ask, at a history that it has seen. No caller needs this file.
+use Rattle.std.specs.Prelude.{ℕ, Bool, false, true, ◌&&◌, nat_lt, List, [], ◌∷◌, map, if◌then◌else◌}
+use Rattle.unit_packets.specs.Packing.{packed}
+use Rattle.gap_store.specs.Look.{View, look, slice_of}
+use Rattle.gap_store.specs.declared.found.Found.{Found}
+use Rattle.gap_store.specs.declared.found.Found.TheVariants.{Kept, Ahead, NotKept}
+use Rattle.pitch_model.specs.Advertising.{Operation}
+use Rattle.pitch_model.specs.History.{adds}
+use Rattle.pitch_model.specs.Image.{image}
+use Rattle.pitch_model.specs.declared.ask.Ask.{Ask}
+use Rattle.pitch_model.specs.declared.ask.Ask.TheVariants as asks
+use Rattle.spin_server.specs.Served.{Served, is_served}
+use Rattle.shared_unit.specs.Histories.{kept_at, served_at}
+use Rattle.drill_values.specs.declared.words.Reply.{Reply}
+use Rattle.drill_values.specs.declared.words.Reply.TheVariants.{Gap, Again, Spin, NoSpin}
+
+abbrev pub is_found : Found → Bool
+is_found Kept = true
+is_found (Ahead last) = false
+is_found (NotKept least) = false
+
+-- so many messages from a sequence on are kept, and there are some
+abbrev pub keeps_range : View → ℕ → ℕ → Bool
+keeps_range v first count = (nat_lt 0 first && nat_lt 0 count) && is_found (look v first count)
+
+-- to a gap ask: that it is accepted and the datagrams of its messages, just where these are kept
+abbrev pub replies_to_gap : {R : Type 0} → View → ℕ → ℕ → ℕ → List (Reply R)
+replies_to_gap v unit first count =
+    if keeps_range v first count then Gap true ∷ map Again (packed unit first (slice_of v first count))
+    else Gap false ∷ []
+
+-- to a spin ask: the image and the number of its orders, just where it is served
+abbrev pub replies_to_spin : {R : Type 0} → Served → ℕ → List (Reply R)
+replies_to_spin v sequence =
+    if is_served v sequence then Spin (record { sequence = sequence; orders = adds (image v.messages sequence); raws = image v.messages sequence }) ∷ []
+    else NoSpin sequence ∷ []
+
+-- to an ask, where so many of the last messages are kept
+abbrev pub replies_to : {R : Type 0} → ℕ → ℕ → List Operation → Ask → List (Reply R)
+replies_to kept unit history (asks.Gap first count) = replies_to_gap (kept_at kept history) unit first count
+replies_to kept unit history (asks.Spin sequence) = replies_to_spin (served_at history) sequence
