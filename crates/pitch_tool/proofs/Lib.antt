@@ -1,3 +1,4 @@
 pub mod Completing
 pub mod Demos
+pub mod Stopping
 pub mod Storms

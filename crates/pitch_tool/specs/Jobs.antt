@@ -2,7 +2,7 @@
 use Rattle.std.specs.Prelude.{Bool, true, false, ◌≡◌, ◌+◌, ℕ, List, Option, None, Some, Result, Ok, Err}
 use Rattle.pitch_words.specs.declared.form.Form.{Form}
 use Rattle.pitch_words.specs.declared.form.Form.TheVariants as form
-use Rattle.stream_print.specs.Inputs.{stream_limit, trouble_of, StreamEnds}
+use Rattle.stream_print.specs.Inputs.{stream_limit, trouble_of, StopsSoon, StreamEnds}
 use Rattle.stream_print.specs.Holding.{CanHold}
 use Rattle.stream_print.specs.Told.{Told, IsUntouched}
 use Rattle.stream_print.specs.declared.carrier.Carrier.TheVariants.{Bare, Capture}
@@ -49,6 +49,12 @@ most_taken (Text form) = text_limit + 1
 most_taken (Storm number units steps workers) = 0
 most_taken (Drill number units count) = 0
 most_taken (Demo number count) = 0
+
+-- a job that reads a stream takes less than a piece behind the byte with which a trouble shows; one
+-- that reads a text takes all of it, and the others take nothing
+abbrev pub StopsInTime : Job → Told → Type 0
+StopsInTime (Stream carrier form) input = StopsSoon carrier input
+StopsInTime job input = Unit {0}
 
 -- what is wrong with a stream, as the trouble of a job
 abbrev pub blocks_trouble : Option StreamTrouble → Option Trouble

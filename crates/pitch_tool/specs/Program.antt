@@ -1,5 +1,5 @@
 -- The program: what it says, and how it ends.
-use Rattle.std.specs.Prelude.{◌≡◌, ℕ, List, ◌++◌, codes, Result, Ok, Err, ◌⊎◌}
+use Rattle.std.specs.Prelude.{◌≡◌, ◌≢◌, Bool, false, ℕ, List, ◌++◌, codes, Result, Ok, Err, ◌⊎◌}
 use Rattle.pitch_io.specs.Causes.{HasCause}
 use Rattle.pitch_words.specs.Forms.{IsForm}
 use Rattle.pitch_words.specs.declared.form.Form.{Form}
@@ -10,7 +10,7 @@ use Rattle.schedule_replay.specs.Causes.{replay_error_text}
 use Rattle.stream_print.specs.Told.{Told, IsUntouched}
 use Rattle.stream_print.specs.declared.failure.StreamTrouble.TheVariants.{Faulty, BadCapture, TooLong}
 use Rattle.pitch_tool.specs.Devices.{Run, Says, Wires}
-use Rattle.pitch_tool.specs.Jobs.{job_of, JobEnds}
+use Rattle.pitch_tool.specs.Jobs.{job_of, uses_net, JobEnds, StopsInTime}
 use Rattle.pitch_tool.specs.declared.failure.Failure.{Failure}
 use Rattle.pitch_tool.specs.declared.failure.Failure.TheVariants as ending
 use Rattle.pitch_tool.specs.declared.failure.Trouble.{Trouble}
@@ -47,6 +47,15 @@ memory_text = codes "pitch: out of memory\n"
 abbrev pub IsNoForm : List (List ℕ) → Type 0
 IsNoForm words = (form : Form) → IsForm words form → ⊥
 
+-- the words are no form of a demo: they are another form, or none
+abbrev pub IsNoDemo : List (List ℕ) → Type 0
+IsNoDemo words = (form : Form) → IsForm words form → uses_net (job_of form) ≡ false
+
+-- where the words are a form that reads a stream, less than a piece was taken behind the byte with
+-- which a trouble shows
+abbrev pub StopsAtTrouble : List (List ℕ) → Told → Type 0
+StopsAtTrouble words input = (form : Form) → IsForm words form → StopsInTime (job_of form) input
+
 -- the words are a form, and its job ended so
 abbrev pub Does : List (List ℕ) → Result (Unit {0}) Failure → (input out : Told) → Wires → Type 0
 Does words result input out net = (form : Form) × IsForm words form × JobEnds (job_of form) result input out net
@@ -68,11 +77,12 @@ Closes words NetFault run = Does words (Err ending.Net) run.input.bytes run.out.
 Closes words OutOfMemory run = RunsOut words run.input.bytes run.out.bytes run.net × Says run.err memory_text
 
 -- a status that tells of a device's failure has its cause in that device's count, and no count
--- falls
+-- falls; that of the net stays, unless the status tells of its failure or memory ran out
 pub record HasCauses (status : ExitStatus) (run : Run) : Type 0 where
   pub read : HasCause run.input.faults run.input.faults' (status ≡ ReadFault)
   pub write : HasCause run.out.faults run.out.faults' (status ≡ WriteFault)
   pub net : HasCause run.net.faults run.net.faults' (status ≡ NetFault)
+  pub still : status ≢ NetFault → status ≢ OutOfMemory → run.net.faults' ≡ run.net.faults
 
 -- how it ends before anything is said
 abbrev pub RunEnds : List (List ℕ) → Result (Unit {0}) Failure → (input out : Told) → Wires → Type 0

@@ -1,12 +1,12 @@
-ghost use Rattle.std.specs.Prelude.{◌≡◌, ◌⊎◌, List, ℕ, false, IfOk, Some, None, Err, map, string_bytes};
+ghost use Rattle.std.specs.Prelude.{◌≡◌, ◌≢◌, ◌⊎◌, List, ℕ, false, IfOk, Some, None, Err, map, string_bytes};
 ghost use Rattle.pitch_io.specs.Causes.{HasCause, Rose};
 ghost use Rattle.pitch_io.specs.Putting.{Grows};
 ghost use Rattle.pitch_words.specs.Forms.{IsForm};
 ghost use Rattle.pitch_words.specs.declared.form.Form.{Form};
 ghost use Rattle.stream_print.specs.Told.{told, TakesAtMost};
 ghost use Rattle.pitch_tool.specs.Devices.{device, wires};
-ghost use Rattle.pitch_tool.specs.Jobs.{CanDo, JobEnds, Judges, most_taken, uses_net, job_of as the_job};
-ghost use Rattle.pitch_tool.specs.Program.{memory_text, trouble_text, IsNoForm, RunEnds, Closes, HasCauses, IsWhole, IsRefusal};
+ghost use Rattle.pitch_tool.specs.Jobs.{CanDo, JobEnds, Judges, StopsInTime, most_taken, uses_net, job_of as the_job};
+ghost use Rattle.pitch_tool.specs.Program.{memory_text, trouble_text, IsNoForm, IsNoDemo, RunEnds, Closes, HasCauses, StopsAtTrouble, IsWhole, IsRefusal};
 
 use crate::commands::demo::print_demo;
 use crate::commands::drill::print_drill;
@@ -38,9 +38,11 @@ fn do_job<R: Threads + Wait + Clock + Sync, I: Source, O: Sink, N: Net, G: Gate 
     requires { CanDo job }
     ensures ends { JobEnds job result (told I.left input.old input.new) (told O.written out.old out.new) (wires N.calls N.faults net.old net.new) }
     ensures reads { TakesAtMost (most_taken job) (told I.left input.old input.new) }
+    ensures stops { StopsInTime job (told I.left input.old input.new) }
     ensures read_cause { HasCause (I.faults input.old) (I.faults input.new) (result ≡ Err Failure.Read) }
     ensures write_cause { HasCause (O.faults out.old) (O.faults out.new) (result ≡ Err Failure.Write) }
     ensures net_cause { HasCause (N.faults net.old) (N.faults net.new) (result ≡ Err Failure.Net) }
+    ensures net_still { result ≢ Err Failure.Net → result ≢ Err Failure.OutOfMemory → N.faults net.new ≡ N.faults net.old }
     ensures unused { uses_net job ≡ false → net.new ≡ net.old }
 {
     match job {
@@ -76,10 +78,12 @@ fn run<R: Threads + Wait + Clock + Sync, I: Source, O: Sink, N: Net, G: Gate + S
 ) -> Result<(), Failure>
     ensures runs { RunEnds (map string_bytes words.now) result (told I.left input.old input.new) (told O.written out.old out.new) (wires N.calls N.faults net.old net.new) }
     ensures reads { (form : Form) → IsForm (map string_bytes words.now) form → TakesAtMost (most_taken (the_job form)) (told I.left input.old input.new) }
+    ensures stops { StopsAtTrouble (map string_bytes words.now) (told I.left input.old input.new) }
     ensures read_cause { HasCause (I.faults input.old) (I.faults input.new) (result ≡ Err Failure.Read) }
     ensures write_cause { HasCause (O.faults out.old) (O.faults out.new) (result ≡ Err Failure.Write) }
     ensures net_cause { HasCause (N.faults net.old) (N.faults net.new) (result ≡ Err Failure.Net) }
-    ensures unused { (form : Form) → IsForm (map string_bytes words.now) form → uses_net (the_job form) ≡ false → net.new ≡ net.old }
+    ensures net_still { result ≢ Err Failure.Net → result ≢ Err Failure.OutOfMemory → N.faults net.new ≡ N.faults net.old }
+    ensures unused { IsNoDemo (map string_bytes words.now) → net.new ≡ net.old }
 {
     match read(alloc, words)? {
         Some(form) => do_job(rt, alloc, job_of(form), input, out, net, gate),
@@ -140,10 +144,12 @@ fn close<R: Threads + Wait + Clock + Sync, I: Source, O: Sink, E: Sink, N: Net, 
         (record { input = device I.left I.faults input.old input.new; out = device O.written O.faults out.old out.new; err = device E.written E.faults err.old err.new; net = wires N.calls N.faults net.old net.new }) }
     ensures quiet { result ≡ ExitStatus.Done → E.written err.new ≡ E.written err.old }
     ensures reads { (form : Form) → IsForm (map string_bytes words.now) form → TakesAtMost (most_taken (the_job form)) (told I.left input.old input.new) }
+    ensures stops { StopsAtTrouble (map string_bytes words.now) (told I.left input.old input.new) }
     ensures read_cause { HasCause (I.faults input.old) (I.faults input.new) (result ≡ ExitStatus.ReadFault) }
     ensures write_cause { HasCause (O.faults out.old) (O.faults out.new) (result ≡ ExitStatus.WriteFault) }
     ensures net_cause { HasCause (N.faults net.old) (N.faults net.new) (result ≡ ExitStatus.NetFault) }
-    ensures unused { (form : Form) → IsForm (map string_bytes words.now) form → uses_net (the_job form) ≡ false → net.new ≡ net.old }
+    ensures net_still { result ≢ ExitStatus.NetFault → result ≢ ExitStatus.OutOfMemory → N.faults net.new ≡ N.faults net.old }
+    ensures unused { IsNoDemo (map string_bytes words.now) → net.new ≡ net.old }
 {
     match run(rt, alloc, words, input, out, net, gate) {
         Ok(()) => ExitStatus::Done,
@@ -208,11 +214,13 @@ fn close<R: Threads + Wait + Clock + Sync, I: Source, O: Sink, E: Sink, N: Net, 
 ///   client ended.
 ///
 /// At `Done` the whole text was written and nothing was said. At `Usage` nothing was read or
-/// written. At `BadInput` the texts of the whole blocks before the trouble were written, and no
-/// book; by `pack` and `replay` nothing was, and `storm`, `drill` and `demo` never end so. At
-/// `ReadFault` the source had failed, at `WriteFault` the sink, and at `NetFault` the net. At
+/// written, and the net was left as it was. At `BadInput` the texts of the whole blocks before the
+/// trouble were written, and no book; by `pack` and `replay` nothing was, and `storm`, `drill` and
+/// `demo` never end so. At `ReadFault` the source had failed, at `WriteFault` the sink, and at
+/// `NetFault` the net; where memory did not run out, a net that failed ends the demo so. At
 /// `OutOfMemory` memory ran out: `follow` and `show` may have written a prefix of the text, the
-/// others wrote nothing.
+/// others wrote nothing. Whatever the status, `follow` and `show` take less than a piece of 65,536
+/// bytes behind the byte that shows a fault.
 pub fn pitch<R: Threads + Wait + Clock + Sync, I: Source, O: Sink, E: Sink, N: Net, G: Gate + Sync>(
     rt: &R,
     alloc: Global,
@@ -228,13 +236,16 @@ pub fn pitch<R: Threads + Wait + Clock + Sync, I: Source, O: Sink, E: Sink, N: N
         (record { input = device I.left I.faults input.old input.new; out = device O.written O.faults out.old out.new; err = device E.written E.faults err.old err.new; net = wires N.calls N.faults net.old net.new }) }
     // Where all was done, nothing is said.
     ensures quiet { result ≡ ExitStatus.Done → E.written err.new ≡ E.written err.old }
-    // A read, a write or a net fault was counted by its device.
+    // A read, a write or a net fault was counted by its device. Unless the net failed or memory ran
+    // out, the net counted none.
     ensures causes { HasCauses result
         (record { input = device I.left I.faults input.old input.new; out = device O.written O.faults out.old out.new; err = device E.written E.faults err.old err.new; net = wires N.calls N.faults net.old net.new }) }
     // Whatever the status, the source gave no more than one byte past the limit of the form.
     ensures reads { (form : Form) → IsForm (map string_bytes words.now) form → TakesAtMost (most_taken (the_job form)) (told I.left input.old input.new) }
-    // Only a demo uses the net.
-    ensures unused { (form : Form) → IsForm (map string_bytes words.now) form → uses_net (the_job form) ≡ false → net.new ≡ net.old }
+    // Of a stream, less than a piece of 65,536 bytes is taken behind the byte that shows a trouble.
+    ensures stops { StopsAtTrouble (map string_bytes words.now) (told I.left input.old input.new) }
+    // Only a demo uses the net, and words that are no form do not.
+    ensures unused { IsNoDemo (map string_bytes words.now) → net.new ≡ net.old }
     // Where the words are no form, that is the answer, or memory ran out.
     ensures unknown { IsNoForm (map string_bytes words.now) → (result ≡ ExitStatus.Usage) ⊎ (result ≡ ExitStatus.OutOfMemory) }
     // Where nothing is wrong with the words and the input and no device failed, the job was done
