@@ -30,7 +30,7 @@ use Rattle.client_links.specs.Linking.{NoLookup, link_tells}
 use Rattle.world_model.specs.Ends.{grp_server, gap_link, spin_link}
 use Rattle.world_model.specs.State.{Connection}
 use Rattle.world_model.specs.Verbs.{at_grp_server, at_spin_server, at_link, sent_whole}
-use Rattle.net_edge.specs.Due.{Setting, demo_unit, hold_limit, accepted, gap_view, spin_view}
+use Rattle.net_edge.specs.Due.{Setting, demo_unit, hold_limit, request_limits, accepted, gap_view, spin_view}
 use Rattle.net_edge.specs.Scene.{Scene, OnLine, AtEnd, line_in, with_line, at_end, with_end, is_got, got_end, first_scene}
 use Rattle.net_edge.specs.Steps.{Step, Did, Beat, Turn}
 
@@ -84,7 +84,7 @@ abbrev pub source_at : Setting → List ℕ → Scene → Source
 source_at s bytes now = record {
   there = true;
   views = replicate (length (new_items now.grp.server bytes)) (gap_view s now.turn);
-  limits = record { second = 10; minute = 100; day = 10000 };
+  limits = request_limits;
   spent = now.spent;
 }
 

@@ -9,7 +9,9 @@ use Rattle.pitch_model.specs.Advertising.{with_sequence, last_ten}
 use Rattle.pitch_model.specs.History.{Raw}
 use Rattle.venue_core.specs.Losses.{is_lost}
 use Rattle.venue_core.specs.Plan.{plan}
+use Rattle.pitch_text.specs.Defaults.{default_hold, default_second, default_minute, default_day}
 use Rattle.gap_store.specs.Look.{View}
+use Rattle.grp_session.specs.Budget.{Limits}
 use Rattle.spin_server.specs.Served.{Served}
 
 -- a demo's number, and how many messages its venue accepts
@@ -29,7 +31,11 @@ abbrev pub kept_messages : ℕ
 kept_messages = 65536
 
 abbrev pub hold_limit : ℕ
-hold_limit = 4096
+hold_limit = default_hold
+
+-- how many requests the proxy accepts in a second, in a minute and in a day
+abbrev pub request_limits : Limits
+request_limits = record { second = default_second; minute = default_minute; day = default_day }
 
 abbrev pub call_room : ℕ
 call_room = 65535

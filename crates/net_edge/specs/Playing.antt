@@ -30,7 +30,7 @@ use Rattle.world_model.specs.Connections.{KeepsShelf}
 use Rattle.world_model.specs.Ends.{grp_server, spin_server, gap_link, spin_link}
 use Rattle.world_model.specs.State.{Connection, Pipe}
 use Rattle.net_edge.specs.Acting.{scene_of, is_group_open, source_at, sent_on, end_puts, taken_at, all_tick}
-use Rattle.net_edge.specs.Due.{Setting, demo_unit, kept_messages, hold_limit, accepted, messages, advertised_until, beat, due, is_tenth, ticks}
+use Rattle.net_edge.specs.Due.{Setting, demo_unit, kept_messages, hold_limit, request_limits, accepted, messages, advertised_until, beat, due, is_tenth, ticks}
 use Rattle.net_edge.specs.Scene.{Scene, OnLine, AtEnd, line_in, with_line, at_end, said_at, all_put}
 use Rattle.net_edge.specs.Peers.{Peer, LooksIn, end_of, peer_setup, down_of, with_client_end}
 use Rattle.net_edge.specs.Steps.{Step, calls_of}
@@ -71,7 +71,7 @@ pub record MarketHas (market : Market) (messages : List Raw) (sent : ℕ) (adver
 pub record ProxyHas (proxy : Proxy) (events : List (Event Source)) (spent : Spent) : Type 0 where
   pub made : proxy.server.setup ≡ grp_server demo_unit
   pub stands : ProxyStands proxy.server events
-  pub limits_are : proxy.budget.limits ≡ record { second = 10; minute = 100; day = 10000 }
+  pub limits_are : proxy.budget.limits ≡ request_limits
   pub counted : Counted proxy.budget spent
 
 -- the Spin Server stands for what happened to it

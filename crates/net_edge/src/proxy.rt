@@ -27,6 +27,7 @@ use gap_store::GapStore;
 use grp_session::{GapBudget, GrpServer, look_laws};
 use pitch_fields::OutOfMemory;
 use pitch_io::{Line, LinkEnd, Net, NetTaken};
+use pitch_text::{DEFAULT_DAY, DEFAULT_MINUTE, DEFAULT_SECOND};
 use std::alloc::Global;
 use unit_packets::DatagramList;
 
@@ -49,7 +50,7 @@ impl Proxy {
         accounts.push(account)?;
         Ok(Proxy {
             server: GrpServer::make(alloc, 1, accounts, false),
-            budget: GapBudget::make(10, 100, 10000),
+            budget: GapBudget::make(DEFAULT_SECOND, DEFAULT_MINUTE, DEFAULT_DAY),
         })
     }
 

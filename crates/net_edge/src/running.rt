@@ -29,6 +29,7 @@ use client_links::{Account, GapLink, SpinLink};
 use pitch_fields::OutOfMemory;
 use pitch_io::{LinkEnd, Net, NetDone};
 use pitch_model::Status;
+use pitch_text::DEFAULT_HOLD;
 use spin_server::SpinServer;
 use std::alloc::Global;
 use storm_plan::append_unit_line;
@@ -76,7 +77,7 @@ fn make_ends(
     let spin_link = SpinLink::make(alloc, 1, &account(), spin_login)?;
     let proxy = Proxy::make(alloc, account())?;
     let spin = spin_server(alloc)?;
-    let client = UnitClient::make(alloc, 4096)?;
+    let client = UnitClient::make(alloc, DEFAULT_HOLD)?;
     Ok(Ends {
         alloc,
         proxy,

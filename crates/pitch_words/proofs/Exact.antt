@@ -13,6 +13,7 @@ use Rattle.long_options.proofs.Program.{calls_taken, takes_calls}
 use Rattle.pitch_words.specs.Numbers.{IsGivenNumber, IsGivenOr, IsGivenMaybe}
 use Rattle.pitch_words.specs.Forms.{HasForm, HasNumbers, IsForm, command_of, commands, pitch}
 use Rattle.pitch_words.specs.declared.form.Form.{Form}
+use Rattle.pitch_text.specs.Defaults.{default_hold}
 use Rattle.pitch_words.specs.declared.form.Form.TheVariants.{Follow, FollowCapture, Show, Pack, Replay, Storm, Drill, Demo}
 
 -- ---- a line for each form
@@ -44,10 +45,10 @@ maybe_same least most (Some t) (Some m) (Some n) a b = ap (λ (k : ℕ). Some k)
 
 -- options have the numbers of one form of a command
 numbers_same : (options : Options) (a b : Form) → bytes_eq (command_of a).0 (command_of b).0 ≡ true → HasNumbers options a → HasNumbers options b → a ≡ b
-numbers_same options (Follow m) (Follow n) e a b = ap Follow (given_or_same 4096 1 65536 (options.value (codes "hold")) m n a.2 b.2)
+numbers_same options (Follow m) (Follow n) e a b = ap Follow (given_or_same default_hold 1 65536 (options.value (codes "hold")) m n a.2 b.2)
 numbers_same options (FollowCapture p m) (FollowCapture q n) e a b =
     ap (λ (k : Option ℕ). FollowCapture k m) (maybe_same 0 65535 (options.value (codes "port")) p q a.1 b.1)
-    ∙ ap (λ (k : ℕ). FollowCapture q k) (given_or_same 4096 1 65536 (options.value (codes "hold")) m n a.2 b.2)
+    ∙ ap (λ (k : ℕ). FollowCapture q k) (given_or_same default_hold 1 65536 (options.value (codes "hold")) m n a.2 b.2)
 numbers_same options (Follow m) (FollowCapture q n) e a b = absurd (true≢false (sym b.0 ∙ a.0))
 numbers_same options (FollowCapture p m) (Follow n) e a b = absurd (true≢false (sym a.0 ∙ b.0))
 numbers_same options Show Show e a b = refl

@@ -1,6 +1,7 @@
 -- The forms of the program's words.
 use Rattle.std.specs.Prelude.{◌≡◌, ℕ, ◌-◌, ◌^◌, ◌≤◌, Bool, true, false, List, [], ◌∷◌, Option, Some, None, codes}
 use Rattle.pitch_fields.specs.Limits.{most_held}
+use Rattle.pitch_text.specs.Defaults.{default_hold}
 use Rattle.clap.specs.Simple.{App}
 use Rattle.clap.specs.Walk.{Row}
 use Rattle.long_options.specs.Words.{Described, Given, IsCall, Text, may_have, may_set, must_have}
@@ -59,9 +60,9 @@ command_of (Demo number count) = demo
 -- of a demo 1 to 1,000; `show` has none
 abbrev pub HasNumbers : Options → Form → Type 0
 HasNumbers options (Follow hold) =
-    (options.has (codes "pcap") ≡ false) × IsGivenMaybe 0 65535 (options.value (codes "port")) None × IsGivenOr 4096 1 most_held (options.value (codes "hold")) hold
+    (options.has (codes "pcap") ≡ false) × IsGivenMaybe 0 65535 (options.value (codes "port")) None × IsGivenOr default_hold 1 most_held (options.value (codes "hold")) hold
 HasNumbers options (FollowCapture port hold) =
-    (options.has (codes "pcap") ≡ true) × IsGivenMaybe 0 65535 (options.value (codes "port")) port × IsGivenOr 4096 1 most_held (options.value (codes "hold")) hold
+    (options.has (codes "pcap") ≡ true) × IsGivenMaybe 0 65535 (options.value (codes "port")) port × IsGivenOr default_hold 1 most_held (options.value (codes "hold")) hold
 HasNumbers options Show = Unit {0}
 HasNumbers options (Pack unit) = IsGivenNumber 1 255 (options.value (codes "unit")) unit
 HasNumbers options (Replay workers) = IsGivenOr 1 1 64 (options.value (codes "workers")) workers

@@ -10,6 +10,7 @@ ghost use Rattle.pitch_words.specs.declared.form.Form.{Form};
 
 use crate::form::Form;
 use clap::ArgMatches;
+use pitch_text::DEFAULT_HOLD;
 
 // The number that the text writes by 1 to 20 digits, where it lies within the range.
 fn number(text: &str, least: u64, most: u64) -> Option<u64>
@@ -114,7 +115,7 @@ fn follow(matches: &ArgMatches) -> Option<Form>
         (HasForm (Some (codes "follow", rows_of (found_of matches.now)))) }
     ensures range { IfSome result IsInRange }
 {
-    let hold = given_or(matches, "hold", 4096, 1, 65536)?;
+    let hold = given_or(matches, "hold", u64::from(DEFAULT_HOLD), 1, 65536)?;
     let port = given_maybe(matches, "port", 0, 65535)?;
     follow_form(is_given(matches, "pcap"), as_port(port), hold as u32)
 }
