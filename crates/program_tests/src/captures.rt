@@ -12,17 +12,18 @@ use std::thread::Threads;
 use std::time::Clock;
 
 // The header of a capture, little endian with microseconds, and big endian with nanoseconds.
-const LITTLE: &[u8] = b"\xd4\xc3\xb2\xa1\x02\0\x04\0\0\0\0\0\0\0\0\0\0\0\x04\0\x01\0\0\0";
+pub(crate) const LITTLE: &[u8] =
+    b"\xd4\xc3\xb2\xa1\x02\0\x04\0\0\0\0\0\0\0\0\0\0\0\x04\0\x01\0\0\0";
 
 const BIG: &[u8] = b"\xa1\xb2\x3c\x4d\0\x02\0\x04\0\0\0\0\0\0\0\0\0\x04\0\0\0\0\0\x01";
 
 // The head of a packet of 60 bytes.
-const LITTLE_PACKET: &[u8] = b"\0\0\0\0\0\0\0\0\x3c\0\0\0\x3c\0\0\0";
+pub(crate) const LITTLE_PACKET: &[u8] = b"\0\0\0\0\0\0\0\0\x3c\0\0\0\x3c\0\0\0";
 
 const BIG_PACKET: &[u8] = b"\0\0\0\0\0\0\0\0\0\0\0\x3c\0\0\0\x3c";
 
 // A frame of IPv4 and UDP to port 30,001, which carries the second 34,200 at sequence 1 of unit 1.
-const FRAME: &[u8] = b"\x01\0\x5e\0\0\x01\x02\0\0\0\0\x01\x08\0\
+pub(crate) const FRAME: &[u8] = b"\x01\0\x5e\0\0\x01\x02\0\0\0\0\x01\x08\0\
     \x45\0\0\x2a\0\0\0\0\x40\x11\0\0\x0a\0\0\x01\xe0\0\0\x01\
     \x13\x88\x75\x31\0\x16\0\0\
     \x0e\0\x01\x01\x01\0\0\0\x06\x20\x98\x85\0\0\0\0\0\0";

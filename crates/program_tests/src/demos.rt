@@ -1,12 +1,14 @@
-//! Demos of both ends over a net: one in memory, of which a call may fail, and one that carries
-//! nothing.
+//! Demos of both ends over a net: one in memory, of which a call may fail, one over sockets, one
+//! that loses datagrams or ends a connection, and one that carries nothing.
 
-use crate::nets::NoNet;
+use crate::nets::{NoNet, Trouble, TroubledNet};
 use crate::runs::run_over;
+use loopback_net::StdNet;
 use pitch_fields::OutOfMemory;
-use pitch_io::{FreeGate, MemoryNet, NetCall, NetVerb};
+use pitch_io::{FreeGate, MemoryNet, Net, NetCall, NetVerb};
 use pitch_tool::ExitStatus;
 use std::alloc::Global;
+use std::net;
 use std::sync::Wait;
 use std::test::*;
 use std::thread::Threads;
@@ -64,5 +66,64 @@ fn a_net_that_carries_nothing_leaves_it_silent(rt: HostRuntime) -> Result<(), Fa
     let outcome = run_over(&rt, rt.alloc(), DEMO, b"", &mut NoNet, &FreeGate)?;
     let line = b"unit 1 silent orders 0 shares 0\n";
     assert!(rt; outcome.is(ExitStatus::Done, line, ""));
+    Ok(())
+}
+
+// Demos, what is wrong with their nets, and where they end. By number 2 message 10 is lost on both
+// lines, so it comes by a gap reply or not at all. Without a proxy messages come by images. Orders
+// and shares are those of the plan's first 16, 9 and 40 messages, worked by a script of its rules.
+const LOSSES: [(&str, Trouble, &str); 3] = [
+    (
+        GAP,
+        Trouble::Nothing,
+        "unit 1 current 16 orders 5 shares 1088\n",
+    ),
+    (
+        GAP,
+        Trouble::GapLine,
+        "unit 1 behind 9 of 16 orders 2 shares 519\n",
+    ),
+    (
+        LONG,
+        Trouble::Proxy,
+        "unit 1 current 40 orders 12 shares 3199\n",
+    ),
+];
+
+const GAP: &str = "demo --number 2 --count 16";
+
+const LONG: &str = "demo --number 0 --count 40";
+
+// Whether a demo over this net ends so.
+fn ends_so<R: Threads + Wait + Clock + Sync, N: Net + Drop>(
+    rt: &R,
+    alloc: Global,
+    net: N,
+    case: &(&str, Trouble, &str),
+) -> Result<bool, OutOfMemory> {
+    let (line, trouble, text) = case;
+    let mut net = TroubledNet::make(net, *trouble);
+    let outcome = run_over(rt, alloc, line, b"", &mut net, &FreeGate)?;
+    Ok(outcome.is(ExitStatus::Done, text.as_bytes(), ""))
+}
+
+// Whether each demo ends so, over memory and over sockets.
+fn all_end_so<R: Threads + Wait + Clock + Sync + net::Net>(
+    rt: &R,
+    alloc: Global,
+    cases: &[(&str, Trouble, &str)],
+) -> Result<bool, OutOfMemory> {
+    for case in cases {
+        let memory = MemoryNet::make(alloc, Vec::new(alloc));
+        if !ends_so(rt, alloc, memory, case)? || !ends_so(rt, alloc, StdNet::make(rt), case)? {
+            return Ok(false);
+        }
+    }
+    Ok(true)
+}
+
+#[test]
+fn a_demo_recovers_what_is_lost(rt: HostRuntime) -> Result<(), Fail> {
+    assert!(rt; all_end_so(&rt, rt.alloc(), &LOSSES)?);
     Ok(())
 }

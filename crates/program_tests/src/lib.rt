@@ -13,6 +13,8 @@ mod devices;
 #[cfg(test)]
 mod drills;
 #[cfg(test)]
+mod live;
+#[cfg(test)]
 mod nets;
 #[cfg(test)]
 mod packs;
@@ -20,6 +22,8 @@ mod packs;
 mod runs;
 #[cfg(test)]
 mod schedules;
+#[cfg(test)]
+mod sessions;
 #[cfg(test)]
 mod storms;
 #[cfg(test)]

@@ -434,7 +434,7 @@ static SCHEDULES: [(&[u8], &str); 11] = [
 ];
 
 // Whether each schedule has its text, where at most `piece` bytes come at once.
-fn all_are_told<R: Threads + Wait + Clock + Sync>(
+pub(crate) fn all_are_told<R: Threads + Wait + Clock + Sync>(
     rt: &R,
     alloc: Global,
     line: &str,
