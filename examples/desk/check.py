@@ -1,0 +1,105 @@
+#!/usr/bin/env python3
+"""Tries the scripts of this folder on the sample, and on storms.
+
+    examples/desk/check.py PROGRAM
+
+PROGRAM is the path of the built program. What is wanted was worked out by hand; of the storms it is
+what ../storms has. The last line is `N passed, M failed`; the exit status is 0 only where none
+failed.
+"""
+import json
+import os
+import subprocess
+import sys
+
+HERE = os.path.dirname(os.path.abspath(__file__))
+SAMPLE = os.path.join(HERE, '..', 'sample.pitch')
+CAPTURE = os.path.join(HERE, '..', 'captures', 'sample.pcap')
+
+GAPS = 'unit 1 behind from block 3 to 6, after 2, by at most 2\n'
+CSV = '''unit,at,second,id,side,quantity,symbol,price,hidden,mpid
+1,4,34200,100,B,300,ACME,12.3456,0,
+1,4,34200,101,S,200,ACME,12.4000,0,
+2,3,34200,7,S,1000,ZVZZT+P,10.5000,1,ABCD
+'''
+CSV_OF_ONE = '''unit,at,second,id,side,quantity,symbol,price,hidden,mpid
+2,3,34200,7,S,1000,ZVZZT+P,10.5000,1,ABCD
+'''
+OBJECTS = [
+    {'block': 3, 'unit': 1, 'first': 4, 'count': 1, 'overflow': False, 'status': 'behind', 'reach': 2, 'top': 4},
+    {'book': 2, 'at': 3, 'second': 34200, 'orders': 1},
+    {'order': '7', 'side': 'S', 'quantity': 1000, 'symbol': 'ZVZZT+P', 'price': '10.5000', 'hidden': True, 'mpid': 'ABCD'},
+]
+UNITS = ['unit 1 blocks 4, at the end current 4; behind after 2 blocks, overflows 0',
+         'unit 2 blocks 3, at the end current 3; behind after 0 blocks, overflows 0']
+
+
+def run(words, given=None):
+    """What a program writes; standard input is the bytes given or a file's."""
+    if isinstance(given, str):
+        with open(given, 'rb') as file:
+            given = file.read()
+    return subprocess.run(words, input=given, stdout=subprocess.PIPE, check=True).stdout
+
+
+def script(name):
+    return os.path.join(HERE, name)
+
+
+def follow(program, given, *words):
+    return run([program, 'follow', *words], given)
+
+
+def awk(name, text, *words):
+    return run(['awk', *words, '-f', script(name)], text).decode()
+
+
+def objects(text):
+    return [json.loads(line) for line in run([script('book_json.py')], text).splitlines()]
+
+
+def orders_and_shares(text):
+    """Of the one book that is printed."""
+    quantities = [int(line.split()[3]) for line in text.decode().splitlines() if line.startswith('order ')]
+    return len(quantities), sum(quantities)
+
+
+def storm(program, number, unit, steps, *words):
+    return run([script('storm_feed.py'), program, str(number), str(unit), str(steps), '--filled', *words])
+
+
+def cases(program):
+    """The name of each case, what came and what is wanted."""
+    text = follow(program, SAMPLE)
+    yield 'gaps', awk('gaps.awk', text), GAPS
+    yield 'csv', awk('book_csv.awk', text), CSV
+    yield 'csv of one unit', awk('book_csv.awk', text, '-v', 'unit=2', '-v', 'symbol=ZVZZT+P'), CSV_OF_ONE
+    told = objects(text)
+    yield 'json', [told[2], told[10], told[11]], OBJECTS
+    captured = follow(program, CAPTURE, '--pcap', '--port', '30501')
+    yield 'json of a capture', objects(captured)[-1], {'packets': 7, 'used': 6, 'faulty': 1}
+    times = run([script('times.py'), '30501'], CAPTURE).decode().split('\n')[:-1]
+    yield 'times', [line.split()[0] for line in times], [str(k) for k in range(1, 8)]
+    yield 'report', run([script('report.sh'), program, CAPTURE, '30501']).decode().split('\n')[4:6], UNITS
+    for unit, shares in ((1, 181375), (2, 182000)):
+        yield 'storm', orders_and_shares(follow(program, storm(program, 1, unit, 2000))), (625, shares)
+    packets = storm(program, 1, 2, 2000, '--pcap')
+    yield 'storm as a capture', orders_and_shares(follow(program, packets, '--pcap')), (625, 182000)
+
+
+def main():
+    if len(sys.argv) != 2:
+        sys.exit('usage: check.py PROGRAM')
+    passed = failed = 0
+    for name, got, wanted in cases(os.path.abspath(sys.argv[1])):
+        if got == wanted:
+            passed += 1
+        else:
+            failed += 1
+            print('FAIL %s: %r, and not %r' % (name, got, wanted))
+    print('%d passed, %d failed' % (passed, failed))
+    sys.exit(1 if failed else 0)
+
+
+if __name__ == '__main__':
+    main()
