@@ -1,6 +1,6 @@
 -- What the client of a side is answered.
-use Rattle.std.proofs.Common.{◌≡◌, ℕ, zero, suc, ◌+◌, ◌-◌, ◌≤◌, ◌<◌, ◌==◌, Bool, true, false, ◌||◌, List, [], ◌∷◌, ◌++◌, length, drop, cond, nat_lt, nat_eq, None, Option, inl, inr, ◌⊎◌, refl, sym, ap, ◌∙◌, subst, arith}
-use Rattle.std.proofs.lemmas.Bool.{cases_lt, cond-true, cond-false}
+use Rattle.std.proofs.Common.{◌≡◌, ℕ, zero, suc, ◌+◌, ◌-◌, ◌≤◌, ◌==◌, Bool, true, false, ◌||◌, List, [], ◌∷◌, ◌++◌, length, drop, cond, nat_lt, nat_eq, refl, sym, ap, ◌∙◌, subst, arith}
+use Rattle.std.proofs.lemmas.Bool.{cond-true, cond-false}
 use Rattle.std.proofs.lemmas.Bool.Decides.{nat_tests}
 use Rattle.std.proofs.lemmas.List.{length-append, length-take, length-drop}
 use Rattle.std.specs.List.{AllByRecursion, list_any}
@@ -8,7 +8,7 @@ use Rattle.std.specs.Set.{is_member}
 use Rattle.unit_packets.specs.Packing.{IsPacking, packed}
 use Rattle.pitch_model.specs.Advertising.{Operation, accepted_by, advertised_by, last_ten}
 use Rattle.pitch_model.specs.Datagrams.{IsPiece}
-use Rattle.pitch_model.specs.History.{Entry, Raw, Ticked, adds}
+use Rattle.pitch_model.specs.History.{Raw, adds}
 use Rattle.pitch_model.specs.Honest.{AreVenues}
 use Rattle.pitch_model.specs.Image.{image}
 use Rattle.pitch_model.proofs.Datagrams.{packing_pieces, venues_slice, piece_more}
@@ -21,10 +21,8 @@ use Rattle.spin_server.specs.Shelves.{Shelf}
 use Rattle.spin_server.specs.Stands.{ShelfStands, ShelfShows, OneServed, seen_of}
 use Rattle.spin_server.specs.declared.lookup.Imaged.{Imaged}
 use Rattle.spin_server.specs.declared.lookup.Imaged.TheVariants as answers
-use Rattle.pitch_model.specs.Asking.{ask_of}
-use Rattle.pitch_model.specs.declared.ask.Ask.{Ask}
-use Rattle.client_core.specs.declared.client.UnitClient.{UnitClient}
-use Rattle.drill_client.specs.Following.{Follows, FollowsOn, KeepsFollowing, IsImageOf}
+use Rattle.drill_client.specs.Following.{IsImageOf}
+use Rattle.unit_threads.specs.Answered.{last_kept}
 use Rattle.unit_threads.specs.Turns.{KeepsLast}
 
 -- ---- Gaps
@@ -46,7 +44,7 @@ kept_within v first count e = by (nat_lt (length v.messages) (first + count - 1)
 pub kept_pieces : (s s' : Store) (messages : List Raw) (unit first count : ℕ) (before after : List (List ℕ)) → OneView → KeepsLast s messages → s' ≡ s → 1 ≤ first → 1 ≤ count
     → PacksAt (λ v. s' ≡ store_of v) (record { messages = messages; kept = 4096 }) unit first count Kept before after → before ≡ [] → AllByRecursion (IsPiece messages unit) after
 kept_pieces s s' messages unit first count before after one keeps same low some at none =
-    let v : View = view_of messages in
+    let v : View = last_kept messages in
     let lengths : length at.now.messages ≡ length messages = ap (λ (t : Store). t.pushed) (sym at.shows ∙ same ∙ keeps) in
     let is : at.now ≡ v = one v at.now at.later lengths in
     let range : given (look at.now first count) at.now first count ≡ slice_of v first count = ap (λ (f : Found). given f at.now first count) (sym at.answer) ∙ ap (λ (w : View). slice_of w first count) is in
@@ -124,6 +122,27 @@ module _ (laws : ShelfLaws) (shelf shelf' : Shelf) (operations : List Operation)
           apart : answers.Image orders ≡ answers.NotAdvertised → ⊥
           apart e = cc
 
+  -- an image is handed out just where it is served
+  pub image_there : (orders : ℕ) → answer ≡ answers.Image orders → served ≡ true
+  image_there orders e = by served refl
+    where
+      by : (b : Bool) → served ≡ b → served ≡ true
+      by true t = t
+      by false f = absurd (apart (sym e ∙ answer_is ∙ cond-false served (answers.Image (adds (image V sequence))) answers.NotAdvertised f))
+        where
+          apart : answers.Image orders ≡ answers.NotAdvertised → ⊥
+          apart e = cc
+
+  pub image_not_there : answer ≡ answers.NotAdvertised → served ≡ false
+  image_not_there e = by served refl
+    where
+      by : (b : Bool) → served ≡ b → served ≡ false
+      by false f = f
+      by true t = absurd (apart (sym (cond-true served (answers.Image (adds (image V sequence))) answers.NotAdvertised t) ∙ sym answer_is ∙ e))
+        where
+          apart : {n : ℕ} → answers.Image n ≡ answers.NotAdvertised → ⊥
+          apart e = cc
+
   pub served_is_there : served ≡ true → answer ≡ answers.NotAdvertised → ⊥
   served_is_there t e = apart (sym (cond-true served (answers.Image (adds (image V sequence))) answers.NotAdvertised t) ∙ sym answer_is ∙ e)
     where
@@ -148,13 +167,3 @@ newest_there (n ∷ ns) k e = by (newest_there ns k) (n == k) refl
     by later false f =
         let g : nat_eq k n ≡ false = grind (arith, nat_tests, f) in
         ap (λ (b : Bool). b || list_any (λ n. n == k) ns) f ∙ later (sym (ap (λ (b : Bool). b || is_member nat_eq ns k) g) ∙ e)
-
--- ---- Counting
--- a client goes on following with a datagram that is counted
-pub counted_goes : (old new : UnitClient) (n n' : ℕ) (ask : Option Ask) → (n < 9 → (n' ≡ n + 1) × (ask ≡ None) × (new ≡ old))
-    → (9 ≤ n → (V : List Raw) (H : ℕ) (E : List Entry) → Follows old H V E → (ask ≡ ask_of H E) × Follows new H V (Ticked ask ∷ E)) → (V : List Raw) → KeepsFollowing old new V
-counted_goes old new n n' ask more asks V H p = by (cases_lt n 9)
-  where
-    by : (n < 9) ⊎ (9 ≤ n) → FollowsOn new H V
-    by (inl low) = subst (λ (c : UnitClient). FollowsOn c H V) (sym (more low).2) p
-    by (inr high) = (Ticked ask ∷ p.0, (asks high V H p.0 p.1).1)

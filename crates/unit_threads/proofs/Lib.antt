@@ -1,2 +1,4 @@
+pub mod Answered
 pub mod Answering
+pub mod Played
 pub mod Playing

@@ -1,2 +1,4 @@
+pub mod Answered
 pub mod DrillText
+pub mod Played
 pub mod Turns

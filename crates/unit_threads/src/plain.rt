@@ -1,17 +1,21 @@
 //! One unit's drill on one thread: a venue, a gap store and an image shelf serve the client in
 //! turns.
 
-ghost use Rattle.std.specs.Prelude.{◌≡◌, ◌+◌, ◌-◌, ◌≤◌, ◌<◌, ◌++◌, ◌∷◌, ℕ, List, [], length, OnOk, OnErr, IfOk};
+ghost use Rattle.std.specs.Prelude.{◌≡◌, ◌-◌, ◌≤◌, ◌++◌, ℕ, List, [], length, Some, OnOk, OnErr, IfOk};
 ghost use Rattle.std.specs.List.{AllByRecursion};
+ghost use Rattle.pitch_model.specs.Advertising.{Operation};
 ghost use Rattle.pitch_model.specs.Datagrams.{IsPiece};
-ghost use Rattle.pitch_model.specs.History.{Raw as RawSaid};
+ghost use Rattle.pitch_model.specs.History.{Entry, Raw as RawSaid};
 ghost use Rattle.unit_packets.specs.Packing.{bytes_in};
 ghost use Rattle.venue_core.specs.Plan.{plan, most_planned};
 ghost use Rattle.venue_core.specs.Stands.{Stands};
 ghost use Rattle.drill_client.specs.Ending.{IsAtEnd};
-ghost use Rattle.drill_client.specs.Following.{FollowsOn, KeepsFollowing, ImageParts, IsImageOf};
+ghost use Rattle.spin_server.specs.Stands.{seen_of};
+ghost use Rattle.drill_client.specs.Following.{Follows, ImageParts, IsImageOf};
 ghost use Rattle.unit_threads.specs.DrillText.{most_drilled, drill_kept, drill_line};
-ghost use Rattle.unit_threads.specs.Turns.{KeepsLast, HasImages, Serves};
+ghost use Rattle.unit_threads.specs.Answered.{last_kept, heard_of_gap, heard_of_spin, heard_of_ask, heard_of_copy, heard_after_copy};
+ghost use Rattle.unit_threads.specs.Played.{command_datagrams, is_round, round_operations, plain_operations, operations_to, heard_of_round, heard_of_command, counted_with, plain_history};
+ghost use Rattle.unit_threads.specs.Turns.{KeepsLast, HasImages, Serves, HasPlayed, IsPlaying};
 
 use client_core::UnitClient;
 use drill_client::{
@@ -56,7 +60,7 @@ struct Side {
 impl Side {
     // A side that has accepted nothing.
     fn make(alloc: Global, unit: u8) -> Result<Side, OutOfMemory>
-        ensures { IfOk result (λ side. Serves side unit [] 0) }
+        ensures { IfOk result (λ side. Serves side unit [] [] 0) }
     {
         Ok(Side {
             venue: Venue::make(alloc, unit),
@@ -66,20 +70,13 @@ impl Side {
     }
 
     // Accepts command `index` of the plan.
-    fn accept(&mut self, number: u64, unit: u8, index: u32) -> Result<(), OutOfMemory>
+    fn accept(&mut self, course: Course, index: u32) -> Result<(), OutOfMemory>
         requires index { (1 ≤ index) × (index ≤ most_planned) }
-        requires serves { Serves self.old unit (plan number unit (index - 1)) (index - 1) }
-        ensures { OnOk result (Serves self.new unit (plan number unit index) (index - 1)) }
+        requires serves { HasPlayed self.old course.number course.unit course.count (index - 1) }
+        ensures { OnOk result (IsPlaying self.new course.number course.unit course.count index (index - 1)) }
     {
-        accept_command(&mut self.venue, number, unit, index)?;
-        keep_last(
-            &self.venue,
-            &mut self.store,
-            &mut self.shelf,
-            number,
-            unit,
-            index,
-        )?;
+        accept_command(&mut self.venue, course.number, course.unit, index)?;
+        keep_last(&self.venue, &mut self.store, &mut self.shelf, course, index)?;
         Ok(())
     }
 
@@ -87,14 +84,14 @@ impl Side {
     fn send(
         &mut self,
         alloc: Global,
-        number: u64,
-        unit: u8,
+        course: Course,
         index: u32,
     ) -> Result<DatagramList, OutOfMemory>
         requires index { 1 ≤ index }
-        requires serves { Serves self.old unit (plan number unit index) (index - 1) }
-        ensures serves { OnOk result (Serves self.new unit (plan number unit index) index) }
-        ensures pieces { IfOk result (λ list. AllByRecursion (IsPiece (plan number unit index) unit) (bytes_in list.items)) }
+        requires serves { IsPlaying self.old course.number course.unit course.count index (index - 1) }
+        ensures serves { OnOk result (IsPlaying self.new course.number course.unit course.count index index) }
+        ensures datagrams { IfOk result (λ list. bytes_in list.items ≡ command_datagrams course.number course.unit index) }
+        ensures pieces { IfOk result (λ list. AllByRecursion (IsPiece (plan course.number course.unit index) course.unit) (bytes_in list.items)) }
     {
         plan_is_in_order();
         let mut out = DatagramList::make(alloc);
@@ -123,16 +120,15 @@ fn keep_last(
     venue: &Venue,
     store: &mut GapStore,
     shelf: &mut ImageShelf,
-    number: u64,
-    unit: u8,
+    course: Course,
     index: u32,
 ) -> Result<(), OutOfMemory>
     requires index { (1 ≤ index) × (index ≤ most_planned) }
-    requires venue { Stands venue.now (plan number unit index) (index - 1) }
-    requires store { KeepsLast store.old (plan number unit (index - 1)) }
-    requires shelf { HasImages shelf.old (plan number unit (index - 1)) }
-    ensures store { OnOk result (KeepsLast store.new (plan number unit index)) }
-    ensures shelf { OnOk result (HasImages shelf.new (plan number unit index)) }
+    requires venue { Stands venue.now (plan course.number course.unit index) (index - 1) }
+    requires store { KeepsLast store.old (plan course.number course.unit (index - 1)) }
+    requires shelf { HasImages shelf.old (plain_operations course.number course.unit course.count (index - 1)) (plan course.number course.unit (index - 1)) }
+    ensures store { OnOk result (KeepsLast store.new (plan course.number course.unit index)) }
+    ensures shelf { OnOk result (HasImages shelf.new (operations_to course.number course.unit course.count index) (plan course.number course.unit index)) }
 {
     operations_add_up();
     let Some(raw) = venue.last_raw() else {
@@ -154,12 +150,17 @@ fn answer_gap(
 ) -> Result<(), OutOfMemory>
     ensures same { store.new ≡ store.old }
     // Of every venue that begins with the messages of the store.
-    ensures goes { OnOk result ((messages more : List RawSaid) → KeepsLast store.old messages → KeepsFollowing client.old client.new (messages ++ more)) }
+    ensures heard { OnOk result ((messages more : List RawSaid) → KeepsLast store.old messages → (H : ℕ) (E : List Entry) → Follows client.old H (messages ++ more) E
+        → Follows client.new H (messages ++ more) (heard_of_gap (last_kept messages) unit first count E)) }
 {
     look_laws();
     slices_are_the_venues();
     packed_messages_are_pieces();
-    if first == 0 || count == 0 {
+    if first == 0 {
+        hear_gap_reply(client, false);
+        return Ok(());
+    }
+    if count == 0 {
         hear_gap_reply(client, false);
         return Ok(());
     }
@@ -170,7 +171,11 @@ fn answer_gap(
             hear_datagrams(client, out.as_slice())?;
             Ok(())
         }
-        _ => {
+        Found::Ahead { last: _ } => {
+            hear_gap_reply(client, false);
+            Ok(())
+        }
+        Found::NotKept { first: _ } => {
             hear_gap_reply(client, false);
             Ok(())
         }
@@ -186,7 +191,8 @@ fn answer_spin(
 ) -> Result<(), OutOfMemory>
     ensures same { shelf.new ≡ shelf.old }
     // Of every venue that begins with the messages of the shelf.
-    ensures goes { OnOk result ((messages more : List RawSaid) → HasImages shelf.old messages → KeepsFollowing client.old client.new (messages ++ more)) }
+    ensures heard { OnOk result ((operations : List Operation) (messages more : List RawSaid) → HasImages shelf.old operations messages
+        → (H : ℕ) (E : List Entry) → Follows client.old H (messages ++ more) E → Follows client.new H (messages ++ more) (heard_of_spin (seen_of operations) sequence E)) }
 {
     shelves_show_what_was_pushed();
     image_look_laws();
@@ -207,9 +213,9 @@ fn answer_spin(
 
 // Appends the image through the last message of a shelf, and answers how many orders it has.
 fn append_last(shelf: &mut ImageShelf, out: &mut RawList) -> Result<u32, OutOfMemory>
-    requires { (messages : List RawSaid) × HasImages shelf.old messages }
+    requires { (operations : List Operation) × (messages : List RawSaid) × HasImages shelf.old operations messages }
     // Of the messages of the shelf.
-    ensures { IfOk result (λ orders. (messages : List RawSaid) → HasImages shelf.old messages → out.old.items ≡ []
+    ensures { IfOk result (λ orders. (operations : List Operation) (messages : List RawSaid) → HasImages shelf.old operations messages → out.old.items ≡ []
         → IsImageOf messages (record { sequence = length messages; orders = orders; raws = out.new.items })) }
 {
     shelves_show_what_was_pushed();
@@ -223,19 +229,29 @@ fn append_last(shelf: &mut ImageShelf, out: &mut RawList) -> Result<u32, OutOfMe
     }
 }
 
-// Advertises where it is time: after every 1,000th message, and after the last.
+// Whether it is time to advertise: after every 1,000th command, and after the last.
+fn is_round(index: u32, count: u32) -> bool
+    ensures { result ≡ is_round index count }
+{
+    index % ROUND == 0 || index == count
+}
+
+// Advertises where it is time after command `index`, and the client hears of it.
 fn advertise(
     shelf: &mut ImageShelf,
     client: &mut UnitClient,
     index: u32,
     count: u32,
 ) -> Result<(), OutOfMemory>
-    ensures shelf { OnOk result ((messages : List RawSaid) → HasImages shelf.old messages → HasImages shelf.new messages) }
-    // Of every venue that begins with the messages of the shelf.
-    ensures goes { OnOk result ((messages more : List RawSaid) → HasImages shelf.old messages → KeepsFollowing client.old client.new (messages ++ more)) }
+    ensures shelf { OnOk result ((operations : List Operation) (messages : List RawSaid) → HasImages shelf.old operations messages
+        → HasImages shelf.new (operations ++ round_operations index count) messages) }
+    // Of every venue that begins with the messages of the shelf, where these are those of `index`
+    // commands.
+    ensures heard { OnOk result ((operations : List Operation) (messages more : List RawSaid) → HasImages shelf.old operations messages → length messages ≡ index
+        → (H : ℕ) (E : List Entry) → Follows client.old H (messages ++ more) E → Follows client.new H (messages ++ more) (heard_of_round index count E)) }
 {
     operations_add_up();
-    if index % ROUND != 0 && index != count {
+    if !is_round(index, count) {
         return Ok(());
     }
     let sequence = shelf.advertise()?;
@@ -243,7 +259,33 @@ fn advertise(
     Ok(())
 }
 
-// Answers what the client asks, if anything.
+// Answers what the client asks.
+fn answer_ask(
+    alloc: Global,
+    side: &mut Side,
+    client: &mut UnitClient,
+    unit: u8,
+    ask: Ask,
+) -> Result<(), OutOfMemory>
+    ensures same { side.new ≡ side.old }
+    // Of every venue that begins with the messages of the side.
+    ensures heard { OnOk result ((operations : List Operation) (messages more : List RawSaid) (sent : ℕ) → Serves side.old unit operations messages sent
+        → (H : ℕ) (E : List Entry) → Follows client.old H (messages ++ more) E
+        → Follows client.new H (messages ++ more) (heard_of_ask (last_kept messages) (seen_of operations) unit (Some ask) E)) }
+{
+    match ask {
+        Ask::Gap { first, count } => {
+            answer_gap(alloc, &mut side.store, client, unit, first, count)?;
+            Ok(())
+        }
+        Ask::Spin { sequence } => {
+            answer_spin(alloc, &mut side.shelf, client, sequence)?;
+            Ok(())
+        }
+    }
+}
+
+// The same, if it asks anything.
 fn answer(
     alloc: Global,
     side: &mut Side,
@@ -253,14 +295,16 @@ fn answer(
 ) -> Result<(), OutOfMemory>
     ensures same { side.new ≡ side.old }
     // Of every venue that begins with the messages of the side.
-    ensures goes { OnOk result ((messages more : List RawSaid) (sent : ℕ) → Serves side.old unit messages sent → KeepsFollowing client.old client.new (messages ++ more)) }
+    ensures heard { OnOk result ((operations : List Operation) (messages more : List RawSaid) (sent : ℕ) → Serves side.old unit operations messages sent
+        → (H : ℕ) (E : List Entry) → Follows client.old H (messages ++ more) E
+        → Follows client.new H (messages ++ more) (heard_of_ask (last_kept messages) (seen_of operations) unit ask E)) }
 {
     match ask {
         None => Ok(()),
-        Some(Ask::Gap { first, count }) => {
-            answer_gap(alloc, &mut side.store, client, unit, first, count)
+        Some(ask) => {
+            answer_ask(alloc, side, client, unit, ask)?;
+            Ok(())
         }
-        Some(Ask::Spin { sequence }) => answer_spin(alloc, &mut side.shelf, client, sequence),
     }
 }
 
@@ -276,8 +320,10 @@ fn hear_copy(
 ) -> Result<(), OutOfMemory>
     ensures same { side.new ≡ side.old }
     // Of every venue that begins with the messages of the side.
-    ensures goes { OnOk result ((messages more : List RawSaid) (sent : ℕ) → Serves side.old unit messages sent
-        → AllByRecursion (IsPiece messages unit) (bytes_in datagrams.now) → KeepsFollowing client.old client.new (messages ++ more)) }
+    ensures heard { OnOk result ((operations : List Operation) (messages more : List RawSaid) (sent : ℕ) → Serves side.old unit operations messages sent
+        → AllByRecursion (IsPiece messages unit) (bytes_in datagrams.now) → (H : ℕ) (E : List Entry) → Follows client.old H (messages ++ more) E
+        → Follows client.new H (messages ++ more) (heard_of_copy (last_kept messages) (seen_of operations) unit H heard.old is_lost (bytes_in datagrams.now) E)) }
+    ensures count { OnOk result (heard.new ≡ heard_after_copy is_lost heard.old) }
 {
     if is_lost {
         return Ok(());
@@ -300,17 +346,19 @@ fn play(
 ) -> Result<(), OutOfMemory>
     requires index { (1 ≤ index) × (index ≤ course.count) }
     requires count { course.count ≤ most_drilled }
-    requires serves { Serves side.old course.unit (plan course.number course.unit (index - 1)) (index - 1) }
-    ensures serves { OnOk result (Serves side.new course.unit (plan course.number course.unit index) index) }
-    ensures goes { OnOk result (KeepsFollowing client.old client.new (plan course.number course.unit course.count)) }
+    requires serves { HasPlayed side.old course.number course.unit course.count (index - 1) }
+    ensures serves { OnOk result (HasPlayed side.new course.number course.unit course.count index) }
+    ensures count { OnOk result (heard.new ≡ counted_with course.number course.unit index heard.old) }
+    ensures heard { OnOk result ((E : List Entry) → Follows client.old drill_kept (plan course.number course.unit course.count) E
+        → Follows client.new drill_kept (plan course.number course.unit course.count) (heard_of_command course.number course.unit course.count index heard.old E)) }
 {
     let Course {
         number,
         unit,
         count,
     } = course;
-    side.accept(number, unit, index)?;
-    let sent = side.send(alloc, number, unit, index)?;
+    side.accept(course, index)?;
+    let sent = side.send(alloc, course, index)?;
     let datagrams = sent.as_slice();
     hear_copy(
         alloc,
@@ -342,9 +390,10 @@ fn end(
     course: Course,
 ) -> Result<(), OutOfMemory>
     requires count { course.count ≤ most_drilled }
-    requires serves { Serves side.old course.unit (plan course.number course.unit course.count) course.count }
-    ensures { OnOk result ((H : ℕ) → FollowsOn client.old H (plan course.number course.unit course.count)
-        → IsAtEnd client.new H (plan course.number course.unit course.count)) }
+    requires serves { HasPlayed side.old course.number course.unit course.count course.count }
+    // It has heard just what the commands bring.
+    requires heard { Follows client.old drill_kept (plan course.number course.unit course.count) (plain_history course.number course.unit course.count course.count) }
+    ensures { OnOk result (IsAtEnd client.new drill_kept (plan course.number course.unit course.count)) }
 {
     plan_is_in_order();
     if !ask_for_all(client, course.count) {
