@@ -1,5 +1,4 @@
 pub mod Publishing
-pub mod Replying
 pub mod Saying
 pub mod Serving
 pub mod Telling

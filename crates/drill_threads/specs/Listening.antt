@@ -1,30 +1,18 @@
 -- What a client makes of what comes. No caller needs this file.
-use Rattle.std.specs.Prelude.{ℕ, ◌+◌, Bool, true, false, nat_lt, List, [], ◌∷◌, Option, None, Some, if◌then◌else◌}
+use Rattle.std.specs.Prelude.{ℕ, Bool, true, false, List, [], ◌∷◌, Option, None, Some, if◌then◌else◌}
 use Rattle.pitch_model.specs.Asking.{ask_of}
-use Rattle.pitch_model.specs.History.{Entry, Ticked}
+use Rattle.pitch_model.specs.History.{Entry}
 use Rattle.pitch_model.specs.declared.ask.Ask.{Ask}
-use Rattle.drill_values.specs.Words.{heard_word, heard_reply}
 use Rattle.drill_values.specs.declared.words.Word.{Word}
 use Rattle.drill_values.specs.declared.words.Word.TheVariants as words
 use Rattle.drill_values.specs.declared.words.Reply.{Reply}
 use Rattle.drill_values.specs.declared.words.Reply.TheVariants as replies
+use Rattle.unit_threads.specs.Answered.{is_tick, heard_with_one, with_tick}
 use Rattle.drill_threads.specs.declared.ends.Request.{Request}
 use Rattle.drill_threads.specs.declared.ends.Request.TheVariants.{Asked}
 
 -- ---- Ticks
--- a datagram brings a tick where nine came since the last one
-abbrev pub is_tick : ℕ → Bool
-is_tick heard = if nat_lt heard 9 then false else true
-
--- how many came since the last tick, with one more
-abbrev pub heard_with_one : ℕ → ℕ
-heard_with_one heard = if is_tick heard then 0 else (heard + 1)
-
--- the history after a datagram, so many having come before it
-abbrev pub with_tick : ℕ → ℕ → List Entry → List Entry
-with_tick H heard E = if is_tick heard then Ticked (ask_of H E) ∷ E else E
-
--- and what the service is asked then
+-- what the service is asked, so many datagrams having come since the last tick
 abbrev pub request_of : {J R : Type 0} → Option Ask → List (Request J R)
 request_of None = []
 request_of (Some ask) = Asked ask ∷ []

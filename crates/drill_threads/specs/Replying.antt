@@ -1,9 +1,7 @@
 -- What a service replies to an ask, at a history that it has seen. No caller needs this file.
-use Rattle.std.specs.Prelude.{ℕ, Bool, false, true, ◌&&◌, nat_lt, List, [], ◌∷◌, map, if◌then◌else◌}
+use Rattle.std.specs.Prelude.{ℕ, false, true, List, [], ◌∷◌, map, if◌then◌else◌}
 use Rattle.unit_packets.specs.Packing.{packed}
-use Rattle.gap_store.specs.Look.{View, look, slice_of}
-use Rattle.gap_store.specs.declared.found.Found.{Found}
-use Rattle.gap_store.specs.declared.found.Found.TheVariants.{Kept, Ahead, NotKept}
+use Rattle.gap_store.specs.Look.{View, slice_of}
 use Rattle.pitch_model.specs.Advertising.{Operation}
 use Rattle.pitch_model.specs.History.{adds}
 use Rattle.pitch_model.specs.Image.{image}
@@ -11,17 +9,9 @@ use Rattle.pitch_model.specs.declared.ask.Ask.{Ask}
 use Rattle.pitch_model.specs.declared.ask.Ask.TheVariants as asks
 use Rattle.spin_server.specs.Served.{Served, is_served}
 use Rattle.shared_unit.specs.Histories.{kept_at, served_at}
+use Rattle.unit_threads.specs.Answered.{keeps_range}
 use Rattle.drill_values.specs.declared.words.Reply.{Reply}
 use Rattle.drill_values.specs.declared.words.Reply.TheVariants.{Gap, Again, Spin, NoSpin}
-
-abbrev pub is_found : Found → Bool
-is_found Kept = true
-is_found (Ahead last) = false
-is_found (NotKept least) = false
-
--- so many messages from a sequence on are kept, and there are some
-abbrev pub keeps_range : View → ℕ → ℕ → Bool
-keeps_range v first count = (nat_lt 0 first && nat_lt 0 count) && is_found (look v first count)
 
 -- to a gap ask: that it is accepted and the datagrams of its messages, just where these are kept
 abbrev pub replies_to_gap : {R : Type 0} → View → ℕ → ℕ → ℕ → List (Reply R)

@@ -1,25 +1,15 @@
 -- What a publisher says to its client and to its service. No caller needs this file.
-use Rattle.std.specs.Prelude.{ℕ, zero, suc, ◌%◌, Bool, ◌||◌, ◌==◌, List, [], ◌∷◌, ◌++◌, map, if◌then◌else◌}
-use Rattle.unit_packets.specs.Packing.{packed}
-use Rattle.venue_core.specs.Commands.{raw_of}
+use Rattle.std.specs.Prelude.{ℕ, zero, suc, List, [], ◌∷◌, ◌++◌, map, if◌then◌else◌}
 use Rattle.venue_core.specs.Losses.{is_lost}
-use Rattle.venue_core.specs.Plan.{plan_command}
 use Rattle.drill_values.specs.declared.words.Word.{Word}
 use Rattle.drill_values.specs.declared.words.Word.TheVariants.{Sent, Advertised}
-
--- the datagrams of the message of a command
-abbrev pub command_datagrams : ℕ → ℕ → ℕ → List (List ℕ)
-command_datagrams number unit index = packed unit index (raw_of (plan_command number unit index) ∷ [])
+use Rattle.unit_threads.specs.Played.{command_datagrams, is_round}
 
 -- the copies of a line: line A is 1 and line B is 2
 abbrev pub line_words : {R : Type 0} → ℕ → ℕ → ℕ → ℕ → List (Word R)
 line_words number unit index line = if is_lost number unit index line then [] else map Sent (command_datagrams number unit index)
 
--- it is time to advertise: after every 1,000th command, and after the last
-abbrev pub is_round : ℕ → ℕ → Bool
-is_round index count = index % 1000 == 0 || index == count
-
--- the sequence that is advertised then
+-- the sequence that is advertised where it is time
 abbrev pub round_words : {R : Type 0} → ℕ → ℕ → List (Word R)
 round_words index count = if is_round index count then Advertised index ∷ [] else []
 

@@ -1,7 +1,7 @@
 -- What a publisher tells its service. No caller needs this file.
 use Rattle.std.specs.Prelude.{ℕ, List, [], ◌∷◌, flat_map, if◌then◌else◌}
 use Rattle.pitch_model.specs.Advertising.{Operation}
-use Rattle.drill_threads.specs.Saying.{is_round}
+use Rattle.unit_threads.specs.Played.{is_round}
 use Rattle.drill_threads.specs.declared.ends.Request.{Request}
 use Rattle.drill_threads.specs.declared.ends.Request.TheVariants.{Asked, Told}
 

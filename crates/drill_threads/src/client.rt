@@ -6,7 +6,8 @@ ghost use Rattle.venue_core.specs.Plan.{plan};
 ghost use Rattle.drill_client.specs.Following.{Follows, FollowsOn};
 ghost use Rattle.drill_values.specs.Words.{heard_word, heard_reply};
 ghost use Rattle.unit_threads.specs.DrillText.{drill_kept};
-ghost use Rattle.drill_threads.specs.Listening.{heard_with_one, with_tick, tick_requests, is_sent, is_again, after_heard, heard_after, asks_after};
+ghost use Rattle.unit_threads.specs.Answered.{heard_with_one, with_tick};
+ghost use Rattle.drill_threads.specs.Listening.{tick_requests, is_sent, is_again, after_heard, heard_after, asks_after};
 
 use crate::course::Course;
 use crate::ends::{ClientEnds, Request};

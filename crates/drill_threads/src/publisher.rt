@@ -8,7 +8,8 @@ ghost use Rattle.pitch_model.specs.Datagrams.{IsPiece};
 ghost use Rattle.venue_core.specs.Plan.{plan};
 ghost use Rattle.drill_values.specs.declared.words.Word.TheVariants.{Sent, Last};
 ghost use Rattle.drill_threads.specs.Publishing.{HasAccepted, HasAdvertised};
-ghost use Rattle.drill_threads.specs.Saying.{command_datagrams, line_words, is_round, round_words, words_for_command, words_through};
+ghost use Rattle.unit_threads.specs.Played.{command_datagrams, is_round};
+ghost use Rattle.drill_threads.specs.Saying.{line_words, round_words, words_for_command, words_through};
 ghost use Rattle.drill_threads.specs.Telling.{told_in, told_with};
 
 use crate::course::Course;

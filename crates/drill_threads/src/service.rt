@@ -13,7 +13,8 @@ ghost use Rattle.shared_unit.specs.Histories.{IsLegal, kept_at, served_at};
 ghost use Rattle.venue_core.specs.Plan.{plan};
 ghost use Rattle.drill_values.specs.declared.words.Reply.TheVariants.{Again};
 ghost use Rattle.drill_threads.specs.Publishing.{HasAll};
-ghost use Rattle.drill_threads.specs.Replying.{keeps_range, replies_to_gap, replies_to_spin, replies_to};
+ghost use Rattle.unit_threads.specs.Answered.{keeps_range};
+ghost use Rattle.drill_threads.specs.Replying.{replies_to_gap, replies_to_spin, replies_to};
 
 use crate::course::Course;
 use crate::ends::{Request, ServiceEnds};

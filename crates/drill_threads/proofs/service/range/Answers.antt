@@ -10,8 +10,8 @@ use Rattle.pitch_model.specs.History.{Raw}
 use Rattle.shared_unit.specs.Histories.{kept_at}
 use Rattle.unit_packets.specs.Packing.{bytes_in, packed}
 use Rattle.venue_core.specs.Plan.{plan}
-use Rattle.drill_threads.specs.Replying.{is_found}
-use Rattle.drill_threads.proofs.Replying.{range_kept, range_gone, range_packed}
+use Rattle.unit_threads.specs.Answered.{is_found}
+use Rattle.unit_threads.proofs.Answered.{range_kept, range_gone, range_packed}
 use Rattle.drill_threads.proofs.Serving.{course_plan, planned_prefix, served_pieces}
 use Rattle.drill_threads.proofs.service.range.Goals as goal
 
