@@ -391,7 +391,6 @@ fn end(
 ) -> Result<(), OutOfMemory>
     requires count { course.count ≤ most_drilled }
     requires serves { HasPlayed side.old course.number course.unit course.count course.count }
-    // It has heard just what the commands bring.
     requires heard { Follows client.old drill_kept (plan course.number course.unit course.count) (plain_history course.number course.unit course.count course.count) }
     ensures { OnOk result (IsAtEnd client.new drill_kept (plan course.number course.unit course.count)) }
 {
@@ -405,26 +404,20 @@ fn end(
     Ok(())
 }
 
-// Plays all commands, and the end. The client then has all messages.
-fn play_all(alloc: Global, course: Course) -> Result<UnitClient, OutOfMemory>
-    requires { (1 ≤ course.count) × (course.count ≤ most_drilled) }
-    ensures { IfOk result (λ client. IsAtEnd client drill_kept (plan course.number course.unit course.count)) }
+// Plays all commands, with a side that has accepted nothing, and hands back the client.
+fn play_all(alloc: Global, side: &mut Side, course: Course) -> Result<UnitClient, OutOfMemory>
+    requires count { (1 ≤ course.count) × (course.count ≤ most_drilled) }
+    requires serves { Serves side.old course.unit [] [] 0 }
+    ensures serves { OnOk result (HasPlayed side.new course.number course.unit course.count course.count) }
+    // It has heard just what the commands bring, and what it was answered.
+    ensures heard { IfOk result (λ client. Follows client drill_kept (plan course.number course.unit course.count) (plain_history course.number course.unit course.count course.count)) }
 {
     plan_is_in_order();
-    let mut side = Side::make(alloc, course.unit)?;
     let mut client = begin(alloc, KEPT)?;
     let mut heard = 0;
     'commands: for before in 0..course.count {
-        play(
-            alloc,
-            &mut side,
-            &mut client,
-            &mut heard,
-            course,
-            before + 1,
-        )?;
+        play(alloc, side, &mut client, &mut heard, course, before + 1)?;
     }
-    end(alloc, &mut side, &mut client, course)?;
     Ok(client)
 }
 
@@ -445,14 +438,14 @@ pub fn drill_plain(
     ensures ok { OnOk result (out.new.items ≡ out.old.items ++ drill_line number unit count) }
     ensures err { OnErr result (out.new.items ≡ out.old.items) }
 {
-    let client = play_all(
-        alloc,
-        Course {
-            number,
-            unit,
-            count,
-        },
-    )?;
+    let course = Course {
+        number,
+        unit,
+        count,
+    };
+    let mut side = Side::make(alloc, unit)?;
+    let mut client = play_all(alloc, &mut side, course)?;
+    end(alloc, &mut side, &mut client, course)?;
     append_end(&client, unit, out)?;
     Ok(())
 }

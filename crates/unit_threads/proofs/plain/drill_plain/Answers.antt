@@ -5,5 +5,5 @@ use Rattle.unit_threads.proofs.plain.drill_plain.Goals as goal
 
 pub returns-clause-ok : goal.returns-clause-ok
 returns-clause-ok c =
-    c.in_ok-append_end.ensures.ok 4096 (plan c.args.number c.args.unit c.args.count) c.in_ok-client.ensures
+    c.in_ok-append_end.ensures.ok 4096 (plan c.args.number c.args.unit c.args.count) c.in_ok-end.ensures
     ∙ ap (λ (line : List ℕ). c.args.out.now.items ++ line) (line_is c.args.number c.args.unit c.args.count)

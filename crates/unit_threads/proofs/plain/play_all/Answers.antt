@@ -14,9 +14,9 @@ commands-init c =
     let number : ℕ = c.args.course.number in
     let unit : ℕ = c.args.course.unit in
     let count : ℕ = c.args.course.count in
-    let few : count ≤ 400000 = omega (arith, c.requires.1) in
+    let few : count ≤ 400000 = omega (arith, c.requires.count.1) in
     record {
-      serves = subst (λ (o : List Operation). Serves c.in_ok-side.side unit o (plan number unit 0) 0) (sym (operations_begin number unit count)) (subst (λ (V : List Raw). Serves c.in_ok-side.side unit [] V 0) (sym (plan_begins number unit)) c.in_ok-side.ensures);
+      serves = subst (λ (o : List Operation). Serves c.args.side.now unit o (plan number unit 0) 0) (sym (operations_begin number unit count)) (subst (λ (V : List Raw). Serves c.args.side.now unit [] V 0) (sym (plan_begins number unit)) c.requires.serves);
       count = sym (count_begins number unit);
       follows = subst (λ (E : List Entry). Follows c.in_ok-client.client 4096 (plan number unit count) E) (sym (history_begins number unit count)) (c.in_ok-client.ensures (plan number unit count) (c.plan_is_in_order.ensures.bytes number unit count few));
     }
@@ -40,12 +40,12 @@ commands-preserved c =
           (c.in_ok-play.ensures.heard (plain_history number unit count index) c.commands.invariant.follows);
     }
 
-pub end-requires-clause-serves : goal.end-requires-clause-serves
-end-requires-clause-serves c =
+pub returns-clause-serves : goal.returns-clause-serves
+returns-clause-serves c =
     let e : c.commands.before ≡ c.args.course.count = omega (arith, c.commands-test.false, c.commands.auto.before-end) in
     subst (λ (n : ℕ). HasPlayed c.commands.side c.args.course.number c.args.course.unit c.args.course.count n) e c.commands.invariant.serves
 
-pub end-requires-clause-heard : goal.end-requires-clause-heard
-end-requires-clause-heard c =
+pub returns-clause-heard : goal.returns-clause-heard
+returns-clause-heard c =
     let e : c.commands.before ≡ c.args.course.count = omega (arith, c.commands-test.false, c.commands.auto.before-end) in
     subst (λ (n : ℕ). Follows c.commands.client 4096 (plan c.args.course.number c.args.course.unit c.args.course.count) (plain_history c.args.course.number c.args.course.unit c.args.course.count n)) e c.commands.invariant.follows
