@@ -3,7 +3,7 @@
 use Rattle.std.proofs.Common.{◌≡◌, ℕ, List, [], ◌∷◌, codes, Ok, refl}
 use Rattle.pitch_fields.specs.declared.side.Side.TheVariants.{Sell}
 use Rattle.pitch_messages.specs.declared.message.Message.{Message}
-use Rattle.pitch_messages.specs.declared.message.Message.TheVariants.{Time, AddLong, AddShort, Executed, ExecutedAt, ReduceLong, ReduceShort, ModifyLong, ModifyShort, Delete, TradeLong, TradeShort, TradeBreak, EndOfSession, AddExpanded, TradeExpanded, UnitClear}
+use Rattle.pitch_messages.specs.declared.message.Message.TheVariants.{Time, AddLong, AddShort, Executed, ExecutedAt, ReduceLong, ReduceShort, ModifyLong, ModifyShort, Delete, TradeLong, TradeShort, TradeBreak, EndOfSession, AddExpanded, TradeExpanded, TradingStatus, UnitClear}
 use Rattle.pitch_messages.specs.declared.session.SessionMessage.{SessionMessage}
 use Rattle.pitch_messages.specs.declared.session.SessionMessage.TheVariants.{Login, LoginReply, GapRequest, GapReply, SpinAvailable, SpinRequest, SpinReply, SpinFinished}
 use Rattle.pitch_messages.specs.Reading.{reads}
@@ -116,6 +116,19 @@ expanded_trade : Stands (TradeExpanded 0x4030201 0x1817161514131211 Sell 0x24232
     ∷ 0x48 ∷ [])
 unfolding reads written
 expanded_trade = (refl, refl)
+
+-- the reserved bytes are written as spaces, and others there are read as the same message
+trading_status : Stands (TradingStatus 0x4030201 (codes "GAMMADLT") 0x48 0x30)
+    (0x12 ∷ 0x31 ∷ 0x01 ∷ 0x02 ∷ 0x03 ∷ 0x04 ∷ 0x47 ∷ 0x41 ∷ 0x4d ∷ 0x4d ∷ 0x41 ∷ 0x44 ∷ 0x4c ∷ 0x54 ∷ 0x48
+    ∷ 0x30 ∷ 0x20 ∷ 0x20 ∷ [])
+unfolding reads written
+trading_status = (refl, refl)
+
+trading_status_with_other_reserved_bytes : reads
+    (0x12 ∷ 0x31 ∷ 0x01 ∷ 0x02 ∷ 0x03 ∷ 0x04 ∷ 0x47 ∷ 0x41 ∷ 0x4d ∷ 0x4d ∷ 0x41 ∷ 0x44 ∷ 0x4c ∷ 0x54 ∷ 0x48
+    ∷ 0x30 ∷ 0xff ∷ 0x00 ∷ []) ≡ Ok (TradingStatus 0x4030201 (codes "GAMMADLT") 0x48 0x30)
+unfolding reads
+trading_status_with_other_reserved_bytes = refl
 
 unit_clear : Stands (UnitClear 0x4030201)
     (0x06 ∷ 0x97 ∷ 0x01 ∷ 0x02 ∷ 0x03 ∷ 0x04 ∷ [])

@@ -1,8 +1,8 @@
 -- A raw of just the length that its type needs is the writing of what it says.
-use Rattle.std.proofs.Common.{◌≡◌, ℕ, suc, ◌+◌, ◌<◌, ◌≤◌, Bool, true, false, cond, List, [], ◌∷◌, ◌++◌, length, take, drop, get_or, refl, sym, ap, ◌∙◌, arith, subst, slice_index, ◌⊎◌, Option, None, Some, Result, Ok, Err, IfOk, inl, inr, lit≤, nat_lt, ◌==◌}
+use Rattle.std.proofs.Common.{◌≡◌, ℕ, suc, ◌+◌, ◌<◌, ◌≤◌, Bool, true, false, cond, List, [], ◌∷◌, ◌++◌, length, take, drop, get_or, refl, sym, ap, ◌∙◌, arith, subst, slice_index, ◌⊎◌, Option, None, Some, Result, Ok, Err, IfOk, inl, inr, lit≤, nat_lt, ◌==◌, append_assoc, length-append, length-take}
 use Rattle.std.proofs.Math.ListN.{drop_of_length-le}
 use Rattle.std.proofs.lemmas.List.{append-nil, drop-drop, length-drop, get_or-drop, take-append-drop}
-use Rattle.std.proofs.Math.Seq.{drop-cons}
+use Rattle.std.proofs.Math.Seq.{drop-cons, take-append_seam}
 use Rattle.std.proofs.lemmas.Bool.{cases_Bool, cases_eq}
 use Rattle.std.proofs.lemmas.Bool.Decides.{nat_tests}
 use Rattle.byteorder.specs.Endian.{little_bytes}
@@ -13,8 +13,8 @@ use Rattle.pitch_fields.specs.declared.side.Side.TheVariants.{Buy, Sell}
 use Rattle.pitch_fields.proofs.LittleEndian.{bytes_of_number}
 use Rattle.pitch_messages.specs.Raw.{IsRaw, kind_of}
 use Rattle.pitch_messages.specs.Table.{bytes_at, needs_by, reads_by}
-use Rattle.pitch_messages.specs.Reading.{MessageRow, reads, row_of, needs_of, with_side, time_row, add_long_row, add_short_row, executed_row, executed_at_row, reduce_long_row, reduce_short_row, modify_long_row, modify_short_row, delete_row, trade_long_row, trade_short_row, trade_break_row, end_of_session_row, add_expanded_row, trade_expanded_row, unit_clear_row}
-use Rattle.pitch_messages.specs.Writing.{written}
+use Rattle.pitch_messages.specs.Reading.{MessageRow, reads, row_of, needs_of, with_side, time_row, add_long_row, add_short_row, executed_row, executed_at_row, reduce_long_row, reduce_short_row, modify_long_row, modify_short_row, delete_row, trade_long_row, trade_short_row, trade_break_row, end_of_session_row, add_expanded_row, trade_expanded_row, trading_status_row, unit_clear_row}
+use Rattle.pitch_messages.specs.Writing.{written, with_reserved_blank}
 use Rattle.pitch_messages.specs.declared.message.Message.{Message}
 use Rattle.pitch_messages.specs.declared.message.Message.TheVariants.{Other}
 use Rattle.pitch_messages.specs.declared.message.ReadError.TheVariants.{Short}
@@ -77,75 +77,110 @@ with_a_side : (o : Option Side) (b : ℕ) (message : Side → Message) (P : Mess
 with_a_side None b message P holds = tt
 with_a_side (Some side) b message P holds = holds side refl
 
--- what a row says of a raw of just its length is written as that raw
-abbrev pub IsSound : ℕ → MessageRow → Type 0
-IsSound kind row = (raw : List ℕ) → Whole row.needs kind raw → IfOk (row.says raw) (λ m. raw ≡ written m)
+if_ok : {A E : Type 0} (r : Result A E) (P Q : A → Type 0) → ((a : A) → P a → Q a) → IfOk r P → IfOk r Q
+if_ok (Ok a) P Q more holds = more a holds
+if_ok (Err e) P Q more holds = tt
 
-time_sound : IsSound 32 time_row
+-- what a row says of a raw of just its length is written as that raw
+abbrev IsExact : ℕ → MessageRow → Type 0
+IsExact kind row = (raw : List ℕ) → Whole row.needs kind raw → IfOk (row.says raw) (λ m. raw ≡ written m)
+
+-- the same, where the reserved bytes of the raw may have been others
+abbrev pub IsSound : ℕ → MessageRow → Type 0
+IsSound kind row = (raw : List ℕ) → Whole row.needs kind raw → IfOk (row.says raw) (λ m. with_reserved_blank raw ≡ written m)
+
+blank_by : (raw : List ℕ) (b : Bool) → (kind_of raw == 49) ≡ b → with_reserved_blank raw ≡ cond b (take 16 raw ++ 32 ∷ 32 ∷ []) raw
+blank_by raw b is = ap (λ (t : Bool). cond t (take 16 raw ++ 32 ∷ 32 ∷ []) raw) is
+
+-- no other type than 0x31 has reserved bytes
+exact : (kind : ℕ) (row : MessageRow) → (kind == 49) ≡ false → IsExact kind row → IsSound kind row
+exact kind row other sound raw w =
+    if_ok (row.says raw) (λ m. raw ≡ written m) (λ m. with_reserved_blank raw ≡ written m)
+    (λ m same. blank_by raw false (ap (λ (k : ℕ). k == 49) w.kind ∙ other) ∙ same) (sound raw w)
+
+time_sound : IsExact 32 time_row
 unfolding written
 time_sound raw w = from_head w (lit≤ tt) (number_end 4 2 w refl)
 
-add_long_sound : IsSound 33 add_long_row
+add_long_sound : IsExact 33 add_long_row
 unfolding written
 add_long_sound raw w = with_a_side (side_of (slice_index raw 14)) (slice_index raw 14) _ (λ m. raw ≡ written m) (λ side is. from_head w (lit≤ tt) (number 4 2 w (lit≤ tt) (number 8 6 w (lit≤ tt) (side_at side w is (lit≤ tt) (number 4 15 w (lit≤ tt) (text 6 19 w (number 8 25 w (lit≤ tt) (byte_end 33 w refl))))))))
 
-add_short_sound : IsSound 34 add_short_row
+add_short_sound : IsExact 34 add_short_row
 unfolding written
 add_short_sound raw w = with_a_side (side_of (slice_index raw 14)) (slice_index raw 14) _ (λ m. raw ≡ written m) (λ side is. from_head w (lit≤ tt) (number 4 2 w (lit≤ tt) (number 8 6 w (lit≤ tt) (side_at side w is (lit≤ tt) (number 2 15 w (lit≤ tt) (text 6 17 w (number 2 23 w (lit≤ tt) (byte_end 25 w refl))))))))
 
-executed_sound : IsSound 35 executed_row
+executed_sound : IsExact 35 executed_row
 unfolding written
 executed_sound raw w = from_head w (lit≤ tt) (number 4 2 w (lit≤ tt) (number 8 6 w (lit≤ tt) (number 4 14 w (lit≤ tt) (number_end 8 18 w refl))))
 
-executed_at_sound : IsSound 36 executed_at_row
+executed_at_sound : IsExact 36 executed_at_row
 unfolding written
 executed_at_sound raw w = from_head w (lit≤ tt) (number 4 2 w (lit≤ tt) (number 8 6 w (lit≤ tt) (number 4 14 w (lit≤ tt) (number 4 18 w (lit≤ tt) (number 8 22 w (lit≤ tt) (number_end 8 30 w refl))))))
 
-reduce_long_sound : IsSound 37 reduce_long_row
+reduce_long_sound : IsExact 37 reduce_long_row
 unfolding written
 reduce_long_sound raw w = from_head w (lit≤ tt) (number 4 2 w (lit≤ tt) (number 8 6 w (lit≤ tt) (number_end 4 14 w refl)))
 
-reduce_short_sound : IsSound 38 reduce_short_row
+reduce_short_sound : IsExact 38 reduce_short_row
 unfolding written
 reduce_short_sound raw w = from_head w (lit≤ tt) (number 4 2 w (lit≤ tt) (number 8 6 w (lit≤ tt) (number_end 2 14 w refl)))
 
-modify_long_sound : IsSound 39 modify_long_row
+modify_long_sound : IsExact 39 modify_long_row
 unfolding written
 modify_long_sound raw w = from_head w (lit≤ tt) (number 4 2 w (lit≤ tt) (number 8 6 w (lit≤ tt) (number 4 14 w (lit≤ tt) (number 8 18 w (lit≤ tt) (byte_end 26 w refl)))))
 
-modify_short_sound : IsSound 40 modify_short_row
+modify_short_sound : IsExact 40 modify_short_row
 unfolding written
 modify_short_sound raw w = from_head w (lit≤ tt) (number 4 2 w (lit≤ tt) (number 8 6 w (lit≤ tt) (number 2 14 w (lit≤ tt) (number 2 16 w (lit≤ tt) (byte_end 18 w refl)))))
 
-delete_sound : IsSound 41 delete_row
+delete_sound : IsExact 41 delete_row
 unfolding written
 delete_sound raw w = from_head w (lit≤ tt) (number 4 2 w (lit≤ tt) (number_end 8 6 w refl))
 
-trade_long_sound : IsSound 42 trade_long_row
+trade_long_sound : IsExact 42 trade_long_row
 unfolding written
 trade_long_sound raw w = with_a_side (side_of (slice_index raw 14)) (slice_index raw 14) _ (λ m. raw ≡ written m) (λ side is. from_head w (lit≤ tt) (number 4 2 w (lit≤ tt) (number 8 6 w (lit≤ tt) (side_at side w is (lit≤ tt) (number 4 15 w (lit≤ tt) (text 6 19 w (number 8 25 w (lit≤ tt) (number_end 8 33 w refl))))))))
 
-trade_short_sound : IsSound 43 trade_short_row
+trade_short_sound : IsExact 43 trade_short_row
 unfolding written
 trade_short_sound raw w = with_a_side (side_of (slice_index raw 14)) (slice_index raw 14) _ (λ m. raw ≡ written m) (λ side is. from_head w (lit≤ tt) (number 4 2 w (lit≤ tt) (number 8 6 w (lit≤ tt) (side_at side w is (lit≤ tt) (number 2 15 w (lit≤ tt) (text 6 17 w (number 2 23 w (lit≤ tt) (number_end 8 25 w refl))))))))
 
-trade_break_sound : IsSound 44 trade_break_row
+trade_break_sound : IsExact 44 trade_break_row
 unfolding written
 trade_break_sound raw w = from_head w (lit≤ tt) (number 4 2 w (lit≤ tt) (number_end 8 6 w refl))
 
-end_of_session_sound : IsSound 45 end_of_session_row
+end_of_session_sound : IsExact 45 end_of_session_row
 unfolding written
 end_of_session_sound raw w = from_head w (lit≤ tt) (number_end 4 2 w refl)
 
-add_expanded_sound : IsSound 47 add_expanded_row
+add_expanded_sound : IsExact 47 add_expanded_row
 unfolding written
 add_expanded_sound raw w = with_a_side (side_of (slice_index raw 14)) (slice_index raw 14) _ (λ m. raw ≡ written m) (λ side is. from_head w (lit≤ tt) (number 4 2 w (lit≤ tt) (number 8 6 w (lit≤ tt) (side_at side w is (lit≤ tt) (number 4 15 w (lit≤ tt) (text 8 19 w (number 8 27 w (lit≤ tt) (byte 35 w (lit≤ tt) (text_end 4 36 w refl)))))))))
 
-trade_expanded_sound : IsSound 48 trade_expanded_row
+trade_expanded_sound : IsExact 48 trade_expanded_row
 unfolding written
 trade_expanded_sound raw w = with_a_side (side_of (slice_index raw 14)) (slice_index raw 14) _ (λ m. raw ≡ written m) (λ side is. from_head w (lit≤ tt) (number 4 2 w (lit≤ tt) (number 8 6 w (lit≤ tt) (side_at side w is (lit≤ tt) (number 4 15 w (lit≤ tt) (text 8 19 w (number 8 27 w (lit≤ tt) (number_end 8 35 w refl))))))))
 
-unit_clear_sound : IsSound 151 unit_clear_row
+-- the reserved bytes are all that is not read
+trading_status_sound : IsSound 49 trading_status_row
+unfolding written
+trading_status_sound raw w =
+    let offset : List ℕ = little_bytes 4 (number_at 4 2 raw) in
+    let symbol : List ℕ = bytes_at 8 6 raw in
+    let h : ℕ = slice_index raw 14 in
+    let s : ℕ = slice_index raw 15 in
+    let head : List ℕ = 18 ∷ 49 ∷ (offset ++ (symbol ++ h ∷ s ∷ [])) in
+    let joins : (rest : List ℕ) → head ++ rest ≡ 18 ∷ 49 ∷ (offset ++ (symbol ++ h ∷ s ∷ rest)) =
+    λ rest. ap (λ (xs : List ℕ). 18 ∷ 49 ∷ (offset ++ xs)) (append_assoc symbol (h ∷ s ∷ []) rest) in
+    let whole : raw ≡ head ++ drop 16 raw =
+    from_head w (lit≤ tt) (number 4 2 w (lit≤ tt) (text 8 6 w (byte 14 w (lit≤ tt) (byte 15 w (lit≤ tt) refl)))) ∙ sym (joins (drop 16 raw)) in
+    let size : length head ≡ 16 = omega (arith, length-append symbol (h ∷ s ∷ []), length-take {A = ℕ} 8 (drop 6 raw), length-drop 6 raw, w.size) in
+    let front : take 16 raw ≡ head =
+    ap (λ (n : ℕ). take n raw) (sym size) ∙ ap (λ (xs : List ℕ). take (length head) xs) whole ∙ take-append_seam head (drop 16 raw) in
+    blank_by raw true (ap (λ (k : ℕ). k == 49) w.kind) ∙ ap (λ (xs : List ℕ). xs ++ 32 ∷ 32 ∷ []) front ∙ joins (32 ∷ 32 ∷ [])
+
+unit_clear_sound : IsExact 151 unit_clear_row
 unfolding written
 unit_clear_sound raw w = from_head w (lit≤ tt) (number_end 4 2 w refl)
 
@@ -163,28 +198,25 @@ pick kind n r others sound below row is = elim (cases_Bool (kind == n)) [
 
 all_sound : (kind : ℕ) (row : MessageRow) → row_of kind ≡ Some row → IsSound kind row
 all_sound kind =
-    pick kind 32 time_row _ time_sound (
-    pick kind 33 add_long_row _ add_long_sound (
-    pick kind 34 add_short_row _ add_short_sound (
-    pick kind 35 executed_row _ executed_sound (
-    pick kind 36 executed_at_row _ executed_at_sound (
-    pick kind 37 reduce_long_row _ reduce_long_sound (
-    pick kind 38 reduce_short_row _ reduce_short_sound (
-    pick kind 39 modify_long_row _ modify_long_sound (
-    pick kind 40 modify_short_row _ modify_short_sound (
-    pick kind 41 delete_row _ delete_sound (
-    pick kind 42 trade_long_row _ trade_long_sound (
-    pick kind 43 trade_short_row _ trade_short_sound (
-    pick kind 44 trade_break_row _ trade_break_sound (
-    pick kind 45 end_of_session_row _ end_of_session_sound (
-    pick kind 47 add_expanded_row _ add_expanded_sound (
-    pick kind 48 trade_expanded_row _ trade_expanded_sound (
-    pick kind 151 unit_clear_row _ unit_clear_sound (
-    (λ row none. absurd (let e : None ≡ Some row = none in cc)))))))))))))))))))
-
-if_ok : {A E : Type 0} (r : Result A E) (P Q : A → Type 0) → ((a : A) → P a → Q a) → IfOk r P → IfOk r Q
-if_ok (Ok a) P Q more holds = more a holds
-if_ok (Err e) P Q more holds = tt
+    pick kind 32 time_row _ (exact 32 time_row refl time_sound) (
+    pick kind 33 add_long_row _ (exact 33 add_long_row refl add_long_sound) (
+    pick kind 34 add_short_row _ (exact 34 add_short_row refl add_short_sound) (
+    pick kind 35 executed_row _ (exact 35 executed_row refl executed_sound) (
+    pick kind 36 executed_at_row _ (exact 36 executed_at_row refl executed_at_sound) (
+    pick kind 37 reduce_long_row _ (exact 37 reduce_long_row refl reduce_long_sound) (
+    pick kind 38 reduce_short_row _ (exact 38 reduce_short_row refl reduce_short_sound) (
+    pick kind 39 modify_long_row _ (exact 39 modify_long_row refl modify_long_sound) (
+    pick kind 40 modify_short_row _ (exact 40 modify_short_row refl modify_short_sound) (
+    pick kind 41 delete_row _ (exact 41 delete_row refl delete_sound) (
+    pick kind 42 trade_long_row _ (exact 42 trade_long_row refl trade_long_sound) (
+    pick kind 43 trade_short_row _ (exact 43 trade_short_row refl trade_short_sound) (
+    pick kind 44 trade_break_row _ (exact 44 trade_break_row refl trade_break_sound) (
+    pick kind 45 end_of_session_row _ (exact 45 end_of_session_row refl end_of_session_sound) (
+    pick kind 47 add_expanded_row _ (exact 47 add_expanded_row refl add_expanded_sound) (
+    pick kind 48 trade_expanded_row _ (exact 48 trade_expanded_row refl trade_expanded_sound) (
+    pick kind 49 trading_status_row _ trading_status_sound (
+    pick kind 151 unit_clear_row _ (exact 151 unit_clear_row refl unit_clear_sound) (
+    (λ row none. absurd (let e : None ≡ Some row = none in cc))))))))))))))))))))
 
 all_ok : {A E : Type 0} (r : Result A E) (Q : A → Type 0) → ((a : A) → Q a) → IfOk r Q
 all_ok (Ok a) Q all = all a
@@ -192,16 +224,16 @@ all_ok (Err e) Q all = tt
 
 -- by its row, a raw of just the length that the row needs is the writing of what it says
 by_row : (raw : List ℕ) (row : Option MessageRow) → IsRaw raw → ((k : ℕ) → get_or raw k 0 < 256) → row_of (kind_of raw) ≡ row
-    → IfOk (reads_by (λ other. Ok (Other other)) (λ needs has. Err (Short needs has)) row raw) (λ m. length raw ≡ needs_by row → raw ≡ written m)
+    → IfOk (reads_by (λ other. Ok (Other other)) (λ needs has. Err (Short needs has)) row raw) (λ m. length raw ≡ needs_by row → with_reserved_blank raw ≡ written m)
 unfolding written
-by_row raw None is small at = λ size. refl
+by_row raw None is small at = λ size. absurd (omega (arith, is.least, size))
 by_row raw (Some row) is small at =
-    let Q : Message → Type 0 = λ m. length raw ≡ row.needs → raw ≡ written m in
+    let Q : Message → Type 0 = λ m. length raw ≡ row.needs → with_reserved_blank raw ≡ written m in
     let P : Bool → Type 0 = λ t. IfOk (cond t (Err (Short row.needs (length raw))) (row.says raw)) Q in
     let says : IfOk (row.says raw) Q = elim (cases_eq (length raw) row.needs) [
       | inl e ↦
           let whole : Whole row.needs (kind_of raw) raw = record { size = e; first = is.first ∙ e; kind = refl; small = small } in
-          if_ok (row.says raw) (λ m. raw ≡ written m) Q (λ m written_so size. written_so) (all_sound (kind_of raw) row at raw whole)
+          if_ok (row.says raw) (λ m. with_reserved_blank raw ≡ written m) Q (λ m written_so size. written_so) (all_sound (kind_of raw) row at raw whole)
       | inr other ↦ all_ok (row.says raw) Q (λ m size. absurd (other size))
     ] in
     elim (cases_Bool (nat_lt (length raw) row.needs)) [
@@ -209,6 +241,6 @@ by_row raw (Some row) is small at =
       | inr b ↦ subst P (sym b) says
     ]
 
-pub rewritten : (raw : List ℕ) → IsRaw raw → ((k : ℕ) → get_or raw k 0 < 256) → IfOk (reads raw) (λ m. length raw ≡ needs_of (kind_of raw) → raw ≡ written m)
+pub rewritten : (raw : List ℕ) → IsRaw raw → ((k : ℕ) → get_or raw k 0 < 256) → IfOk (reads raw) (λ m. length raw ≡ needs_of (kind_of raw) → with_reserved_blank raw ≡ written m)
 unfolding reads
 rewritten raw is small = by_row raw (row_of (kind_of raw)) is small refl

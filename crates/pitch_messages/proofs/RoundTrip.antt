@@ -7,7 +7,7 @@ use Rattle.pitch_fields.specs.declared.side.Side.{Side}
 use Rattle.pitch_fields.specs.declared.side.Side.TheVariants.{Buy, Sell}
 use Rattle.pitch_messages.specs.Reading.{reads, with_side}
 use Rattle.pitch_messages.specs.Writing.{written}
-use Rattle.pitch_messages.specs.declared.message.Message.TheVariants.{Time, AddLong, AddShort, Executed, ExecutedAt, ReduceLong, ReduceShort, ModifyLong, ModifyShort, Delete, TradeLong, TradeShort, TradeBreak, EndOfSession, AddExpanded, TradeExpanded, UnitClear}
+use Rattle.pitch_messages.specs.declared.message.Message.TheVariants.{Time, AddLong, AddShort, Executed, ExecutedAt, ReduceLong, ReduceShort, ModifyLong, ModifyShort, Delete, TradeLong, TradeShort, TradeBreak, EndOfSession, AddExpanded, TradeExpanded, TradingStatus, UnitClear}
 
 side_back : (side : Side) → side_of (byte_of side) ≡ Some side
 side_back Buy = refl
@@ -113,6 +113,12 @@ pub trade_expanded_back : (offset : ℕ) (id : ℕ) (side : Side) (quantity : �
 unfolding reads written
 trade_expanded_back offset id side quantity symbol price execution offset_fits id_fits quantity_fits price_fits execution_fits symbol_size =
     subst (λ (xs : List ℕ). reads (written (TradeExpanded offset id side quantity xs price execution)) ≡ Ok (TradeExpanded offset id side quantity xs price execution)) (sym (all_spelled 8 symbol symbol_size)) (λ i. with_side (side_back side i) (byte_of side) (λ s. TradeExpanded (number_back 4 offset offset_fits i) (number_back 8 id id_fits i) s (number_back 4 quantity quantity_fits i) (spelled 8 symbol) (number_back 8 price price_fits i) (number_back 8 execution execution_fits i)))
+
+pub trading_status_back : (offset : ℕ) (symbol : List ℕ) (halt sho : ℕ) → offset < 256 ^ 4 → length symbol ≡ 8
+    → reads (written (TradingStatus offset symbol halt sho)) ≡ Ok (TradingStatus offset symbol halt sho)
+unfolding reads written
+trading_status_back offset symbol halt sho offset_fits symbol_size =
+    subst (λ (xs : List ℕ). reads (written (TradingStatus offset xs halt sho)) ≡ Ok (TradingStatus offset xs halt sho)) (sym (all_spelled 8 symbol symbol_size)) (λ i. Ok (TradingStatus (number_back 4 offset offset_fits i) (spelled 8 symbol) halt sho))
 
 pub unit_clear_back : (offset : ℕ) → offset < 256 ^ 4
     → reads (written (UnitClear offset)) ≡ Ok (UnitClear offset)

@@ -5,8 +5,9 @@ use Rattle.std.specs.Prelude.{ℕ, Bool, nat_le, List, Option, None, Some, if◌
 use Rattle.pitch_fields.specs.Name.{is_blank, six_of}
 use Rattle.pitch_fields.specs.Price.{short_of}
 use Rattle.pitch_messages.specs.declared.order.Order.{Order}
+use Rattle.pitch_messages.specs.declared.trading_state.TradingState.{TradingState}
 use Rattle.pitch_messages.specs.declared.message.Message.{Message}
-use Rattle.pitch_messages.specs.declared.message.Message.TheVariants.{AddLong, AddShort, ReduceLong, ReduceShort, ModifyLong, ModifyShort, TradeLong, TradeShort, AddExpanded, TradeExpanded}
+use Rattle.pitch_messages.specs.declared.message.Message.TheVariants.{AddLong, AddShort, ReduceLong, ReduceShort, ModifyLong, ModifyShort, TradeLong, TradeShort, AddExpanded, TradeExpanded, TradingStatus}
 
 -- the flags of an order: bit 0 says that it is displayed
 abbrev pub flags_of : Bool → ℕ
@@ -50,3 +51,7 @@ modify_in_form None id quantity price display offset = ModifyLong offset id quan
 -- the modification of an order to a quantity, a price and a display mark
 unfoldable pub modify_message : ℕ → ℕ → ℕ → Bool → ℕ → Message
 modify_message id quantity price display offset = modify_in_form (short_price quantity price) id quantity price display offset
+
+-- the trading status of a symbol; it has one form
+abbrev pub status_message : TradingState → ℕ → Message
+status_message state offset = TradingStatus offset state.symbol state.halt state.sho

@@ -1,11 +1,11 @@
 -- The bytes of a message: its length, its type and its fields, end to end.
-use Rattle.std.specs.Prelude.{◌≡◌, ℕ, List, [], ◌∷◌, ◌++◌, None}
+use Rattle.std.specs.Prelude.{◌≡◌, ℕ, ◌==◌, List, [], ◌∷◌, ◌++◌, take, None, if◌then◌else◌}
 use Rattle.byteorder.specs.Endian.{little_bytes}
 use Rattle.pitch_fields.specs.Side.{byte_of}
 use Rattle.pitch_messages.specs.Raw.{kind_of}
 use Rattle.pitch_messages.specs.Reading.{row_of}
 use Rattle.pitch_messages.specs.declared.message.Message.{Message}
-use Rattle.pitch_messages.specs.declared.message.Message.TheVariants.{Time, AddLong, AddShort, Executed, ExecutedAt, ReduceLong, ReduceShort, ModifyLong, ModifyShort, Delete, TradeLong, TradeShort, TradeBreak, EndOfSession, AddExpanded, TradeExpanded, UnitClear, Other}
+use Rattle.pitch_messages.specs.declared.message.Message.TheVariants.{Time, AddLong, AddShort, Executed, ExecutedAt, ReduceLong, ReduceShort, ModifyLong, ModifyShort, Delete, TradeLong, TradeShort, TradeBreak, EndOfSession, AddExpanded, TradeExpanded, TradingStatus, UnitClear, Other}
 
 -- each field in the table's order, a number in little-endian bytes
 unfoldable pub written : Message → List ℕ
@@ -44,8 +44,14 @@ written (AddExpanded offset id side quantity symbol price flags participant) =
 written (TradeExpanded offset id side quantity symbol price execution) =
     43 ∷ 0x30 ∷ little_bytes 4 offset ++ little_bytes 8 id ++ byte_of side ∷ little_bytes 4 quantity
     ++ (symbol ++ (little_bytes 8 price ++ little_bytes 8 execution))
+written (TradingStatus offset symbol halt sho) =
+    18 ∷ 0x31 ∷ little_bytes 4 offset ++ (symbol ++ halt ∷ sho ∷ 32 ∷ 32 ∷ [])
 written (UnitClear offset) = 6 ∷ 0x97 ∷ little_bytes 4 offset
 written (Other raw) = raw
+
+-- a raw with spaces for its reserved bytes; only a Trading Status has such bytes, its last two
+abbrev pub with_reserved_blank : List ℕ → List ℕ
+with_reserved_blank raw = if kind_of raw == 0x31 then take 16 raw ++ 32 ∷ 32 ∷ [] else raw
 
 -- a message of a known type has its own variant, and does not stand under Other
 abbrev pub HasItsVariant : Message → Type 0

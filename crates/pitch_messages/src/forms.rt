@@ -1,11 +1,12 @@
 ghost use Rattle.std.specs.Prelude.{◌≡◌, ◌≤◌, Ok, IfSome};
 ghost use Rattle.pitch_messages.specs.Reading.{reads};
 ghost use Rattle.pitch_messages.specs.Writing.{written, HasItsVariant};
-ghost use Rattle.pitch_messages.specs.Forms.{flags_of, short_price, plain_symbol, add_message, trade_message, reduce_message, modify_message};
+ghost use Rattle.pitch_messages.specs.Forms.{flags_of, short_price, plain_symbol, add_message, trade_message, reduce_message, modify_message, status_message};
 
 use crate::message::Message;
 use crate::order::Order;
 use crate::raw::Raw;
+use crate::trading_state::TradingState;
 use crate::writing::write;
 use pitch_fields::{Price, is_blank};
 
@@ -187,4 +188,18 @@ pub fn modify_raw(id: u64, quantity: u32, price: Price, display: bool, offset: u
             flags,
         }),
     }
+}
+
+/// The Trading Status of a symbol, at an offset in nanoseconds.
+#[inline]
+pub fn status_raw(state: &TradingState, offset: u32) -> Raw
+    ensures written { result ≡ written (status_message state.now offset) }
+    ensures reads_back { reads result ≡ Ok (status_message state.now offset) }
+{
+    write(&Message::TradingStatus {
+        offset,
+        symbol: state.symbol.bytes(),
+        halt: state.halt,
+        sho: state.sho,
+    })
 }

@@ -84,13 +84,18 @@ impl<T: Drop> List<T> {
         Ok(())
     }
 
-    /// Puts the items of a Vec at the end. The list is as before after OutOfMemory.
+    /// Puts the items of a Vec at the end. An empty list takes over the Vec's memory, unless it has
+    /// more of its own. The list is as before after OutOfMemory.
     pub fn append(&mut self, mut items: Vec<T>) -> Result<(), OutOfMemory>
         ensures ok { OnOk result (self.new.items ≡ self.old.items ++ items.items) }
         ensures err { OnErr result (self.new.items ≡ self.old.items) }
         ensures spare { self.old.spare ≤ self.new.spare + length items.items }
         ensures succeeds { length items.items ≤ self.old.spare → IsOk result }
     {
+        if self.items.is_empty() && self.items.capacity() <= items.capacity() {
+            self.items = items;
+            return Ok(());
+        }
         self.items.append(&mut items)?;
         Ok(())
     }

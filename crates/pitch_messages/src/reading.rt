@@ -4,8 +4,8 @@ ghost use Rattle.pitch_fields.specs.Side.{side_of};
 ghost use Rattle.pitch_messages.specs.Raw.{IsRaw, kind_of};
 ghost use Rattle.pitch_messages.specs.declared.message.ReadError.TheVariants.{BadSide};
 ghost use Rattle.pitch_messages.specs.Table.{bytes_at};
-ghost use Rattle.pitch_messages.specs.Writing.{written};
-ghost use Rattle.pitch_messages.specs.Reading.{needs_of, extra_of, reads, row_of, time_row, add_long_row, add_short_row, executed_row, executed_at_row, reduce_long_row, reduce_short_row, modify_long_row, modify_short_row, delete_row, trade_long_row, trade_short_row, trade_break_row, end_of_session_row, add_expanded_row, trade_expanded_row, unit_clear_row};
+ghost use Rattle.pitch_messages.specs.Writing.{written, with_reserved_blank};
+ghost use Rattle.pitch_messages.specs.Reading.{needs_of, extra_of, reads, row_of, time_row, add_long_row, add_short_row, executed_row, executed_at_row, reduce_long_row, reduce_short_row, modify_long_row, modify_short_row, delete_row, trade_long_row, trade_short_row, trade_break_row, end_of_session_row, add_expanded_row, trade_expanded_row, trading_status_row, unit_clear_row};
 
 use crate::message::{Message, ReadError};
 use crate::raw::Raw;
@@ -294,6 +294,19 @@ fn trade_expanded(bytes: &[u8]) -> Result<Message, ReadError>
 }
 
 #[inline(always)]
+fn trading_status(bytes: &[u8]) -> Result<Message, ReadError>
+    requires { 18 ≤ length bytes.now }
+    ensures { result ≡ trading_status_row.says bytes.now }
+{
+    Ok(Message::TradingStatus {
+        offset: get_u32(bytes, 2),
+        symbol: eight_at(bytes, 6),
+        halt: bytes[14],
+        sho: bytes[15],
+    })
+}
+
+#[inline(always)]
 fn unit_clear(bytes: &[u8]) -> Result<Message, ReadError>
     requires { 6 ≤ length bytes.now }
     ensures { result ≡ unit_clear_row.says bytes.now }
@@ -325,6 +338,7 @@ fn needs_of(kind: u8) -> Option<u8>
         0x2d => Some(6),
         0x2f => Some(40),
         0x30 => Some(43),
+        0x31 => Some(18),
         0x97 => Some(6),
         _ => None,
     }
@@ -388,6 +402,7 @@ pub fn read_as(kind: u8, bytes: &[u8]) -> Result<Message, ReadError>
         0x2d => end_of_session(bytes),
         0x2f => add_expanded(bytes),
         0x30 => trade_expanded(bytes),
+        0x31 => trading_status(bytes),
         0x97 => unit_clear(bytes),
         _ => Ok(Message::Other(Raw::of(bytes))),
     }
@@ -408,11 +423,13 @@ pub fn read_bytes(bytes: &[u8]) -> Result<Message, ReadError>
 
 /// The message of a raw, as `read_bytes` says it.
 ///
-/// A raw of just the length that its type needs is what `write` makes of its message.
+/// A raw of just the length that its type needs is what `write` makes of its message, but for the
+/// reserved bytes of a Trading Status, which `write` makes spaces.
 pub fn read(raw: &Raw) -> Result<Message, ReadError>
     ensures said { result ≡ reads raw.now }
     ensures rewritten { IfOk result
-        (λ message. length raw.now ≡ needs_of (kind_of raw.now) → raw.now ≡ written message) }
+        (λ message. length raw.now ≡ needs_of (kind_of raw.now)
+        → with_reserved_blank raw.now ≡ written message) }
 {
     let bytes = raw.bytes();
     read_bytes(bytes)

@@ -1,7 +1,7 @@
 ghost use Rattle.std.specs.Prelude.{◌≡◌, length};
 ghost use Rattle.pitch_messages.specs.Reading.{reads};
 ghost use Rattle.pitch_messages.specs.Writing.{written, HasItsVariant};
-ghost use Rattle.pitch_messages.specs.declared.message.Message.TheVariants.{Time, AddLong, AddShort, Executed, ExecutedAt, ReduceLong, ReduceShort, ModifyLong, ModifyShort, Delete, TradeLong, TradeShort, TradeBreak, EndOfSession, AddExpanded, TradeExpanded, UnitClear};
+ghost use Rattle.pitch_messages.specs.declared.message.Message.TheVariants.{Time, AddLong, AddShort, Executed, ExecutedAt, ReduceLong, ReduceShort, ModifyLong, ModifyShort, Delete, TradeLong, TradeShort, TradeBreak, EndOfSession, AddExpanded, TradeExpanded, TradingStatus, UnitClear};
 
 use crate::message::Message;
 use crate::raw::Raw;
@@ -300,6 +300,14 @@ fn trade_expanded_raw(
 }
 
 #[tactic(auto, unfolding(crate::specs::Writing::written))]
+fn trading_status_raw(offset: u32, symbol: [u8; 8], halt: u8, sho: u8) -> Raw
+    ensures written { result ≡ written (TradingStatus offset symbol halt sho) }
+    ensures symbol { length symbol ≡ 8 }
+{
+    Raw::of_fields(0x31, &[&offset.to_le_bytes(), &symbol, &[halt, sho], b"  "])
+}
+
+#[tactic(auto, unfolding(crate::specs::Writing::written))]
 fn unit_clear_raw(offset: u32) -> Raw
     ensures { result ≡ written (UnitClear offset) }
 {
@@ -423,6 +431,12 @@ pub fn write(message: &Message) -> Raw
             price,
             execution,
         } => trade_expanded_raw(*offset, *id, *side, *quantity, *symbol, *price, *execution),
+        Message::TradingStatus {
+            offset,
+            symbol,
+            halt,
+            sho,
+        } => trading_status_raw(*offset, *symbol, *halt, *sho),
         Message::UnitClear { offset } => unit_clear_raw(*offset),
         Message::Other(raw) => raw.copy(),
     }

@@ -2,10 +2,10 @@
 use Rattle.std.proofs.Common.{◌≡◌, ℕ, true, false, List, [], ◌∷◌, ◌++◌, codes, Result, Ok, Err, Some, None, refl}
 use Rattle.pitch_fields.specs.declared.side.Side.TheVariants.{Buy, Sell}
 use Rattle.pitch_io.specs.declared.line.Line.TheVariants.{A, Gap}
-use Rattle.pitch_text.specs.declared.command.Command.TheVariants.{Time, Add, Exec, ExecAt, Reduce, Modify, Delete, Trade, Break, Clear, EndSession}
+use Rattle.pitch_text.specs.declared.command.Command.TheVariants.{Time, Add, Exec, ExecAt, Reduce, Modify, Delete, Trade, Break, Clear, EndSession, Status}
 use Rattle.pitch_text.specs.declared.verb.Session.TheVariants.{Grp, Spin}
 use Rattle.pitch_text.specs.declared.verb.Verb.TheVariants as verbs
-use Rattle.pitch_text.specs.CommandGrammar.{command, time_rule, add_rule, exec_rule, execat_rule, reduce_rule, modify_rule, delete_rule, trade_rule, break_rule, clear_rule, end_rule}
+use Rattle.pitch_text.specs.CommandGrammar.{command, time_rule, add_rule, exec_rule, execat_rule, reduce_rule, modify_rule, delete_rule, trade_rule, break_rule, clear_rule, end_rule, status_rule}
 use Rattle.pitch_text.specs.ScheduleGrammar.{entry, verb, setup_rule, deliver_rule, up_rule, session_rule}
 use Rattle.text_lines.specs.declared.fault.TextCause.TheVariants.{BadWord, MissingField}
 use Rattle.text_lines.specs.Text.{said_of}
@@ -55,6 +55,22 @@ a_word_is_unknown = refl
 a_field_is_missing : said_of command (codes "reduce 1 ") ≡ Err (record { line = 1; fault = record { column = 9; cause = MissingField } }) ∷ []
 unfolding said_of command reduce_rule
 a_field_is_missing = refl
+
+a_status : said_of command (codes "status IBM H 0 at=7") ≡ Ok (1, Status (codes "IBM     ") 0x48 0x30 7) ∷ []
+unfolding said_of command status_rule
+a_status = refl
+
+a_halt_is_one_byte : said_of command (codes "status IBM HH 0") ≡ Err (record { line = 1; fault = record { column = 12; cause = BadWord } }) ∷ []
+unfolding said_of command status_rule
+a_halt_is_one_byte = refl
+
+a_halt_is_no_backslash : said_of command (codes "status IBM \\ 0") ≡ Err (record { line = 1; fault = record { column = 12; cause = BadWord } }) ∷ []
+unfolding said_of command status_rule
+a_halt_is_no_backslash = refl
+
+a_sho_is_missing : said_of command (codes "status IBM H") ≡ Err (record { line = 1; fault = record { column = 13; cause = MissingField } }) ∷ []
+unfolding said_of command status_rule
+a_sho_is_missing = refl
 
 -- ---- Schedules
 the_limits : said_of entry (codes "2 open hold=2 kept=3 second=4 minute=5 day=6") ≡ Ok (1, (2, verbs.Setup 2 3 4 5 6)) ∷ []

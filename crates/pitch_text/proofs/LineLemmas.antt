@@ -27,7 +27,7 @@ use Rattle.text_lines.specs.Kinds.{padded_of, participant_of}
 use Rattle.pitch_text.specs.Defaults.{default_hold, default_kept, default_second, default_minute, default_day}
 use Rattle.pitch_text.specs.ScheduleGrammar.{entry}
 use Rattle.text_lines.specs.Text.{line_of, lines_of, said_of, entries_of}
-use Rattle.pitch_text.specs.WellFormed.{IsVerb, IsCommand, IsOrder, IsOffset, IsSymbol, IsWellFormed}
+use Rattle.pitch_text.specs.WellFormed.{IsVerb, IsCommand, IsPrintingByte, IsOrder, IsOffset, IsSymbol, IsWellFormed}
 use Rattle.pitch_text.specs.Printing.{verb_words, command_words, number_words, at_words, hidden_words, mpid_words, order_words, name_of, count_word, line_word, session_word, spaced, entry_text}
 use Rattle.pitch_text.proofs.WordLemmas.{is_dark, IsWord, AreWords, fields_words, spaced_length, line_before_others, one_line}
 use Rattle.text_lines.proofs.KindLemmas.{decimal_digits}
@@ -139,6 +139,9 @@ trade_ok o execution offset ok ex off =
       few = omega (arith, t.1);
     }
 
+byte_word : (b : ℕ) → IsPrintingByte b → IsWord (b ∷ [])
+byte_word b h = record { filled = omega arith; dark = printing_dark (b ∷ []) (and_from (is_printing b) true h refl); short = omega arith }
+
 command_ok : (c : Command) → IsCommand c → AreFew (command_words c)
 command_ok (commands.Time second) h = record { words = (literal (codes "time") refl refl refl, (number_word second 20 (omega arith) (omega arith) (omega arith) (omega arith), tt)); few = omega arith }
 command_ok (commands.Add o offset) h = add_ok o offset h.0 h.1
@@ -151,6 +154,7 @@ command_ok (commands.EndSession offset) h = record { words = (literal (codes "en
 command_ok (commands.Modify id quantity price display offset) h = record { words = (literal (codes "modify") refl refl refl, (id_is_word id h.0, (count_is_word quantity h.1, (price_word price h.2, are_append (hidden_words display) (at_words offset) (hidden_ok display).0 (at_ok offset h.3).0)))); few = omega (arith, length-append (hidden_words display) (at_words offset), (hidden_ok display).1, (at_ok offset h.3).1) }
 command_ok (commands.Trade o execution offset) h = trade_ok o execution offset h.0 h.3 h.4
 command_ok (commands.Clear offset) h = record { words = (literal (codes "clear") refl refl refl, (at_ok offset h).0); few = omega (arith, (at_ok offset h).1) }
+command_ok (commands.Status symbol halt sho offset) h = record { words = (literal (codes "status") refl refl refl, (symbol_word symbol h.0, (byte_word halt h.1, (byte_word sho h.2, (at_ok offset h.3).0)))); few = omega (arith, (at_ok offset h.3).1) }
 
 line_word_ok : (l : Line) → IsWord (line_word l)
 line_word_ok lines.A = literal (codes "a") refl refl refl

@@ -60,6 +60,7 @@ command_words (commands.Trade o execution offset) = order_words (codes "trade") 
 command_words (commands.Break execution offset) = codes "break" ∷ decimal execution ∷ at_words offset
 command_words (commands.Clear offset) = codes "clear" ∷ at_words offset
 command_words (commands.EndSession offset) = codes "end" ∷ at_words offset
+command_words (commands.Status symbol halt sho offset) = codes "status" ∷ name_of symbol ∷ (halt ∷ []) ∷ (sho ∷ []) ∷ at_words offset
 
 -- the word of a line of the feed
 abbrev pub line_word : Line → List ℕ

@@ -146,6 +146,18 @@ fn push_command(line: &mut Vec<u8>, command: &Command) -> Result<(), OutOfMemory
         Command::Break { execution, offset } => push_plain(line, b"break", &[execution], offset),
         Command::Clear { offset } => push_plain(line, b"clear", &[], offset),
         Command::EndSession { offset } => push_plain(line, b"end", &[], offset),
+        Command::Status {
+            symbol,
+            halt,
+            sho,
+            offset,
+        } => {
+            push_word(line, b"status")?;
+            push_symbol(line, symbol)?;
+            push_word(line, &[halt])?;
+            push_word(line, &[sho])?;
+            push_offset(line, offset)
+        }
     }
 }
 

@@ -43,6 +43,13 @@ abbrev pub side_in : List ℕ → Option Side
 side_in (b ∷ []) = side_of b
 side_in _ = None
 
+-- ---- bytes
+
+-- the byte of a field that is one printing byte
+abbrev pub byte_in : List ℕ → Option ℕ
+byte_in (b ∷ []) = if is_printing b then Some b else None
+byte_in _ = None
+
 -- ---- symbols and participants
 
 -- 1 to so many printing bytes, and spaces after them up to that width

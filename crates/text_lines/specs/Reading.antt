@@ -4,7 +4,7 @@ use Rattle.text_lines.specs.declared.fault.TextCause.{TextCause}
 use Rattle.text_lines.specs.declared.fault.TextCause.TheVariants.{MissingField, BadWord, BadNumber, BadPrice, BadSymbol}
 use Rattle.text_lines.specs.declared.fault.Fault.{Fault}
 use Rattle.pitch_fields.specs.declared.side.Side.{Side}
-use Rattle.text_lines.specs.Kinds.{number_of, number_or, begins_with_digit, side_in, symbol_of, price_in}
+use Rattle.text_lines.specs.Kinds.{number_of, number_or, begins_with_digit, byte_in, side_in, symbol_of, price_in}
 use Rattle.text_lines.specs.Fields.{Field, Rest, rest_after}
 
 -- a value and what is left of the line, or the first fault
@@ -62,6 +62,10 @@ count_or word low = choice (number_or word low (2 ^ 32 - 1)) (λ bytes. if begin
 -- a side
 abbrev pub side_field : LineReading Side
 side_field = field side_in BadWord
+
+-- one printing byte
+abbrev pub byte_field : LineReading ℕ
+byte_field = field byte_in BadWord
 
 -- the eight bytes of a symbol
 abbrev pub symbol_field : LineReading (List ℕ)

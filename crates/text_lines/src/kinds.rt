@@ -3,10 +3,10 @@ ghost use Rattle.std.specs.List.{list_all};
 ghost use Rattle.std.specs.Char.{is_ascii_digit, digit_value};
 ghost use Rattle.std.specs.Str.Parse.{digits_value};
 ghost use Rattle.pitch_fields.specs.Name.{is_printing};
-ghost use Rattle.text_lines.specs.Kinds.{number_of, digits_of, fraction_of, price_in, side_in, symbol_of, participant_of};
+ghost use Rattle.text_lines.specs.Kinds.{number_of, digits_of, fraction_of, price_in, byte_in, side_in, symbol_of, participant_of};
 
 use crate::fields::length_before;
-use pitch_fields::{Price, Side, Symbol, are_printing};
+use pitch_fields::{Price, Side, Symbol, are_printing, is_printing};
 
 /// A number: 1 to 20 decimal digits, where its value lies in a range. Leading zeros count as
 /// digits.
@@ -109,6 +109,25 @@ pub fn side(bytes: &[u8]) -> Option<Side>
         [byte] => Side::from_byte(*byte),
         _ => None,
     }
+}
+
+/// One printing byte other than the backslash.
+#[inline]
+pub fn byte(bytes: &[u8]) -> Option<u8>
+    ensures { result ≡ byte_in bytes.now }
+{
+    match bytes {
+        [byte] => printing_byte(*byte),
+        _ => None,
+    }
+}
+
+// The byte, where it is a printing one other than the backslash.
+#[inline]
+fn printing_byte(byte: u8) -> Option<u8>
+    ensures { result ≡ (if is_printing byte then Some byte else None) }
+{
+    if is_printing(byte) { Some(byte) } else { None }
 }
 
 /// A symbol: 1 to 8 printing bytes other than the backslash. Spaces are added up to 8.

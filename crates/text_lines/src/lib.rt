@@ -23,5 +23,5 @@ pub use crate::fields::{FoundField, LineFields, length_before};
 pub use crate::lines::{Grammar, LONGEST_LINE, Lines, read_text};
 pub use crate::options::{next_end, next_value, next_word};
 pub use crate::reading::{
-    missing_field, read_count, read_end, read_number, read_price, read_side, read_symbol,
+    missing_field, read_byte, read_count, read_end, read_number, read_price, read_side, read_symbol,
 };

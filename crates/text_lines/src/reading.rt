@@ -1,7 +1,7 @@
 ghost use Rattle.std.specs.Prelude.{◌≡◌, if◌then◌else◌};
 ghost use Rattle.text_lines.specs.Kinds.{begins_with_digit};
 ghost use Rattle.text_lines.specs.Options.{ends};
-ghost use Rattle.text_lines.specs.Reading.{Reads, number, count_or, side_field, symbol_field, price_field};
+ghost use Rattle.text_lines.specs.Reading.{Reads, number, count_or, byte_field, side_field, symbol_field, price_field};
 
 use crate::fault::{Fault, TextCause};
 use crate::fields::LineFields;
@@ -78,6 +78,23 @@ pub fn read_side(fields: &mut LineFields) -> Result<Side, Fault>
     };
     match kinds::side(field.bytes) {
         Some(side) => Ok(side),
+        None => Err(Fault {
+            column: field.column,
+            cause: TextCause::BadWord,
+        }),
+    }
+}
+
+/// Takes a required field, one printing byte; else the fault is BadWord at its first byte.
+#[inline]
+pub fn read_byte(fields: &mut LineFields) -> Result<u8, Fault>
+    ensures { Reads (byte_field fields.old) result fields.new }
+{
+    let Some(field) = fields.take() else {
+        return Err(missing_field(fields));
+    };
+    match kinds::byte(field.bytes) {
+        Some(byte) => Ok(byte),
         None => Err(Fault {
             column: field.column,
             cause: TextCause::BadWord,

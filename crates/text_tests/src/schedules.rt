@@ -5,12 +5,16 @@ use std::alloc::{AllocError, Global};
 use std::test::*;
 
 // A line, and what a schedule that has it alone answers.
-static ANSWERS: [(&str, &str); 56] = [
+static ANSWERS: [(&str, &str); 60] = [
     // a field of a fixed kind has that kind's cause
     ("1 quote A\\B", "line 1 column 9: bad-symbol"),
     ("1 add 1 B 1 IBM hidden", "line 1 column 17: bad-price"),
     ("1 add 1 B 1 IBM at=5", "line 1 column 17: bad-price"),
     ("1 quote flush", "read"),
+    ("1 status IBM HH 0", "line 1 column 14: bad-word"),
+    ("1 status IBM \\ 0", "line 1 column 14: bad-word"),
+    ("1 status ABCDEFGHI H 0", "line 1 column 10: bad-symbol"),
+    ("1 status IBM H", "line 1 column 15: missing-field"),
     ("1 quote ABCDEFGHI", "line 1 column 9: bad-symbol"),
     ("0 flush", "line 1 column 1: bad-number"),
     ("x flush", "line 1 column 1: bad-number"),
@@ -97,7 +101,7 @@ static ANSWERS: [(&str, &str); 56] = [
 ];
 
 // Lines, and as they are printed.
-static PRINTED: [(&str, &str); 12] = [
+static PRINTED: [(&str, &str); 13] = [
     (
         "64 add 7 B 100 IBM 10 hidden mpid=AB at=5",
         "64 add 7 B 100 IBM 10.0000 hidden mpid=AB at=5",
@@ -119,6 +123,7 @@ static PRINTED: [(&str, &str); 12] = [
     (" 2   grp up  all ", "2 grp up all"),
     ("1 spin down 14", "1 spin down 14"),
     ("1 quote !~#", "1 quote !~#"),
+    ("1 status IBM H ~ at=07", "1 status IBM H ~ at=7"),
 ];
 
 // What a schedule answers: `read`, or the error in words.

@@ -1,7 +1,7 @@
 use Rattle.std.proofs.Common.{◌≡◌, ◌∙◌, ℕ, List, length, refl, sym, ap, None, Ok, rules}
 use Rattle.pitch_messages.specs.declared.message.Message.TheVariants.{Other}
 use Rattle.pitch_messages.specs.Raw.{kind_of}
-use Rattle.pitch_messages.specs.Reading.{row_of, time_row, add_long_row, add_short_row, executed_row, executed_at_row, reduce_long_row, reduce_short_row, modify_long_row, modify_short_row, delete_row, trade_long_row, trade_short_row, trade_break_row, end_of_session_row, add_expanded_row, trade_expanded_row, unit_clear_row}
+use Rattle.pitch_messages.specs.Reading.{row_of, time_row, add_long_row, add_short_row, executed_row, executed_at_row, reduce_long_row, reduce_short_row, modify_long_row, modify_short_row, delete_row, trade_long_row, trade_short_row, trade_break_row, end_of_session_row, add_expanded_row, trade_expanded_row, trading_status_row, unit_clear_row}
 use Rattle.pitch_messages.proofs.Rows.{enough, said, unsaid}
 use Rattle.pitch_messages.proofs.reading.read_as.Goals as goal
 
@@ -100,6 +100,12 @@ trade_expanded-requires c = enough row_of (kind_of c.args.bytes.now) 48 (length 
 
 pub returns-in-48 : goal.returns-in-48
 returns-in-48 c = c.trade_expanded.ensures ∙ said trade_expanded_row c.args.bytes.now 48 (sym c.requires.kind ∙ c.in-48.is) refl (enough row_of (kind_of c.args.bytes.now) 48 (length c.args.bytes.now) c.in_ok-long_enough.ensures.ok (sym c.requires.kind ∙ c.in-48.is))
+
+pub trading_status-requires : goal.trading_status-requires
+trading_status-requires c = enough row_of (kind_of c.args.bytes.now) 49 (length c.args.bytes.now) c.in_ok-long_enough.ensures.ok (sym c.requires.kind ∙ c.in-49.is)
+
+pub returns-in-49 : goal.returns-in-49
+returns-in-49 c = c.trading_status.ensures ∙ said trading_status_row c.args.bytes.now 49 (sym c.requires.kind ∙ c.in-49.is) refl (enough row_of (kind_of c.args.bytes.now) 49 (length c.args.bytes.now) c.in_ok-long_enough.ensures.ok (sym c.requires.kind ∙ c.in-49.is))
 
 pub unit_clear-requires : goal.unit_clear-requires
 unit_clear-requires c = enough row_of (kind_of c.args.bytes.now) 151 (length c.args.bytes.now) c.in_ok-long_enough.ensures.ok (sym c.requires.kind ∙ c.in-151.is)

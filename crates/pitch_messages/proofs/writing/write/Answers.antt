@@ -4,7 +4,7 @@ use Rattle.pitch_messages.specs.Reading.{reads, row_of}
 use Rattle.pitch_messages.specs.Raw.{kind_of}
 use Rattle.pitch_messages.specs.Writing.{HasItsVariant}
 use Rattle.pitch_messages.proofs.Rows.{unsaid}
-use Rattle.pitch_messages.proofs.RoundTrip.{time_back, add_long_back, add_short_back, executed_back, executed_at_back, reduce_long_back, reduce_short_back, modify_long_back, modify_short_back, delete_back, trade_long_back, trade_short_back, trade_break_back, end_of_session_back, add_expanded_back, trade_expanded_back, unit_clear_back}
+use Rattle.pitch_messages.proofs.RoundTrip.{time_back, add_long_back, add_short_back, executed_back, executed_at_back, reduce_long_back, reduce_short_back, modify_long_back, modify_short_back, delete_back, trade_long_back, trade_short_back, trade_break_back, end_of_session_back, add_expanded_back, trade_expanded_back, trading_status_back, unit_clear_back}
 use Rattle.pitch_messages.proofs.writing.write.Goals as goal
 
 pub returns-in-Time-clause-reads_back : goal.returns-in-Time-clause-reads_back
@@ -54,6 +54,9 @@ returns-in-AddExpanded-clause-reads_back c is = ap reads c.add_expanded_raw.ensu
 
 pub returns-in-TradeExpanded-clause-reads_back : goal.returns-in-TradeExpanded-clause-reads_back
 returns-in-TradeExpanded-clause-reads_back c is = ap reads c.trade_expanded_raw.ensures.written ∙ trade_expanded_back c.in-TradeExpanded.offset c.in-TradeExpanded.id c.in-TradeExpanded.side c.in-TradeExpanded.quantity c.in-TradeExpanded.symbol c.in-TradeExpanded.price c.in-TradeExpanded.execution (omega arith) (omega arith) (omega arith) (omega arith) (omega arith) c.trade_expanded_raw.ensures.symbol ∙ ap (λ (m : Message). Ok m) (sym c.in-TradeExpanded.is)
+
+pub returns-in-TradingStatus-clause-reads_back : goal.returns-in-TradingStatus-clause-reads_back
+returns-in-TradingStatus-clause-reads_back c is = ap reads c.trading_status_raw.ensures.written ∙ trading_status_back c.in-TradingStatus.offset c.in-TradingStatus.symbol c.in-TradingStatus.halt c.in-TradingStatus.sho (omega arith) c.trading_status_raw.ensures.symbol ∙ ap (λ (m : Message). Ok m) (sym c.in-TradingStatus.is)
 
 pub returns-in-UnitClear-clause-reads_back : goal.returns-in-UnitClear-clause-reads_back
 returns-in-UnitClear-clause-reads_back c is = ap reads c.unit_clear_raw.ensures ∙ unit_clear_back c.in-UnitClear.offset (omega arith) ∙ ap (λ (m : Message). Ok m) (sym c.in-UnitClear.is)
