@@ -14,9 +14,10 @@ use Rattle.std.proofs.lemmas.List.Sums.{sum_by-cons}
 use Rattle.pitch_fields.specs.declared.side.Side.{Side}
 use Rattle.pitch_messages.specs.declared.order.Order.{Order}
 use Rattle.pitch_model.specs.Levels.{best_of, shares, level, with_level, best, prices_on}
+use Rattle.order_book.specs.Symbols.{StatusMap}
 use Rattle.order_book.specs.Standing.{book_of}
 use Rattle.order_book.specs.Totals.{is_on, quantities}
-use Rattle.order_book.proofs.Maps.{looks, absent}
+use Rattle.order_book.proofs.Maps.{id_keys, looks, absent}
 use Rattle.order_book.proofs.Bests.{with_price, prices_swap}
 
 some_none : (order : Order) → ◌≡◌ {A = Option Order} (Some order) None → ⊥
@@ -48,7 +49,7 @@ module _ {A : Type 0} (F : List Order → A) (add : Order → A → A) (step : (
   any_order [] d = ap (λ (l : List (ℕ × Order)). F (values_of l)) (sym no_entries)
   any_order (e ∷ es) d =
       let rest = finite.from_entries {R = nat_cmp} es in
-      let none : finite.find nat_cmp e.0 (finite.entries rest) ≡ None = sym (finite.get-entries rest e.0) ∙ looks es e.0 ∙ absent e.0 es (IsDistinct-head nat_eq e.0 (keys_of es) d) in
+      let none : finite.find nat_cmp e.0 (finite.entries rest) ≡ None = sym (finite.get-entries rest e.0) ∙ looks id_keys es e.0 ∙ absent nat_eq e.0 es (IsDistinct-head nat_eq e.0 (keys_of es) d) in
       step e.1 (values_of es)
       ∙ ap (add e.1) (any_order es (IsDistinct-tail nat_eq e.0 (keys_of es) d))
       ∙ sym (put_anywhere e.0 e.1 (finite.entries rest) none)
@@ -61,9 +62,9 @@ sum_step order orders = sum_by-cons (λ (o : Order). o.quantity) order orders
 sum_swap : (x y : Order) (n : ℕ) → x.quantity + (y.quantity + n) ≡ y.quantity + (x.quantity + n)
 sum_swap x y n = omega arith
 
-pub shares_of : (second : Option ℕ) (es : List (ℕ × Order)) → IsDistinct nat_eq (keys_of es) → quantities (values_of es) ≡ shares (book_of second es)
+pub shares_of : (second : Option ℕ) (es : List (ℕ × Order)) (statuses : StatusMap) → IsDistinct nat_eq (keys_of es) → quantities (values_of es) ≡ shares (book_of second es statuses)
 unfolding shares
-shares_of second es unique = any_order quantities (λ order n. order.quantity + n) sum_step sum_swap es unique
+shares_of second es statuses unique = any_order quantities (λ order n. order.quantity + n) sum_step sum_swap es unique
 
 -- the shares of those orders that pass two tests
 module _ (on at : Order → Bool) where
@@ -100,10 +101,10 @@ module _ (on at : Order → Bool) where
       by false b true false = refl
       by false b false d = refl
 
-pub level_of : (second : Option ℕ) (es : List (ℕ × Order)) (symbol : List ℕ) (side : Side) (price : ℕ) → IsDistinct nat_eq (keys_of es)
-    → quantities (filter (λ order. price == order.price) (filter (is_on symbol side) (values_of es))) ≡ level (book_of second es) symbol side price
+pub level_of : (second : Option ℕ) (es : List (ℕ × Order)) (statuses : StatusMap) (symbol : List ℕ) (side : Side) (price : ℕ) → IsDistinct nat_eq (keys_of es)
+    → quantities (filter (λ order. price == order.price) (filter (is_on symbol side) (values_of es))) ≡ level (book_of second es statuses) symbol side price
 unfolding level counted
-level_of second es symbol side price unique =
+level_of second es statuses symbol side price unique =
     any_order (counted (is_on symbol side) (λ order. price == order.price)) (counted_add (is_on symbol side) (λ order. price == order.price))
     (counted_step (is_on symbol side) (λ order. price == order.price)) (counted_swap (is_on symbol side) (λ order. price == order.price)) es unique
 
@@ -132,13 +133,13 @@ module _ (side : Side) (on : Order → Bool) where
       by true false = refl
       by false b = refl
 
-pub price_of : (second : Option ℕ) (es : List (ℕ × Order)) (symbol : List ℕ) (side : Side) → IsDistinct nat_eq (keys_of es)
-    → best_of side (map (λ order. order.price) (filter (is_on symbol side) (values_of es))) ≡ best_of side (prices_on (book_of second es) symbol side)
+pub price_of : (second : Option ℕ) (es : List (ℕ × Order)) (statuses : StatusMap) (symbol : List ℕ) (side : Side) → IsDistinct nat_eq (keys_of es)
+    → best_of side (map (λ order. order.price) (filter (is_on symbol side) (values_of es))) ≡ best_of side (prices_on (book_of second es statuses) symbol side)
 unfolding chosen
-price_of second es symbol side unique = any_order (chosen side (is_on symbol side)) (chosen_add side (is_on symbol side)) (chosen_step side (is_on symbol side)) (chosen_swap side (is_on symbol side)) es unique
+price_of second es statuses symbol side unique = any_order (chosen side (is_on symbol side)) (chosen_add side (is_on symbol side)) (chosen_step side (is_on symbol side)) (chosen_swap side (is_on symbol side)) es unique
 
 -- the best price of the entries, with its level, is the best of the book
-pub best_of_entries : (second : Option ℕ) (es : List (ℕ × Order)) (symbol : List ℕ) (side : Side) → IsDistinct nat_eq (keys_of es)
-    → option_map (with_level (book_of second es) symbol side) (best_of side (map (λ order. order.price) (filter (is_on symbol side) (values_of es)))) ≡ best (book_of second es) symbol side
+pub best_of_entries : (second : Option ℕ) (es : List (ℕ × Order)) (statuses : StatusMap) (symbol : List ℕ) (side : Side) → IsDistinct nat_eq (keys_of es)
+    → option_map (with_level (book_of second es statuses) symbol side) (best_of side (map (λ order. order.price) (filter (is_on symbol side) (values_of es)))) ≡ best (book_of second es statuses) symbol side
 unfolding best
-best_of_entries second es symbol side unique = ap (option_map (with_level (book_of second es) symbol side)) (price_of second es symbol side unique)
+best_of_entries second es statuses symbol side unique = ap (option_map (with_level (book_of second es statuses) symbol side)) (price_of second es statuses symbol side unique)

@@ -5,13 +5,14 @@ use Rattle.std.specs.Map.{keys_of, lookup}
 use Rattle.std.specs.FinMap as map
 use Rattle.std.specs.Ordering.{nat_cmp}
 use Rattle.pitch_messages.specs.declared.order.Order.{Order}
-use Rattle.pitch_model.specs.Book.{Book, IsBook, at_second, with_order, without_order, changed}
+use Rattle.pitch_model.specs.Book.{Book, IsBook, at_second, cleared, with_order, without_order, changed}
 use Rattle.pitch_model.proofs.Books.{with_order_all, without_order_all, none_all, changed_all, with_order_len}
 use Rattle.order_book.specs.declared.change.Change.{Change}
 use Rattle.order_book.specs.declared.change.Change.TheVariants.{Reduced, Left, Modified}
 use Rattle.order_book.specs.Changes.{changed_by}
+use Rattle.order_book.specs.Symbols.{StatusMap}
 use Rattle.order_book.specs.Standing.{IsKept, book_of, most_orders}
-use Rattle.order_book.proofs.Maps.{inserts, removes, lens}
+use Rattle.order_book.proofs.Maps.{id_keys, inserts, removes, lens}
 
 -- an order stands under its id
 abbrev Named : ℕ → Order → Type 0
@@ -28,8 +29,8 @@ same_id (Left quantity) order = refl
 same_id (Modified quantity price display) order = refl
 
 -- ---- Each effect leaves a book
-pub no_orders : (second : Option ℕ) → IsBook (record { second = second; orders = map.empty })
-no_orders second = record { ids = none_all Named second; filled = none_all Filled second }
+pub no_orders : (book : Book) → IsBook (cleared book)
+no_orders book = record { ids = none_all Named book; filled = none_all Filled book }
 
 module _ (book : Book) (is : IsBook book) where
   second_book : (second : ℕ) → IsBook (at_second book second)
@@ -48,41 +49,45 @@ module _ (book : Book) (is : IsBook book) where
   }
 
 -- ---- So what is kept stays so
-module _ (second : Option ℕ) (es : List (ℕ × Order)) (kept : IsKept second es) where
-  pub kept_second : (value : ℕ) → IsKept (Some value) es
-  kept_second value = record { book = second_book (book_of second es) kept.book value; unique = kept.unique; few = kept.few }
+module _ (second : Option ℕ) (es : List (ℕ × Order)) (statuses : StatusMap) (kept : IsKept second es statuses) where
+  pub kept_second : (value : ℕ) → IsKept (Some value) es statuses
+  kept_second value = record { book = second_book (book_of second es statuses) kept.book value; unique = kept.unique; few = kept.few }
 
-  pub kept_clear : IsDistinct nat_eq (keys_of {X = Order} []) → IsKept second []
-  kept_clear unique = record { book = no_orders second; unique = unique; few = omega arith }
+  -- no statuses matter
+  pub kept_statuses : (others : StatusMap) → IsKept second es others
+  kept_statuses others = record { book = record { ids = kept.book.ids; filled = kept.book.filled }; unique = kept.unique; few = kept.few }
+
+  pub kept_clear : IsDistinct nat_eq (keys_of {X = Order} []) → IsKept second [] statuses
+  kept_clear unique = record { book = no_orders (book_of second es statuses); unique = unique; few = omega arith }
 
   module _ (fs : List (ℕ × Order)) where
-    pub kept_same : fs ≡ es → IsKept second fs
-    kept_same same = subst (IsKept second) (sym same) kept
+    pub kept_same : fs ≡ es → IsKept second fs statuses
+    kept_same same = subst (λ (xs : List (ℕ × Order)). IsKept second xs statuses) (sym same) kept
 
     pub kept_insert : (order : Order) → 0 < order.quantity → map.len (map.from_entries {R = nat_cmp} es) < most_orders → IsDistinct nat_eq (keys_of fs)
-        → ((q : ℕ) → lookup (nat_eq q) fs ≡ cond (nat_eq order.id q) (Some order) (lookup (nat_eq q) es)) → IsKept second fs
+        → ((q : ℕ) → lookup (nat_eq q) fs ≡ cond (nat_eq order.id q) (Some order) (lookup (nat_eq q) es)) → IsKept second fs statuses
     kept_insert order filled few unique h =
-        let same = inserts es fs order.id order h in
-        let book : IsBook (book_of second fs) = subst (λ orders. IsBook (record { second = second; orders = orders })) (sym same) (insert_book (book_of second es) kept.book order filled) in
-        let count = lens fs unique in
-        let more = with_order_len (book_of second es) order.id order in
+        let same = inserts id_keys es fs order.id order h in
+        let book : IsBook (book_of second fs statuses) = subst (λ orders. IsBook (record { second = second; orders = orders; statuses = statuses })) (sym same) (insert_book (book_of second es statuses) kept.book order filled) in
+        let count = lens id_keys fs unique in
+        let more = with_order_len (book_of second es statuses) order.id order in
         let equal = ap (map.len {R = nat_cmp}) same in
         record { book = book; unique = unique; few = omega arith }
 
-    pub kept_remove : (id : ℕ) → IsDistinct nat_eq (keys_of fs) → length fs ≤ length es → ((q : ℕ) → lookup (nat_eq q) fs ≡ cond (nat_eq id q) None (lookup (nat_eq q) es)) → IsKept second fs
+    pub kept_remove : (id : ℕ) → IsDistinct nat_eq (keys_of fs) → length fs ≤ length es → ((q : ℕ) → lookup (nat_eq q) fs ≡ cond (nat_eq id q) None (lookup (nat_eq q) es)) → IsKept second fs statuses
     kept_remove id unique fewer h =
         let few = kept.few in
         record {
-          book = subst (λ orders. IsBook (record { second = second; orders = orders })) (sym (removes es fs id h)) (remove_book (book_of second es) kept.book id);
+          book = subst (λ orders. IsBook (record { second = second; orders = orders; statuses = statuses })) (sym (removes id_keys es fs id h)) (remove_book (book_of second es statuses) kept.book id);
           unique = unique;
           few = omega arith;
         }
 
-    pub kept_change : (id : ℕ) (change : Change) → IsDistinct nat_eq (keys_of fs) → length fs ≤ length es → book_of second fs ≡ changed (book_of second es) id (changed_by change) → IsKept second fs
+    pub kept_change : (id : ℕ) (change : Change) → IsDistinct nat_eq (keys_of fs) → length fs ≤ length es → book_of second fs statuses ≡ changed (book_of second es statuses) id (changed_by change) → IsKept second fs statuses
     kept_change id change unique fewer same =
         let few = kept.few in
         record {
-          book = subst IsBook (sym same) (change_book (book_of second es) kept.book id change);
+          book = subst IsBook (sym same) (change_book (book_of second es statuses) kept.book id change);
           unique = unique;
           few = omega arith;
         }

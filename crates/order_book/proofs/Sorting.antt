@@ -1,27 +1,100 @@
--- The orders of a list of entries, sorted by id, are the orders of the finite map by rising id.
-use Rattle.std.proofs.Common.{◌≡◌, ℕ, ◌<◌, Bool, true, false, cond, List, [], ◌∷◌, ◌&&◌, length, map, Option, Some, nat_eq, refl, sym, ap, subst, ◌∙◌, arith}
-use Rattle.std.specs.Prelude.{T}
+-- What was made of each entry of a list, sorted by their keys, is what is made of each entry of the
+-- finite map.
+use Rattle.std.proofs.Common.{◌≡◌, ℕ, ◌+◌, ◌<◌, Bool, true, false, cond, List, [], ◌∷◌, ◌&&◌, length, get_or, map, Option, Some, nat_eq, refl, sym, ap, subst, ◌∙◌, arith}
+use Rattle.std.specs.Prelude.{T, bytes_eq}
 use Rattle.std.specs.List.{IsDistinct, AllByRecursion}
-use Rattle.std.specs.List.Sorted.{IsPermutation, IsNonDecreasingBy, IsStrictlySortedBy, IsNonDecreasing}
+use Rattle.std.specs.List.Sorted.{IsPermutation, IsStrictlySortedBy, IsSorted, IsSortedByKey}
 use Rattle.std.specs.Map.{keys_of, values_of, lookup}
-use Rattle.std.specs.Cmp.{nat_cmp_total, nat_eq_equiv}
-use Rattle.std.specs.Ordering.{nat_cmp, is_lt}
+use Rattle.std.specs.Ordering.{nat_cmp, is_lt, is_eq, ordering_reverse}
 use Rattle.std.specs.declared.cmp.Ordering.{Ordering}
-use Rattle.std.specs.declared.cmp.Ordering.TheVariants.{Less}
+use Rattle.std.specs.declared.cmp.Ordering.TheVariants.{Less, Equal, Greater}
 use Rattle.std.specs.FinMap as finite
 use Rattle.std.specs.FinMap.Entries.{below_all}
+use Rattle.std.proofs.lemmas.Bool.{true≢false}
+use Rattle.std.proofs.lemmas.Bool.Decides.{Decides-eqb, nat_tests}
 use Rattle.std.proofs.lemmas.List.{get_or-map, length-map}
 use Rattle.std.proofs.lemmas.List.Sorted.{IsPermutation-map}
 use Rattle.std.proofs.lemmas.Map.Entries.{lookup_head}
-use Rattle.std.proofs.lemmas.Map.Keys.{IsDistinct-head, IsDistinct-tail, IsDistinct-IsPermutation, IsStrictlyIncreasing-from_distinct, sorted_from_strictly_increasing}
-use Rattle.std.proofs.lemmas.Bool.Decides.{Decides-eqb, nat_tests}
-use Rattle.indexmap.proofs.MapLemmas.{lookup_permutation}
-use Rattle.pitch_fields.specs.declared.side.Side.TheVariants.{Buy}
-use Rattle.pitch_messages.specs.declared.order.Order.{Order}
-use Rattle.order_book.proofs.Maps.{find_lookup, absent, looks}
-use Rattle.order_book.specs.Standing.{IsKept}
+use Rattle.std.proofs.lemmas.Map.Keys.{IsDistinct-head, IsDistinct-tail, IsDistinct-IsPermutation, apart_from_distinct, sorted_from_all_adjacent}
 use Rattle.std.proofs.lemmas.Option.{none-some}
+use Rattle.indexmap.proofs.MapLemmas.{lookup_permutation}
+use Rattle.pitch_messages.specs.declared.order.Order.{Order}
+use Rattle.pitch_messages.specs.declared.trading_state.TradingState.{TradingState}
+use Rattle.pitch_model.specs.Book.{symbol_cmp}
+use Rattle.pitch_model.specs.Statuses.{symbol_state}
+use Rattle.order_book.specs.Symbols.{StatusMap}
+use Rattle.order_book.specs.Standing.{IsKept}
+use Rattle.order_book.proofs.Maps.{AreKeys, id_keys, symbol_keys, find_lookup, absent, looks}
 
+both : (a b : Bool) → T a → T b → T (a && b)
+both true b p q = q
+both false b p q = absurd p
+
+mapped_twice : {A B C : Type 0} (f : A → B) (g : B → C) (xs : List A) → map g (map f xs) ≡ map (λ x. g (f x)) xs
+mapped_twice f g [] = refl
+mapped_twice f g (x ∷ xs) = ap (λ l. g (f x) ∷ l) (mapped_twice f g xs)
+
+unmapped : {A : Type 0} (f : A → A) (xs : List A) → ((x : A) → f x ≡ x) → map f xs ≡ xs
+unmapped f [] same = refl
+unmapped f (x ∷ xs) same = λ i. same x i ∷ unmapped f xs same i
+
+-- what is sorted by a key has sorted keys
+keys_sorted : {K X : Type 0} (R : K → K → Ordering) (key : X → K) (xs : List X) → IsSortedByKey key R xs → IsSorted R (map key xs)
+keys_sorted R key [] sorted k d least within = absurd (omega (arith, within))
+keys_sorted R key (x ∷ xs) sorted k d least within =
+    let n = length-map (x ∷ xs) key in
+    let inside : k + 1 < length (x ∷ xs) = omega (arith, n, within) in
+    let first = get_or-map key (x ∷ xs) k x d (omega (arith, inside)) in
+    let second = get_or-map key (x ∷ xs) (k + 1) x d inside in
+    (λ i. is_lt (R (second i) (first i))) ∙ sorted k x least inside
+
+-- ---- Keys in order
+module _ {K : Type 0} {R : K → K → Ordering} {eq : K → K → Bool} (keys : AreKeys R eq) where
+  -- of two keys that differ, the one that is not above is below
+  below : (x y : K) (r : Ordering) → R x y ≡ r → is_lt (R y x) ≡ false → eq x y ≡ false → r ≡ Less
+  below x y Less is up apart = refl
+  below x y Equal is up apart = absurd (true≢false (sym (keys.ties x y ∙ ap is_eq is) ∙ apart))
+  below x y Greater is up apart = absurd (true≢false (sym (ap is_lt (keys.total.antisymm y x ∙ ap ordering_reverse is)) ∙ up))
+
+  -- keys that do not fall, none of which stands twice, rise
+  strictly : (ks : List K) → IsSorted R ks → IsDistinct eq ks → IsStrictlySortedBy R ks
+  unfolding IsStrictlySortedBy
+  strictly [] up apart = tt
+  strictly (x ∷ xs) up apart = sorted_from_all_adjacent keys.total (x ∷ xs) x (λ k within.
+      let a = get_or (x ∷ xs) k x in
+      let b = get_or (x ∷ xs) (k + 1) x in
+      below a b (R a b) refl (up k x (omega arith) within) (apart_from_distinct eq (x ∷ xs) k (k + 1) x apart (omega arith) within))
+
+module _ {K X : Type 0} (R : K → K → Ordering) where
+  below_is : (x : K) (es : List (K × X)) → AllByRecursion (λ y. R x y ≡ Less) (keys_of es) → T (below_all R x es)
+  below_is x [] all = tt
+  below_is x (e ∷ es) all = both (is_lt (R x e.0)) (below_all R x es) (subst (λ (o : Ordering). T (is_lt o)) (sym all.0) tt) (below_is x es all.1)
+
+  sorted_is : (es : List (K × X)) → IsStrictlySortedBy R (keys_of es) → T (finite.is_sorted R es)
+  unfolding IsStrictlySortedBy
+  sorted_is [] ordered = tt
+  sorted_is (e ∷ es) ordered = both (below_all R e.0 es) (finite.is_sorted R es) (below_is e.0 es ordered.0) (sorted_is es ordered.1)
+
+module _ {K X : Type 0} {R : K → K → Ordering} {eq : K → K → Bool} (keys : AreKeys R eq) where
+  -- the entries of the map, from any list of them that is sorted
+  entries_are : (es ps : List (K × X)) → IsDistinct eq (keys_of es) → IsPermutation es ps → IsSorted R (keys_of ps) → finite.entries (finite.from_entries {R = R} es) ≡ ps
+  entries_are es ps unique moved up =
+      let apart : IsDistinct eq (keys_of ps) = IsDistinct-IsPermutation eq keys.equiv.symm (keys_of es) (keys_of ps) (IsPermutation-map (λ (e : K × X). e.0) es ps moved) unique in
+      let sorted : T (finite.is_sorted R ps) = sorted_is R ps (strictly keys (keys_of ps) up apart) in
+      ap finite.entries (finite.same_map keys.total keys.apart (finite.from_entries {R = R} es) (finite.from_sorted ps) (λ q.
+      looks keys es q ∙ sym (finite.get-from_sorted R ps q sorted ∙ find_lookup keys q ps ∙ lookup_permutation keys.equiv es ps moved apart (eq q) (keys.equiv.congr q))))
+      ∙ finite.entries-from_sorted R ps sorted
+
+  -- what f makes of each entry, where g gives the entries back, sorted by their keys
+  pub sorted_by_key : {Y : Type 0} (f : K × X → Y) (g : Y → K × X) (es : List (K × X)) (ys : List Y) → ((y : Y) → f (g y) ≡ y) → map g (map f es) ≡ es
+      → IsDistinct eq (keys_of es) → IsPermutation (map f es) ys → IsSortedByKey (λ y. (g y).0) R ys → ys ≡ map f (finite.entries (finite.from_entries {R = R} es))
+  sorted_by_key {Y} f g es ys back forth unique same up =
+      let ps : List (K × X) = map g ys in
+      let moved : IsPermutation es ps = subst (λ (l : List (K × X)). IsPermutation l ps) forth (IsPermutation-map g (map f es) ys same) in
+      let rise : IsSorted R (keys_of ps) = subst (IsSorted R) (sym (mapped_twice g (λ (e : K × X). e.0) ys)) (keys_sorted R (λ (y : Y). (g y).0) ys up) in
+      sym (ap (λ (l : List (K × X)). map f l) (entries_are es ps unique moved rise) ∙ mapped_twice g f ys ∙ unmapped (λ (y : Y). f (g y)) ys back)
+
+-- ---- Orders by their ids
 -- an order after its id
 abbrev pub by_id : Order → ℕ × Order
 by_id order = (order.id, order)
@@ -39,7 +112,7 @@ rest_stands e es d s q order found = by (nat_eq q e.0) refl
     by : (b : Bool) → nat_eq q e.0 ≡ b → order.id ≡ q
     by true t =
         let same : q ≡ e.0 = (Decides-eqb q e.0).0 t in
-        absurd (none-some order (sym (absent e.0 es (IsDistinct-head nat_eq e.0 (keys_of es) d)) ∙ ap (λ (k : ℕ). lookup (nat_eq k) es) (sym same) ∙ found))
+        absurd (none-some order (sym (absent nat_eq e.0 es (IsDistinct-head nat_eq e.0 (keys_of es) d)) ∙ ap (λ (k : ℕ). lookup (nat_eq k) es) (sym same) ∙ found))
     by false f = s q order (ap (λ (b : Bool). cond b (Some e.1) (lookup (nat_eq q) es)) f ∙ found)
 
 -- so the entries are their orders, each after its id
@@ -49,65 +122,21 @@ paired (e ∷ es) d s =
     let own : e.1.id ≡ e.0 = s e.0 e.1 (lookup_head (nat_eq e.0) e es (itself e.0)) in
     λ i. (own i, e.1) ∷ paired es (IsDistinct-tail nat_eq e.0 (keys_of es) d) (rest_stands e es d s) i
 
-keys_are : (xs : List Order) → keys_of (map by_id xs) ≡ map (λ (o : Order). o.id) xs
-keys_are [] = refl
-keys_are (x ∷ xs) = ap (λ (l : List ℕ). x.id ∷ l) (keys_are xs)
+pub sorted_orders : (es : List (ℕ × Order)) (xs : List Order) → IsDistinct nat_eq (keys_of es) → StandById es → IsPermutation (values_of es) xs → IsSortedByKey (λ (o : Order). o.id) nat_cmp xs
+    → xs ≡ finite.values (finite.from_entries {R = nat_cmp} es)
+sorted_orders es xs unique stand same up = sorted_by_key id_keys (λ (e : ℕ × Order). e.1) by_id es xs (λ o. refl) (paired es unique stand) unique same up
 
-values_are : (xs : List Order) → values_of (map by_id xs) ≡ xs
-values_are [] = refl
-values_are (x ∷ xs) = ap (λ (l : List Order). x ∷ l) (values_are xs)
+pub kept_stand : (second : Option ℕ) (es : List (ℕ × Order)) (statuses : StatusMap) → IsKept second es statuses → StandById es
+kept_stand second es statuses kept q order found = kept.book.ids q order (looks id_keys es q ∙ found)
 
-both : (a b : Bool) → T a → T b → T (a && b)
-both true b p q = q
-both false b p q = absurd p
+-- ---- Statuses by their symbols
+-- a status after its symbol
+abbrev by_symbol : TradingState → List ℕ × (ℕ × ℕ)
+by_symbol state = (state.symbol, (state.halt, state.sho))
 
-below_is : (x : ℕ) (es : List (ℕ × Order)) → AllByRecursion (λ y. nat_cmp x y ≡ Less) (keys_of es) → T (below_all nat_cmp x es)
-below_is x [] all = tt
-below_is x (e ∷ es) all = both (is_lt (nat_cmp x e.0)) (below_all nat_cmp x es) (subst (λ (o : Ordering). T (is_lt o)) (sym all.0) tt) (below_is x es all.1)
+unpaired : (es : List (List ℕ × (ℕ × ℕ))) → map by_symbol (map symbol_state es) ≡ es
+unpaired es = mapped_twice symbol_state by_symbol es ∙ unmapped (λ (e : List ℕ × (ℕ × ℕ)). by_symbol (symbol_state e)) es (λ e. refl)
 
-sorted_is : (es : List (ℕ × Order)) → IsStrictlySortedBy nat_cmp (keys_of es) → T (finite.is_sorted nat_cmp es)
-unfolding IsStrictlySortedBy
-sorted_is [] ordered = tt
-sorted_is (e ∷ es) ordered = both (below_all nat_cmp e.0 es) (finite.is_sorted nat_cmp es) (below_is e.0 es ordered.0) (sorted_is es ordered.1)
-
--- an order of any id
-some_order : ℕ → Order
-some_order n = record { id = n; side = Buy; quantity = 0; symbol = []; price = 0; display = true; participant = [] }
-
-ids_rise : (xs : List Order) → IsNonDecreasingBy (λ (o : Order). o.id) xs → IsNonDecreasing (map (λ (o : Order). o.id) xs)
-ids_rise xs up i j d within below =
-    let inside : j < length xs = simp length-map at below in
-    let at_i = get_or-map (λ (o : Order). o.id) xs i (some_order 0) d (omega arith) in
-    let at_j = get_or-map (λ (o : Order). o.id) xs j (some_order 0) d inside in
-    let rise = up i j (some_order 0) within inside in
-    omega arith
-
-module _ (es : List (ℕ × Order)) (xs : List Order) (unique : IsDistinct nat_eq (keys_of es)) (stand : StandById es) (same : IsPermutation (values_of es) xs) (up : IsNonDecreasingBy (λ (o : Order). o.id) xs) where
-  pairs : List (ℕ × Order)
-  pairs = map by_id xs
-
-  moved : IsPermutation es pairs
-  unfolding pairs
-  moved = subst (λ (l : List (ℕ × Order)). IsPermutation l (map by_id xs)) (paired es unique stand) (IsPermutation-map by_id (values_of es) xs same)
-
-  apart : IsDistinct nat_eq (keys_of pairs)
-  apart = IsDistinct-IsPermutation nat_eq nat_eq_equiv.symm (keys_of es) (keys_of pairs) (IsPermutation-map (λ (e : ℕ × Order). e.0) es pairs moved) unique
-
-  sorted : T (finite.is_sorted nat_cmp pairs)
-  unfolding pairs
-  sorted =
-      let rise : IsNonDecreasing (keys_of (map by_id xs)) = subst IsNonDecreasing (sym (keys_are xs)) (ids_rise xs up) in
-      sorted_is (map by_id xs) (sorted_from_strictly_increasing (keys_of (map by_id xs)) (IsStrictlyIncreasing-from_distinct (keys_of (map by_id xs)) rise apart))
-
-  entries_are : finite.entries (finite.from_entries {R = nat_cmp} es) ≡ pairs
-  entries_are =
-      ap finite.entries (finite.same_map nat_cmp_total finite.nat_cmp-IsAntisymmetric (finite.from_entries {R = nat_cmp} es) (finite.from_sorted pairs) (λ q.
-      looks es q ∙ sym (finite.get-from_sorted nat_cmp pairs q sorted ∙ find_lookup q pairs ∙ lookup_permutation nat_eq_equiv es pairs moved apart (nat_eq q) (nat_eq_equiv.congr q))))
-      ∙ finite.entries-from_sorted nat_cmp pairs sorted
-
-  pub sorted_values : xs ≡ finite.values (finite.from_entries {R = nat_cmp} es)
-  unfolding pairs
-  sorted_values = sym (ap (λ (l : List (ℕ × Order)). map (λ e. e.1) l) entries_are ∙ values_are xs)
-
-pub kept_stand : (second : Option ℕ) (es : List (ℕ × Order)) → IsKept second es → StandById es
-kept_stand second es kept q order found = kept.book.ids q order (looks es q ∙ found)
+pub sorted_states : (es : List (List ℕ × (ℕ × ℕ))) (xs : List TradingState) → IsDistinct bytes_eq (keys_of es) → IsPermutation (map symbol_state es) xs → IsSortedByKey (λ (s : TradingState). s.symbol) symbol_cmp xs
+    → xs ≡ map symbol_state (finite.entries (finite.from_entries {R = symbol_cmp} es))
+sorted_states es xs unique same up = sorted_by_key symbol_keys symbol_state by_symbol es xs (λ s. refl) (unpaired es) unique same up

@@ -1,4 +1,5 @@
 pub mod Changes
 pub mod Naming
 pub mod Standing
+pub mod Symbols
 pub mod Totals

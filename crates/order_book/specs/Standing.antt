@@ -9,24 +9,25 @@ use Rattle.pitch_fields.specs.declared.side.Side.{Side}
 use Rattle.pitch_fields.specs.declared.side.Side.TheVariants.{Buy, Sell}
 use Rattle.pitch_messages.specs.declared.order.Order.{Order}
 use Rattle.pitch_model.specs.Book.{Book, IsBook}
+use Rattle.order_book.specs.Symbols.{StatusMap, statuses_code}
 
 -- the most orders that a book may have
 abbrev pub most_orders : ℕ
 most_orders = 4294967295
 
--- the book, and how many new orders need no memory
+-- the book, and how many messages of any kind need no memory
 pub record Standing : Type 0 where
   pub book : Book
   pub spare : ℕ
 
--- the book of a second and of a list of entries
-abbrev pub book_of : Option ℕ → List (ℕ × Order) → Book
-book_of second entries = record { second = second; orders = map.from_entries entries }
+-- the book of a second, of a list of entries, and of statuses
+abbrev pub book_of : Option ℕ → List (ℕ × Order) → StatusMap → Book
+book_of second entries statuses = record { second = second; orders = map.from_entries entries; statuses = statuses }
 
 -- what holds of every book that is kept: its orders stand under their ids and have shares, no id
 -- stands twice, and there are not too many
-pub record IsKept (second : Option ℕ) (entries : List (ℕ × Order)) : Type 0 where
-  pub book : IsBook (book_of second entries)
+pub record IsKept (second : Option ℕ) (entries : List (ℕ × Order)) (statuses : StatusMap) : Type 0 where
+  pub book : IsBook (book_of second entries statuses)
   pub unique : IsDistinct nat_eq (keys_of entries)
   pub few : length entries ≤ most_orders
 
@@ -62,10 +63,13 @@ abbrev pub order_code : Coded Order
 order_code = code_by Fields fields_code order_fields order_from (λ _. refl)
 
 abbrev pub Parts : Type 0
-Parts = Option ℕ × (map.FinMap nat_cmp Order × ℕ)
+Parts = Option ℕ × (map.FinMap nat_cmp Order × StatusMap)
 
-abbrev pub standing_from : Parts → Standing
-standing_from p = record { book = record { second = p.0; orders = p.1.0 }; spare = p.1.1 }
+abbrev pub book_from : Parts → Book
+book_from p = record { second = p.0; orders = p.1.0; statuses = p.1.1 }
+
+abbrev pub book_code : Coded Book
+book_code = code_by Parts (coded× (coded_option coded_ℕ) (coded× (map.code coded_ℕ order_code) statuses_code)) (λ b. (b.second, (b.orders, b.statuses))) book_from (λ _. refl)
 
 abbrev pub standing_code : Coded Standing
-standing_code = code_by Parts (coded× (coded_option coded_ℕ) (coded× (map.code coded_ℕ order_code) coded_ℕ)) (λ s. (s.book.second, (s.book.orders, s.spare))) standing_from (λ _. refl)
+standing_code = code_by (Book × ℕ) (coded× book_code coded_ℕ) (λ s. (s.book, s.spare)) (λ p. record { book = p.0; spare = p.1 }) (λ _. refl)

@@ -1,17 +1,19 @@
-//! The order book of one unit.
+//! The book of one unit: its open orders and trading statuses.
 //!
 //! `UnitBook::apply` has exactly the effect that the definition of the book gives a message, or the
-//! book is unchanged and the answer is want of memory. `reserve` makes room for new orders ahead,
-//! and no message is refused while there is room for one. Orders, levels and best prices can be
-//! asked for at any time.
+//! book is unchanged and the answer is want of memory. `reserve` makes room for messages
+//! ahead, and none is refused while there is room for one. Orders, levels, best prices and statuses
+//! can be asked for at any time.
 #![tactic(auto)]
 
 mod adding;
 mod change;
 mod naming;
 mod order_list;
+mod statuses;
 mod totals;
 mod unit_book;
 
 pub use crate::order_list::OrderList;
+pub use crate::statuses::StatusList;
 pub use crate::unit_book::UnitBook;

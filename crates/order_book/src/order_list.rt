@@ -1,5 +1,6 @@
 ghost use Rattle.std.specs.Prelude.{◌≡◌, ◌++◌, length, OnOk, OnErr, IfOk, drop};
-ghost use Rattle.std.specs.List.Sorted.{IsPermutation, IsNonDecreasingBy};
+ghost use Rattle.std.specs.List.Sorted.{IsPermutation, IsSortedByKey};
+ghost use Rattle.std.specs.Ordering.{nat_cmp};
 ghost use Rattle.indexmap.specs.IndexMap.{values};
 
 use indexmap::IndexMap;
@@ -16,7 +17,7 @@ pub(crate) fn append_by_id(
 ) -> Result<(), OutOfMemory>
     ensures ok { OnOk result (list.new.items ≡ list.old.items ++ drop (length list.old.items) list.new.items) }
     ensures same { OnOk result (IsPermutation (values orders.now) (drop (length list.old.items) list.new.items)) }
-    ensures sorted { OnOk result (IsNonDecreasingBy (λ order. order.id) (drop (length list.old.items) list.new.items)) }
+    ensures sorted { OnOk result (IsSortedByKey (λ order. order.id) nat_cmp (drop (length list.old.items) list.new.items)) }
     ensures err { OnErr result (list.new.items ≡ list.old.items) }
 {
     let mut sorted = all_orders(orders)?;
@@ -38,7 +39,7 @@ fn all_orders(orders: &IndexMap<u64, Order>) -> Result<Vec<Order>, OutOfMemory>
 
 fn sort_by_id(orders: &mut [Order])
     ensures same { IsPermutation orders.old orders.new }
-    ensures sorted { IsNonDecreasingBy (λ order. order.id) orders.new }
+    ensures sorted { IsSortedByKey (λ order. order.id) nat_cmp orders.new }
 {
     orders.sort_unstable_by_key(|order| order.id);
 }

@@ -1,8 +1,9 @@
 ghost use Rattle.std.specs.Prelude.{◌≡◌, ◌≤◌, ◌<◌, ◌+◌, ◌++◌, ◌&&◌, [], length, count_by, IfOk, IfSome, IfNone, OnOk, OnErr, IsOk, IsSome, Some, Option};
 ghost use Rattle.pitch_messages.specs.Raw.{IsRaw, kind_of};
 ghost use Rattle.std.specs.FinMap as map;
-ghost use Rattle.pitch_model.specs.Book.{IsBook, empty_book, at_second, cleared, without_order, with_order, added, changed, after_message, after_read, after};
+ghost use Rattle.pitch_model.specs.Book.{IsBook, empty_book, at_second, cleared, without_order, with_order, with_status, added, changed, after_message, after_read, after};
 ghost use Rattle.pitch_model.specs.Levels.{IsBestOf, orders_of, orders_on, prices_on, shares, level, best};
+ghost use Rattle.pitch_model.specs.Statuses.{statuses_of};
 ghost use Rattle.order_book.specs.Changes.{changed_by};
 ghost use Rattle.order_book.specs.Naming.{names_open};
 ghost use Rattle.order_book.specs.Standing.{most_orders};
@@ -11,6 +12,7 @@ use crate::adding::{is_displayed, order_of_expanded, order_of_long, order_of_sho
 use crate::change::Change;
 use crate::naming::named_order;
 use crate::order_list::{OrderList, append_by_id};
+use crate::statuses::{StatusList, Statuses};
 use crate::totals::{all_shares, best_price, shares_at};
 use arrayvec::ArrayVec;
 use indexmap::IndexMap;
@@ -22,11 +24,13 @@ use std::marker::Model;
 // Ids that are looked up together.
 type Ids = ArrayVec<u64, 64>;
 
-/// The open orders of a unit by their ids, and the second of its clock where one is known.
+/// The open orders of a unit by their ids, the trading statuses of its symbols, and the second of
+/// its clock where one is known.
 #[derive(Drop)]
 pub struct UnitBook {
     second: Option<u32>,
     orders: IndexMap<u64, Order>,
+    statuses: Statuses,
 }
 
 impl Model for UnitBook {
@@ -38,9 +42,9 @@ impl Model for UnitBook {
 
     ghost coded = { standing_code };
 
-    ghost view = { λ b. record { book = book_of b.second b.orders.entries; spare = min (spare b.orders) (most_orders - length b.orders.entries) } };
+    ghost view = { λ b. record { book = book_of b.second b.orders.entries b.statuses.statuses; spare = min (min (spare b.orders) b.statuses.spare) (most_orders - length b.orders.entries) } };
 
-    ghost invariant = { λ b. IsKept b.second b.orders.entries };
+    ghost invariant = { λ b. IsKept b.second b.orders.entries b.statuses.statuses };
 }
 
 impl UnitBook {
@@ -51,6 +55,7 @@ impl UnitBook {
         UnitBook {
             second: None,
             orders: IndexMap::new(alloc),
+            statuses: Statuses::make(alloc),
         }
     }
 
@@ -58,8 +63,8 @@ impl UnitBook {
     /// side, and a type that is no book message, change nothing.
     ///
     /// The book is as before after OutOfMemory, which never comes where the spare is at least 1.
-    // Each type that changes a book is read by a literal, so that its fields go straight to what is
-    // done with them.
+    // Each type that comes often is read by a literal, so that its fields go straight to what is
+    // done with them, and a trade or a trade break costs nothing.
     #[tactic(auto, unfolding(pitch_model::specs::Book::after))]
     pub fn apply_bytes(&mut self, raw: &[u8]) -> Result<(), OutOfMemory>
         requires raw { IsRaw raw.now }
@@ -80,7 +85,11 @@ impl UnitBook {
             0x27 => self.apply_read(read_as(0x27, raw)),
             0x28 => self.apply_read(read_as(0x28, raw)),
             0x29 => self.apply_read(read_as(0x29, raw)),
+            0x2a => self.apply_read(read_as(0x2a, raw)),
+            0x2b => self.apply_read(read_as(0x2b, raw)),
+            0x2c => self.apply_read(read_as(0x2c, raw)),
             0x2f => self.apply_read(read_as(0x2f, raw)),
+            0x30 => self.apply_read(read_as(0x30, raw)),
             _ => self.apply_any(raw),
         }
     }
@@ -108,8 +117,8 @@ impl UnitBook {
         self.apply_bytes(raw).unwrap();
     }
 
-    /// Makes room for more orders: the spare is then at least so many. The book is the same in
-    /// either case.
+    /// Makes room for more messages of any kind: the spare is then at least so many. The book is
+    /// the same in either case.
     pub fn reserve(&mut self, more: u32) -> Result<(), OutOfMemory>
         requires { map.len self.old.book.orders + more ≤ most_orders }
         ensures same { self.new.book ≡ self.old.book }
@@ -118,21 +127,22 @@ impl UnitBook {
         ensures succeeds { more ≤ self.old.spare → IsOk result }
     {
         self.orders.reserve(more as usize)?;
+        self.statuses.reserve(more as usize)?;
         Ok(())
     }
 
-    /// How many new orders need no memory: with the open orders at most 4,294,967,295.
+    /// How many messages of any kind need no memory: with the open orders at most 4,294,967,295.
     pub fn spare(&self) -> u32
         ensures spare { result ≡ self.now.spare }
         ensures within { map.len self.now.book.orders + self.now.spare ≤ most_orders }
     {
         let room = u32::MAX - self.orders.len() as u32;
         let ready = self.orders.capacity() - self.orders.len();
-        ready.min(room as usize) as u32
+        ready.min(self.statuses.spare()).min(room as usize) as u32
     }
 
     /// How many orders are open.
-    #[tactic(auto, using(crate::proofs::Maps::lens))]
+    #[tactic(auto, using(crate::proofs::Maps::lens, crate::proofs::Maps::id_keys))]
     pub fn len(&self) -> u32
         ensures count { result ≡ map.len self.now.book.orders }
         ensures book { IsBook self.now.book }
@@ -148,7 +158,7 @@ impl UnitBook {
     }
 
     /// The open order of an id, or None exactly where none is open.
-    #[tactic(auto, using(crate::proofs::Maps::looks))]
+    #[tactic(auto, using(crate::proofs::Maps::finds_id))]
     pub fn order(&self, id: u64) -> Option<Order>
         ensures { result ≡ map.get self.now.book.orders id }
     {
@@ -194,6 +204,22 @@ impl UnitBook {
         Ok(())
     }
 
+    /// The halt byte and the sho byte of a symbol's status, or None exactly where it has none.
+    pub fn status(&self, symbol: Symbol) -> Option<(u8, u8)>
+        ensures { result ≡ map.get self.now.book.statuses symbol }
+    {
+        self.statuses.get(symbol.bytes())
+    }
+
+    /// Appends all trading statuses by rising bytes of their symbols. The list is as before after
+    /// OutOfMemory.
+    pub fn statuses_by_symbol(&self, out: &mut StatusList) -> Result<(), OutOfMemory>
+        ensures ok { OnOk result (out.new.items ≡ out.old.items ++ statuses_of self.now.book) }
+        ensures err { OnErr result (out.new.items ≡ out.old.items) }
+    {
+        self.statuses.append_to(out)
+    }
+
     /// How many of the messages name an order that is open.
     ///
     /// To ask this of a block before its messages are applied makes that faster, since all the
@@ -225,6 +251,7 @@ impl UnitBook {
         Ok(UnitBook {
             second: self.second,
             orders: self.orders.clone()?,
+            statuses: self.statuses.copy()?,
         })
     }
 }
@@ -339,6 +366,14 @@ impl UnitBook {
                     participant,
                 ));
             }
+            Message::TradingStatus {
+                symbol,
+                halt,
+                sho,
+                ..
+            } => {
+                return self.set_status(symbol, (halt, sho));
+            }
             Message::Time { second } => self.set_second(second),
             Message::UnitClear { .. } => self.clear(),
             Message::Executed { id, executed, .. } => self.change(id, Change::Reduced(executed)),
@@ -394,7 +429,18 @@ impl UnitBook {
         self.second = Some(second);
     }
 
-    // Takes all orders out. The second stays.
+    // Gives a symbol a status.
+    #[inline(never)]
+    fn set_status(&mut self, symbol: [u8; 8], status: (u8, u8)) -> Result<(), OutOfMemory>
+        ensures ok { OnOk result (self.new.book ≡ with_status self.old.book symbol status) }
+        ensures err { OnErr result (self.new.book ≡ self.old.book) }
+        ensures succeeds { 1 ≤ self.old.spare → IsOk result }
+        ensures spare { self.old.spare ≤ self.new.spare + 1 }
+    {
+        self.statuses.put(symbol, status)
+    }
+
+    // Takes all orders out. The second and the statuses stay.
     fn clear(&mut self)
         ensures book { self.new.book ≡ cleared self.old.book }
         ensures spare { self.old.spare ≤ self.new.spare }
@@ -417,7 +463,7 @@ impl UnitBook {
     }
 
     // Puts an order under its id.
-    #[tactic(auto, using(crate::proofs::Maps::inserts))]
+    #[tactic(auto, using(crate::proofs::Maps::inserts, crate::proofs::Maps::id_keys))]
     fn insert(&mut self, order: Order) -> Result<(), OutOfMemory>
         requires filled { 0 < order.quantity }
         requires few { map.len self.old.book.orders < most_orders }
@@ -431,7 +477,7 @@ impl UnitBook {
     }
 
     // Takes the order of an id out.
-    #[tactic(auto, using(crate::proofs::Maps::removes))]
+    #[tactic(auto, using(crate::proofs::Maps::removes, crate::proofs::Maps::id_keys))]
     fn remove(&mut self, id: u64)
         ensures book { self.new.book ≡ without_order self.old.book id }
         ensures spare { self.old.spare ≤ self.new.spare }

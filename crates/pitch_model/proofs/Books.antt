@@ -10,7 +10,7 @@ use Rattle.std.proofs.lemmas.Bool.{cond_both, eqb-true, cond-true}
 use Rattle.std.proofs.lemmas.Bool.Decides.{nat_tests}
 use Rattle.pitch_messages.specs.declared.order.Order.{Order}
 use Rattle.pitch_messages.specs.declared.message.Message.{Message}
-use Rattle.pitch_messages.specs.declared.message.Message.TheVariants.{Time, AddLong, AddShort, Executed, ExecutedAt, ReduceLong, ReduceShort, ModifyLong, ModifyShort, Delete, TradeLong, TradeShort, TradeBreak, EndOfSession, AddExpanded, TradeExpanded, UnitClear, Other}
+use Rattle.pitch_messages.specs.declared.message.Message.TheVariants.{Time, AddLong, AddShort, Executed, ExecutedAt, ReduceLong, ReduceShort, ModifyLong, ModifyShort, Delete, TradeLong, TradeShort, TradeBreak, EndOfSession, AddExpanded, TradeExpanded, TradingStatus, UnitClear, Other}
 use Rattle.pitch_messages.specs.declared.message.ReadError.{ReadError}
 use Rattle.pitch_messages.specs.Reading.{reads}
 use Rattle.pitch_model.specs.History.{Raw}
@@ -44,8 +44,8 @@ module _ (C : ℕ → Order → Type 0) where
       by true e = absurd (none-some other e)
       by false e = all q other e
 
-  pub none_all : (second : Option ℕ) → AllOrders C (record { second = second; orders = map.empty })
-  none_all second q other g = absurd (none-some other (sym (map.get-empty nat_cmp q) ∙ g))
+  pub none_all : (book : Book) → AllOrders C (cleared book)
+  none_all book q other g = absurd (none-some other (sym (map.get-empty nat_cmp q) ∙ g))
 
   pub added_all : (book : Book) (order : Order) → AllOrders C book → (0 < order.quantity → C order.id order) → AllOrders C (added book order)
   added_all book order all here =
@@ -79,10 +79,10 @@ changed_stands book id change keeps all = changed_all Stands book id change all 
 
 -- ---- Each effect leaves a book
 pub empty_book_book : IsBook empty_book
-empty_book_book = book_from empty_book (none_all Stands None)
+empty_book_book = book_from empty_book (none_all Stands empty_book)
 
 pub cleared_book : (book : Book) → IsBook (cleared book)
-cleared_book book = book_from (cleared book) (none_all Stands book.second)
+cleared_book book = book_from (cleared book) (none_all Stands book)
 
 pub at_second_book : (book : Book) (second : ℕ) → IsBook book → IsBook (at_second book second)
 at_second_book book second is = record { ids = is.ids; filled = is.filled }
@@ -100,7 +100,8 @@ changed_book book id change keeps is = book_from (changed book id change) (chang
 -- ---- Each message leaves a book
 after_message_stands : (book : Book) (message : Message) → AllOrders Stands book → AllOrders Stands (after_message book message)
 after_message_stands book (Time second) B = B
-after_message_stands book (UnitClear offset) B = none_all Stands book.second
+after_message_stands book (TradingStatus offset symbol halt sho) B = B
+after_message_stands book (UnitClear offset) B = none_all Stands book
 after_message_stands book (AddLong offset id side quantity symbol price flags) B = added_stands book _ B
 after_message_stands book (AddShort offset id side quantity symbol price flags) B = added_stands book _ B
 after_message_stands book (AddExpanded offset id side quantity symbol price flags participant) B = added_stands book _ B
@@ -131,7 +132,7 @@ folded_book [] book B = B
 folded_book (raw ∷ raws) book B = folded_book raws (after book raw) (after_book book raw B)
 
 pub book_after_book : (raws : List Raw) → IsBook (book_after raws)
-book_after_book raws = folded_book raws empty_book (book_from empty_book (none_all Stands None))
+book_after_book raws = folded_book raws empty_book (book_from empty_book (none_all Stands empty_book))
 
 -- ---- How many orders there are
 pub with_order_len : (book : Book) (id : ℕ) (order : Order) → map.len (with_order book id order).orders ≤ map.len book.orders + 1
@@ -167,6 +168,7 @@ changed_len book id change = by (map.get book.orders id) refl
 
 after_message_len : (book : Book) (message : Message) → map.len (after_message book message).orders ≤ map.len book.orders + 1
 after_message_len book (Time second) = omega arith
+after_message_len book (TradingStatus offset symbol halt sho) = omega arith
 after_message_len book (UnitClear offset) = let l = cleared_len book in omega arith
 after_message_len book (AddLong offset id side quantity symbol price flags) = added_len book _
 after_message_len book (AddShort offset id side quantity symbol price flags) = added_len book _

@@ -6,15 +6,16 @@ use Rattle.std.specs.Option.{is_some, option_map}
 use Rattle.std.specs.Ordering.{nat_cmp}
 use Rattle.std.specs.FinMap as map
 use Rattle.std.proofs.lemmas.Bool.{cases_eq}
-use Rattle.std.proofs.lemmas.Cmp.{nat_cmp_total}
+use Rattle.std.proofs.lemmas.Cmp.{nat_cmp_total, nat_list_cmp_total}
 use Rattle.std.proofs.lemmas.List.{nil_from_length}
 use Rattle.unit_packets.specs.Blocks.{Block}
 use Rattle.pitch_messages.specs.declared.order.Order.{Order}
 use Rattle.pitch_messages.specs.declared.message.Message.TheVariants.{Time}
-use Rattle.pitch_messages.specs.Forms.{add_message}
+use Rattle.pitch_messages.specs.declared.trading_state.TradingState.{TradingState}
+use Rattle.pitch_messages.specs.Forms.{add_message, status_message}
 use Rattle.pitch_messages.specs.Reading.{reads}
 use Rattle.pitch_messages.specs.Writing.{written}
-use Rattle.pitch_model.specs.Book.{Book, with_order, without_order, reformed, reduced_by, left_with, modified, is_displayed, after, book_after}
+use Rattle.pitch_model.specs.Book.{Book, symbol_cmp, empty_book, with_status, with_order, without_order, reformed, reduced_by, left_with, modified, is_displayed, after, book_after}
 use Rattle.pitch_model.specs.History.{image_finished, Entry, Message, Next, GrpUp, GrpDown, GapReply, SpinUp, SpinDown, Advertised, SpinReply, ImageMessages, SpinFinished, Ticked, NoSpin, Asked, Running, spin_of}
 use Rattle.pitch_model.specs.Advertising.{Accept, Advertise, advertised_by, last_ten}
 use Rattle.pitch_model.specs.Asking.{ask_of, wants, gap_ask, owes, is_grp_up, is_spin_up, advertised_of}
@@ -24,6 +25,7 @@ use Rattle.pitch_model.specs.Levels.{best, best_of, same_side, level, shares, wi
 use Rattle.pitch_model.specs.declared.change.ImageEnd.TheVariants.{Stale, Taken, Bad}
 use Rattle.pitch_model.specs.Honest.{Honest}
 use Rattle.pitch_model.specs.Image.{image_of, image}
+use Rattle.pitch_model.specs.Statuses.{symbol_state}
 use Rattle.pitch_model.specs.Units.{unit_history, AllHonest}
 use Rattle.pitch_model.proofs.Units.{history_other}
 use Rattle.pitch_model.specs.declared.ask.Ask.TheVariants.{Gap, Spin}
@@ -156,7 +158,7 @@ grown =
     0x24 ∷ 0x21 ∷ 0 ∷ 0 ∷ 0 ∷ 0 ∷ 5 ∷ 0 ∷ 0 ∷ 0 ∷ 0 ∷ 0 ∷ 0 ∷ 0 ∷ 0x42 ∷ 0x64 ∷ 0 ∷ 0 ∷ 0
     ∷ 0x49 ∷ 0x42 ∷ 0x4d ∷ 0x20 ∷ 0x20 ∷ 0x20 ∷ 0xa0 ∷ 0x86 ∷ 1 ∷ 0 ∷ 0 ∷ 0 ∷ 0 ∷ 0 ∷ 1 ∷ 0xaa ∷ 0xbb ∷ []
 
-pub book_of_a_grown_add : book_after (clock ∷ unknown ∷ grown ∷ []) ≡ record { second = Some 34200; orders = one_sold }
+pub book_of_a_grown_add : book_after (clock ∷ unknown ∷ grown ∷ []) ≡ record { second = Some 34200; orders = one_sold; statuses = map.empty }
 unfolding after reads
 book_of_a_grown_add = refl
 
@@ -169,12 +171,18 @@ abbrev short_add : List ℕ
 short_add =
     0x1a ∷ 0x22 ∷ 0 ∷ 0 ∷ 0 ∷ 0 ∷ 5 ∷ 0 ∷ 0 ∷ 0 ∷ 0 ∷ 0 ∷ 0 ∷ 0 ∷ 0x42 ∷ 0x64 ∷ 0 ∷ 0x49 ∷ 0x42 ∷ 0x4d ∷ 0x20 ∷ 0x20 ∷ 0x20 ∷ 0xe8 ∷ 3 ∷ 1 ∷ []
 
+pub no_statuses : map.entries (map.empty {X = ℕ × ℕ} {R = symbol_cmp}) ≡ []
+no_statuses =
+    let none : map.FinMap symbol_cmp (ℕ × ℕ) = map.empty in
+    nil_from_length (map.entries none) (sym (map.len-entries none) ∙ map.len-empty symbol_cmp (ℕ × ℕ))
+
 entries_of_one : map.entries one_sold ≡ (5, sold) ∷ []
 entries_of_one = map.entries-insert nat_cmp_total no_orders 5 sold ∙ ap (map.put nat_cmp 5 sold) (no_entries no_orders (map.len-empty nat_cmp Order))
 
 image_of_one_order : clock ∷ short_add ∷ [] ≡ image (clock ∷ order ∷ []) 2
 unfolding after reads image image_of written add_message
-image_of_one_order = sym (ap (λ (es : List (ℕ × Order)). mapped written (Time 34200 ∷ mapped (λ (o : Order). add_message o 0) (mapped (λ (e : ℕ × Order). e.1) es))) entries_of_one)
+image_of_one_order =
+    sym (λ i. mapped written (Time 34200 ∷ (mapped (λ (o : Order). add_message o 0) (mapped (λ (e : ℕ × Order). e.1) (entries_of_one i)) ++ mapped (λ (state : TradingState). status_message state 0) (mapped symbol_state (no_statuses i)))))
 
 -- an image is advertised, asked for, promised, sent and finished
 abbrev spun : List Entry
@@ -201,7 +209,7 @@ abbrev reduction : ℕ → List ℕ
 reduction shares = 0x10 ∷ 0x26 ∷ 0 ∷ 0 ∷ 0 ∷ 0 ∷ 5 ∷ 0 ∷ 0 ∷ 0 ∷ 0 ∷ 0 ∷ 0 ∷ 0 ∷ shares ∷ 0 ∷ []
 
 abbrev book_of_one : Order → Book
-book_of_one order = record { second = None; orders = map.insert no_orders 5 order }
+book_of_one order = record { second = None; orders = map.insert no_orders 5 order; statuses = map.empty }
 
 abbrev hidden : ℕ → Order
 hidden shares = record { id = 5; side = Buy; quantity = shares; symbol = codes "IBM     "; price = 110000; display = false; participant = codes "    " }
@@ -221,9 +229,28 @@ no_shares_are_no_order : after (book_of_one (hidden 4)) (reduction 4) ≡ withou
 unfolding after reads
 no_shares_are_no_order = ap (λ (o : Option Order). reformed (book_of_one (hidden 4)) 5 (option_map (reduced_by 4) o)) (stands (hidden 4))
 
-nothing_is_reduced_where_none_is_open : after (record { second = None; orders = no_orders }) (reduction 3) ≡ record { second = None; orders = no_orders }
+nothing_is_reduced_where_none_is_open : after (record { second = None; orders = no_orders; statuses = map.empty }) (reduction 3) ≡ record { second = None; orders = no_orders; statuses = map.empty }
 unfolding after reads
-nothing_is_reduced_where_none_is_open = ap (λ (o : Option Order). reformed (record { second = None; orders = no_orders }) 5 (option_map (reduced_by 3) o)) (map.get-empty nat_cmp 5)
+nothing_is_reduced_where_none_is_open = ap (λ (o : Option Order). reformed (record { second = None; orders = no_orders; statuses = map.empty }) 5 (option_map (reduced_by 3) o)) (map.get-empty nat_cmp 5)
+
+-- ---- Trading statuses
+-- IBM is halted, and shown again by its image; a Unit Clear leaves the status
+abbrev halted : List ℕ
+halted = 0x12 ∷ 0x31 ∷ 0 ∷ 0 ∷ 0 ∷ 0 ∷ 0x49 ∷ 0x42 ∷ 0x4d ∷ 0x20 ∷ 0x20 ∷ 0x20 ∷ 0x20 ∷ 0x20 ∷ 0x48 ∷ 0x30 ∷ 0x20 ∷ 0x20 ∷ []
+
+abbrev clear : List ℕ
+clear = 0x06 ∷ 0x97 ∷ 0 ∷ 0 ∷ 0 ∷ 0 ∷ []
+
+one_is_halted : book_after (halted ∷ clear ∷ []) ≡ with_status empty_book (codes "IBM     ") (72, 48)
+unfolding after reads
+one_is_halted = refl
+
+image_of_a_status : image (halted ∷ []) 1 ≡ halted ∷ []
+unfolding after reads image image_of written
+image_of_a_status =
+    let statuses : map.entries (with_status empty_book (codes "IBM     ") (72, 48)).statuses ≡ (codes "IBM     ", (72, 48)) ∷ [] =
+    map.entries-insert nat_list_cmp_total map.empty (codes "IBM     ") (72, 48) ∙ ap (map.put symbol_cmp (codes "IBM     ") (72, 48)) no_statuses in
+    λ i. mapped written (mapped (λ (o : Order). add_message o 0) (mapped (λ (e : ℕ × Order). e.1) (no_entries no_orders (map.len-empty nat_cmp Order) i)) ++ mapped (λ (state : TradingState). status_message state 0) (mapped symbol_state (statuses i)))
 
 -- ---- What is asked for
 -- 2 is missing, and the Gap Request Proxy is up
@@ -271,7 +298,7 @@ a_deletion_takes_the_order_out : after (book_of_one sold) deletion ≡ without_o
 unfolding after reads
 a_deletion_takes_the_order_out = refl
 
-a_clear_keeps_the_second : after (record { second = Some 34200; orders = one_sold }) (0x06 ∷ 0x97 ∷ 0 ∷ 0 ∷ 0 ∷ 0 ∷ []) ≡ record { second = Some 34200; orders = no_orders }
+a_clear_keeps_the_second : after (record { second = Some 34200; orders = one_sold; statuses = map.empty }) clear ≡ record { second = Some 34200; orders = no_orders; statuses = map.empty }
 unfolding after reads
 a_clear_keeps_the_second = refl
 
@@ -393,7 +420,7 @@ all_orders_of_a_bad_image_are_told = refl
 -- ---- Levels
 -- the book of the one order
 abbrev of_one : Book
-of_one = record { second = None; orders = one_sold }
+of_one = record { second = None; orders = one_sold; statuses = map.empty }
 
 -- so many shares of it stand at a price, for a symbol on a side
 level_of_one : (symbol : List ℕ) (side : Side) (price : ℕ) → level of_one symbol side price ≡ sum_by (λ (o : Order). o.quantity) (filter (λ (o : Order). price == o.price) (filter (λ (o : Order). bytes_eq symbol o.symbol && same_side side o.side) (sold ∷ [])))

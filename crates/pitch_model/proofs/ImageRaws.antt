@@ -1,8 +1,9 @@
--- The messages of an image: raws of bytes, one add for each open order.
-use Rattle.std.proofs.Common.{◌≡◌, ℕ, zero, suc, ◌≤◌, ◌<◌, Bool, true, false, ◌&&◌, ◌||◌, ◌==◌, cond, List, [], ◌∷◌, ◌++◌, length, take, map, slice_index, nat_le, refl, sym, ap, ◌∙◌, subst, arith, length-append, length-take, Option, Some, None}
+-- The messages of an image: raws of bytes, one add for each open order, one status for each symbol.
+use Rattle.std.proofs.Common.{◌≡◌, ℕ, zero, suc, ◌+◌, ◌≤◌, ◌<◌, Bool, true, false, ◌&&◌, ◌||◌, ◌==◌, cond, List, [], ◌∷◌, ◌++◌, length, take, map, slice_index, nat_le, refl, sym, ap, ◌∙◌, subst, arith, length-append, length-take, Option, Some, None}
 use Rattle.std.specs.List.{AllByRecursion}
 use Rattle.std.specs.Int.{byte_at, bytes_low_first}
 use Rattle.std.specs.FinMap as finite
+use Rattle.std.proofs.lemmas.Cmp.{nat_cmp_total, nat_list_cmp_total}
 use Rattle.std.proofs.Math.Bool.{or-true}
 use Rattle.std.proofs.Math.Nat.{mod-lt}
 use Rattle.std.proofs.lemmas.List.{map-append}
@@ -13,17 +14,21 @@ use Rattle.pitch_fields.specs.Side.{byte_of}
 use Rattle.pitch_fields.specs.declared.side.Side.{Side}
 use Rattle.pitch_fields.specs.declared.side.Side.TheVariants.{Buy, Sell}
 use Rattle.pitch_messages.specs.declared.order.Order.{Order}
+use Rattle.pitch_messages.specs.declared.trading_state.TradingState.{TradingState}
+use Rattle.pitch_messages.specs.declared.message.Message.{Message}
 use Rattle.pitch_messages.specs.declared.message.Message.TheVariants.{Time}
-use Rattle.pitch_messages.specs.Forms.{add_message, add_in_form, plain_symbol, short_price, flags_of}
+use Rattle.pitch_messages.specs.Forms.{status_message, add_message, add_in_form, plain_symbol, short_price, flags_of}
 use Rattle.pitch_messages.specs.Raw.{IsRaw, kind_of}
 use Rattle.pitch_messages.specs.Writing.{written}
 use Rattle.pitch_model.specs.Book.{Book, book_after}
 use Rattle.pitch_model.specs.History.{Raw, is_add, adds, can_promise}
-use Rattle.pitch_model.specs.Image.{clock_of, image_of, image}
+use Rattle.pitch_model.specs.Image.{IsOfImage, clock_of, image_of, image}
 use Rattle.pitch_model.specs.Levels.{orders_of}
-use Rattle.pitch_model.specs.Widths.{FitsWire, IsWireBook}
+use Rattle.pitch_model.specs.Statuses.{symbol_state, statuses_of}
+use Rattle.pitch_model.specs.Widths.{FitsWire, FitsStatus, IsWireBook}
 use Rattle.pitch_model.proofs.Books.{book_after_len}
-use Rattle.pitch_model.proofs.Images.{all_found, plain_is, sorted_entries}
+use Rattle.pitch_model.proofs.Images.{plain_is}
+use Rattle.pitch_model.proofs.Putting.{all_entries}
 use Rattle.pitch_model.proofs.Widths.{bytes_append}
 
 -- ---- How many orders an image adds
@@ -45,6 +50,16 @@ adds_orders (order ∷ orders) =
     let one : ◌≡◌ {A = ℕ} (cond (is_add (written (add_message order 0))) 1 0) 1 = ap (λ (b : Bool). cond b 1 0) (is_add_of order) in
     sum_by-cons (λ raw. cond (is_add raw) 1 0) (written (add_message order 0)) (adds_of orders) ∙ omega (arith, one, adds_orders orders)
 
+-- the statuses of some symbols, as an image has them
+abbrev raws_of_states : List (List ℕ × (ℕ × ℕ)) → List Raw
+raws_of_states es = map written (map (λ (state : TradingState). status_message state 0) (map symbol_state es))
+
+adds_states : (es : List (List ℕ × (ℕ × ℕ))) → adds (raws_of_states es) ≡ 0
+unfolding written
+adds_states [] = refl
+adds_states (e ∷ es) =
+    sum_by-cons (λ raw. cond (is_add raw) 1 0) (written (status_message (symbol_state e) 0)) (raws_of_states es) ∙ omega (arith, adds_states es)
+
 adds_clock : (second : Option ℕ) → adds (map written (clock_of second)) ≡ 0
 unfolding written
 adds_clock None = refl
@@ -54,28 +69,57 @@ map_len : (es : List (ℕ × Order)) → length (map (λ (e : ℕ × Order). e.1
 map_len [] = refl
 map_len (e ∷ es) = ap suc (map_len es)
 
+-- the image in its three parts
+parts_are : (book : Book) → image_of book ≡ map written (clock_of book.second) ++ (adds_of (orders_of book) ++ raws_of_states (finite.entries book.statuses))
+unfolding image_of
+parts_are book =
+    let orders : List Message = map (λ (order : Order). add_message order 0) (orders_of book) in
+    let states : List Message = map (λ (state : TradingState). status_message state 0) (statuses_of book) in
+    map-append written (clock_of book.second) (orders ++ states)
+    ∙ ap (λ (raws : List Raw). map written (clock_of book.second) ++ raws) (map-append written orders states)
+
 -- one for each open order
 pub adds_image : (book : Book) → adds (image_of book) ≡ finite.len book.orders
-unfolding image_of
 adds_image book =
-    ap adds (map-append written (clock_of book.second) (map (λ (order : Order). add_message order 0) (orders_of book)))
-    ∙ sum_by-append (λ raw. cond (is_add raw) 1 0) (map written (clock_of book.second)) (adds_of (orders_of book))
-    ∙ omega (arith, adds_clock book.second, adds_orders (orders_of book))
+    let clock : List Raw = map written (clock_of book.second) in
+    let orders : List Raw = adds_of (orders_of book) in
+    let states : List Raw = raws_of_states (finite.entries book.statuses) in
+    ap adds (parts_are book)
+    ∙ sum_by-append (λ raw. cond (is_add raw) 1 0) clock (orders ++ states)
+    ∙ ap (λ (n : ℕ). adds clock + n) (sum_by-append (λ raw. cond (is_add raw) 1 0) orders states)
+    ∙ omega (arith, adds_clock book.second, adds_orders (orders_of book), adds_states (finite.entries book.statuses))
     ∙ map_len (finite.entries book.orders) ∙ sym (finite.len-entries book.orders)
 
--- the others are of the time
-pub time_or_add : (book : Book) → AllByRecursion (λ raw. (kind_of raw == 0x20 || is_add raw) ≡ true) (image_of book)
-unfolding image_of written
-time_or_add book = by book.second
-  where
-    adds_only : (orders : List Order) → AllByRecursion (λ raw. (kind_of raw == 0x20 || is_add raw) ≡ true) (adds_of orders)
-    adds_only [] = tt
-    adds_only (order ∷ orders) =
-        (ap (λ (b : Bool). kind_of (written (add_message order 0)) == 0x20 || b) (is_add_of order) ∙ or-true (kind_of (written (add_message order 0)) == 0x20), adds_only orders)
+-- a message of an image: the time, a trading status, or an add
+of_image_append : (xs ys : List Raw) → AllByRecursion IsOfImage xs → AllByRecursion IsOfImage ys → AllByRecursion IsOfImage (xs ++ ys)
+of_image_append [] ys all more = more
+of_image_append (x ∷ xs) ys all more = (all.0, of_image_append xs ys all.1 more)
 
-    by : (second : Option ℕ) → AllByRecursion (λ raw. (kind_of raw == 0x20 || is_add raw) ≡ true) (map written (clock_of second ++ map (λ (order : Order). add_message order 0) (orders_of book)))
-    by None = adds_only (orders_of book)
-    by (Some second) = (refl, adds_only (orders_of book))
+-- there are no others
+pub image_kinds : (book : Book) → AllByRecursion IsOfImage (image_of book)
+unfolding written
+image_kinds book =
+    subst (AllByRecursion IsOfImage) (sym (parts_are book))
+    (of_image_append (map written (clock_of book.second)) _ (clock book.second)
+    (of_image_append (adds_of (orders_of book)) _ (adds_only (orders_of book)) (states_only (finite.entries book.statuses))))
+  where
+    add : (order : Order) → IsOfImage (written (add_message order 0))
+    add order =
+        ap (λ (b : Bool). kind_of (written (add_message order 0)) == 0x20 || (kind_of (written (add_message order 0)) == 0x31 || b)) (is_add_of order)
+        ∙ ap (λ (b : Bool). kind_of (written (add_message order 0)) == 0x20 || b) (or-true (kind_of (written (add_message order 0)) == 0x31))
+        ∙ or-true (kind_of (written (add_message order 0)) == 0x20)
+
+    adds_only : (orders : List Order) → AllByRecursion IsOfImage (adds_of orders)
+    adds_only [] = tt
+    adds_only (order ∷ orders) = (add order, adds_only orders)
+
+    states_only : (es : List (List ℕ × (ℕ × ℕ))) → AllByRecursion IsOfImage (raws_of_states es)
+    states_only [] = tt
+    states_only (e ∷ es) = (refl, states_only es)
+
+    clock : (second : Option ℕ) → AllByRecursion IsOfImage (map written (clock_of second))
+    clock None = tt
+    clock (Some second) = (refl, tt)
 
 -- so it can be promised
 pub image_promised : (V : List Raw) (s : ℕ) → s ≤ 4294967294 → can_promise s (adds (image V s)) ≡ true
@@ -164,17 +208,39 @@ adds_raw : (es : List (ℕ × Order)) → AllByRecursion (λ e. FitsWire e.1) es
 adds_raw [] all = tt
 adds_raw (e ∷ es) all = (add_raw e.1 all.0, adds_raw es all.1)
 
-image_byte_raws : (book : Book) → IsWireBook book → AllByRecursion IsByteRaw (image_of book)
-unfolding image_of
-image_byte_raws book wire = by book.second
-  where
-    all : AllByRecursion IsByteRaw (adds_of (orders_of book))
-    all = adds_raw (finite.entries book.orders)
-        (all_found (λ id order. FitsWire order) (finite.entries book.orders) (sorted_entries book.orders) (λ id order f. wire.orders id order (finite.get-entries book.orders id ∙ f)))
+status_raw : (symbol : List ℕ) (status : ℕ × ℕ) → FitsStatus symbol status → IsByteRaw (written (status_message (symbol_state (symbol, status)) 0))
+unfolding written
+status_raw symbol status fits =
+    let size = fits.symbol in
+    let last : List ℕ = status.0 ∷ status.1 ∷ 32 ∷ 32 ∷ [] in
+    raw_by (written (status_message (symbol_state (symbol, status)) 0)) 18 (omega (arith, length-append symbol last, size)) refl (omega arith) (omega arith) (
+      omega arith,
+      (
+        omega arith,
+        bytes_append (little 4 0) (symbol ++ last) (number_bytes 0 4 0)
+            (bytes_append symbol last fits.symbol_bytes (fits.halt, (fits.sho, (omega arith, (omega arith, tt))))),
+      ),
+    )
 
-    by : (second : Option ℕ) → AllByRecursion IsByteRaw (map written (clock_of second ++ map (λ (order : Order). add_message order 0) (orders_of book)))
-    by None = all
-    by (Some second) = (time_raw second, all)
+states_raw : (es : List (List ℕ × (ℕ × ℕ))) → AllByRecursion (λ e. FitsStatus e.0 e.1) es → AllByRecursion IsByteRaw (raws_of_states es)
+states_raw [] all = tt
+states_raw (e ∷ es) all = (status_raw e.0 e.1 all.0, states_raw es all.1)
+
+byte_raws_append : (xs ys : List Raw) → AllByRecursion IsByteRaw xs → AllByRecursion IsByteRaw ys → AllByRecursion IsByteRaw (xs ++ ys)
+byte_raws_append [] ys all more = more
+byte_raws_append (x ∷ xs) ys all more = (all.0, byte_raws_append xs ys all.1 more)
+
+image_byte_raws : (book : Book) → IsWireBook book → AllByRecursion IsByteRaw (image_of book)
+image_byte_raws book wire =
+    subst (AllByRecursion IsByteRaw) (sym (parts_are book))
+    (byte_raws_append (map written (clock_of book.second)) _ (clock book.second)
+    (byte_raws_append (adds_of (orders_of book)) _
+    (adds_raw (finite.entries book.orders) (all_entries nat_cmp_total finite.nat_cmp-IsAntisymmetric (λ id order. FitsWire order) book.orders wire.orders))
+    (states_raw (finite.entries book.statuses) (all_entries nat_list_cmp_total (finite.slice_cmp-IsAntisymmetric finite.nat_cmp-IsAntisymmetric) FitsStatus book.statuses wire.statuses))))
+  where
+    clock : (second : Option ℕ) → AllByRecursion IsByteRaw (map written (clock_of second))
+    clock None = tt
+    clock (Some second) = (time_raw second, tt)
 
 all_raws : (raws : List Raw) → AllByRecursion IsByteRaw raws → AllByRecursion IsRaw raws
 all_raws [] all = tt

@@ -1,12 +1,11 @@
 -- The messages of an image make its book anew.
-use Rattle.std.proofs.Common.{Bool, List, None, Ok, Option, Result, Some, [], ap, arith, cond, drop, eqb, false, fold, length, length-drop, length-take, map, nat_le, refl, suc, sym, take, true, zero, ℕ, ◌%◌, ◌&&◌, ◌++◌, ◌/◌, ◌<◌, ◌==◌, ◌^◌, ◌∙◌, ◌∷◌, ◌≡◌, ◌≤◌}
+use Rattle.std.proofs.Common.{Bool, List, None, Ok, Option, Result, Some, [], ap, arith, cond, drop, false, fold, length, length-drop, length-take, map, nat_le, refl, suc, sym, take, true, zero, ℕ, ◌%◌, ◌&&◌, ◌++◌, ◌/◌, ◌<◌, ◌==◌, ◌^◌, ◌∙◌, ◌∷◌, ◌≡◌, ◌≤◌}
 use Rattle.std.proofs.lemmas.Option.{none-some, same_Some}
 use Rattle.std.proofs.lemmas.List.{take-append-drop}
 use Rattle.std.specs.List.{AllByRecursion}
-use Rattle.std.specs.Ordering.{nat_cmp, is_lt, is_eq, eq_by_cmp}
+use Rattle.std.specs.Ordering.{nat_cmp}
 use Rattle.std.specs.FinMap as finite
-use Rattle.std.specs.FinMap.Entries.{below_all, is_sorted, find}
-use Rattle.std.proofs.lemmas.Cmp.{nat_cmp_total}
+use Rattle.std.proofs.lemmas.Cmp.{nat_cmp_total, nat_list_cmp_total}
 use Rattle.std.proofs.lemmas.Bool.{and_parts, eqb-true, cond-false}
 use Rattle.std.proofs.lemmas.Bool.Decides.{nat_tests}
 use Rattle.std.proofs.lemmas.List.Sums.{fold-append}
@@ -16,80 +15,19 @@ use Rattle.pitch_messages.specs.declared.message.ReadError.{ReadError}
 use Rattle.pitch_messages.specs.Reading.{reads}
 use Rattle.pitch_fields.specs.Name.{is_blank, six_of}
 use Rattle.pitch_fields.specs.Price.{short_of}
-use Rattle.pitch_messages.specs.Forms.{add_message, add_in_form, plain_symbol, short_price, flags_of}
-use Rattle.pitch_messages.proofs.RoundTrip.{time_back, add_long_back, add_short_back, add_expanded_back}
+use Rattle.pitch_messages.specs.Forms.{status_message, add_message, add_in_form, plain_symbol, short_price, flags_of}
+use Rattle.pitch_messages.proofs.RoundTrip.{time_back, add_long_back, add_short_back, add_expanded_back, trading_status_back}
 use Rattle.pitch_messages.specs.Writing.{written}
-use Rattle.pitch_model.specs.Book.{Book, IsBook, empty_book, with_order, added, long_symbol, long_price, is_displayed, order_of_long, order_of_expanded, after_message, after_read, after, book_after}
+use Rattle.pitch_model.specs.Book.{Book, symbol_cmp, IsBook, empty_book, with_order, with_status, added, long_symbol, long_price, is_displayed, order_of_long, order_of_expanded, after_message, after_read, after, book_after}
 use Rattle.pitch_fields.specs.Fields.{AreBytes}
 use Rattle.pitch_fields.specs.Name.{no_participant}
 use Rattle.pitch_model.specs.Levels.{orders_of}
+use Rattle.pitch_model.specs.Statuses.{symbol_state, statuses_of}
 use Rattle.pitch_model.specs.Image.{clock_of, image_messages, image_of, image}
-use Rattle.pitch_model.specs.Widths.{FitsWire, IsWireBook}
+use Rattle.pitch_model.specs.Widths.{FitsWire, FitsStatus, IsWireBook}
 use Rattle.pitch_model.proofs.Books.{book_after_book}
 use Rattle.pitch_model.proofs.Widths.{book_after_fits}
-use Rattle.pitch_fields.proofs.Truth.{true_from_T}
-
--- ---- Entries put one after another
-abbrev put_all : finite.FinMap nat_cmp Order → List (ℕ × Order) → finite.FinMap nat_cmp Order
-put_all m [] = m
-put_all m (e ∷ es) = put_all (finite.insert m e.0 e.1) es
-
-tied : (q x : ℕ) → eq_by_cmp nat_cmp q x ≡ true → q ≡ x
-tied q x t = let same : is_eq (nat_cmp q x) ≡ eqb q x = grind (arith, nat_tests) in eqb-true q x (sym same ∙ t)
-
-apart_below : (x y : ℕ) → is_lt (nat_cmp x y) ≡ true → eq_by_cmp nat_cmp x y ≡ false
-apart_below x y h = grind (arith, nat_tests, h)
-
--- what is below all keys is none of them
-none_below : (x : ℕ) (es : List (ℕ × Order)) → below_all nat_cmp x es ≡ true → find nat_cmp x es ≡ None
-none_below x [] h = refl
-none_below x (e ∷ es) h =
-    let parts = and_parts (is_lt (nat_cmp x e.0)) (below_all nat_cmp x es) h in
-    cond-false (eq_by_cmp nat_cmp x e.0) (Some e.1) (find nat_cmp x es) (apart_below x e.0 parts.0) ∙ none_below x es parts.1
-
--- a map with sorted entries put into it
-get_put_some : (m : finite.FinMap nat_cmp Order) (es : List (ℕ × Order)) (q : ℕ) (v : Order) → finite.get m q ≡ Some v → find nat_cmp q es ≡ None → finite.get (put_all m es) q ≡ Some v
-get_put_some m [] q v g none = g
-get_put_some m (e ∷ es) q v g none = by (eq_by_cmp nat_cmp q e.0) refl none (get_put_some (finite.insert m e.0 e.1) es q v)
-  where
-    by : (b : Bool) → eq_by_cmp nat_cmp q e.0 ≡ b → cond b (Some e.1) (find nat_cmp q es) ≡ None → (finite.get (finite.insert m e.0 e.1) q ≡ Some v → find nat_cmp q es ≡ None → finite.get (put_all (finite.insert m e.0 e.1) es) q ≡ Some v) → finite.get (put_all (finite.insert m e.0 e.1) es) q ≡ Some v
-    by true t n rec = absurd (none-some e.1 (sym n))
-    by false t n rec = rec (finite.get-insert nat_cmp_total m e.0 e.1 q ∙ cond-false (eq_by_cmp nat_cmp q e.0) (Some e.1) (finite.get m q) t ∙ g) n
-
-get_put_all : (m : finite.FinMap nat_cmp Order) (es : List (ℕ × Order)) (q : ℕ) → is_sorted nat_cmp es ≡ true → finite.get m q ≡ None → finite.get (put_all m es) q ≡ find nat_cmp q es
-get_put_all m [] q sorted none = none
-get_put_all m (e ∷ es) q sorted none =
-    let parts = and_parts (below_all nat_cmp e.0 es) (is_sorted nat_cmp es) sorted in
-    by parts.0 (eq_by_cmp nat_cmp q e.0) refl (get_put_all (finite.insert m e.0 e.1) es q parts.1)
-  where
-    by : below_all nat_cmp e.0 es ≡ true → (b : Bool) → eq_by_cmp nat_cmp q e.0 ≡ b → (finite.get (finite.insert m e.0 e.1) q ≡ None → finite.get (put_all (finite.insert m e.0 e.1) es) q ≡ find nat_cmp q es) → finite.get (put_all (finite.insert m e.0 e.1) es) q ≡ cond b (Some e.1) (find nat_cmp q es)
-    by below true t rec =
-        get_put_some (finite.insert m e.0 e.1) es q e.1
-        (finite.get-insert nat_cmp_total m e.0 e.1 q ∙ ap (λ (b : Bool). cond b (Some e.1) (finite.get m q)) t)
-        (ap (λ (k : ℕ). find nat_cmp k es) (tied q e.0 t) ∙ none_below e.0 es below)
-    by below false t rec = rec (finite.get-insert nat_cmp_total m e.0 e.1 q ∙ cond-false (eq_by_cmp nat_cmp q e.0) (Some e.1) (finite.get m q) t ∙ none)
-
-pub sorted_entries : (m : finite.FinMap nat_cmp Order) → is_sorted nat_cmp (finite.entries m) ≡ true
-sorted_entries m = true_from_T (is_sorted nat_cmp (finite.entries m)) (finite.entries_sorted m)
-
--- the entries of a map make it anew
-put_entries : (m : finite.FinMap nat_cmp Order) → put_all finite.empty (finite.entries m) ≡ m
-put_entries m = finite.same_map nat_cmp_total finite.nat_cmp-IsAntisymmetric (put_all finite.empty (finite.entries m)) m
-    (λ q. get_put_all finite.empty (finite.entries m) q (sorted_entries m) (finite.get-empty nat_cmp q) ∙ sym (finite.get-entries m q))
-
--- what holds where an entry is found holds of each
-pub all_found : (C : ℕ → Order → Type 0) (es : List (ℕ × Order)) → is_sorted nat_cmp es ≡ true → ((q : ℕ) (v : Order) → find nat_cmp q es ≡ Some v → C q v) → AllByRecursion (λ e. C e.0 e.1) es
-all_found C [] sorted found = tt
-all_found C (e ∷ es) sorted found =
-    let parts = and_parts (below_all nat_cmp e.0 es) (is_sorted nat_cmp es) sorted in
-    let itself : eq_by_cmp nat_cmp e.0 e.0 ≡ true = grind (arith, nat_tests) in (
-      found e.0 e.1 (ap (λ (b : Bool). cond b (Some e.1) (find nat_cmp e.0 es)) itself),
-      all_found C es parts.1 (λ q v f. found q v (by parts.0 q v f (eq_by_cmp nat_cmp q e.0) refl)),
-    )
-  where
-    by : below_all nat_cmp e.0 es ≡ true → (q : ℕ) (v : Order) → find nat_cmp q es ≡ Some v → (b : Bool) → eq_by_cmp nat_cmp q e.0 ≡ b → cond b (Some e.1) (find nat_cmp q es) ≡ Some v
-    by below q v f true t = absurd (none-some v (sym (ap (λ (k : ℕ). find nat_cmp k es) (tied q e.0 t) ∙ none_below e.0 es below) ∙ f))
-    by below q v f false t = f
+use Rattle.pitch_model.proofs.Putting.{put_all, put_entries, all_entries}
 
 -- ---- The messages of an image
 -- the message adds the order to any book
@@ -97,7 +35,7 @@ abbrev pub Adds : Order → Type 0
 Adds order = (book : Book) → after_message book (add_message order 0) ≡ added book order
 
 fold_adds : (book : Book) (es : List (ℕ × Order)) → AllByRecursion (λ e. (e.1.id ≡ e.0) × (0 < e.1.quantity) × Adds e.1) es
-    → fold after_message book (map (λ order. add_message order 0) (map (λ e. e.1) es)) ≡ record { second = book.second; orders = put_all book.orders es }
+    → fold after_message book (map (λ order. add_message order 0) (map (λ e. e.1) es)) ≡ record book { orders = put_all book.orders es }
 fold_adds book [] all = refl
 fold_adds book (e ∷ es) all =
     let filled : (e.1.quantity == 0) ≡ false = (let some = all.0.1 in grind (arith, nat_tests, some)) in
@@ -105,20 +43,39 @@ fold_adds book (e ∷ es) all =
     all.0.2 book ∙ cond-false (e.1.quantity == 0) book (with_order book e.1.id e.1) filled ∙ ap (λ (id : ℕ). with_order book id e.1) all.0.0 in
     ap (λ (b : Book). fold after_message b (map (λ order. add_message order 0) (map (λ e. e.1) es))) step ∙ fold_adds (with_order book e.0 e.1) es all.1
 
+-- the statuses of a map, one after another
+fold_statuses : (book : Book) (es : List (List ℕ × (ℕ × ℕ)))
+    → fold after_message book (map (λ state. status_message state 0) (map symbol_state es)) ≡ record book { statuses = put_all book.statuses es }
+fold_statuses book [] = refl
+fold_statuses book (e ∷ es) = fold_statuses (with_status book e.0 e.1) es
+
 -- the book that has only a clock
-after_clock : (second : Option ℕ) → fold after_message empty_book (clock_of second) ≡ record { second = second; orders = finite.empty }
+after_clock : (second : Option ℕ) → fold after_message empty_book (clock_of second) ≡ record empty_book { second = second }
 after_clock None = refl
 after_clock (Some second) = refl
+
+-- the adds and the statuses of an image
+abbrev added_of : Book → List Message
+added_of book = map (λ order. add_message order 0) (orders_of book)
+
+abbrev shown_of : Book → List Message
+shown_of book = map (λ state. status_message state 0) (statuses_of book)
 
 -- the messages of a book's image make the book anew
 pub made_anew : (book : Book) → IsBook book → ((id : ℕ) (order : Order) → finite.get book.orders id ≡ Some order → Adds order) → fold after_message empty_book (image_messages book) ≡ book
 made_anew book is adds =
-    fold-append after_message empty_book (clock_of book.second) (map (λ order. add_message order 0) (orders_of book))
-    ∙ ap (λ (b : Book). fold after_message b (map (λ order. add_message order 0) (orders_of book))) (after_clock book.second)
-    ∙ fold_adds (record { second = book.second; orders = finite.empty }) (finite.entries book.orders)
-    (all_found (λ id order. (order.id ≡ id) × (0 < order.quantity) × Adds order) (finite.entries book.orders) (sorted_entries book.orders)
-    (λ id order f. let g : finite.get book.orders id ≡ Some order = finite.get-entries book.orders id ∙ f in (is.ids id order g, is.filled id order g, adds id order g)))
-    ∙ ap (λ (m : finite.FinMap nat_cmp Order). record { second = book.second; orders = m }) (put_entries book.orders)
+    fold-append after_message empty_book (clock_of book.second) (added_of book ++ shown_of book)
+    ∙ ap (λ (b : Book). fold after_message b (added_of book ++ shown_of book)) (after_clock book.second)
+    ∙ fold-append after_message (record empty_book { second = book.second }) (added_of book) (shown_of book)
+    ∙ ap (λ (b : Book). fold after_message b (shown_of book))
+    (fold_adds (record empty_book { second = book.second }) (finite.entries book.orders)
+    (all_entries nat_cmp_total finite.nat_cmp-IsAntisymmetric (λ id order. (order.id ≡ id) × (0 < order.quantity) × Adds order) book.orders
+    (λ id order g. (is.ids id order g, is.filled id order g, adds id order g))))
+    ∙ ap (λ (m : finite.FinMap nat_cmp Order). fold after_message (record { second = book.second; orders = m; statuses = finite.empty }) (shown_of book))
+    (put_entries nat_cmp_total finite.nat_cmp-IsAntisymmetric book.orders)
+    ∙ fold_statuses (record { second = book.second; orders = book.orders; statuses = finite.empty }) (finite.entries book.statuses)
+    ∙ ap (λ (m : finite.FinMap symbol_cmp (ℕ × ℕ)). record { second = book.second; orders = book.orders; statuses = m })
+    (put_entries nat_list_cmp_total (finite.slice_cmp-IsAntisymmetric finite.nat_cmp-IsAntisymmetric) book.statuses)
 
 -- raws that are read as these messages do what the messages do
 fold_written : (book : Book) (messages : List Message) → AllByRecursion (λ m. reads (written m) ≡ Ok m) messages → fold after book (map written messages) ≡ fold after_message book messages
@@ -251,6 +208,14 @@ image_reads : (second : Option ℕ) (messages : List Message) → ((n : ℕ) →
 image_reads None messages fits all = all
 image_reads (Some second) messages fits all = (time_back second (fits second refl), all)
 
+statuses_read : (es : List (List ℕ × (ℕ × ℕ))) → AllByRecursion (λ e. FitsStatus e.0 e.1) es → AllByRecursion (λ m. reads (written m) ≡ Ok m) (map (λ state. status_message state 0) (map symbol_state es))
+statuses_read [] all = tt
+statuses_read (e ∷ es) all = (trading_status_back 0 e.0 e.1.0 e.1.1 (omega arith) all.0.symbol, statuses_read es all.1)
+
+both_read : (ms ns : List Message) → AllByRecursion (λ m. reads (written m) ≡ Ok m) ms → AllByRecursion (λ m. reads (written m) ≡ Ok m) ns → AllByRecursion (λ m. reads (written m) ≡ Ok m) (ms ++ ns)
+both_read [] ns all more = more
+both_read (m ∷ ms) ns all more = (all.0, both_read ms ns all.1 more)
+
 pub all_take : (s : ℕ) (V : List (List ℕ)) → AllByRecursion AreBytes V → AllByRecursion AreBytes (take s V)
 all_take zero V all = tt
 all_take (suc s) [] all = tt
@@ -260,8 +225,10 @@ all_take (suc s) (raw ∷ V) all = (all.0, all_take s V all.1)
 pub image_of_leaves : (book : Book) → IsBook book → IsWireBook book → book_after (image_of book) ≡ book
 image_of_leaves book is wire =
     image_leaves book is (λ id order g. add_message_adds order (wire.orders id order g))
-    (image_reads book.second (map (λ order. add_message order 0) (orders_of book)) wire.clock
-    (adds_read (finite.entries book.orders) (all_found (λ id order. FitsWire order) (finite.entries book.orders) (sorted_entries book.orders) (λ id order f. wire.orders id order (finite.get-entries book.orders id ∙ f)))))
+    (image_reads book.second (added_of book ++ shown_of book) wire.clock
+    (both_read (added_of book) (shown_of book)
+    (adds_read (finite.entries book.orders) (all_entries nat_cmp_total finite.nat_cmp-IsAntisymmetric (λ id order. FitsWire order) book.orders wire.orders))
+    (statuses_read (finite.entries book.statuses) (all_entries nat_list_cmp_total (finite.slice_cmp-IsAntisymmetric finite.nat_cmp-IsAntisymmetric) FitsStatus book.statuses wire.statuses))))
 
 -- the image through a sequence leaves the book that the messages up to it leave
 pub image_book : (V : List (List ℕ)) (s : ℕ) → AllByRecursion AreBytes V → book_after (image V s) ≡ book_after (take s V)

@@ -14,6 +14,7 @@ pub mod Folding
 pub mod Books
 pub mod Units
 pub mod Prices
+pub mod Putting
 pub mod Images
 pub mod Widths
 pub mod ImageRaws

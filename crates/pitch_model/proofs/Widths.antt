@@ -1,9 +1,11 @@
--- The orders of a book that messages of bytes leave have the widths of the wire.
-use Rattle.std.proofs.Common.{◌≡◌, ℕ, zero, suc, ◌+◌, ◌^◌, ◌≤◌, ◌<◌, Bool, true, false, cond, ◌==◌, List, [], ◌∷◌, ◌++◌, length, take, drop, fold, refl, ap, ◌∙◌, subst, arith, Option, Some, None, Result, Ok, Err, slice_index, nat_lt, ◌==◌, length-take, length-drop, length-append}
+-- The orders and statuses of a book that messages of bytes leave have the widths of the wire.
+use Rattle.std.proofs.Common.{◌≡◌, ℕ, zero, suc, ◌+◌, ◌^◌, ◌≤◌, ◌<◌, Bool, true, false, cond, ◌==◌, List, [], ◌∷◌, ◌++◌, length, take, drop, fold, refl, sym, ap, ◌∙◌, subst, arith, Option, Some, None, Result, Ok, Err, slice_index, nat_lt, ◌==◌, length-take, length-drop, length-append}
 use Rattle.std.proofs.lemmas.Option.{none-some, same_Some}
 use Rattle.std.specs.Option.{option_map}
 use Rattle.std.specs.List.{AllByRecursion}
 use Rattle.std.specs.FinMap as map
+use Rattle.std.specs.Ordering.{eq_by_cmp}
+use Rattle.std.proofs.lemmas.Cmp.{nat_list_cmp_total}
 use Rattle.std.proofs.lemmas.Bool.{cond_both}
 use Rattle.std.proofs.lemmas.Bool.Decides.{nat_tests}
 use Rattle.pitch_fields.specs.Fields.{AreBytes, number_at}
@@ -13,15 +15,16 @@ use Rattle.pitch_fields.specs.declared.side.Side.{Side}
 use Rattle.pitch_messages.specs.Raw.{kind_of}
 use Rattle.pitch_messages.specs.declared.order.Order.{Order}
 use Rattle.pitch_messages.specs.declared.message.Message.{Message}
-use Rattle.pitch_messages.specs.declared.message.Message.TheVariants.{Time, AddLong, AddShort, Executed, ExecutedAt, ReduceLong, ReduceShort, ModifyLong, ModifyShort, Delete, TradeLong, TradeShort, TradeBreak, EndOfSession, AddExpanded, TradeExpanded, UnitClear, Other}
+use Rattle.pitch_messages.specs.declared.message.Message.TheVariants.{Time, AddLong, AddShort, Executed, ExecutedAt, ReduceLong, ReduceShort, ModifyLong, ModifyShort, Delete, TradeLong, TradeShort, TradeBreak, EndOfSession, AddExpanded, TradeExpanded, TradingStatus, UnitClear, Other}
 use Rattle.pitch_messages.specs.declared.message.ReadError.{ReadError}
 use Rattle.pitch_messages.specs.declared.message.ReadError.TheVariants.{Short, BadSide}
 use Rattle.pitch_messages.specs.Table.{bytes_at, reads_by}
 use Rattle.pitch_messages.specs.Reading.{MessageRow, plain, sided, with_side, row_of, reads}
 use Rattle.pitch_messages.specs.Reading as rows
-use Rattle.pitch_model.specs.Book.{Book, added, reformed, changed, with_order, without_order, empty_book, reduced_by, left_with, modified, is_displayed, long_price, order_of_long, after_message, after_read, after, book_after}
+use Rattle.pitch_model.specs.Book.{Book, symbol_cmp, with_status, added, reformed, changed, with_order, without_order, empty_book, reduced_by, left_with, modified, is_displayed, long_price, order_of_long, after_message, after_read, after, book_after}
+use Rattle.pitch_model.proofs.Putting.{is_equal}
 use Rattle.pitch_model.proofs.Books.{AllOrders, none_all, added_all, changed_all, without_order_all}
-use Rattle.pitch_model.specs.Widths.{FitsWire, IsWireBook}
+use Rattle.pitch_model.specs.Widths.{FitsWire, FitsStatus, IsWireBook}
 
 -- ---- Bytes
 pub bytes_take : (n : ℕ) (raw : List ℕ) → AreBytes raw → AreBytes (take n raw)
@@ -64,6 +67,7 @@ FitsMessage (Time second) = second < 256 ^ 4
 FitsMessage (ExecutedAt offset id executed remaining execution price) = remaining < 256 ^ 4
 FitsMessage (ModifyLong offset id quantity price flags) = (quantity < 256 ^ 4) × (price < 256 ^ 8)
 FitsMessage (ModifyShort offset id quantity price flags) = (quantity < 256 ^ 2) × (price < 256 ^ 2)
+FitsMessage (TradingStatus offset symbol halt sho) = HasBytes 8 symbol × (halt < 256) × (sho < 256)
 FitsMessage message = Unit {0}
 
 -- ---- Each row of the table
@@ -108,6 +112,9 @@ modify_long_fits = plain_fits 27 _ (λ raw all long. (four_lt 14 raw all, eight_
 modify_short_fits : RowFits rows.modify_short_row
 modify_short_fits = plain_fits 19 _ (λ raw all long. (two_lt 14 raw all, two_lt 16 raw all))
 
+trading_status_fits : RowFits rows.trading_status_row
+trading_status_fits = plain_fits 18 _ (λ raw all long. (field_at 8 6 raw all (omega arith), byte_at raw all 14, byte_at raw all 15))
+
 -- ---- The table
 choose : (b : Bool) (row : MessageRow) (rest : Option MessageRow) → RowFits row → TableFits rest → TableFits (cond b (Some row) rest)
 choose true row rest here there = here
@@ -131,7 +138,8 @@ table_fits kind =
     (choose (kind == 0x2d) rows.end_of_session_row _ (plain_fits 6 _ (λ raw all long. tt))
     (choose (kind == 0x2f) rows.add_expanded_row _ add_expanded_fits
     (choose (kind == 0x30) rows.trade_expanded_row _ (sided_fits 43 _ (λ raw side all long. tt))
-    (choose (kind == 0x97) rows.unit_clear_row None (plain_fits 6 _ (λ raw all long. tt)) tt))))))))))))))))
+    (choose (kind == 0x31) rows.trading_status_row _ trading_status_fits
+    (choose (kind == 0x97) rows.unit_clear_row None (plain_fits 6 _ (λ raw all long. tt)) tt)))))))))))))))))
 
 reads_fit : (raw : List ℕ) (m : Message) → AreBytes raw → reads raw ≡ Ok m → FitsMessage m
 unfolding reads
@@ -163,7 +171,8 @@ long_fits id side quantity symbol price flags i q s p = record { id = i; quantit
 
 after_message_fits : (book : Book) (message : Message) → FitsMessage message → AllOrders Fits book → AllOrders Fits (after_message book message)
 after_message_fits book (Time second) fits B = B
-after_message_fits book (UnitClear offset) fits B = none_all Fits book.second
+after_message_fits book (TradingStatus offset symbol halt sho) fits B = B
+after_message_fits book (UnitClear offset) fits B = none_all Fits book
 after_message_fits book (AddLong offset id side quantity symbol price flags) fits B = added_all Fits book _ B (λ some. long_fits id side quantity symbol price flags fits.0 fits.1 fits.2 fits.3)
 after_message_fits book (AddShort offset id side quantity symbol price flags) fits B =
     added_all Fits book _ B (λ some. let q = fits.1 in let p = fits.3 in long_fits id side quantity symbol (long_price price) flags fits.0 (omega arith) fits.2 (omega arith))
@@ -202,6 +211,7 @@ changed_clock book id change fits = reformed_clock book id (option_map change (m
 
 after_message_clock : (book : Book) (message : Message) → FitsMessage message → ClockFits book.second → ClockFits (after_message book message).second
 after_message_clock book (Time second) fits C = λ n e. subst (λ (k : ℕ). k < 256 ^ 4) (same_Some second n e) fits
+after_message_clock book (TradingStatus offset symbol halt sho) fits C = C
 after_message_clock book (UnitClear offset) fits C = C
 after_message_clock book (AddLong offset id side quantity symbol price flags) fits C = added_clock book _ C
 after_message_clock book (AddShort offset id side quantity symbol price flags) fits C = added_clock book _ C
@@ -220,6 +230,57 @@ after_message_clock book (TradeBreak offset execution) fits C = C
 after_message_clock book (EndOfSession offset) fits C = C
 after_message_clock book (Other raw) fits C = C
 
+-- the statuses
+abbrev Statuses : Type 0
+Statuses = map.FinMap symbol_cmp (ℕ × ℕ)
+
+abbrev StatusesFit : Statuses → Type 0
+StatusesFit statuses = (symbol : List ℕ) (status : ℕ × ℕ) → map.get statuses symbol ≡ Some status → FitsStatus symbol status
+
+none_fits : StatusesFit map.empty
+none_fits symbol status g = absurd (none-some status (sym (map.get-empty symbol_cmp symbol) ∙ g))
+
+with_status_fits : (book : Book) (symbol : List ℕ) (status : ℕ × ℕ) → FitsStatus symbol status → StatusesFit book.statuses → StatusesFit (with_status book symbol status).statuses
+with_status_fits book symbol status here all q other g = by (eq_by_cmp symbol_cmp q symbol) refl (sym (map.get-insert nat_list_cmp_total book.statuses symbol status q) ∙ g)
+  where
+    by : (b : Bool) → eq_by_cmp symbol_cmp q symbol ≡ b → cond b (Some status) (map.get book.statuses q) ≡ Some other → FitsStatus q other
+    by true t e =
+        let same : symbol ≡ q = sym (map.slice_cmp-IsAntisymmetric map.nat_cmp-IsAntisymmetric q symbol (is_equal (symbol_cmp q symbol) t)) in
+        subst (λ (k : List ℕ). FitsStatus k other) same (subst (FitsStatus symbol) (same_Some status other e) here)
+    by false t e = all q other e
+
+added_statuses : (book : Book) (order : Order) → StatusesFit book.statuses → StatusesFit (added book order).statuses
+added_statuses book order fits = cond_both (order.quantity == 0) book (with_order book order.id order) (λ (b : Book). StatusesFit b.statuses) (λ t. fits) (λ f. fits)
+
+reformed_statuses : (book : Book) (id : ℕ) (o : Option Order) → StatusesFit book.statuses → StatusesFit (reformed book id o).statuses
+reformed_statuses book id None fits = fits
+reformed_statuses book id (Some order) fits = cond_both (order.quantity == 0) (without_order book id) (with_order book id order) (λ (b : Book). StatusesFit b.statuses) (λ t. fits) (λ f. fits)
+
+changed_statuses : (book : Book) (id : ℕ) (change : Order → Order) → StatusesFit book.statuses → StatusesFit (changed book id change).statuses
+changed_statuses book id change fits = reformed_statuses book id (option_map change (map.get book.orders id)) fits
+
+after_message_statuses : (book : Book) (message : Message) → FitsMessage message → StatusesFit book.statuses → StatusesFit (after_message book message).statuses
+after_message_statuses book (Time second) fits S = S
+after_message_statuses book (TradingStatus offset symbol halt sho) fits S =
+    with_status_fits book symbol (halt, sho) (record { symbol = fits.0.0; symbol_bytes = fits.0.1; halt = fits.1; sho = fits.2 }) S
+after_message_statuses book (UnitClear offset) fits S = S
+after_message_statuses book (AddLong offset id side quantity symbol price flags) fits S = added_statuses book _ S
+after_message_statuses book (AddShort offset id side quantity symbol price flags) fits S = added_statuses book _ S
+after_message_statuses book (AddExpanded offset id side quantity symbol price flags participant) fits S = added_statuses book _ S
+after_message_statuses book (Executed offset id executed execution) fits S = changed_statuses book id (reduced_by executed) S
+after_message_statuses book (ExecutedAt offset id executed remaining execution price) fits S = changed_statuses book id (left_with remaining) S
+after_message_statuses book (ReduceLong offset id quantity) fits S = changed_statuses book id (reduced_by quantity) S
+after_message_statuses book (ReduceShort offset id quantity) fits S = changed_statuses book id (reduced_by quantity) S
+after_message_statuses book (ModifyLong offset id quantity price flags) fits S = changed_statuses book id (modified quantity price (is_displayed flags)) S
+after_message_statuses book (ModifyShort offset id quantity price flags) fits S = changed_statuses book id (modified quantity (long_price price) (is_displayed flags)) S
+after_message_statuses book (Delete offset id) fits S = S
+after_message_statuses book (TradeLong offset id side quantity symbol price execution) fits S = S
+after_message_statuses book (TradeShort offset id side quantity symbol price execution) fits S = S
+after_message_statuses book (TradeExpanded offset id side quantity symbol price execution) fits S = S
+after_message_statuses book (TradeBreak offset execution) fits S = S
+after_message_statuses book (EndOfSession offset) fits S = S
+after_message_statuses book (Other raw) fits S = S
+
 after_fits : (book : Book) (raw : List ℕ) → AreBytes raw → IsWireBook book → IsWireBook (after book raw)
 unfolding after
 after_fits book raw all B = by (reads raw) refl
@@ -228,11 +289,15 @@ after_fits book raw all B = by (reads raw) refl
     by (Err error) e = B
     by (Ok message) e =
         let fits = reads_fit raw message all e in
-        record { clock = after_message_clock book message fits B.clock; orders = after_message_fits book message fits B.orders }
+        record {
+          clock = after_message_clock book message fits B.clock;
+          orders = after_message_fits book message fits B.orders;
+          statuses = after_message_statuses book message fits B.statuses;
+        }
 
 folded_fits : (raws : List (List ℕ)) (book : Book) → AllByRecursion AreBytes raws → IsWireBook book → IsWireBook (fold after book raws)
 folded_fits [] book all B = B
 folded_fits (raw ∷ raws) book all B = folded_fits raws (after book raw) all.1 (after_fits book raw all.0 B)
 
 pub book_after_fits : (raws : List (List ℕ)) → AllByRecursion AreBytes raws → IsWireBook (book_after raws)
-book_after_fits raws all = folded_fits raws empty_book all (record { clock = λ n e. absurd (none-some n e); orders = none_all Fits None })
+book_after_fits raws all = folded_fits raws empty_book all (record { clock = λ n e. absurd (none-some n e); orders = none_all Fits empty_book; statuses = none_fits })

@@ -1,19 +1,27 @@
--- The order book of one unit, and what each message does to it.
+-- The book of one unit, its orders and trading statuses, and what each message does to it.
 use Rattle.std.specs.Prelude.{◌≡◌, ℕ, ◌-◌, ◌<◌, Bool, ◌==◌, List, [], ◌∷◌, ◌++◌, fold, ◌*◌, Option, None, Some, Result, Ok, Err, if◌then◌else◌, bit_and, option_map}
 use Rattle.std.specs.Ordering.{nat_cmp}
+use Rattle.std.specs.Cmp.Lexicographic.{slice_cmp}
+use Rattle.std.specs.declared.cmp.Ordering.{Ordering}
 use Rattle.std.specs.FinMap as map
 use Rattle.pitch_fields.specs.Name.{no_participant}
 use Rattle.pitch_fields.specs.declared.side.Side.{Side}
 use Rattle.pitch_messages.specs.declared.order.Order.{Order}
 use Rattle.pitch_messages.specs.declared.message.Message.{Message}
-use Rattle.pitch_messages.specs.declared.message.Message.TheVariants.{Time, AddLong, AddShort, Executed, ExecutedAt, ReduceLong, ReduceShort, ModifyLong, ModifyShort, Delete, TradeLong, TradeShort, TradeBreak, EndOfSession, AddExpanded, TradeExpanded, UnitClear, Other}
+use Rattle.pitch_messages.specs.declared.message.Message.TheVariants.{Time, AddLong, AddShort, Executed, ExecutedAt, ReduceLong, ReduceShort, ModifyLong, ModifyShort, Delete, TradeLong, TradeShort, TradeBreak, EndOfSession, AddExpanded, TradeExpanded, TradingStatus, UnitClear, Other}
 use Rattle.pitch_messages.specs.declared.message.ReadError.{ReadError}
 use Rattle.pitch_messages.specs.Reading.{reads}
 
--- the second of the unit's clock, where one is known, and the open orders by their ids
+-- symbols by their bytes, the first of them first
+abbrev pub symbol_cmp : List ℕ → List ℕ → Ordering
+symbol_cmp = slice_cmp nat_cmp
+
+-- the second of the unit's clock, where one is known, the open orders by their ids, and by its
+-- symbol each trading status, which is a halt byte and a sho byte
 pub record Book : Type 0 where
   pub second : Option ℕ
   pub orders : map.FinMap nat_cmp Order
+  pub statuses : map.FinMap symbol_cmp (ℕ × ℕ)
 
 -- each order stands under its id, and has shares
 pub record IsBook (book : Book) : Type 0 where
@@ -22,24 +30,28 @@ pub record IsBook (book : Book) : Type 0 where
 
 -- before any message
 abbrev pub empty_book : Book
-empty_book = record { second = None; orders = map.empty }
+empty_book = record { second = None; orders = map.empty; statuses = map.empty }
 
 -- ---- Effects on the book
 -- the clock shows another second
 abbrev pub at_second : Book → ℕ → Book
-at_second book second = record { second = Some second; orders = book.orders }
+at_second book second = record book { second = Some second }
 
--- all orders go, and the second stays
+-- all orders go; the second and the statuses stay
 abbrev pub cleared : Book → Book
-cleared book = record { second = book.second; orders = map.empty }
+cleared book = record book { orders = map.empty }
 
 -- the order of an id goes
 abbrev pub without_order : Book → ℕ → Book
-without_order book id = record { second = book.second; orders = map.remove book.orders id }
+without_order book id = record book { orders = map.remove book.orders id }
 
 -- an order stands under an id, in place of one that stood there
 abbrev pub with_order : Book → ℕ → Order → Book
-with_order book id order = record { second = book.second; orders = map.insert book.orders id order }
+with_order book id order = record book { orders = map.insert book.orders id order }
+
+-- a symbol has this status from now on
+abbrev pub with_status : Book → List ℕ → ℕ × ℕ → Book
+with_status book symbol status = record book { statuses = map.insert book.statuses symbol status }
 
 -- an order is added, unless it has no shares
 abbrev pub added : Book → Order → Book
@@ -98,6 +110,8 @@ abbrev pub after_message : Book → Message → Book
 after_message book (Time second) = at_second book second
 -- "Unit Clear Message"
 after_message book (UnitClear offset) = cleared book
+-- "Trading Status Message"
+after_message book (TradingStatus offset symbol halt sho) = with_status book symbol (halt, sho)
 -- "Add Order Message", long, short and expanded form
 after_message book (AddLong offset id side quantity symbol price flags) = added book (order_of_long id side quantity symbol price flags)
 after_message book (AddShort offset id side quantity symbol price flags) = added book (order_of_short id side quantity symbol price flags)

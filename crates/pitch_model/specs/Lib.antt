@@ -1,5 +1,6 @@
 pub mod Book
 pub mod Levels
+pub mod Statuses
 pub mod Image
 pub mod Widths
 pub mod History

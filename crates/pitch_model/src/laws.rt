@@ -8,20 +8,20 @@ ghost use Rattle.std.specs.Set.{is_member};
 ghost use Rattle.std.specs.FinMap as map;
 ghost use Rattle.pitch_fields.specs.Limits.{last_sequence};
 ghost use Rattle.pitch_fields.specs.declared.side.Side.{Side};
-ghost use Rattle.pitch_messages.specs.Raw.{IsRaw, kind_of};
+ghost use Rattle.pitch_messages.specs.Raw.{IsRaw};
 ghost use Rattle.unit_packets.specs.Blocks.{Block, StaysWithin};
 ghost use Rattle.unit_packets.specs.BlockBytes.{block_bytes, heartbeat_block};
 ghost use Rattle.unit_packets.specs.Cutting.{blocks_of};
 ghost use Rattle.unit_packets.specs.Packing.{IsPacking};
 ghost use Rattle.pitch_model.specs.declared.item.Item.{Item};
 ghost use Rattle.pitch_model.specs.Book.{Book, IsBook, book_after};
-ghost use Rattle.pitch_model.specs.Image.{image_of, image};
+ghost use Rattle.pitch_model.specs.Image.{IsOfImage, image_of, image};
 ghost use Rattle.pitch_model.specs.Datagrams.{heard_blocks, messages_in, fresh_in, overflows_in, changes_in, IsPiece};
 ghost use Rattle.pitch_model.specs.Advertising.{Operation, Accept, Advertise, accepted_at, accepted_by, with_sequence, advertised_by, last_ten, newest_of};
 ghost use Rattle.pitch_model.specs.Widths.{IsWireBook};
 ghost use Rattle.pitch_fields.specs.Fields.{AreBytes};
 ghost use Rattle.pitch_model.specs.Levels.{IsBestOf, best, level, orders_on, prices_on};
-ghost use Rattle.pitch_model.specs.History.{Entry, Raw, Message, SpinFinished, spin_of, images_at, image_finished, messages_at, is_add, adds, can_promise};
+ghost use Rattle.pitch_model.specs.History.{Entry, Raw, Message, SpinFinished, spin_of, images_at, image_finished, messages_at, adds, can_promise};
 ghost use Rattle.pitch_model.specs.Heard.{IsItem, IsItemOf, heard, heard_block, change_of, block_change};
 ghost use Rattle.pitch_model.specs.Honest.{AreVenues, Honest};
 ghost use Rattle.pitch_model.specs.Units.{unit_history, units_of};
@@ -88,8 +88,8 @@ pub fn other_entries_change_nothing()
 {}
 
 /// In the book that messages leave, each order stands under its id and has shares, and there are no
-/// more orders than messages. Where the messages are bytes, the fields of each order have the
-/// widths of the wire.
+/// more orders than messages. Where the messages are bytes, the fields of each order and status
+/// have the widths of the wire.
 pub fn books_have_open_orders()
     ensures book { (raws : List Raw) → IsBook (book_after raws) }
     ensures few { (raws : List Raw) → map.len (book_after raws).orders ≤ length raws }
@@ -121,12 +121,12 @@ pub fn best_price_is_the_best()
     ensures none { (book : Book) (symbol : List ℕ) (side : Side) → best book symbol side ≡ None → orders_on book symbol side ≡ [] }
 {}
 
-/// The image of a book is adds, one for each open order, and else Time messages. That of a wire
-/// book is raws of bytes, and leaves the book that it is of.
+/// The image of a book is adds, one for each open order, and else Time and Trading Status messages.
+/// That of a wire book is raws of bytes, and leaves the book that it is of.
 pub fn images_make_their_books_anew()
     ensures raws { (book : Book) → IsWireBook book → AllByRecursion IsRaw (image_of book) }
     ensures bytes { (book : Book) → IsWireBook book → AllByRecursion AreBytes (image_of book) }
-    ensures kinds { (book : Book) → AllByRecursion (λ raw. (kind_of raw == 0x20 || is_add raw) ≡ true) (image_of book) }
+    ensures kinds { (book : Book) → AllByRecursion IsOfImage (image_of book) }
     ensures adds { (book : Book) → adds (image_of book) ≡ map.len book.orders }
     ensures leaves { (book : Book) → IsBook book → IsWireBook book → book_after (image_of book) ≡ book }
 {}

@@ -9,10 +9,10 @@ use Rattle.session_ends.specs.Saying.{is_read, said_by}
 use Rattle.session_ends.specs.declared.role.Role.TheVariants.{SpinLink}
 use Rattle.session_ends.specs.declared.role.Said.TheVariants.{Skipped}
 use Rattle.pitch_model.specs.Book.{book_after}
-use Rattle.pitch_model.specs.History.{adds, is_add}
-use Rattle.pitch_model.specs.Image.{image, image_of}
+use Rattle.pitch_model.specs.History.{adds}
+use Rattle.pitch_model.specs.Image.{IsOfImage, image, image_of}
 use Rattle.pitch_model.proofs.Books.{book_after_len}
-use Rattle.pitch_model.proofs.ImageRaws.{adds_image, time_or_add, image_raws as book_raws}
+use Rattle.pitch_model.proofs.ImageRaws.{adds_image, image_kinds, image_raws as book_raws}
 use Rattle.pitch_model.proofs.Images.{image_is, all_take}
 use Rattle.pitch_model.proofs.Widths.{book_after_fits}
 use Rattle.spin_path.proofs.Pieces.{IsOther}
@@ -22,18 +22,18 @@ image_raws V n bytes =
     subst (λ (raws : List (List ℕ)). AllByRecursion IsRaw raws) (sym (image_is V n)) (book_raws (book_after (take n V)) (book_after_fits (take n V) (all_take n V bytes)))
 
 -- a link reads none of an image's types
-not_read : (k : ℕ) → (k == 0x20 || (k == 0x21 || k == 0x22 || k == 0x2f)) ≡ true → is_read SpinLink k ≡ false
+not_read : (k : ℕ) → (k == 0x20 || (k == 0x31 || (k == 0x21 || k == 0x22 || k == 0x2f))) ≡ true → is_read SpinLink k ≡ false
 not_read k is = grind (arith, nat_tests, is)
 
-other_of_kind : (raw : List ℕ) → (kind_of raw == 0x20 || is_add raw) ≡ true → IsOther raw
+other_of_kind : (raw : List ℕ) → IsOfImage raw → IsOther raw
 other_of_kind raw kind = ap (λ (b : Bool). cond b (said_by (session_reads raw)) Skipped) (not_read (kind_of raw) kind)
 
-others_of_kinds : (raws : List (List ℕ)) → AllByRecursion (λ raw. (kind_of raw == 0x20 || is_add raw) ≡ true) raws → AllByRecursion IsOther raws
+others_of_kinds : (raws : List (List ℕ)) → AllByRecursion IsOfImage raws → AllByRecursion IsOther raws
 others_of_kinds [] all = tt
 others_of_kinds (raw ∷ raws) all = (other_of_kind raw all.0, others_of_kinds raws all.1)
 
 pub image_others : (V : List (List ℕ)) (n : ℕ) → AllByRecursion IsOther (image V n)
-image_others V n = subst (λ (raws : List (List ℕ)). AllByRecursion IsOther raws) (sym (image_is V n)) (others_of_kinds (image_of (book_after (take n V))) (time_or_add (book_after (take n V))))
+image_others V n = subst (λ (raws : List (List ℕ)). AllByRecursion IsOther raws) (sym (image_is V n)) (others_of_kinds (image_of (book_after (take n V))) (image_kinds (book_after (take n V))))
 
 pub image_adds : (V : List (List ℕ)) (n : ℕ) → adds (image V n) ≤ n
 image_adds V n =

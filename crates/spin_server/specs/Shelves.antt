@@ -1,12 +1,10 @@
 -- What an image shelf keeps.
 use Rattle.std.specs.Prelude.{◌≡◌, ℕ, ◌+◌, ◌≤◌, Bool, false, ◌==◌, List, [], ◌∷◌, length, take, drop, Option, None, Some, refl}
 use Rattle.pitch_fields.specs.Limits.{last_sequence}
-use Rattle.std.specs.Ordering.{nat_cmp}
 use Rattle.std.specs.FinMap as map
-use Rattle.std.specs.Coded.{Coded, code_by, coded×, coded_ℕ, coded_list, coded_option}
-use Rattle.pitch_messages.specs.declared.order.Order.{Order}
+use Rattle.std.specs.Coded.{Coded, code_by, coded×, coded_ℕ, coded_list}
 use Rattle.pitch_model.specs.Book.{Book, book_after}
-use Rattle.order_book.specs.Standing.{order_code}
+use Rattle.order_book.specs.Standing.{book_code}
 
 -- a base book, the messages after it, how many messages were pushed, and the sequences that are
 -- served
@@ -52,11 +50,11 @@ pub record ShelfKeeps (shelf : Shelf) (messages : List (List ℕ)) : Type 0 wher
 
 -- ---- Its code: lists and numbers
 abbrev pub ShelfParts : Type 0
-ShelfParts = Option ℕ × (map.FinMap nat_cmp Order × (List (List ℕ) × (ℕ × List ℕ)))
+ShelfParts = Book × (List (List ℕ) × (ℕ × List ℕ))
 
 abbrev pub shelf_from : ShelfParts → Shelf
-shelf_from p = record { base = record { second = p.0; orders = p.1.0 }; after = p.1.1.0; pushed = p.1.1.1.0; served = p.1.1.1.1 }
+shelf_from p = record { base = p.0; after = p.1.0; pushed = p.1.1.0; served = p.1.1.1 }
 
 abbrev pub shelf_code : Coded Shelf
-shelf_code = code_by ShelfParts (coded× (coded_option coded_ℕ) (coded× (map.code coded_ℕ order_code) (coded× (coded_list (coded_list coded_ℕ)) (coded× coded_ℕ (coded_list coded_ℕ)))))
-    (λ s. (s.base.second, (s.base.orders, (s.after, (s.pushed, s.served))))) shelf_from (λ _. refl)
+shelf_code = code_by ShelfParts (coded× book_code (coded× (coded_list (coded_list coded_ℕ)) (coded× coded_ℕ (coded_list coded_ℕ))))
+    (λ s. (s.base, (s.after, (s.pushed, s.served)))) shelf_from (λ _. refl)

@@ -1,12 +1,12 @@
 ghost use Rattle.std.specs.Prelude.{◌≡◌, ◌+◌, ◌<◌, ◌≤◌, ◌++◌, [], ◌∷◌, length, map, OnOk, OnErr, IfOk};
-ghost use Rattle.pitch_messages.specs.Forms.{add_message};
+ghost use Rattle.pitch_messages.specs.Forms.{add_message, status_message};
 ghost use Rattle.pitch_messages.specs.Writing.{written};
 ghost use Rattle.pitch_model.specs.History.{adds};
 ghost use Rattle.pitch_model.specs.Image.{clock_of, image_of};
 
-use order_book::{OrderList, UnitBook};
+use order_book::{OrderList, StatusList, UnitBook};
 use pitch_fields::OutOfMemory;
-use pitch_messages::{Message, Order, Raw, RawList, add_raw, write};
+use pitch_messages::{Message, Order, Raw, RawList, TradingState, add_raw, status_raw, write};
 use std::alloc::Global;
 
 // Appends a message to a list that has room for it.
@@ -33,16 +33,27 @@ fn push_clock(second: Option<u32>, out: &mut RawList)
 // Appends the adds of an image.
 fn push_adds(orders: &[Order], out: &mut RawList)
     requires { length orders.now ≤ out.old.spare }
-    ensures { out.new.items ≡ out.old.items ++ map written (map (λ order. add_message order 0) orders.now) }
+    ensures items { out.new.items ≡ out.old.items ++ map written (map (λ order. add_message order 0) orders.now) }
+    ensures spare { out.old.spare ≤ out.new.spare + length orders.now }
 {
     'adds: for i in 0..orders.len() {
         push_reserved(out, &add_raw(&orders[i], 0));
     }
 }
 
-/// Appends the image of a book ("Spin Server"): a Time message where its second is known, and the
-/// add of each open order by rising id, with offset 0. Answers the number of adds. The list is as
-/// before after OutOfMemory.
+// Appends the trading statuses of an image.
+fn push_statuses(states: &[TradingState], out: &mut RawList)
+    requires { length states.now ≤ out.old.spare }
+    ensures { out.new.items ≡ out.old.items ++ map written (map (λ state. status_message state 0) states.now) }
+{
+    'states: for i in 0..states.len() {
+        push_reserved(out, &status_raw(&states[i], 0));
+    }
+}
+
+/// Appends the image of a book ("Spin Server"): a Time message where its second is known, the add
+/// of each open order by rising id, and then the trading status of each symbol by its rising bytes,
+/// all with offset 0. Answers the number of adds. The list is as before after OutOfMemory.
 pub fn image_of(alloc: Global, book: &UnitBook, out: &mut RawList) -> Result<u32, OutOfMemory>
     ensures ok { OnOk result (out.new.items ≡ out.old.items ++ image_of book.now.book) }
     ensures count { IfOk result (λ count. count ≡ adds (image_of book.now.book)) }
@@ -50,9 +61,12 @@ pub fn image_of(alloc: Global, book: &UnitBook, out: &mut RawList) -> Result<u32
 {
     let mut orders = OrderList::make(alloc);
     book.orders_by_id(&mut orders)?;
+    let mut states = StatusList::make(alloc);
+    book.statuses_by_symbol(&mut states)?;
     let count = book.len();
-    out.reserve(orders.len().saturating_add(1))?;
+    out.reserve(orders.len().saturating_add(states.len()).saturating_add(1))?;
     push_clock(book.second(), out);
     push_adds(orders.as_slice(), out);
+    push_statuses(states.as_slice(), out);
     Ok(count)
 }

@@ -1,4 +1,4 @@
-use Rattle.pitch_model.proofs.ImageRaws.{adds_image, image_bytes, image_raws, time_or_add}
+use Rattle.pitch_model.proofs.ImageRaws.{adds_image, image_bytes, image_raws, image_kinds}
 use Rattle.pitch_model.proofs.Images.{image_of_leaves}
 use Rattle.pitch_model.proofs.laws.images_make_their_books_anew.Goals as goal
 
@@ -15,4 +15,4 @@ pub returns-clause-leaves : goal.returns-clause-leaves
 returns-clause-leaves c = image_of_leaves
 
 pub returns-clause-kinds : goal.returns-clause-kinds
-returns-clause-kinds c = time_or_add
+returns-clause-kinds c = image_kinds

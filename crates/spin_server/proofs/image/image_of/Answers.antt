@@ -7,9 +7,12 @@ use Rattle.spin_server.proofs.image.image_of.Goals as goal
 
 pub returns-clause-ok : goal.returns-clause-ok
 returns-clause-ok c =
-    image_whole c.args.book.now.book c.as_slice.result.now c.make-orders.result.items c.args.out.now.items c.reserve.new.self.items c.push_clock.new.out.items c.push_adds.new.out.items
-    (c.as_slice.ensures ∙ c.in_ok-orders_by_id.ensures.ok) c.make-orders.ensures c.in_ok-reserve.ensures.items
-    (c.push_clock.ensures.items ∙ ap (λ (second : Option ℕ). c.reserve.new.self.items ++ map written (clock_of second)) c.second.ensures) c.push_adds.ensures
+    image_whole c.args.book.now.book c.as_slice.result.now c.make-orders.result.items c.as_slice-2.result.now c.make-states.result.items
+    c.args.out.now.items c.reserve.new.self.items c.push_clock.new.out.items c.push_adds.new.out.items c.push_statuses.new.out.items
+    (c.as_slice.ensures ∙ c.in_ok-orders_by_id.ensures.ok) c.make-orders.ensures
+    (c.as_slice-2.ensures ∙ c.in_ok-statuses_by_symbol.ensures.ok) c.make-states.ensures
+    c.in_ok-reserve.ensures.items
+    (c.push_clock.ensures.items ∙ ap (λ (second : Option ℕ). c.reserve.new.self.items ++ map written (clock_of second)) c.second.ensures) c.push_adds.ensures.items c.push_statuses.ensures
 
 pub returns-clause-count : goal.returns-clause-count
 returns-clause-count c = c.len-count.ensures.count ∙ sym (adds_image c.args.book.now.book)
