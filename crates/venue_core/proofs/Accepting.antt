@@ -54,6 +54,7 @@ ends_by_message (commands.Trade order execution offset) = trade_goes_on (six_of 
 ends_by_message (commands.Break execution offset) = refl
 ends_by_message (commands.Clear offset) = refl
 ends_by_message (commands.EndSession offset) = refl
+ends_by_message (commands.Status symbol halt sho offset) = refl
 
 pub or_false : (b : Bool) → (b || false) ≡ b
 or_false true = refl

@@ -5,11 +5,14 @@ use Rattle.std.specs.FinMap as map
 use Rattle.pitch_fields.specs.declared.side.Side.TheVariants.{Buy, Sell}
 use Rattle.pitch_messages.specs.declared.order.Order.{Order}
 use Rattle.pitch_messages.specs.Reading.{reads}
+use Rattle.pitch_messages.specs.Writing.{written}
 use Rattle.pitch_model.specs.Book.{Book}
-use Rattle.pitch_text.specs.declared.command.Command.TheVariants.{Time, Add, Exec, Reduce, Modify, Delete, Trade}
+use Rattle.pitch_text.specs.declared.command.Command.{Command}
+use Rattle.pitch_text.specs.declared.command.Command.TheVariants.{Time, Add, Exec, Reduce, Modify, Delete, Trade, Status}
 use Rattle.venue_core.specs.declared.error.VenueError.{VenueError}
 use Rattle.venue_core.specs.declared.error.VenueError.TheVariants.{Ended, ZeroQuantity, BadSymbol, KnownId, UnknownId, TooMuch, BookFull, SequencesSpent}
 use Rattle.venue_core.specs.Causes.{refusal_text}
+use Rattle.venue_core.specs.Commands.{raw_of}
 use Rattle.venue_core.specs.Losses.{mix, state_after, is_lost}
 use Rattle.venue_core.specs.Plan.{plan_quantity, plan_price, plan_order, plan_command}
 use Rattle.venue_core.specs.Refusals.{is_ended, are_spent, has_order, refused_if, first_refusal, excess, shares_of, refusal_at}
@@ -156,3 +159,25 @@ full_text = refl
 
 spent_text : refusal_text SequencesSpent ≡ codes "sequences-spent"
 spent_text = refl
+
+-- ---- Trading statuses
+-- IBM is halted, and so is a symbol that begins with a space
+abbrev halt : Command
+halt = Status (codes "IBM     ") 0x48 0x30 0
+
+abbrev nameless_halt : Command
+nameless_halt = Status (codes " IBM    ") 0x48 0x30 0
+
+raw_of_a_status : raw_of halt
+    ≡ 0x12 ∷ 0x31 ∷ 0x00 ∷ 0x00 ∷ 0x00 ∷ 0x00 ∷ 0x49 ∷ 0x42 ∷ 0x4d ∷ 0x20 ∷ 0x20 ∷ 0x20 ∷ 0x20 ∷ 0x20 ∷ 0x48 ∷ 0x30 ∷ 0x20 ∷ 0x20 ∷ []
+unfolding written
+raw_of_a_status = refl
+
+a_symbol_gets_a_status : (book : Book) → refusal_at false book 3 halt ≡ None
+a_symbol_gets_a_status book = refl
+
+a_bad_symbol_gets_none : (book : Book) (count : ℕ) → refusal_at false book count nameless_halt ≡ Some BadSymbol
+a_bad_symbol_gets_none book count = refl
+
+the_end_comes_before_a_bad_symbol : (book : Book) (count : ℕ) → refusal_at true book count nameless_halt ≡ Some Ended
+the_end_comes_before_a_bad_symbol book count = refl

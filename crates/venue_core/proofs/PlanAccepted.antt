@@ -134,6 +134,7 @@ has_room book (commands.Trade order execution offset) few = refl
 has_room book (commands.Break execution offset) few = refl
 has_room book (commands.Clear offset) few = refl
 has_room book (commands.EndSession offset) few = refl
+has_room book (commands.Status symbol halt sho offset) few = refl
 
 accepted : (V : List (List ℕ)) (command : Command) → is_ended V ≡ false → Goes (book_after V) command → overfills (book_after V) command ≡ false → are_spent (length V) ≡ false → refusal V command ≡ None
 accepted V command on goes room left = λ s. first_refusal (refused_if (on s) Ended ∷ refused_if (goes.shares s) ZeroQuantity ∷ refused_if (goes.name s) BadSymbol ∷ refused_if (goes.fresh s) KnownId ∷ refused_if (goes.found s) UnknownId

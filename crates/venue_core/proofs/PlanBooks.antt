@@ -7,7 +7,7 @@ use Rattle.std.specs.Ordering.{nat_cmp, eq_by_cmp}
 use Rattle.std.specs.FinMap as finite
 use Rattle.pitch_fields.specs.declared.side.Side.TheVariants.{Buy, Sell}
 use Rattle.pitch_messages.specs.declared.order.Order.{Order}
-use Rattle.pitch_model.specs.Book.{Book, at_second, added, with_order, changed, reformed, reduced_by, modified, without_order, after, book_after}
+use Rattle.pitch_model.specs.Book.{Book, symbol_cmp, at_second, added, with_order, changed, reformed, reduced_by, modified, without_order, after, book_after}
 use Rattle.pitch_model.proofs.Folding.{book_after-append}
 use Rattle.pitch_text.specs.declared.command.Command.{Command}
 use Rattle.pitch_text.specs.declared.command.Command.TheVariants as commands
@@ -147,8 +147,12 @@ module _ (number unit j : ℕ) (m : Orders) where
   abbrev pub clock : ℕ
   clock = 34200 + j % 50000
 
+  -- no command of the plan changes a status
+  abbrev pub statuses : finite.FinMap symbol_cmp (ℕ × ℕ)
+  statuses = (book_after (plan number unit (8 * j))).statuses
+
   abbrev pub book_of : Orders → Book
-  book_of orders = record { second = Some clock; orders = orders }
+  book_of orders = record { second = Some clock; orders = orders; statuses = statuses }
 
   -- the book is this one after the commands of round j up to place k
   abbrev pub Stands : ℕ → Orders → Type 0
@@ -168,9 +172,9 @@ module _ (number unit j : ℕ) (m : Orders) where
   finds_third = get_same orders_6 (8 * j + 7) (second_buy number unit j)
 
   -- ---- The book after each of its commands
-  pub stands_1 : (second : Option ℕ) → 8 * j + 8 ≤ 400000 → book_after (plan number unit (8 * j)) ≡ record { second = second; orders = m } → Stands 1 m
+  pub stands_1 : (second : Option ℕ) → 8 * j + 8 ≤ 400000 → book_after (plan number unit (8 * j)) ≡ record { second = second; orders = m; statuses = statuses } → Stands 1 m
   stands_1 second low at =
-      book_next number unit (8 * j) (8 * j + 1) (commands.Time clock) (λ book. at_second book clock) (record { second = second; orders = m }) (omega arith) (first_command number unit j) (time_does clock (omega arith)) at
+      book_next number unit (8 * j) (8 * j + 1) (commands.Time clock) (λ book. at_second book clock) (record { second = second; orders = m; statuses = statuses }) (omega arith) (first_command number unit j) (time_does clock (omega arith)) at
 
   pub stands_2 : 8 * j + 8 ≤ 400000 → Stands 1 m → Stands 2 orders_2
   stands_2 low at =

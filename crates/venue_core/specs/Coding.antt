@@ -1,11 +1,9 @@
 -- Venues and what they keep as pairs, lists and numbers. The prover asks for this of each model; no
 -- caller needs it.
 use Rattle.std.specs.Prelude.{ℕ, Bool, List, Option, refl}
-use Rattle.std.specs.Ordering.{nat_cmp}
-use Rattle.std.specs.FinMap as map
 use Rattle.std.specs.Coded.{Coded, code_by, coded×, coded_ℕ, coded_bool, coded_list, coded_option}
-use Rattle.pitch_messages.specs.declared.order.Order.{Order}
-use Rattle.order_book.specs.Standing.{order_code}
+use Rattle.pitch_model.specs.Book.{Book}
+use Rattle.order_book.specs.Standing.{book_code}
 use Rattle.venue_core.specs.Standing.{VenueState}
 use Rattle.venue_core.specs.Waiting.{Waiting}
 
@@ -33,22 +31,22 @@ waiting_code =
 
 -- ---- A venue
 abbrev pub VenueParts : Type 0
-VenueParts = Option ℕ × (map.FinMap nat_cmp Order × (ℕ × (Bool × (Option (List ℕ) × (Option (List ℕ) × Waiting)))))
+VenueParts = Book × (ℕ × (Bool × (Option (List ℕ) × (Option (List ℕ) × Waiting))))
 
 abbrev pub venue_parts : VenueState → VenueParts
-venue_parts v = (v.book.second, (v.book.orders, (v.unit, (v.ended, (v.last, (v.ready, v.pending))))))
+venue_parts v = (v.book, (v.unit, (v.ended, (v.last, (v.ready, v.pending)))))
 
 abbrev pub venue_from : VenueParts → VenueState
 venue_from p = record {
-  unit = p.1.1.0;
-  book = record { second = p.0; orders = p.1.0 };
-  ended = p.1.1.1.0;
-  last = p.1.1.1.1.0;
-  ready = p.1.1.1.1.1.0;
-  pending = p.1.1.1.1.1.1;
+  unit = p.1.0;
+  book = p.0;
+  ended = p.1.1.0;
+  last = p.1.1.1.0;
+  ready = p.1.1.1.1.0;
+  pending = p.1.1.1.1.1;
 }
 
 abbrev pub venue_code : Coded VenueState
 venue_code =
-    code_by VenueParts (coded× (coded_option coded_ℕ) (coded× (map.code coded_ℕ order_code) (coded× coded_ℕ (coded× coded_bool (coded× (coded_option (coded_list coded_ℕ)) (coded× (coded_option (coded_list coded_ℕ)) waiting_code))))))
+    code_by VenueParts (coded× book_code (coded× coded_ℕ (coded× coded_bool (coded× (coded_option (coded_list coded_ℕ)) (coded× (coded_option (coded_list coded_ℕ)) waiting_code)))))
     venue_parts venue_from (λ _. refl)
