@@ -1,12 +1,12 @@
 -- What `hear` promises of a book, at an image of this feed that is taken.
-use Rattle.std.proofs.Common.{◌≡◌, ℕ, List, [], ◌∷◌, Some, map, refl, sym, ap, ◌∙◌, arith, true}
+use Rattle.std.proofs.Common.{◌≡◌, ℕ, List, [], ◌∷◌, ◌++◌, Some, map, refl, sym, ap, ◌∙◌, arith, true}
 use Rattle.std.specs.List.{AllByRecursion}
 use Rattle.std.specs.Ordering.{nat_cmp}
 use Rattle.std.specs.FinMap as finite
 use Rattle.std.proofs.lemmas.List.{nil_from_length}
 use Rattle.pitch_messages.specs.declared.order.Order.{Order}
 use Rattle.pitch_messages.specs.declared.message.Message.TheVariants.{Time}
-use Rattle.pitch_messages.specs.Forms.{add_message}
+use Rattle.pitch_messages.specs.Forms.{add_message, status_message}
 use Rattle.pitch_messages.specs.Writing.{written}
 use Rattle.pitch_messages.specs.Reading.{reads}
 use Rattle.pitch_model.specs.Book.{after}
@@ -19,6 +19,8 @@ use Rattle.pitch_fields.specs.Fields.{AreBytes}
 use Rattle.pitch_model.specs.declared.ask.Ask.TheVariants.{Spin}
 use Rattle.pitch_model.specs.declared.change.ImageEnd.TheVariants.{Taken, Bad}
 use Rattle.pitch_model.specs.declared.item.Item.TheVariants as item
+use Rattle.pitch_model.specs.Statuses.{symbol_state}
+use Rattle.pitch_model.proofs.Examples.{no_statuses}
 use Rattle.pitch_model.proofs.Images.{image_book}
 use Rattle.client_core.specs.Items.{IsImage}
 use Rattle.client_core.specs.Tracks.{Tracks, Keeps}
@@ -43,7 +45,7 @@ no_orders = ap (map (λ (e : ℕ × Order). e.1)) (nil_from_length (finite.entri
 
 image_is : opening ≡ image opening 1
 unfolding after reads image image_of written add_message
-image_is = ap (λ (orders : List Order). map written (Time 34200 ∷ map (λ order. add_message order 0) orders)) (sym no_orders)
+image_is = λ i. map written (Time 34200 ∷ (map (λ order. add_message order 0) (sym no_orders i) ++ map (λ state. status_message state 0) (map symbol_state (sym no_statuses i))))
 
 -- its end is honest, and the image is taken
 honest : Honest image opening (SpinFinished 1 ∷ image_heard)

@@ -224,17 +224,28 @@ impl UnitClient {
         self.top = raised_by(self.top, next - 1);
     }
 
-    // Takes in a block.
-    fn take_block(&mut self, sequence: u32, raws: Raws<'_>) -> Result<Counts, OutOfMemory>
+    // Takes in a block, and notes what is applied. After OutOfMemory no more is noted.
+    #[tactic(auto, using(crate::proofs::Applying::still_notes, crate::proofs::Applying::still_held, crate::proofs::Applying::still_venues, crate::proofs::Applying::still_log))]
+    fn take_block(
+        &mut self,
+        log: &mut AppliedLog,
+        sequence: u32,
+        raws: Raws<'_>,
+    ) -> Result<Counts, OutOfMemory>
         requires { StaysWithin sequence (length raws) }
         ensures tracks { OnOk result ((block : Block) → Carries block sequence raws.entry → (H : ℕ) (E : List Entry) → Tracks self.old H E → Tracks self.new H (heard_block block E)) }
         ensures keeps { OnOk result ((block : Block) → Carries block sequence raws.entry → (Image : List Raw → ℕ → List Raw) (V : List Raw) (E : List Entry) → Honest Image V (heard_block block E) → Keeps self.old V → Keeps self.new V) }
         ensures fresh { IfOk result (λ counts. (block : Block) → Carries block sequence raws.entry → (H : ℕ) (E : List Entry) → Tracks self.old H E → counts.fresh ≡ block_fresh H E block) }
         ensures overflows { IfOk result (λ counts. (block : Block) → Carries block sequence raws.entry → (H : ℕ) (E : List Entry) → Tracks self.old H E → counts.overflows ≡ block_overflows H E block) }
-        ensures applies { OnOk result ((applied : List Raw) × Applied self.old self.new applied) }
-        ensures room { OnOk result (KeepsRoom self.old self.new (length raws.entry)) }
+        ensures notes { OnOk result (NotesApplied (reached self.old) (reached self.new) self.old.book self.new.book log.old log.new) }
+        ensures held { OnOk result (reached self.new + held_number self.new ≤ (reached self.old + held_number self.old) + length raws.entry) }
+        ensures venues { OnOk result ((block : Block) → Carries block sequence raws.entry → (Image : List Raw → ℕ → List Raw) (V : List Raw) (E : List Entry) → Honest Image V (heard_block block E) → Keeps self.old V
+            → noted log.new ≡ with_more (drop (reached self.old) (take (reached self.new) V)) (noted log.old)) }
+        ensures log { OnOk result (KeepsLogRoom self.old self.new (length raws.entry) log.old log.new) }
         ensures err { OnErr result (IsAsBefore self.old self.new) }
-        ensures memory { length raws.entry + held_number self.old ≤ spare_of self.old → IsOk result }
+        ensures err_noted { OnErr result (noted log.new ≡ noted log.old) }
+        ensures err_log { OnErr result ((left : ℕ) → CanNote left log.old → CanNote left log.new) }
+        ensures memory { CanNote (length raws.entry + held_number self.old) log.old → length raws.entry + held_number self.old ≤ spare_of self.old → IsOk result }
         ensures heartbeat { raws.entry ≡ [] → IsOk result }
         ensures unsequenced { sequence ≡ 0 → IsOk result }
     {
@@ -245,7 +256,7 @@ impl UnitClient {
             self.hear_next(sequence);
             return Ok(NO_MESSAGES);
         }
-        self.hear_messages(&mut AppliedLog::Off, sequence, raws)
+        self.hear_messages(log, sequence, raws)
     }
 
     /// Hears a block with this sequence and these messages: nothing of an unsequenced one, a
@@ -276,8 +287,54 @@ impl UnitClient {
         ensures unsequenced { sequence ≡ 0 → IsOk result }
     {
         let before = self.status();
-        let counts = self.take_block(sequence, raws)?;
+        let counts = self.take_block(&mut AppliedLog::Off, sequence, raws)?;
         Ok(self.changed_since(before, counts.heard()))
+    }
+
+    /// Hears a block as `hear_block` does, and appends to `applied` the messages that it applied to
+    /// the book, in their order: those of the block and those held that they made next.
+    ///
+    /// After OutOfMemory both are as before the block. That never comes where it wouldn't in
+    /// `hear_block` and `applied` too has room for the block's messages and those held. What the
+    /// caller reserved in `applied` stays, but for the messages that are appended: the messages of
+    /// several blocks, and those held, can be reserved for at once.
+    pub fn hear_block_into(
+        &mut self,
+        sequence: u32,
+        raws: Raws<'_>,
+        applied: &mut RawList,
+    ) -> Result<Change, OutOfMemory>
+        requires { StaysWithin sequence (length raws) }
+        // Whatever history the client stood for, it now stands for that history and this block.
+        ensures tracks { OnOk result ((block : Block) → Carries block sequence raws.entry → (H : ℕ) (E : List Entry) → Tracks self.old H E → Tracks self.new H (heard_block block E)) }
+        // In an honest history, where all that is heard comes from one venue, the book stays the
+        // one that the venue's messages up to the reach leave, and what is held stays the venue's.
+        ensures keeps { OnOk result ((block : Block) → Carries block sequence raws.entry → (Image : List Raw → ℕ → List Raw) (V : List Raw) (E : List Entry) → Honest Image V (heard_block block E) → Keeps self.old V → Keeps self.new V) }
+        // Whatever was heard before, the answer is what the block changes: the status before and
+        // after it, and how many messages were fresh and overflowed the hold.
+        ensures change { IfOk result (λ change. (block : Block) → Carries block sequence raws.entry → (H : ℕ) (E : List Entry) → Tracks self.old H E → change ≡ block_change H E block) }
+        // Honest or not, what is appended are the applied messages, by which the reach rose.
+        ensures applies { OnOk result ((more : List Raw) × (applied.new.items ≡ applied.old.items ++ more) × Applied self.old self.new more) }
+        // In an honest history these are the venue's messages after the old reach, up to the new
+        // one.
+        ensures venues { OnOk result ((block : Block) → Carries block sequence raws.entry → (Image : List Raw → ℕ → List Raw) (V : List Raw) (H : ℕ) (E : List Entry) → Tracks self.old H E → Honest Image V (heard_block block E) → Keeps self.old V
+            → applied.new.items ≡ applied.old.items ++ drop (reach H E) (take (reach H (heard_block block E)) V)) }
+        // Where there was room for this block and for more messages, there is still room for those:
+        // in the book, and in the list.
+        ensures room { OnOk result (KeepsRoom self.old self.new (length raws.entry)) }
+        ensures room_applied { OnOk result (KeepsListRoom self.old self.new (length raws.entry) applied.old.spare applied.new.spare) }
+        ensures err { OnErr result (IsAsBefore self.old self.new) }
+        ensures err_applied { OnErr result (applied.new.items ≡ applied.old.items) }
+        ensures err_room { OnErr result (applied.old.spare ≤ applied.new.spare) }
+        ensures memory { length raws.entry + held_number self.old ≤ spare_of self.old → length raws.entry + held_number self.old ≤ applied.old.spare → IsOk result }
+        ensures heartbeat { raws.entry ≡ [] → IsOk result }
+        ensures unsequenced { sequence ≡ 0 → IsOk result }
+    {
+        let before = self.status();
+        let mut log = AppliedLog::On(replace(applied, RawList::make(self.alloc)));
+        let counts = self.take_block(&mut log, sequence, raws);
+        *applied = log.into_list(self.alloc);
+        Ok(self.changed_since(before, counts?.heard()))
     }
 
     fn hear_grp_up(&mut self)

@@ -1,15 +1,8 @@
-use Rattle.std.proofs.Common.{◌≡◌, List, ℕ, ◌≤◌, [], ◌++◌, Option, Some, MatchOption, refl, sym, ap, ◌∙◌, subst, take, drop, arith}
-use Rattle.std.proofs.lemmas.Option.{none-some}
+use Rattle.std.proofs.Common.{List, ℕ, ◌++◌, ap, ◌∙◌, take, drop, arith}
 use Rattle.pitch_messages.specs.Room.{Roomy}
 use Rattle.client_core.specs.Tracks.{reached}
-use Rattle.client_core.specs.Bookkeeping.{noted, with_more, CanNote}
-use Rattle.client_core.specs.declared.applied_log.AppliedLog.{AppliedLog}
-use Rattle.client_core.specs.declared.applied_log.AppliedLog.TheVariants.{Off, On}
+use Rattle.client_core.proofs.Listed.{listed, listed_room}
 use Rattle.client_core.proofs.client.UnitClient.hear_into.Goals as goal
-
--- the list of a log in which more was noted
-listed : (o : Option (List (List ℕ))) (items more result : List (List ℕ)) → o ≡ with_more more (Some items) → MatchOption o (result ≡ []) (λ raws. result ≡ raws) → result ≡ items ++ more
-listed o items more result e m = subst (λ o. MatchOption o (result ≡ []) (λ raws. result ≡ raws)) e m
 
 pub returns-clause-venues : goal.returns-clause-venues
 returns-clause-venues c = λ other Image V H E T honest K.
@@ -20,11 +13,6 @@ returns-clause-venues c = λ other Image V H E T honest K.
     listed _ c.replace.result.items _ c.into_list.result.items is c.into_list.ensures.items
     ∙ ap (λ items. items ++ drop (reached c.args.self.now) (take (reached c.hear_item-heard.new.self) V)) before
     ∙ (λ i. c.args.applied.now.items ++ drop (from i) (take (to i) V))
-
--- the room of a log is that of its list
-listed_room : (log : AppliedLog) (list : Roomy (List ℕ)) (items : List (List ℕ)) (room : ℕ) → noted log ≡ Some items → ((l : Roomy (List ℕ)) → log ≡ On l → list ≡ l) → CanNote room log → room ≤ list.spare
-listed_room Off list items room e is can = absurd (none-some items e)
-listed_room (On l) list items room e is can = subst (λ (x : Roomy (List ℕ)). room ≤ x.spare) (sym (is l refl)) can
 
 pub returns-clause-room_applied : goal.returns-clause-room_applied
 returns-clause-room_applied c = λ other more r.
