@@ -5,7 +5,7 @@ use Rattle.unit_packets.specs.Blocks.{Block}
 use Rattle.pitch_fields.specs.Name.{name_shown}
 use Rattle.pitch_fields.specs.declared.side.Side.TheVariants.{Buy, Sell}
 use Rattle.pitch_messages.specs.Reading.{reads}
-use Rattle.pitch_messages.specs.declared.message.Message.TheVariants.{AddLong, Executed, ExecutedAt, ReduceLong, ReduceShort, ModifyLong, ModifyShort, TradeLong, TradeShort, TradeBreak, EndOfSession, AddExpanded, TradeExpanded, UnitClear}
+use Rattle.pitch_messages.specs.declared.message.Message.TheVariants.{AddLong, Executed, ExecutedAt, ReduceLong, ReduceShort, ModifyLong, ModifyShort, TradeLong, TradeShort, TradeBreak, EndOfSession, AddExpanded, TradeExpanded, TradingStatus, UnitClear}
 use Rattle.feed_lines.specs.Show.{message_line, message_lines, message_text, said_text, show_text, shown_head}
 use Rattle.feed_lines.specs.Texts.{texts_after}
 
@@ -37,6 +37,12 @@ add_without_side :
     ≡ codes "3 bad-side kind=22 byte=5a\n"
 unfolding message_line message_text said_text reads digits
 add_without_side = refl
+
+trading_status :
+    message_line 5 (0x12 ∷ 0x31 ∷ 0 ∷ 0 ∷ 0 ∷ 0 ∷ 0x49 ∷ 0x42 ∷ 0x4d ∷ 0x20 ∷ 0x20 ∷ 0x20 ∷ 0x20 ∷ 0x20 ∷ 0x48 ∷ 0x30 ∷ 0x20 ∷ 0x20 ∷ [])
+    ≡ codes "5 trading-status offset=0 symbol=IBM halt=H sho=0\n"
+unfolding message_line message_text said_text reads name_shown digits
+trading_status = refl
 
 -- ---- Each other type: its word, and its fields in the order of the table
 long_add_text : message_text (AddLong 0 5 Buy 100 (codes "IBM   ") 100000 1) ≡ codes "add-long offset=0 id=5 side=B quantity=100 symbol=IBM price=10.0000 flags=01"
@@ -90,6 +96,11 @@ broken_trade_text = refl
 end_text : message_text (EndOfSession 3) ≡ codes "end offset=3"
 unfolding message_text digits
 end_text = refl
+
+-- halt and sho are each shown as a symbol of one byte is, a space too
+status_text_of_odd_bytes : message_text (TradingStatus 7 (codes "A.B     ") 32 255) ≡ codes "trading-status offset=7 symbol=A.B halt=\\x20 sho=\\xff"
+unfolding message_text name_shown digits
+status_text_of_odd_bytes = refl
 
 clear_text : message_text (UnitClear 3) ≡ codes "unit-clear offset=3"
 unfolding message_text digits

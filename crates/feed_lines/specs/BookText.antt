@@ -6,7 +6,9 @@ use Rattle.pitch_fields.specs.Side.{byte_of}
 use Rattle.pitch_fields.specs.Price.{price_digits}
 use Rattle.pitch_fields.specs.Name.{is_blank, name_shown}
 use Rattle.pitch_messages.specs.declared.order.Order.{Order}
+use Rattle.pitch_messages.specs.declared.trading_state.TradingState.{TradingState}
 use Rattle.pitch_model.specs.Book.{Book}
+use Rattle.pitch_model.specs.Statuses.{statuses_of}
 
 -- an order that is not displayed is marked
 abbrev pub hidden_text : Bool → List ℕ
@@ -43,5 +45,15 @@ abbrev pub book_head : ℕ → ℕ → Option ℕ → ℕ → List ℕ
 book_head unit n second count = book_place unit n second ++ codes " orders " ++ decimal count ++ 10 ∷ []
 
 -- the line of a unit's book, and one for each order by rising id
+unfoldable pub book_orders : ℕ → ℕ → Book → List ℕ
+book_orders unit n book = book_head unit n book.second (map.len book.orders) ++ flat_map (λ e. order_line e.0 e.1) (map.entries book.orders)
+
+-- the line of a trading status; each of its bytes is shown as a symbol of one byte is
+unfoldable pub status_line : TradingState → List ℕ
+status_line state =
+    codes "status " ++ (name_shown state.symbol ++ (32 ∷ [] ++ (name_shown (state.halt ∷ []) ++ (32 ∷ [] ++ (name_shown (state.sho ∷ []) ++ 10 ∷ [])))))
+
+-- the line of a unit's book, the lines of its orders, and one for each trading status by rising
+-- bytes of its symbol
 unfoldable pub book_text : ℕ → ℕ → Book → List ℕ
-book_text unit n book = book_head unit n book.second (map.len book.orders) ++ flat_map (λ e. order_line e.0 e.1) (map.entries book.orders)
+book_text unit n book = book_orders unit n book ++ flat_map status_line (statuses_of book)

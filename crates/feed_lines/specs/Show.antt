@@ -8,7 +8,7 @@ use Rattle.pitch_fields.specs.declared.side.Side.{Side}
 use Rattle.pitch_messages.specs.Raw.{kind_of}
 use Rattle.pitch_messages.specs.Reading.{extra_of, reads}
 use Rattle.pitch_messages.specs.declared.message.Message.{Message}
-use Rattle.pitch_messages.specs.declared.message.Message.TheVariants.{Time, AddLong, AddShort, Executed, ExecutedAt, ReduceLong, ReduceShort, ModifyLong, ModifyShort, Delete, TradeLong, TradeShort, TradeBreak, EndOfSession, AddExpanded, TradeExpanded, UnitClear, Other}
+use Rattle.pitch_messages.specs.declared.message.Message.TheVariants.{Time, AddLong, AddShort, Executed, ExecutedAt, ReduceLong, ReduceShort, ModifyLong, ModifyShort, Delete, TradeLong, TradeShort, TradeBreak, EndOfSession, AddExpanded, TradeExpanded, TradingStatus, UnitClear, Other}
 use Rattle.pitch_messages.specs.declared.message.ReadError.{ReadError}
 use Rattle.pitch_messages.specs.declared.message.ReadError.TheVariants.{Short, BadSide}
 use Rattle.unit_packets.specs.Blocks.{Block}
@@ -59,6 +59,14 @@ modify_text name offset id quantity price flags = reduce_text name offset id qua
 abbrev pub executed_text : List ℕ → ℕ → ℕ → ℕ → List ℕ
 executed_text name offset id executed = head_text name offset id ++ number_field (codes " executed=") executed
 
+-- a byte after its name, as a symbol of one byte is shown
+abbrev pub named_byte : List ℕ → ℕ → List ℕ
+named_byte name byte = name ++ name_shown (byte ∷ [])
+
+-- the halt byte and the sho byte
+abbrev pub status_fields : ℕ → ℕ → List ℕ
+status_fields halt sho = named_byte (codes " halt=") halt ++ named_byte (codes " sho=") sho
+
 -- the name of a message, and its fields in the order of the table
 unfoldable pub message_text : Message → List ℕ
 message_text (Time second) = number_field (codes "time second=") second
@@ -79,6 +87,7 @@ message_text (EndOfSession offset) = number_field (codes "end offset=") offset
 message_text (AddExpanded offset id side quantity symbol price flags participant) =
     add_text (codes "add-expanded") offset id (terms_text side quantity symbol price) flags ++ (codes " participant=" ++ name_shown participant)
 message_text (TradeExpanded offset id side quantity symbol price execution) = trade_text (codes "trade-expanded") offset id (terms_text side quantity symbol price) execution
+message_text (TradingStatus offset symbol halt sho) = number_field (codes "trading-status offset=") offset ++ (symbol_text symbol ++ status_fields halt sho)
 message_text (UnitClear offset) = number_field (codes "unit-clear offset=") offset
 message_text (Other raw) = codes "other" ++ (kind_text raw ++ number_field (codes " length=") (length raw))
 

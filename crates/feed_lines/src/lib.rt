@@ -12,5 +12,6 @@ mod terms;
 
 pub use crate::lines::{
     LINE, put_block_line, put_book_head, put_order_line, put_overflow, put_shown_head, put_status,
+    put_status_line,
 };
 pub use crate::messages::{next_after, put_message_line};

@@ -2,14 +2,14 @@
 
 ghost use Rattle.std.specs.Prelude.{◌≡◌, ◌≤◌, ◌+◌, ◌++◌, [], ◌∷◌, take, drop, length};
 ghost use Rattle.feed_lines.specs.LineSize.{line_size};
-ghost use Rattle.feed_lines.specs.BookText.{hidden_text, participant_text, second_text, order_head, order_tail, order_line, book_place, book_head};
+ghost use Rattle.feed_lines.specs.BookText.{hidden_text, participant_text, second_text, order_head, order_tail, order_line, status_line, book_place, book_head};
 ghost use Rattle.feed_lines.specs.Follow.{block_line, overflow_text};
 ghost use Rattle.feed_lines.specs.Show.{shown_head};
 ghost use Rattle.feed_lines.specs.StatusText.{status_text};
 ghost use Rattle.feed_lines.specs.Texts.{block_head};
 
 use pitch_fields::{is_blank, put_byte, put_name, put_number, put_price, put_text};
-use pitch_messages::Order;
+use pitch_messages::{Order, TradingState};
 use pitch_model::Status;
 use unit_packets::Header;
 
@@ -230,4 +230,23 @@ pub fn put_order_line(out: &mut [u8], at: usize, order: &Order) -> usize
 {
     let head = put_order_head(out, at, order);
     put_order_tail(out, head, order)
+}
+
+/// Writes the line of a trading status.
+#[tactic(auto, unfolding(crate::specs::BookText::status_line))]
+pub fn put_status_line(out: &mut [u8], at: usize, state: &TradingState) -> usize
+    requires { at + line_size ≤ length out.old }
+    ensures end { result ≤ at + line_size }
+    ensures text { take result out.new ≡ take at out.old ++ status_line state.now }
+    ensures rest { drop result out.new ≡ drop result out.old }
+    ensures kept { length out.new ≡ length out.old }
+{
+    let open = put_text(out, at, b"status ");
+    let symbol = state.symbol.bytes();
+    let named = put_name(out, open, &symbol);
+    let halt = put_byte(out, named, b' ');
+    let halted = put_name(out, halt, &[state.halt]);
+    let sho = put_byte(out, halted, b' ');
+    let done = put_name(out, sho, &[state.sho]);
+    put_byte(out, done, b'\n')
 }

@@ -6,16 +6,16 @@ ghost use Rattle.pitch_fields.specs.Name.{name_shown};
 ghost use Rattle.pitch_messages.specs.Raw.{IsRaw, kind_of};
 ghost use Rattle.pitch_messages.specs.Reading.{reads};
 ghost use Rattle.feed_lines.specs.LineSize.{line_size};
-ghost use Rattle.feed_lines.specs.Show.{number_field, kind_text, price_text, flags_text, add_text, trade_text, reduce_text, modify_text, executed_text, message_text, short_text, bad_side_text, said_text, message_line, next_after};
+ghost use Rattle.feed_lines.specs.Show.{number_field, kind_text, price_text, flags_text, add_text, trade_text, reduce_text, modify_text, executed_text, symbol_text, named_byte, status_fields, message_text, short_text, bad_side_text, said_text, message_line, next_after};
 ghost use Rattle.feed_lines.specs.Terms.{shown, has_terms};
 
 use crate::fields::{
     put_byte_field, put_count_field, put_extra, put_flags, put_head, put_kind, put_number_field,
-    put_price_field, put_sequence, put_terms,
+    put_price_field, put_sequence, put_symbol, put_terms,
 };
 use crate::lines::LINE;
 use crate::terms::Terms;
-use pitch_fields::{Price, put_byte, put_hex, put_name, put_text};
+use pitch_fields::{Price, Symbol, put_byte, put_hex, put_name, put_text};
 use pitch_messages::{Message, ReadError, extra_bytes, read_as};
 
 #[inline(always)]
@@ -246,6 +246,39 @@ fn put_with_terms(out: &mut [u8], at: usize, message: &Message) -> usize
     }
 }
 
+// Writes one byte of a trading status after its name, as a symbol of one byte is shown.
+fn put_status_byte(out: &mut [u8], at: usize, name: &[u8], byte: u8) -> usize
+    requires { at + length name.now + 32 ≤ length out.old }
+    ensures end { result ≤ at + length name.now + 32 }
+    ensures text { take result out.new ≡ take at out.old ++ named_byte name.now byte }
+    ensures rest { drop result out.new ≡ drop result out.old }
+    ensures kept { length out.new ≡ length out.old }
+{
+    let named = put_text(out, at, name);
+    put_name(out, named, &[byte])
+}
+
+// Writes a trading status.
+fn put_trading_status(
+    out: &mut [u8],
+    at: usize,
+    offset: u32,
+    symbol: [u8; 8],
+    halt: u8,
+    sho: u8,
+) -> usize
+    requires { at + 200 ≤ length out.old }
+    ensures end { result ≤ at + 200 }
+    ensures text { take result out.new ≡ take at out.old ++ (number_field (codes "trading-status offset=") offset ++ (symbol_text symbol ++ status_fields halt sho)) }
+    ensures rest { drop result out.new ≡ drop result out.old }
+    ensures kept { length out.new ≡ length out.old }
+{
+    let timed = put_count_field(out, at, b"trading-status offset=", offset);
+    let named = put_symbol(out, timed, Symbol::from_eight(symbol));
+    let halted = put_status_byte(out, named, b" halt=", halt);
+    put_status_byte(out, halted, b" sho=", sho)
+}
+
 // Writes the name of a message and its fields, in the order of the table.
 #[inline(always)]
 #[tactic(auto, unfolding(crate::specs::Show::message_text))]
@@ -311,6 +344,12 @@ fn put_message(out: &mut [u8], at: usize, message: &Message) -> usize
         Message::Delete { offset, id } => put_head(out, at, b"delete", offset, id),
         Message::TradeBreak { offset, execution } => put_trade_break(out, at, offset, execution),
         Message::EndOfSession { offset } => { put_count_field(out, at, b"end offset=", offset) }
+        Message::TradingStatus {
+            offset,
+            symbol,
+            halt,
+            sho,
+        } => put_trading_status(out, at, offset, symbol, halt, sho),
         Message::UnitClear { offset } => { put_count_field(out, at, b"unit-clear offset=", offset) }
         Message::Other(ref raw) => put_other(out, at, raw.bytes()),
         _ => put_with_terms(out, at, message),

@@ -117,7 +117,7 @@ take_prefix most [] more le = ap (λ (n : ℕ). take n more) (omega arith)
 take_prefix zero (x ∷ bytes) more le = absurd (omega arith)
 take_prefix (suc most) (x ∷ bytes) more le = ap (λ (l : List ℕ). x ∷ l) (take_prefix most bytes more (omega arith) ∙ ap (λ (n : ℕ). bytes ++ take n more) (omega arith))
 
-take_all : (most : ℕ) (bytes : List ℕ) → length bytes ≤ most → take most bytes ≡ bytes
+pub take_all : (most : ℕ) (bytes : List ℕ) → length bytes ≤ most → take most bytes ≡ bytes
 take_all most bytes le =
     ap (take most) (sym (append-nil bytes)) ∙ take_prefix most bytes [] le ∙ ap (λ (l : List ℕ). bytes ++ l) (take_none (most - length bytes)) ∙ append-nil bytes
   where
@@ -126,7 +126,7 @@ take_all most bytes le =
     take_none (suc n) = refl
 
 -- too many bytes
-long_trouble : (carrier : Carrier) (most : ℕ) (bytes more : List ℕ) → length bytes ≡ most → 0 < length more → lasting_trouble carrier bytes ≡ None → trouble_of carrier most (bytes ++ more) ≡ Some TooLong
+pub long_trouble : (carrier : Carrier) (most : ℕ) (bytes more : List ℕ) → length bytes ≡ most → 0 < length more → lasting_trouble carrier bytes ≡ None → trouble_of carrier most (bytes ++ more) ≡ Some TooLong
 unfolding trouble_of
 long_trouble carrier most bytes more size some none =
     let long : nat_lt most (length (bytes ++ more)) ≡ true = lt-ltb most (length (bytes ++ more)) (omega (arith, length-append bytes more, size, some)) in
@@ -135,7 +135,7 @@ long_trouble carrier most bytes more size some none =
     ∙ ap (λ (b : Bool). cond b (Some TooLong) (end_trouble carrier (bytes ++ more))) long
 
 -- a trouble that lasts
-lasts_trouble : (carrier : Carrier) (most : ℕ) (bytes more : List ℕ) (trouble : StreamTrouble) → length bytes ≤ most → lasting_trouble carrier bytes ≡ Some trouble
+pub lasts_trouble : (carrier : Carrier) (most : ℕ) (bytes more : List ℕ) (trouble : StreamTrouble) → length bytes ≤ most → lasting_trouble carrier bytes ≡ Some trouble
     → (trouble_of carrier most (bytes ++ more) ≡ Some trouble) × (carried_blocks carrier (take most (bytes ++ more)) ≡ carried_blocks carrier bytes)
 unfolding trouble_of
 lasts_trouble carrier most bytes more trouble le is =
@@ -147,7 +147,7 @@ lasts_trouble carrier most bytes more trouble le is =
     )
 
 -- a stream that ended
-ended : (carrier : Carrier) (most : ℕ) (bytes : List ℕ) → length bytes ≤ most → lasting_trouble carrier bytes ≡ None → trouble_of carrier most bytes ≡ end_trouble carrier bytes
+pub ended : (carrier : Carrier) (most : ℕ) (bytes : List ℕ) → length bytes ≤ most → lasting_trouble carrier bytes ≡ None → trouble_of carrier most bytes ≡ end_trouble carrier bytes
 unfolding trouble_of
 ended carrier most bytes le none =
     let rest = cond (nat_lt most (length bytes)) (Some TooLong) (end_trouble carrier bytes) in
@@ -160,7 +160,7 @@ has_more None now bytes read = ([], tt)
 has_more (Some all) None bytes read = absurd read
 has_more (Some all) (Some left) bytes read = (left, read)
 
-has_all : (first before now : Option (List ℕ)) (bytes : List ℕ) → Consumes first before bytes → IsAtEnd before × Keeps before now → Has first bytes × AreAll first now bytes
+pub has_all : (first before now : Option (List ℕ)) (bytes : List ℕ) → Consumes first before bytes → IsAtEnd before × Keeps before now → Has first bytes × AreAll first now bytes
 has_all None before now bytes read end = (tt, tt)
 has_all (Some all) None now bytes read end = absurd read
 has_all (Some all) (Some left) None bytes read end = absurd end.1

@@ -25,7 +25,7 @@ use Rattle.stream_print.specs.declared.failure.StreamTrouble.TheVariants.{TooLon
 use Rattle.stream_print.proofs.Unprinted.{ends_unwritten}
 use Rattle.stream_print.proofs.Feeding.{fed_piece, fed_fails, fed_unflushed, puts_texts, writes_texts, refuses_lasting, refuses_long}
 
-whole : (k : ℕ) (bytes piece : List ℕ) → (bytes ++ take k piece) ++ drop k piece ≡ bytes ++ piece
+pub whole : (k : ℕ) (bytes piece : List ℕ) → (bytes ++ take k piece) ++ drop k piece ≡ bytes ++ piece
 whole k bytes piece = append_assoc bytes (take k piece) (drop k piece) ∙ ap (λ (l : List ℕ). bytes ++ l) (take-append-drop k piece)
 
 -- what was kept

@@ -4,16 +4,16 @@ ghost use Rattle.unit_clients.specs.Clients.{AreUnits, IsClient, Clients};
 ghost use Rattle.stream_print.specs.Books.{IsUnitText, AreBooksBelow, AreFirstBooks};
 ghost use Rattle.std.specs.List.{flat_map};
 ghost use Rattle.pitch_io.specs.Causes.{HasCause};
-ghost use Rattle.feed_lines.specs.BookText.{order_line, book_text};
+ghost use Rattle.feed_lines.specs.BookText.{order_line, status_line, book_orders, book_text};
 ghost use Rattle.stream_print.specs.Page.{PrintsSuch, Prints};
 ghost use Rattle.stream_print.specs.Putting.{PutsSuch, PutsSome};
 
 use crate::failure::PrintError;
 use crate::page::Page;
 use client_core::UnitClient;
-use order_book::{OrderList, UnitBook};
+use order_book::{OrderList, StatusList, UnitBook};
 use pitch_io::Sink;
-use pitch_messages::Order;
+use pitch_messages::{Order, TradingState};
 use std::alloc::Global;
 
 // Prints the lines of orders.
@@ -29,6 +29,23 @@ fn print_orders<O: Sink>(page: &mut Page, out: &mut O, orders: &[Order]) -> Resu
     Ok(())
 }
 
+// Prints the lines of trading statuses.
+fn print_statuses<O: Sink>(
+    page: &mut Page,
+    out: &mut O,
+    states: &[TradingState],
+) -> Result<(), PrintError>
+    ensures printed { OnOk result (Prints (O.written out.old) page.old.text (O.written out.new) page.new.text (flat_map status_line states.now)) }
+    ensures err { OnErr result (PutsSome (O.written out.old) (O.written out.new) (page.old.text ++ flat_map status_line states.now)) }
+    ensures cause { HasCause (O.faults out.old) (O.faults out.new) (result ≡ Err PrintError.Write) }
+{
+    'lines: for state in states {
+        page.make_place(out)?;
+        page.add_status(state);
+    }
+    Ok(())
+}
+
 /// Prints the book of a unit that reaches so far.
 pub fn print_book<O: Sink>(
     alloc: Global,
@@ -40,6 +57,25 @@ pub fn print_book<O: Sink>(
 ) -> Result<(), PrintError>
     ensures printed { OnOk result (Prints (O.written out.old) page.old.text (O.written out.new) page.new.text (book_text unit reach book.now.book)) }
     ensures err { OnErr result (PutsSome (O.written out.old) (O.written out.new) (page.old.text ++ book_text unit reach book.now.book)) }
+    ensures cause { HasCause (O.faults out.old) (O.faults out.new) (result ≡ Err PrintError.Write) }
+{
+    let mut states = StatusList::make(alloc);
+    book.statuses_by_symbol(&mut states)?;
+    print_book_orders(alloc, page, out, unit, reach, book)?;
+    print_statuses(page, out, states.as_slice())
+}
+
+// Prints the first line of the book and the lines of its orders.
+fn print_book_orders<O: Sink>(
+    alloc: Global,
+    page: &mut Page,
+    out: &mut O,
+    unit: u8,
+    reach: u32,
+    book: &UnitBook,
+) -> Result<(), PrintError>
+    ensures printed { OnOk result (Prints (O.written out.old) page.old.text (O.written out.new) page.new.text (book_orders unit reach book.now.book)) }
+    ensures err { OnErr result (PutsSome (O.written out.old) (O.written out.new) (page.old.text ++ book_orders unit reach book.now.book)) }
     ensures cause { HasCause (O.faults out.old) (O.faults out.new) (result ≡ Err PrintError.Write) }
 {
     let mut orders = OrderList::make(alloc);

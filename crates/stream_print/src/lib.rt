@@ -28,5 +28,6 @@ pub use crate::carrier::Carrier;
 pub use crate::failure::{StreamFailure, StreamTrouble};
 pub use crate::pieces::{PIECE, piece_buffer, take_at_most};
 pub use crate::putting::{PutFailed, put_all};
+pub use crate::reader::block_trouble;
 pub use crate::stream::{INPUT_LIMIT, print_stream};
 pub use crate::stream_form::StreamForm;

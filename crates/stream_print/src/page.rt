@@ -2,7 +2,7 @@ ghost use Rattle.std.specs.Prelude.{◌≡◌, ◌≤◌, ◌<◌, ◌+◌, ◌+
 ghost use Rattle.pitch_io.specs.Causes.{HasCause};
 ghost use Rattle.pitch_io.specs.Putting.{Grows};
 ghost use Rattle.feed_lines.specs.LineSize.{line_size};
-ghost use Rattle.feed_lines.specs.BookText.{book_head, order_line};
+ghost use Rattle.feed_lines.specs.BookText.{book_head, order_line, status_line};
 ghost use Rattle.feed_lines.specs.Follow.{block_line};
 ghost use Rattle.feed_lines.specs.Show.{shown_head, message_line};
 ghost use Rattle.pitch_messages.specs.Raw.{IsRaw};
@@ -14,10 +14,11 @@ use crate::counts::{PacketCounts, put_counts_line};
 use crate::putting::{PutFailed, put_all};
 use feed_lines::{
     LINE, put_block_line, put_book_head, put_message_line, put_order_line, put_shown_head,
+    put_status_line,
 };
 use pitch_fields::OutOfMemory;
 use pitch_io::Sink;
-use pitch_messages::Order;
+use pitch_messages::{Order, TradingState};
 use pitch_model::Status;
 use std::alloc::Global;
 use std::marker::Model;
@@ -127,5 +128,13 @@ impl Page {
         ensures { self.new ≡ record self.old { text = self.old.text ++ order_line order.now.id order.now } }
     {
         self.at = put_order_line(&mut self.bytes, self.at, order);
+    }
+
+    /// Adds the line of a trading status.
+    pub fn add_status(&mut self, state: &TradingState)
+        requires { length self.old.text + line_size ≤ self.old.size }
+        ensures { self.new ≡ record self.old { text = self.old.text ++ status_line state.now } }
+    {
+        self.at = put_status_line(&mut self.bytes, self.at, state);
     }
 }

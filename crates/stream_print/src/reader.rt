@@ -57,8 +57,9 @@ fn block_fault(reader: &BlockReader, ended: bool) -> Option<BlockFault>
     }
 }
 
-// What is wrong behind the whole blocks.
-fn block_trouble(reader: &BlockReader, ended: bool) -> Option<StreamTrouble>
+/// What is wrong behind the whole blocks that a reader has passed, where the stream goes on or has
+/// ended.
+pub fn block_trouble(reader: &BlockReader, ended: bool) -> Option<StreamTrouble>
     ensures { result ≡ option_map Faulty (fault_in ended reader.now.place reader.now.rest) }
 {
     match block_fault(reader, ended) {

@@ -3,14 +3,14 @@
 ghost use Rattle.std.specs.Prelude.{◌≡◌, ◌≤◌, ◌+◌, ◌++◌, length, take, OnOk, OnErr, List, ℕ};
 ghost use Rattle.std.specs.List.{flat_map};
 ghost use Rattle.feed_lines.specs.BookText.{book_head};
-ghost use Rattle.feed_lines.specs.BookText.{book_text, order_line};
+ghost use Rattle.feed_lines.specs.BookText.{book_orders, book_text, order_line, status_line};
 ghost use Rattle.world_model.specs.Printed.{fresh_text, counts_text};
 
-use feed_lines::{LINE, put_book_head, put_order_line};
+use feed_lines::{LINE, put_book_head, put_order_line, put_status_line};
 use line_arbiter::LineCount;
-use order_book::{OrderList, UnitBook};
+use order_book::{OrderList, StatusList, UnitBook};
 use pitch_fields::{OutOfMemory, put_byte, put_number, put_text};
-use pitch_messages::Order;
+use pitch_messages::{Order, TradingState};
 use std::alloc::Global;
 
 /// Appends the first bytes of a line.
@@ -60,6 +60,27 @@ fn append_orders(orders: &[Order], out: &mut Vec<u8>) -> Result<(), OutOfMemory>
     Ok(())
 }
 
+// Appends the line of a trading status.
+fn append_status(state: &TradingState, out: &mut Vec<u8>) -> Result<(), OutOfMemory>
+    ensures ok { OnOk result (out.new.items ≡ out.old.items ++ status_line state.now) }
+    ensures err { OnErr result (out.new.items ≡ out.old.items) }
+{
+    let mut line = [0u8; LINE];
+    let end = put_status_line(&mut line, 0, state);
+    append_line(&line, end, out)
+}
+
+// Appends the lines of trading statuses. After OutOfMemory some may have been appended.
+fn append_statuses(states: &[TradingState], out: &mut Vec<u8>) -> Result<(), OutOfMemory>
+    ensures ok { OnOk result (out.new.items ≡ out.old.items ++ flat_map status_line states.now) }
+    ensures behind { take (length out.old.items) out.new.items ≡ out.old.items }
+{
+    'lines: for state in states {
+        append_status(state, out)?;
+    }
+    Ok(())
+}
+
 /// Appends the text of a book. After OutOfMemory some may have been appended.
 pub(crate) fn append_book(
     alloc: Global,
@@ -69,6 +90,24 @@ pub(crate) fn append_book(
     out: &mut Vec<u8>,
 ) -> Result<(), OutOfMemory>
     ensures ok { OnOk result (out.new.items ≡ out.old.items ++ book_text unit reach book.now.book) }
+    ensures behind { take (length out.old.items) out.new.items ≡ out.old.items }
+{
+    let mut states = StatusList::make(alloc);
+    book.statuses_by_symbol(&mut states)?;
+    append_book_orders(alloc, unit, reach, book, out)?;
+    append_statuses(states.as_slice(), out)
+}
+
+// Appends the first line of a book and the lines of its orders. After OutOfMemory some may have
+// been appended.
+fn append_book_orders(
+    alloc: Global,
+    unit: u8,
+    reach: u32,
+    book: &UnitBook,
+    out: &mut Vec<u8>,
+) -> Result<(), OutOfMemory>
+    ensures ok { OnOk result (out.new.items ≡ out.old.items ++ book_orders unit reach book.now.book) }
     ensures behind { take (length out.old.items) out.new.items ≡ out.old.items }
 {
     let mut orders = OrderList::make(alloc);
