@@ -35,8 +35,8 @@ pub(crate) const PLACES: usize = 65;
 // The greatest unit of a schedule.
 const LAST_UNIT: u8 = 64;
 
-// The limits of a unit that does not begin with an `open` line.
-fn default_limits() -> Limits
+/// The limits of a unit that does not begin with an `open` line.
+pub fn default_limits() -> Limits
     ensures limits { result ≡ default_limits }
     ensures can { AreLimits result }
 {

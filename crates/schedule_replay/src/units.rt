@@ -210,7 +210,7 @@ fn run_unit<G: Gate>(
 }
 
 /// A unit's whole replay, as a gate hears of it.
-pub(crate) fn replay_work(unit: u8) -> Work {
+pub fn replay_work(unit: u8) -> Work {
     Work {
         unit,
         role: Role::Replay,

@@ -5,11 +5,11 @@ use Rattle.std.proofs.lemmas.Bool.{cond_both, and_parts}
 use Rattle.std.proofs.lemmas.Bool.Decides.{nat_tests}
 use Rattle.pitch_io.specs.declared.line.Line.{Line}
 use Rattle.pitch_text.specs.declared.verb.Verb.{Verb}
-use Rattle.pitch_text.specs.WellFormed.{IsVerb}
+use Rattle.pitch_text.specs.WellFormed.{IsVerb, IsWellFormed}
 use Rattle.pitch_text.proofs.ManyLines.{AreGiven}
 use Rattle.venue_core.specs.Losses.{is_lost}
-use Rattle.storm_plan.specs.declared.schedule.Part.{Part}
-use Rattle.storm_plan.specs.declared.schedule.Part.TheVariants.{Start, Step, End}
+use Rattle.storm_plan.specs.declared.verbs.Part.{Part}
+use Rattle.storm_plan.specs.declared.verbs.Part.TheVariants.{Start, Step, End}
 use Rattle.storm_plan.specs.Parts.{IsPart}
 use Rattle.storm_plan.specs.Parts.{part_verbs, part_by_each}
 use Rattle.storm_plan.specs.Storm.{arrival, arrives_late, tenth_verbs, step_verbs, entries_for, storm_steps, storm_entries, by_each}
@@ -46,7 +46,7 @@ step_given number unit index some few = (
   ),
 )
 
-part_given : (number unit : ℕ) (part : Part) → IsPart part → AllByRecursion IsVerb (part_verbs number part unit)
+pub part_given : (number unit : ℕ) (part : Part) → IsPart part → AllByRecursion IsVerb (part_verbs number part unit)
 part_given number unit Start small = (tt, (tt, (tt, tt)))
 part_given number unit (Step index) small = step_given number unit index small.0 small.1
 part_given number unit (End steps) small = (tt, ((omega arith, omega (arith, small)), (tt, (tt, (tt, (tt, (tt, (tt, (tt, (tt, tt))))))))))
@@ -68,3 +68,8 @@ pub storm_given : (number units steps : ℕ) → units ≤ 16 → steps ≤ 1000
 storm_given number units steps few low =
     joined _ (part_by_each number units Start) (storm_steps number units steps ++ part_by_each number units (End steps)) (units_given number units Start (omega (arith, few)) tt)
     (joined _ (storm_steps number units steps) (part_by_each number units (End steps)) (steps_given number units steps (omega (arith, few)) low) (units_given number units (End steps) (omega (arith, few)) low))
+
+-- the lines of what a unit does in a part are ones that a schedule may have
+pub part_well_formed : (unit : ℕ) (verbs : List Verb) → 1 ≤ unit → unit ≤ 16 → AllByRecursion IsVerb verbs → AllByRecursion (IsWellFormed unit) verbs
+part_well_formed unit [] low high all = tt
+part_well_formed unit (v ∷ verbs) low high all = (record { in_range = (low, omega (arith, high)); each = all.0 }, part_well_formed unit verbs low high all.1)

@@ -13,8 +13,8 @@ use Rattle.pitch_text.specs.Printing.{name_of, command_words, verb_words, spaced
 use Rattle.venue_core.specs.Losses.{is_lost}
 use Rattle.venue_core.specs.Plan.{plan_quantity, plan_price, plan_symbol, plan_order, plan_at, plan_command}
 use Rattle.venue_core.proofs.PlanEffects.{quantity_most, price_most, symbol_case}
-use Rattle.storm_plan.specs.declared.schedule.Part.{Part}
-use Rattle.storm_plan.specs.declared.schedule.Part.TheVariants.{Start, Step, End}
+use Rattle.storm_plan.specs.declared.verbs.Part.{Part}
+use Rattle.storm_plan.specs.declared.verbs.Part.TheVariants.{Start, Step, End}
 use Rattle.storm_plan.specs.Parts.{part_verbs, part_by_each}
 use Rattle.storm_plan.specs.Storm.{start_verbs, arrival, arrives_late, tenth_verbs, step_verbs, end_verbs, entries_for, storm_steps, storm_schedule, by_each}
 use Rattle.storm_plan.proofs.Storms.{lines_more}

@@ -11,8 +11,8 @@ use Rattle.pitch_text.specs.Printing.{entry_text}
 use Rattle.pitch_text.specs.WellFormed.{IsSymbol, IsOrder, IsCommand}
 use Rattle.venue_core.specs.Plan.{plan_price, plan_order, plan_at, plan_command}
 use Rattle.venue_core.proofs.PlanEffects.{quantity_most, price_most, symbol_case}
-use Rattle.storm_plan.specs.declared.schedule.Part.{Part}
-use Rattle.storm_plan.specs.declared.schedule.Part.TheVariants.{Step}
+use Rattle.storm_plan.specs.declared.verbs.Part.{Part}
+use Rattle.storm_plan.specs.declared.verbs.Part.TheVariants.{Step}
 use Rattle.storm_plan.specs.Parts.{part_verbs, part_by_each}
 use Rattle.storm_plan.specs.Storm.{entries_for, storm_steps, by_each}
 use Rattle.pitch_text.specs.Printing.{lines_text}

@@ -1,8 +1,8 @@
 -- The parts of a storm as the code goes over them. No caller needs them.
 use Rattle.std.specs.Prelude.{ℕ, ◌≤◌, List}
 use Rattle.pitch_text.specs.declared.verb.Verb.{Verb}
-use Rattle.storm_plan.specs.declared.schedule.Part.{Part}
-use Rattle.storm_plan.specs.declared.schedule.Part.TheVariants.{Start, Step, End}
+use Rattle.storm_plan.specs.declared.verbs.Part.{Part}
+use Rattle.storm_plan.specs.declared.verbs.Part.TheVariants.{Start, Step, End}
 use Rattle.storm_plan.specs.Storm.{most_steps, start_verbs, step_verbs, end_verbs, by_each}
 
 -- a part of a storm of at most so many steps, which count from 1

@@ -9,7 +9,9 @@
 mod laws;
 mod schedule;
 mod summary;
+mod verbs;
 
 pub use crate::laws::storms_are_read;
 pub use crate::schedule::generate;
 pub use crate::summary::{append_unit_line, put_storm_line, put_unit_line};
+pub use crate::verbs::{Part, append_part};

@@ -1,3 +1,4 @@
+pub mod Course
 pub mod Lines
 pub mod Naming
 pub mod Turns

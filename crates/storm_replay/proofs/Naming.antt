@@ -1,15 +1,18 @@
 -- The units that a storm's lines name.
-use Rattle.std.proofs.Common.{◌≡◌, ℕ, zero, suc, ◌+◌, ◌≤◌, ◌<◌, inl, inr, Bool, true, false, cond, eqb, List, [], ◌∷◌, ◌++◌, length, map, reverse, refl, ap, ◌∙◌, arith, length-append}
+use Rattle.std.proofs.Common.{◌≡◌, ℕ, zero, suc, ◌+◌, ◌≤◌, ◌<◌, inl, inr, Bool, true, false, cond, eqb, List, [], ◌∷◌, ◌++◌, length, map, reverse, None, refl, sym, ap, ◌∙◌, arith, length-append}
 use Rattle.std.specs.List.{enumerate_from}
 use Rattle.std.proofs.lemmas.Bool.{cond-true, cond-false, eq-eqb, ne_eqb, cases_eq, cases_lt}
-use Rattle.std.proofs.lemmas.List.{reverse-append}
+use Rattle.std.proofs.lemmas.List.{append-nil, reverse-append}
 use Rattle.pitch_text.specs.ScheduleGrammar.{schedule_entry}
 use Rattle.pitch_text.specs.declared.verb.ScheduleEntry.{ScheduleEntry}
+use Rattle.pitch_text.specs.declared.verb.Session.TheVariants.{Grp}
 use Rattle.pitch_text.specs.declared.verb.Verb.{Verb}
-use Rattle.schedule_replay.specs.Replay.{verbs_of}
+use Rattle.pitch_text.specs.declared.verb.Verb.TheVariants as verbs
+use Rattle.schedule_replay.specs.Replay.{verbs_of, default_limits, limits_at, limits_of}
 use Rattle.schedule_replay.specs.Worlds.{IsNamed}
 use Rattle.storm_plan.specs.Storm.{start_verbs, step_verbs, end_verbs, entries_for, by_each, storm_steps, storm_entries}
 use Rattle.storm_replay.specs.Summary.{storm_lines}
+use Rattle.storm_replay.specs.Units.{unit_steps, unit_course}
 
 -- ---- The verbs of a unit among entries
 unit_verbs : ℕ → List (ℕ × Verb) → List Verb
@@ -136,3 +139,81 @@ named_within number units steps unit named = within_storm number units steps uni
 
 pub each_named : (number units steps unit : ℕ) → 1 ≤ unit → unit ≤ units → IsNamed (reverse (storm_lines number units steps)) unit
 each_named number units steps unit low high = (let e = lines_count number units steps unit in let some = some_storm number units steps unit low high in omega (arith, e, some))
+
+-- ---- What a unit's lines do
+-- the verbs of a unit in the other order
+turned_last : (b : Bool) (v : Verb) (xs : List Verb) → reverse xs ++ cond b (v ∷ []) [] ≡ reverse (cond b (v ∷ xs) xs)
+turned_last true v xs = sym (reverse-append (v ∷ []) xs)
+turned_last false v xs = append-nil (reverse xs)
+
+reversed_verbs : (unit : ℕ) (es : List ScheduleEntry) → verbs_of unit (reverse es) ≡ reverse (verbs_of unit es)
+reversed_verbs unit [] = refl
+reversed_verbs unit (e ∷ es) =
+    ap (λ (l : List ScheduleEntry). verbs_of unit l) (reverse-append (e ∷ []) es)
+    ∙ verbs_joined unit (reverse es) (e ∷ [])
+    ∙ ap (λ (l : List Verb). l ++ verbs_of unit (e ∷ [])) (reversed_verbs unit es)
+    ∙ turned_last (eqb e.unit unit) e.verb (verbs_of unit es)
+
+-- a part by each unit has the part of this one alone
+none_each : (part : ℕ → List Verb) (count unit : ℕ) → count < unit → unit_verbs unit (by_each part count) ≡ []
+unfolding by_each unit_verbs
+none_each part zero unit high = refl
+none_each part (suc count) unit high =
+    unit_joined unit (by_each part count) (entries_for (suc count) (part (suc count)))
+    ∙ ap (λ (l : List Verb). l ++ unit_verbs unit (entries_for (suc count) (part (suc count)))) (none_each part count unit (omega (arith, high)))
+    ∙ none_for (suc count) unit (part (suc count)) (ne_eqb (suc count) unit (λ q. omega (arith, high, q)))
+
+own_each : (part : ℕ → List Verb) (count unit : ℕ) → 1 ≤ unit → unit ≤ count → unit_verbs unit (by_each part count) ≡ part unit
+unfolding by_each
+own_each part zero unit low high = absurd (omega (arith, low, high))
+own_each part (suc count) unit low high =
+    let before : List Verb = unit_verbs unit (by_each part count) in
+    let here : List Verb = unit_verbs unit (entries_for (suc count) (part (suc count))) in
+    unit_joined unit (by_each part count) (entries_for (suc count) (part (suc count))) ∙ elim (cases_eq unit (suc count)) [
+      | inl same ↦
+          ap (λ (l : List Verb). l ++ here) (none_each part count unit (omega (arith, same)))
+          ∙ ap (λ (u : ℕ). unit_verbs u (entries_for (suc count) (part (suc count)))) same
+          ∙ all_for (suc count) (part (suc count))
+          ∙ ap part (sym same)
+      | inr differ ↦
+          ap (λ (l : List Verb). before ++ l) (none_for (suc count) unit (part (suc count)) (ne_eqb (suc count) unit (λ q. differ (sym q))))
+          ∙ append-nil before
+          ∙ own_each part count unit low (omega (arith, high, differ))
+    ]
+
+own_steps : (number units steps unit : ℕ) → 1 ≤ unit → unit ≤ units → unit_verbs unit (storm_steps number units steps) ≡ unit_steps number unit steps
+unfolding storm_steps unit_verbs unit_steps
+own_steps number units zero unit low high = refl
+own_steps number units (suc index) unit low high =
+    unit_joined unit (storm_steps number units index) (by_each (λ u. step_verbs number u (suc index)) units)
+    ∙ ap (λ (l : List Verb). l ++ unit_verbs unit (by_each (λ u. step_verbs number u (suc index)) units)) (own_steps number units index unit low high)
+    ∙ ap (λ (l : List Verb). unit_steps number unit index ++ l) (own_each (λ u. step_verbs number u (suc index)) units unit low high)
+
+own_storm : (number units steps unit : ℕ) → 1 ≤ unit → unit ≤ units → unit_verbs unit (storm_entries number units steps) ≡ unit_course number unit steps
+own_storm number units steps unit low high =
+    let starts : List (ℕ × Verb) = by_each (λ u. start_verbs) units in
+    let middle : List (ℕ × Verb) = storm_steps number units steps in
+    let ends : List (ℕ × Verb) = by_each (λ u. end_verbs steps) units in
+    unit_joined unit starts (middle ++ ends)
+    ∙ ap (λ (l : List Verb). l ++ unit_verbs unit (middle ++ ends)) (own_each (λ u. start_verbs) units unit low high)
+    ∙ ap (λ (l : List Verb). start_verbs ++ l)
+    (unit_joined unit middle ends
+    ∙ ap (λ (l : List Verb). l ++ unit_verbs unit ends) (own_steps number units steps unit low high)
+    ∙ ap (λ (l : List Verb). unit_steps number unit steps ++ l) (own_each (λ u. end_verbs steps) units unit low high))
+
+-- all that the lines of a storm do with one of its units, newest first
+pub verbs_are : (number units steps unit : ℕ) → 1 ≤ unit → unit ≤ units → verbs_of unit (reverse (storm_lines number units steps)) ≡ reverse (unit_course number unit steps)
+verbs_are number units steps unit low high =
+    reversed_verbs unit (storm_lines number units steps)
+    ∙ ap (λ (l : List Verb). reverse l) (lines_verbs unit 1 (storm_entries number units steps) ∙ own_storm number units steps unit low high)
+
+-- no unit of a storm sets its limits
+limits_last : (done : List Verb) (v : Verb) → limits_of (done ++ v ∷ []) ≡ limits_at v
+limits_last [] v = refl
+limits_last (x ∷ []) v = refl
+limits_last (x ∷ y ∷ done) v = limits_last (y ∷ done) v
+
+pub limits_are : (number unit steps : ℕ) → limits_of (reverse (unit_course number unit steps)) ≡ default_limits
+limits_are number unit steps =
+    let rest : List Verb = verbs.Up Grp None ∷ verbs.Down Grp None ∷ (unit_steps number unit steps ++ end_verbs steps) in
+    ap (λ (l : List Verb). limits_of l) (reverse-append (verbs.Connect Grp ∷ []) rest) ∙ limits_last (reverse rest) (verbs.Connect Grp)

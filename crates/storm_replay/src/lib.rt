@@ -6,5 +6,6 @@
 #![tactic(auto)]
 
 mod running;
+mod units;
 
 pub use crate::running::storm;

@@ -8,13 +8,14 @@ ghost use Rattle.storm_plan.specs.Storm.{most_units, most_steps, storm_schedule}
 ghost use Rattle.storm_plan.specs.StormText.{storm_line};
 ghost use Rattle.storm_replay.specs.Summary.{AreInTurn, AreStormWorlds, ended_line, ended_lines, storm_text};
 
+use crate::units::run_units;
 use feed_lines::LINE;
 use pitch_fields::OutOfMemory;
 use pitch_io::Gate;
-use schedule_replay::{ReplayError, WorldList, replay};
+use schedule_replay::WorldList;
 use std::alloc::Global;
 use std::thread::Threads;
-use storm_plan::{append_unit_line, generate, put_storm_line, storms_are_read};
+use storm_plan::{append_unit_line, put_storm_line, storms_are_read};
 use world_model::World;
 
 // Appends the line that says what a storm was made of.
@@ -66,8 +67,8 @@ fn summary_of(
     Ok(text)
 }
 
-// The worlds of a storm's units, in which all lines of its schedule were done. The schedule's text
-// is dropped.
+// The worlds of a storm's units, in which all lines of its schedule were done. No text is made: each
+// unit does its verbs, and what the schedule's lines say is known by a law.
 fn worlds_of<R: Threads + Sync, G: Gate + Sync>(
     rt: &R,
     alloc: Global,
@@ -84,19 +85,13 @@ fn worlds_of<R: Threads + Sync, G: Gate + Sync>(
     ensures each { IfOk result (λ worlds. AreStormWorlds number units steps worlds.items) }
 {
     storms_are_read();
-    let mut text = Vec::new(alloc);
-    generate(number, units, steps, &mut text)?;
-    let mut worlds = WorldList::make(alloc);
-    let mut printed = Vec::new(alloc);
-    match replay(rt, alloc, &text, workers, gate, &mut worlds, &mut printed) {
-        Ok(()) => Ok(worlds),
-        Err(ReplayError::OutOfMemory) => Err(OutOfMemory),
-        Err(ReplayError::Text { .. }) => unreachable!(),
+    match run_units(rt, alloc, gate, number, units, steps, workers) {
+        Ok(worlds) => Ok(worlds),
+        Err(error) => Err(error),
     }
 }
 
-/// Makes the schedule of a storm, and does all its lines in the worlds of its units. Appends the
-/// storm's summary to `out`: a line that says what it was made of, and by rising unit a line with
+/// Does all lines of a storm's schedule in the worlds of its units. Appends the storm's summary to `out`: a line that says what it was made of, and by rising unit a line with
 /// the status of the unit's client and the orders and shares of its book. Appends the worlds to
 /// `worlds`, as `replay` does for the same schedule.
 ///

@@ -1,6 +1,6 @@
 ghost use Rattle.std.specs.Prelude.{◌≤◌};
 
-use pitch_io::FreeGate;
+use pitch_io::{FreeGate, MeetGate};
 use pitch_model::Status;
 use schedule_replay::WorldList;
 use std::alloc::Global;
@@ -84,4 +84,16 @@ fn has_ended(world: Option<&World>, n: u32, shares: u64) -> bool {
 
 fn is_current(world: &World, n: u32) -> bool {
     world.client().status() == Status::Current { n }
+}
+
+// Two units of a storm run beside one another: each waits at the gate until the other has come.
+#[test]
+fn two_units_of_a_storm_meet(rt: HostRuntime) -> Result<(), Fail> {
+    let gate = MeetGate::make();
+    let mut worlds = WorldList::make(rt.alloc());
+    let mut out = Vec::new(rt.alloc());
+    storm(&rt, rt.alloc(), 0, 2, 16, 2, &gate, &mut worlds, &mut out)?;
+    assert!(rt; out.as_slice() == STORMS[2].3);
+    assert!(rt; (gate.spent(), gate.met()) == (false, 2));
+    Ok(())
 }

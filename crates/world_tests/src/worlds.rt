@@ -67,14 +67,20 @@ fn a_gap_is_filled_by_the_proxy(rt: HostRuntime) -> Result<(), Fail> {
 }
 
 // An image that is cut off in its middle, and then a whole one.
-const CUT: &[u8] = b"1 add 1 B 10 IBM 10.00\n1 add 2 B 10 IBM 10.00\n1 flush\n1 spin open\n\
-    1 spin up all\n1 advertise\n1 spin down all\n1 tick\n1 spin up all\n1 spin down 40\n\
+const CUT: &[u8] = b"1 add 1 B 10 IBM 10.00\n1 add 2 B 10 IBM 10.00\n1 status IBM H 0\n1 flush\n\
+    1 spin open\n1 spin up all\n1 advertise\n1 spin down all\n1 tick\n1 spin up all\n1 spin down 40\n\
     1 spin cut\n1 spin open\n1 spin up all\n1 spin down all\n1 tick\n1 spin up all\n\
     1 spin down all\n";
 
+const CUT_SHOWN: &[u8] = b"book unit 1 at 3 second - orders 2\n\
+    order 1 B 10 IBM 10.0000\n\
+    order 2 B 10 IBM 10.0000\n\
+    status IBM H 0\n\
+    lines a 0/0 b 0/0 g 0/0\n";
+
 fn carries_an_image(rt: &impl Abort, alloc: Global, world: &mut World) -> Result<bool, Fail> {
     play(rt, alloc, world, CUT)?;
-    Ok(has_all(world, 1, 0, 2) && world.client().book().len() == 2)
+    Ok(is_shown(alloc, world, CUT_SHOWN)? && has_all(world, 1, 0, 3))
 }
 
 #[test]

@@ -1,0 +1,5 @@
+use Rattle.storm_replay.specs.Units.{AreGathered}
+use Rattle.storm_replay.proofs.units.gather.Given as goal
+
+abbrev pub invariant-pieces : goal.invariant-pieces
+invariant-pieces l = AreGathered l.yielded l.worlds.items
