@@ -132,7 +132,12 @@ fn run_parties<
     // where no thread can be made, the publisher comes first
     let ((followed, served), published) = join(
         rt,
-        move || run_receivers(rt, alloc, gate, course, server, client, service),
+        move || -> (
+            Result<UnitClient, OutOfMemory>,
+            Result<Server<J, R>, OutOfMemory>,
+        )
+            ensures { IfOk result.0 (λ client. FollowsOn client drill_kept (plan R.number R.unit R.count)) }
+        { run_receivers(rt, alloc, gate, course, server, client, service) },
         move || publish(rt, alloc, gate, course, writer, publisher),
     );
     finish(alloc, course, published, served, followed)
