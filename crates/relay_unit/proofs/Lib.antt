@@ -1,0 +1,9 @@
+pub mod Laying
+pub mod Sending
+pub mod Growing
+pub mod Along
+pub mod Merging
+pub mod Counted
+pub mod Speaking
+pub mod Units
+pub mod Examples

@@ -1,0 +1,31 @@
+use Rattle.std.proofs.Common.{◌≡◌, ℕ, List, ap, sym, ◌∙◌}
+use Rattle.pitch_messages.specs.Room.{Roomy}
+use Rattle.pitch_model.specs.Image.{image}
+use Rattle.pitch_model.specs.Heard.{heard}
+use Rattle.pitch_model.specs.declared.change.Change.{Change}
+use Rattle.pitch_model.specs.declared.change.ImageEnd.TheVariants as end
+use Rattle.pitch_model.proofs.Images.{image_book}
+use Rattle.relay_unit.proofs.Growing.{sends_taken, sends_untaken}
+use Rattle.relay_unit.proofs.hearing.hear_item.Goals as goal
+
+pub returns-in_ok-image_of-clause-keeps : goal.returns-in_ok-image_of-clause-keeps
+returns-in_ok-image_of-clause-keeps c = λ V H E T venue K. c.in_ok-change.ensures.keeps image V (λ s. image_book V s venue.bytes) H E T venue.honest K
+
+pub returns-else-taken-clause-keeps : goal.returns-else-taken-clause-keeps
+returns-else-taken-clause-keeps c = λ V H E T venue K. c.in_ok-change.ensures.keeps image V (λ s. image_book V s venue.bytes) H E T venue.honest K
+
+pub returns-in_ok-image_of-clause-sends : goal.returns-in_ok-image_of-clause-sends
+returns-in_ok-image_of-clause-sends c = λ V H E T venue K before e.
+    let K' = c.in_ok-change.ensures.keeps image V (λ s. image_book V s venue.bytes) H E T venue.honest K in
+    let T' = c.in_ok-change.ensures.tracks H E T in
+    let is : c.in_ok-change.change.image ≡ end.Taken = c.is_taken-taken.ensures.taken c.if-taken.true in
+    sends_taken H V E c.args.item.now c.book.result.now.book c.write.result c.args.sent.now.items c.hear_into.new.applied.items c.push.new.self.items c.image_of.new.out.items
+    (sym (ap (λ (x : Change). x.image) (c.in_ok-change.ensures.change H E T)) ∙ is) (ap (λ (l : Roomy (List ℕ)). l.items) (c.in_ok-change.ensures.taken is)) c.in_ok-push.ensures.ok c.write.ensures.written c.in_ok-image_of.ensures.ok
+    (c.book.ensures.book H (heard c.args.item.now E) V T' K') before e
+
+pub returns-else-taken-clause-sends : goal.returns-else-taken-clause-sends
+returns-else-taken-clause-sends c = λ V H E T venue K before e.
+    let not : c.in_ok-change.change.image ≡ end.Taken → ⊥ = c.is_taken-taken.ensures.other c.if-taken.false in
+    sends_untaken H V E c.args.item.now c.args.sent.now.items c.hear_into.new.applied.items
+    (λ is. not (ap (λ (x : Change). x.image) (c.in_ok-change.ensures.change H E T) ∙ is))
+    (c.in_ok-change.ensures.venues not image V H E T venue.honest K) before e

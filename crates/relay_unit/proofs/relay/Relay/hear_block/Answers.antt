@@ -1,0 +1,47 @@
+use Rattle.std.proofs.Common.{◌+◌, ◌++◌, List, ◌∷◌, drop, sym, ap, ◌∙◌, subst, arith}
+use Rattle.unit_packets.specs.Packing.{packed, bytes_in}
+use Rattle.pitch_model.specs.History.{Raw, Ticked}
+use Rattle.client_core.specs.Tracks.{Tracks}
+use Rattle.relay_unit.specs.Hearing.{heard_merged, relay_heard}
+use Rattle.relay_unit.specs.Relayed.{relayed}
+use Rattle.relay_unit.proofs.Counted.{counted, added_is, block_sends}
+use Rattle.relay_unit.proofs.Speaking.{venue_ticked, venue_before}
+use Rattle.relay_unit.proofs.relay.Relay.hear_block.Goals as goal
+
+pub returns-then-more-self-clause-outrun : goal.returns-then-more-self-clause-outrun
+returns-then-more-self-clause-outrun c = λ V H E S v.
+    let block = c.args.block.now in
+    let sent = S.sent_is V (venue_before H V block E v) in
+    let all = counted c.args.self.now.sent c.len-more.result (relayed H V E) (relayed H V (relay_heard H block E)) c.hear_merged.new.sent.items (block_sends H V block E c.truncate.new.self.items c.hear_merged.new.sent.items c.truncate.ensures.items
+    (c.in_ok-change.ensures.sends V H E S.tracks (venue_ticked H V block E v) (S.keeps V (venue_before H V block E v)))) sent c.len-more.ensures.length in
+    let more = c.if-more-self.true in
+    (sent, all, omega (arith, all, more))
+
+pub returns-clause-stands : goal.returns-clause-stands
+returns-clause-stands c = λ H E S.
+    let block = c.args.block.now in
+    let F = heard_merged block E in
+    let tracks = c.in_ok-change.ensures.tracks H E S.tracks in
+    let fits = c.if-more-self.false in
+    let within = S.within in
+    record {
+      tracks = subst (λ ask. Tracks c.tick.new.self H (Ticked ask ∷ F)) (c.tick.ensures.asks H F tracks) (c.tick.ensures.tracks H F tracks);
+      keeps = λ V v. c.tick.ensures.keeps V (c.in_ok-change.ensures.keeps V H E S.tracks (venue_ticked H V block E v) (S.keeps V (venue_before H V block E v)));
+      sent_is = λ V v. counted c.args.self.now.sent c.len-more.result (relayed H V E) (relayed H V (relay_heard H block E)) c.hear_merged.new.sent.items (block_sends H V block E c.truncate.new.self.items c.hear_merged.new.sent.items c.truncate.ensures.items
+          (c.in_ok-change.ensures.sends V H E S.tracks (venue_ticked H V block E v) (S.keeps V (venue_before H V block E v))))
+          (S.sent_is V (venue_before H V block E v)) c.len-more.ensures.length;
+      within = omega (arith, fits, within);
+      goes_on = S.goes_on;
+    }
+
+pub returns-clause-sends : goal.returns-clause-sends
+returns-clause-sends c = λ V H E S v.
+    let block = c.args.block.now in
+    let sent = S.sent_is V (venue_before H V block E v) in
+    let all : List Raw = relayed H V (relay_heard H block E) in
+    let unit = c.args.self.now.unit in
+    c.in_ok-pack.ensures.ok
+    ∙ ap (λ ds. bytes_in c.args.out.now.items ++ ds)
+    (ap (packed unit (c.args.self.now.sent + 1)) (c.raws.ensures ∙ sym (added_is c.args.self.now.sent (relayed H V E) all c.hear_merged.new.sent.items (block_sends H V block E c.truncate.new.self.items c.hear_merged.new.sent.items c.truncate.ensures.items
+    (c.in_ok-change.ensures.sends V H E S.tracks (venue_ticked H V block E v) (S.keeps V (venue_before H V block E v)))) sent))
+    ∙ ap (λ n. packed unit (n + 1) (drop n all)) sent)

@@ -1,0 +1,12 @@
+use Rattle.std.proofs.Common.{[], take, refl, arith}
+use Rattle.relay_unit.proofs.Counted.{first_sent}
+use Rattle.relay_unit.proofs.relay.Relay.make.Goals as goal
+
+pub returns-clause-stands : goal.returns-clause-stands
+returns-clause-stands c = record {
+  tracks = c.in_ok-hear.ensures.tracks c.args.limit [] c.in_ok-client.ensures.tracks;
+  keeps = λ V venue. c.in_ok-hear.ensures.keeps (λ W s. take s W) V (λ s. refl) c.args.limit [] c.in_ok-client.ensures.tracks (tt, tt) (c.in_ok-client.ensures.keeps V);
+  sent_is = λ V venue. first_sent c.args.limit V;
+  within = omega arith;
+  goes_on = refl;
+}

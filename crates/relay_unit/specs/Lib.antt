@@ -1,0 +1,7 @@
+pub mod Hearing
+pub mod Relayed
+pub mod RelayText
+pub mod Changing
+pub mod Sending
+pub mod Stands
+pub mod Relays

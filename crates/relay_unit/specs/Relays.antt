@@ -1,0 +1,30 @@
+-- What the relays of all units stand for, once some blocks were heard. Blocks stand newest first.
+use Rattle.std.specs.Prelude.{◌≡◌, ℕ, List, Option, Some, None, slice_get}
+use Rattle.unit_packets.specs.Blocks.{Block}
+use Rattle.pitch_model.specs.History.{Entry}
+use Rattle.relay_unit.specs.Hearing.{first_heard, relay_history}
+use Rattle.relay_unit.specs.Stands.{Stands, relay_unit_of}
+use Rattle.relay_unit.specs.declared.relay.Relay.{Relay}
+
+-- how many messages each relay holds at most, and the place of each unit at its number
+pub record Relays : Type 0 where
+  pub limit : ℕ
+  pub relays : List (Option Relay)
+
+-- the relay sends under this unit, and is where the history brings one
+abbrev pub StandsFor : Relay → ℕ → ℕ → List Entry → Type 0
+StandsFor relay H unit E = (relay_unit_of relay ≡ unit) × Stands relay H E
+
+-- there is a relay, and it stands for this history
+abbrev pub StandsAt : ℕ → ℕ → List Entry → Option Relay → Type 0
+StandsAt H unit E None = ⊥
+StandsAt H unit E (Some relay) = StandsFor relay H unit E
+
+-- a unit's relay is where the unit's blocks bring it; where there is none, no block named the unit
+abbrev pub IsRelay : ℕ → List Block → ℕ → Option Relay → Type 0
+IsRelay H before unit None = relay_history H unit before ≡ first_heard
+IsRelay H before unit (Some relay) = StandsFor relay H unit (relay_history H unit before)
+
+-- each unit's relay heard its blocks
+pub record HaveRelayed (r : Relays) (before : List Block) : Type 0 where
+  pub each : (unit : ℕ) (relay : Option Relay) → slice_get r.relays unit ≡ Some relay → IsRelay r.limit before unit relay

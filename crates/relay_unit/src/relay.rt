@@ -1,0 +1,160 @@
+ghost use Rattle.std.specs.Prelude.{◌≤◌};
+ghost use Rattle.pitch_fields.specs.Limits.{last_sequence};
+
+use crate::hearing::hear_merged;
+use client_core::{Change, Item, UnitClient};
+use order_book::UnitBook;
+use pitch_fields::OutOfMemory;
+use pitch_messages::RawList;
+use std::alloc::Global;
+use unit_packets::{BlockView, DatagramList, LAST_SEQUENCE, pack};
+
+/// Why a relay does not go on.
+#[derive(Clone, Copy, Debug, PartialEq, Eq)]
+pub enum RelayError {
+    /// What was sent and what a block adds have no sequences any more.
+    SequencesSpent {
+        /// How many messages were sent.
+        sent: u32,
+        /// How many the block adds.
+        more: u64,
+    },
+    /// Memory ran out.
+    OutOfMemory,
+}
+
+impl From<OutOfMemory> for RelayError {
+    ghost use Rattle.std.specs.Prelude.{◌≡◌};
+    ghost use Rattle.relay_unit.specs.declared.relay.RelayError.TheVariants as errors;
+
+    ghost from_gives = { λ _ error. error ≡ errors.OutOfMemory };
+
+    fn from(_: OutOfMemory) -> RelayError {
+        RelayError::OutOfMemory
+    }
+}
+
+/// A relay of one unit. It follows the unit, and sends messages of its own, under its own sequences
+/// from 1, which leave the book that it follows.
+///
+/// Once `hear` was refused the relay is spent: it gives that answer from then on.
+#[derive(Drop)]
+pub struct Relay {
+    pub(crate) alloc: Global,
+    pub(crate) unit: u8,
+    pub(crate) client: UnitClient,
+    // what the last block added
+    pub(crate) added: RawList,
+    // how many messages were sent
+    pub(crate) sent: u32,
+    pub(crate) spent: Option<RelayError>,
+    ghost within: { sent ≤ last_sequence },
+}
+
+impl Relay {
+    ghost use Rattle.std.specs.Prelude.{◌≡◌, ◌≤◌, ◌++◌, ℕ, List, OnOk, OnErr, IfOk, IfErr, Err};
+    ghost use Rattle.pitch_fields.specs.Limits.{last_sequence, most_held};
+    ghost use Rattle.unit_packets.specs.Packing.{bytes_in};
+    ghost use Rattle.pitch_model.specs.History.{Entry, Raw as RawBytes};
+    ghost use Rattle.relay_unit.specs.Changing.{merged_change};
+    ghost use Rattle.relay_unit.specs.Hearing.{first_heard, relay_heard};
+    ghost use Rattle.relay_unit.specs.RelayText.{IsVenue};
+    ghost use Rattle.relay_unit.specs.Relayed.{relayed_count, relayed_datagrams};
+    ghost use Rattle.relay_unit.specs.Stands.{Stands, GoesOn, IsSpent, IsOutrun, relay_unit_of, followed_book};
+
+    /// A relay that has sent nothing, holds at most `limit` messages and counts its Spin Server as
+    /// up.
+    pub fn make(alloc: Global, unit: u8, limit: u32) -> Result<Relay, OutOfMemory>
+        requires { (1 ≤ limit) × (limit ≤ most_held) }
+        ensures stands { IfOk result (λ relay. Stands relay limit first_heard) }
+        ensures unit { IfOk result (λ relay. relay_unit_of relay ≡ unit) }
+    {
+        let mut client = UnitClient::make(alloc, limit)?;
+        client.hear(&Item::SpinUp)?;
+        Ok(Relay {
+            alloc,
+            unit,
+            client,
+            added: RawList::make(alloc),
+            sent: 0,
+            spent: None,
+        })
+    }
+
+    // Hears a block, and appends the datagrams of what it adds.
+    fn hear_block(
+        &mut self,
+        block: &BlockView<'_>,
+        out: &mut DatagramList,
+    ) -> Result<Change, RelayError>
+        ensures stands { OnOk result ((H : ℕ) (E : List Entry) → Stands self.old H E → Stands self.new H (relay_heard H block.now E)) }
+        ensures sends { OnOk result ((V : List RawBytes) (H : ℕ) (E : List Entry) → Stands self.old H E → IsVenue V (relay_heard H block.now E)
+            → bytes_in out.new.items ≡ bytes_in out.old.items ++ relayed_datagrams H V (relay_unit_of self.old) E (relay_heard H block.now E)) }
+        ensures change { IfOk result (λ change. (H : ℕ) (E : List Entry) → Stands self.old H E → change ≡ merged_change H E block.now) }
+        ensures outrun { IfErr result (λ error. (V : List RawBytes) (H : ℕ) (E : List Entry) → Stands self.old H E → IsVenue V (relay_heard H block.now E)
+            → IsOutrun error (relayed_count H V E) (relayed_count H V (relay_heard H block.now E))) }
+        ensures unit { relay_unit_of self.new ≡ relay_unit_of self.old }
+        ensures spent { self.new.spent ≡ self.old.spent }
+        ensures out { OnErr result (out.new.items ≡ out.old.items) }
+    {
+        self.added.truncate(0);
+        let change = hear_merged(self.alloc, &mut self.client, block, &mut self.added)?;
+        self.client.tick();
+        let more = self.added.len() as u64;
+        if more > (LAST_SEQUENCE - self.sent) as u64 {
+            return Err(RelayError::SequencesSpent {
+                sent: self.sent,
+                more,
+            });
+        }
+        pack(self.alloc, self.unit, self.sent + 1, self.added.raws(), out)?;
+        self.sent += more as u32;
+        Ok(change)
+    }
+
+    /// Hears a block, and appends the datagrams of what it adds.
+    ///
+    /// A block with a sequence is one of a line. One without tells what a Spin Server says, or has
+    /// messages of an image. Where an image is taken, what is sent is a Unit Clear and the image of
+    /// the book as it is then; else it is the messages that were applied.
+    pub fn hear(
+        &mut self,
+        block: &BlockView<'_>,
+        out: &mut DatagramList,
+    ) -> Result<Change, RelayError>
+        // Whatever history the relay stood for, it now stands for that history and this block.
+        ensures stands { OnOk result ((H : ℕ) (E : List Entry) → Stands self.old H E → Stands self.new H (relay_heard H block.now E)) }
+        // Of any venue of which that history speaks, what is appended is what it adds to what is
+        // relayed, under the sequences behind those sent.
+        ensures sends { OnOk result ((V : List RawBytes) (H : ℕ) (E : List Entry) → Stands self.old H E → IsVenue V (relay_heard H block.now E)
+            → bytes_in out.new.items ≡ bytes_in out.old.items ++ relayed_datagrams H V (relay_unit_of self.old) E (relay_heard H block.now E)) }
+        // The answer is what the block changes: the status before and after it, how many messages
+        // were fresh and overflowed the hold, and the last end of an image.
+        ensures change { IfOk result (λ change. (H : ℕ) (E : List Entry) → Stands self.old H E → change ≡ merged_change H E block.now) }
+        // The sequences are spent only where what is relayed then outruns the last one.
+        ensures outrun { IfErr result (λ error. (V : List RawBytes) (H : ℕ) (E : List Entry) → Stands self.old H E → IsVenue V (relay_heard H block.now E)
+            → IsOutrun error (relayed_count H V E) (relayed_count H V (relay_heard H block.now E))) }
+        ensures unit { relay_unit_of self.new ≡ relay_unit_of self.old }
+        ensures out { OnErr result (out.new.items ≡ out.old.items) }
+        // Once it was refused, the relay gives that answer again.
+        ensures ready { OnOk result (GoesOn self.old) }
+        ensures spent { IfErr result (IsSpent self.new) }
+        ensures again { (error : RelayError) → IsSpent self.old error → result ≡ Err error }
+    {
+        if let Some(error) = self.spent {
+            return Err(error);
+        }
+        let heard = self.hear_block(block, out);
+        if let Err(error) = heard {
+            self.spent = Some(error);
+        }
+        heard
+    }
+
+    /// The book that the relay follows.
+    pub fn book(&self) -> &UnitBook
+        ensures { result.now.book ≡ followed_book self.now }
+    {
+        self.client.book()
+    }
+}

@@ -1,0 +1,4 @@
+pub mod Joining
+pub mod Adding
+pub mod Piecing
+pub mod Ending

@@ -1,0 +1,75 @@
+-- How a stream ends, whose text rests on the venues.
+use Rattle.std.specs.Prelude.{◌≡◌, ℕ, ◌++◌, List, ◌∷◌, take, reverse, Option, None, Some, Result, Ok, Err}
+use Rattle.std.specs.Io.KnownBytes.{Consumes}
+use Rattle.unit_packets.specs.Blocks.{Block}
+use Rattle.unit_packets.specs.Cutting.{blocks_of}
+use Rattle.unit_packets.specs.declared.header.BlockFault.{BlockFault}
+use Rattle.pitch_model.specs.History.{Raw}
+use Rattle.stream_print.specs.Inputs.{trouble_of, ReadsAll, Has}
+use Rattle.stream_print.specs.Told.{Told}
+use Rattle.stream_print.specs.declared.carrier.Carrier.TheVariants.{Bare}
+use Rattle.stream_print.specs.declared.failure.StreamTrouble.{StreamTrouble}
+use Rattle.stream_print.specs.declared.failure.StreamTrouble.TheVariants.{Faulty}
+use Rattle.venue_stream.specs.Forms.{AreVenuesOf, Outruns}
+use Rattle.venue_stream.specs.declared.form.VenueForm.{VenueForm}
+use Rattle.venue_stream.specs.Sent.{WritesText, WritesPrefix}
+use Rattle.venue_stream.specs.declared.failure.VenueFailure.{VenueFailure}
+use Rattle.venue_stream.specs.declared.failure.VenueFailure.TheVariants.{BadInput, SequencesSpent, Read, Write, OutOfMemory}
+
+-- the whole stream was read and has no fault, and its text was written
+pub record WritesAll (form : VenueForm) (most : ℕ) (input out : Told) : Type 0 where
+  pub bytes : List ℕ
+  pub read : ReadsAll input bytes
+  pub sound : trouble_of Bare most bytes ≡ None
+  pub wrote : WritesText form out.old out.new (blocks_of bytes)
+
+-- the stream has this trouble, and the texts of the whole blocks before were written
+pub record Refuses (form : VenueForm) (most : ℕ) (trouble : StreamTrouble) (input out : Told) : Type 0 where
+  pub bytes : List ℕ
+  pub has : Has input.old bytes
+  pub trouble_is : trouble_of Bare most bytes ≡ Some trouble
+  pub wrote : WritesText form out.old out.new (blocks_of (take most bytes))
+
+-- a block that was read outruns the last sequence of its unit's relay, for every family of venues
+-- of which the blocks so far speak; the texts of those before were written
+pub record Spends (form : VenueForm) (input out : Told) : Type 0 where
+  pub bytes : List ℕ
+  pub read : Consumes input.old input.new bytes
+  pub done : List Block
+  pub block : Block
+  pub left : List Block
+  pub blocks_are : blocks_of bytes ≡ done ++ (block ∷ left)
+  pub wrote : WritesText form out.old out.new done
+  pub spent : (Vs : ℕ → List Raw) → AreVenuesOf form Vs (block ∷ reverse done) → Outruns form Vs (reverse done) block
+
+-- the source failed after some bytes, and the texts of their whole blocks were written
+pub record WritesSome (form : VenueForm) (input out : Told) : Type 0 where
+  pub bytes : List ℕ
+  pub read : Consumes input.old input.new bytes
+  pub wrote : WritesText form out.old out.new (blocks_of bytes)
+
+-- some bytes were read, and a prefix of the texts of their blocks was written
+pub record WritesFirst (form : VenueForm) (input out : Told) : Type 0 where
+  pub bytes : List ℕ
+  pub read : Consumes input.old input.new bytes
+  pub wrote : WritesPrefix form out.old out.new (blocks_of bytes)
+
+-- how a stream ends
+abbrev pub VenueEnds : VenueForm → ℕ → Result (Unit {0}) VenueFailure → (input out : Told) → Type 0
+VenueEnds form most (Ok done) input out = WritesAll form most input out
+VenueEnds form most (Err (BadInput trouble)) input out = Refuses form most trouble input out
+VenueEnds form most (Err SequencesSpent) input out = Spends form input out
+VenueEnds form most (Err Read) input out = WritesSome form input out
+VenueEnds form most (Err Write) input out = WritesFirst form input out
+VenueEnds form most (Err OutOfMemory) input out = WritesFirst form input out
+
+-- what a stream whose end has this fault is answered
+abbrev pub ended : Option BlockFault → Result (Unit {0}) VenueFailure
+ended None = Ok tt
+ended (Some fault) = Err (BadInput (Faulty fault))
+
+-- some family of venues, of which the blocks speak, for whose messages no block outruns the
+-- last sequence
+abbrev pub NeverOutruns : VenueForm → List Block → Type 0
+NeverOutruns form blocks = (Vs : ℕ → List Raw) × AreVenuesOf form Vs (reverse blocks)
+    × ((before : List Block) (block : Block) (left : List Block) → blocks ≡ before ++ (block ∷ left) → Outruns form Vs (reverse before) block → ⊥)
