@@ -1,4 +1,4 @@
-use order_book::{OrderList, UnitBook};
+use order_book::{OrderList, StatusList, UnitBook};
 use pitch_fields::{Price, Side, Symbol};
 use pitch_messages::{Order, Raw};
 use std::alloc::Global;
@@ -36,6 +36,13 @@ const DELETE: &[u8] = b"\x0e\x29\0\0\0\0\x05\0\0\0\0\0\0\0";
 const CLEAR: &[u8] = b"\x06\x97\0\0\0\0";
 
 const SHORT_ADD: &[u8] = b"\x06\x21\0\0\0\0";
+
+// IBM halted, and then not; and a status of another symbol, with reserved bytes that are no spaces.
+const HALT: &[u8] = b"\x12\x31\0\0\0\0IBM     H0  ";
+
+const TRADE: &[u8] = b"\x12\x31\0\0\0\0IBM     TN  ";
+
+const OTHER_HALT: &[u8] = b"\x13\x31\x07\0\0\0AAPL    HR\0\xff\x09";
 
 // The book that messages leave, in ample memory.
 fn book_after(rt: &impl Abort, alloc: Global, raws: &[&[u8]]) -> UnitBook {
@@ -110,5 +117,26 @@ fn a_copy_and_its_orders_by_id(rt: HostRuntime) {
     assert!(rt; orders.len() == 2);
     for (order, id) in orders.as_slice().iter().zip([3, 5]) {
         assert!(rt; order.id == id);
+    }
+}
+
+#[test]
+fn statuses_stay_and_come_by_symbol(rt: HostRuntime) {
+    let ibm = Symbol::from_six(*b"IBM   ");
+    let aapl = Symbol::from_six(*b"AAPL  ");
+    let book = book_after(&rt, rt.alloc(), &[ADD, HALT, CLEAR]);
+    assert!(rt; book.len() == 0);
+    assert!(rt; book.status(ibm) == Some((0x48, 0x30)));
+    assert!(rt; book.status(aapl).is_none());
+    let more = book_after(&rt, rt.alloc(), &[HALT, OTHER_HALT, TRADE]);
+    let copy = more.copy().expect(&rt, "memory");
+    let mut states = StatusList::make(rt.alloc());
+    assert!(rt; book.statuses_by_symbol(&mut states).is_ok());
+    assert!(rt; states.len() == 1);
+    assert!(rt; copy.statuses_by_symbol(&mut states).is_ok());
+    let wanted = [(ibm, b'H', b'0'), (aapl, b'H', b'R'), (ibm, b'T', b'N')];
+    assert!(rt; states.len() == 3);
+    for (state, want) in states.as_slice().iter().zip(wanted) {
+        assert!(rt; (state.symbol, state.halt, state.sho) == want);
     }
 }

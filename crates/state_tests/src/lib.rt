@@ -1,8 +1,11 @@
-//! Worked examples of what is kept for a unit: books, clients and venues.
+//! Worked examples of what is kept for a unit: books, clients and venues, and of audits of what
+//! was printed of it.
 //!
 //! There are tests alone here, in a crate of their own for the reason that `wire_tests` gives.
 #![tactic(auto)]
 
+#[cfg(test)]
+mod audits;
 #[cfg(test)]
 mod books;
 #[cfg(test)]

@@ -8,7 +8,7 @@ use unit_packets::DatagramList;
 use venue_core::{Venue, VenueError, lost, plan_command};
 
 // The commands of a session, and what the venue answers to each.
-const SESSION: [(&str, Result<u32, VenueError>); 30] = [
+const SESSION: [(&str, Result<u32, VenueError>); 32] = [
     ("add 1 B 100 IBM 10.00", Ok(1)),
     ("add 1 B 1 IBM 1", Err(VenueError::KnownId)),
     ("exec 1 101 9", TOO_MUCH),
@@ -40,8 +40,10 @@ const SESSION: [(&str, Result<u32, VenueError>); 30] = [
     ("break 2", Ok(10)),
     ("time 34200", Ok(11)),
     ("delete 3", Ok(12)),
-    ("end", Ok(13)),
+    ("status IBM H 0", Ok(13)),
+    ("end", Ok(14)),
     ("delete 1", Err(VenueError::Ended)),
+    ("status IBM T 0", Err(VenueError::Ended)),
 ];
 
 const TOO_MUCH: Result<u32, VenueError> = Err(VenueError::TooMuch {
@@ -88,11 +90,11 @@ fn play(
     Ok(())
 }
 
-// What the session leaves: 13 messages, the last of which ends it, a second and no order.
+// What the session leaves: 14 messages, the last of which ends it, a second and no order.
 fn is_over(venue: &Venue) -> bool {
     let book = venue.book();
     let last = venue.last_raw().map(Raw::kind);
-    (venue.next_sequence(), book.len(), book.second(), last) == (14, 0, Some(34_200), Some(0x2d))
+    (venue.next_sequence(), book.len(), book.second(), last) == (15, 0, Some(34_200), Some(0x2d))
 }
 
 #[test]

@@ -1,0 +1,206 @@
+use pitch_fields::OutOfMemory;
+use run_audit::{Audit, AuditError, AuditFault, FoundGap, InputError, Verdict, audit_input};
+use std::alloc::{AllocError, Global};
+use std::test::*;
+use unit_packets::{BlockError, BlockFault, view_block};
+
+// The time 34200 of unit 1, as its first message and as its second.
+const FIRST: &[u8] = b"\x0e\0\x01\x01\x01\0\0\0\x06\x20\x98\x85\0\0";
+
+const SECOND: &[u8] = b"\x0e\0\x01\x01\x02\0\0\0\x06\x20\x98\x85\0\0";
+
+// An order and a trading status, as its second message and its third.
+const ORDER_AND_STATUS: &[u8] =
+    b"\x34\0\x02\x01\x02\0\0\0\x1a\x22\0\0\0\0\x05\0\0\0\0\0\0\0B\x64\0IBM   \xe8\x03\x01\x12\x31\0\0\0\0IBM     H0  ";
+
+// A block without messages, whose sequence does not matter.
+const HEARTBEAT: &[u8] = b"\x08\0\0\x01\x09\0\0\0";
+
+// Reports, and what is said of them where only the first message was logged.
+const REPORTS: [(&str, Verdict); 9] = [
+    (
+        "book unit 1 at 1 second 34200 orders 0\n",
+        Verdict::Yes { books: 1 },
+    ),
+    (
+        "book unit 1 at 1 second 34200 orders 0",
+        Verdict::Yes { books: 1 },
+    ),
+    (
+        "book unit 1 at 1 second 34200 orders 1\n",
+        Verdict::No { line: 1 },
+    ),
+    (
+        "book unit 1 at 2 second 34200 orders 0\n",
+        Verdict::No { line: 1 },
+    ),
+    (
+        "book unit 1 at 1 second 34200 orders 0\norder 5 B 100 IBM 10.0000\n",
+        Verdict::No { line: 2 },
+    ),
+    ("", Verdict::Yes { books: 0 }),
+    (
+        "\nnone\nbook unit 7 at 0 second - orders 0\nbook unit 1 at 0 second - orders 0\n",
+        Verdict::Yes { books: 2 },
+    ),
+    (
+        "book unit 1 at 1 second 34200 orders 0\nx\nbook unit 01 at 0 second - orders 0\n",
+        Verdict::No { line: 3 },
+    ),
+    ("\nstatus IBM H 0\n", Verdict::No { line: 2 }),
+];
+
+// Reports, and what is said of them where all three messages were logged.
+const LONG_REPORTS: [(&str, Verdict); 6] = [
+    (
+        "book unit 1 at 3 second 34200 orders 1\norder 5 B 100 IBM 10.0000\nstatus IBM H 0\nbook unit 1 at 2 second 34200 orders 1\norder 5 B 100 IBM 10.0000\nbook unit 1 at 3 second 34200 orders 1\norder 5 B 100 IBM 10.0000\nstatus IBM H 0\n",
+        Verdict::Yes { books: 3 },
+    ),
+    (
+        "current 3\nbook unit 1 at 3 second 34200 orders 1\norder 5 B 101 IBM 10.0000\nstatus IBM H 0\n",
+        Verdict::No { line: 3 },
+    ),
+    (
+        "book unit 1 at 3 second 34200 orders 1\norder 5 B 100 IBM 10.0000\nstatus IBM T 0\n",
+        Verdict::No { line: 3 },
+    ),
+    (
+        "book unit 1 at 3 second 34200 orders 1\norder 5 B 100 IBM 10.0000\n",
+        Verdict::No { line: 3 },
+    ),
+    (
+        "book unit 1 at 3 second 34200 orders 1",
+        Verdict::No { line: 2 },
+    ),
+    (
+        "book unit 1 at 1 second 34200 orders 0\norder 5 B 100 IBM 10.0000\n",
+        Verdict::No { line: 2 },
+    ),
+];
+
+// Logs blocks one after the other, up to the first that is refused.
+fn log_of(alloc: Global, blocks: &[&[u8]]) -> Result<(Audit, Option<AuditError>), OutOfMemory> {
+    let mut audit = Audit::make(alloc);
+    for bytes in blocks {
+        if let Ok(view) = view_block(bytes) {
+            let block = view.to_block(alloc)?;
+            if let Err(error) = audit.log(&block) {
+                return Ok((audit, Some(error)));
+            }
+        }
+    }
+    Ok((audit, None))
+}
+
+// Whether each report has its verdict.
+fn are_judged(audit: &Audit, reports: &[(&str, Verdict)]) -> bool {
+    reports.iter().all(|(text, verdict)| {
+        text.len() < 1000 && audit.report(text.as_bytes()) == Ok(*verdict)
+    })
+}
+
+#[test]
+fn reports_of_a_log_of_one_block(rt: HostRuntime) -> Result<(), Fail> {
+    let (audit, error) = log_of(rt.alloc(), &[FIRST])?;
+    assert!(rt; error.is_none());
+    assert!(rt; are_judged(&audit, &REPORTS));
+    Ok(())
+}
+
+#[test]
+fn reports_with_orders_and_statuses(rt: HostRuntime) -> Result<(), Fail> {
+    let (audit, error) = log_of(rt.alloc(), &[FIRST, HEARTBEAT, ORDER_AND_STATUS])?;
+    assert!(rt; error.is_none());
+    assert!(rt; are_judged(&audit, &LONG_REPORTS));
+    Ok(())
+}
+
+#[test]
+fn a_gap_is_not_logged(rt: HostRuntime) -> Result<(), Fail> {
+    let (audit, error) = log_of(rt.alloc(), &[SECOND])?;
+    assert!(rt;
+        error
+            == Some(AuditError::Gap {
+                sequence: 2,
+                next: 1
+            })
+    );
+    let none = "book unit 1 at 0 second - orders 0\n";
+    assert!(rt; are_judged(&audit, &[(none, Verdict::Yes { books: 1 })]));
+    let (audit, error) = log_of(rt.alloc(), &[FIRST, FIRST])?;
+    assert!(rt;
+        error
+            == Some(AuditError::Gap {
+                sequence: 1,
+                next: 2
+            })
+    );
+    assert!(rt; are_judged(&audit, &REPORTS));
+    Ok(())
+}
+
+// An input: how many bytes its log is said to have, its log and its report.
+fn input_of(alloc: Global, size: u8, log: &[u8], text: &str) -> Result<Vec<u8>, AllocError> {
+    let mut bytes = Vec::new(alloc);
+    bytes.extend_from_slice(&[size, 0, 0, 0, 0, 0, 0, 0])?;
+    bytes.extend_from_slice(log)?;
+    bytes.extend_from_slice(text.as_bytes())?;
+    Ok(bytes)
+}
+
+#[test]
+fn inputs_are_judged(rt: HostRuntime) -> Result<(), Fail> {
+    let alloc = rt.alloc();
+    let text = "book unit 1 at 1 second 34200 orders 0";
+    let input = input_of(alloc, 14, FIRST, text)?;
+    assert!(rt; input.len() < 1000);
+    assert!(rt; audit_input(alloc, &input) == Ok(Verdict::Yes { books: 1 }));
+    Ok(())
+}
+
+// Inputs by the size of their log, the log, and what is wrong with them.
+const FAULTY: [(u8, &[u8], AuditFault); 4] = [
+    (
+        14,
+        SECOND,
+        AuditFault::Gap {
+            place: 8,
+            gap: FoundGap {
+                sequence: 2,
+                next: 1,
+            },
+        },
+    ),
+    (15, FIRST, AuditFault::CutLog { has: 14, needs: 15 }),
+    (
+        13,
+        FIRST,
+        AuditFault::Faulty(BlockFault {
+            place: 8,
+            error: BlockError::Truncated { has: 13, needs: 14 },
+        }),
+    ),
+    // a log that is cut is judged before its blocks
+    (
+        255,
+        SECOND,
+        AuditFault::CutLog {
+            has: 14,
+            needs: 255,
+        },
+    ),
+];
+
+#[test]
+fn faulty_inputs_are_refused(rt: HostRuntime) -> Result<(), Fail> {
+    let alloc = rt.alloc();
+    for (size, log, fault) in FAULTY {
+        let input = input_of(alloc, size, log, "")?;
+        assert!(rt; input.len() < 1000);
+        assert!(rt; audit_input(alloc, &input) == Err(InputError::Fault(fault)));
+    }
+    let seven = [0; 7];
+    let fault = AuditFault::NoSize { has: 7 };
+    assert!(rt; audit_input(alloc, &seven) == Err(InputError::Fault(fault)));
+    Ok(())
+}
