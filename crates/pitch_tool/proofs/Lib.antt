@@ -1,4 +1,7 @@
+pub mod Audits
 pub mod Completing
 pub mod Demos
+pub mod Failing
 pub mod Stopping
 pub mod Storms
+pub mod Texts

@@ -3,12 +3,13 @@ use Rattle.std.proofs.Common.{◌≡◌, ℕ, List, Option, subst}
 use Rattle.pitch_words.specs.Forms.{IsForm}
 use Rattle.pitch_words.specs.declared.form.Form.{Form}
 use Rattle.pitch_words.proofs.Exact.{at_most_one}
-use Rattle.stream_print.specs.Told.{Told, between}
+use Rattle.stream_print.specs.Told.{Told, TakesAtMost, between}
 use Rattle.stream_print.proofs.Taking.{stops_none}
-use Rattle.pitch_tool.specs.Jobs.{job_of, StopsInTime}
+use Rattle.pitch_tool.specs.Jobs.{job_of, most_taken, StopsInTime}
 use Rattle.pitch_tool.specs.Program.{StopsAtTrouble}
 use Rattle.pitch_tool.specs.declared.job.Job.{Job}
-use Rattle.pitch_tool.specs.declared.job.Job.TheVariants.{Stream, Text, Storm, Drill, Demo}
+use Rattle.pitch_tool.specs.declared.job.Job.TheVariants.{Stream, Text, Storm, Drill, Demo, Venues, Audit}
+use Rattle.stream_print.specs.declared.carrier.Carrier.TheVariants.{Bare}
 
 -- where nothing is taken, any job stops in time
 untaken : (job : Job) (left : Option (List ℕ)) → StopsInTime job (between left left)
@@ -17,6 +18,8 @@ untaken (Text form) left = tt
 untaken (Storm number units steps workers) left = tt
 untaken (Drill number units count) left = tt
 untaken (Demo number count) left = tt
+untaken (Venues form) left = stops_none Bare left
+untaken Audit left = tt
 
 pub stops_untaken : (words : List (List ℕ)) (left : Option (List ℕ)) → StopsAtTrouble words (between left left)
 stops_untaken words left = λ form is. untaken (job_of form) left
@@ -25,3 +28,7 @@ stops_untaken words left = λ form is. untaken (job_of form) left
 pub stops_by : (words : List (List ℕ)) (form : Form) (job : Job) (input : Told) → IsForm words form → job ≡ job_of form → StopsInTime job input → StopsAtTrouble words input
 stops_by words form job input is same stops = λ other is_other.
     subst (λ (f : Form). StopsInTime (job_of f) input) (at_most_one words form other is is_other) (subst (λ (j : Job). StopsInTime j input) same stops)
+
+pub reads_by : (words : List (List ℕ)) (form : Form) (job : Job) (input : Told) → IsForm words form → job ≡ job_of form → TakesAtMost (most_taken job) input → (other : Form) → IsForm words other → TakesAtMost (most_taken (job_of other)) input
+reads_by words form job input is same reads = λ other is_other.
+    subst (λ (f : Form). TakesAtMost (most_taken (job_of f)) input) (at_most_one words form other is is_other) (subst (λ (j : Job). TakesAtMost (most_taken j) input) same reads)

@@ -1,8 +1,11 @@
+pub mod AuditForm
 pub mod DemoForm
 pub mod Devices
 pub mod DrillForm
 pub mod Jobs
 pub mod Program
+pub mod Reading
 pub mod Statuses
 pub mod StormForm
 pub mod TextForms
+pub mod VenueStreams

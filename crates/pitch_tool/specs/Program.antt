@@ -6,6 +6,7 @@ use Rattle.pitch_words.specs.declared.form.Form.{Form}
 use Rattle.unit_packets.specs.Causes.{fault_text}
 use Rattle.pcap_feed.specs.Causes.{capture_fault_text}
 use Rattle.command_feed.specs.Causes.{command_error_text}
+use Rattle.run_audit.specs.Causes.{audit_fault_text}
 use Rattle.schedule_replay.specs.Causes.{replay_error_text}
 use Rattle.stream_print.specs.Told.{Told, IsUntouched}
 use Rattle.stream_print.specs.declared.failure.StreamTrouble.TheVariants.{Faulty, BadCapture, TooLong}
@@ -14,13 +15,13 @@ use Rattle.pitch_tool.specs.Jobs.{job_of, uses_net, JobEnds, StopsInTime}
 use Rattle.pitch_tool.specs.declared.failure.Failure.{Failure}
 use Rattle.pitch_tool.specs.declared.failure.Failure.TheVariants as ending
 use Rattle.pitch_tool.specs.declared.failure.Trouble.{Trouble}
-use Rattle.pitch_tool.specs.declared.failure.Trouble.TheVariants.{Blocks, LongText, Commands, Schedule}
+use Rattle.pitch_tool.specs.declared.failure.Trouble.TheVariants.{Blocks, LongText, Commands, Schedule, SequencesSpent, Audit}
 use Rattle.pitch_tool.specs.declared.status.ExitStatus.{ExitStatus}
 use Rattle.pitch_tool.specs.declared.status.ExitStatus.TheVariants.{Done, Usage, BadInput, ReadFault, WriteFault, OutOfMemory, NetFault}
 
 -- ---- What is said on the error line
 abbrev pub usage_text : List ℕ
-usage_text = codes "pitch: usage: follow | show | pack | replay | storm | drill | demo\n"
+usage_text = codes "pitch: usage: follow | show | pack | replay | storm | drill | demo | relay | audit\n"
 
 abbrev pub trouble_text : Trouble → List ℕ
 trouble_text (Blocks (Faulty fault)) = codes "pitch: bad input at " ++ (fault_text fault ++ codes "\n")
@@ -29,6 +30,8 @@ trouble_text (Blocks TooLong) = codes "pitch: input is longer than 1073741824 by
 trouble_text LongText = codes "pitch: input is longer than 67108864 bytes\n"
 trouble_text (Commands error) = codes "pitch: " ++ (command_error_text error ++ codes "\n")
 trouble_text (Schedule error) = codes "pitch: " ++ (replay_error_text error ++ codes "\n")
+trouble_text SequencesSpent = codes "pitch: refused: sequences-spent\n"
+trouble_text (Audit fault) = codes "pitch: bad input at " ++ (audit_fault_text fault ++ codes "\n")
 
 abbrev pub read_text : List ℕ
 read_text = codes "pitch: read fault\n"

@@ -116,13 +116,6 @@ TextEnds form most (Err Net) input out = ⊥
 TextEnds form most (Err OutOfMemory) input out = IsUntouched out
 
 -- ---- Its parts
--- why a text was not read whole
-abbrev pub IsUnread : ℕ → Told → Failure → Type 0
-IsUnread most input (BadInput LongText) = (text : List ℕ) × Has input.old text × (most < length text)
-IsUnread most input Read = (bytes : List ℕ) × Consumes input.old input.new bytes
-IsUnread most input OutOfMemory = Unit {0}
-IsUnread most input _ = ⊥
-
 -- why nothing was made of a text
 abbrev pub IsUnmade : Result (List ℕ) Trouble → Failure → Type 0
 IsUnmade answer (BadInput trouble) = answer ≡ Err trouble

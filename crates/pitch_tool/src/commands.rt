@@ -1,5 +1,6 @@
 //! The commands that make bytes of a text or of numbers, each in a module of its own.
 
+pub mod audit;
 pub mod demo;
 pub mod drill;
 pub mod pack;

@@ -1,8 +1,10 @@
 use command_feed::CommandError;
 use net_edge::DemoError;
 use pitch_fields::OutOfMemory;
+use run_audit::{AuditFault, InputError};
 use schedule_replay::ReplayError;
 use stream_print::{PutFailed, StreamFailure, StreamTrouble};
+use venue_stream::VenueFailure;
 
 /// What is wrong with an input.
 #[derive(Clone, Copy, Debug, PartialEq, Eq)]
@@ -15,6 +17,10 @@ pub enum Trouble {
     Commands(CommandError),
     /// A schedule's text has a fault.
     Schedule(ReplayError),
+    /// What a unit's relay sends has no sequences any more.
+    SequencesSpent,
+    /// The input of an audit has a fault.
+    Audit(AuditFault),
 }
 
 /// Why the program ends before its whole text.
@@ -72,6 +78,23 @@ impl From<StreamFailure> for Failure {
     }
 }
 
+impl From<VenueFailure> for Failure {
+    ghost use Rattle.std.specs.Prelude.{◌≡◌};
+    ghost use Rattle.pitch_tool.specs.VenueStreams.{of_venues};
+
+    ghost from_gives = { λ ended failure. failure ≡ of_venues ended };
+
+    fn from(failure: VenueFailure) -> Failure {
+        match failure {
+            VenueFailure::BadInput(trouble) => Failure::BadInput(Trouble::Blocks(trouble)),
+            VenueFailure::SequencesSpent => Failure::BadInput(Trouble::SequencesSpent),
+            VenueFailure::Read => Failure::Read,
+            VenueFailure::Write => Failure::Write,
+            VenueFailure::OutOfMemory => Failure::OutOfMemory,
+        }
+    }
+}
+
 impl From<CommandError> for Failure {
     ghost use Rattle.std.specs.Prelude.{◌≡◌};
     ghost use Rattle.pitch_tool.specs.TextForms.{of_commands};
@@ -96,6 +119,20 @@ impl From<ReplayError> for Failure {
         match error {
             ReplayError::OutOfMemory => Failure::OutOfMemory,
             error => Failure::BadInput(Trouble::Schedule(error)),
+        }
+    }
+}
+
+impl From<InputError> for Failure {
+    ghost use Rattle.std.specs.Prelude.{◌≡◌};
+    ghost use Rattle.pitch_tool.specs.AuditForm.{of_audit};
+
+    ghost from_gives = { λ error failure. failure ≡ of_audit error };
+
+    fn from(error: InputError) -> Failure {
+        match error {
+            InputError::Fault(fault) => Failure::BadInput(Trouble::Audit(fault)),
+            InputError::OutOfMemory => Failure::OutOfMemory,
         }
     }
 }

@@ -4,6 +4,7 @@ ghost use Rattle.pitch_tool.specs.Jobs.{job_of as the_job, CanDo};
 
 use pitch_words::Form;
 use stream_print::{Carrier, StreamForm};
+use venue_stream::VenueForm;
 
 /// What is made of a whole text.
 #[derive(Clone, Copy, Debug, PartialEq, Eq)]
@@ -21,6 +22,8 @@ pub enum Job {
     Stream(Carrier, StreamForm),
     /// A whole text is read, and what it makes is written.
     Text(TextForm),
+    /// A log and a report are read, and whether they agree is written.
+    Audit,
     /// Nothing is read, and the summary of a storm is written.
     Storm {
         number: u64,
@@ -38,6 +41,10 @@ pub enum Job {
     Demo {
         number: u64,
         count: u32,
+    },
+    /// A stream of blocks is read, and a text that rests on the venues is written as it comes.
+    Venues {
+        form: VenueForm,
     },
 }
 
@@ -76,5 +83,9 @@ pub fn job_of(form: Form) -> Job
             count,
         },
         Form::Demo { number, count } => Job::Demo { number, count },
+        Form::Relay { hold } => Job::Venues {
+            form: VenueForm::Relay { hold },
+        },
+        Form::Audit => Job::Audit,
     }
 }

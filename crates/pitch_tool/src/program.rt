@@ -8,6 +8,7 @@ ghost use Rattle.pitch_tool.specs.Devices.{device, wires};
 ghost use Rattle.pitch_tool.specs.Jobs.{CanDo, JobEnds, Judges, StopsInTime, most_taken, uses_net, job_of as the_job};
 ghost use Rattle.pitch_tool.specs.Program.{memory_text, trouble_text, IsNoForm, IsNoDemo, RunEnds, Closes, HasCauses, StopsAtTrouble, IsWhole, IsRefusal};
 
+use crate::commands::audit::print_audit;
 use crate::commands::demo::print_demo;
 use crate::commands::drill::print_drill;
 use crate::commands::storm::print_storm;
@@ -23,6 +24,7 @@ use std::sync::Wait;
 use std::thread::Threads;
 use std::time::Clock;
 use stream_print::{StreamTrouble, print_stream, put_all};
+use venue_stream::write_stream;
 
 // Does a job.
 #[tactic(auto, using(crate::proofs::Storms::takes_none, crate::proofs::Storms::no_read_fault))]
@@ -51,6 +53,7 @@ fn do_job<R: Threads + Wait + Clock + Sync, I: Source, O: Sink, N: Net, G: Gate 
             Ok(())
         }
         Job::Text(form) => print_text(rt, alloc, form, input, out, gate),
+        Job::Audit => print_audit(alloc, input, out),
         Job::Storm {
             number,
             units,
@@ -63,6 +66,10 @@ fn do_job<R: Threads + Wait + Clock + Sync, I: Source, O: Sink, N: Net, G: Gate 
             count,
         } => print_drill(rt, alloc, number, units, count, out, gate),
         Job::Demo { number, count } => print_demo(alloc, number, count, out, net),
+        Job::Venues { form } => {
+            write_stream(alloc, form, input, out)?;
+            Ok(())
+        }
     }
 }
 
@@ -126,6 +133,11 @@ fn trouble_line(alloc: Global, trouble: Trouble) -> Result<String, OutOfMemory>
         )?),
         Trouble::Commands(error) => Ok(format!(in alloc; "pitch: {error}\n")?),
         Trouble::Schedule(error) => Ok(format!(in alloc; "pitch: {error}\n")?),
+        Trouble::SequencesSpent => Ok(String::from_str(
+            alloc,
+            "pitch: refused: sequences-spent\n",
+        )?),
+        Trouble::Audit(fault) => Ok(format!(in alloc; "pitch: bad input at {fault}\n")?),
     }
 }
 
@@ -156,7 +168,7 @@ fn close<R: Threads + Wait + Clock + Sync, I: Source, O: Sink, E: Sink, N: Net, 
         Err(Failure::Usage) => {
             say(
                 err,
-                b"pitch: usage: follow | show | pack | replay | storm | drill | demo\n",
+                b"pitch: usage: follow | show | pack | replay | storm | drill | demo | relay | audit\n",
             );
             ExitStatus::Usage
         }
@@ -203,6 +215,9 @@ fn close<R: Threads + Wait + Clock + Sync, I: Source, O: Sink, E: Sink, N: Net, 
 ///   read whole. `pack` reads venue commands, and writes their datagrams, back to back, once the
 ///   venue has accepted all. `replay` reads a schedule, and writes what each of its lines does in
 ///   the world of its unit: venue, lines, servers and client.
+/// - `audit` reads at most 1,073,741,824 bytes, a log with a printed report, and writes nothing before
+///   it has read them all: then the line that says whether each printed book is what the log's
+///   messages leave, or which line of the report is the first that is wrong.
 /// - `storm` reads nothing: it makes a schedule, does all its lines in the worlds of its units, and
 ///   writes where each unit ended. Its units and those of `replay` run in at most K pieces of work,
 ///   which `rt` may run beside one another, and `gate` is told of each unit; what is written does
@@ -212,15 +227,17 @@ fn close<R: Threads + Wait + Clock + Sync, I: Source, O: Sink, E: Sink, N: Net, 
 ///   is told of each step.
 /// - `demo` reads nothing either: it runs both ends of unit 1 over `net`, and writes where its
 ///   client ended.
+/// - `relay` reads a stream as `follow` does, in which blocks of Spin Servers stand among those of
+///   the lines, and writes for each block the datagrams that it adds to its unit's relay.
 ///
 /// At `Done` the whole text was written and nothing was said. At `Usage` nothing was read or
 /// written, and the net was left as it was. At `BadInput` the texts of the whole blocks before the
-/// trouble were written, and no book; by `pack` and `replay` nothing was, and `storm`, `drill` and
-/// `demo` never end so. At `ReadFault` the source had failed, at `WriteFault` the sink, and at
+/// trouble were written, and no book; by `pack`, `replay` and `audit` nothing was, and `storm`,
+/// `drill` and `demo` never end so. At `ReadFault` the source had failed, at `WriteFault` the sink, and at
 /// `NetFault` the net; where memory did not run out, a net that failed ends the demo so. At
-/// `OutOfMemory` memory ran out: `follow` and `show` may have written a prefix of the text, the
-/// others wrote nothing. Whatever the status, `follow` and `show` take less than a piece of 65,536
-/// bytes behind the byte that shows a fault.
+/// `OutOfMemory` memory ran out: `follow`, `show` and `relay` may have written a prefix of the text,
+/// the others wrote nothing. Whatever the status, these three take less than a piece of 65,536 bytes
+/// behind the byte that shows a fault.
 pub fn pitch<R: Threads + Wait + Clock + Sync, I: Source, O: Sink, E: Sink, N: Net, G: Gate + Sync>(
     rt: &R,
     alloc: Global,

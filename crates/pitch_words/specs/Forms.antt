@@ -9,7 +9,7 @@ use Rattle.long_options.specs.Apps.{program}
 use Rattle.long_options.specs.Found.{Options, found_options, given_options}
 use Rattle.pitch_words.specs.Numbers.{IsGivenNumber, IsGivenOr, IsGivenMaybe}
 use Rattle.pitch_words.specs.declared.form.Form.{Form}
-use Rattle.pitch_words.specs.declared.form.Form.TheVariants.{Follow, FollowCapture, Show, Pack, Replay, Storm, Drill, Demo}
+use Rattle.pitch_words.specs.declared.form.Form.TheVariants.{Follow, FollowCapture, Show, Pack, Replay, Storm, Drill, Demo, Relay, Audit}
 
 -- `follow [--hold H]`, and `follow --pcap [--port P] [--hold H]`
 abbrev pub follow : Described
@@ -39,9 +39,17 @@ drill = (codes "drill", must_have (codes "number") ∷ must_have (codes "units")
 abbrev pub demo : Described
 demo = (codes "demo", must_have (codes "number") ∷ must_have (codes "count") ∷ [])
 
+-- `relay [--hold H]`
+abbrev pub relay : Described
+relay = (codes "relay", may_have (codes "hold") ∷ [])
+
+-- `audit`
+abbrev pub audit : Described
+audit = (codes "audit", [])
+
 -- the program's commands
 abbrev pub commands : List Described
-commands = follow ∷ show ∷ pack ∷ replay ∷ storm ∷ drill ∷ demo ∷ []
+commands = follow ∷ show ∷ pack ∷ replay ∷ storm ∷ drill ∷ demo ∷ relay ∷ audit ∷ []
 
 -- the command that a form gives
 abbrev pub command_of : Form → Described
@@ -53,11 +61,13 @@ command_of (Replay workers) = replay
 command_of (Storm number units steps workers) = storm
 command_of (Drill number units count) = drill
 command_of (Demo number count) = demo
+command_of (Relay hold) = relay
+command_of Audit = audit
 
 -- the options have the form's numbers: H is 1 to 65,536, and 4,096 where it isn't given; P is 0 to
 -- 65,535, and is given only where `--pcap` is; U is 1 to 255; S is any number of 64 bits, N 1 to 16
 -- and M 1 to 10,000; K is 1 to 64, and 1 where it isn't given; C is 1 to 100,000, and
--- of a demo 1 to 1,000; `show` has none
+-- of a demo 1 to 1,000; `show` and `audit` have none
 abbrev pub HasNumbers : Options → Form → Type 0
 HasNumbers options (Follow hold) =
     (options.has (codes "pcap") ≡ false) × IsGivenMaybe 0 65535 (options.value (codes "port")) None × IsGivenOr default_hold 1 most_held (options.value (codes "hold")) hold
@@ -73,6 +83,8 @@ HasNumbers options (Drill number units count) =
     IsGivenNumber 0 (2 ^ 64 - 1) (options.value (codes "number")) number × IsGivenNumber 1 16 (options.value (codes "units")) units
     × IsGivenNumber 1 100000 (options.value (codes "count")) count
 HasNumbers options (Demo number count) = IsGivenNumber 0 (2 ^ 64 - 1) (options.value (codes "number")) number × IsGivenNumber 1 1000 (options.value (codes "count")) count
+HasNumbers options (Relay hold) = IsGivenOr default_hold 1 most_held (options.value (codes "hold")) hold
+HasNumbers options Audit = Unit {0}
 
 -- the form of `follow` with this switch and these numbers, if they are one
 abbrev pub follow_form : Bool → Option ℕ → ℕ → Option Form
@@ -94,6 +106,8 @@ IsInRange (Replay workers) = (1 ≤ workers) × (workers ≤ 64)
 IsInRange (Storm number units steps workers) = (1 ≤ units × units ≤ 16) × (1 ≤ steps × steps ≤ 10000) × (1 ≤ workers × workers ≤ 64)
 IsInRange (Drill number units count) = (1 ≤ units × units ≤ 16) × (1 ≤ count × count ≤ 100000)
 IsInRange (Demo number count) = (1 ≤ count) × (count ≤ 1000)
+IsInRange (Relay hold) = (1 ≤ hold) × (hold ≤ most_held)
+IsInRange Audit = Unit {0}
 
 -- the program as clap's builders make it
 abbrev pub pitch : App

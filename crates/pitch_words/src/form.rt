@@ -55,4 +55,12 @@ pub enum Form {
         /// How many messages its venue accepts: 1 to 1,000.
         count: u32,
     },
+    /// `relay [--hold H]`: read a merged stream of line blocks and Spin Server blocks, and write
+    /// the datagrams of a relay for each unit.
+    Relay {
+        /// How many messages a unit's hold has room for: 1 to 65,536.
+        hold: u32,
+    },
+    /// `audit`: read a log and a printed report, and say whether they agree.
+    Audit,
 }

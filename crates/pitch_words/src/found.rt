@@ -190,6 +190,18 @@ fn demo(matches: &ArgMatches) -> Option<Form>
     })
 }
 
+// `relay [--hold H]`
+fn relay(matches: &ArgMatches) -> Option<Form>
+    ensures form { MatchOption result ((form : Form) → ¬ HasForm (Some (codes "relay", rows_of (found_of matches.now))) form)
+        (HasForm (Some (codes "relay", rows_of (found_of matches.now)))) }
+    ensures range { IfSome result IsInRange }
+{
+    let places = given_or(matches, "hold", u64::from(DEFAULT_HOLD), 1, 65536)?;
+    Some(Form::Relay {
+        hold: places as u32,
+    })
+}
+
 // The form of the command of this name.
 fn form_in(name: &str, matches: &ArgMatches) -> Option<Form>
     ensures form { MatchOption result ((form : Form) → ¬ HasForm (Some (name.now, rows_of (found_of matches.now))) form)
@@ -204,6 +216,8 @@ fn form_in(name: &str, matches: &ArgMatches) -> Option<Form>
         "storm" => storm(matches),
         "drill" => drill(matches),
         "demo" => demo(matches),
+        "relay" => relay(matches),
+        "audit" => Some(Form::Audit),
         _ => None,
     }
 }

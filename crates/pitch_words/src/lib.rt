@@ -12,6 +12,7 @@
 //! | `storm --number S --units N --steps M [--workers K]` | S is below 2^64, N is 1 to 16, M is 1 to 10,000, K is 1 to 64 | 1 |
 //! | `drill --number S --units N --count C` | S and N as above, C is 1 to 100,000 | |
 //! | `demo --number S --count C` | S as above, C is 1 to 1,000 | |
+//! | `relay [--hold H]` | H as above | 4,096 |
 //!
 //! The first word is a command's name. The options follow in any order, each at most once, as
 //! `--name value` or `--name=value`; those in brackets may be left out. A value is 1 to 20 digits

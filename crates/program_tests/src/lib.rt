@@ -5,6 +5,8 @@
 #![tactic(auto)]
 
 #[cfg(test)]
+mod audits;
+#[cfg(test)]
 mod captures;
 #[cfg(test)]
 mod demos;
@@ -18,6 +20,8 @@ mod live;
 mod nets;
 #[cfg(test)]
 mod packs;
+#[cfg(test)]
+mod relays;
 #[cfg(test)]
 mod runs;
 #[cfg(test)]

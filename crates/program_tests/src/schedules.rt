@@ -419,7 +419,37 @@ const IMAGE_ALONE: (&[u8], &str) = (
     9 1 carried 67; current 1\n",
 );
 
-static SCHEDULES: [(&[u8], &str); 11] = [
+// A halt comes by an image alone, and a book shows it after its orders.
+const IMAGE_OF_A_STATUS: (&[u8], &str) = (
+    b"1 add 1 B 10 IBM 10.00\n\
+    1 status IBM H 0\n\
+    1 flush\n\
+    1 spin open\n\
+    1 spin up all\n\
+    1 advertise\n\
+    1 spin down all\n\
+    1 tick\n\
+    1 spin up all\n\
+    1 spin down all\n\
+    1 show\n",
+    "1 1 accepted 1; silent\n\
+    2 1 accepted 2; silent\n\
+    3 1 sent 1; silent\n\
+    4 1 opened; silent\n\
+    5 1 carried 30; silent\n\
+    6 1 advertised 2; silent\n\
+    7 1 carried 25; behind 0 of 2\n\
+    8 1 asked spin 2; behind 0 of 2\n\
+    9 1 carried 14; behind 0 of 2\n\
+    10 1 carried 85; current 2\n\
+    11 1 shown; current 2\n\
+    book unit 1 at 2 second - orders 1\n\
+    order 1 B 10 IBM 10.0000\n\
+    status IBM H 0\n\
+    lines a 0/0 b 0/0 g 0/0\n",
+);
+
+static SCHEDULES: [(&[u8], &str); 12] = [
     OUT_OF_ORDER,
     ON_BOTH_LINES,
     REFUSED,
@@ -431,6 +461,7 @@ static SCHEDULES: [(&[u8], &str); 11] = [
     IMAGE_STALE,
     ID_USED_AGAIN,
     IMAGE_ALONE,
+    IMAGE_OF_A_STATUS,
 ];
 
 // Whether each schedule has its text, where at most `piece` bytes come at once.

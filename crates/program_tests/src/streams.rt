@@ -36,6 +36,17 @@ const HIDDEN: &[u8] = b"\x4a\x00\x02\x01\x01\x00\x00\x00\
     \x40\xe2\x01\x00\x00\x00\x00\x00\x00CBOE\
     \x1a\x22\x00\x00\x00\x00\x03\x00\x00\x00\x00\x00\x00\x00B\x07\x00IBM   \xe8\x03\x01";
 
+// At sequence 5 of unit 1: IBM is halted.
+const HALT: &[u8] = b"\x1a\x00\x01\x01\x05\x00\x00\x00\
+    \x12\x31\x00\x00\x00\x00IBM     H0  ";
+
+// Two statuses of IBM, one of AAPL between them, and a Unit Clear, in one block of unit 1. The one
+// between has a space, a byte that is no printing one, other reserved bytes and a byte more.
+const HALTS: &[u8] = b"\x45\x00\x04\x01\x01\x00\x00\x00\
+    \x12\x31\x00\x00\x00\x00IBM     H0  \
+    \x13\x31\x07\x00\x00\x00AAPL     \xff\x00\x01\x02\
+    \x12\x31\x00\x00\x00\x00IBM     Q1  \x06\x97\x00\x00\x00\x00";
+
 // A block with a byte more than its messages.
 const SPARE: &[u8] = b"\x09\x00\x00\x01\x01\x00\x00\x00\x00";
 
@@ -48,7 +59,7 @@ pub(crate) const DELETED_TEXT: &str = "block 1 unit 1 first 1 count 1; current 1
     book unit 1 at 3 second 34200 orders 0\n";
 
 // The blocks of a stream, and what is printed of it.
-static STREAMS: [(&[&[u8]], &str); 10] = [
+static STREAMS: [(&[&[u8]], &str); 11] = [
     (&[], ""),
     (
         &[b"\x08\x00\x00\x01\x01\x00\x00\x00"],
@@ -82,6 +93,13 @@ static STREAMS: [(&[&[u8]], &str); 10] = [
         book unit 1 at 2 second - orders 2\n\
         order 3 B 7 IBM 10.0000\n\
         order 9 S 50 ABCDEFGH 12.3456 hidden mpid=CBOE\n",
+    ),
+    (
+        &[HALTS],
+        "block 1 unit 1 first 1 count 4; current 4\n\
+        book unit 1 at 4 second - orders 0\n\
+        status AAPL \\x20 \\xff\n\
+        status IBM Q 1\n",
     ),
     (
         &[b"\x0e\x00\x01\x01\xfe\xff\xff\xff\x06\x20\x98\x85\x00\x00"],
@@ -165,7 +183,7 @@ const TRADE: &[u8] = b"\x39\x00\x02\x02\x09\x00\x00\x00\
     \x40\xe2\x01\x00\x00\x00\x00\x00\x11\x00\x00\x00\x00\x00\x00\x00\x06\x2d\x02\x00\x00\x00";
 
 // The blocks of a stream, and what `show` prints of it.
-static SHOWN: [(&[&[u8]], &str); 6] = [
+static SHOWN: [(&[&[u8]], &str); 7] = [
     (&[], ""),
     (
         &[TIME, b"\x0b\x00\x01\x01\x02\x00\x00\x00\x03\x99\x07", BEAT],
@@ -204,6 +222,11 @@ static SHOWN: [(&[&[u8]], &str); 6] = [
         block 2 unit 2 first 9 count 2\n\
         9 trade-expanded offset=1 id=4 side=S quantity=5 symbol=GAMMADLT price=12.3456 execution=17\n\
         10 end offset=2\n",
+    ),
+    (
+        &[HALT],
+        "block 1 unit 1 first 5 count 1\n\
+        5 trading-status offset=0 symbol=IBM halt=H sho=0\n",
     ),
 ];
 
@@ -285,7 +308,8 @@ fn words_say_how_many_are_held(rt: HostRuntime) -> Result<(), Fail> {
 
 #[test]
 fn words_that_are_no_form_leave_the_input(rt: HostRuntime) -> Result<(), Fail> {
-    let usage = "pitch: usage: follow | show | pack | replay | storm | drill | demo\n";
+    let usage =
+        "pitch: usage: follow | show | pack | replay | storm | drill | demo | relay | audit\n";
     for line in ["", "follow --", "follow --hold 0", "help", "followed"] {
         let mut outcome = run(&rt, rt.alloc(), line, &[TIME, ADD], 65536)?;
         assert!(rt; outcome.is(ExitStatus::Usage, b"", usage));

@@ -4,7 +4,9 @@ use std::alloc::Global;
 use std::test::*;
 
 // Words, which single spaces part, and their form.
-static FORMS: [(&str, Form); 23] = [
+static FORMS: [(&str, Form); 26] = [
+    ("relay", Form::Relay { hold: 4096 }),
+    ("relay --hold=2", Form::Relay { hold: 2 }),
     ("follow", Form::Follow { hold: 4096 }),
     ("follow --hold 2", Form::Follow { hold: 2 }),
     ("follow --hold=2", Form::Follow { hold: 2 }),
@@ -99,10 +101,11 @@ static FORMS: [(&str, Form); 23] = [
             count: 1,
         },
     ),
+    ("audit", Form::Audit),
 ];
 
 // Words that are no form.
-static REFUSED: [&str; 86] = [
+static REFUSED: [&str; 89] = [
     "follow --hold 0",
     "follow --hold 65537",
     "follow --hold=000000000000000000005",
@@ -137,6 +140,9 @@ static REFUSED: [&str; 86] = [
     "--hold 2 follow",
     "--",
     "-- follow",
+    "audit x",
+    "audit --",
+    "audit --hold 2",
     "pack",
     "pack --unit",
     "pack --unit 0",

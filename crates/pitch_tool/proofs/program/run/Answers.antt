@@ -3,7 +3,7 @@ use Rattle.std.specs.Prelude.{MatchOption, Option, List, ℕ}
 use Rattle.pitch_words.specs.Forms.{IsForm}
 use Rattle.pitch_words.specs.declared.form.Form.{Form}
 use Rattle.stream_print.specs.Told.{told}
-use Rattle.pitch_tool.proofs.Stopping.{stops_untaken, stops_by}
+use Rattle.pitch_tool.proofs.Stopping.{stops_untaken, stops_by, reads_by}
 use Rattle.pitch_tool.proofs.program.run.Goals as goal
 
 pub returns-in-None-clause-runs : goal.returns-in-None-clause-runs
@@ -23,3 +23,10 @@ returns-in-Some-clause-stops g c =
     stops_by words c.in-Some.form c.job_of.result (told g.I.Source.left c.args.input.now c.do_job.new.input)
     (subst (λ (answer : Option Form). MatchOption answer ((form : Form) → IsForm words form → ⊥) (IsForm words)) c.in-Some.is c.in_ok-form.ensures.form)
     c.job_of.ensures.job c.do_job.ensures.stops
+
+pub returns-in-Some-clause-reads : goal.returns-in-Some-clause-reads
+returns-in-Some-clause-reads g c =
+    let words : List (List ℕ) = map string_bytes c.args.words.now in
+    reads_by words c.in-Some.form c.job_of.result (told g.I.Source.left c.args.input.now c.do_job.new.input)
+    (subst (λ (answer : Option Form). MatchOption answer ((form : Form) → IsForm words form → ⊥) (IsForm words)) c.in-Some.is c.in_ok-form.ensures.form)
+    c.job_of.ensures.job c.do_job.ensures.reads
