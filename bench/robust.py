@@ -10,11 +10,13 @@ PROGRAM is the path of the built program: `crates/pitch/out/pitch` after `./pitc
     spaced    the same with the ids k * 2^32, which share their 32 low bits
     random    the same with ids without an order, to compare with the three above
     one       one order is modified 10,000,000 times
+    rising    400,000 symbols get a trading status each, in the order of their names
+    falling   the same from the last name to the first
 
 Each stream is written to the program's standard input piece by piece, and is never held whole, neither here nor there. Each is run at
 its tenth as well. For each stream a line says the processor time of the program (user and system, the least of R rounds), its peak of
-memory, and how many times the processor time of the tenth that is. The number of orders in the book that it printed is compared with
-what the stream leaves. The exit status is 0 where all of them are right.
+memory, and how many times the processor time of the tenth that is. The number of orders and statuses in the book that it printed is
+compared with what the stream leaves. The exit status is 0 where all of them are right.
 
 Python 3, the standard library alone.
 """
@@ -46,6 +48,23 @@ def modify(order_id, quantity):
     return struct.pack("<BBIQHHB", 19, 0x28, 0, order_id, quantity, 1234, 1)
 
 
+def status(number):
+    """A Trading Status Message, of the symbol that is so far on in the order of the names."""
+    name = f"{number:08d}".encode()
+    return struct.pack("<BBI8sBB2s", 18, 0x31, 0, name, ord("H"), ord("0"), b"  ")
+
+
+def statuses(number_of):
+    """A stream of so many statuses, of symbols whose numbers are those of a function; it leaves them all."""
+
+    def stream(count):
+        for start in range(0, count, MOST):
+            places = range(start, min(start + MOST, count))
+            yield block(start + 1, [status(number_of(k, count)) for k in places])
+
+    return stream, lambda count: count
+
+
 def adds(id_of):
     """A stream that adds so many orders, whose ids are those of a function; it leaves them all."""
 
@@ -74,20 +93,24 @@ STREAMS = {
     "spaced": (1_000_000, *adds(lambda k: k << 32)),
     "random": (1_000_000, *adds(lambda k: k * 0x9E3779B97F4A7C15 & MASK)),
     "one": (10_000_000, modifications, lambda count: 1),
+    "rising": (400_000, *statuses(lambda k, count: k)),
+    "falling": (400_000, *statuses(lambda k, count: count - 1 - k)),
 }
 
 
-def orders_of(text):
-    """The number of orders in the head of the only book that was printed, or None."""
+def left_in(text):
+    """The number of orders and statuses in the only book that was printed, or None where none was."""
     found = None
     for line in text:
         if line.startswith(b"book "):
-            found = int(line.split()[-1])
+            found = 0
+        elif found is not None:
+            found += 1
     return found
 
 
 def run(program, blocks):
-    """Runs the program on the blocks: its processor time, its peak of memory in MB, and the number of orders that it printed."""
+    """Runs the program on the blocks: its processor time, its peak of memory in MB, and how many orders and statuses it printed."""
     with tempfile.TemporaryFile() as out:
         child = subprocess.Popen([program, "follow"], stdin=subprocess.PIPE, stdout=out)
         piece = []
@@ -103,7 +126,7 @@ def run(program, blocks):
         if child.returncode:
             sys.exit(f"{program} ended with status {child.returncode}")
         out.seek(0)
-        return use.ru_utime + use.ru_stime, use.ru_maxrss / 1024, orders_of(out)
+        return use.ru_utime + use.ru_stime, use.ru_maxrss / 1024, left_in(out)
 
 
 def main():
@@ -113,7 +136,7 @@ def main():
     words.add_argument("--only", choices=STREAMS)
     given = words.parse_args()
     right = True
-    print(f"{'stream':8} {'messages':>10} {'cpu s':>7} {'peak MB':>8} {'orders':>8}   times the tenth")
+    print(f"{'stream':8} {'messages':>10} {'cpu s':>7} {'peak MB':>8} {'left':>8}   times the tenth")
     for name, (count, stream, left) in STREAMS.items():
         if given.only not in (None, name):
             continue

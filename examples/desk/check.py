@@ -30,6 +30,17 @@ OBJECTS = [
     {'book': 2, 'at': 3, 'second': 34200, 'orders': 1},
     {'order': '7', 'side': 'S', 'quantity': 1000, 'symbol': 'ZVZZT+P', 'price': '10.5000', 'hidden': True, 'mpid': 'ABCD'},
 ]
+# A Spin Server advertises images through 2 and 4 of unit 1, and sends the latter: order 5, of IBM.
+AVAILABLE = [bytes.fromhex('0e000101 00000000 0680 0%d000000' % sequence) for sequence in (2, 4)]
+SPIN = bytes.fromhex('13000101 00000000 0b82 04000000 01000000 41'
+                     '28000201 00000000 1a22 00000000 0500000000000000 42 6400 49424d202020 e803 01'
+                     '0683 04000000')
+# A line brings its deletion, message 5.
+LINE = bytes.fromhex('16000101 05000000 0e29 00000000 0500000000000000')
+MERGED = AVAILABLE[1] + SPIN + LINE
+RELAYED = bytes.fromhex('28000201 01000000 0697 00000000'
+                        '1a22 00000000 0500000000000000 42 6400 49424d202020 e803 01'
+                        '16000101 03000000 0e29 00000000 0500000000000000')
 UNITS = ['unit 1 blocks 4, at the end current 4; behind after 2 blocks, overflows 0',
          'unit 2 blocks 3, at the end current 3; behind after 0 blocks, overflows 0']
 
@@ -68,6 +79,14 @@ def storm(program, number, unit, steps, *words):
     return run([script('storm_feed.py'), program, str(number), str(unit), str(steps), '--filled', *words])
 
 
+def told():
+    """What tshark tells of the connection, in segments of which one comes late and one twice, and of the line."""
+    sent = b''.join(AVAILABLE) + SPIN
+    segments = [(first + 1, sent[first:end]) for first, end in ((0, 20), (40, 61), (20, 40), (40, 61), (61, len(sent)))]
+    lines = ['\t0\t%d\t%s\n' % (first, data.hex()) for first, data in segments]
+    return ''.join(lines + ['%s\t\t\t\n' % LINE.hex()]).encode()
+
+
 def cases(program):
     """The name of each case, what came and what is wanted."""
     text = follow(program, SAMPLE)
@@ -83,6 +102,9 @@ def cases(program):
     yield 'report', run([script('report.sh'), program, CAPTURE, '30501']).decode().split('\n')[4:6], UNITS
     for unit, shares in ((1, 181375), (2, 182000)):
         yield 'storm', orders_and_shares(follow(program, storm(program, 1, unit, 2000))), (625, shares)
+    merged = run([script('merge.py')], told())
+    yield 'merge', merged, MERGED
+    yield 'relay of what was merged', run([program, 'relay'], merged), RELAYED
     packets = storm(program, 1, 2, 2000, '--pcap')
     yield 'storm as a capture', orders_and_shares(follow(program, packets, '--pcap')), (625, 182000)
 

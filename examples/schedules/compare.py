@@ -22,6 +22,7 @@ import model
 IDS = [1, 2, 3, 4, 5, 6, 7, 8, 9, 2 ** 64 - 1]
 QUANTITIES = [0, 1, 5, 100, 65535, 65536, 4294967295]
 SYMBOLS = ['IBM', 'A', 'ABCDEFG', 'ABCDEFGH', 'ZVZZT+P']
+STATUS_BYTES = ['H', 'T', '0', '1', '!', '~']
 PRICES = ['1', '10.01', '655.35', '655.36', '0.0001', '3.1400', '184467440737095.1615']
 # Lengths of blocks that sessions carry, and some that cut them.
 PIECES = [0, 1, 5, 8, 11, 13, 14, 17, 18, 19, 26, 30, 60, 200]
@@ -83,7 +84,11 @@ class Schedule:
             ['exec', id, shares, 7], ['reduce', id, shares], ['modify', id, shares, '2.50'],
             ['modify', id, shares, 700, 'hidden'], ['delete', id], ['execat', id, 1, self.chance.choice([0, 3]), 5, '9.99'],
             ['clear'], ['time', self.chance.randrange(86400)], ['trade', id, 'B', 5, 'IBM', 3, 4], ['break', 5], ['end'],
-        ], [13, 13, 13, 13, 17, 8, 5, 9, 5, 3, 1])[0]
+            self.status(),
+        ], [13, 13, 13, 13, 17, 8, 5, 9, 5, 3, 1, 12])[0]
+
+    def status(self):
+        return ['status'] + [self.chance.choice(values) for values in (SYMBOLS, STATUS_BYTES, STATUS_BYTES)]
 
     def says_flush(self, unit):
         self.sent[unit] += 1

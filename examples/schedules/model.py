@@ -19,7 +19,7 @@ NO_PARTICIPANT = b'    '
 # ---- Messages: what each type needs, by its number
 TIME, ADD_LONG, ADD_SHORT, EXECUTED, EXECUTED_AT, REDUCE_LONG, REDUCE_SHORT = range(0x20, 0x27)
 MODIFY_LONG, MODIFY_SHORT, DELETE, TRADE_LONG, TRADE_SHORT, TRADE_BREAK, END = range(0x27, 0x2e)
-ADD_EXPANDED, TRADE_EXPANDED, CLEAR = 0x2f, 0x30, 0x97
+ADD_EXPANDED, TRADE_EXPANDED, STATUS, CLEAR = 0x2f, 0x30, 0x31, 0x97
 ADDS = (ADD_LONG, ADD_SHORT, ADD_EXPANDED)
 
 LOGIN, LOGIN_REPLY, GAP_REQUEST, GAP_REPLY = 1, 2, 3, 4
@@ -84,10 +84,14 @@ def modify_message(id, quantity, price, displayed, offset):
     return message(MODIFY_LONG, head + u32(quantity) + u64(price) + flags)
 
 
+def status_message(symbol, halt, sho, offset):
+    return message(STATUS, u32(offset) + symbol + halt + sho + b'  ')
+
+
 # ---- The book
 class Book:
     def __init__(self, raws):
-        self.second, self.orders = None, {}
+        self.second, self.orders, self.statuses = None, {}, {}
         for raw in raws:
             self.apply(raw)
 
@@ -97,6 +101,8 @@ class Book:
             self.second = number_at(raw, 2, 4)
         elif kind == CLEAR:
             self.orders = {}
+        elif kind == STATUS:
+            self.statuses[raw[6:14]] = raw[14:15], raw[15:16]
         elif kind in ADDS:
             order = self.added(raw)
             if order.quantity:
@@ -130,10 +136,11 @@ class Book:
 
 
 def image(accepted, sequence):
-    """The image through a sequence: the second, where one is known, and each open order."""
+    """The image through a sequence: the second, where one is known, each open order, and each status."""
     book = Book(accepted[:sequence])
     clock = [] if book.second is None else [message(TIME, u32(book.second))]
-    return clock + [add_message(book.orders[id], 0) for id in sorted(book.orders)]
+    orders = [add_message(book.orders[id], 0) for id in sorted(book.orders)]
+    return clock + orders + [status_message(symbol, *book.statuses[symbol], 0) for symbol in sorted(book.statuses)]
 
 
 # ---- Blocks
@@ -559,6 +566,9 @@ class World:
             lines.append('order %d %s %d %s %s%s%s' % (
                 id, order.side.decode(), order.quantity, order.symbol.decode().rstrip(), price_text(order.price),
                 '' if order.displayed else ' hidden', ' mpid=' + name if name else ''))
+        for symbol in sorted(book.statuses):
+            words = [symbol.rstrip(), *book.statuses[symbol]]
+            lines.append('status ' + ' '.join(word.decode() for word in words))
         lines.append('lines ' + ' '.join('%s %d/%d' % (line, *self.counts[line]) for line in 'abg'))
         return ''.join(line + '\n' for line in lines)
 
@@ -591,7 +601,7 @@ def price_of(text):
 
 # How many fields each command needs before its options.
 COMMANDS = {'time': 1, 'add': 5, 'exec': 3, 'execat': 5, 'reduce': 2, 'modify': 3, 'delete': 1, 'trade': 6,
-            'break': 1, 'clear': 0, 'end': 0}
+            'break': 1, 'status': 3, 'clear': 0, 'end': 0}
 
 
 class Command:
@@ -604,7 +614,7 @@ class Command:
         values = dict(option.split('=', 1) for option in options if '=' in option)
         self.offset = int(values.get('at', 0))
         self.participant = padded(values.get('mpid', ''), 4)
-        self.id = int(self.fields[0]) if self.fields else None
+        self.id = int(self.fields[0]) if self.fields and word != 'status' else None
         # the shares that are asked for, in commands that ask for some
         at = {'add': 2, 'trade': 2, 'exec': 1, 'execat': 1, 'reduce': 1, 'modify': 1}.get(word)
         self.quantity = None if at is None else int(self.fields[at])
@@ -634,6 +644,9 @@ class Command:
             return message(REDUCE_SHORT if short else REDUCE_LONG, offset + u64(self.id) + (u16 if short else u32)(self.quantity))
         if word in ('delete', 'break'):
             return message(DELETE if word == 'delete' else TRADE_BREAK, offset + u64(self.id))
+        if word == 'status':
+            symbol, halt, sho = self.fields
+            return status_message(padded(symbol, 8), halt.encode(), sho.encode(), self.offset)
         return message(CLEAR if word == 'clear' else END, offset)
 
 
