@@ -42,7 +42,7 @@ def examples_in(path):
 def is_wanted(text, wanted):
     """Whether the lines of a text are these, where `..` is any."""
     parts = [".*" if it == ".." else re.escape(it) for it in wanted]
-    return re.fullmatch("\n".join(parts) + "\n", text, re.DOTALL) is not None
+    return re.fullmatch("".join(it + "\n" for it in parts), text, re.DOTALL) is not None
 
 
 def copy_tree(program, into):

@@ -79,7 +79,7 @@ def storm(program, number, unit, steps, *words):
     return run([script('storm_feed.py'), program, str(number), str(unit), str(steps), '--filled', *words])
 
 
-def told():
+def dissected():
     """What tshark tells of the connection, in segments of which one comes late and one twice, and of the line."""
     sent = b''.join(AVAILABLE) + SPIN
     segments = [(first + 1, sent[first:end]) for first, end in ((0, 20), (40, 61), (20, 40), (40, 61), (61, len(sent)))]
@@ -102,7 +102,7 @@ def cases(program):
     yield 'report', run([script('report.sh'), program, CAPTURE, '30501']).decode().split('\n')[4:6], UNITS
     for unit, shares in ((1, 181375), (2, 182000)):
         yield 'storm', orders_and_shares(follow(program, storm(program, 1, unit, 2000))), (625, shares)
-    merged = run([script('merge.py')], told())
+    merged = run([script('merge.py')], dissected())
     yield 'merge', merged, MERGED
     yield 'relay of what was merged', run([program, 'relay'], merged), RELAYED
     packets = storm(program, 1, 2, 2000, '--pcap')
