@@ -103,10 +103,12 @@ impl UnitClient {
     ghost use Rattle.pitch_model.specs.Reach.{is_overflow, reach};
     ghost use Rattle.pitch_model.specs.Status.{status_of};
     ghost use Rattle.hold_buffer.specs.HoldView.{IsHold};
-    ghost use Rattle.client_core.specs.Tracks.{Tracks, Keeps, IsAsBefore, IsStill, Applied, KeepsRoom, KeepsListRoom, held_number, reached, spare_of};
+    ghost use Rattle.client_core.specs.Tracks.{Tracks, Keeps, IsAsBefore, IsStill, Applied, KeepsRoom, KeepsListRoom, current_book, held_number, reached, spare_of};
     ghost use Rattle.client_core.specs.Blocks.{Carries};
     ghost use Rattle.client_core.specs.Items.{IsImage, NeedsNoMemory, message_count};
     ghost use Rattle.client_core.specs.Bookkeeping.{HasRoom, IsImageReady, noted, with_more, CanNote, CanNoteItem, KeepsLogRoom, NotesApplied, Tells};
+    ghost use Rattle.client_core.specs.Keeping.{book_size};
+    ghost use Rattle.client_core.specs.Weight.{weight, told_by};
 
     // What changed since the client had a status, as something was heard.
     fn changed_since(&self, before: Status, heard: Heard) -> Change
@@ -137,6 +139,7 @@ impl UnitClient {
         ensures held { reached self.new + held_number self.new ≤ (reached self.old + held_number self.old) + 1 }
         ensures venues { (V : List Raw) → message_at V sequence ≡ Some raw.now → Keeps self.old V → noted log.new ≡ with_more (drop (reached self.old) (take (reached self.new) V)) (noted log.old) }
         ensures log { (left : ℕ) → CanNote ((left + 1) + held_number self.old) log.old → CanNote (left + held_number self.new) log.new }
+        ensures spin { self.new.spin ≡ self.old.spin }
     {
         let before = self.hold.floor();
         let taken = take_in(&mut self.hold, &mut self.book, log, sequence, raw);
@@ -158,6 +161,7 @@ impl UnitClient {
         ensures held { reached self.new + held_number self.new ≤ (reached self.old + held_number self.old) + length raws.entry }
         ensures venues { (V : List Raw) → AreVenues V first raws.entry → Keeps self.old V → noted log.new ≡ with_more (drop (reached self.old) (take (reached self.new) V)) (noted log.old) }
         ensures log { KeepsLogRoom self.old self.new (length raws.entry) log.old log.new }
+        ensures spin { self.new.spin ≡ self.old.spin }
     {
         let mut raws = raws;
         let mut sequence = first;
@@ -193,6 +197,7 @@ impl UnitClient {
         ensures err_noted { OnErr result (noted log.new ≡ noted log.old) }
         ensures err_log { OnErr result ((left : ℕ) → CanNote left log.old → CanNote left log.new) }
         ensures memory { CanNote (length raws.entry + held_number self.old) log.old → length raws.entry + held_number self.old ≤ spare_of self.old → IsOk result }
+        ensures spin { OnOk result (self.new.spin ≡ self.old.spin) }
     {
         if is_old(first, raws.len(), self.hold.floor()) {
             return Ok(self.pass_over(first, &raws));
@@ -220,6 +225,7 @@ impl UnitClient {
         requires { 1 ≤ next }
         ensures tracks { (H : ℕ) (E : List Entry) → Tracks self.old H E → Tracks self.new H (Next next ∷ E) }
         ensures still { IsStill self.old self.new }
+        ensures spin { self.new.spin ≡ self.old.spin }
     {
         self.top = raised_by(self.top, next - 1);
     }
@@ -248,6 +254,7 @@ impl UnitClient {
         ensures memory { CanNote (length raws.entry + held_number self.old) log.old → length raws.entry + held_number self.old ≤ spare_of self.old → IsOk result }
         ensures heartbeat { raws.entry ≡ [] → IsOk result }
         ensures unsequenced { sequence ≡ 0 → IsOk result }
+        ensures spin { OnOk result (self.new.spin ≡ self.old.spin) }
     {
         if sequence == 0 {
             return Ok(NO_MESSAGES);
@@ -329,6 +336,9 @@ impl UnitClient {
         ensures memory { length raws.entry + held_number self.old ≤ spare_of self.old → length raws.entry + held_number self.old ≤ applied.old.spare → IsOk result }
         ensures heartbeat { raws.entry ≡ [] → IsOk result }
         ensures unsequenced { sequence ≡ 0 → IsOk result }
+        // Honest or not, what is appended and what is left to pass on was left before, or is the
+        // block's.
+        ensures weighs { OnOk result (length applied.new.items + weight self.new ≤ (length applied.old.items + weight self.old) + length raws.entry) }
     {
         let before = self.status();
         let mut log = AppliedLog::On(replace(applied, RawList::make(self.alloc)));
@@ -340,6 +350,7 @@ impl UnitClient {
     fn hear_grp_up(&mut self)
         ensures tracks { (H : ℕ) (E : List Entry) → Tracks self.old H E → Tracks self.new H (GrpUp ∷ E) }
         ensures still { IsStill self.old self.new }
+        ensures weighs { weight self.new ≤ weight self.old }
     {
         self.grp_up = true;
     }
@@ -347,6 +358,7 @@ impl UnitClient {
     fn hear_grp_down(&mut self)
         ensures tracks { (H : ℕ) (E : List Entry) → Tracks self.old H E → Tracks self.new H (GrpDown ∷ E) }
         ensures still { IsStill self.old self.new }
+        ensures weighs { weight self.new ≤ weight self.old }
     {
         self.grp_up = false;
         self.grp_owes = false;
@@ -355,6 +367,7 @@ impl UnitClient {
     fn hear_gap_reply(&mut self, accepted: bool)
         ensures tracks { (H : ℕ) (E : List Entry) → Tracks self.old H E → Tracks self.new H (GapReply accepted ∷ E) }
         ensures still { IsStill self.old self.new }
+        ensures weighs { weight self.new ≤ weight self.old }
     {
         self.grp_owes = false;
         self.troubled = !accepted || self.troubled;
@@ -363,6 +376,7 @@ impl UnitClient {
     fn hear_spin_up(&mut self)
         ensures tracks { (H : ℕ) (E : List Entry) → Tracks self.old H E → Tracks self.new H (SpinUp ∷ E) }
         ensures still { IsStill self.old self.new }
+        ensures weighs { weight self.new ≤ weight self.old }
     {
         self.spin_up = true;
     }
@@ -370,6 +384,7 @@ impl UnitClient {
     fn hear_spin_down(&mut self)
         ensures tracks { (H : ℕ) (E : List Entry) → Tracks self.old H E → Tracks self.new H (SpinDown ∷ E) }
         ensures still { IsStill self.old self.new }
+        ensures weighs { weight self.new ≤ weight self.old }
     {
         self.spin_up = false;
         self.advertised = None;
@@ -379,6 +394,7 @@ impl UnitClient {
     fn hear_advertised(&mut self, sequence: u32)
         ensures tracks { (H : ℕ) (E : List Entry) → Tracks self.old H E → Tracks self.new H (Advertised sequence ∷ E) }
         ensures still { IsStill self.old self.new }
+        ensures weighs { weight self.new ≤ weight self.old }
     {
         self.top = raised_by(self.top, sequence);
         self.advertised = raised_by(self.advertised, sequence);
@@ -387,6 +403,7 @@ impl UnitClient {
     fn hear_spin_reply(&mut self, sequence: u32, orders: u32, accepted: bool)
         ensures tracks { (H : ℕ) (E : List Entry) → Tracks self.old H E → Tracks self.new H (SpinReply sequence orders accepted ∷ E) }
         ensures still { IsStill self.old self.new }
+        ensures weighs { weight self.new ≤ weight self.old + 1 }
     {
         self.spin.reply(self.alloc, sequence, orders, accepted);
     }
@@ -395,6 +412,7 @@ impl UnitClient {
         ensures tracks { OnOk result ((H : ℕ) (E : List Entry) → Tracks self.old H E → Tracks self.new H (ImageMessages raws.entry ∷ E)) }
         ensures still { IsStill self.old self.new }
         ensures err { OnErr result (IsAsBefore self.old self.new) }
+        ensures weighs { OnOk result (weight self.new ≤ weight self.old + length raws.entry) }
     {
         self.spin.take_more(raws)
     }
@@ -406,6 +424,8 @@ impl UnitClient {
         ensures keeps { (Image : List Raw → ℕ → List Raw) (V : List Raw) → IsImage Image V → (H : ℕ) (E : List Entry) → Tracks self.old H E → IsHonestAt Image V E (SpinFinished sequence) → Keeps self.old V → Keeps self.new V }
         ensures image { (H : ℕ) (E : List Entry) → Tracks self.old H E → result ≡ image_end_at (reach H E) (image_finished (spin_of E) sequence) (bad_image (spin_of E) sequence) }
         ensures still { result ≢ ImageEnd.Taken → IsStill self.old self.new }
+        ensures weighs { result ≢ ImageEnd.Taken → weight self.new ≤ weight self.old }
+        ensures weighs_taken { result ≡ ImageEnd.Taken → (1 + book_size (current_book self.new)) + weight self.new ≤ weight self.old }
     {
         match self.spin.finish(sequence) {
             Finish::Nothing => ImageEnd::NoImage,
@@ -428,6 +448,8 @@ impl UnitClient {
         ensures image { IfOk result (λ image. (H : ℕ) (E : List Entry) → Tracks self.old H E → image ≡ image_end_at (reach H E) (image_finished (spin_of E) sequence) (bad_image (spin_of E) sequence)) }
         ensures still { IfOk result (λ image. image ≢ ImageEnd.Taken → IsStill self.old self.new) }
         ensures err { OnErr result (IsAsBefore self.old self.new) }
+        ensures weighs { IfOk result (λ image. image ≢ ImageEnd.Taken → weight self.new ≤ weight self.old) }
+        ensures weighs_taken { IfOk result (λ image. image ≡ ImageEnd.Taken → (1 + book_size (current_book self.new)) + weight self.new ≤ weight self.old) }
     {
         let held = self.hold.len();
         self.spin.make_ready(sequence, held)?;
@@ -451,6 +473,8 @@ impl UnitClient {
         ensures err_noted { OnErr result (noted log.new ≡ noted log.old) }
         ensures err_log { OnErr result ((left : ℕ) → CanNote left log.old → CanNote left log.new) }
         ensures memory { NeedsNoMemory item.now (held_number self.old) (spare_of self.old) → CanNoteItem item.now (held_number self.old) log.old → IsOk result }
+        ensures weighs { IfOk result (λ told. told.image ≢ ImageEnd.Taken → reached self.new + weight self.new ≤ (reached self.old + weight self.old) + told_by item.now) }
+        ensures weighs_taken { IfOk result (λ told. told.image ≡ ImageEnd.Taken → (2 + book_size (current_book self.new)) + weight self.new ≤ weight self.old + told_by item.now) }
     {
         match item {
             Item::Messages { first, raws } => {
@@ -544,6 +568,10 @@ impl UnitClient {
         ensures err_applied { OnErr result (applied.new.items ≡ applied.old.items) }
         ensures err_room { OnErr result (applied.old.spare ≤ applied.new.spare) }
         ensures memory { NeedsNoMemory item.now (held_number self.old) (spare_of self.old) → NeedsNoMemory item.now (held_number self.old) applied.old.spare → IsOk result }
+        // Honest or not, what is appended and what is left to pass on was left before, or is the
+        // item's; and so is the book of an image that was taken, with a Unit Clear and a Time.
+        ensures weighs { IfOk result (λ change. change.image ≢ ImageEnd.Taken → length applied.new.items + weight self.new ≤ (length applied.old.items + weight self.old) + told_by item.now) }
+        ensures weighs_taken { IfOk result (λ change. change.image ≡ ImageEnd.Taken → (2 + book_size (current_book self.new)) + weight self.new ≤ weight self.old + told_by item.now) }
     {
         let before = self.status();
         let mut log = AppliedLog::On(replace(applied, RawList::make(self.alloc)));
