@@ -4,6 +4,8 @@ pub mod Growing
 pub mod Along
 pub mod Merging
 pub mod Counted
+pub mod Weighed
+pub mod Bytes
 pub mod Speaking
 pub mod Units
 pub mod Examples

@@ -4,4 +4,5 @@ pub mod RelayText
 pub mod Changing
 pub mod Sending
 pub mod Stands
+pub mod Sparing
 pub mod Relays

@@ -3,6 +3,7 @@ use Rattle.std.specs.Prelude.{◌≡◌, ℕ, List, Option, Some, None, slice_ge
 use Rattle.unit_packets.specs.Blocks.{Block}
 use Rattle.pitch_model.specs.History.{Entry}
 use Rattle.relay_unit.specs.Hearing.{first_heard, relay_history}
+use Rattle.relay_unit.specs.Sparing.{HasHeard, messages_heard}
 use Rattle.relay_unit.specs.Stands.{Stands, relay_unit_of}
 use Rattle.relay_unit.specs.declared.relay.Relay.{Relay}
 
@@ -15,15 +16,15 @@ pub record Relays : Type 0 where
 abbrev pub StandsFor : Relay → ℕ → ℕ → List Entry → Type 0
 StandsFor relay H unit E = (relay_unit_of relay ≡ unit) × Stands relay H E
 
--- there is a relay, and it stands for this history
-abbrev pub StandsAt : ℕ → ℕ → List Entry → Option Relay → Type 0
-StandsAt H unit E None = ⊥
-StandsAt H unit E (Some relay) = StandsFor relay H unit E
+-- there is a relay, and it stands for this history, with so many messages
+abbrev pub StandsAt : ℕ → ℕ → List Entry → ℕ → Option Relay → Type 0
+StandsAt H unit E count None = ⊥
+StandsAt H unit E count (Some relay) = StandsFor relay H unit E × HasHeard relay count
 
 -- a unit's relay is where the unit's blocks bring it; where there is none, no block named the unit
 abbrev pub IsRelay : ℕ → List Block → ℕ → Option Relay → Type 0
 IsRelay H before unit None = relay_history H unit before ≡ first_heard
-IsRelay H before unit (Some relay) = StandsFor relay H unit (relay_history H unit before)
+IsRelay H before unit (Some relay) = StandsFor relay H unit (relay_history H unit before) × HasHeard relay (messages_heard unit before)
 
 -- each unit's relay heard its blocks
 pub record HaveRelayed (r : Relays) (before : List Block) : Type 0 where

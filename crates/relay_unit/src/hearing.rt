@@ -1,9 +1,10 @@
-ghost use Rattle.std.specs.Prelude.{◌≡◌, ◌≢◌, ℕ, List, true, OnOk, IfOk, IsTrue, IsFalse};
+ghost use Rattle.std.specs.Prelude.{◌≡◌, ◌≢◌, ◌+◌, ◌≤◌, ℕ, List, length, true, OnOk, IfOk, IsTrue, IsFalse};
 ghost use Rattle.pitch_messages.specs.Raw.{IsRaw, kind_of};
 ghost use Rattle.pitch_messages.specs.Session.{session_reads};
 ghost use Rattle.pitch_model.specs.History.{Entry, Raw as RawBytes};
 ghost use Rattle.pitch_model.specs.Heard.{IsItem, heard, change_of};
 ghost use Rattle.client_core.specs.Tracks.{Tracks, Keeps};
+ghost use Rattle.client_core.specs.Weight.{weight, told_by};
 ghost use Rattle.relay_unit.specs.Changing.{raw_end, end_or, session_end, merged_change};
 ghost use Rattle.relay_unit.specs.Hearing.{is_of_session, heard_unsequenced, heard_session, heard_merged};
 ghost use Rattle.relay_unit.specs.RelayText.{IsVenue};
@@ -40,6 +41,7 @@ fn hear_item(
     ensures keeps { OnOk result ((V : List RawBytes) (H : ℕ) (E : List Entry) → Tracks client.old H E → IsVenue V (heard item.now E) → Keeps client.old V → Keeps client.new V) }
     ensures sends { OnOk result ((V : List RawBytes) (H : ℕ) (E : List Entry) → Tracks client.old H E → IsVenue V (heard item.now E) → Keeps client.old V → SendsOn H V E (heard item.now E) sent.old.items sent.new.items) }
     ensures change { IfOk result (λ change. (H : ℕ) (E : List Entry) → Tracks client.old H E → change ≡ change_of H E item.now) }
+    ensures weighs { OnOk result (length sent.new.items + weight client.new ≤ (length sent.old.items + weight client.old) + told_by item.now) }
 {
     let change = client.hear_into(item, sent)?;
     let taken = is_taken(change.image);
@@ -104,6 +106,7 @@ fn hear_raw(
     ensures keeps { OnOk result ((V : List RawBytes) (H : ℕ) (E : List Entry) → Tracks client.old H E → IsVenue V (heard_unsequenced raw.now E) → Keeps client.old V → Keeps client.new V) }
     ensures sends { OnOk result ((V : List RawBytes) (H : ℕ) (E : List Entry) → Tracks client.old H E → IsVenue V (heard_unsequenced raw.now E) → Keeps client.old V → SendsOn H V E (heard_unsequenced raw.now E) sent.old.items sent.new.items) }
     ensures end { IfOk result (λ end. (H : ℕ) (E : List Entry) → Tracks client.old H E → end ≡ raw_end H E raw.now) }
+    ensures weighs { OnOk result (length sent.new.items + weight client.new ≤ (length sent.old.items + weight client.old) + 1) }
 {
     let Some(item) = item_of_raw(alloc, raw)? else {
         return Ok(ImageEnd::NoImage);
@@ -133,6 +136,7 @@ fn hear_session(
     ensures keeps { OnOk result ((V : List RawBytes) (H : ℕ) (E : List Entry) → Tracks client.old H E → IsVenue V (heard_session raws.entry E) → Keeps client.old V → Keeps client.new V) }
     ensures sends { OnOk result ((V : List RawBytes) (H : ℕ) (E : List Entry) → Tracks client.old H E → IsVenue V (heard_session raws.entry E) → Keeps client.old V → SendsOn H V E (heard_session raws.entry E) sent.old.items sent.new.items) }
     ensures end { IfOk result (λ end. (H : ℕ) (E : List Entry) → Tracks client.old H E → end ≡ session_end H ImageEnd.NoImage raws.entry E) }
+    ensures weighs { OnOk result (length sent.new.items + weight client.new ≤ (length sent.old.items + weight client.old) + length raws.entry) }
 {
     let mut raws = raws;
     let mut last = ImageEnd::NoImage;
@@ -154,6 +158,7 @@ pub(crate) fn hear_merged(
     ensures keeps { OnOk result ((V : List RawBytes) (H : ℕ) (E : List Entry) → Tracks client.old H E → IsVenue V (heard_merged block.now E) → Keeps client.old V → Keeps client.new V) }
     ensures sends { OnOk result ((V : List RawBytes) (H : ℕ) (E : List Entry) → Tracks client.old H E → IsVenue V (heard_merged block.now E) → Keeps client.old V → SendsOn H V E (heard_merged block.now E) sent.old.items sent.new.items) }
     ensures change { IfOk result (λ change. (H : ℕ) (E : List Entry) → Tracks client.old H E → change ≡ merged_change H E block.now) }
+    ensures weighs { OnOk result (length sent.new.items + weight client.new ≤ (length sent.old.items + weight client.old) + length block.now.raws) }
 {
     let sequence = block.header().sequence;
     if sequence == 0 {

@@ -12,6 +12,8 @@ mod laws;
 mod relay;
 mod relays;
 
-pub use crate::laws::relayed_messages_leave_the_followed_book;
+pub use crate::laws::{
+    blocks_have_no_more_messages_than_bytes, relayed_messages_leave_the_followed_book,
+};
 pub use crate::relay::{Relay, RelayError};
 pub use crate::relays::Relays;

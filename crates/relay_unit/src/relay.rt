@@ -52,7 +52,7 @@ pub struct Relay {
 }
 
 impl Relay {
-    ghost use Rattle.std.specs.Prelude.{◌≡◌, ◌≤◌, ◌++◌, ℕ, List, OnOk, OnErr, IfOk, IfErr, Err};
+    ghost use Rattle.std.specs.Prelude.{◌≡◌, ◌≤◌, ◌+◌, ◌++◌, ℕ, List, length, OnOk, OnErr, IfOk, IfErr, Err};
     ghost use Rattle.pitch_fields.specs.Limits.{last_sequence, most_held};
     ghost use Rattle.unit_packets.specs.Packing.{bytes_in};
     ghost use Rattle.pitch_model.specs.History.{Entry, Raw as RawBytes};
@@ -60,6 +60,7 @@ impl Relay {
     ghost use Rattle.relay_unit.specs.Hearing.{first_heard, relay_heard};
     ghost use Rattle.relay_unit.specs.RelayText.{IsVenue};
     ghost use Rattle.relay_unit.specs.Relayed.{relayed_count, relayed_datagrams};
+    ghost use Rattle.relay_unit.specs.Sparing.{HasHeard, IsSpentBy};
     ghost use Rattle.relay_unit.specs.Stands.{Stands, GoesOn, IsSpent, IsOutrun, relay_unit_of, followed_book};
 
     /// A relay that has sent nothing, holds at most `limit` messages and counts its Spin Server as
@@ -67,6 +68,8 @@ impl Relay {
     pub fn make(alloc: Global, unit: u8, limit: u32) -> Result<Relay, OutOfMemory>
         requires { (1 ≤ limit) × (limit ≤ most_held) }
         ensures stands { IfOk result (λ relay. Stands relay limit first_heard) }
+        // It has heard nothing, and so no more messages than any number.
+        ensures heard { IfOk result (λ relay. (count : ℕ) → HasHeard relay count) }
         ensures unit { IfOk result (λ relay. relay_unit_of relay ≡ unit) }
     {
         let mut client = UnitClient::make(alloc, limit)?;
@@ -93,6 +96,8 @@ impl Relay {
         ensures change { IfOk result (λ change. (H : ℕ) (E : List Entry) → Stands self.old H E → change ≡ merged_change H E block.now) }
         ensures outrun { IfErr result (λ error. (V : List RawBytes) (H : ℕ) (E : List Entry) → Stands self.old H E → IsVenue V (relay_heard H block.now E)
             → IsOutrun error (relayed_count H V E) (relayed_count H V (relay_heard H block.now E))) }
+        ensures heard { OnOk result ((count : ℕ) → HasHeard self.old count → HasHeard self.new (count + length block.now.raws)) }
+        ensures many { IfErr result (λ error. (count : ℕ) → HasHeard self.old count → IsSpentBy (count + length block.now.raws) error) }
         ensures unit { relay_unit_of self.new ≡ relay_unit_of self.old }
         ensures spent { self.new.spent ≡ self.old.spent }
         ensures out { OnErr result (out.new.items ≡ out.old.items) }
@@ -134,6 +139,10 @@ impl Relay {
         // The sequences are spent only where what is relayed then outruns the last one.
         ensures outrun { IfErr result (λ error. (V : List RawBytes) (H : ℕ) (E : List Entry) → Stands self.old H E → IsVenue V (relay_heard H block.now E)
             → IsOutrun error (relayed_count H V E) (relayed_count H V (relay_heard H block.now E))) }
+        // Whatever it heard, it sends no more messages than it heard, and its sequences are spent
+        // only where these are more than there are sequences.
+        ensures heard { OnOk result ((count : ℕ) → HasHeard self.old count → HasHeard self.new (count + length block.now.raws)) }
+        ensures many { IfErr result (λ error. (count : ℕ) → HasHeard self.old count → IsSpentBy (count + length block.now.raws) error) }
         ensures unit { relay_unit_of self.new ≡ relay_unit_of self.old }
         ensures out { OnErr result (out.new.items ≡ out.old.items) }
         // Once it was refused, the relay gives that answer again.

@@ -1,4 +1,4 @@
-ghost use Rattle.std.specs.Prelude.{◌≡◌, ◌≤◌, ◌++◌, ℕ, List, [], ◌∷◌, OnOk, OnErr, IfOk, IfErr, length};
+ghost use Rattle.std.specs.Prelude.{◌≡◌, ◌≤◌, ◌+◌, ◌++◌, ℕ, List, [], ◌∷◌, OnOk, OnErr, IfOk, IfErr, length};
 ghost use Rattle.pitch_fields.specs.Limits.{most_held};
 ghost use Rattle.unit_packets.specs.Blocks.{Block};
 ghost use Rattle.unit_packets.specs.Packing.{bytes_in};
@@ -8,6 +8,7 @@ ghost use Rattle.relay_unit.specs.Hearing.{relay_heard, relay_history};
 ghost use Rattle.relay_unit.specs.RelayText.{IsVenue, AreRelayVenues, datagrams_after, sent_up_to};
 ghost use Rattle.relay_unit.specs.Relayed.{relayed_count, relayed_datagrams};
 ghost use Rattle.relay_unit.specs.Relays.{StandsAt, IsRelay, HaveRelayed};
+ghost use Rattle.relay_unit.specs.Sparing.{IsSpentBy, messages_heard};
 ghost use Rattle.relay_unit.specs.Stands.{IsOutrun};
 
 use crate::relay::{Relay, RelayError};
@@ -64,13 +65,14 @@ fn hear_at(
 ) -> Result<Change, RelayError>
     requires { (1 ≤ limit) × (limit ≤ most_held) }
     ensures stands { OnOk result ((before : List Block) → IsRelay limit before block.now.unit slot.old
-        → StandsAt limit block.now.unit (relay_heard limit block.now (relay_history limit block.now.unit before)) slot.new) }
+        → StandsAt limit block.now.unit (relay_heard limit block.now (relay_history limit block.now.unit before)) (messages_heard block.now.unit before + length block.now.raws) slot.new) }
     ensures sends { OnOk result ((before : List Block) (V : List Raw) → IsRelay limit before block.now.unit slot.old → IsVenue V (relay_heard limit block.now (relay_history limit block.now.unit before))
         → bytes_in out.new.items ≡ bytes_in out.old.items
         ++ relayed_datagrams limit V block.now.unit (relay_history limit block.now.unit before) (relay_heard limit block.now (relay_history limit block.now.unit before))) }
     ensures change { IfOk result (λ change. (before : List Block) → IsRelay limit before block.now.unit slot.old → change ≡ merged_change limit (relay_history limit block.now.unit before) block.now) }
     ensures outrun { IfErr result (λ error. (before : List Block) (V : List Raw) → IsRelay limit before block.now.unit slot.old → IsVenue V (relay_heard limit block.now (relay_history limit block.now.unit before))
         → IsOutrun error (relayed_count limit V (relay_history limit block.now.unit before)) (relayed_count limit V (relay_heard limit block.now (relay_history limit block.now.unit before)))) }
+    ensures many { IfErr result (λ error. (before : List Block) → IsRelay limit before block.now.unit slot.old → IsSpentBy (messages_heard block.now.unit before + length block.now.raws) error) }
     ensures out { OnErr result (out.new.items ≡ out.old.items) }
 {
     match slot {
@@ -116,6 +118,9 @@ impl Relays {
         // The sequences are spent only where the block outruns the last one.
         ensures outrun { IfErr result (λ error. (before : List Block) (Vs : ℕ → List Raw) → HaveRelayed self.old before → AreRelayVenues self.old.limit Vs (block.now ∷ before)
             → IsOutrun error (sent_up_to self.old.limit Vs block.now.unit before) (sent_up_to self.old.limit Vs block.now.unit (block.now ∷ before))) }
+        // Whatever the blocks say, they are spent only where those of the unit have more messages
+        // than there are sequences.
+        ensures many { IfErr result (λ error. (before : List Block) → HaveRelayed self.old before → IsSpentBy (messages_heard block.now.unit (block.now ∷ before)) error) }
         ensures out { OnErr result (out.new.items ≡ out.old.items) }
     {
         let unit = block.header().unit as usize;

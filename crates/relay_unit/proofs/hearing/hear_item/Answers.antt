@@ -1,11 +1,13 @@
-use Rattle.std.proofs.Common.{◌≡◌, ℕ, List, ap, sym, ◌∙◌}
+use Rattle.std.proofs.Common.{◌≡◌, ℕ, ◌+◌, List, ap, sym, ◌∙◌, arith}
 use Rattle.pitch_messages.specs.Room.{Roomy}
+use Rattle.client_core.specs.Weight.{weight, told_by}
 use Rattle.pitch_model.specs.Image.{image}
 use Rattle.pitch_model.specs.Heard.{heard}
 use Rattle.pitch_model.specs.declared.change.Change.{Change}
 use Rattle.pitch_model.specs.declared.change.ImageEnd.TheVariants as end
 use Rattle.pitch_model.proofs.Images.{image_book}
 use Rattle.relay_unit.proofs.Growing.{sends_taken, sends_untaken}
+use Rattle.relay_unit.proofs.Weighed.{taken_weighs}
 use Rattle.relay_unit.proofs.hearing.hear_item.Goals as goal
 
 pub returns-in_ok-image_of-clause-keeps : goal.returns-in_ok-image_of-clause-keeps
@@ -29,3 +31,14 @@ returns-else-taken-clause-sends c = λ V H E T venue K before e.
     sends_untaken H V E c.args.item.now c.args.sent.now.items c.hear_into.new.applied.items
     (λ is. not (ap (λ (x : Change). x.image) (c.in_ok-change.ensures.change H E T) ∙ is))
     (c.in_ok-change.ensures.venues not image V H E T venue.honest K) before e
+
+pub returns-in_ok-image_of-clause-weighs : goal.returns-in_ok-image_of-clause-weighs
+returns-in_ok-image_of-clause-weighs c =
+    let is : c.in_ok-change.change.image ≡ end.Taken = c.is_taken-taken.ensures.taken c.if-taken.true in
+    let all = taken_weighs c.book.result.now.book c.write.result c.args.sent.now.items c.hear_into.new.applied.items c.push.new.self.items c.image_of.new.out.items
+    (ap (λ (l : Roomy (List ℕ)). l.items) (c.in_ok-change.ensures.taken is)) c.in_ok-push.ensures.ok c.in_ok-image_of.ensures.ok
+    _ (weight c.hear_into.new.self) (weight c.args.client.now + told_by c.args.item.now) c.book.ensures.same (c.in_ok-change.ensures.weighs_taken is) in
+    omega arith
+
+pub returns-else-taken-clause-weighs : goal.returns-else-taken-clause-weighs
+returns-else-taken-clause-weighs c = c.in_ok-change.ensures.weighs (c.is_taken-taken.ensures.other c.if-taken.false)

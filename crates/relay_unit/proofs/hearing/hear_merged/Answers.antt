@@ -1,4 +1,4 @@
-use Rattle.std.proofs.Common.{◌≡◌, ◌==◌, ℕ, false, List, ap, sym, ◌∙◌, subst}
+use Rattle.std.proofs.Common.{◌≡◌, ◌==◌, ℕ, false, List, length, ap, sym, ◌∙◌, subst, arith}
 use Rattle.std.proofs.lemmas.Bool.{ne_eqb}
 use Rattle.unit_packets.specs.Blocks.{Block}
 use Rattle.unit_packets.specs.declared.header.Header.{Header}
@@ -49,3 +49,8 @@ returns-clause-change c =
     let some : (block.sequence == 0) ≡ false = ne_eqb block.sequence 0 (λ e. c.if-sequence-eq0.false (named ∙ e)) in
     if_ok _ _ c.hear_block_into.result (λ change f H E T.
     f block (carries block c.header-sequence.result c.raws-2.result named c.raws-2.ensures.raws) H E T ∙ merged_block_change H block E some) c.hear_block_into.ensures.change
+
+pub returns-clause-weighs : goal.returns-clause-weighs
+returns-clause-weighs c =
+    let many = ap (λ (raws : List (List ℕ)). length raws) c.raws-2.ensures.raws in
+    on_ok c.hear_block_into.result (λ weighs. omega arith) c.hear_block_into.ensures.weighs

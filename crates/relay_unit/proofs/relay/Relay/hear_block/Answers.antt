@@ -1,4 +1,4 @@
-use Rattle.std.proofs.Common.{◌+◌, ◌++◌, List, ◌∷◌, drop, sym, ap, ◌∙◌, subst, arith}
+use Rattle.std.proofs.Common.{◌+◌, ◌++◌, List, ◌∷◌, length, drop, sym, ap, ◌∙◌, subst, arith}
 use Rattle.unit_packets.specs.Packing.{packed, bytes_in}
 use Rattle.pitch_model.specs.History.{Raw, Ticked}
 use Rattle.client_core.specs.Tracks.{Tracks}
@@ -45,3 +45,21 @@ returns-clause-sends c = λ V H E S v.
     (ap (packed unit (c.args.self.now.sent + 1)) (c.raws.ensures ∙ sym (added_is c.args.self.now.sent (relayed H V E) all c.hear_merged.new.sent.items (block_sends H V block E c.truncate.new.self.items c.hear_merged.new.sent.items c.truncate.ensures.items
     (c.in_ok-change.ensures.sends V H E S.tracks (venue_ticked H V block E v) (S.keeps V (venue_before H V block E v)))) sent))
     ∙ ap (λ n. packed unit (n + 1) (drop n all)) sent)
+
+pub returns-clause-heard : goal.returns-clause-heard
+returns-clause-heard c = λ count heard.
+    let none = ap (λ (raws : List Raw). length raws) c.truncate.ensures.items in
+    let few = heard.sends_few in
+    let added = c.in_ok-change.ensures.weighs in
+    let ticked = c.tick.ensures.weighs in
+    let more = c.len-more.ensures.length in
+    record { goes_on = heard.goes_on; sends_few = omega arith }
+
+pub returns-then-more-self-clause-many : goal.returns-then-more-self-clause-many
+returns-then-more-self-clause-many c = λ count heard.
+    let none = ap (λ (raws : List Raw). length raws) c.truncate.ensures.items in
+    let few = heard.sends_few in
+    let added = c.in_ok-change.ensures.weighs in
+    let more = c.len-more.ensures.length in
+    let past = c.if-more-self.true in
+    omega arith

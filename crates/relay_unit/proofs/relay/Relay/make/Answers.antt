@@ -1,4 +1,5 @@
 use Rattle.std.proofs.Common.{[], take, refl, arith}
+use Rattle.client_core.proofs.Weighing.{first_weighs}
 use Rattle.relay_unit.proofs.Counted.{first_sent}
 use Rattle.relay_unit.proofs.relay.Relay.make.Goals as goal
 
@@ -10,3 +11,8 @@ returns-clause-stands c = record {
   within = omega arith;
   goes_on = refl;
 }
+
+pub returns-clause-heard : goal.returns-clause-heard
+returns-clause-heard c = λ count.
+    let none = first_weighs c.hear.new.self c.args.limit (c.in_ok-hear.ensures.tracks c.args.limit [] c.in_ok-client.ensures.tracks) in
+    record { goes_on = refl; sends_few = omega arith }

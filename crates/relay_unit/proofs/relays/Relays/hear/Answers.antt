@@ -1,4 +1,4 @@
-use Rattle.std.proofs.Common.{rules, ◌≡◌, ◌++◌, ℕ, ◌<◌, List, Some, sym, ap, ◌∙◌, subst, slice_get, length, refl}
+use Rattle.std.proofs.Common.{rules, ◌≡◌, ◌++◌, ℕ, ◌<◌, List, ◌∷◌, Some, sym, ap, ◌∙◌, subst, slice_get, length, refl}
 use Rattle.std.proofs.lemmas.Option.{slice_get_read}
 use Rattle.unit_packets.specs.Blocks.{Block}
 use Rattle.unit_packets.specs.Packing.{bytes_in}
@@ -7,7 +7,9 @@ use Rattle.relay_unit.specs.Changing.{merged_change}
 use Rattle.relay_unit.specs.Hearing.{relay_history, relay_heard}
 use Rattle.relay_unit.specs.RelayText.{IsVenue, datagrams_after}
 use Rattle.relay_unit.specs.Relays.{Relays, IsRelay, HaveRelayed}
-use Rattle.relay_unit.proofs.Units.{relays_hear, history_same}
+use Rattle.relay_unit.specs.Sparing.{IsSpentBy, messages_heard}
+use Rattle.relay_unit.specs.declared.relay.RelayError.{RelayError}
+use Rattle.relay_unit.proofs.Units.{relays_hear, history_same, handed_on, spent_same}
 use Rattle.relay_unit.proofs.relays.Relays.hear.Goals as goal
 
 -- the relays as they were at the call
@@ -51,3 +53,18 @@ returns-clause-change c = λ before heard.
     let limit_is : c.self.inside.limit ≡ c.args.self.now.limit = ap (λ (r : Relays). r.limit) c.self.view_is in
     c.in_ok-change.ensures.change before (stood c before (heard_inside c before heard))
     ∙ ap (λ (H : ℕ). merged_change H (relay_history H c.args.block.now.unit before) c.args.block.now) limit_is
+
+pub returns-in_err-change-clause-many : goal.returns-in_err-change-clause-many
+returns-in_err-change-clause-many c =
+    let block = c.args.block.now in
+    handed_on c.from_residual.result c.in_err-change.field-0.0
+    (λ (error : RelayError). (before : List Block) → HaveRelayed c.args.self.now before → IsSpentBy (messages_heard block.unit (block ∷ before)) error)
+    c.from_residual.ensures
+    (λ before heard.
+    let known : HaveRelayed (record { limit = c.self.inside.limit; relays = c.self.inside.relays.items }) before = subst (λ (r : Relays). HaveRelayed r before) (sym c.self.view_is) heard in
+    let named : c.header-unit.result.unit ≡ block.unit = ap (λ (h : Header). h.unit) c.header-unit.ensures in
+    let lt : c.header-unit.result.unit < length c.self.inside.relays.items = search rules in
+    let at : slice_get c.self.inside.relays.items c.header-unit.result.unit ≡ Some c.index_mut.result.now =
+    slice_get_read c.self.inside.relays.items (length c.self.inside.relays.items) c.header-unit.result.unit c.index_mut.result.now refl lt c.index_mut.ensures.value in
+    let there = subst (λ (n : ℕ). IsRelay c.self.inside.limit before n c.index_mut.result.now) named (known.each c.header-unit.result.unit c.index_mut.result.now at) in
+    spent_same block before c.in_err-change.field-0.0 (c.in_err-change.ensures.many before there))
