@@ -4,7 +4,7 @@
     bench/replay.py PROGRAM [--rounds R] [--only NAME]
     bench/replay.py PROGRAM --print NAME [--tenth]
 
-PROGRAM is the path of the built program. There are four schedules, and a tenth of each:
+PROGRAM is the path of the built program. There are five schedules, and a tenth of each:
 
     storm   16 units with 10,000 steps each, some 688,000 lines and 9 MB: a command and a flush a
             step; one datagram in 20 is lost on each line; gaps are asked for at every tenth step,
@@ -15,18 +15,22 @@ PROGRAM is the path of the built program. There are four schedules, and a tenth 
     steady  the same units, and as many lines and orders: but each order is executed or deleted once
             1,000 more were added, so that the books of the whole are as large as those of the tenth
     pieces  an image of 100,000 orders, of which 20 bytes are carried at a line; some 230,000 lines
+    turns   64 units with one short line each in turn, 2,560,000 lines and 22.7 MB
 
 All runs are made in turn, R times (3 where it isn't given), those of a tenth five times as often.
 Compared are the medians of processor time (user and system) and the greatest peaks of memory.
 `pack` gets the schedule's commands in one text, with ids that tell the units apart; `follow` gets
-the datagrams that are heard on lines A and B, in the schedule's order; of `pieces`, where none are,
-`replay` is run alone.
+the datagrams that are heard on lines A and B, in the schedule's order; of `pieces` and `turns`,
+where none are, `replay` is run alone. `storm` and `turns` are then run with 1, 2, 4 and 64 workers:
+what is written has to be the same. Printed is the least time of each, by the clock, of all threads
+and of the busiest one, as the system counts it (/proc, each millisecond). On a machine that does
+other work the last tells the most: no run can end sooner.
 
 The exit status is 0 where each run ended with status 0 and each unit was current at its end. What
 is wanted of times and memory is printed, and changes no status. `--print` writes a schedule and
 measures nothing.
 """
-import argparse, hashlib, multiprocessing, os, statistics, struct, subprocess, sys, tempfile
+import argparse, hashlib, multiprocessing, os, statistics, struct, subprocess, sys, tempfile, time
 
 # What was made is kept there, as long as this script stays the same.
 TAG = hashlib.sha256(open(__file__, 'rb').read()).hexdigest()[:8]
@@ -148,12 +152,24 @@ def pieces(orders):
     yield 1, 'spin down all', None, None
 
 
+# ---- Units that take turns at each line
+def turns(units, rounds):
+    """The same of units that are current, and then have a flush each, one after another."""
+    for words in ['beat', 'a 1'] + ['flush'] * rounds:
+        for u in range(1, units + 1):
+            yield u, words, None, None
+
+
 SCHEDULES = {
     'storm': lambda part: storm(16, 10000 // part),
     'long': lambda part: long_text(4, 160000 // part),
     'steady': lambda part: steady(4, 160000 // part, 1000),
     'pieces': lambda part: pieces(100000 // part),
+    'turns': lambda part: turns(64, 40000 // part),
 }
+# Those that are run with several workers, and how many.
+PARTED = ('storm', 'turns')
+WORKERS = (1, 2, 4, 64)
 
 
 def lines_of(name, tenth):
@@ -225,6 +241,48 @@ def once(command, path):
         return use.ru_utime + use.ru_stime, use.ru_maxrss * 1024 / 1e6, out.read()
 
 
+def busiest(command, path):
+    """Seconds by the clock, of all threads and of the busiest thread, peak memory in MB, and a checksum of what was
+    written. A thread's last millisecond may be missing."""
+    with open(path, 'rb') as source, tempfile.TemporaryFile() as out:
+        start = time.perf_counter()
+        process = subprocess.Popen(command, stdin=source, stdout=out)
+        base, took, ended = '/proc/%d/task' % process.pid, {}, 0
+        while ended == 0:
+            try:
+                for thread in os.listdir(base):
+                    with open('%s/%s/schedstat' % (base, thread)) as counts:
+                        took[thread] = int(counts.read().split()[0]) / 1e9
+            except (OSError, IndexError):
+                pass
+            time.sleep(0.001)
+            ended, status, use = os.wait4(process.pid, os.WNOHANG)
+        clock = time.perf_counter() - start
+        if status != 0:
+            sys.exit('%s ended with status %d' % (' '.join(command), status >> 8))
+        out.seek(0)
+        text = hashlib.file_digest(out, 'sha256').hexdigest()
+        return clock, use.ru_utime + use.ru_stime, max(took.values()), use.ru_maxrss * 1024 / 1e6, text
+
+
+def with_workers(program, path, rounds):
+    """Prints what the schedule takes with several workers, and says whether all wrote the same."""
+    least, peaks, texts = {}, dict.fromkeys(WORKERS, 0), set()
+    for _ in range(rounds):
+        for k in WORKERS:
+            *times, peak, text = busiest([program, 'replay', '--workers', str(k)], path)
+            least[k] = [min(pair) for pair in zip(times, least.get(k, times))]
+            peaks[k] = max(peaks[k], peak)
+            texts.add(text)
+    for k in WORKERS:
+        clock, cpu, thread = least[k]
+        print('  %2d workers       clock %6.3f s   all threads %6.3f s   busiest %6.3f s   %.1f times as fast   peak %5d MB'
+              % (k, clock, cpu, thread, least[1][2] / thread, peaks[k]))
+    if len(texts) > 1:
+        print('  SOME BYTES ARE OTHERS')
+    return len(texts) == 1
+
+
 def ends_current(text):
     """The last line of each unit says that it is current."""
     last = {line.split()[1]: line for line in text.splitlines()[1:]}
@@ -266,6 +324,8 @@ def measure(program, name, rounds):
         wanted('peak of memory to the size of the text', peaks['replay'] / size, 12)
     if not right:
         print('  A UNIT IS NOT CURRENT AT ITS END')
+    if name in PARTED:
+        right = with_workers(program, whole, rounds) and right
     return right
 
 

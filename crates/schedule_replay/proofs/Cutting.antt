@@ -1,10 +1,11 @@
 -- A text in stretches of lines.
-use Rattle.std.proofs.Common.{◌≡◌, ℕ, suc, ◌+◌, ◌-◌, ◌<◌, ◌≤◌, inl, inr, Bool, true, false, not, cond, eqb, List, [], ◌∷◌, ◌++◌, length, take, drop, map, Option, Some, None, Result, refl, sym, ap, ◌∙◌, arith, append_assoc, subst}
+use Rattle.std.proofs.Common.{◌≡◌, ◌≢◌, ℕ, zero, suc, ◌+◌, ◌-◌, ◌<◌, ◌≤◌, inl, inr, Bool, true, false, not, cond, eqb, List, [], ◌∷◌, ◌++◌, length, take, drop, map, Option, Some, None, Result, Vec, Global, refl, sym, ap, ◌∙◌, arith, append_assoc, subst}
 use Rattle.std.specs.Prelude.{option_map, min}
-use Rattle.std.specs.List.{position_or_len, cons_option}
+use Rattle.std.proofs.Math.ListN.{set}
+use Rattle.std.specs.List.{position_or_len, cons_option, slice_get}
 use Rattle.std.specs.Str.Lines.{strip_carriage_return}
-use Rattle.std.proofs.lemmas.Bool.{cases_lt}
-use Rattle.std.proofs.lemmas.List.{append-nil, length-drop, take_all, drop_all, take_at, drop_at, take-append-drop}
+use Rattle.std.proofs.lemmas.Bool.{cases_eq, cases_lt, eq-eqb, ne_eqb}
+use Rattle.std.proofs.lemmas.List.{append-nil, length-drop, drop-drop, take_all, drop_all, take_at, drop_at, take-append-drop}
 use Rattle.std.proofs.Math.Seq.{take-add}
 use Rattle.pitch_text.specs.ScheduleGrammar.{entry, schedule_entry}
 use Rattle.pitch_text.specs.declared.verb.ScheduleEntry.{ScheduleEntry}
@@ -12,7 +13,7 @@ use Rattle.text_lines.specs.declared.fault.TextError.{TextError}
 use Rattle.text_lines.specs.Text.{said_on, line_of, lines_of, item_of}
 use Rattle.text_lines.proofs.FieldLemmas.{split_first, parts_after}
 use Rattle.text_lines.proofs.TextLemmas.{is_feed, items_first}
-use Rattle.schedule_replay.specs.Stretches.{AreWholeLines, Splits, StretchPart, items_at, items_in, parts_of}
+use Rattle.schedule_replay.specs.Stretches.{AreListed, AreWholeLines, IsCut, Owned, Splits, StretchPart, items_at, items_in, list_at, list_on, part_at, parts_of, stretches_of}
 use Rattle.schedule_replay.specs.declared.stretches.Stretch.{Stretch}
 
 abbrev Items : Type 0
@@ -129,62 +130,115 @@ splits lines size text g n = elim (cases_lt size (length text)) [
 
 -- ---- All stretches
 
--- the number of the line after some stretches
-pub stretches_line : ℕ → List Stretch → ℕ
-stretches_line n [] = n
-stretches_line n (s ∷ ss) = stretches_line (n + s.lines) ss
+abbrev mark : ℕ → Stretch → Owned
+mark unit s = record { unit = unit; stretch = s }
 
--- the bytes after some stretches
-pub stretches_rest : List Stretch → List ℕ → List ℕ
-stretches_rest [] text = text
-stretches_rest (s ∷ ss) text = stretches_rest ss (drop s.size text)
+parts_snoc : (text : List ℕ) (all : List Owned) (unit : ℕ) (s : Stretch) → parts_of text (all ++ mark unit s ∷ []) ≡ parts_of text all ++ part_at text unit s ∷ []
+parts_snoc text [] unit s = refl
+parts_snoc text (o ∷ all) unit s = ap (λ (ps : List StretchPart). part_at text o.unit o.stretch ∷ ps) (parts_snoc text all unit s)
 
-parts_snoc : (n : ℕ) (ss : List Stretch) (s : Stretch) (text : List ℕ) → parts_of n (ss ++ s ∷ []) text ≡ parts_of n ss text ++ parts_of (stretches_line n ss) (s ∷ []) (stretches_rest ss text)
-unfolding stretches_line stretches_rest
-parts_snoc n [] s text = refl
-parts_snoc n (x ∷ ss) s text = ap (λ (ps : List StretchPart). record { unit = x.unit; items = items_at n (take x.size text) } ∷ ps) (parts_snoc (n + x.lines) ss s (drop x.size text))
+whose_snoc : (all : List Owned) (unit : ℕ) (s : Stretch) → map (λ (o : Owned). o.unit) (all ++ mark unit s ∷ []) ≡ map (λ (o : Owned). o.unit) all ++ unit ∷ []
+whose_snoc [] unit s = refl
+whose_snoc (o ∷ all) unit s = ap (λ (us : List ℕ). o.unit ∷ us) (whose_snoc all unit s)
 
-line_snoc : (n : ℕ) (ss : List Stretch) (s : Stretch) → stretches_line n (ss ++ s ∷ []) ≡ stretches_line n ss + s.lines
-unfolding stretches_line
-line_snoc n [] s = refl
-line_snoc n (x ∷ ss) s = line_snoc (n + x.lines) ss s
+listed_cases : (b c : Bool) (x s : Stretch) (list : List Stretch) → cond b (x ∷ cond c (list ++ s ∷ []) list) (cond c (list ++ s ∷ []) list) ≡ cond c (cond b (x ∷ list) list ++ s ∷ []) (cond b (x ∷ list) list)
+listed_cases true true x s list = refl
+listed_cases true false x s list = refl
+listed_cases false true x s list = refl
+listed_cases false false x s list = refl
 
-bytes_snoc : (ss : List Stretch) (s : Stretch) (text : List ℕ) → stretches_rest (ss ++ s ∷ []) text ≡ drop s.size (stretches_rest ss text)
-unfolding stretches_rest
-bytes_snoc [] s text = refl
-bytes_snoc (x ∷ ss) s text = bytes_snoc ss s (drop x.size text)
+listed_snoc : (all : List Owned) (unit : ℕ) (s : Stretch) (other : ℕ) → stretches_of other (all ++ mark unit s ∷ []) ≡ cond (eqb unit other) (stretches_of other all ++ s ∷ []) (stretches_of other all)
+listed_snoc [] unit s other = refl
+listed_snoc (o ∷ all) unit s other =
+    ap (λ (list : List Stretch). cond (eqb o.unit other) (o.stretch ∷ list) list) (listed_snoc all unit s other)
+    ∙ listed_cases (eqb o.unit other) (eqb unit other) o.stretch s (stretches_of other all)
 
 items_append : (ps qs : List StretchPart) → items_in (ps ++ qs) ≡ items_in ps ++ items_in qs
 items_append [] qs = refl
 items_append (p ∷ ps) qs = ap (λ (xs : Items). p.items ++ xs) (items_append ps qs) ∙ sym (append_assoc p.items (items_in ps) (items_in qs))
 
--- the stretches that were cut off, and the rest
-pub record Cutting (text : List ℕ) (ss : List Stretch) (rest : List ℕ) : Type 0 where
-  pub left : rest ≡ stretches_rest ss text
-  pub small : length rest ≤ length text
-  pub said : items_at 1 text ≡ items_in (parts_of 1 ss text) ++ items_at (stretches_line 1 ss) rest
+-- the stretches that were cut off, before a byte and a line
+pub record Cutting (text : List ℕ) (at before : ℕ) (order : List ℕ) (lists : List (Vec Stretch Global)) : Type 0 where
+  pub all : List Owned
+  pub within : at ≤ length text
+  pub few : before ≤ at
+  pub said : items_at 1 text ≡ items_in (parts_of text all) ++ items_at (before + 1) (drop at text)
+  pub whose : map (λ (o : Owned). o.unit) all ≡ order
+  pub each : AreListed all lists
 
-pub cuts_none : (text : List ℕ) → Cutting text [] text
-unfolding stretches_line stretches_rest
-cuts_none text = record { left = refl; small = omega arith; said = refl }
+pub cuts_none : (text order : List ℕ) (lists : List (Vec Stretch Global)) → order ≡ [] → ((unit : ℕ) → list_at lists unit ≡ []) → Cutting text 0 0 order lists
+cuts_none text order lists none empty = record {
+  all = [];
+  within = omega arith;
+  few = omega arith;
+  said = refl;
+  whose = sym none;
+  each = empty;
+}
 
-pub cuts_more : (text rest rest' : List ℕ) (ss : List Stretch) (s : Stretch) → Splits s.lines s.size rest → rest' ≡ drop s.size rest → Cutting text ss rest → Cutting text (ss ++ s ∷ []) rest'
-cuts_more text rest rest' ss s split next c =
-    let n : ℕ = stretches_line 1 ss in
-    let here : parts_of n (s ∷ []) (stretches_rest ss text) ≡ record { unit = s.unit; items = items_at n (take s.size rest) } ∷ [] = ap (parts_of n (s ∷ [])) (sym c.left) in
-    let parts : items_in (parts_of 1 (ss ++ s ∷ []) text) ≡ items_in (parts_of 1 ss text) ++ items_at n (take s.size rest) =
-    ap (λ (ps : List StretchPart). items_in ps) (parts_snoc 1 ss s text) ∙ items_append (parts_of 1 ss text) (parts_of n (s ∷ []) (stretches_rest ss text))
-    ∙ ap (λ (ps : List StretchPart). items_in (parts_of 1 ss text) ++ items_in ps) here ∙ ap (λ (xs : Items). items_in (parts_of 1 ss text) ++ xs) (append-nil (items_at n (take s.size rest))) in
+pub cuts_more : (text rest order order' : List ℕ) (lists lists' : List (Vec Stretch Global)) (unit lines at' before' : ℕ) (s : Stretch) → rest ≡ drop s.at text → Splits lines s.size rest → s.size ≤ length rest → lines ≤ s.size
+    → at' ≡ s.at + s.size → before' ≡ s.before + lines → order' ≡ order ++ unit ∷ [] → ((other : ℕ) → list_at lists' other ≡ cond (eqb unit other) (list_at lists other ++ s ∷ []) (list_at lists other))
+    → Cutting text s.at s.before order lists → Cutting text at' before' order' lists'
+cuts_more text rest order order' lists lists' unit lines at' before' s is split size few next counted ordered listed c =
+    let n : ℕ = s.before + 1 in
+    let more : n + lines ≡ before' + 1 = omega (arith, counted) in
+    let parts : items_in (parts_of text (c.all ++ mark unit s ∷ [])) ≡ items_in (parts_of text c.all) ++ items_at n (take s.size rest) =
+    ap (λ (ps : List StretchPart). items_in ps) (parts_snoc text c.all unit s) ∙ items_append (parts_of text c.all) (part_at text unit s ∷ [])
+    ∙ ap (λ (xs : Items). items_in (parts_of text c.all) ++ xs) (append-nil (items_at n (take s.size (drop s.at text))))
+    ∙ ap (λ (l : List ℕ). items_in (parts_of text c.all) ++ items_at n (take s.size l)) (sym is) in
+    let later : drop s.size rest ≡ drop at' text = ap (drop s.size) is ∙ drop-drop s.size s.at text ∙ ap (λ (k : ℕ). drop k text) (sym next) in
     record {
-      left = next ∙ ap (drop s.size) c.left ∙ sym (bytes_snoc ss s text);
-      small = omega (arith, c.small, ap (λ (l : List ℕ). length l) next, length-drop s.size rest);
-      said = c.said ∙ ap (λ (xs : Items). items_in (parts_of 1 ss text) ++ xs) (split n)
-          ∙ sym (append_assoc (items_in (parts_of 1 ss text)) (items_at n (take s.size rest)) (items_at (n + s.lines) (drop s.size rest)))
-          ∙ ap (λ (xs : Items). xs ++ items_at (n + s.lines) (drop s.size rest)) (sym parts)
-          ∙ ap (λ (m : ℕ). items_in (parts_of 1 (ss ++ s ∷ []) text) ++ items_at m (drop s.size rest)) (sym (line_snoc 1 ss s))
-          ∙ ap (λ (l : List ℕ). items_in (parts_of 1 (ss ++ s ∷ []) text) ++ items_at (stretches_line 1 (ss ++ s ∷ [])) l) (sym next);
+      all = c.all ++ mark unit s ∷ [];
+      within = omega (arith, c.within, size, next, ap (λ (l : List ℕ). length l) is, length-drop s.at text);
+      few = omega (arith, c.few, few, next, counted);
+      said = c.said ∙ ap (λ (l : List ℕ). items_in (parts_of text c.all) ++ items_at n l) (sym is)
+          ∙ ap (λ (xs : Items). items_in (parts_of text c.all) ++ xs) (split n)
+          ∙ sym (append_assoc (items_in (parts_of text c.all)) (items_at n (take s.size rest)) (items_at (n + lines) (drop s.size rest)))
+          ∙ ap (λ (xs : Items). xs ++ items_at (n + lines) (drop s.size rest)) (sym parts)
+          ∙ ap (λ (m : ℕ). items_in (parts_of text (c.all ++ mark unit s ∷ [])) ++ items_at m (drop s.size rest)) more
+          ∙ ap (λ (l : List ℕ). items_in (parts_of text (c.all ++ mark unit s ∷ [])) ++ items_at (before' + 1) l) later;
+      whose = whose_snoc c.all unit s ∙ ap (λ (us : List ℕ). us ++ unit ∷ []) c.whose ∙ sym ordered;
+      each = λ other. listed other ∙ ap (λ (list : List Stretch). cond (eqb unit other) (list ++ s ∷ []) list) (c.each other) ∙ sym (listed_snoc c.all unit s other);
     }
 
-pub cuts_all : (text rest : List ℕ) (ss : List Stretch) → rest ≡ [] → Cutting text ss rest → items_at 1 text ≡ items_in (parts_of 1 ss text)
-cuts_all text rest ss none c =
-    c.said ∙ ap (λ (l : List ℕ). items_in (parts_of 1 ss text) ++ items_at (stretches_line 1 ss) l) none ∙ ap (λ (xs : Items). items_in (parts_of 1 ss text) ++ xs) (none_left (stretches_line 1 ss)) ∙ append-nil (items_in (parts_of 1 ss text))
+pub cuts_all : (text : List ℕ) (at before : ℕ) (order : List ℕ) (lists : List (Vec Stretch Global)) → length text ≤ at → Cutting text at before order lists → IsCut text order lists
+cuts_all text at before order lists end c = record {
+  all = c.all;
+  said = c.said ∙ ap (λ (l : List ℕ). items_in (parts_of text c.all) ++ items_at (before + 1) l) (drop_all at text end) ∙ ap (λ (xs : Items). items_in (parts_of text c.all) ++ xs) (none_left (before + 1)) ∙ append-nil (items_in (parts_of text c.all));
+  whose = c.whose;
+  each = c.each;
+}
+
+-- ---- One list of each unit
+
+pub no_list_more : (lists : List (Vec Stretch Global)) (list : Vec Stretch Global) → list.items ≡ [] → ((unit : ℕ) → list_at lists unit ≡ []) → (unit : ℕ) → list_at (lists ++ list ∷ []) unit ≡ []
+no_list_more [] list empty none zero = empty
+no_list_more [] list empty none (suc unit) = refl
+no_list_more (x ∷ lists) list empty none zero = none 0
+no_list_more (x ∷ lists) list empty none (suc unit) = no_list_more lists list empty (λ u. none (suc u)) unit
+
+list_set_same : (lists : List (Vec Stretch Global)) (unit : ℕ) (list : Vec Stretch Global) → unit < length lists → list_at (set lists unit list) unit ≡ list.items
+list_set_same [] unit list lt = absurd (omega arith)
+list_set_same (x ∷ lists) zero list lt = refl
+list_set_same (x ∷ lists) (suc unit) list lt = list_set_same lists unit list (omega arith)
+
+list_set_other : (lists : List (Vec Stretch Global)) (unit other : ℕ) (list : Vec Stretch Global) → unit ≢ other → list_at (set lists unit list) other ≡ list_at lists other
+list_set_other [] unit other list apart = refl
+list_set_other (x ∷ lists) zero zero list apart = absurd (apart refl)
+list_set_other (x ∷ lists) zero (suc other) list apart = refl
+list_set_other (x ∷ lists) (suc unit) zero list apart = refl
+list_set_other (x ∷ lists) (suc unit) (suc other) list apart = list_set_other lists unit other list (λ e. apart (omega arith))
+
+-- a stretch more in a unit's list
+pub list_more : (lists : List (Vec Stretch Global)) (unit : ℕ) (old new : Vec Stretch Global) (s : Stretch) → unit < length lists → slice_get lists unit ≡ Some old → new.items ≡ old.items ++ s ∷ []
+    → (other : ℕ) → list_at (set lists unit new) other ≡ cond (eqb unit other) (list_at lists other ++ s ∷ []) (list_at lists other)
+list_more lists unit old new s lt at grown other = elim (cases_eq unit other) [
+  | inl same ↦
+      ap (list_at (set lists unit new)) (sym same) ∙ list_set_same lists unit new lt ∙ grown
+      ∙ ap (λ (o : Option (Vec Stretch Global)). list_on o ++ s ∷ []) (sym at)
+      ∙ ap (λ (u : ℕ). list_at lists u ++ s ∷ []) same
+      ∙ sym (ap (λ (b : Bool). cond b (list_at lists other ++ s ∷ []) (list_at lists other)) (eq-eqb unit other same))
+  | inr apart ↦
+      list_set_other lists unit other new apart
+      ∙ sym (ap (λ (b : Bool). cond b (list_at lists other ++ s ∷ []) (list_at lists other)) (ne_eqb unit other apart))
+]

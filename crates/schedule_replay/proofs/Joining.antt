@@ -1,7 +1,7 @@
 -- The texts and the worlds of units, put together again.
-use Rattle.std.proofs.Common.{◌≡◌, ◌≢◌, ℕ, zero, suc, ◌+◌, ◌<◌, ◌≤◌, inl, inr, Bool, true, false, cond, true≢false, ◌&&◌, eqb, List, [], ◌∷◌, ◌++◌, length, take, drop, reverse, Option, Some, None, Result, Ok, Err, IfSome, refl, sym, ap, ◌∙◌, arith, append_assoc, subst}
+use Rattle.std.proofs.Common.{◌≡◌, ◌≢◌, ℕ, zero, suc, ◌+◌, ◌<◌, ◌≤◌, inl, inr, Bool, true, false, cond, true≢false, eqb, List, [], ◌∷◌, ◌++◌, length, take, drop, map, reverse, Option, Some, None, Result, Vec, Global, Ok, Err, IfSome, refl, sym, ap, ◌∙◌, arith, append_assoc, subst}
 use Rattle.std.proofs.Math.ListN.{set, length-set}
-use Rattle.std.specs.List.{AllByRecursion, list_all, slice_get}
+use Rattle.std.specs.List.{AllByRecursion, slice_get}
 use Rattle.std.proofs.lemmas.Bool.{cases_Bool, cases_eq, cases_lt, eq-eqb, ne_eqb}
 use Rattle.std.proofs.lemmas.Grind.{reverse_onto}
 use Rattle.std.proofs.lemmas.List.{append-nil, drop-drop, drop_all}
@@ -19,8 +19,8 @@ use Rattle.world_model.specs.Stands.{WorldStands}
 use Rattle.world_model.specs.declared.world.World.{World}
 use Rattle.schedule_replay.specs.Apart.{own, first_piece}
 use Rattle.schedule_replay.specs.Replay.{verbs_of, limits_of, replay_line, replay_text, schedule_of}
-use Rattle.schedule_replay.specs.Runs.{entries_among, without_fault, AreOf, ArePartsOf, part_entries, part_texts, cut_by, Ran, left_pieces, pieces_on, pieces_at, put_together, AreRunsAt, is_filled, has_world}
-use Rattle.schedule_replay.specs.Stretches.{StretchPart, items_at, items_in, parts_of}
+use Rattle.schedule_replay.specs.Runs.{entries_among, without_fault, AreFilled, AreOf, ArePartsOf, part_entries, part_texts, cut_by, Ran, left_pieces, pieces_on, pieces_at, put_together, AreRunsAt, is_filled, has_world}
+use Rattle.schedule_replay.specs.Stretches.{IsCut, Owned, StretchPart, items_at, items_in, parts_of, stretches_of}
 use Rattle.schedule_replay.specs.Worlds.{IsPlace, ArePlaces}
 use Rattle.schedule_replay.specs.declared.merging.Left.{Left}
 use Rattle.schedule_replay.specs.declared.stretches.Stretch.{Stretch}
@@ -102,14 +102,6 @@ pub all_at : {X : Type 0} (P : X → Type 0) (xs : List X) → ((n : ℕ) → If
 all_at P [] each = tt
 all_at P (x ∷ xs) each = (each 0, all_at P xs (λ n. each (suc n)))
 
-and_true : (a b : Bool) → (a && b) ≡ true → (a ≡ true) × (b ≡ true)
-and_true true b h = (refl, h)
-and_true false b h = absurd (true≢false (sym h))
-
-pub all_true : {X : Type 0} (p : X → Bool) (xs : List X) → list_all p xs ≡ true → AllByRecursion (λ (x : X). p x ≡ true) xs
-all_true p [] h = tt
-all_true p (x ∷ xs) h = let both = and_true (p x) (list_all p xs) h in (both.0, all_true p xs both.1)
-
 -- ---- The entries of all parts
 
 pub all_entries : List StretchPart → List ScheduleEntry
@@ -124,9 +116,21 @@ parts_each : (P : ℕ → Type 0) (ps : List StretchPart) → AllByRecursion (λ
 parts_each P [] has are = tt
 parts_each P (p ∷ ps) has are = ((are p.unit has.0).0 refl, parts_each P ps has.1 (λ unit it. (are unit it).1))
 
-parts_have : (P : ℕ → Type 0) (ss : List Stretch) (n : ℕ) (text : List ℕ) → AllByRecursion (λ (s : Stretch). P s.unit) ss → AllByRecursion (λ (p : StretchPart). P p.unit) (parts_of n ss text)
-parts_have P [] n text has = tt
-parts_have P (s ∷ ss) n text has = (has.0, parts_have P ss (n + s.lines) (drop s.size text) has.1)
+-- what is so of each unit that has a stretch is so of the unit of each part
+parts_have : (P : ℕ → Type 0) (text : List ℕ) (all : List Owned) → ((unit : ℕ) → 0 < length (stretches_of unit all) → P unit) → AllByRecursion (λ (p : StretchPart). P p.unit) (parts_of text all)
+parts_have P text [] has = tt
+parts_have P text (o ∷ all) has =
+    let first : 0 < length (stretches_of o.unit (o ∷ all)) =
+    subst (λ (b : Bool). 0 < length (cond b (o.stretch ∷ stretches_of o.unit all) (stretches_of o.unit all))) (sym (eq-eqb o.unit o.unit refl)) (omega arith) in
+    (has o.unit first, parts_have P text all (λ unit some. has unit (longer (eqb o.unit unit) o.stretch (stretches_of unit all) some)))
+  where
+    longer : (b : Bool) (s : Stretch) (list : List Stretch) → 0 < length list → 0 < length (cond b (s ∷ list) list)
+    longer true s list some = omega arith
+    longer false s list some = some
+
+units_same : (text : List ℕ) (all : List Owned) → map (λ (p : StretchPart). p.unit) (parts_of text all) ≡ map (λ (o : Owned). o.unit) all
+units_same text [] = refl
+units_same text (o ∷ all) = ap (λ (us : List ℕ). o.unit ∷ us) (units_same text all)
 
 good_append : (es fs : List ScheduleEntry) → without_fault (es ++ fs) ≡ without_fault es ++ without_fault fs
 good_append [] fs = refl
@@ -222,14 +226,12 @@ own_others : (unit other : ℕ) (es before : List ScheduleEntry) → other ≢ u
 own_others unit other es before apart all =
     own_append unit (reverse es) before ∙ ap (λ (l : List ScheduleEntry). l ++ own unit before) (own_reverse unit es ∙ ap (λ (l : List ScheduleEntry). reverse l) (own_none unit other es apart all))
 
-joins : (P : ℕ → Type 0) (ss : List Stretch) (n : ℕ) (text : List ℕ) (pieces : ℕ → List (List ℕ)) (before : List ScheduleEntry) → AllByRecursion (λ (s : Stretch). P s.unit) ss → AllParts (parts_of n ss text)
-    → ((unit : ℕ) → P unit → pieces unit ≡ part_texts unit (own unit before) (parts_of n ss text)) → texts_after replay_line before (all_entries (parts_of n ss text)) ≡ put_together pieces ss
+joins : (P : ℕ → Type 0) (parts : List StretchPart) (pieces : ℕ → List (List ℕ)) (before : List ScheduleEntry) → AllByRecursion (λ (p : StretchPart). P p.unit) parts → AllParts parts
+    → ((unit : ℕ) → P unit → pieces unit ≡ part_texts unit (own unit before) parts) → texts_after replay_line before (all_entries parts) ≡ put_together pieces (map (λ (p : StretchPart). p.unit) parts)
 unfolding all_entries
-joins P [] n text pieces before has all are = texts_none replay_line before
-joins P (s ∷ ss) n text pieces before has all are =
-    let items : Items = items_at n (take s.size text) in
-    let es : List ScheduleEntry = entries_among items in
-    let ps : List StretchPart = parts_of (n + s.lines) ss (drop s.size text) in
+joins P [] pieces before has all are = texts_none replay_line before
+joins P (s ∷ ps) pieces before has all are =
+    let es : List ScheduleEntry = entries_among s.items in
     let here : pieces s.unit ≡ texts_after replay_line (own s.unit before) es ∷ part_texts s.unit (reverse es ++ own s.unit before) ps =
     are s.unit has.0 ∙ ap (λ (b : Bool). cond b (texts_after replay_line (own s.unit before) es ∷ part_texts s.unit (reverse es ++ own s.unit before) ps) (part_texts s.unit (own s.unit before) ps)) (eq-eqb s.unit s.unit refl) in
     let first : texts_after replay_line before es ≡ first_piece (pieces s.unit) = texts_apart s.unit es before all.0.own ∙ sym (ap first_piece here) in
@@ -247,7 +249,7 @@ joins P (s ∷ ss) n text pieces before has all are =
     ] in
     texts_append es (all_entries ps) before
     ∙ ap (λ (t : List ℕ). t ++ texts_after replay_line (reverse es ++ before) (all_entries ps)) first
-    ∙ ap (λ (t : List ℕ). first_piece (pieces s.unit) ++ t) (joins P ss (n + s.lines) (drop s.size text) (λ unit. cond (eqb s.unit unit) (drop 1 (pieces unit)) (pieces unit)) (reverse es ++ before) has.1 all.1 next)
+    ∙ ap (λ (t : List ℕ). first_piece (pieces s.unit) ++ t) (joins P ps (λ unit. cond (eqb s.unit unit) (drop 1 (pieces unit)) (pieces unit)) (reverse es ++ before) has.1 all.1 next)
 
 -- ---- The whole
 
@@ -307,25 +309,26 @@ whole_places ps places lefts are has all = record {
     by unit (Some world) at = place_by_verbs (reverse (part_entries unit ps)) (reverse (all_entries ps)) unit (Some world) (verbs_by_parts unit ps all) (are.each unit world at).done
 
 -- all units were run apart, and their texts joined
-pub record RunsApart (text : List ℕ) (places : List (Option World)) (stretches : List Stretch) (lefts : List Left) : Type 0 where
+pub record RunsApart (text : List ℕ) (places : List (Option World)) (order : List ℕ) (lefts : List Left) : Type 0 where
   pub entries : List ScheduleEntry
   pub read : schedule_of text ≡ Ok entries
   pub are : ArePlaces (reverse entries) places
-  pub written : replay_text entries ≡ put_together (pieces_at lefts) stretches
+  pub written : replay_text entries ≡ put_together (pieces_at lefts) order
 
-pub runs_apart : (text : List ℕ) (ss : List Stretch) (places : List (Option World)) (lefts : List Left) → items_at 1 text ≡ items_in (parts_of 1 ss text) → AreRunsAt (parts_of 1 ss text) places lefts
-    → list_all (λ (s : Stretch). has_world places s.unit) ss ≡ true → RunsApart text places ss lefts
-runs_apart text ss places lefts cuts are filled =
-    let ps : List StretchPart = parts_of 1 ss text in
-    let has : AllByRecursion (λ (s : Stretch). Filled places s.unit) ss = all_true (λ (s : Stretch). has_world places s.unit) ss filled in
-    let have : AllByRecursion (λ (p : StretchPart). Filled places p.unit) ps = parts_have (Filled places) ss 1 text has in
+pub runs_apart : (text order : List ℕ) (lists : List (Vec Stretch Global)) (places : List (Option World)) (lefts : List Left) (cut : IsCut text order lists) → AreRunsAt (parts_of text cut.all) places lefts → AreFilled lists places
+    → RunsApart text places order lefts
+runs_apart text order lists places lefts cut are filled =
+    let ps : List StretchPart = parts_of text cut.all in
+    let have : AllByRecursion (λ (p : StretchPart). Filled places p.unit) ps =
+    parts_have (Filled places) text cut.all (λ unit some. filled unit (subst (λ (list : List Stretch). 0 < length list) (sym (cut.each unit)) some)) in
     let all : AllParts ps = parts_each (Filled places) ps have (λ unit it. (parts_at ps places lefts are unit it).0) in
-    let items : items_at 1 text ≡ without_fault (all_entries ps) = cuts ∙ all_good ps all in
+    let items : items_at 1 text ≡ without_fault (all_entries ps) = cut.said ∙ all_good ps all in
     record {
       entries = all_entries ps;
       read = said_all text (items_at 1 text) (all_entries ps) (items_all entry schedule_entry text) (ap (λ (xs : Items). all_of xs) items ∙ good_all (all_entries ps));
       are = whole_places ps places lefts are have all;
-      written = joins (Filled places) ss 1 text (pieces_at lefts) [] has all (λ unit it. (parts_at ps places lefts are unit it).1);
+      written = joins (Filled places) ps (pieces_at lefts) [] have all (λ unit it. (parts_at ps places lefts are unit it).1)
+          ∙ ap (put_together (pieces_at lefts)) (units_same text cut.all ∙ cut.whose);
     }
 
 -- ---- At each stretch the next text
@@ -345,12 +348,12 @@ next_piece lengths text next at size there =
     ap (λ (ns : List ℕ). cut_by ns (drop at text)) (drop_there lengths next size there)
     ∙ ap (λ (t : List ℕ). take size (drop at text) ∷ cut_by (drop (next + 1) lengths) t) (drop-drop size at text)
 
-joined_same : (ss : List Stretch) (p q : ℕ → List (List ℕ)) → ((unit : ℕ) → p unit ≡ q unit) → put_together p ss ≡ put_together q ss
+joined_same : (ss : List ℕ) (p q : ℕ → List (List ℕ)) → ((unit : ℕ) → p unit ≡ q unit) → put_together p ss ≡ put_together q ss
 joined_same [] p q same = refl
 joined_same (s ∷ ss) p q same =
-    ap (λ (ps : List (List ℕ)). first_piece ps ++ put_together (λ unit. cond (eqb s.unit unit) (drop 1 (p unit)) (p unit)) ss) (same s.unit)
-    ∙ ap (λ (t : List ℕ). first_piece (q s.unit) ++ t) (joined_same ss (λ unit. cond (eqb s.unit unit) (drop 1 (p unit)) (p unit)) (λ unit. cond (eqb s.unit unit) (drop 1 (q unit)) (q unit))
-    (λ unit. ap (λ (ps : List (List ℕ)). cond (eqb s.unit unit) (drop 1 ps) ps) (same unit)))
+    ap (λ (ps : List (List ℕ)). first_piece ps ++ put_together (λ unit. cond (eqb s unit) (drop 1 (p unit)) (p unit)) ss) (same s)
+    ∙ ap (λ (t : List ℕ). first_piece (q s) ++ t) (joined_same ss (λ unit. cond (eqb s unit) (drop 1 (p unit)) (p unit)) (λ unit. cond (eqb s unit) (drop 1 (q unit)) (q unit))
+    (λ unit. ap (λ (ps : List (List ℕ)). cond (eqb s unit) (drop 1 ps) ps) (same unit)))
 
 taken_at : (lefts : List Left) (unit : ℕ) (left left' : Left) → unit < length lefts → slice_get lefts unit ≡ Some left → left_pieces left' ≡ drop 1 (left_pieces left)
     → (v : ℕ) → cond (eqb unit v) (drop 1 (pieces_at lefts v)) (pieces_at lefts v) ≡ pieces_at (set lefts unit left') v
@@ -364,25 +367,25 @@ taken_at lefts unit left left' lt at taken v = elim (cases_eq unit v) [
 ]
 
 -- what was appended, and what is left, are the whole
-pub Merging : List Stretch → ℕ → List Left → List Left → List ℕ → List ℕ → Type 0
+pub Merging : List ℕ → ℕ → List Left → List Left → List ℕ → List ℕ → Type 0
 Merging ss i first lefts old now = old ++ put_together (pieces_at first) ss ≡ now ++ put_together (pieces_at lefts) (drop i ss)
 
-pub merging_none : (ss : List Stretch) (lefts : List Left) (old : List ℕ) → Merging ss 0 lefts lefts old old
+pub merging_none : (ss : List ℕ) (lefts : List Left) (old : List ℕ) → Merging ss 0 lefts lefts old old
 unfolding Merging
 merging_none ss lefts old = refl
 
-pub merging_more : (ss : List Stretch) (i : ℕ) (s : Stretch) (first lefts : List Left) (old now new : List ℕ) (left left' : Left) → slice_get ss i ≡ Some s → Merging ss i first lefts old now
-    → s.unit < length lefts → slice_get lefts s.unit ≡ Some left → new ≡ now ++ first_piece (left_pieces left) → left_pieces left' ≡ drop 1 (left_pieces left) → Merging ss (i + 1) first (set lefts s.unit left') old new
+pub merging_more : (ss : List ℕ) (i : ℕ) (s : ℕ) (first lefts : List Left) (old now new : List ℕ) (left left' : Left) → slice_get ss i ≡ Some s → Merging ss i first lefts old now
+    → s < length lefts → slice_get lefts s ≡ Some left → new ≡ now ++ first_piece (left_pieces left) → left_pieces left' ≡ drop 1 (left_pieces left) → Merging ss (i + 1) first (set lefts s left') old new
 unfolding Merging
 merging_more ss i s first lefts old now new left left' there so_far lt at text taken =
     so_far
-    ∙ ap (λ (l : List Stretch). now ++ put_together (pieces_at lefts) l) (drop_there ss i s there)
-    ∙ ap (λ (o : Option Left). now ++ (first_piece (pieces_on o) ++ put_together (λ unit. cond (eqb s.unit unit) (drop 1 (pieces_at lefts unit)) (pieces_at lefts unit)) (drop (i + 1) ss))) at
-    ∙ ap (λ (t : List ℕ). now ++ (first_piece (left_pieces left) ++ t)) (joined_same (drop (i + 1) ss) (λ unit. cond (eqb s.unit unit) (drop 1 (pieces_at lefts unit)) (pieces_at lefts unit)) (pieces_at (set lefts s.unit left')) (taken_at lefts s.unit left left' lt at taken))
-    ∙ sym (append_assoc now (first_piece (left_pieces left)) (put_together (pieces_at (set lefts s.unit left')) (drop (i + 1) ss)))
-    ∙ ap (λ (t : List ℕ). t ++ put_together (pieces_at (set lefts s.unit left')) (drop (i + 1) ss)) (sym text)
+    ∙ ap (λ (l : List ℕ). now ++ put_together (pieces_at lefts) l) (drop_there ss i s there)
+    ∙ ap (λ (o : Option Left). now ++ (first_piece (pieces_on o) ++ put_together (λ unit. cond (eqb s unit) (drop 1 (pieces_at lefts unit)) (pieces_at lefts unit)) (drop (i + 1) ss))) at
+    ∙ ap (λ (t : List ℕ). now ++ (first_piece (left_pieces left) ++ t)) (joined_same (drop (i + 1) ss) (λ unit. cond (eqb s unit) (drop 1 (pieces_at lefts unit)) (pieces_at lefts unit)) (pieces_at (set lefts s left')) (taken_at lefts s left left' lt at taken))
+    ∙ sym (append_assoc now (first_piece (left_pieces left)) (put_together (pieces_at (set lefts s left')) (drop (i + 1) ss)))
+    ∙ ap (λ (t : List ℕ). t ++ put_together (pieces_at (set lefts s left')) (drop (i + 1) ss)) (sym text)
 
-pub merging_end : (ss : List Stretch) (i : ℕ) (first lefts : List Left) (old now : List ℕ) → length ss ≤ i → Merging ss i first lefts old now → now ≡ old ++ put_together (pieces_at first) ss
+pub merging_end : (ss : List ℕ) (i : ℕ) (first lefts : List Left) (old now : List ℕ) → length ss ≤ i → Merging ss i first lefts old now → now ≡ old ++ put_together (pieces_at first) ss
 unfolding Merging
 merging_end ss i first lefts old now end all =
-    sym (append-nil now) ∙ ap (λ (l : List Stretch). now ++ put_together (pieces_at lefts) l) (sym (drop_all i ss end)) ∙ sym all
+    sym (append-nil now) ∙ ap (λ (l : List ℕ). now ++ put_together (pieces_at lefts) l) (sym (drop_all i ss end)) ∙ sym all

@@ -1,9 +1,9 @@
 -- The units of a text run apart.
-use Rattle.std.proofs.Common.{◌≡◌, ◌≢◌, ℕ, zero, suc, ◌+◌, ◌-◌, ◌≤◌, Bool, true, false, cond, eqb, List, [], ◌∷◌, ◌++◌, length, length-append, take, drop, map, reverse, Option, Some, None, Result, Ok, Err, refl, sym, ap, ◌∙◌, arith, append_assoc, subst}
+use Rattle.std.proofs.Common.{◌≡◌, ◌≢◌, ℕ, zero, suc, ◌+◌, ◌-◌, ◌≤◌, inl, inr, Bool, true, false, cond, eqb, List, [], ◌∷◌, ◌++◌, length, length-append, take, drop, map, reverse, Option, Some, None, Result, Vec, Global, IfOk, Ok, Err, refl, sym, ap, ◌∙◌, arith, append_assoc, subst}
 use Rattle.std.specs.Prelude.{option_map}
 use Rattle.std.specs.List.{cons_option, AllByRecursion, slice_get}
-use Rattle.std.proofs.lemmas.Bool.{eq-eqb, ne_eqb}
-use Rattle.std.proofs.lemmas.List.{append-nil, reverse-append, take_all, take-append-le, drop-append-le, length-drop, drop_all, nil_from_length}
+use Rattle.std.proofs.lemmas.Bool.{cases_eq, eq-eqb, ne_eqb}
+use Rattle.std.proofs.lemmas.List.{append-nil, reverse-append, take_all, take-append-le, drop-append-le, length-drop, nil_from_length}
 use Rattle.std.proofs.lemmas.Option.{slice_get_past}
 use Rattle.feed_lines.specs.Texts.{texts_after}
 use Rattle.feed_lines.proofs.Texts.{texts_none, texts_more, reverse_more}
@@ -18,10 +18,11 @@ use Rattle.text_lines.specs.declared.fault.TextError.TheVariants as errors
 use Rattle.world_model.specs.declared.world.World.{World}
 use Rattle.schedule_replay.specs.Replay.{replay_line}
 use Rattle.schedule_replay.specs.Runs.{later, entries_among, without_fault, AreOf, ArePartsOf, part_entries, part_texts, RunsLines, cut_by, lengths_total, Ran}
-use Rattle.schedule_replay.specs.Stretches.{StretchPart, items_at, parts_of}
+use Rattle.schedule_replay.specs.Stretches.{AreListed, Owned, StretchPart, items_at, list_at, part_at, parts_of, stretches_of, unit_parts}
 use Rattle.schedule_replay.specs.Worlds.{IsPlace}
 use Rattle.schedule_replay.specs.declared.stretches.Stretch.{Stretch}
 use Rattle.schedule_replay.specs.declared.units.Run.{Run}
+use Rattle.schedule_replay.specs.declared.unrun.Unrun.{Unrun}
 
 abbrev Items : Type 0
 Items = List (Result ScheduleEntry TextError)
@@ -165,9 +166,6 @@ entries_more unit (q ∷ ps) p =
 entry_same : (unit : ℕ) (p : StretchPart) → p.unit ≡ unit → part_entries unit (p ∷ []) ≡ entries_among p.items
 entry_same unit p same = ap (λ (b : Bool). cond b (entries_among p.items ++ []) []) (eq-eqb p.unit unit same) ∙ append-nil (entries_among p.items)
 
-entry_other : (unit : ℕ) (p : StretchPart) → p.unit ≢ unit → part_entries unit (p ∷ []) ≡ []
-entry_other unit p other = ap (λ (b : Bool). cond b (entries_among p.items ++ []) []) (ne_eqb p.unit unit other)
-
 reverse_front : (es l before : List ScheduleEntry) → reverse l ++ (reverse es ++ before) ≡ reverse (es ++ l) ++ before
 reverse_front es l before = sym (append_assoc (reverse l) (reverse es) before) ∙ ap (λ (r : List ScheduleEntry). r ++ before) (sym (reverse-append es l))
 
@@ -187,9 +185,6 @@ parts_texts_more unit before (q ∷ ps) p = texts_cases (eqb q.unit unit) q unit
 
 text_same : (unit : ℕ) (before : List ScheduleEntry) (p : StretchPart) → p.unit ≡ unit → part_texts unit before (p ∷ []) ≡ texts_after replay_line before (entries_among p.items) ∷ []
 text_same unit before p same = ap (λ (b : Bool). cond b (texts_after replay_line before (entries_among p.items) ∷ []) []) (eq-eqb p.unit unit same)
-
-text_other : (unit : ℕ) (before : List ScheduleEntry) (p : StretchPart) → p.unit ≢ unit → part_texts unit before (p ∷ []) ≡ []
-text_other unit before p other = ap (λ (b : Bool). cond b (texts_after replay_line before (entries_among p.items) ∷ []) []) (ne_eqb p.unit unit other)
 
 -- ---- Texts end to end, cut by their lengths
 
@@ -248,54 +243,123 @@ ran_more parts unit items run run' n own same runs size grown ran =
       whole = ap (λ (ns : List ℕ). lengths_total ns) grown ∙ total_more run.lengths.items n ∙ (omega (arith, ran.whole, long, ap (λ (t : List ℕ). length t) new.written, length-append run.text.items piece));
     }
 
-pub ran_other : (parts : List StretchPart) (unit : ℕ) (items : Items) (run : Run) → unit ≢ run.unit → Ran parts run → Ran (parts ++ record { unit = unit; items = items } ∷ []) run
-ran_other parts unit items run other ran =
-    let p : StretchPart = record { unit = unit; items = items } in
-    let entries : part_entries run.unit (parts ++ p ∷ []) ≡ part_entries run.unit parts =
-    entries_more run.unit parts p ∙ ap (λ (l : List ScheduleEntry). part_entries run.unit parts ++ l) (entry_other run.unit p other) ∙ append-nil (part_entries run.unit parts) in
+-- ---- A unit's stretches, among all
+
+part_same : (unit : ℕ) (o : Owned) (all : List Owned) → o.unit ≡ unit → stretches_of unit (o ∷ all) ≡ o.stretch ∷ stretches_of unit all
+part_same unit o all same = ap (λ (b : Bool). cond b (o.stretch ∷ stretches_of unit all) (stretches_of unit all)) (eq-eqb o.unit unit same)
+
+part_other : (unit : ℕ) (o : Owned) (all : List Owned) → o.unit ≢ unit → stretches_of unit (o ∷ all) ≡ stretches_of unit all
+part_other unit o all other = ap (λ (b : Bool). cond b (o.stretch ∷ stretches_of unit all) (stretches_of unit all)) (ne_eqb o.unit unit other)
+
+-- the unit's own parts are its parts among all
+own_are : (text : List ℕ) (unit : ℕ) (all : List Owned) → ArePartsOf unit (unit_parts text unit (stretches_of unit all)) → ArePartsOf unit (parts_of text all)
+own_are text unit [] are = tt
+own_are text unit (o ∷ all) are = elim (cases_eq o.unit unit) [
+  | inl same ↦
+      let its : ArePartsOf unit (unit_parts text unit (o.stretch ∷ stretches_of unit all)) = subst (λ (list : List Stretch). ArePartsOf unit (unit_parts text unit list)) (part_same unit o all same) are in
+      (λ e. its.0 refl, own_are text unit all its.1)
+  | inr other ↦ (λ e. absurd (other e), own_are text unit all (subst (λ (list : List Stretch). ArePartsOf unit (unit_parts text unit list)) (part_other unit o all other) are))
+]
+
+own_entries : (text : List ℕ) (unit : ℕ) (all : List Owned) → part_entries unit (unit_parts text unit (stretches_of unit all)) ≡ part_entries unit (parts_of text all)
+own_entries text unit [] = refl
+own_entries text unit (o ∷ all) =
+    let p : StretchPart = part_at text o.unit o.stretch in
+    let mine : List ScheduleEntry = part_entries unit (unit_parts text unit (stretches_of unit all)) in
+    let rest : List ScheduleEntry = part_entries unit (parts_of text all) in
+    elim (cases_eq o.unit unit) [
+      | inl same ↦
+          ap (λ (list : List Stretch). part_entries unit (unit_parts text unit list)) (part_same unit o all same)
+          ∙ ap (λ (b : Bool). cond b (entries_among p.items ++ mine) mine) (eq-eqb unit unit refl)
+          ∙ ap (λ (l : List ScheduleEntry). entries_among p.items ++ l) (own_entries text unit all)
+          ∙ sym (ap (λ (b : Bool). cond b (entries_among p.items ++ rest) rest) (eq-eqb o.unit unit same))
+      | inr other ↦
+          ap (λ (list : List Stretch). part_entries unit (unit_parts text unit list)) (part_other unit o all other)
+          ∙ own_entries text unit all
+          ∙ sym (ap (λ (b : Bool). cond b (entries_among p.items ++ rest) rest) (ne_eqb o.unit unit other))
+    ]
+
+own_texts : (text : List ℕ) (unit : ℕ) (before : List ScheduleEntry) (all : List Owned) → part_texts unit before (unit_parts text unit (stretches_of unit all)) ≡ part_texts unit before (parts_of text all)
+own_texts text unit before [] = refl
+own_texts text unit before (o ∷ all) =
+    let p : StretchPart = part_at text o.unit o.stretch in
+    let mine : List StretchPart = unit_parts text unit (stretches_of unit all) in
+    let rest : List StretchPart = parts_of text all in
+    let here : List ℕ = texts_after replay_line before (entries_among p.items) in
+    let later_lines : List ScheduleEntry = reverse (entries_among p.items) ++ before in
+    elim (cases_eq o.unit unit) [
+      | inl same ↦
+          ap (λ (list : List Stretch). part_texts unit before (unit_parts text unit list)) (part_same unit o all same)
+          ∙ ap (λ (b : Bool). cond b (here ∷ part_texts unit later_lines mine) (part_texts unit before mine)) (eq-eqb unit unit refl)
+          ∙ ap (λ (ts : List (List ℕ)). here ∷ ts) (own_texts text unit later_lines all)
+          ∙ sym (ap (λ (b : Bool). cond b (here ∷ part_texts unit later_lines rest) (part_texts unit before rest)) (eq-eqb o.unit unit same))
+      | inr other ↦
+          ap (λ (list : List Stretch). part_texts unit before (unit_parts text unit list)) (part_other unit o all other)
+          ∙ own_texts text unit before all
+          ∙ sym (ap (λ (b : Bool). cond b (here ∷ part_texts unit later_lines rest) (part_texts unit before rest)) (ne_eqb o.unit unit other))
+    ]
+
+-- a run of the unit's own parts is one of all parts
+pub ran_whole : (text : List ℕ) (unit : ℕ) (list : List Stretch) (all : List Owned) (run : Run) → run.unit ≡ unit → list ≡ stretches_of unit all → Ran (unit_parts text unit list) run → Ran (parts_of text all) run
+ran_whole text unit list all run whose listed ran =
+    let mine : List StretchPart = unit_parts text unit (stretches_of unit all) in
+    let its : Ran mine run = subst (λ (l : List Stretch). Ran (unit_parts text unit l) run) listed ran in
+    let back : unit ≡ run.unit = sym whose in
     record {
-      are = parts_are_more run.unit parts p ran.are (λ same. absurd (other same));
-      done = subst (λ (l : List ScheduleEntry). IsPlace (reverse l) run.unit run.world) (sym entries) ran.done;
-      texts = ran.texts ∙ sym (parts_texts_more run.unit [] parts p ∙ ap (λ (ts : List (List ℕ)). part_texts run.unit [] parts ++ ts) (text_other run.unit (reverse (part_entries run.unit parts) ++ []) p other) ∙ append-nil (part_texts run.unit [] parts));
-      whole = ran.whole;
+      are = subst (λ (u : ℕ). ArePartsOf u (parts_of text all)) back (own_are text unit all (subst (λ (u : ℕ). ArePartsOf u mine) whose its.are));
+      done = subst (λ (u : ℕ). IsPlace (reverse (part_entries u (parts_of text all))) u run.world) back
+          (subst (λ (l : List ScheduleEntry). IsPlace (reverse l) unit run.world) (own_entries text unit all) (subst (λ (u : ℕ). IsPlace (reverse (part_entries u mine)) u run.world) whose its.done));
+      texts = its.texts ∙ ap (λ (u : ℕ). part_texts u [] mine) whose ∙ own_texts text unit [] all ∙ ap (λ (u : ℕ). part_texts u [] (parts_of text all)) back;
+      whole = its.whole;
     }
 
--- ---- All stretches
+-- the same of what came of a unit by its list
+pub listed_run : (text : List ℕ) (unit : ℕ) (lists : List (Vec Stretch Global)) (list : List Stretch) (result : Result Run Unrun) → list ≡ list_at lists unit → IfOk result (λ run. run.unit ≡ unit) → IfOk result (λ run. Ran (unit_parts text unit list) run)
+    → IfOk result (λ run. (all : List Owned) → AreListed all lists → Ran (parts_of text all) run)
+listed_run text unit lists list (Ok run) is whose ran = λ all listed. ran_whole text unit list all run whose (is ∙ listed unit) ran
+listed_run text unit lists list (Err why) is whose ran = tt
+
+-- ---- All stretches of a unit
 
 -- the stretches so far were done
-pub record Walking (all : List Stretch) (i : ℕ) (text rest : List ℕ) (lines : ℕ) (first run : Run) : Type 0 where
-  pub passed : List StretchPart
-  pub split : parts_of 1 all text ≡ passed ++ parts_of (lines + 1) (drop i all) rest
-  pub ran : Ran [] first → Ran passed run
+pub Walking : List ℕ → ℕ → List Stretch → ℕ → Run → Run → Type 0
+Walking text unit list i first run = (run.unit ≡ unit) × (Ran [] first → Ran (unit_parts text unit (take i list)) run)
 
-pub walks_none : (all : List Stretch) (text : List ℕ) (run : Run) → Walking all 0 text text 0 run run
-walks_none all text run = record { passed = []; split = refl; ran = λ ran. ran }
+pub walks_none : (text : List ℕ) (list : List Stretch) (run : Run) → Walking text run.unit list 0 run run
+unfolding Walking
+walks_none text list run = (refl, λ ran. ran)
 
-drop_there : {X : Type 0} (xs : List X) (i : ℕ) (x : X) → slice_get xs i ≡ Some x → drop i xs ≡ x ∷ drop (i + 1) xs
-drop_there {X} [] i x at = absurd (none_some (sym (slice_get_past [] i (omega arith)) ∙ at))
+pub walks_unit : (text : List ℕ) (unit : ℕ) (list : List Stretch) (i : ℕ) (first run : Run) → Walking text unit list i first run → run.unit ≡ unit
+unfolding Walking
+walks_unit text unit list i first run w = w.0
+
+take_there : {X : Type 0} (xs : List X) (i : ℕ) (x : X) → slice_get xs i ≡ Some x → take (i + 1) xs ≡ take i xs ++ x ∷ []
+take_there {X} [] i x at = absurd (none_some (sym (slice_get_past [] i (omega arith)) ∙ at))
   where
     none_some : ◌≡◌ {A = Option X} None (Some x) → ⊥
     none_some h = cc
-drop_there {X} (y ∷ xs) zero x at = ap (λ (z : X). z ∷ xs) (some_one at)
+take_there {X} (y ∷ xs) zero x at = ap (λ (z : X). z ∷ []) (some_one at)
   where
     some_one : ◌≡◌ {A = Option X} (Some y) (Some x) → y ≡ x
     some_one h = cc
-drop_there {X} (y ∷ xs) (suc i) x at = let e : suc (i + 1) ≡ suc i + 1 = omega arith in drop_there xs i x at ∙ ap (λ (n : ℕ). x ∷ drop n (y ∷ xs)) e
+take_there {X} (y ∷ xs) (suc i) x at =
+    let e : suc i + 1 ≡ suc (i + 1) = omega arith in
+    ap (λ (n : ℕ). take n (y ∷ xs)) e ∙ ap (λ (l : List X). y ∷ l) (take_there xs i x at)
 
-pub walks_more : (all : List Stretch) (i : ℕ) (s : Stretch) (text rest part rest' : List ℕ) (lines lines' : ℕ) (first run run' : Run) → slice_get all i ≡ Some s → part ≡ take s.size rest → rest' ≡ drop s.size rest → lines' ≡ lines + s.lines
-    → ((parts : List StretchPart) → Ran parts run → Ran (parts ++ record { unit = s.unit; items = items_at (lines + 1) part } ∷ []) run') → Walking all i text rest lines first run → Walking all (i + 1) text rest' lines' first run'
-walks_more all i s text rest part rest' lines lines' first run run' at is next counted goes w =
-    let p : StretchPart = record { unit = s.unit; items = items_at (lines + 1) (take s.size rest) } in
-    let n : lines + 1 + s.lines ≡ lines' + 1 = omega (arith, counted) in
-    let behind : parts_of (lines + 1 + s.lines) (drop (i + 1) all) (drop s.size rest) ≡ parts_of (lines' + 1) (drop (i + 1) all) rest' =
-    ap (λ (m : ℕ). parts_of m (drop (i + 1) all) (drop s.size rest)) n ∙ ap (parts_of (lines' + 1) (drop (i + 1) all)) (sym next) in
-    record {
-      passed = w.passed ++ p ∷ [];
-      split = w.split ∙ ap (λ (ss : List Stretch). w.passed ++ parts_of (lines + 1) ss rest) (drop_there all i s at) ∙ ap (λ (ps : List StretchPart). w.passed ++ p ∷ ps) behind
-          ∙ sym (append_assoc w.passed (p ∷ []) (parts_of (lines' + 1) (drop (i + 1) all) rest'));
-      ran = λ start. subst (λ (b : List ℕ). Ran (w.passed ++ record { unit = s.unit; items = items_at (lines + 1) b } ∷ []) run') is (goes w.passed (w.ran start));
-    }
+pub walks_more : (text : List ℕ) (unit : ℕ) (list : List Stretch) (i : ℕ) (s : Stretch) (part : List ℕ) (first run run' : Run) → slice_get list i ≡ Some s → part ≡ take s.size (drop s.at text) → run'.unit ≡ run.unit
+    → ((parts : List StretchPart) → Ran parts run → Ran (parts ++ record { unit = run.unit; items = items_at (s.before + 1) part } ∷ []) run') → Walking text unit list i first run → Walking text unit list (i + 1) first run'
+unfolding Walking
+walks_more text unit list i s part first run run' at is same goes w =
+    let grown : unit_parts text unit (take (i + 1) list) ≡ unit_parts text unit (take i list) ++ part_at text unit s ∷ [] =
+    ap (unit_parts text unit) (take_there list i s at) ∙ map_more (part_at text unit) (take i list) s in (
+      same ∙ w.0,
+      λ start.
+          let here : Ran (unit_parts text unit (take i list) ++ record { unit = run.unit; items = items_at (s.before + 1) part } ∷ []) run' = goes (unit_parts text unit (take i list)) (w.1 start) in
+          let named : Ran (unit_parts text unit (take i list) ++ record { unit = unit; items = items_at (s.before + 1) part } ∷ []) run' =
+          subst (λ (u : ℕ). Ran (unit_parts text unit (take i list) ++ record { unit = u; items = items_at (s.before + 1) part } ∷ []) run') w.0 here in
+          subst (λ (ps : List StretchPart). Ran ps run') (sym grown) (subst (λ (b : List ℕ). Ran (unit_parts text unit (take i list) ++ record { unit = unit; items = items_at (s.before + 1) b } ∷ []) run') is named),
+    )
 
-pub walks_all : (all : List Stretch) (i : ℕ) (text rest : List ℕ) (lines : ℕ) (first run : Run) → length all ≤ i → Walking all i text rest lines first run → Ran [] first → Ran (parts_of 1 all text) run
-walks_all all i text rest lines first run end w start =
-    subst (λ (ps : List StretchPart). Ran ps run) (sym (w.split ∙ ap (λ (ss : List Stretch). w.passed ++ parts_of (lines + 1) ss rest) (drop_all i all end) ∙ append-nil w.passed)) (w.ran start)
+pub walks_all : (text : List ℕ) (unit : ℕ) (list : List Stretch) (i : ℕ) (first run : Run) → length list ≤ i → Walking text unit list i first run → Ran [] first → Ran (unit_parts text unit list) run
+unfolding Walking
+walks_all text unit list i first run end w start = subst (λ (l : List Stretch). Ran (unit_parts text unit l) run) (take_all i list end) (w.1 start)

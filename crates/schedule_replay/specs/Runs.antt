@@ -1,5 +1,6 @@
 -- The units of a text run apart, and what they write put together again.
-use Rattle.std.specs.Prelude.{◌≡◌, ℕ, ◌+◌, ◌==◌, Bool, true, false, List, [], ◌∷◌, ◌++◌, length, take, drop, reverse, Option, None, Some, Result, Ok, Err, slice_get, if◌then◌else◌}
+use Rattle.std.specs.Prelude.{◌≡◌, ℕ, ◌+◌, ◌<◌, ◌==◌, Bool, true, false, List, [], ◌∷◌, ◌++◌, length, take, drop, reverse, Option, None, Some, Result, Ok, Err, slice_get, if◌then◌else◌}
+use Rattle.std.specs.Global.{Vec}
 use Rattle.std.specs.List.{AllByRecursion}
 use Rattle.feed_lines.specs.Texts.{texts_after}
 use Rattle.pitch_text.specs.declared.verb.ScheduleEntry.{ScheduleEntry}
@@ -7,12 +8,11 @@ use Rattle.text_lines.specs.declared.fault.TextError.{TextError}
 use Rattle.world_model.specs.declared.world.World.{World}
 use Rattle.schedule_replay.specs.Apart.{first_piece}
 use Rattle.schedule_replay.specs.Replay.{replay_line}
-use Rattle.schedule_replay.specs.Stretches.{StretchPart}
+use Rattle.schedule_replay.specs.Stretches.{AreListed, Owned, StretchPart, list_at, parts_of}
 use Rattle.schedule_replay.specs.Worlds.{IsPlace}
 use Rattle.schedule_replay.specs.declared.stretches.Stretch.{Stretch}
 use Rattle.schedule_replay.specs.declared.merging.Left.{Left}
 use Rattle.schedule_replay.specs.declared.units.Run.{Run}
-use Rattle.schedule_replay.specs.declared.units.Unrun.{Unrun}
 
 -- an entry that stands so many lines later
 abbrev pub later : ℕ → ScheduleEntry → ScheduleEntry
@@ -79,10 +79,9 @@ pub record Ran (parts : List StretchPart) (run : Run) : Type 0 where
   pub texts : cut_by run.lengths.items run.text.items ≡ part_texts run.unit [] parts
   pub whole : lengths_total run.lengths.items ≡ length run.text.items
 
--- all the runs of a piece of the work
-abbrev pub AreRuns : List StretchPart → Result (List Run) Unrun → Type 0
-AreRuns parts (Ok runs) = AllByRecursion (Ran parts) runs
-AreRuns parts (Err why) = Unit {0}
+-- runs of units by their lists: whatever the stretches of the text are, the runs are of its parts
+abbrev pub AreRun : List ℕ → List (Vec Stretch) → List Run → Type 0
+AreRun text lists runs = (all : List Owned) → AreListed all lists → AllByRecursion (Ran (parts_of text all)) runs
 
 -- ---- Put together
 
@@ -98,10 +97,11 @@ pieces_on (Some left) = left_pieces left
 abbrev pub pieces_at : List Left → ℕ → List (List ℕ)
 pieces_at lefts unit = pieces_on (slice_get lefts unit)
 
--- the texts of units in the order of some stretches: at each the next text of its unit
-abbrev pub put_together : (ℕ → List (List ℕ)) → List Stretch → List ℕ
+-- the texts of units in the order of some stretches, of which it is said whose they are: at each
+-- the next text of its unit
+abbrev pub put_together : (ℕ → List (List ℕ)) → List ℕ → List ℕ
 put_together pieces [] = []
-put_together pieces (s ∷ stretches) = first_piece (pieces s.unit) ++ put_together (λ unit. if s.unit == unit then drop 1 (pieces unit) else pieces unit) stretches
+put_together pieces (whose ∷ order) = first_piece (pieces whose) ++ put_together (λ unit. if whose == unit then drop 1 (pieces unit) else pieces unit) order
 
 -- the run of a unit stands at its place: where a world does, all that was said of the run is so
 pub record IsRunAt (parts : List StretchPart) (unit : ℕ) (world : World) (pieces : List (List ℕ)) : Type 0 where
@@ -122,3 +122,7 @@ is_filled (Some (Some world)) = true
 
 abbrev pub has_world : List (Option World) → ℕ → Bool
 has_world places unit = is_filled (slice_get places unit)
+
+-- a world stands at the place of each unit that has a stretch
+abbrev pub AreFilled : List (Vec Stretch) → List (Option World) → Type 0
+AreFilled lists places = (unit : ℕ) → 0 < length (list_at lists unit) → has_world places unit ≡ true

@@ -2,33 +2,58 @@
 
 ghost use Rattle.std.specs.Prelude.{◌≡◌, ◌≤◌, ◌<◌, ◌++◌, List, ℕ, length, take, OnOk, OnErr, Ok};
 ghost use Rattle.schedule_replay.specs.Replay.{replay_of};
+ghost use Rattle.schedule_replay.specs.Runs.{AreFilled, AreRunsAt};
+ghost use Rattle.schedule_replay.specs.Stretches.{AreListed, Owned, parts_of};
 ghost use Rattle.schedule_replay.specs.Worlds.{AddsWorlds};
 
-use crate::merging::{are_filled, merge, no_lefts, put_pieces};
-use crate::running::{PLACES, WorldList, all_worlds, no_worlds};
-use crate::stretches::{Stretch, cut_text};
-use crate::units::{Unrun, run_units};
+use crate::merging::{Left, are_filled, merge, no_lefts, put_pieces};
+use crate::running::{LAST_UNIT, PLACES, WorldList, all_worlds, no_worlds};
+use crate::stretches::{Cut, Stretch, cut_text};
+use crate::units::run_units;
+use crate::unrun::Unrun;
+use pitch_fields::OutOfMemory;
 use pitch_io::Gate;
 use std::alloc::Global;
 use std::thread::Threads;
+use world_model::World;
 
-// The units of some stretches, each once; NotApart where a stretch's is not one of a schedule, 1 to
-// 64.
-fn units_of(alloc: Global, stretches: &[Stretch]) -> Result<Vec<u8>, Unrun> {
-    let mut named = [false; 256];
-    for stretch in stretches {
-        named[usize::from(stretch.unit)] = true;
-    }
+// The units that have a stretch.
+fn units_of(alloc: Global, lists: &[Vec<Stretch>]) -> Result<Vec<u8>, OutOfMemory> {
     let mut units = Vec::with_capacity(alloc, PLACES)?;
-    for (unit, is_named) in named.iter().enumerate() {
-        if *is_named {
-            match u8::try_from(unit) {
-                Ok(unit) if unit >= 1 && usize::from(unit) < PLACES => units.push(unit)?,
-                _ => return Err(Unrun::NotApart),
-            }
+    for unit in 1..=LAST_UNIT {
+        match lists.get(usize::from(unit)) {
+            Some(list) if !list.is_empty() => units.push(unit)?,
+            _ => {}
         }
     }
     Ok(units)
+}
+
+// Runs the units that have a stretch in the lists of a text, and puts what came of them at their
+// places.
+fn run_lists<R: Threads + Sync, G: Gate + Sync>(
+    rt: &R,
+    alloc: Global,
+    gate: &G,
+    text: &[u8],
+    lists: &[Vec<Stretch>],
+    workers: u8,
+    places: &mut Vec<Option<World>>,
+    lefts: &mut Vec<Left>,
+) -> Result<(), Unrun>
+    requires { 0 < workers }
+    ensures runs { OnOk result ((all : List Owned) → AreListed all lists.now → AreRunsAt (parts_of text.now all) places.old.items lefts.old.items
+        → AreRunsAt (parts_of text.now all) places.new.items lefts.new.items) }
+    ensures filled { OnOk result (AreFilled lists.now places.new.items) }
+{
+    let units = units_of(alloc, lists)?;
+    let pieces = run_units(rt, alloc, gate, text, lists, &units, workers)?;
+    put_pieces(places, lefts, pieces)?;
+    if are_filled(lists, places) {
+        Ok(())
+    } else {
+        Err(Unrun::NotApart)
+    }
 }
 
 /// Replays the lines of a text, each unit's apart, in at most so many pieces of work beside one
@@ -49,16 +74,21 @@ pub(crate) fn replay_apart<R: Threads + Sync, G: Gate + Sync>(
     ensures kept { OnErr result (worlds.new.items ≡ worlds.old.items) }
     ensures behind { take (length out.old.items) out.new.items ≡ out.old.items }
 {
-    let stretches = cut_text(alloc, text)?;
-    let units = units_of(alloc, &stretches)?;
-    let pieces = run_units(rt, alloc, gate, text, &stretches, &units, workers)?;
+    let Cut { order, lists } = cut_text(alloc, text)?;
     let mut places = no_worlds(alloc)?;
     let mut lefts = no_lefts(alloc, PLACES)?;
-    put_pieces(&mut places, &mut lefts, pieces)?;
-    if !are_filled(&stretches, &places) {
-        return Err(Unrun::NotApart);
-    }
-    merge(&stretches, &mut lefts, out)?;
+    run_lists(
+        rt,
+        alloc,
+        gate,
+        text,
+        &lists,
+        workers,
+        &mut places,
+        &mut lefts,
+    )?;
+    drop(lists);
+    merge(&order, &mut lefts, out)?;
     let added = all_worlds(alloc, places)?;
     worlds.append(added.into_vec())?;
     Ok(())

@@ -14,6 +14,7 @@ mod replaying;
 mod running;
 mod stretches;
 mod units;
+mod unrun;
 
 pub use crate::error::ReplayError;
 pub use crate::replaying::replay;

@@ -1,15 +1,16 @@
 //! What units wrote, put together again in the order of the text.
 
 ghost use Rattle.std.specs.Prelude.{◌≡◌, ◌<◌, ◌++◌, ℕ, List, [], drop, length, take, OnOk, IfOk, IfSome, IsTrue, slice_get};
-ghost use Rattle.std.specs.List.{list_all, AllByRecursion};
+ghost use Rattle.std.specs.List.{AllByRecursion};
 ghost use Rattle.schedule_replay.specs.Apart.{first_piece};
-ghost use Rattle.schedule_replay.specs.Runs.{put_together, left_pieces, pieces_at, has_world, AreRunsAt, Ran};
+ghost use Rattle.schedule_replay.specs.Runs.{put_together, left_pieces, pieces_at, has_world, AreFilled, AreRunsAt, Ran};
 ghost use Rattle.schedule_replay.specs.Stretches.{StretchPart};
 ghost use Rattle.schedule_replay.specs.Worlds.{ArePlaces};
 
 use crate::running::put;
 use crate::stretches::Stretch;
-use crate::units::{Run, Unrun};
+use crate::units::Run;
+use crate::unrun::Unrun;
 use pitch_fields::OutOfMemory;
 use std::alloc::Global;
 use world_model::World;
@@ -19,7 +20,7 @@ use world_model::World;
 #[derive(Drop)]
 pub(crate) struct Left {
     pub text: Vec<u8>,
-    pub lengths: Vec<usize>,
+    pub lengths: Vec<u32>,
     pub next: usize,
     pub at: usize,
 }
@@ -90,21 +91,26 @@ pub(crate) fn no_lefts(alloc: Global, many: usize) -> Result<Vec<Left>, OutOfMem
 }
 
 // Whether a world stands at a unit's place.
-fn is_filled(places: &[Option<World>], unit: u8) -> bool
+fn is_filled(places: &[Option<World>], unit: usize) -> bool
     ensures { result ≡ has_world places.now unit }
 {
-    match places.get(usize::from(unit)) {
+    match places.get(unit) {
         Some(Some(_)) => true,
         Some(None) => false,
         None => false,
     }
 }
 
-/// Whether a world stands at the place of each stretch's unit.
-pub(crate) fn are_filled(stretches: &[Stretch], places: &[Option<World>]) -> bool
-    ensures { result ≡ list_all (λ s. has_world places.now s.unit) stretches.now }
+/// Whether a world stands at the place of each unit that has a stretch.
+pub(crate) fn are_filled(lists: &[Vec<Stretch>], places: &[Option<World>]) -> bool
+    ensures { IsTrue result → AreFilled lists.now places.now }
 {
-    stretches.iter().all(|s| is_filled(places, s.unit))
+    'units: for unit in 0..lists.len() {
+        if !lists[unit].is_empty() && !is_filled(places, unit) {
+            return false;
+        }
+    }
+    true
 }
 
 // Takes the memory for all texts at once.
@@ -130,7 +136,7 @@ fn take_piece(left: &mut Left, out: &mut Vec<u8>) -> Result<(), Unrun>
     if next >= left.lengths.len() || at > left.text.len() {
         return Err(Unrun::NotApart);
     }
-    let size = left.lengths[next];
+    let size = left.lengths[next] as usize;
     if size > left.text.len() - at {
         return Err(Unrun::NotApart);
     }
@@ -141,17 +147,13 @@ fn take_piece(left: &mut Left, out: &mut Vec<u8>) -> Result<(), Unrun>
 }
 
 /// Appends at each stretch the next text of its unit. After an error some may have been appended.
-pub(crate) fn merge(
-    stretches: &[Stretch],
-    lefts: &mut Vec<Left>,
-    out: &mut Vec<u8>,
-) -> Result<(), Unrun>
-    ensures text { OnOk result (out.new.items ≡ out.old.items ++ put_together (pieces_at lefts.old.items) stretches.now) }
+pub(crate) fn merge(order: &[u8], lefts: &mut Vec<Left>, out: &mut Vec<u8>) -> Result<(), Unrun>
+    ensures text { OnOk result (out.new.items ≡ out.old.items ++ put_together (pieces_at lefts.old.items) order.now) }
     ensures behind { take (length out.old.items) out.new.items ≡ out.old.items }
 {
     reserve_all(lefts, out)?;
-    'stretches: for stretch in stretches {
-        let unit = usize::from(stretch.unit);
+    'stretches: for whose in order {
+        let unit = usize::from(*whose);
         if unit >= lefts.len() {
             return Err(Unrun::NotApart);
         }

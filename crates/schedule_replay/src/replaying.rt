@@ -9,7 +9,7 @@ ghost use Rattle.schedule_replay.specs.declared.error.ReplayError.TheVariants as
 use crate::apart::replay_apart;
 use crate::error::ReplayError;
 use crate::running::{WorldList, replay_together};
-use crate::units::Unrun;
+use crate::unrun::Unrun;
 use pitch_io::Gate;
 use std::alloc::Global;
 use std::thread::Threads;

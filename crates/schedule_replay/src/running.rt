@@ -33,7 +33,7 @@ pub type WorldList = pitch_messages::List<World>;
 pub(crate) const PLACES: usize = 65;
 
 // The greatest unit of a schedule.
-const LAST_UNIT: u8 = 64;
+pub(crate) const LAST_UNIT: u8 = 64;
 
 /// The limits of a unit that does not begin with an `open` line.
 pub fn default_limits() -> Limits

@@ -1,22 +1,41 @@
 //! The lines of a text in stretches, each of one unit's lines.
 
-ghost use Rattle.std.specs.Prelude.{◌≡◌, ◌≤◌, ◌<◌, length, take, IfOk};
-ghost use Rattle.schedule_replay.specs.Stretches.{AreWholeLines, Splits, items_in, items_at, parts_of};
+ghost use Rattle.std.specs.Prelude.{◌≡◌, ◌≤◌, ◌<◌, ◌++◌, ◌∷◌, ◌==◌, [], ℕ, length, take, OnOk, IfOk, if◌then◌else◌};
+ghost use Rattle.schedule_replay.specs.Stretches.{AreWholeLines, Splits, IsCut, list_at};
 
+use crate::running::PLACES;
+use crate::unrun::Unrun;
 use pitch_fields::OutOfMemory;
 use std::alloc::Global;
 use text_lines::length_before;
 
-/// Lines of a text, one after another, that are taken to be one unit's: how many they are, and how
-/// many bytes with their line ends.
-///
-/// The unit is that of the first line that begins with a number; lines of no unit go with those
-/// before them. It is 0 if none of the lines begins with a number.
+/// Lines of a text, one after another, that are taken to be one unit's: the byte where they begin,
+/// how many bytes they have with their line ends, and how many lines stand before them.
 #[derive(Clone, Copy)]
 pub(crate) struct Stretch {
-    pub unit: u8,
-    pub lines: u32,
+    pub at: u32,
     pub size: u32,
+    pub before: u32,
+}
+
+/// A text in stretches: whose each of them is, in the text's order, and those of each unit, in a
+/// list at the unit's number.
+#[derive(Drop)]
+pub(crate) struct Cut {
+    pub order: Vec<u8>,
+    pub lists: Vec<Vec<Stretch>>,
+}
+
+// The first lines of a text that are taken to be one unit's: how many they are, and how many bytes
+// with their line ends.
+//
+// The unit is that of the first line that begins with a number; lines of no unit go with those
+// before them. It is 0 if none of the lines begins with a number.
+#[derive(Clone, Copy)]
+struct Front {
+    unit: u8,
+    lines: u32,
+    size: u32,
 }
 
 // The number with which a line begins, at most 255; 0 where it begins with none.
@@ -55,11 +74,12 @@ fn with_line(unit: u8, found: u8) -> Option<u8> {
 }
 
 // The first lines of a text that are one unit's.
-fn first_stretch(text: &[u8]) -> Stretch
+fn first_stretch(text: &[u8]) -> Front
     requires some { 0 < length text.now }
     requires size { length text.now ≤ 67108864 }
     ensures some { 0 < result.size }
     ensures within { result.size ≤ length text.now }
+    ensures few { result.lines ≤ result.size }
     ensures splits { Splits result.lines result.size text.now }
 {
     let mut unit = unit_at(text);
@@ -74,24 +94,58 @@ fn first_stretch(text: &[u8]) -> Stretch
         size += line_size(rest);
         lines += 1;
     }
-    Stretch {
+    Front {
         unit,
         lines,
         size: size as u32,
     }
 }
 
-/// Cuts a text into stretches. What their lines say, one after another, is what the text says.
-pub(crate) fn cut_text(alloc: Global, text: &[u8]) -> Result<Vec<Stretch>, OutOfMemory>
-    requires { length text.now ≤ 67108864 }
-    ensures { IfOk result (λ stretches. items_at 1 text.now ≡ items_in (parts_of 1 stretches.items text.now)) }
+// No unit has a stretch yet.
+fn no_lists(alloc: Global) -> Result<Vec<Vec<Stretch>>, OutOfMemory>
+    ensures { IfOk result (λ lists. (unit : ℕ) → list_at lists.items unit ≡ []) }
 {
-    let mut stretches = Vec::new(alloc);
-    let mut rest = text;
-    'cutting: while !rest.is_empty() {
-        let stretch = first_stretch(rest);
-        stretches.push(stretch)?;
-        rest = &rest[stretch.size as usize..];
+    let mut lists = Vec::with_capacity(alloc, PLACES)?;
+    'lists: for _ in 0..PLACES {
+        lists.push(Vec::new(alloc))?;
     }
-    Ok(stretches)
+    Ok(lists)
+}
+
+// Puts a stretch at the end of its unit's list; NotApart where the unit is not one of a schedule, 1
+// to 64.
+fn add_stretch(lists: &mut Vec<Vec<Stretch>>, unit: u8, stretch: Stretch) -> Result<(), Unrun>
+    ensures { OnOk result ((other : ℕ) → list_at lists.new.items other
+        ≡ if unit == other then list_at lists.old.items other ++ stretch ∷ [] else list_at lists.old.items other) }
+{
+    let place = usize::from(unit);
+    if place == 0 || place >= lists.len() {
+        return Err(Unrun::NotApart);
+    }
+    lists[place].push(stretch)?;
+    Ok(())
+}
+
+/// Cuts a text into stretches. What their lines say, one after another, is what the text says.
+pub(crate) fn cut_text(alloc: Global, text: &[u8]) -> Result<Cut, Unrun>
+    requires { length text.now ≤ 67108864 }
+    ensures { IfOk result (λ cut. IsCut text.now cut.order.items cut.lists.items) }
+{
+    let mut order = Vec::new(alloc);
+    let mut lists = no_lists(alloc)?;
+    let mut at = 0usize;
+    let mut before = 0u32;
+    'cutting: while at < text.len() {
+        let front = first_stretch(&text[at..]);
+        let stretch = Stretch {
+            at: at as u32,
+            size: front.size,
+            before,
+        };
+        add_stretch(&mut lists, front.unit, stretch)?;
+        order.push(front.unit)?;
+        at += front.size as usize;
+        before += front.lines;
+    }
+    Ok(Cut { order, lists })
 }

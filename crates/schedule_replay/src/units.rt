@@ -1,54 +1,27 @@
 //! The units of a text, each run apart from the others.
 
-ghost use Rattle.std.specs.Prelude.{◌≡◌, ◌<◌, ◌+◌, ◌++◌, ◌∷◌, [], List, ℕ, OnOk, IfOk, IfSome, slice_get, All};
-ghost use Rattle.std.specs.List.{AllByRecursion};
+ghost use Rattle.std.specs.Prelude.{◌≡◌, ◌<◌, ◌+◌, ◌++◌, ◌∷◌, [], List, ℕ, OnOk, IfOk, IfSome, slice_get};
 ghost use Rattle.pitch_text.specs.WellFormed.{IsWellFormed};
 ghost use Rattle.pitch_text.specs.declared.verb.ScheduleEntry.{ScheduleEntry as EntrySaid};
 ghost use Rattle.schedule_replay.specs.Replay.{replay_line};
-ghost use Rattle.schedule_replay.specs.Runs.{later, RunsLines, Ran, AreRuns};
-ghost use Rattle.schedule_replay.specs.Stretches.{StretchPart, items_at, parts_of};
+ghost use Rattle.schedule_replay.specs.Runs.{later, RunsLines, Ran, AreRun};
+ghost use Rattle.schedule_replay.specs.Stretches.{AreListed, Owned, StretchPart, items_at, parts_of, unit_parts};
 ghost use Rattle.schedule_replay.specs.Worlds.{IsPlace};
 
 use crate::running::run_in;
 use crate::stretches::Stretch;
+use crate::unrun::Unrun;
 use pitch_fields::OutOfMemory;
 use pitch_io::{Gate, Role, Work};
 use pitch_text::laws::schedules_are_well_formed;
 use pitch_text::{Schedule, ScheduleEntry};
-use std::alloc::{AllocError, AllocFailed, Global};
+use std::alloc::Global;
 use std::thread;
 use std::thread::Threads;
 use world_model::World;
 
 // The most bytes of a text.
 const LARGEST_TEXT: usize = 67_108_864;
-
-/// Why the units of a text were not run apart.
-#[derive(Clone, Copy, Drop)]
-pub(crate) enum Unrun {
-    /// Memory ran out.
-    OutOfMemory,
-    /// A line has a fault, or names no unit.
-    NotApart,
-}
-
-impl From<OutOfMemory> for Unrun {
-    fn from(_: OutOfMemory) -> Unrun {
-        Unrun::OutOfMemory
-    }
-}
-
-impl From<AllocError> for Unrun {
-    fn from(_: AllocError) -> Unrun {
-        Unrun::OutOfMemory
-    }
-}
-
-impl<T: Drop> From<AllocFailed<T>> for Unrun {
-    fn from(_: AllocFailed<T>) -> Unrun {
-        Unrun::OutOfMemory
-    }
-}
 
 /// What came of a unit: its world, and what its stretches write, end to end, with the length of
 /// each.
@@ -57,7 +30,7 @@ pub(crate) struct Run {
     pub unit: u8,
     pub world: Option<World>,
     pub text: Vec<u8>,
-    pub lengths: Vec<usize>,
+    pub lengths: Vec<u32>,
 }
 
 // Does an entry of this unit. Its line is counted within its stretch, before which there are so many
@@ -119,55 +92,50 @@ fn run_lines(
     Ok(())
 }
 
-// Does the lines of a stretch, where it is the run's unit's.
-fn run_stretch(
-    alloc: Global,
-    lines: u32,
-    unit: u8,
-    bytes: &[u8],
-    run: &mut Run,
-) -> Result<(), Unrun>
-    ensures { OnOk result ((parts : List StretchPart) → Ran parts run.old
-        → Ran (parts ++ record { unit = unit; items = items_at (lines + 1) bytes.now } ∷ []) run.new) }
+// Does the lines of a stretch of the run's unit, before which so many lines stand.
+fn run_stretch(alloc: Global, before: u32, bytes: &[u8], run: &mut Run) -> Result<(), Unrun>
+    ensures unit { run.new.unit ≡ run.old.unit }
+    ensures ran { OnOk result ((parts : List StretchPart) → Ran parts run.old
+        → Ran (parts ++ record { unit = run.old.unit; items = items_at (before + 1) bytes.now } ∷ []) run.new) }
 {
-    if unit != run.unit {
-        return Ok(());
-    }
     let start = run.text.len();
-    run_lines(alloc, unit, lines, bytes, &mut run.world, &mut run.text)?;
-    run.lengths.push(run.text.len().saturating_sub(start))?;
-    Ok(())
+    run_lines(
+        alloc,
+        run.unit,
+        before,
+        bytes,
+        &mut run.world,
+        &mut run.text,
+    )?;
+    match u32::try_from(run.text.len().saturating_sub(start)) {
+        Ok(length) => {
+            run.lengths.push(length)?;
+            Ok(())
+        }
+        Err(_) => Err(Unrun::NotApart),
+    }
 }
 
 // Does the stretches of a text that are the run's unit's.
-fn run_text_of(
-    alloc: Global,
-    text: &[u8],
-    stretches: &[Stretch],
-    run: &mut Run,
-) -> Result<(), Unrun>
-    ensures { OnOk result (Ran [] run.old → Ran (parts_of 1 stretches.now text.now) run.new) }
+fn run_list(alloc: Global, text: &[u8], list: &[Stretch], run: &mut Run) -> Result<(), Unrun>
+    ensures unit { run.new.unit ≡ run.old.unit }
+    ensures ran { OnOk result (Ran [] run.old → Ran (unit_parts text.now run.old.unit list.now) run.new) }
 {
-    let mut rest = text;
-    let mut lines = 0u32;
-    'stretches: for stretch in stretches {
+    'stretches: for stretch in list {
+        let at = stretch.at as usize;
         let size = stretch.size as usize;
-        if size > rest.len() {
+        if at > text.len() || size > text.len() - at {
             return Err(Unrun::NotApart);
         }
-        run_stretch(alloc, lines, stretch.unit, &rest[..size], run)?;
-        rest = &rest[size..];
-        match lines.checked_add(stretch.lines) {
-            Some(sum) => lines = sum,
-            None => return Err(Unrun::NotApart),
-        }
+        run_stretch(alloc, stretch.before, &text[at..at + size], run)?;
     }
     Ok(())
 }
 
 // A run of which nothing was done. Takes no memory.
 fn fresh_run(alloc: Global, unit: u8) -> Run
-    ensures { Ran [] result }
+    ensures unit { result.unit ≡ unit }
+    ensures ran { Ran [] result }
 {
     Run {
         unit,
@@ -178,11 +146,12 @@ fn fresh_run(alloc: Global, unit: u8) -> Run
 }
 
 // Does the stretches of a unit in a world of its own.
-fn run_stretches(alloc: Global, text: &[u8], stretches: &[Stretch], unit: u8) -> Result<Run, Unrun>
-    ensures { IfOk result (λ run. Ran (parts_of 1 stretches.now text.now) run) }
+fn run_stretches(alloc: Global, text: &[u8], list: &[Stretch], unit: u8) -> Result<Run, Unrun>
+    ensures unit { IfOk result (λ run. run.unit ≡ unit) }
+    ensures ran { IfOk result (λ run. Ran (unit_parts text.now unit list.now) run) }
 {
     let mut run = fresh_run(alloc, unit);
-    match run_text_of(alloc, text, stretches, &mut run) {
+    match run_list(alloc, text, list, &mut run) {
         Ok(()) => Ok(run),
         Err(why) => {
             // By a call, as in `put`.
@@ -192,19 +161,29 @@ fn run_stretches(alloc: Global, text: &[u8], stretches: &[Stretch], unit: u8) ->
     }
 }
 
+// Does the stretches that a unit has in the lists of a text.
+fn run_listed(alloc: Global, text: &[u8], lists: &[Vec<Stretch>], unit: u8) -> Result<Run, Unrun>
+    ensures { IfOk result (λ run. (all : List Owned) → AreListed all lists.now → Ran (parts_of text.now all) run) }
+{
+    match lists.get(usize::from(unit)) {
+        Some(list) => run_stretches(alloc, text, list, unit),
+        None => Err(Unrun::NotApart),
+    }
+}
+
 // Runs a unit, and tells the gate of it.
 fn run_unit<G: Gate>(
     alloc: Global,
     gate: &G,
     text: &[u8],
-    stretches: &[Stretch],
+    lists: &[Vec<Stretch>],
     unit: u8,
 ) -> Result<Run, Unrun>
-    ensures { IfOk result (λ run. Ran (parts_of 1 stretches.now text.now) run) }
+    ensures { IfOk result (λ run. (all : List Owned) → AreListed all lists.now → Ran (parts_of text.now all) run) }
 {
     let work = replay_work(unit);
     gate.before(work);
-    let run = run_stretches(alloc, text, stretches, unit);
+    let run = run_listed(alloc, text, lists, unit);
     gate.after(work);
     run
 }
@@ -223,14 +202,14 @@ fn run_piece<G: Gate>(
     alloc: Global,
     gate: &G,
     text: &[u8],
-    stretches: &[Stretch],
+    lists: &[Vec<Stretch>],
     units: &[u8],
 ) -> Result<Vec<Run>, Unrun>
-    ensures { IfOk result (λ runs. AllByRecursion (Ran (parts_of 1 stretches.now text.now)) runs.items) }
+    ensures { IfOk result (λ runs. AreRun text.now lists.now runs.items) }
 {
     let mut runs = Vec::new(alloc);
     'units: for unit in units {
-        let run = run_unit(alloc, gate, text, stretches, *unit)?;
+        let run = run_unit(alloc, gate, text, lists, *unit)?;
         runs.push(run)?;
     }
     Ok(runs)
@@ -242,13 +221,13 @@ pub(crate) fn run_units<R: Threads + Sync, G: Gate + Sync>(
     alloc: Global,
     gate: &G,
     text: &[u8],
-    stretches: &[Stretch],
+    lists: &[Vec<Stretch>],
     units: &[u8],
     workers: u8,
 ) -> Result<Vec<Result<Vec<Run>, Unrun>>, OutOfMemory>
     requires { 0 < workers }
     ensures { IfOk result (λ pieces. (n : ℕ) → IfSome (slice_get pieces.items n)
-        (λ piece. IfOk piece (λ runs. AllByRecursion (Ran (parts_of 1 stretches.now text.now)) runs.items))) }
+        (λ piece. IfOk piece (λ runs. AreRun text.now lists.now runs.items))) }
 {
     let size = units.len().saturating_sub(1) / usize::from(workers) + 1;
     let pieces = thread::map_chunks(
@@ -256,7 +235,7 @@ pub(crate) fn run_units<R: Threads + Sync, G: Gate + Sync>(
         alloc,
         units,
         size,
-        &|_start, piece| { run_piece(alloc, gate, text, stretches, piece) },
+        &|_start, piece| { run_piece(alloc, gate, text, lists, piece) },
     )?;
     Ok(pieces)
 }

@@ -1,9 +1,8 @@
-use Rattle.std.proofs.Common.{rules, ◌≡◌, ℕ, true, List, Option, ◌++◌, reverse, ap, sym, ◌∙◌, subst, IfOk, IfSome, slice_get}
-use Rattle.std.specs.List.{AllByRecursion, list_all}
+use Rattle.std.proofs.Common.{◌≡◌, ℕ, List, Option, Vec, Global, ◌++◌, reverse, ap, sym, ◌∙◌, subst}
 use Rattle.world_model.specs.declared.world.World.{World}
 use Rattle.schedule_replay.specs.Replay.{replay_text, replay_on}
-use Rattle.schedule_replay.specs.Runs.{Ran, AreRunsAt, pieces_at, put_together, has_world}
-use Rattle.schedule_replay.specs.Stretches.{StretchPart, parts_of}
+use Rattle.schedule_replay.specs.Runs.{AreFilled, AreRunsAt, pieces_at, put_together}
+use Rattle.schedule_replay.specs.Stretches.{AreListed, IsCut, list_at, parts_of}
 use Rattle.schedule_replay.specs.Worlds.{worlds_in}
 use Rattle.schedule_replay.specs.declared.merging.Left.{Left}
 use Rattle.schedule_replay.specs.declared.stretches.Stretch.{Stretch}
@@ -14,34 +13,32 @@ use Rattle.schedule_replay.proofs.apart.replay_apart.Goals as goal
 pub returns-clause-written : goal.returns-clause-written
 returns-clause-written g c =
     let text : List ℕ = c.args.text.now in
-    let ss : List Stretch = c.in_ok-stretches.stretches.items in
-    let parts : List StretchPart = parts_of 1 ss text in
-    let places : List (Option World) = c.put_pieces.new.places.items in
-    let lefts : List Left = c.put_pieces.new.lefts.items in
-    let each = subst (λ (l : List Stretch). (n : ℕ) → IfSome (slice_get c.in_ok-pieces.pieces.items n) (λ piece. IfOk piece (λ runs. AllByRecursion (Ran (parts_of 1 l text)) runs.items))) c.deref-2.ensures.value c.in_ok-pieces.ensures in
-    let are : AreRunsAt parts places lefts = c.in_ok-put_pieces.ensures parts (puts_none parts c.in_ok-places.places.items c.in_ok-lefts.lefts.items c.in_ok-places.ensures c.in_ok-lefts.ensures) each in
-    let yes : c.are_filled.result ≡ true = search (rules, c.if-not-are_filled.false) in
-    let filled : list_all (λ (s : Stretch). has_world places s.unit) ss ≡ true =
-    ap (λ (ps : List (Option World)). list_all (λ (s : Stretch). has_world ps s.unit) ss) (sym c.deref-5.ensures.value) ∙ ap (list_all (λ (s : Stretch). has_world c.deref-5.result.now s.unit)) (sym c.deref-4.ensures.value) ∙ sym c.are_filled.ensures ∙ yes in
-    let all : RunsApart text places ss lefts = runs_apart text ss places lefts c.in_ok-stretches.ensures are filled in (
+    let order : List ℕ = c.in_ok-order.field-0.order.items in
+    let lists : List (Vec Stretch Global) = c.in_ok-order.field-0.lists.items in
+    let places : List (Option World) = c.run_lists.new.places.items in
+    let lefts : List Left = c.run_lists.new.lefts.items in
+    let cut : IsCut text order lists = c.in_ok-order.ensures in
+    let listed : AreListed cut.all c.deref.result.now = λ unit. ap (λ (l : List (Vec Stretch Global)). list_at l unit) c.deref.ensures.value ∙ cut.each unit in
+    let are : AreRunsAt (parts_of text cut.all) places lefts = c.in_ok-run_lists.ensures.runs cut.all listed (puts_none (parts_of text cut.all) c.in_ok-places.places.items c.in_ok-lefts.lefts.items c.in_ok-places.ensures c.in_ok-lefts.ensures) in
+    let filled : AreFilled lists places = subst (λ (l : List (Vec Stretch Global)). AreFilled l places) c.deref.ensures.value c.in_ok-run_lists.ensures.filled in
+    let all : RunsApart text places order lefts = runs_apart text order lists places lefts cut are filled in (
       replay_text all.entries,
       ap replay_on all.read,
-      c.in_ok-merge.ensures.text ∙ ap (λ (l : List Stretch). c.args.out.now.items ++ put_together (pieces_at lefts) l) c.deref-6.ensures.value ∙ ap (λ (t : List ℕ). c.args.out.now.items ++ t) (sym all.written),
+      c.in_ok-merge.ensures.text ∙ ap (λ (l : List ℕ). c.args.out.now.items ++ put_together (pieces_at lefts) l) c.deref-2.ensures.value ∙ ap (λ (t : List ℕ). c.args.out.now.items ++ t) (sym all.written),
     )
 
 pub returns-clause-worlds : goal.returns-clause-worlds
 returns-clause-worlds g c =
     let text : List ℕ = c.args.text.now in
-    let ss : List Stretch = c.in_ok-stretches.stretches.items in
-    let parts : List StretchPart = parts_of 1 ss text in
-    let places : List (Option World) = c.put_pieces.new.places.items in
-    let lefts : List Left = c.put_pieces.new.lefts.items in
-    let each = subst (λ (l : List Stretch). (n : ℕ) → IfSome (slice_get c.in_ok-pieces.pieces.items n) (λ piece. IfOk piece (λ runs. AllByRecursion (Ran (parts_of 1 l text)) runs.items))) c.deref-2.ensures.value c.in_ok-pieces.ensures in
-    let are : AreRunsAt parts places lefts = c.in_ok-put_pieces.ensures parts (puts_none parts c.in_ok-places.places.items c.in_ok-lefts.lefts.items c.in_ok-places.ensures c.in_ok-lefts.ensures) each in
-    let yes : c.are_filled.result ≡ true = search (rules, c.if-not-are_filled.false) in
-    let filled : list_all (λ (s : Stretch). has_world places s.unit) ss ≡ true =
-    ap (λ (ps : List (Option World)). list_all (λ (s : Stretch). has_world ps s.unit) ss) (sym c.deref-5.ensures.value) ∙ ap (list_all (λ (s : Stretch). has_world c.deref-5.result.now s.unit)) (sym c.deref-4.ensures.value) ∙ sym c.are_filled.ensures ∙ yes in
-    let all : RunsApart text places ss lefts = runs_apart text ss places lefts c.in_ok-stretches.ensures are filled in
+    let order : List ℕ = c.in_ok-order.field-0.order.items in
+    let lists : List (Vec Stretch Global) = c.in_ok-order.field-0.lists.items in
+    let places : List (Option World) = c.run_lists.new.places.items in
+    let lefts : List Left = c.run_lists.new.lefts.items in
+    let cut : IsCut text order lists = c.in_ok-order.ensures in
+    let listed : AreListed cut.all c.deref.result.now = λ unit. ap (λ (l : List (Vec Stretch Global)). list_at l unit) c.deref.ensures.value ∙ cut.each unit in
+    let are : AreRunsAt (parts_of text cut.all) places lefts = c.in_ok-run_lists.ensures.runs cut.all listed (puts_none (parts_of text cut.all) c.in_ok-places.places.items c.in_ok-lefts.lefts.items c.in_ok-places.ensures c.in_ok-lefts.ensures) in
+    let filled : AreFilled lists places = subst (λ (l : List (Vec Stretch Global)). AreFilled l places) c.deref.ensures.value c.in_ok-run_lists.ensures.filled in
+    let all : RunsApart text places order lefts = runs_apart text order lists places lefts cut are filled in
     let old : List World = c.args.worlds.now.items in
     let added : List World = worlds_in places in
     let same : c.into_vec.result.items ≡ added = c.into_vec.ensures ∙ c.in_ok-added.ensures in

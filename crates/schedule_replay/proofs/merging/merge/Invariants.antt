@@ -4,6 +4,6 @@ use Rattle.schedule_replay.proofs.merging.merge.Given as goal
 
 abbrev pub invariant-stretches : goal.invariant-stretches
 invariant-stretches l = record {
-  so_far : Merging l.stretches l.stretch-index l.fn.lefts.items l.lefts.items l.fn.out.items l.out.items;
+  so_far : Merging l.order l.whose-index l.fn.lefts.items l.lefts.items l.fn.out.items l.out.items;
   behind : take (length l.fn.out.items) l.out.items ≡ l.fn.out.items;
 }

@@ -4,7 +4,7 @@ use Rattle.std.specs.List.{AllByRecursion}
 use Rattle.schedule_replay.specs.Runs.{Ran}
 use Rattle.schedule_replay.specs.Stretches.{StretchPart}
 use Rattle.schedule_replay.specs.declared.units.Run.{Run}
-use Rattle.schedule_replay.specs.declared.units.Unrun.{Unrun}
+use Rattle.schedule_replay.specs.declared.unrun.Unrun.{Unrun}
 use Rattle.schedule_replay.proofs.Joining.{all_at, all_last}
 use Rattle.schedule_replay.proofs.merging.put_pieces.Goals as goal
 

@@ -6,9 +6,9 @@ use Rattle.schedule_replay.proofs.Parting.{all_more}
 use Rattle.schedule_replay.proofs.units.run_piece.Goals as goal
 
 pub units-init : goal.units-init
-units-init g c = subst (AllByRecursion (Ran (parts_of 1 c.args.stretches.now c.args.text.now))) (sym c.new-runs.ensures.items) tt
+units-init g c = λ all listed. subst (AllByRecursion (Ran (parts_of c.args.text.now all))) (sym c.new-runs.ensures.items) tt
 
 pub units-preserved : goal.units-preserved
-units-preserved g c =
-    subst (AllByRecursion (Ran (parts_of 1 c.args.stretches.now c.args.text.now))) (sym c.in_ok-push.ensures.items)
-    (all_more (Ran (parts_of 1 c.args.stretches.now c.args.text.now)) c.units.runs.items _ c.units.invariant c.in_ok-run.ensures)
+units-preserved g c = λ all listed.
+    subst (AllByRecursion (Ran (parts_of c.args.text.now all))) (sym c.in_ok-push.ensures.items)
+    (all_more (Ran (parts_of c.args.text.now all)) c.units.runs.items _ (c.units.invariant all listed) (c.in_ok-run.ensures all listed))
