@@ -1,8 +1,9 @@
 -- What a venue answers, command by command.
-use Rattle.std.proofs.Common.{◌≡◌, ◌⊎◌, inl, inr, ℕ, ◌+◌, List, [], ◌∷◌, ◌++◌, refl, sym, ap, ◌∙◌, Option, Some, None, Result, Ok, Err, slice_get, take, append_assoc}
+use Rattle.std.proofs.Common.{◌≡◌, ◌⊎◌, inl, inr, ℕ, suc, ◌+◌, ◌≤◌, arith, List, [], ◌∷◌, ◌++◌, refl, sym, ap, ◌∙◌, Option, Some, None, Result, Ok, Err, slice_get, get_or, take, drop, length, ◌<◌, append_assoc}
 use Rattle.std.specs.List.{concat}
+use Rattle.std.proofs.Math.Seq.{drop-cons}
 use Rattle.std.specs.Result.{result_err}
-use Rattle.std.proofs.lemmas.List.{take_more, append-nil}
+use Rattle.std.proofs.lemmas.List.{take_more, append-nil, drop_all, length-append}
 use Rattle.pitch_messages.specs.Room.{Roomy}
 use Rattle.unit_packets.specs.Packing.{bytes_in}
 use Rattle.std.proofs.lemmas.Option.{get_or_from_slice_get, slice_get_within}
@@ -18,7 +19,7 @@ use Rattle.venue_core.specs.Standing.{VenueState}
 use Rattle.venue_core.specs.Stands.{Stands}
 use Rattle.venue_core.specs.declared.error.VenueError.{VenueError}
 use Rattle.venue_core.specs.declared.error.VenueError.TheVariants as venue
-use Rattle.command_feed.specs.Accepting.{IsAccepted, IsRefused, AcceptsAll, accepted_in}
+use Rattle.command_feed.specs.Accepting.{IsAccepted, IsRefused, AcceptsAll, TakesSome, accepted_in, with_before}
 use Rattle.command_feed.specs.Faults.{of_text, of_venue, cause_before}
 use Rattle.command_feed.specs.Feed.{then_accepted, accepted_after, messages_on, messages_of}
 use Rattle.command_feed.specs.declared.error.CommandError.{CommandError}
@@ -59,12 +60,6 @@ entry_refused accepted entry error sequence answer h is = elim (refused_by entry
 ]
 
 -- ---- All of them
--- some commands were accepted, and these follow
-pub record TakesSome (accepted : List (List ℕ)) (read left : Result (List CommandEntry) TextError) (venue : VenueState) : Type 0 where
-  pub taken : List (List ℕ)
-  pub same : accepted_in accepted read ≡ accepted_in taken left
-  pub stands : Stands venue taken 0
-
 pub takes_none : (accepted : List (List ℕ)) (read : Result (List CommandEntry) TextError) (venue : VenueState) → Stands venue accepted 0 → TakesSome accepted read read venue
 takes_none accepted read venue stands = record { taken = accepted; same = refl; stands = stands }
 
@@ -72,35 +67,107 @@ accepts_one : (taken : List (List ℕ)) (entry : CommandEntry) (rest : Result (L
 accepts_one taken entry (Ok entries) none = ap (λ (o : Option VenueError). then_accepted o entry.line (accepted_after (taken ++ raw_of entry.command ∷ []) entries)) none
 accepts_one taken entry (Err fault) none = refl
 
-pub takes_more : (accepted : List (List ℕ)) (read : Result (List CommandEntry) TextError) (left more : List (Result CommandEntry TextError)) (entry : CommandEntry) (venue venue' : VenueState) → left ≡ Ok entry ∷ more
-    → TakesSome accepted read (all_of left) venue → ((taken : List (List ℕ)) → Stands venue taken 0 → IsAccepted taken entry venue') → TakesSome accepted read (all_of more) venue'
-takes_more accepted read left more entry venue venue' first some accepts =
-    let here = accepts some.taken some.stands in
-    record {
-      taken = some.taken ++ raw_of entry.command ∷ [];
-      same = some.same ∙ ap (λ (items : List (Result CommandEntry TextError)). accepted_in some.taken (all_of items)) first ∙ accepts_one some.taken entry (all_of more) here.none;
-      stands = here.stands;
-    }
-
 refuses_one : (taken : List (List ℕ)) (entry : CommandEntry) (rest : Result (List CommandEntry) TextError) (cause : VenueError) → refusal taken entry.command ≡ Some cause
     → accepted_in taken (with_front entry rest) ≡ Err (cause_before rest (errors.Refused entry.line cause))
 refuses_one taken entry (Ok entries) cause some = ap (λ (o : Option VenueError). then_accepted o entry.line (accepted_after (taken ++ raw_of entry.command ∷ []) entries)) some
 refuses_one taken entry (Err fault) cause some = refl
 
--- a command is refused
-pub takes_refused : (accepted : List (List ℕ)) (read : Result (List CommandEntry) TextError) (left more : List (Result CommandEntry TextError)) (entry : CommandEntry) (venue : VenueState) (error answer : CommandError) → left ≡ Ok entry ∷ more
-    → answer ≡ cause_before (all_of more) error → TakesSome accepted read (all_of left) venue → ((taken : List (List ℕ)) → Stands venue taken 0 → (error ≡ errors.OutOfMemory) ⊎ IsRefused taken entry error)
-    → (answer ≡ errors.OutOfMemory) ⊎ (accepted_in accepted read ≡ Err answer)
-takes_refused accepted read left more entry venue error answer first is some refuses = elim (refuses some.taken some.stands) [
-  | inl memory ↦ inl (is ∙ ap (cause_before (all_of more)) memory)
-  | inr refused ↦ inr (some.same ∙ ap (λ (items : List (Result CommandEntry TextError)). accepted_in some.taken (all_of items)) first ∙ refuses_one some.taken entry (all_of more) refused.cause refused.refuses
-      ∙ ap (λ (e : CommandError). Err (cause_before (all_of more) e)) (sym refused.is) ∙ ap Err (sym is))
+-- the commands from one on are that one and those behind it
+next_entry : (entries : List CommandEntry) (i : ℕ) (entry : CommandEntry) → i < length entries → entry ≡ get_or entries i entry → drop i entries ≡ entry ∷ drop (i + 1) entries
+next_entry entries i entry within is =
+    let next : suc i ≡ i + 1 = omega arith in
+    drop-cons entries i entry within ∙ ap (λ (n : ℕ). get_or entries i entry ∷ drop n entries) next ∙ ap (λ (e : CommandEntry). e ∷ drop (i + 1) entries) (sym is)
+
+-- what was read behind a refused command tells as much as what comes after it
+cause_behind : (entries : List CommandEntry) (rest : Result (List CommandEntry) TextError) (line : ℕ) (cause : VenueError) → cause_before (with_before entries rest) (errors.Refused line cause) ≡ cause_before rest (errors.Refused line cause)
+cause_behind [] rest line cause = refl
+cause_behind (e ∷ es) rest line cause = one (with_before es rest) ∙ cause_behind es rest line cause
+  where
+    one : (read : Result (List CommandEntry) TextError) → cause_before (with_front e read) (errors.Refused line cause) ≡ cause_before read (errors.Refused line cause)
+    one (Ok entries) = refl
+    one (Err fault) = refl
+
+-- the next command was accepted
+pub takes_entry : (accepted : List (List ℕ)) (entries : List CommandEntry) (rest : Result (List CommandEntry) TextError) (i : ℕ) (entry : CommandEntry) (venue venue' : VenueState) → i < length entries → entry ≡ get_or entries i entry
+    → TakesSome accepted (with_before entries rest) (with_before (drop i entries) rest) venue → ((taken : List (List ℕ)) → Stands venue taken 0 → IsAccepted taken entry venue')
+    → TakesSome accepted (with_before entries rest) (with_before (drop (i + 1) entries) rest) venue'
+takes_entry accepted entries rest i entry venue venue' within is some accepts =
+    let here = accepts some.taken some.stands in
+    record {
+      taken = some.taken ++ raw_of entry.command ∷ [];
+      same = some.same ∙ ap (λ (es : List CommandEntry). accepted_in some.taken (with_before es rest)) (next_entry entries i entry within is) ∙ accepts_one some.taken entry (with_before (drop (i + 1) entries) rest) here.none;
+      stands = here.stands;
+    }
+
+-- it is refused
+pub takes_refused : (accepted : List (List ℕ)) (entries : List CommandEntry) (rest : Result (List CommandEntry) TextError) (i : ℕ) (entry : CommandEntry) (venue : VenueState) (error : CommandError) → i < length entries → entry ≡ get_or entries i entry
+    → TakesSome accepted (with_before entries rest) (with_before (drop i entries) rest) venue → ((taken : List (List ℕ)) → Stands venue taken 0 → (error ≡ errors.OutOfMemory) ⊎ IsRefused taken entry error)
+    → (error ≡ errors.OutOfMemory) ⊎ (accepted_in accepted (with_before entries rest) ≡ Err (cause_before rest error))
+takes_refused accepted entries rest i entry venue error within is some refuses = elim (refuses some.taken some.stands) [
+  | inl memory ↦ inl memory
+  | inr refused ↦ inr (some.same ∙ ap (λ (es : List CommandEntry). accepted_in some.taken (with_before es rest)) (next_entry entries i entry within is)
+      ∙ refuses_one some.taken entry (with_before (drop (i + 1) entries) rest) refused.cause refused.refuses
+      ∙ ap Err (cause_behind (drop (i + 1) entries) rest entry.line refused.cause) ∙ ap (λ (e : CommandError). Err (cause_before rest e)) (sym refused.is))
 ]
 
--- the text has a fault
-pub takes_fault : (accepted : List (List ℕ)) (read : Result (List CommandEntry) TextError) (left more : List (Result CommandEntry TextError)) (fault : TextError) (venue : VenueState) (answer : CommandError) → left ≡ Err fault ∷ more
-    → answer ≡ of_text fault → TakesSome accepted read (all_of left) venue → accepted_in accepted read ≡ Err answer
-takes_fault accepted read left more fault venue answer first is some = some.same ∙ ap (λ (items : List (Result CommandEntry TextError)). accepted_in some.taken (all_of items)) first ∙ ap Err (sym is)
+-- no command is left of those
+pub takes_entries : (accepted : List (List ℕ)) (entries : List CommandEntry) (rest : Result (List CommandEntry) TextError) (i : ℕ) (venue : VenueState) → length entries ≤ i
+    → TakesSome accepted (with_before entries rest) (with_before (drop i entries) rest) venue → TakesSome accepted (with_before entries rest) rest venue
+takes_entries accepted entries rest i venue past some = record {
+  taken = some.taken;
+  same = some.same ∙ ap (λ (es : List CommandEntry). accepted_in some.taken (with_before es rest)) (drop_all i entries past);
+  stands = some.stands;
+}
+
+-- ---- Commands that are read ahead
+-- one more was read
+pub batch_more : (all : Result (List CommandEntry) TextError) (before after : List CommandEntry) (left more : List (Result CommandEntry TextError)) (entry : CommandEntry) → all ≡ with_before before (all_of left) → left ≡ Ok entry ∷ more
+    → after ≡ before ++ entry ∷ [] → all ≡ with_before after (all_of more)
+batch_more all before after left more entry read first grown =
+    read ∙ ap (λ (items : List (Result CommandEntry TextError)). with_before before (all_of items)) first ∙ moved before (all_of more) ∙ ap (λ (es : List CommandEntry). with_before es (all_of more)) (sym grown)
+  where
+    moved : (es : List CommandEntry) (rest : Result (List CommandEntry) TextError) → with_before es (with_front entry rest) ≡ with_before (es ++ entry ∷ []) rest
+    moved [] rest = refl
+    moved (e ∷ es) rest = ap (with_front e) (moved es rest)
+
+pub batch_count : (total : ℕ) (before after : List CommandEntry) (left more : List (Result CommandEntry TextError)) (entry : CommandEntry) → length left + length before ≡ total → left ≡ Ok entry ∷ more → after ≡ before ++ entry ∷ []
+    → length more + length after ≡ total
+batch_count total before after left more entry counts first grown =
+    let fewer : length left ≡ suc (length more) = ap (λ (items : List (Result CommandEntry TextError)). length items) first in
+    let longer : length after ≡ length before + 1 = ap (λ (es : List CommandEntry). length es) grown ∙ length-append before (entry ∷ []) in
+    omega arith
+
+-- a fault was read
+pub batch_fault : (all : Result (List CommandEntry) TextError) (before : List CommandEntry) (left more : List (Result CommandEntry TextError)) (fault : TextError) (answer : CommandError) → all ≡ with_before before (all_of left) → left ≡ Err fault ∷ more
+    → answer ≡ of_text fault → (accepted : List (List ℕ)) → accepted_in accepted all ≡ Err answer
+batch_fault all before left more fault answer read first is accepted =
+    ap (accepted_in accepted) (read ∙ ap (λ (items : List (Result CommandEntry TextError)). with_before before (all_of items)) first ∙ faulty before) ∙ ap Err (sym is)
+  where
+    faulty : (es : List CommandEntry) → with_before es (Err fault) ≡ Err fault
+    faulty [] = refl
+    faulty (e ∷ es) = ap (with_front e) (faulty es)
+
+-- all that was read ahead was accepted
+pub takes_batch : (accepted : List (List ℕ)) (read left more : Result (List CommandEntry) TextError) (entries : List CommandEntry) (venue venue' : VenueState) → left ≡ with_before entries more → TakesSome accepted read left venue
+    → ((taken : List (List ℕ)) (rest : Result (List CommandEntry) TextError) → Stands venue taken 0 → TakesSome taken (with_before entries rest) rest venue') → TakesSome accepted read more venue'
+takes_batch accepted read left more entries venue venue' ahead some accepts =
+    let here = accepts some.taken more some.stands in
+    record { taken = here.taken; same = some.same ∙ ap (accepted_in some.taken) ahead ∙ here.same; stands = here.stands }
+
+-- a command of those is refused
+pub refuses_batch : (accepted : List (List ℕ)) (read left more : Result (List CommandEntry) TextError) (entries : List CommandEntry) (venue : VenueState) (error answer : CommandError) → left ≡ with_before entries more → answer ≡ cause_before more error
+    → TakesSome accepted read left venue → ((taken : List (List ℕ)) (rest : Result (List CommandEntry) TextError) → Stands venue taken 0 → (error ≡ errors.OutOfMemory) ⊎ (accepted_in taken (with_before entries rest) ≡ Err (cause_before rest error)))
+    → (answer ≡ errors.OutOfMemory) ⊎ (accepted_in accepted read ≡ Err answer)
+refuses_batch accepted read left more entries venue error answer ahead is some refuses = elim (refuses some.taken more some.stands) [
+  | inl memory ↦ inl (is ∙ ap (cause_before more) memory)
+  | inr refused ↦ inr (some.same ∙ ap (accepted_in some.taken) ahead ∙ refused ∙ ap Err (sym is))
+]
+
+-- there was no memory to read ahead, or a fault
+pub takes_unread : (accepted : List (List ℕ)) (read left : Result (List CommandEntry) TextError) (venue : VenueState) (answer : CommandError) → TakesSome accepted read left venue
+    → (answer ≡ errors.OutOfMemory) ⊎ ((taken : List (List ℕ)) → accepted_in taken left ≡ Err answer) → (answer ≡ errors.OutOfMemory) ⊎ (accepted_in accepted read ≡ Err answer)
+takes_unread accepted read left venue answer some (inl memory) = inl memory
+takes_unread accepted read left venue answer some (inr faulty) = inr (some.same ∙ faulty some.taken)
 
 pub takes_all : (accepted : List (List ℕ)) (read : Result (List CommandEntry) TextError) (left : List (Result CommandEntry TextError)) (venue : VenueState) → left ≡ [] → TakesSome accepted read (all_of left) venue → AcceptsAll accepted read venue
 takes_all accepted read left venue none some = record { all = some.taken; accepts = some.same ∙ ap (λ (items : List (Result CommandEntry TextError)). accepted_in some.taken (all_of items)) none; stands = some.stands }

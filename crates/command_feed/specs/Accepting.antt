@@ -1,6 +1,7 @@
 -- What accepting commands does.
 use Rattle.std.specs.Prelude.{◌≡◌, ℕ, List, [], ◌∷◌, ◌++◌, None, Some, Result, Ok, Err}
 use Rattle.pitch_text.specs.declared.command.CommandEntry.{CommandEntry}
+use Rattle.text_lines.specs.Text.{with_front}
 use Rattle.text_lines.specs.declared.fault.TextError.{TextError}
 use Rattle.venue_core.specs.Commands.{raw_of}
 use Rattle.venue_core.specs.Refusals.{refusal}
@@ -29,6 +30,18 @@ pub record IsRefused (accepted : List (List ℕ)) (entry : CommandEntry) (error 
 abbrev pub accepted_in : List (List ℕ) → Result (List CommandEntry) TextError → Result (List (List ℕ)) CommandError
 accepted_in accepted (Ok entries) = accepted_after accepted entries
 accepted_in accepted (Err fault) = Err (of_text fault)
+
+-- these commands before those that were read, or the fault among those
+abbrev pub with_before : List CommandEntry → Result (List CommandEntry) TextError → Result (List CommandEntry) TextError
+with_before [] read = read
+with_before (entry ∷ entries) read = with_front entry (with_before entries read)
+
+-- a venue that accepted some messages accepted the first of the commands that were read, and those
+-- that are left follow
+pub record TakesSome (accepted : List (List ℕ)) (read left : Result (List CommandEntry) TextError) (venue : VenueState) : Type 0 where
+  pub taken : List (List ℕ)
+  pub same : accepted_in accepted read ≡ accepted_in taken left
+  pub stands : Stands venue taken 0
 
 -- all the commands were read, and it accepted them
 pub record AcceptsAll (accepted : List (List ℕ)) (read : Result (List CommandEntry) TextError) (venue : VenueState) : Type 0 where

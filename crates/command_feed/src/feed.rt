@@ -1,14 +1,17 @@
-ghost use Rattle.std.specs.Prelude.{◌≡◌, ◌≤◌, ◌++◌, [], ◌⊎◌, List, ℕ, Ok, Err, OnOk, OnErr, IfOk, IfErr, length, take};
+ghost use Rattle.std.specs.Prelude.{◌≡◌, ◌≤◌, ◌++◌, [], ◌⊎◌, List, ℕ, Result, Ok, Err, OnOk, OnErr, IfOk, IfErr, length, take};
 ghost use Rattle.std.specs.List.{concat};
 ghost use Rattle.std.specs.Result.{result_err};
+ghost use Rattle.pitch_text.specs.declared.command.CommandEntry.{CommandEntry};
 ghost use Rattle.text_lines.specs.Text.{all_of};
+ghost use Rattle.text_lines.specs.declared.fault.TextError.{TextError};
 ghost use Rattle.unit_packets.specs.Packing.{IsPacking, packed, bytes_in};
 ghost use Rattle.venue_core.specs.Stands.{Stands};
-ghost use Rattle.command_feed.specs.Accepting.{IsAccepted, IsRefused, AcceptsAll, IsVenueAfter, accepted_in};
+ghost use Rattle.command_feed.specs.Accepting.{IsAccepted, IsRefused, AcceptsAll, IsVenueAfter, TakesSome, accepted_in, with_before};
 ghost use Rattle.command_feed.specs.Faults.{of_venue, cause_before};
 ghost use Rattle.command_feed.specs.Feed.{messages_of, feed_of, AppendsPacking};
 ghost use Rattle.command_feed.specs.declared.error.CommandError.TheVariants as errors;
 
+use crate::batch::Batch;
 use crate::error::CommandError;
 use pitch_fields::OutOfMemory;
 use pitch_messages::ByteList;
@@ -66,20 +69,35 @@ fn first_cause(error: CommandError, rest: Commands<'_>) -> CommandError
     }
 }
 
+// The venue accepts some commands, up to the first that is refused. Whatever follows them is as yet
+// to be read.
+fn accept_entries(venue: &mut Venue, entries: &[CommandEntry]) -> Result<(), CommandError>
+    ensures ok { OnOk result ((accepted : List (List ℕ)) (rest : Result (List CommandEntry) TextError) → Stands venue.old accepted 0
+        → TakesSome accepted (with_before entries.now rest) rest venue.new) }
+    ensures err { IfErr result (λ error. (accepted : List (List ℕ)) (rest : Result (List CommandEntry) TextError) → Stands venue.old accepted 0
+        → (error ≡ errors.OutOfMemory) ⊎ (accepted_in accepted (with_before entries.now rest) ≡ Err (cause_before rest error))) }
+    ensures unit { venue.new.unit ≡ venue.old.unit }
+{
+    'entries: for entry in entries {
+        if let Err(error) = accept_entry(venue, entry) {
+            return Err(error);
+        }
+    }
+    Ok(())
+}
+
 // The venue accepts the commands of all items. Else the answer is the text's first fault, or the
 // first command that is refused; from that on no command goes to the venue.
-fn accept_all(venue: &mut Venue, mut items: Commands<'_>) -> Result<(), CommandError>
+fn accept_all(alloc: Global, venue: &mut Venue, mut items: Commands<'_>) -> Result<(), CommandError>
     ensures ok { OnOk result ((accepted : List (List ℕ)) → Stands venue.old accepted 0 → AcceptsAll accepted (all_of items.entry) venue.new) }
     ensures err { IfErr result (λ error. (accepted : List (List ℕ)) → Stands venue.old accepted 0
         → (error ≡ errors.OutOfMemory) ⊎ (accepted_in accepted (all_of items.entry) ≡ Err error)) }
     ensures unit { venue.new.unit ≡ venue.old.unit }
 {
-    'commands: while let Some(item) = items.next() {
-        let entry = match item {
-            Ok(entry) => entry,
-            Err(fault) => return Err(CommandError::from(fault)),
-        };
-        if let Err(error) = accept_entry(venue, &entry) {
+    let mut batch = Batch::make(alloc)?;
+    'batches: while batch.read(&mut items)? {
+        batch.look_up(venue.book());
+        if let Err(error) = accept_entries(venue, &batch.entries) {
             return Err(first_cause(error, items));
         }
     }
@@ -94,7 +112,7 @@ fn venue_after(alloc: Global, unit: u8, text: &[u8]) -> Result<Venue, CommandErr
     ensures err { IfErr result (λ error. (error ≡ errors.OutOfMemory) ⊎ (messages_of text.now ≡ Err error)) }
 {
     let mut venue = Venue::make(alloc, unit);
-    match accept_all(&mut venue, Commands::of_text(text)) {
+    match accept_all(alloc, &mut venue, Commands::of_text(text)) {
         Ok(()) => Ok(venue),
         Err(error) => Err(error),
     }

@@ -5,6 +5,7 @@
 //! the first command that the venue refuses; the list is then as before.
 #![tactic(auto)]
 
+mod batch;
 mod error;
 mod feed;
 
