@@ -15,6 +15,6 @@ batches-preserved c =
     let ahead = c.in_ok-read.ensures.read ∙ ap (λ (es : List CommandEntry). with_before es more) (sym same) in
     record {
       takes = λ accepted stands.
-        takes_batch accepted (all_of c.args.items) left more c.deref.result.now c.batches.venue c.accept_entries.new.venue ahead (c.batches.invariant.takes accepted stands) c.in_default.ensures.ok;
+          takes_batch accepted (all_of c.args.items) left more c.deref.result.now c.batches.venue c.accept_entries.new.venue ahead (c.batches.invariant.takes accepted stands) c.in_default.ensures.ok;
       unit = c.in_default.ensures.unit ∙ c.batches.invariant.unit;
     }

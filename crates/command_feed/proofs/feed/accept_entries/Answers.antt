@@ -10,8 +10,8 @@ returns-in-Err-clause-err c = λ accepted rest stands.
 pub entries-preserved : goal.entries-preserved
 entries-preserved c = record {
   takes = λ accepted rest stands.
-    takes_entry accepted c.args.entries.now rest c.entries.entry-index c.entry-item.result c.entries.venue c.accept_entry.new.venue (search rules) c.entry-item.is
-    (c.entries.invariant.takes accepted rest stands) c.in_default.ensures.ok;
+      takes_entry accepted c.args.entries.now rest c.entries.entry-index c.entry-item.result c.entries.venue c.accept_entry.new.venue (search rules) c.entry-item.is
+      (c.entries.invariant.takes accepted rest stands) c.in_default.ensures.ok;
   unit = c.in_default.ensures.unit ∙ c.entries.invariant.unit;
 }
 
