@@ -17,7 +17,7 @@ use Rattle.pitch_tool.specs.DrillForm.{IsDrill, DrillEnds}
 use Rattle.pitch_tool.specs.StormForm.{IsStorm, StormEnds}
 use Rattle.pitch_tool.specs.VenueStreams.{JudgesVenues, VenuesEnd}
 use Rattle.venue_stream.specs.Forms as venue
-use Rattle.venue_stream.specs.declared.form.VenueForm.TheVariants.{Relay}
+use Rattle.venue_stream.specs.declared.form.VenueForm.TheVariants.{Relay, Quotes}
 use Rattle.pitch_tool.specs.TextForms.{text_limit, text_trouble, AreWorkers, CanMake, TextEnds}
 use Rattle.pitch_tool.specs.declared.failure.Failure.{Failure}
 use Rattle.pitch_tool.specs.declared.failure.Failure.TheVariants.{BadInput, Read, Write, OutOfMemory}
@@ -38,6 +38,7 @@ job_of (form.Storm number units steps workers) = Storm number units steps worker
 job_of (form.Drill number units count) = Drill number units count
 job_of (form.Demo number count) = Demo number count
 job_of (form.Relay hold) = Venues (Relay hold)
+job_of (form.Quotes hold) = Venues (Quotes hold)
 job_of form.Audit = Audit
 
 -- the numbers of a job lie in their ranges

@@ -21,7 +21,7 @@ use Rattle.pitch_tool.specs.declared.status.ExitStatus.TheVariants.{Done, Usage,
 
 -- ---- What is said on the error line
 abbrev pub usage_text : List ℕ
-usage_text = codes "pitch: usage: follow | show | pack | replay | storm | drill | demo | relay | audit\n"
+usage_text = codes "pitch: usage: follow | show | pack | replay | storm | drill | demo | relay | quotes | audit\n"
 
 abbrev pub trouble_text : Trouble → List ℕ
 trouble_text (Blocks (Faulty fault)) = codes "pitch: bad input at " ++ (fault_text fault ++ codes "\n")

@@ -86,6 +86,9 @@ pub fn job_of(form: Form) -> Job
         Form::Relay { hold } => Job::Venues {
             form: VenueForm::Relay { hold },
         },
+        Form::Quotes { hold } => Job::Venues {
+            form: VenueForm::Quotes { hold },
+        },
         Form::Audit => Job::Audit,
     }
 }

@@ -168,7 +168,7 @@ fn close<R: Threads + Wait + Clock + Sync, I: Source, O: Sink, E: Sink, N: Net, 
         Err(Failure::Usage) => {
             say(
                 err,
-                b"pitch: usage: follow | show | pack | replay | storm | drill | demo | relay | audit\n",
+                b"pitch: usage: follow | show | pack | replay | storm | drill | demo | relay | quotes | audit\n",
             );
             ExitStatus::Usage
         }
@@ -229,15 +229,17 @@ fn close<R: Threads + Wait + Clock + Sync, I: Source, O: Sink, E: Sink, N: Net, 
 ///   client ended.
 /// - `relay` reads a stream as `follow` does, in which blocks of Spin Servers stand among those of
 ///   the lines, and writes for each block the datagrams that it adds to its unit's relay.
+/// - `quotes` reads a stream as `follow` does, and writes for each block a line for each best price
+///   of a symbol on a side that one of its messages changes.
 ///
 /// At `Done` the whole text was written and nothing was said. At `Usage` nothing was read or
 /// written, and the net was left as it was. At `BadInput` the texts of the whole blocks before the
 /// trouble were written, and no book; by `pack`, `replay` and `audit` nothing was, and `storm`,
 /// `drill` and `demo` never end so. At `ReadFault` the source had failed, at `WriteFault` the sink, and at
 /// `NetFault` the net; where memory did not run out, a net that failed ends the demo so. At
-/// `OutOfMemory` memory ran out: `follow`, `show` and `relay` may have written a prefix of the text,
-/// the others wrote nothing. Whatever the status, these three take less than a piece of 65,536 bytes
-/// behind the byte that shows a fault.
+/// `OutOfMemory` memory ran out: `follow`, `show`, `relay` and `quotes` may have written a prefix of
+/// the text, the others wrote nothing. Whatever the status, these four take less than a piece of
+/// 65,536 bytes behind the byte that shows a fault.
 pub fn pitch<R: Threads + Wait + Clock + Sync, I: Source, O: Sink, E: Sink, N: Net, G: Gate + Sync>(
     rt: &R,
     alloc: Global,

@@ -14,7 +14,7 @@ use Rattle.pitch_words.specs.Numbers.{IsGivenNumber, IsGivenOr, IsGivenMaybe}
 use Rattle.pitch_words.specs.Forms.{HasForm, HasNumbers, IsForm, command_of, commands, pitch}
 use Rattle.pitch_words.specs.declared.form.Form.{Form}
 use Rattle.pitch_text.specs.Defaults.{default_hold}
-use Rattle.pitch_words.specs.declared.form.Form.TheVariants.{Follow, FollowCapture, Show, Pack, Replay, Storm, Drill, Demo, Relay, Audit}
+use Rattle.pitch_words.specs.declared.form.Form.TheVariants.{Follow, FollowCapture, Show, Pack, Replay, Storm, Drill, Demo, Relay, Quotes, Audit}
 
 -- ---- a line for each form
 
@@ -29,6 +29,7 @@ command_is (Storm number units steps workers) = refl
 command_is (Drill number units count) = refl
 command_is (Demo number count) = refl
 command_is (Relay hold) = refl
+command_is (Quotes hold) = refl
 command_is Audit = refl
 
 given_or_same : (default least most : ℕ) (o : Option Text) (m n : ℕ) → IsGivenOr default least most o m → IsGivenOr default least most o n → m ≡ n
@@ -69,6 +70,7 @@ numbers_same options (Demo number count) (Demo number' count') e a b =
     ap (λ (n : ℕ). Demo n count) (given_same 0 (2 ^ 64 - 1) (options.value (codes "number")) number number' a.0 b.0)
     ∙ ap (λ (n : ℕ). Demo number' n) (given_same 1 1000 (options.value (codes "count")) count count' a.1 b.1)
 numbers_same options (Relay m) (Relay n) e a b = ap Relay (given_or_same default_hold 1 65536 (options.value (codes "hold")) m n a b)
+numbers_same options (Quotes m) (Quotes n) e a b = ap Quotes (given_or_same default_hold 1 65536 (options.value (codes "hold")) m n a b)
 numbers_same options Audit Audit e a b = refl
 numbers_same options _ _ e a b = cc
 

@@ -9,7 +9,7 @@ use Rattle.long_options.specs.Apps.{program}
 use Rattle.long_options.specs.Found.{Options, found_options, given_options}
 use Rattle.pitch_words.specs.Numbers.{IsGivenNumber, IsGivenOr, IsGivenMaybe}
 use Rattle.pitch_words.specs.declared.form.Form.{Form}
-use Rattle.pitch_words.specs.declared.form.Form.TheVariants.{Follow, FollowCapture, Show, Pack, Replay, Storm, Drill, Demo, Relay, Audit}
+use Rattle.pitch_words.specs.declared.form.Form.TheVariants.{Follow, FollowCapture, Show, Pack, Replay, Storm, Drill, Demo, Relay, Quotes, Audit}
 
 -- `follow [--hold H]`, and `follow --pcap [--port P] [--hold H]`
 abbrev pub follow : Described
@@ -43,13 +43,17 @@ demo = (codes "demo", must_have (codes "number") ∷ must_have (codes "count") �
 abbrev pub relay : Described
 relay = (codes "relay", may_have (codes "hold") ∷ [])
 
+-- `quotes [--hold H]`
+abbrev pub quotes : Described
+quotes = (codes "quotes", may_have (codes "hold") ∷ [])
+
 -- `audit`
 abbrev pub audit : Described
 audit = (codes "audit", [])
 
 -- the program's commands
 abbrev pub commands : List Described
-commands = follow ∷ show ∷ pack ∷ replay ∷ storm ∷ drill ∷ demo ∷ relay ∷ audit ∷ []
+commands = follow ∷ show ∷ pack ∷ replay ∷ storm ∷ drill ∷ demo ∷ relay ∷ quotes ∷ audit ∷ []
 
 -- the command that a form gives
 abbrev pub command_of : Form → Described
@@ -62,6 +66,7 @@ command_of (Storm number units steps workers) = storm
 command_of (Drill number units count) = drill
 command_of (Demo number count) = demo
 command_of (Relay hold) = relay
+command_of (Quotes hold) = quotes
 command_of Audit = audit
 
 -- the options have the form's numbers: H is 1 to 65,536, and 4,096 where it isn't given; P is 0 to
@@ -84,6 +89,7 @@ HasNumbers options (Drill number units count) =
     × IsGivenNumber 1 100000 (options.value (codes "count")) count
 HasNumbers options (Demo number count) = IsGivenNumber 0 (2 ^ 64 - 1) (options.value (codes "number")) number × IsGivenNumber 1 1000 (options.value (codes "count")) count
 HasNumbers options (Relay hold) = IsGivenOr default_hold 1 most_held (options.value (codes "hold")) hold
+HasNumbers options (Quotes hold) = IsGivenOr default_hold 1 most_held (options.value (codes "hold")) hold
 HasNumbers options Audit = Unit {0}
 
 -- the form of `follow` with this switch and these numbers, if they are one
@@ -107,6 +113,7 @@ IsInRange (Storm number units steps workers) = (1 ≤ units × units ≤ 16) × 
 IsInRange (Drill number units count) = (1 ≤ units × units ≤ 16) × (1 ≤ count × count ≤ 100000)
 IsInRange (Demo number count) = (1 ≤ count) × (count ≤ 1000)
 IsInRange (Relay hold) = (1 ≤ hold) × (hold ≤ most_held)
+IsInRange (Quotes hold) = (1 ≤ hold) × (hold ≤ most_held)
 IsInRange Audit = Unit {0}
 
 -- the program as clap's builders make it

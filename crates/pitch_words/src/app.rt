@@ -5,7 +5,7 @@ ghost use Rattle.clap.specs.Simple.{app_of, with_rule};
 ghost use Rattle.clap.specs.declared.builder.command.Command.TheViews.{out-Command as fields_of};
 ghost use Rattle.long_options.specs.Apps.{command_app, empty_program, option_rule, program};
 ghost use Rattle.long_options.specs.Words.{must_have};
-ghost use Rattle.pitch_words.specs.Forms.{follow as follow_words, show as show_words, pack as pack_words, replay as replay_words, storm as storm_words, drill as drill_words, demo as demo_words, relay as relay_words, pitch, audit as audit_words};
+ghost use Rattle.pitch_words.specs.Forms.{follow as follow_words, show as show_words, pack as pack_words, replay as replay_words, storm as storm_words, drill as drill_words, demo as demo_words, relay as relay_words, quotes as quotes_words, pitch, audit as audit_words};
 
 use clap::{Arg, ArgAction, Command};
 use std::alloc::{AllocError, Global};
@@ -139,6 +139,14 @@ fn relay<'a>(alloc: Global) -> Result<Command<'a>, AllocError>
     with_option(alloc, command(alloc, "relay"), "hold", false)
 }
 
+// `quotes [--hold H]`
+fn quotes<'a>(alloc: Global) -> Result<Command<'a>, AllocError>
+    ensures app { IfOk result (λ r. app_of r ≡ command_app quotes_words) }
+    ensures local { IfOk result (λ r. (fields_of r).has_globals ≡ false) }
+{
+    with_option(alloc, command(alloc, "quotes"), "hold", false)
+}
+
 // The program without its commands, of which one must be there.
 fn top<'a>(alloc: Global) -> Command<'a>
     ensures app { app_of result ≡ empty_program (codes "pitch") }
@@ -182,5 +190,6 @@ pub(crate) fn app<'a>(alloc: Global) -> Result<Command<'a>, AllocError>
     ensures app { IfOk result (λ r. app_of r ≡ pitch) }
 {
     let with_relay = app_to_demo(alloc)?.subcommand(relay(alloc)?)?;
-    with_relay.subcommand(command(alloc, "audit"))
+    let with_quotes = with_relay.subcommand(quotes(alloc)?)?;
+    with_quotes.subcommand(command(alloc, "audit"))
 }

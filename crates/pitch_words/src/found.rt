@@ -202,6 +202,18 @@ fn relay(matches: &ArgMatches) -> Option<Form>
     })
 }
 
+// `quotes [--hold H]`
+fn quotes(matches: &ArgMatches) -> Option<Form>
+    ensures form { MatchOption result ((form : Form) → ¬ HasForm (Some (codes "quotes", rows_of (found_of matches.now))) form)
+        (HasForm (Some (codes "quotes", rows_of (found_of matches.now)))) }
+    ensures range { IfSome result IsInRange }
+{
+    let places = given_or(matches, "hold", u64::from(DEFAULT_HOLD), 1, 65536)?;
+    Some(Form::Quotes {
+        hold: places as u32,
+    })
+}
+
 // The form of the command of this name.
 fn form_in(name: &str, matches: &ArgMatches) -> Option<Form>
     ensures form { MatchOption result ((form : Form) → ¬ HasForm (Some (name.now, rows_of (found_of matches.now))) form)
@@ -217,6 +229,7 @@ fn form_in(name: &str, matches: &ArgMatches) -> Option<Form>
         "drill" => drill(matches),
         "demo" => demo(matches),
         "relay" => relay(matches),
+        "quotes" => quotes(matches),
         "audit" => Some(Form::Audit),
         _ => None,
     }

@@ -13,6 +13,7 @@
 //! | `drill --number S --units N --count C` | S and N as above, C is 1 to 100,000 | |
 //! | `demo --number S --count C` | S as above, C is 1 to 1,000 | |
 //! | `relay [--hold H]` | H as above | 4,096 |
+//! | `quotes [--hold H]` | H as above | 4,096 |
 //!
 //! The first word is a command's name. The options follow in any order, each at most once, as
 //! `--name value` or `--name=value`; those in brackets may be left out. A value is 1 to 20 digits

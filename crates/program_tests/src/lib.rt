@@ -21,6 +21,8 @@ mod nets;
 #[cfg(test)]
 mod packs;
 #[cfg(test)]
+mod quotes;
+#[cfg(test)]
 mod relays;
 #[cfg(test)]
 mod runs;

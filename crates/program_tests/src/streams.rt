@@ -309,7 +309,7 @@ fn words_say_how_many_are_held(rt: HostRuntime) -> Result<(), Fail> {
 #[test]
 fn words_that_are_no_form_leave_the_input(rt: HostRuntime) -> Result<(), Fail> {
     let usage =
-        "pitch: usage: follow | show | pack | replay | storm | drill | demo | relay | audit\n";
+        "pitch: usage: follow | show | pack | replay | storm | drill | demo | relay | quotes | audit\n";
     for line in ["", "follow --", "follow --hold 0", "help", "followed"] {
         let mut outcome = run(&rt, rt.alloc(), line, &[TIME, ADD], 65536)?;
         assert!(rt; outcome.is(ExitStatus::Usage, b"", usage));

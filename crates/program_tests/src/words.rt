@@ -4,9 +4,11 @@ use std::alloc::Global;
 use std::test::*;
 
 // Words, which single spaces part, and their form.
-static FORMS: [(&str, Form); 26] = [
+static FORMS: [(&str, Form); 28] = [
     ("relay", Form::Relay { hold: 4096 }),
     ("relay --hold=2", Form::Relay { hold: 2 }),
+    ("quotes", Form::Quotes { hold: 4096 }),
+    ("quotes --hold=2", Form::Quotes { hold: 2 }),
     ("follow", Form::Follow { hold: 4096 }),
     ("follow --hold 2", Form::Follow { hold: 2 }),
     ("follow --hold=2", Form::Follow { hold: 2 }),
@@ -105,7 +107,8 @@ static FORMS: [(&str, Form); 26] = [
 ];
 
 // Words that are no form.
-static REFUSED: [&str; 89] = [
+static REFUSED: [&str; 90] = [
+    "quotes --hold 0",
     "follow --hold 0",
     "follow --hold 65537",
     "follow --hold=000000000000000000005",

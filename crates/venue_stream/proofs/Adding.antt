@@ -9,13 +9,15 @@ use Rattle.unit_packets.specs.declared.header.BlockError.{BlockError}
 use Rattle.unit_packets.proofs.Streams.{leads}
 use Rattle.unit_packets.proofs.Cuts.{none_of}
 use Rattle.pitch_model.specs.History.{Raw}
+use Rattle.pitch_model.specs.Image.{image}
+use Rattle.pitch_model.proofs.Units.{all_honest_before}
 use Rattle.feed_lines.specs.Texts.{texts_after}
 use Rattle.feed_lines.proofs.Texts.{texts_none, texts_more, reverse_more}
 use Rattle.relay_unit.specs.Hearing.{relay_heard, relay_history}
 use Rattle.relay_unit.specs.RelayText.{IsVenue, AreRelayVenues}
 use Rattle.venue_stream.specs.Forms.{AreVenuesOf, Outruns, text_after, task_form, Knows}
 use Rattle.venue_stream.specs.declared.form.VenueForm.{VenueForm}
-use Rattle.venue_stream.specs.declared.form.VenueForm.TheVariants.{Relay}
+use Rattle.venue_stream.specs.declared.form.VenueForm.TheVariants.{Relay, Quotes}
 use Rattle.venue_stream.specs.declared.task.VenueTask.{VenueTask}
 use Rattle.venue_stream.specs.declared.failure.TextError.{TextError}
 use Rattle.venue_stream.specs.declared.failure.TextError.TheVariants.{SequencesSpent, OutOfMemory}
@@ -33,6 +35,7 @@ relay_before H Vs block before all = λ unit. by unit (block.unit == unit) (all 
 -- what is a venue of blocks is one of those before the last
 venues_before : (form : VenueForm) (Vs : ℕ → List Raw) (block : Block) (before : List Block) → AreVenuesOf form Vs (block ∷ before) → AreVenuesOf form Vs before
 venues_before (Relay hold) Vs block before all = relay_before hold Vs block before all
+venues_before (Quotes hold) Vs block before all = all_honest_before image Vs block before all
 
 pub venues_behind : (form : VenueForm) (Vs : ℕ → List Raw) (more before : List Block) → AreVenuesOf form Vs (more ++ before) → AreVenuesOf form Vs before
 venues_behind form Vs [] before all = all
@@ -115,9 +118,8 @@ along_stops r s bytes rest at made made' block SequencesSpent so_far is stands s
       left = blocks_of left;
       blocks_are = so_far.blocks ∙ ap (λ (q : List ℕ). so_far.done ++ blocks_of q) (sym is) ∙ ap (λ (bs : List Block). so_far.done ++ bs) l.blocks;
       sent = λ before h Vs v. stops.0 ∙ so_far.tells.sent before h Vs v;
-      spent = λ before h Vs v.
+      spent = λ before h.
           let earlier : List Block = reverse so_far.done ++ before in
-          subst (λ (form : VenueForm). Outruns form Vs earlier block) same
-          (stops.1 earlier (so_far.tells.known before h) Vs (subst (λ (form : VenueForm). AreVenuesOf form Vs (block ∷ earlier)) (sym same) v));
+          subst (λ (form : VenueForm). Outruns form earlier block) same (stops.1 earlier (so_far.tells.known before h));
     }
 along_stops r s bytes rest at made made' block OutOfMemory so_far is stands stops = tt

@@ -19,8 +19,7 @@ use Rattle.stream_print.specs.declared.failure.StreamTrouble.TheVariants.{Faulty
 use Rattle.stream_print.proofs.Carriers.{no_blocks, no_trouble, behind_none, bare_ended}
 use Rattle.stream_print.proofs.Feeding.{take_all, lasts_trouble, long_trouble, ended as ended_trouble, has_more, has_all, consumes_more, consumes_none}
 use Rattle.stream_print.proofs.Keeping.{whole}
-use Rattle.feed_lines.proofs.Texts.{reverse_more}
-use Rattle.venue_stream.specs.Forms.{AreVenuesOf, Outruns, task_form, Knows}
+use Rattle.venue_stream.specs.Forms.{Outruns, task_form, Knows}
 use Rattle.venue_stream.specs.declared.form.VenueForm.{VenueForm}
 use Rattle.venue_stream.specs.declared.task.VenueTask.{VenueTask}
 use Rattle.venue_stream.specs.Blocks.{SpendsPiece, StopsPiece}
@@ -29,7 +28,7 @@ use Rattle.venue_stream.specs.Feeding.{Fed}
 use Rattle.venue_stream.specs.Sent.{AreSent, WritesText, WritesPrefix}
 use Rattle.venue_stream.specs.declared.failure.VenueFailure.{VenueFailure}
 use Rattle.venue_stream.specs.declared.failure.VenueFailure.TheVariants as failing
-use Rattle.venue_stream.proofs.Piecing.{blocks_then, before_is, venues_first, writes_more, writes_none, writes_all, prefix_longer, fed_fails}
+use Rattle.venue_stream.proofs.Piecing.{blocks_then, before_is, writes_more, writes_none, writes_all, prefix_longer, fed_fails}
 
 -- ---- Pieces that were cut at the limit
 longer : (k : ℕ) (bytes piece : List ℕ) → (more : List Block) × (blocks_of (bytes ++ piece) ≡ blocks_of (bytes ++ take k piece) ++ more)
@@ -57,13 +56,9 @@ spends_piece form k first now start u v r reader bytes piece fed p read =
           ∙ sym (append_assoc xs done (p.spends.block ∷ behind));
       wrote = writes_more form start u v xs done (xs ++ done) p.added refl fed.wrote p.wrote
           (subst (λ (n : VenueForm). AreSent n (reverse xs) done p.added) fed.form_is (p.spends.sent (reverse xs) fed.known));
-      spent = λ Vs venues.
-          let before = before_is xs done in
-          let here : AreVenuesOf (task_form r) Vs (p.spends.block ∷ (reverse done ++ reverse xs)) =
-          subst (λ (n : VenueForm). AreVenuesOf n Vs (p.spends.block ∷ (reverse done ++ reverse xs))) (sym fed.form_is)
-          (subst (λ (bs : List Block). AreVenuesOf form Vs (p.spends.block ∷ bs)) before venues) in
-          subst (λ (bs : List Block). Outruns form Vs bs p.spends.block) (sym before)
-          (subst (λ (n : VenueForm). Outruns n Vs (reverse done ++ reverse xs) p.spends.block) fed.form_is (p.spends.spent (reverse xs) fed.known Vs here));
+      spent =
+          subst (λ (bs : List Block). Outruns form bs p.spends.block) (sym (before_is xs done))
+          (subst (λ (n : VenueForm). Outruns n (reverse done ++ reverse xs) p.spends.block) fed.form_is (p.spends.spent (reverse xs) fed.known));
     }
 
 -- ---- Why a piece ends the stream
@@ -194,24 +189,16 @@ pub ended_unwritten : (fault : Option BlockFault) → ended fault ≡ Err failin
 ended_unwritten None e = cc
 ended_unwritten (Some fault) e = cc
 
--- the venues of all blocks are those of the blocks up to one
-pub venues_of_first : (form : VenueForm) (Vs : ℕ → List Raw) (done : List Block) (block : Block) (left : List Block) → AreVenuesOf form Vs (reverse (done ++ (block ∷ left))) → AreVenuesOf form Vs (block ∷ reverse done)
-venues_of_first form Vs done block left all =
-    let parts : done ++ (block ∷ left) ≡ (done ++ block ∷ []) ++ left = sym (append_assoc done (block ∷ []) left) in
-    subst (AreVenuesOf form Vs) (reverse_more done block)
-    (venues_first form Vs (done ++ block ∷ []) left (subst (λ (bs : List Block). AreVenuesOf form Vs (reverse bs)) parts all))
-
 -- what a source told is what it has
 has_same : (left : Option (List ℕ)) (bytes others : List ℕ) → left ≡ Some bytes → Has left others → others ≡ bytes
 has_same left bytes others is has = sym (subst (λ (o : Option (List ℕ)). Has o others) is has)
 
 -- where no block of the whole input outruns the last sequence, none of those read does
 pub never_spends : (form : VenueForm) (input out : Told) (bytes : List ℕ) → input.old ≡ Some bytes → NeverOutruns form (blocks_of bytes) → Spends form input out → ⊥
-never_spends form input out bytes is (Vs, venues, never) r =
+never_spends form input out bytes is never r =
     let more = has_more input.old input.new r.bytes r.read in
     let all : r.bytes ++ more.0 ≡ bytes = has_same input.old bytes (r.bytes ++ more.0) is more.1 in
     let rest : List Block = blocks_of (rest_of r.bytes ++ more.0) in
     let are : blocks_of bytes ≡ r.done ++ (r.block ∷ (r.left ++ rest)) =
     ap blocks_of (sym all) ∙ (appends r.bytes more.0).blocks ∙ ap (λ (bs : List Block). bs ++ rest) r.blocks_are ∙ append_assoc r.done (r.block ∷ r.left) rest in
-    never r.done r.block (r.left ++ rest) are
-    (r.spent Vs (venues_of_first form Vs r.done r.block (r.left ++ rest) (subst (λ (bs : List Block). AreVenuesOf form Vs (reverse bs)) are venues)))
+    never r.done r.block (r.left ++ rest) are r.spent

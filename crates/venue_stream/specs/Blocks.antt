@@ -31,7 +31,7 @@ pub record TellsBlock (r r' : VenueTask) (made made' : List ℕ) (block : Block)
 
 -- a block outruns the last sequence, behind those that were heard
 abbrev pub OutrunsAt : VenueTask → Block → Type 0
-OutrunsAt r block = (before : List Block) → Knows r before → (Vs : ℕ → List Raw) → AreVenuesOf (task_form r) Vs (block ∷ before) → Outruns (task_form r) Vs before block
+OutrunsAt r block = (before : List Block) → Knows r before → Outruns (task_form r) before block
 
 -- why a block has no text
 abbrev pub StopsAt : TextError → VenueTask → (made made' : List ℕ) → Block → Type 0
@@ -51,7 +51,7 @@ pub record SpendsAt (r : VenueTask) (added : List ℕ) (blocks : List Block) : T
   pub left : List Block
   pub blocks_are : blocks ≡ done ++ (block ∷ left)
   pub sent : (before : List Block) → Knows r before → AreSent (task_form r) before done added
-  pub spent : (before : List Block) → Knows r before → (Vs : ℕ → List Raw) → AreVenuesOf (task_form r) Vs (block ∷ (reverse done ++ before)) → Outruns (task_form r) Vs (reverse done ++ before) block
+  pub spent : (before : List Block) → Knows r before → Outruns (task_form r) (reverse done ++ before) block
 
 -- why some blocks have no text
 abbrev pub Stops : TextError → VenueTask → List ℕ → List Block → Type 0

@@ -4,13 +4,12 @@ use Rattle.std.specs.Io.KnownBytes.{Consumes}
 use Rattle.unit_packets.specs.Blocks.{Block}
 use Rattle.unit_packets.specs.Cutting.{blocks_of}
 use Rattle.unit_packets.specs.declared.header.BlockFault.{BlockFault}
-use Rattle.pitch_model.specs.History.{Raw}
 use Rattle.stream_print.specs.Inputs.{trouble_of, ReadsAll, Has}
 use Rattle.stream_print.specs.Told.{Told}
 use Rattle.stream_print.specs.declared.carrier.Carrier.TheVariants.{Bare}
 use Rattle.stream_print.specs.declared.failure.StreamTrouble.{StreamTrouble}
 use Rattle.stream_print.specs.declared.failure.StreamTrouble.TheVariants.{Faulty}
-use Rattle.venue_stream.specs.Forms.{AreVenuesOf, Outruns}
+use Rattle.venue_stream.specs.Forms.{Outruns}
 use Rattle.venue_stream.specs.declared.form.VenueForm.{VenueForm}
 use Rattle.venue_stream.specs.Sent.{WritesText, WritesPrefix}
 use Rattle.venue_stream.specs.declared.failure.VenueFailure.{VenueFailure}
@@ -30,8 +29,8 @@ pub record Refuses (form : VenueForm) (most : ℕ) (trouble : StreamTrouble) (in
   pub trouble_is : trouble_of Bare most bytes ≡ Some trouble
   pub wrote : WritesText form out.old out.new (blocks_of (take most bytes))
 
--- a block that was read outruns the last sequence of its unit's relay, for every family of venues
--- of which the blocks so far speak; the texts of those before were written
+-- a block that was read outruns the last sequence of its unit's relay; the texts of those before were
+-- written
 pub record Spends (form : VenueForm) (input out : Told) : Type 0 where
   pub bytes : List ℕ
   pub read : Consumes input.old input.new bytes
@@ -40,7 +39,7 @@ pub record Spends (form : VenueForm) (input out : Told) : Type 0 where
   pub left : List Block
   pub blocks_are : blocks_of bytes ≡ done ++ (block ∷ left)
   pub wrote : WritesText form out.old out.new done
-  pub spent : (Vs : ℕ → List Raw) → AreVenuesOf form Vs (block ∷ reverse done) → Outruns form Vs (reverse done) block
+  pub spent : Outruns form (reverse done) block
 
 -- the source failed after some bytes, and the texts of their whole blocks were written
 pub record WritesSome (form : VenueForm) (input out : Told) : Type 0 where
@@ -68,8 +67,6 @@ abbrev pub ended : Option BlockFault → Result (Unit {0}) VenueFailure
 ended None = Ok tt
 ended (Some fault) = Err (BadInput (Faulty fault))
 
--- some family of venues, of which the blocks speak, for whose messages no block outruns the
--- last sequence
+-- no block outruns the last sequence of its unit's relay
 abbrev pub NeverOutruns : VenueForm → List Block → Type 0
-NeverOutruns form blocks = (Vs : ℕ → List Raw) × AreVenuesOf form Vs (reverse blocks)
-    × ((before : List Block) (block : Block) (left : List Block) → blocks ≡ before ++ (block ∷ left) → Outruns form Vs (reverse before) block → ⊥)
+NeverOutruns form blocks = (before : List Block) (block : Block) (left : List Block) → blocks ≡ before ++ (block ∷ left) → Outruns form (reverse before) block → ⊥

@@ -6,6 +6,7 @@ ghost use Rattle.venue_stream.specs.Forms.{CanHold, Knows, task_form};
 
 use crate::failure::TextError;
 use crate::form::VenueForm;
+use best_quotes::{QuoteLines, QuotedUnits, append_quotes};
 use pitch_fields::OutOfMemory;
 use pitch_messages::ByteList;
 use relay_unit::Relays;
@@ -17,6 +18,8 @@ use unit_packets::{BlockView, DatagramList};
 pub enum VenueTask {
     /// Each block is handed to its unit's relay.
     Relay(Relays),
+    /// Each block is handed to its unit's client, with a ladder beside it.
+    Quotes(QuotedUnits),
 }
 
 /// The task of a form.
@@ -27,6 +30,7 @@ pub fn make_task(alloc: Global, form: VenueForm) -> Result<VenueTask, OutOfMemor
 {
     match form {
         VenueForm::Relay { hold } => Ok(VenueTask::Relay(Relays::make(alloc, hold)?)),
+        VenueForm::Quotes { hold } => Ok(VenueTask::Quotes(QuotedUnits::make(alloc, hold)?)),
     }
 }
 
@@ -56,6 +60,23 @@ fn relay_block(
     Ok(())
 }
 
+// Hands a block to its unit's client, and appends a line for each best that it changes.
+fn quote_block(
+    alloc: Global,
+    units: &mut QuotedUnits,
+    block: &BlockView<'_>,
+    made: &mut Vec<u8>,
+) -> Result<(), TextError>
+    ensures ok { OnOk result (TellsBlock (VenueTask.Quotes units.old) (VenueTask.Quotes units.new) made.old.items made.new.items block.now) }
+    ensures err { IfErr result (λ error. StopsAt error (VenueTask.Quotes units.old) made.old.items made.new.items block.now) }
+{
+    let mut lines = QuoteLines::make(alloc);
+    units.hear(alloc, block, &mut lines)?;
+    let unit = block.header().unit;
+    append_quotes(unit, lines.as_slice(), made)?;
+    Ok(())
+}
+
 /// Hears a block, and appends its text to what was made.
 pub fn add_text(
     alloc: Global,
@@ -68,5 +89,6 @@ pub fn add_text(
 {
     match task {
         VenueTask::Relay(relays) => relay_block(alloc, relays, block, made),
+        VenueTask::Quotes(units) => quote_block(alloc, units, block, made),
     }
 }

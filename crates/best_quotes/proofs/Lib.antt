@@ -1,0 +1,15 @@
+pub mod Telling
+pub mod Lasting
+pub mod Balancing
+pub mod Keys
+pub mod Besting
+pub mod Listing
+pub mod Moving
+pub mod Turning
+pub mod Gone
+pub mod Stepping
+pub mod Along
+pub mod Following
+pub mod Quoted
+pub mod Lining
+pub mod Examples

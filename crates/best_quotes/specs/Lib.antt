@@ -1,0 +1,10 @@
+pub mod Balance
+pub mod Changes
+pub mod Ladders
+pub mod Leveling
+pub mod Naming
+pub mod Quoting
+pub mod QuotesText
+pub mod Stands
+pub mod Turning
+pub mod Units

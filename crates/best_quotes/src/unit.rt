@@ -1,0 +1,73 @@
+ghost use Rattle.std.specs.Prelude.{◌≡◌, ◌≤◌, ◌++◌, ℕ, List, [], OnOk, IfOk};
+ghost use Rattle.pitch_fields.specs.Limits.{most_held};
+ghost use Rattle.pitch_model.specs.Heard.{block_change};
+ghost use Rattle.pitch_model.specs.HeardBlocks.{heard_block};
+ghost use Rattle.pitch_model.specs.History.{Entry, Raw};
+ghost use Rattle.pitch_model.specs.Honest.{Honest};
+ghost use Rattle.best_quotes.specs.Quoting.{quotes_of_block};
+ghost use Rattle.best_quotes.specs.Stands.{Stands};
+
+use crate::hearing::hear_block;
+use crate::ladder::Ladder;
+use crate::lines::QuoteLines;
+use client_core::{Change, UnitClient};
+use pitch_fields::OutOfMemory;
+use pitch_messages::RawList;
+use std::alloc::Global;
+use unit_packets::BlockView;
+
+/// A client of one unit with a ladder beside it.
+///
+/// After OutOfMemory it stands for nothing any more.
+#[derive(Drop)]
+pub struct QuotedUnit {
+    pub(crate) alloc: Global,
+    pub(crate) client: UnitClient,
+    pub(crate) ladder: Ladder,
+    // what the last block applied
+    pub(crate) applied: RawList,
+}
+
+impl QuotedUnit {
+    /// A unit that has heard nothing. Its client will hold at most `limit` messages, from 1 to
+    /// 65,536.
+    pub fn make(alloc: Global, limit: u32) -> Result<QuotedUnit, OutOfMemory>
+        requires { (1 ≤ limit) × (limit ≤ most_held) }
+        ensures { IfOk result (λ unit. Stands unit limit []) }
+    {
+        let client = UnitClient::make(alloc, limit)?;
+        Ok(QuotedUnit {
+            alloc,
+            client,
+            ladder: Ladder::make(alloc),
+            applied: RawList::make(alloc),
+        })
+    }
+
+    /// Hears a block, and appends what each message that it applies changes of the best prices.
+    pub fn hear(
+        &mut self,
+        block: &BlockView<'_>,
+        lines: &mut QuoteLines,
+    ) -> Result<Change, OutOfMemory>
+        // Whatever history the unit stood for, it now stands for that history and this block.
+        ensures stands { OnOk result ((H : ℕ) (E : List Entry) → Stands self.old H E → Stands self.new H (heard_block block.now E)) }
+        // Of any venue of which that history speaks, the lines are those of the block.
+        ensures quotes { OnOk result ((Image : List Raw → ℕ → List Raw) (V : List Raw) (H : ℕ) (E : List Entry) → Stands self.old H E → Honest Image V (heard_block block.now E)
+            → lines.new.items ≡ lines.old.items ++ quotes_of_block H V E block.now) }
+        // The answer is what the block changes, as of a client alone.
+        ensures change { IfOk result (λ change. (H : ℕ) (E : List Entry) → Stands self.old H E → change ≡ block_change H E block.now) }
+    {
+        let sequence = block.header().sequence;
+        let change = hear_block(
+            self.alloc,
+            &mut self.client,
+            &mut self.ladder,
+            sequence,
+            block.raws(),
+            &mut self.applied,
+            lines,
+        )?;
+        Ok(change)
+    }
+}

@@ -1,0 +1,119 @@
+ghost use Rattle.std.specs.Prelude.{◌≡◌, ◌≤◌, ◌++◌, ℕ, List, [], ◌∷◌, OnOk, IfOk, length};
+ghost use Rattle.pitch_fields.specs.Limits.{most_held};
+ghost use Rattle.unit_packets.specs.Blocks.{Block};
+ghost use Rattle.pitch_model.specs.Heard.{block_change};
+ghost use Rattle.pitch_model.specs.HeardBlocks.{heard_block};
+ghost use Rattle.pitch_model.specs.History.{Raw};
+ghost use Rattle.pitch_model.specs.Honest.{Honest};
+ghost use Rattle.pitch_model.specs.Units.{unit_history, AllHonest};
+ghost use Rattle.best_quotes.specs.Quoting.{quotes_of_block};
+ghost use Rattle.best_quotes.specs.Units.{StandsAt, IsQuoted, HaveQuoted};
+
+use crate::lines::QuoteLines;
+use crate::unit::QuotedUnit;
+use client_core::Change;
+use pitch_fields::OutOfMemory;
+use std::alloc::Global;
+use std::marker::Model;
+use unit_clients::UNITS;
+use unit_packets::BlockView;
+
+/// The quoted unit of each unit that a block named. Each holds at most so many messages that came
+/// too early.
+#[derive(Drop)]
+pub struct QuotedUnits {
+    limit: u32,
+    units: Vec<Option<QuotedUnit>>,
+}
+
+impl Model for QuotedUnits {
+    ghost use Rattle.std.specs.Prelude.{◌≡◌, ◌≤◌, length};
+    ghost use Rattle.std.specs.Coded.{codes};
+    ghost use Rattle.pitch_fields.specs.Limits.{most_held};
+    ghost use Rattle.best_quotes.specs.contracts.unit.QuotedUnit as quoted;
+    ghost use Rattle.best_quotes.specs.Units.{QuotedUnits};
+
+    ghost Value = { QuotedUnits };
+
+    ghost view = { λ q. record { limit = q.limit; units = q.units.items } };
+
+    ghost coded = { Prim.hlevel (codes, quoted.the_row.coded) };
+
+    ghost invariant = { λ q. (1 ≤ q.limit) × (q.limit ≤ most_held) × (length q.units.items ≡ 256) };
+}
+
+// No unit was heard of yet.
+fn no_units(alloc: Global) -> Result<Vec<Option<QuotedUnit>>, OutOfMemory>
+    ensures units { IfOk result (λ units. (H : ℕ) → HaveQuoted (record { limit = H; units = units.items }) []) }
+    ensures many { IfOk result (λ units. length units.items ≡ 256) }
+{
+    let mut units = Vec::with_capacity(alloc, UNITS)?;
+    for _ in 0..UNITS {
+        units.push(None)?;
+    }
+    Ok(units)
+}
+
+// Hands a block to what is in its unit's place, which is made where there is nothing.
+fn hear_at(
+    alloc: Global,
+    limit: u32,
+    slot: &mut Option<QuotedUnit>,
+    block: &BlockView<'_>,
+    lines: &mut QuoteLines,
+) -> Result<Change, OutOfMemory>
+    requires { (1 ≤ limit) × (limit ≤ most_held) }
+    ensures stands { OnOk result ((before : List Block) → IsQuoted limit before block.now.unit slot.old
+        → StandsAt limit (heard_block block.now (unit_history block.now.unit before)) slot.new) }
+    ensures quotes { OnOk result ((before : List Block) (Image : List Raw → ℕ → List Raw) (V : List Raw) → IsQuoted limit before block.now.unit slot.old
+        → Honest Image V (heard_block block.now (unit_history block.now.unit before))
+        → lines.new.items ≡ lines.old.items ++ quotes_of_block limit V (unit_history block.now.unit before) block.now) }
+    ensures change { IfOk result (λ change. (before : List Block) → IsQuoted limit before block.now.unit slot.old → change ≡ block_change limit (unit_history block.now.unit before) block.now) }
+{
+    match slot {
+        Some(quoted) => quoted.hear(block, lines),
+        None => {
+            let mut quoted = QuotedUnit::make(alloc, limit)?;
+            let change = quoted.hear(block, lines)?;
+            *slot = Some(quoted);
+            Ok(change)
+        }
+    }
+}
+
+impl QuotedUnits {
+    /// No unit was heard of yet. Each client will hold at most `limit` messages, from 1 to 65,536.
+    pub fn make(alloc: Global, limit: u32) -> Result<QuotedUnits, OutOfMemory>
+        requires { (1 ≤ limit) × (limit ≤ most_held) }
+        ensures limit { IfOk result (λ units. units.limit ≡ limit) }
+        ensures heard { IfOk result (λ units. HaveQuoted units []) }
+    {
+        let units = no_units(alloc)?;
+        Ok(QuotedUnits { limit, units })
+    }
+
+    /// Hands a block to its unit, and appends what each message that is applied changes of the best
+    /// prices.
+    ///
+    /// After OutOfMemory that unit stands for nothing any more.
+    pub fn hear(
+        &mut self,
+        alloc: Global,
+        block: &BlockView<'_>,
+        lines: &mut QuoteLines,
+    ) -> Result<Change, OutOfMemory>
+        ensures limit { self.new.limit ≡ self.old.limit }
+        // Whatever blocks came before, the units then stand for these with the block after them.
+        ensures heard { OnOk result ((before : List Block) → HaveQuoted self.old before → HaveQuoted self.new (block.now ∷ before)) }
+        // For every family of venues of which all these blocks speak, what is appended are the
+        // block's quotes.
+        ensures quotes { OnOk result ((before : List Block) (Image : List Raw → ℕ → List Raw) (Vs : ℕ → List Raw) → HaveQuoted self.old before → AllHonest Image Vs (block.now ∷ before)
+            → lines.new.items ≡ lines.old.items ++ quotes_of_block self.old.limit (Vs block.now.unit) (unit_history block.now.unit before) block.now) }
+        ensures change { IfOk result (λ change. (before : List Block) → HaveQuoted self.old before
+            → change ≡ block_change self.old.limit (unit_history block.now.unit before) block.now) }
+    {
+        let unit = block.header().unit as usize;
+        let change = hear_at(alloc, self.limit, &mut self.units[unit], block, lines)?;
+        Ok(change)
+    }
+}
