@@ -11,7 +11,6 @@ use Rattle.pitch_tool.specs.Devices.{Run, Wires, HasFaulted, HasNetFaulted}
 use Rattle.pitch_tool.specs.Jobs.{job_of, JobEnds, Judges, blocks_trouble}
 use Rattle.pitch_tool.specs.Program.{Closes, HasCauses, IsNoForm, IsWhole, IsRefusal}
 use Rattle.pitch_tool.specs.VenueStreams.{JudgesVenues}
-use Rattle.venue_stream.proofs.Ending.{never_spends}
 use Rattle.venue_stream.specs.Ends.{WritesAll}
 use Rattle.venue_stream.specs.declared.form.VenueForm.{VenueForm}
 use Rattle.stream_print.specs.declared.carrier.Carrier.TheVariants.{Bare}
@@ -61,8 +60,8 @@ not_refused (Stream carrier form) (Schedule error) input out net sound r = r
 not_refused (Stream carrier form) SequencesSpent input out net sound r = r
 not_refused (Venues form) (Blocks trouble) input out net sound r =
     no_trouble (trouble_of Bare stream_limit r.bytes) trouble
-    (ap (trouble_of Bare stream_limit) (same_bytes input.old sound.0 r.bytes sound.1 r.has) ∙ sound.2.0) r.trouble_is
-not_refused (Venues form) SequencesSpent input out net sound r = never_spends form input out sound.0 sound.1 sound.2.1 r
+    (ap (trouble_of Bare stream_limit) (same_bytes input.old sound.0 r.bytes sound.1 r.has) ∙ sound.2) r.trouble_is
+not_refused (Venues form) SequencesSpent input out net sound r = r
 not_refused (Venues form) LongText input out net sound r = r
 not_refused (Venues form) (Commands error) input out net sound r = r
 not_refused (Venues form) (Schedule error) input out net sound r = r

@@ -1,10 +1,9 @@
 -- A stream whose text rests on the venues: what is wrong with it, and how it ends.
 use Rattle.std.specs.Prelude.{◌≡◌, ℕ, List, Option, None, Some, Result, Ok, Err}
-use Rattle.unit_packets.specs.Cutting.{blocks_of}
 use Rattle.stream_print.specs.Inputs.{trouble_of}
 use Rattle.stream_print.specs.Told.{Told}
 use Rattle.stream_print.specs.declared.carrier.Carrier.TheVariants.{Bare}
-use Rattle.venue_stream.specs.Ends.{VenueEnds, NeverOutruns}
+use Rattle.venue_stream.specs.Ends.{VenueEnds}
 use Rattle.venue_stream.specs.declared.failure.VenueFailure.{VenueFailure}
 use Rattle.venue_stream.specs.declared.failure.VenueFailure.TheVariants as failing
 use Rattle.venue_stream.specs.declared.form.VenueForm.{VenueForm}
@@ -21,9 +20,9 @@ of_venues failing.Read = Read
 of_venues failing.Write = Write
 of_venues failing.OutOfMemory = OutOfMemory
 
--- nothing is wrong with an input: no fault stands in it, and its sequences last; or it has a fault
+-- nothing is wrong with an input in which no fault stands; or it has a fault
 abbrev pub JudgesVenues : VenueForm → ℕ → List ℕ → Option Trouble → Type 0
-JudgesVenues form most bytes None = (trouble_of Bare most bytes ≡ None) × NeverOutruns form (blocks_of bytes)
+JudgesVenues form most bytes None = trouble_of Bare most bytes ≡ None
 JudgesVenues form most bytes (Some (Blocks trouble)) = trouble_of Bare most bytes ≡ Some trouble
 JudgesVenues form most bytes (Some trouble) = ⊥
 

@@ -10,69 +10,63 @@ use Rattle.unit_packets.specs.Cutting.{blocks_of, rest_of, fault_in}
 use Rattle.unit_packets.specs.Reading.{Reading, unread}
 use Rattle.unit_packets.specs.declared.header.BlockFault.{BlockFault}
 use Rattle.unit_packets.proofs.Cuts.{appends}
-use Rattle.pitch_model.specs.History.{Raw}
 use Rattle.stream_print.specs.Inputs.{lasting_trouble, trouble_of, Has, AreAll}
-use Rattle.stream_print.specs.Told.{Told, between}
+use Rattle.stream_print.specs.Told.{between}
 use Rattle.stream_print.specs.declared.carrier.Carrier.TheVariants.{Bare}
 use Rattle.stream_print.specs.declared.failure.StreamTrouble.{StreamTrouble}
 use Rattle.stream_print.specs.declared.failure.StreamTrouble.TheVariants.{Faulty, TooLong}
 use Rattle.stream_print.proofs.Carriers.{no_blocks, no_trouble, behind_none, bare_ended}
 use Rattle.stream_print.proofs.Feeding.{take_all, lasts_trouble, long_trouble, ended as ended_trouble, has_more, has_all, consumes_more, consumes_none}
 use Rattle.stream_print.proofs.Keeping.{whole}
+use Rattle.relay_unit.proofs.Bytes.{heard_within}
 use Rattle.venue_stream.specs.Forms.{Outruns, task_form, Knows}
 use Rattle.venue_stream.specs.declared.form.VenueForm.{VenueForm}
+use Rattle.venue_stream.specs.declared.form.VenueForm.TheVariants.{Relay, Quotes}
 use Rattle.venue_stream.specs.declared.task.VenueTask.{VenueTask}
 use Rattle.venue_stream.specs.Blocks.{SpendsPiece, StopsPiece}
-use Rattle.venue_stream.specs.Ends.{Refuses, Spends, WritesFirst, VenueEnds, NeverOutruns, ended}
+use Rattle.venue_stream.specs.Ends.{Refuses, WritesFirst, VenueEnds, ended}
 use Rattle.venue_stream.specs.Feeding.{Fed}
-use Rattle.venue_stream.specs.Sent.{AreSent, WritesText, WritesPrefix}
+use Rattle.venue_stream.specs.Sent.{WritesText, WritesPrefix}
 use Rattle.venue_stream.specs.declared.failure.VenueFailure.{VenueFailure}
 use Rattle.venue_stream.specs.declared.failure.VenueFailure.TheVariants as failing
-use Rattle.venue_stream.proofs.Piecing.{blocks_then, before_is, writes_more, writes_none, writes_all, prefix_longer, fed_fails}
+use Rattle.venue_stream.proofs.Piecing.{blocks_then, before_is, writes_none, writes_all, prefix_longer, fed_fails}
 
 -- ---- Pieces that were cut at the limit
 longer : (k : ℕ) (bytes piece : List ℕ) → (more : List Block) × (blocks_of (bytes ++ piece) ≡ blocks_of (bytes ++ take k piece) ++ more)
 longer k bytes piece =
     (blocks_of (rest_of (bytes ++ take k piece) ++ drop k piece), ap blocks_of (sym (whole k bytes piece)) ∙ (appends (bytes ++ take k piece) (drop k piece)).blocks)
 
--- ---- The sequences are spent
-spends_piece : (form : VenueForm) (k : ℕ) (first now start u v : Option (List ℕ)) (r : VenueTask) (reader : Reading) (bytes piece : List ℕ) → Fed form start u r reader bytes → SpendsPiece r (blocks_of (reader.rest ++ take k piece)) u v
-    → Consumes first now (bytes ++ piece) → Spends form (between first now) (between start v)
-spends_piece form k first now start u v r reader bytes piece fed p read =
+-- ---- The sequences are never spent
+-- within the limit no block outruns the last sequence
+never_outruns : (form : VenueForm) (bytes : List ℕ) (done left : List Block) (block : Block) → length bytes ≤ 1073741824 → blocks_of bytes ≡ done ++ (block ∷ left) → Outruns form (reverse done) block → ⊥
+never_outruns (Relay hold) bytes done left block small are spent = let few = heard_within block.unit bytes done left block are in absurd (omega arith)
+never_outruns (Quotes hold) bytes done left block small are spent = spent
+
+spends_piece : (form : VenueForm) (k : ℕ) (start u v : Option (List ℕ)) (r : VenueTask) (reader : Reading) (bytes piece : List ℕ) → k + length bytes ≤ 1073741824 → Fed form start u r reader bytes
+    → SpendsPiece r (blocks_of (reader.rest ++ take k piece)) u v → ⊥
+spends_piece form k start u v r reader bytes piece small fed p =
     let xs : List Block = blocks_of bytes in
     let done : List Block = p.spends.done in
-    let more = longer k bytes piece in
-    let behind : List Block = p.spends.left ++ more.0 in
-    record {
-      bytes = bytes ++ piece;
-      read = read;
-      done = xs ++ done;
-      block = p.spends.block;
-      left = behind;
-      blocks_are =
-          more.1 ∙ ap (λ (bs : List Block). bs ++ more.0) (blocks_then bytes (take k piece) reader.rest fed.behind.rest ∙ ap (λ (bs : List Block). xs ++ bs) p.spends.blocks_are)
-          ∙ append_assoc xs (done ++ (p.spends.block ∷ p.spends.left)) more.0
-          ∙ ap (λ (bs : List Block). xs ++ bs) (append_assoc done (p.spends.block ∷ p.spends.left) more.0)
-          ∙ sym (append_assoc xs done (p.spends.block ∷ behind));
-      wrote = writes_more form start u v xs done (xs ++ done) p.added refl fed.wrote p.wrote
-          (subst (λ (n : VenueForm). AreSent n (reverse xs) done p.added) fed.form_is (p.spends.sent (reverse xs) fed.known));
-      spent =
-          subst (λ (bs : List Block). Outruns form bs p.spends.block) (sym (before_is xs done))
-          (subst (λ (n : VenueForm). Outruns n (reverse done ++ reverse xs) p.spends.block) fed.form_is (p.spends.spent (reverse xs) fed.known));
-    }
+    let le : length (bytes ++ take k piece) ≤ 1073741824 = omega (arith, length-append bytes (take k piece), length-take k piece, small) in
+    let are : blocks_of (bytes ++ take k piece) ≡ (xs ++ done) ++ (p.spends.block ∷ p.spends.left) =
+    blocks_then bytes (take k piece) reader.rest fed.behind.rest ∙ ap (λ (bs : List Block). xs ++ bs) p.spends.blocks_are
+    ∙ sym (append_assoc xs done (p.spends.block ∷ p.spends.left)) in
+    never_outruns form (bytes ++ take k piece) (xs ++ done) p.spends.left p.spends.block le are
+    (subst (λ (bs : List Block). Outruns form bs p.spends.block) (sym (before_is xs done))
+    (subst (λ (n : VenueForm). Outruns n (reverse done ++ reverse xs) p.spends.block) fed.form_is (p.spends.spent (reverse xs) fed.known)))
 
 -- ---- Why a piece ends the stream
-pub piece_stops : (form : VenueForm) (most k : ℕ) (first now start u v : Option (List ℕ)) (r : VenueTask) (reader : Reading) (bytes piece : List ℕ) (failure : VenueFailure) → Fed form start u r reader bytes
+pub piece_stops : (form : VenueForm) (most k : ℕ) (first now start u v : Option (List ℕ)) (r : VenueTask) (reader : Reading) (bytes piece : List ℕ) (failure : VenueFailure) → k + length bytes ≤ 1073741824 → Fed form start u r reader bytes
     → StopsPiece failure r (blocks_of (reader.rest ++ take k piece)) u v → Consumes first now (bytes ++ piece) → VenueEnds form most (Err failure) (between first now) (between start v)
-piece_stops form most k first now start u v r reader bytes piece failing.SequencesSpent fed p read = spends_piece form k first now start u v r reader bytes piece fed p read
-piece_stops form most k first now start u v r reader bytes piece failing.Write fed p read =
+piece_stops form most k first now start u v r reader bytes piece failing.SequencesSpent small fed p read = spends_piece form k start u v r reader bytes piece small fed p
+piece_stops form most k first now start u v r reader bytes piece failing.Write small fed p read =
     let more = longer k bytes piece in
     record { bytes = bytes ++ piece; read = read; wrote = prefix_longer form start v (blocks_of (bytes ++ take k piece)) more.0 (blocks_of (bytes ++ piece)) more.1 (fed_fails form start u v r reader bytes (take k piece) fed p) }
-piece_stops form most k first now start u v r reader bytes piece failing.OutOfMemory fed p read =
+piece_stops form most k first now start u v r reader bytes piece failing.OutOfMemory small fed p read =
     let more = longer k bytes piece in
     record { bytes = bytes ++ piece; read = read; wrote = prefix_longer form start v (blocks_of (bytes ++ take k piece)) more.0 (blocks_of (bytes ++ piece)) more.1 (fed_fails form start u v r reader bytes (take k piece) fed p) }
-piece_stops form most k first now start u v r reader bytes piece (failing.BadInput trouble) fed p read = absurd p
-piece_stops form most k first now start u v r reader bytes piece failing.Read fed p read = absurd p
+piece_stops form most k first now start u v r reader bytes piece (failing.BadInput trouble) small fed p read = absurd p
+piece_stops form most k first now start u v r reader bytes piece failing.Read small fed p read = absurd p
 
 pub never_read : (r : VenueTask) (blocks : List Block) (u v : Option (List ℕ)) (failure : VenueFailure) → StopsPiece failure r blocks u v → ◌≡◌ {A = Result (Unit {0}) VenueFailure} (Err failure) (Err failing.Read) → ⊥
 never_read r blocks u v failing.SequencesSpent p e = cc
@@ -188,17 +182,3 @@ ended_unread (Some fault) e = cc
 pub ended_unwritten : (fault : Option BlockFault) → ended fault ≡ Err failing.Write → ⊥
 ended_unwritten None e = cc
 ended_unwritten (Some fault) e = cc
-
--- what a source told is what it has
-has_same : (left : Option (List ℕ)) (bytes others : List ℕ) → left ≡ Some bytes → Has left others → others ≡ bytes
-has_same left bytes others is has = sym (subst (λ (o : Option (List ℕ)). Has o others) is has)
-
--- where no block of the whole input outruns the last sequence, none of those read does
-pub never_spends : (form : VenueForm) (input out : Told) (bytes : List ℕ) → input.old ≡ Some bytes → NeverOutruns form (blocks_of bytes) → Spends form input out → ⊥
-never_spends form input out bytes is never r =
-    let more = has_more input.old input.new r.bytes r.read in
-    let all : r.bytes ++ more.0 ≡ bytes = has_same input.old bytes (r.bytes ++ more.0) is more.1 in
-    let rest : List Block = blocks_of (rest_of r.bytes ++ more.0) in
-    let are : blocks_of bytes ≡ r.done ++ (r.block ∷ (r.left ++ rest)) =
-    ap blocks_of (sym all) ∙ (appends r.bytes more.0).blocks ∙ ap (λ (bs : List Block). bs ++ rest) r.blocks_are ∙ append_assoc r.done (r.block ∷ r.left) rest in
-    never r.done r.block (r.left ++ rest) are r.spent

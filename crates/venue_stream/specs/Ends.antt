@@ -1,7 +1,6 @@
 -- How a stream ends, whose text rests on the venues.
-use Rattle.std.specs.Prelude.{◌≡◌, ℕ, ◌++◌, List, ◌∷◌, take, reverse, Option, None, Some, Result, Ok, Err}
+use Rattle.std.specs.Prelude.{◌≡◌, ℕ, List, take, Option, None, Some, Result, Ok, Err}
 use Rattle.std.specs.Io.KnownBytes.{Consumes}
-use Rattle.unit_packets.specs.Blocks.{Block}
 use Rattle.unit_packets.specs.Cutting.{blocks_of}
 use Rattle.unit_packets.specs.declared.header.BlockFault.{BlockFault}
 use Rattle.stream_print.specs.Inputs.{trouble_of, ReadsAll, Has}
@@ -9,7 +8,6 @@ use Rattle.stream_print.specs.Told.{Told}
 use Rattle.stream_print.specs.declared.carrier.Carrier.TheVariants.{Bare}
 use Rattle.stream_print.specs.declared.failure.StreamTrouble.{StreamTrouble}
 use Rattle.stream_print.specs.declared.failure.StreamTrouble.TheVariants.{Faulty}
-use Rattle.venue_stream.specs.Forms.{Outruns}
 use Rattle.venue_stream.specs.declared.form.VenueForm.{VenueForm}
 use Rattle.venue_stream.specs.Sent.{WritesText, WritesPrefix}
 use Rattle.venue_stream.specs.declared.failure.VenueFailure.{VenueFailure}
@@ -29,18 +27,6 @@ pub record Refuses (form : VenueForm) (most : ℕ) (trouble : StreamTrouble) (in
   pub trouble_is : trouble_of Bare most bytes ≡ Some trouble
   pub wrote : WritesText form out.old out.new (blocks_of (take most bytes))
 
--- a block that was read outruns the last sequence of its unit's relay; the texts of those before were
--- written
-pub record Spends (form : VenueForm) (input out : Told) : Type 0 where
-  pub bytes : List ℕ
-  pub read : Consumes input.old input.new bytes
-  pub done : List Block
-  pub block : Block
-  pub left : List Block
-  pub blocks_are : blocks_of bytes ≡ done ++ (block ∷ left)
-  pub wrote : WritesText form out.old out.new done
-  pub spent : Outruns form (reverse done) block
-
 -- the source failed after some bytes, and the texts of their whole blocks were written
 pub record WritesSome (form : VenueForm) (input out : Told) : Type 0 where
   pub bytes : List ℕ
@@ -53,11 +39,11 @@ pub record WritesFirst (form : VenueForm) (input out : Told) : Type 0 where
   pub read : Consumes input.old input.new bytes
   pub wrote : WritesPrefix form out.old out.new (blocks_of bytes)
 
--- how a stream ends
+-- how a stream ends; no relay comes to the last sequence, since no stream has so many messages
 abbrev pub VenueEnds : VenueForm → ℕ → Result (Unit {0}) VenueFailure → (input out : Told) → Type 0
 VenueEnds form most (Ok done) input out = WritesAll form most input out
 VenueEnds form most (Err (BadInput trouble)) input out = Refuses form most trouble input out
-VenueEnds form most (Err SequencesSpent) input out = Spends form input out
+VenueEnds form most (Err SequencesSpent) input out = ⊥
 VenueEnds form most (Err Read) input out = WritesSome form input out
 VenueEnds form most (Err Write) input out = WritesFirst form input out
 VenueEnds form most (Err OutOfMemory) input out = WritesFirst form input out
@@ -66,7 +52,3 @@ VenueEnds form most (Err OutOfMemory) input out = WritesFirst form input out
 abbrev pub ended : Option BlockFault → Result (Unit {0}) VenueFailure
 ended None = Ok tt
 ended (Some fault) = Err (BadInput (Faulty fault))
-
--- no block outruns the last sequence of its unit's relay
-abbrev pub NeverOutruns : VenueForm → List Block → Type 0
-NeverOutruns form blocks = (before : List Block) (block : Block) (left : List Block) → blocks ≡ before ++ (block ∷ left) → Outruns form (reverse before) block → ⊥

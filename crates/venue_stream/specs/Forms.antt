@@ -1,7 +1,7 @@
 -- What is written for a block of a stream, where that rests on the messages of the venues. Blocks
 -- stand newest first.
-use Rattle.std.specs.Prelude.{◌≤◌, ℕ, List, [], ◌∷◌}
-use Rattle.pitch_fields.specs.Limits.{most_held}
+use Rattle.std.specs.Prelude.{◌≤◌, ◌<◌, ℕ, List, [], ◌∷◌}
+use Rattle.pitch_fields.specs.Limits.{last_sequence, most_held}
 use Rattle.unit_packets.specs.Blocks.{Block}
 use Rattle.pitch_model.specs.History.{Raw}
 use Rattle.pitch_model.specs.Image.{image}
@@ -10,8 +10,8 @@ use Rattle.feed_lines.specs.Texts.{texts_after}
 use Rattle.best_quotes.specs.QuotesText.{quoted_after}
 use Rattle.best_quotes.specs.Units.{HaveQuoted}
 use Rattle.relay_unit.specs.RelayText.{AreRelayVenues, relayed_after}
-use Rattle.relay_unit.specs.RelayText as relaying
 use Rattle.relay_unit.specs.Relays.{HaveRelayed}
+use Rattle.relay_unit.specs.Sparing.{messages_heard}
 use Rattle.venue_stream.specs.declared.form.VenueForm.{VenueForm}
 use Rattle.venue_stream.specs.declared.form.VenueForm.TheVariants.{Relay, Quotes}
 use Rattle.venue_stream.specs.declared.task.VenueTask.{VenueTask}
@@ -36,10 +36,10 @@ text_after (Quotes hold) Vs before block = quoted_after hold Vs before block
 abbrev pub stream_text : VenueForm → (ℕ → List Raw) → List Block → List ℕ
 stream_text form Vs blocks = texts_after (text_after form Vs) [] blocks
 
--- a block's text can't be made: of a relay, since its unit has no sequences any more, for every
--- family of venues of which the blocks speak; of quotes each can
+-- a block's text can't be made: of a relay, since its unit's blocks have more messages than there
+-- are sequences; of quotes each can
 abbrev pub Outruns : VenueForm → List Block → Block → Type 0
-Outruns (Relay hold) before block = (Vs : ℕ → List Raw) → AreRelayVenues hold Vs (block ∷ before) → relaying.Outruns hold Vs before block
+Outruns (Relay hold) before block = last_sequence < messages_heard block.unit (block ∷ before)
 Outruns (Quotes hold) before block = ⊥
 
 -- the form of which a task is one

@@ -8,7 +8,8 @@ use Rattle.venue_stream.proofs.stream.feed.Goals as goal
 
 pub returns-in-Err-clause-feeds : goal.returns-in-Err-clause-feeds
 returns-in-Err-clause-feeds g c = λ form first now start bytes size fed read.
-    piece_stops form stream_limit c.min-kept.result first now start (g.O.Sink.written c.args.out.now) (g.O.Sink.written c.write_piece.new.out) c.args.task.now c.args.reader.now bytes c.args.piece.now c.in-Err.failure fed
+    let small : c.min-kept.result + length bytes ≤ 1073741824 = omega (arith, c.min-kept.ensures, c.requires.within, size) in
+    piece_stops form stream_limit c.min-kept.result first now start (g.O.Sink.written c.args.out.now) (g.O.Sink.written c.write_piece.new.out) c.args.task.now c.args.reader.now bytes c.args.piece.now c.in-Err.failure small fed
     c.in-Err.ensures.stops read
 
 pub returns-in-Err-clause-not_read : goal.returns-in-Err-clause-not_read
