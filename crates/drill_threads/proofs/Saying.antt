@@ -1,5 +1,5 @@
 -- What a publisher has said, step by step.
-use Rattle.std.proofs.Common.{◌≡◌, ℕ, suc, ◌+◌, List, [], ◌∷◌, ◌++◌, map, length, take, Some, refl, sym, ap, ◌∙◌, subst, arith, append_assoc}
+use Rattle.std.proofs.Common.{◌≡◌, ℕ, suc, ◌+◌, List, [], ◌∷◌, ◌++◌, map, take, Some, refl, sym, ap, ◌∙◌, arith, append_assoc}
 use Rattle.std.proofs.lemmas.List.{map-append, take_more}
 use Rattle.std.proofs.lemmas.Option.{get_or_from_slice_get, slice_get_within}
 use Rattle.std.specs.List.{slice_get}
@@ -16,6 +16,18 @@ bytes_one_more lists i list at =
     ∙ map-append (λ (l : Roomy ℕ). l.items) (take i lists) (list ∷ [])
 
 -- and so of what is sent
+pub one_sent_more : {X M : Type 0} (wrap : X → M) (before now after : List M) (items : List X) (i : ℕ) (item copy : X) → slice_get items i ≡ Some item → copy ≡ item
+    → now ≡ before ++ map wrap (take i items) → after ≡ now ++ wrap copy ∷ [] → after ≡ before ++ map wrap (take (i + 1) items)
+one_sent_more {X} {M} wrap before now after items i item copy at same is_now is_after =
+    let one : take (i + 1) items ≡ take i items ++ item ∷ [] = take_more items i item (slice_get_within items i item at) ∙ ap (λ (x : X). take i items ++ x ∷ []) (get_or_from_slice_get items i item item at) in
+    is_after
+    ∙ ap (λ (l : List M). l ++ wrap copy ∷ []) is_now
+    ∙ append_assoc before (map wrap (take i items)) (wrap copy ∷ [])
+    ∙ ap (λ (x : X). before ++ (map wrap (take i items) ++ wrap x ∷ [])) same
+    ∙ ap (λ (l : List M). before ++ l) (sym (map-append wrap (take i items) (item ∷ [])))
+    ∙ ap (λ (l : List X). before ++ map wrap l) (sym one)
+
+-- also where it is sent by its bytes
 pub sent_one_more : {M : Type 0} (wrap : List ℕ → M) (before now after : List M) (lists : List (Roomy ℕ)) (i : ℕ) (list : Roomy ℕ) (copy : List ℕ) → slice_get lists i ≡ Some list → copy ≡ list.items
     → now ≡ before ++ map wrap (bytes_in (take i lists)) → after ≡ now ++ wrap copy ∷ [] → after ≡ before ++ map wrap (bytes_in (take (i + 1) lists))
 sent_one_more {M} wrap before now after lists i list copy at same is_now is_after =

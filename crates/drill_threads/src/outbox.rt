@@ -40,6 +40,11 @@ impl<T: Drop> Outbox<T> {
         }
     }
 
+    /// How many messages wait in its channel now. No contract says anything of it.
+    pub(crate) fn waiting(&self) -> usize {
+        self.to.len()
+    }
+
     /// Sends a message. It is dropped where the other party has ended.
     pub(crate) fn send<W: Wait>(&mut self, rt: &W, message: T) -> Result<(), OutOfMemory>
         ensures { OnOk result (self.new ≡ self.old ++ message ∷ []) }

@@ -23,9 +23,16 @@ use pitch_model::laws::{operations_add_up, packed_messages_are_pieces};
 use shared_unit::{Naming, Run, Writer};
 use std::alloc::Global;
 use std::sync::Wait;
+use std::thread::yield_now;
 use unit_packets::{DatagramList, pack};
 use unit_threads::ROUND;
 use venue_core::{VenueError, lost, plan_command, plan_is_accepted, plan_is_in_order};
+
+// So many words may wait before a publisher yields.
+const MANY_WORDS: usize = 8192;
+
+// How often a publisher yields in all.
+const MOST_YIELDS: u32 = 20_000;
 
 // What the publisher sends on: words to its client, and what its service is told.
 #[derive(Drop)]
@@ -89,18 +96,49 @@ fn packed_last<J: Naming, R: DrillRun + Run, H: Wait + Drop>(
     Ok(out)
 }
 
-// Sends copies of datagrams, each with memory for just its bytes.
-fn send_copies<R: DrillRun, W: Wait>(
-    rt: &W,
+// Datagrams that can be shared, each with memory for just its bytes.
+fn shared_copies<R: DrillRun>(
     alloc: Global,
     datagrams: &[ByteList],
-    words: &mut Outbox<Word<R>>,
-) -> Result<(), OutOfMemory>
+) -> Result<Vec<Datagram<R>>, OutOfMemory>
     requires { AllByRecursion (IsPiece (plan R.number R.unit R.count) R.unit) (bytes_in datagrams.now) }
-    ensures { OnOk result (words.new ≡ words.old ++ map Sent (bytes_in datagrams.now)) }
+    ensures { IfOk result (λ shared. shared.items ≡ bytes_in datagrams.now) }
 {
+    let mut shared = Vec::new(alloc);
     'copied: for datagram in datagrams {
         let copy = Datagram::of_bytes(alloc, datagram.bytes())?;
+        shared.push(copy)?;
+    }
+    Ok(shared)
+}
+
+// The datagrams of the message of command `index`, which was accepted last, as both lines share
+// them.
+fn shared_last<J: Naming, R: DrillRun + Run, H: Wait + Drop>(
+    alloc: Global,
+    writer: &Writer<J, R, H>,
+    course: &Course<R>,
+    index: u32,
+) -> Result<Vec<Datagram<R>>, OutOfMemory>
+    requires index { (1 ≤ index) × (index ≤ course.now.count) }
+    requires accepted { HasAccepted writer.now course.now.number course.now.unit index (2 * index - 1) }
+    ensures { IfOk result (λ shared. shared.items ≡ command_datagrams course.now.number course.now.unit index) }
+{
+    let packed = packed_last(alloc, writer, course, index)?;
+    let shared = shared_copies(alloc, packed.as_slice())?;
+    Ok(shared)
+}
+
+// Sends datagrams, which go on being shared.
+fn send_copies<R: DrillRun, W: Wait>(
+    rt: &W,
+    datagrams: &[Datagram<R>],
+    words: &mut Outbox<Word<R>>,
+) -> Result<(), OutOfMemory>
+    ensures { OnOk result (words.new ≡ words.old ++ map Sent datagrams.now) }
+{
+    'shared: for datagram in datagrams {
+        let copy = datagram.again()?;
         words.send(rt, Word::Sent(copy))?;
     }
     Ok(())
@@ -109,21 +147,19 @@ fn send_copies<R: DrillRun, W: Wait>(
 // Sends the datagrams of command `index` on one line, unless this copy is lost.
 fn send_on<R: DrillRun + Run, W: Wait>(
     rt: &W,
-    alloc: Global,
     course: &Course<R>,
     index: u32,
     line: u8,
-    datagrams: &[ByteList],
+    datagrams: &[Datagram<R>],
     words: &mut Outbox<Word<R>>,
 ) -> Result<(), OutOfMemory>
-    requires datagrams { bytes_in datagrams.now ≡ command_datagrams course.now.number course.now.unit index }
-    requires pieces { AllByRecursion (IsPiece (plan R.number R.unit R.count) R.unit) (bytes_in datagrams.now) }
+    requires { datagrams.now ≡ command_datagrams course.now.number course.now.unit index }
     ensures { OnOk result (words.new ≡ words.old ++ line_words course.now.number course.now.unit index line) }
 {
     if lost(course.number, course.unit, index, line) {
         return Ok(());
     }
-    send_copies(rt, alloc, datagrams, words)?;
+    send_copies(rt, datagrams, words)?;
     Ok(())
 }
 
@@ -140,9 +176,9 @@ fn send_last<J: Naming, R: DrillRun + Run, H: Wait + Drop, W: Wait>(
     requires accepted { HasAccepted writer.now course.now.number course.now.unit index (2 * index - 1) }
     ensures { OnOk result (words.new ≡ (words.old ++ line_words course.now.number course.now.unit index 1) ++ line_words course.now.number course.now.unit index 2) }
 {
-    let sent = packed_last(alloc, writer, course, index)?;
-    send_on(rt, alloc, course, index, 1, sent.as_slice(), words)?;
-    send_on(rt, alloc, course, index, 2, sent.as_slice(), words)?;
+    let sent = shared_last(alloc, writer, course, index)?;
+    send_on(rt, course, index, 1, sent.as_slice(), words)?;
+    send_on(rt, course, index, 2, sent.as_slice(), words)?;
     Ok(())
 }
 
@@ -219,6 +255,21 @@ fn publish_one<J: Naming, R: DrillRun + Run, H: Wait + Drop, W: Wait>(
     Ok(())
 }
 
+// After each round: lets other threads run while many words wait for the client, as long as any of
+// the yields are left. So it waits for no party, and only puts off what it does next.
+fn give_way<R: DrillRun>(index: u32, count: u32, words: &Outbox<Word<R>>, yields: &mut u32) {
+    if !is_round(index, count) {
+        return;
+    }
+    'looks: for _ in 0..*yields {
+        if words.waiting() <= MANY_WORDS {
+            return;
+        }
+        yield_now();
+        *yields = yields.saturating_sub(1);
+    }
+}
+
 // Publishes the commands of the course. The last word to the client comes after all else.
 fn publish_all<J: Naming, R: DrillRun + Run, H: Wait + Drop, W: Wait, G: Gate>(
     rt: &W,
@@ -236,11 +287,13 @@ fn publish_all<J: Naming, R: DrillRun + Run, H: Wait + Drop, W: Wait, G: Gate>(
     // The client was told of each command, and that nothing more comes.
     ensures words { OnOk result (to.new.words ≡ words_through course.now.number course.now.unit course.now.count course.now.count ++ Last ∷ []) }
 {
+    let mut yields = MOST_YIELDS;
     'commands: for before in 0..course.count {
         let work = course.work(Role::Publisher, before + 1);
         gate.before(work);
         publish_one(rt, alloc, writer, course, before + 1, to)?;
         gate.after(work);
+        give_way(before + 1, course.count, &to.words, &mut yields);
     }
     to.words.send(rt, Word::Last)?;
     Ok(())

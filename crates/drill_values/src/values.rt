@@ -5,27 +5,29 @@ ghost use Rattle.drill_client.specs.Following.{ImageParts, IsImageOf};
 
 use crate::run::DrillRun;
 use pitch_fields::OutOfMemory;
-use pitch_messages::{ByteList, RawList};
+use pitch_messages::RawList;
 use std::alloc::Global;
 use std::marker::{Model, PhantomData};
+use std::sync::ArcSlice;
 
-/// A datagram of the run's unit, which is a piece of its feed.
+/// A datagram of the run's unit, which is a piece of its feed. Its copies share their bytes.
 #[derive(Drop)]
 pub struct Datagram<R: DrillRun> {
-    bytes: ByteList,
+    bytes: ArcSlice<u8>,
     run: PhantomData<R>,
 }
 
 impl<R: DrillRun> Model for Datagram<R> {
     ghost use Rattle.std.specs.Prelude.{ℕ, List};
+    ghost use Rattle.std.specs.Arc.{arc_slice_items};
     ghost use Rattle.pitch_model.specs.Datagrams.{IsPiece};
     ghost use Rattle.venue_core.specs.Plan.{plan};
 
     ghost Value = { List ℕ };
 
-    ghost view = { λ d. d.bytes.items };
+    ghost view = { λ d. arc_slice_items d.bytes };
 
-    ghost invariant = { λ d. IsPiece (plan R.number R.unit R.count) R.unit d.bytes.items };
+    ghost invariant = { λ d. IsPiece (plan R.number R.unit R.count) R.unit (arc_slice_items d.bytes) };
 }
 
 impl<R: DrillRun> Datagram<R> {
@@ -35,7 +37,17 @@ impl<R: DrillRun> Datagram<R> {
         ensures { IfOk result (λ datagram. datagram ≡ bytes.now) }
     {
         Ok(Datagram {
-            bytes: ByteList::of_bytes(alloc, bytes)?,
+            bytes: ArcSlice::from_slice(alloc, bytes)?,
+            run: PhantomData,
+        })
+    }
+
+    /// The same datagram once more. It takes no memory: both share the bytes.
+    pub fn again(&self) -> Result<Datagram<R>, OutOfMemory>
+        ensures { IfOk result (λ datagram. datagram ≡ self.now) }
+    {
+        Ok(Datagram {
+            bytes: self.bytes.clone()?,
             run: PhantomData,
         })
     }
@@ -45,7 +57,7 @@ impl<R: DrillRun> Datagram<R> {
         ensures bytes { result.now ≡ self.now }
         ensures piece { IsPiece (plan R.number R.unit R.count) R.unit self.now }
     {
-        self.bytes.bytes()
+        self.bytes.as_slice()
     }
 }
 

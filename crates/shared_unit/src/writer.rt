@@ -62,7 +62,9 @@ fn picture_of(alloc: Global, book: &UnitBook, sequence: u32) -> Result<Picture, 
 {
     let mut raws = RawList::make(alloc);
     let orders = image_of(alloc, book, &mut raws)?;
-    let shared = Arc::new(alloc, raws)?;
+    // an image is made with room for the longest messages, and is kept with memory for its own
+    let exact = RawList::of_raws(alloc, raws.raws())?;
+    let shared = Arc::new(alloc, exact)?;
     Ok(Picture {
         sequence,
         orders,

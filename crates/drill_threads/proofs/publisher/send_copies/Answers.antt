@@ -1,32 +1,20 @@
-use Rattle.std.proofs.Common.{rules, arith, ◌≡◌, ◌++◌, List, ℕ, length, map, take, refl, sym, ap, ◌∙◌, subst}
+use Rattle.std.proofs.Common.{rules, arith, ◌++◌, List, ℕ, length, map, refl, sym, ap, ◌∙◌}
 use Rattle.std.proofs.lemmas.List.{append-nil, take_all}
 use Rattle.std.proofs.lemmas.Option.{slice_get_read}
-use Rattle.pitch_messages.specs.Room.{Roomy}
-use Rattle.pitch_model.specs.Datagrams.{IsPiece}
-use Rattle.unit_packets.specs.Packing.{bytes_in}
-use Rattle.venue_core.specs.Plan.{plan}
-use Rattle.drill_client.proofs.Going.{piece_at}
 use Rattle.drill_values.specs.declared.words.Word.TheVariants.{Sent}
-use Rattle.drill_threads.proofs.Saying.{sent_one_more}
+use Rattle.drill_threads.proofs.Saying.{one_sent_more}
 use Rattle.drill_threads.proofs.publisher.send_copies.Goals as goal
 
-pub copied-init : goal.copied-init
-copied-init g c = sym (append-nil c.args.words.now)
+pub shared-init : goal.shared-init
+shared-init g c = sym (append-nil c.args.words.now)
 
-pub of_bytes-requires : goal.of_bytes-requires
-of_bytes-requires g c =
-    let P : List ℕ → Type 0 = IsPiece (plan g.R.DrillRun.number g.R.DrillRun.unit g.R.DrillRun.count) g.R.DrillRun.unit in
+pub shared-preserved : goal.shared-preserved
+shared-preserved g c =
     let lists = c.args.datagrams.now in
-    let at = slice_get_read lists (length lists) c.copied.datagram-index c.datagram-item.result refl (search rules) c.datagram-item.is in
-    subst P (sym c.bytes.ensures) (piece_at P lists c.copied.datagram-index c.datagram-item.result at c.requires)
-
-pub copied-preserved : goal.copied-preserved
-copied-preserved g c =
-    let lists = c.args.datagrams.now in
-    let at = slice_get_read lists (length lists) c.copied.datagram-index c.datagram-item.result refl (search rules) c.datagram-item.is in
-    sent_one_more Sent c.args.words.now c.copied.words c.send.new.self lists c.copied.datagram-index c.datagram-item.result c.in_ok-copy.copy at (c.in_ok-copy.ensures ∙ c.bytes.ensures) c.copied.invariant c.in_ok-send.ensures
+    let at = slice_get_read lists (length lists) c.shared.datagram-index c.datagram-item.result refl (search rules) c.datagram-item.is in
+    one_sent_more Sent c.args.words.now c.shared.words c.send.new.self lists c.shared.datagram-index c.datagram-item.result c.in_ok-copy.copy at c.in_ok-copy.ensures c.shared.invariant c.in_ok-send.ensures
 
 pub returns : goal.returns
 returns g c =
     let lists = c.args.datagrams.now in
-    c.copied.invariant ∙ ap (λ (ls : List (Roomy ℕ)). c.args.words.now ++ map Sent (bytes_in ls)) (take_all c.copied.datagram-index lists (omega arith))
+    c.shared.invariant ∙ ap (λ (ls : List (List ℕ)). c.args.words.now ++ map Sent ls) (take_all c.shared.datagram-index lists (omega arith))

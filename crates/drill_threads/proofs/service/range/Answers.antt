@@ -1,14 +1,14 @@
-use Rattle.std.proofs.Common.{◌≡◌, ◌≤◌, ℕ, List, ◌++◌, false, refl, sym, ap, ◌∙◌, subst, arith}
+use Rattle.std.proofs.Common.{◌≡◌, ◌≤◌, ℕ, List, refl, sym, ap, ◌∙◌, subst, arith}
 use Rattle.std.specs.List.{AllByRecursion}
 use mathlib.Core.List.{IsPrefix}
-use Rattle.gap_store.specs.Look.{View, PacksAt, look, given, slice_of}
+use Rattle.gap_store.specs.Look.{View, PacksAt, look}
 use Rattle.gap_store.specs.declared.found.Found.TheVariants.{Kept}
 use Rattle.pitch_messages.specs.Room.{Roomy}
 use Rattle.pitch_model.specs.Advertising.{accepted_by}
 use Rattle.pitch_model.specs.Datagrams.{IsPiece}
 use Rattle.pitch_model.specs.History.{Raw}
 use Rattle.shared_unit.specs.Histories.{kept_at}
-use Rattle.unit_packets.specs.Packing.{bytes_in, packed}
+use Rattle.unit_packets.specs.Packing.{bytes_in}
 use Rattle.venue_core.specs.Plan.{plan}
 use Rattle.unit_threads.specs.Answered.{is_found}
 use Rattle.unit_threads.proofs.Answered.{range_kept, range_gone, range_packed}
