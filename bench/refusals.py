@@ -1,16 +1,25 @@
 #!/usr/bin/env python3
-"""Refuses memory to the program, and lets its devices fail, one call at a time.
+"""Refuses memory and threads to the program, and lets its devices fail, one call at a time.
 
-    bench/refusals.py PROGRAM [--most N]
+    bench/refusals.py PROGRAM [--most N] [--threads]
 
-PROGRAM is the path of the built program. A small run of each form is made once for each call of
+PROGRAM is the path of the built program. With `--threads` only threads are refused, which takes less
+than a minute. A small run of each form is made once for each call of
 malloc or realloc that it makes, and that call is refused (at most N of each form, evenly spread; 400
 where it isn't given). Each run has to end by itself, with status 0 and the whole text, or with status
 6, `pitch: out of memory` or nothing on standard error, and a prefix of the text. Then the same is
 done with each call of a device: read and write, and of sockets those that open, connect, send and
-receive. There the status is 4, 5 or 7. It needs a C compiler. The exit status is 0 where all was so.
+receive. There the status is 4, 5 or 7.
+
+Threads are refused to drills, and to `replay` and `storm` with workers: all, all from the n-th on, all
+up to the n-th, and only the n-th, for each n. Each such run has to end by itself within ten seconds,
+with status 0 and all of the text. So parties that would wait for one another where no thread can be
+made are found here: where the closures of a drill's joins are passed in the other order, it hangs.
+
+It needs a C compiler. The exit status is 0 where all was so.
 """
 import argparse, os, subprocess, sys, tempfile
+import replay
 
 HERE = os.path.dirname(os.path.abspath(__file__))
 COMMANDS = b'time 34200\nadd 1 B 100 IBM 10.00\nadd 2 S 50 IBM 10.05 hidden\nexec 1 30 9\n'
@@ -26,22 +35,28 @@ def sample():
         return stream.read()
 
 
-def run(program, shim, words, given, refused=0, failed=0):
-    """The status, what was written and said, and how many calls of both kinds there were."""
+def storm():
+    """The schedule of a storm of four units."""
+    return ''.join('%d %s\n' % line[:2] for line in replay.storm(4, 100)).encode()
+
+
+def run(program, shim, words, given, refused=0, failed=0, threads=(0, 0), seconds=60):
+    """The status, what was written and said, and how many calls of the three kinds there were."""
     read, write = os.pipe()
+    env = {'LD_PRELOAD': shim, 'REFUSED': str(refused), 'FAILED': str(failed), 'THREADS_FROM': str(threads[0]), 'THREADS_TO': str(threads[1])}
     def ready():
         os.dup2(write, 3)
     process = subprocess.Popen([program] + words.split(), stdin=subprocess.PIPE, stdout=subprocess.PIPE, stderr=subprocess.PIPE,
-                               env={'LD_PRELOAD': shim, 'REFUSED': str(refused), 'FAILED': str(failed)}, preexec_fn=ready, pass_fds=(3,) if write == 3 else (), close_fds=False)
+                               env=env, preexec_fn=ready, pass_fds=(3,) if write == 3 else (), close_fds=False)
     os.close(write)
     try:
-        out, err = process.communicate(given, timeout=60)
+        out, err = process.communicate(given, timeout=seconds)
     except subprocess.TimeoutExpired:
         process.kill()
-        sys.exit('%s does not end where call %d is refused' % (words, refused or failed))
+        sys.exit('%s does not end where call %s is refused' % (words, refused or failed or 'of a thread %d to %d' % threads))
     with os.fdopen(read) as told:
         calls = told.read().split()
-    return process.returncode, out, err, [int(it) for it in calls[-2:]] or [0, 0]
+    return process.returncode, out, err, [int(it) for it in calls[-3:]] or [0, 0, 0]
 
 
 def is_right(ran, whole, statuses):
@@ -50,6 +65,25 @@ def is_right(ran, whole, statuses):
     if status == 0:
         return out == whole and not err
     return status in statuses and whole.startswith(out) and (not err or err.startswith(b'pitch: '))
+
+
+def refuse_threads(program, shim):
+    """Whether each run is whole where threads are refused."""
+    right, last = True, 1 << 30
+    forms = {
+        'drill --number 0 --units 1 --count 16': b'', 'drill --number 0 --units 2 --count 400': b'', 'drill --number 7 --units 5 --count 1100': b'',
+        'replay --workers 4': storm(), 'storm --number 3 --units 4 --steps 100 --workers 4': b'',
+    }
+    for words, given in forms.items():
+        status, whole, err, calls = run(program, shim, words, given)
+        if status != 0 or err:
+            sys.exit('%s ends with status %d' % (words, status))
+        parts = {(1, last)}
+        for number in range(1, calls[2] + 2):
+            parts |= {(number, last), (1, number), (number, number)}
+        runs = [(part, run(program, shim, words, given, threads=part, seconds=10)) for part in sorted(parts)]
+        right = tried('of threads', words, calls[2], runs, whole, ()) and right
+    return right
 
 
 def spread(calls, most):
@@ -61,7 +95,7 @@ def tried(name, words, calls, runs, whole, statuses):
     """Says how the runs ended, and whether each was right."""
     wrong = [number for number, ran in runs if not is_right(ran, whole, statuses)]
     ends = ', '.join('%d with status %d' % (sum(ran[0] == it for _, ran in runs), it) for it in (0, *statuses))
-    print('  %-38s %5d calls %-9s %4d tried: %s; %d wrong %s' % (words, calls, name, len(runs), ends, len(wrong), wrong[:5] if wrong else ''))
+    print('  %-38s %5d calls %-10s %4d tried: %s; %d wrong %s' % (words, calls, name, len(runs), ends, len(wrong), wrong[:5] if wrong else ''))
     return not wrong
 
 
@@ -69,16 +103,17 @@ def main():
     parser = argparse.ArgumentParser()
     parser.add_argument('program')
     parser.add_argument('--most', type=int, default=400)
+    parser.add_argument('--threads', action='store_true')
     a = parser.parse_args()
     forms = {
         'follow': sample(), 'show': sample(), 'pack --unit 1': COMMANDS, 'replay': schedule(), 'replay --workers 2': schedule(),
         'storm --number 1 --units 2 --steps 20': b'', 'drill --number 0 --units 2 --count 16': b'', 'demo --number 0 --count 16': b'',
     }
-    right = True
     with tempfile.TemporaryDirectory() as folder:
         shim = os.path.join(folder, 'refuse.so')
         subprocess.run(['cc', '-O1', '-shared', '-fPIC', '-o', shim, os.path.join(HERE, 'refuse.c'), '-ldl'], check=True)
-        for words, given in forms.items():
+        right = refuse_threads(a.program, shim)
+        for words, given in {} if a.threads else forms.items():
             status, whole, _, calls = run(a.program, shim, words, given)
             if status != 0:
                 sys.exit('%s ends with status %d' % (words, status))

@@ -1,23 +1,27 @@
 /* Loaded before the C library: the call of malloc or realloc whose number is in REFUSED answers NULL,
    and the call of a device (one of those that are listed by DEVICE below) whose number is in FAILED
-   answers EIO. At the end the numbers of calls of both kinds are written to the file descriptor 3,
-   where it is open. */
+   answers EIO. A call of pthread_create answers EAGAIN where its number is at least THREADS_FROM and
+   at most THREADS_TO. At the end the numbers of calls of the three kinds are written to the file
+   descriptor 3, where it is open. */
 #define _GNU_SOURCE
 #include <dlfcn.h>
 #include <errno.h>
+#include <pthread.h>
 #include <stdatomic.h>
 #include <stdio.h>
 #include <stdlib.h>
 #include <sys/socket.h>
 #include <unistd.h>
 
-static atomic_long calls, device_calls;
+static atomic_long calls, device_calls, thread_calls;
+
+static long number_in(const char *name) {
+  const char *said = getenv(name);
+  return said ? atol(said) : 0;
+}
 
 static int is_number(atomic_long *count, long *number, const char *name) {
-  if (*number < 0) {
-    const char *said = getenv(name);
-    *number = said ? atol(said) : 0;
-  }
+  if (*number < 0) *number = number_in(name);
   return atomic_fetch_add(count, 1) + 1 == *number;
 }
 
@@ -45,6 +49,14 @@ void *realloc(void *old, size_t size) {
   return is_refused() ? NULL : real(old, size);
 }
 
+int pthread_create(pthread_t *thread, const pthread_attr_t *how, void *(*run)(void *), void *with) {
+  static int (*real)(pthread_t *, const pthread_attr_t *, void *(*)(void *), void *);
+  if (!real) real = (int (*)(pthread_t *, const pthread_attr_t *, void *(*)(void *), void *))dlsym(RTLD_NEXT, "pthread_create");
+  long number = atomic_fetch_add(&thread_calls, 1) + 1;
+  if (number_in("THREADS_FROM") <= number && number <= number_in("THREADS_TO")) return EAGAIN;
+  return real(thread, how, run, with);
+}
+
 #define DEVICE(type, name, parameters, arguments) \
   type name parameters { \
     static type(*real) parameters; \
@@ -67,7 +79,7 @@ DEVICE(int, getsockname, (int at, struct sockaddr *name, socklen_t *size), (at, 
 void _exit(int status) {
   static void (*real)(int);
   if (!real) real = (void (*)(int))dlsym(RTLD_NEXT, "_exit");
-  dprintf(3, "%ld %ld\n", atomic_load(&calls), atomic_load(&device_calls));
+  dprintf(3, "%ld %ld %ld\n", atomic_load(&calls), atomic_load(&device_calls), atomic_load(&thread_calls));
   real(status);
   __builtin_unreachable();
 }
