@@ -3,18 +3,18 @@
 
     bench/refusals.py PROGRAM [--most N] [--threads]
 
-PROGRAM is the path of the built program. With `--threads` only threads are refused, which takes less
-than a minute. A small run of each form is made once for each call of
-malloc or realloc that it makes, and that call is refused (at most N of each form, evenly spread; 400
-where it isn't given). Each run has to end by itself, with status 0 and the whole text, or with status
-6, `pitch: out of memory` or nothing on standard error, and a prefix of the text. Then the same is
-done with each call of a device: read and write, and of sockets those that open, connect, send and
-receive. There the status is 4, 5 or 7.
+PROGRAM is the path of the built program. With `--threads` only threads are refused, which takes
+less than a minute. A small run of each form is made once for each call of malloc or realloc that it
+makes, and that call is refused (at most N of each form, evenly spread; 400 where it isn't given).
+Each run has to end by itself, with status 0 and the whole text, or with status 6, `pitch: out of
+memory` or nothing on standard error, and a prefix of the text. Then the same is done with each call
+of a device: read and write, and of sockets those that open, connect, send and receive. There the
+status is 4, 5 or 7.
 
 Threads are refused to drills, and to `replay` and `storm` with workers: all, all from the n-th on, all
 up to the n-th, and only the n-th, for each n. Each such run has to end by itself within ten seconds,
-with status 0 and all of the text. So parties that would wait for one another where no thread can be
-made are found here: where the closures of a drill's joins are passed in the other order, it hangs.
+with status 0 and all of the text. So parties that wait for one another where no thread can be made
+would be found here, as where the closures of a drill's joins were passed in the other order.
 
 It needs a C compiler. The exit status is 0 where all was so.
 """
