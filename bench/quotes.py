@@ -6,11 +6,11 @@
 
 PROGRAM is the path of the built program: `crates/pitch/out/pitch` after `./pitch` or `rt run`.
 
-Without --compare two feeds are made. The first has M messages (2,000,000) of one unit, most of which
-change a best price: it is followed and quoted in turn, R times (5). Wanted are at most 2.5 times the
-processor time of `follow`, by medians. The second puts 1,000,000 orders on 10,000 price levels of a
-symbol and takes them all away again: wanted of it, and of it beside a quarter of it, are times in a
-straight line, at most 1.3 for each message.
+Without --compare two feeds are made. The first has M messages (2,000,000) of one unit, near the
+best prices of three symbols: it is followed and quoted in turn, R times (5). Wanted are at most 2.5
+times the processor time of `follow`, by medians. The second puts 1,000,000 orders on 10,000 price
+levels of a symbol and takes them all away again, and a third has a quarter of that: wanted is a
+straight line, at most 1.3 times the quarter's time for each message.
 
 With --compare N feeds (1,000) are made from number S (1): orders of three symbols on few prices are
 added, reduced, modified and deleted, ids are taken over, the unit is cleared, and blocks are lost,
@@ -21,6 +21,7 @@ The exit status is 0 where what is wanted is met or all lines agree. Python 3, t
 alone.
 """
 import argparse
+import multiprocessing
 import os
 import random
 import statistics
@@ -96,10 +97,17 @@ def deep(orders, levels):
     return messages + [delete(n) for n in numbers]
 
 
-def written(folder, name, messages):
-    path = os.path.join(folder, name)
+def write_feed(path, messages_of, *given):
     with open(path, "wb") as stream:
-        stream.writelines(in_blocks(messages))
+        stream.writelines(in_blocks(messages_of(*given)))
+
+
+def written(folder, name, messages_of, *given):
+    """Writes a feed in a process of its own, whose memory would else count as the program's."""
+    path = os.path.join(folder, name)
+    maker = multiprocessing.Process(target=write_feed, args=(path, messages_of, *given))
+    maker.start()
+    maker.join()
     return path
 
 
@@ -111,7 +119,7 @@ def median_of(command, path, rounds):
 def measure(program, count, rounds):
     follow, quotes = [program, "follow"], [program, "quotes"]
     with tempfile.TemporaryDirectory() as folder:
-        feed = written(folder, "busy", busy(count))
+        feed = written(folder, "busy", busy, count)
         plain, quoted, memory = [], [], 0
         for _ in range(rounds):
             plain.append(replay.once(follow, feed)[0])
@@ -123,7 +131,7 @@ def measure(program, count, rounds):
         replay.wanted("times the processor time of follow", quoted / plain, WANTED)
         times = {}
         for orders in (250000, 1000000):
-            path = written(folder, f"deep-{orders}", deep(orders, 10000))
+            path = written(folder, f"deep-{orders}", deep, orders, 10000)
             times[orders], memory = median_of(quotes, path, rounds)
             came = f"{orders:,} orders on 10,000 levels come and go"
             print(f"{came}: {times[orders]:.3f} s, {memory:.0f} MB")
@@ -241,7 +249,7 @@ def compare(program, feeds, number):
 
 
 def main():
-    parser = argparse.ArgumentParser(description="`quotes` beside `follow`, or beside a plain model")
+    parser = argparse.ArgumentParser(description="`quotes` beside `follow` or a plain model")
     parser.add_argument("program")
     parser.add_argument("--messages", type=int, default=2000000)
     parser.add_argument("--rounds", type=int, default=5)
