@@ -40,20 +40,26 @@ fn hear_all_words<R: DrillRun>(alloc: Global, client: &mut UnitClient) -> Result
     requires { R.unit ≡ 1 }
 {
     let silent = client.status() == Status::Silent;
-    hear_word(client, &Word::Sent(beat::<R>(alloc)?))?;
+    let heartbeat = beat::<R>(alloc)?;
+    let again = heartbeat.again()?;
+    hear_word(client, &Word::Sent(heartbeat))?;
     let current = is_current(client);
     hear_word(client, &Word::Advertised(Reached::<R>::make(0)))?;
     hear_word(client, &Word::<R>::Last)?;
-    hear_all_replies::<R>(alloc, client)?;
+    hear_all_replies(alloc, client, again)?;
     Ok(silent && current && is_current(client))
 }
 
-fn hear_all_replies<R: DrillRun>(alloc: Global, client: &mut UnitClient) -> Result<(), OutOfMemory>
+fn hear_all_replies<R: DrillRun>(
+    alloc: Global,
+    client: &mut UnitClient,
+    again: Datagram<R>,
+) -> Result<(), OutOfMemory>
     requires { R.unit ≡ 1 }
 {
     let refused: Reply<R> = Reply::Gap { accepted: false };
     hear_reply(client, refused)?;
-    hear_reply(client, Reply::Again(beat::<R>(alloc)?))?;
+    hear_reply(client, Reply::Again(again))?;
     let none: Reply<R> = Reply::NoSpin { sequence: 0 };
     hear_reply(client, none)?;
     hear_reply(client, Reply::Spin(no_orders::<R>(alloc)))
