@@ -2,14 +2,15 @@
 """Makes schedules at random, and compares what `replay` writes with what the second World of
 model.py does.
 
-    examples/schedules/compare.py [--count N] [--from SEED] PROGRAM
-    examples/schedules/compare.py [--count N] [--from SEED] --write FOLDER
+    examples/schedules/compare.py PROGRAM [--count N] [--from SEED] [--workers K ..]
+    examples/schedules/compare.py --write FOLDER [--count N] [--from SEED]
 
 PROGRAM is the path of the built program, or ./pitch. Schedule number SEED is the same in each run;
-N of them are made, 600 where it isn't given, and one in three is run with several workers. A
-schedule in which the two differ is left in the current folder as different-SEED.txt. `--write` runs
-nothing, and leaves each schedule as FOLDER/SEED and what it has to write as FOLDER/SEED.stdout. The
-last line is `N passed, M failed`; the exit status is 0 only where none failed.
+N of them are made, 600 where it isn't given, and one in three is run with several workers. With
+`--workers` each is run with each of these numbers of workers. A schedule in which the two differ is
+left in the current folder as different-SEED.txt. `--write` runs nothing, and leaves each schedule
+as FOLDER/SEED and what it has to write as FOLDER/SEED.stdout. The last line is `N passed, M
+failed`; the exit status is 0 only where none failed.
 """
 import argparse
 import os
@@ -145,10 +146,17 @@ class Schedule:
         self.says(unit, 'quote', self.chance.choice(['IBM', 'A', 'ABCDEFGH']))
 
 
-def fault_of(program, seed, schedule, wanted):
+def words_of(seed, workers):
+    """The words after `replay` of each run of a schedule, where these workers are given."""
+    if not workers:
+        workers = [seed % 5 + 1] if seed % 3 == 0 else [None]
+    return [[] if k is None else ['--workers', str(k)] for k in workers]
+
+
+def fault_of(program, words, schedule, wanted):
     """What is wrong with the run of a schedule; None where nothing is."""
-    workers = ['--workers', str(seed % 5 + 1)] if seed % 3 == 0 else []
-    done = subprocess.run([program, 'replay'] + workers, input=schedule, capture_output=True, text=True)
+    command = [program, 'replay'] + words
+    done = subprocess.run(command, input=schedule, capture_output=True, text=True)
     if done.returncode != 0 or done.stderr:
         return 'status %d, standard error %r' % (done.returncode, done.stderr.strip())
     for mine, theirs in zip(done.stdout.split('\n'), wanted.split('\n')):
@@ -163,15 +171,17 @@ def write(folder, name, text):
 
 
 def main():
-    parser = argparse.ArgumentParser(usage='compare.py [--count N] [--from SEED] (PROGRAM | --write FOLDER)')
+    usage = 'compare.py (PROGRAM | --write FOLDER) [--count N] [--from SEED] [--workers K ..]'
+    parser = argparse.ArgumentParser(usage=usage)
     parser.add_argument('program', nargs='?')
     parser.add_argument('--count', type=int, default=600)
     parser.add_argument('--from', type=int, default=0, dest='first')
+    parser.add_argument('--workers', type=int, nargs='+', metavar='K')
     parser.add_argument('--write')
     given = parser.parse_args()
     if (given.program is None) == (given.write is None):
         parser.error('a program or --write FOLDER')
-    failed = lines = 0
+    failed = runs = lines = 0
     for seed in range(given.first, given.first + given.count):
         schedule = Schedule(seed).text()
         wanted = model.replayed(schedule)
@@ -180,14 +190,16 @@ def main():
             write(given.write, '%d' % seed, schedule)
             write(given.write, '%d.stdout' % seed, wanted)
             continue
-        fault = fault_of(given.program, seed, schedule, wanted)
-        if fault:
-            failed += 1
-            write('.', 'different-%d.txt' % seed, schedule)
-            print('FAIL %d: %s' % (seed, fault))
+        for words in words_of(seed, given.workers):
+            fault = fault_of(given.program, words, schedule, wanted)
+            runs += 1
+            if fault:
+                failed += 1
+                write('.', 'different-%d.txt' % seed, schedule)
+                print('FAIL %s: %s' % (' '.join([str(seed)] + words), fault))
     print('%d schedules, %d lines' % (given.count, lines))
     if given.write is None:
-        print('%d passed, %d failed' % (given.count - failed, failed))
+        print('%d passed, %d failed' % (runs - failed, failed))
     sys.exit(1 if failed else 0)
 
 
