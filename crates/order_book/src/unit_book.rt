@@ -158,6 +158,7 @@ impl UnitBook {
     }
 
     /// The open order of an id, or None exactly where none is open.
+    #[inline(always)]
     #[tactic(auto, using(crate::proofs::Maps::finds_id))]
     pub fn order(&self, id: u64) -> Option<Order>
         ensures { result ≡ map.get self.now.book.orders id }
