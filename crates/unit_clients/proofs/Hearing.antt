@@ -57,6 +57,13 @@ new_client H client slot is fresh before unit stands =
     let none : is_named before unit ≡ false = subst (IsClient H before unit) is stands in
     subst (λ (E : List Entry). Tracks client H E) (sym (unnamed_history before unit none)) fresh
 
+-- ---- No block yet
+pub no_client : (H unit : ℕ) (slot : Option UnitClient) → slot ≡ None → IsClient H [] unit slot
+no_client H unit slot none = subst (IsClient H [] unit) (sym none) refl
+
+pub nothing_kept : (V : List Raw) (slot : Option UnitClient) → slot ≡ None → KeepsTo V slot
+nothing_kept V slot none = subst (KeepsTo V) (sym none) tt
+
 -- ---- A block more
 named_first : (block : Block) (before : List Block) (unit : ℕ) → unit ≡ block.unit → is_named (block ∷ before) unit ≡ true
 named_first block before unit same = ap (λ (b : Bool). b || is_named before unit) (eq-eqb unit block.unit same)

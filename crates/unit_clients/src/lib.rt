@@ -6,6 +6,8 @@
 //! `clients` the client of each unit at its number.
 #![tactic(auto)]
 
+mod places;
 mod units;
 
-pub use crate::units::{UNITS, Units};
+pub use crate::places::{UNITS, empty_places};
+pub use crate::units::Units;

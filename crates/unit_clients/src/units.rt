@@ -6,16 +6,14 @@ ghost use Rattle.pitch_model.specs.Units.{unit_history};
 ghost use Rattle.pitch_model.specs.Heard.{heard_block, block_change};
 ghost use Rattle.pitch_model.specs.Honest.{Honest};
 ghost use Rattle.client_core.specs.Tracks.{Tracks, Keeps, IsAsBefore};
-ghost use Rattle.unit_clients.specs.Clients.{IsClient, TracksAt, IsSlotAsBefore, Clients, KeepsTo, AllKeep, HaveHeard};
+ghost use Rattle.unit_clients.specs.Clients.{IsClient, TracksAt, IsSlotAsBefore, KeepsTo, HaveHeard};
 
+use crate::places::empty_places;
 use client_core::{Change, UnitClient};
 use pitch_fields::OutOfMemory;
 use std::alloc::Global;
 use std::marker::Model;
 use unit_packets::BlockView;
-
-/// The number of units that a header can name.
-pub const UNITS: usize = 256;
 
 /// The client of each unit that a block named. Each holds at most so many messages that came too
 /// early.
@@ -39,18 +37,6 @@ impl Model for Units {
     ghost coded = { Prim.hlevel (codes, client.the_row.coded) };
 
     ghost invariant = { λ u. (1 ≤ u.limit) × (u.limit ≤ most_held) × (length u.clients.items ≡ 256) };
-}
-
-// No unit has a client yet.
-fn no_clients(alloc: Global) -> Result<Vec<Option<UnitClient>>, OutOfMemory>
-    ensures clients { IfOk result (λ clients. (H : ℕ) → Clients H clients.items []) }
-    ensures keep { IfOk result (λ clients. (Vs : ℕ → List Raw) → AllKeep Vs clients.items) }
-{
-    let mut clients = Vec::with_capacity(alloc, UNITS)?;
-    for _ in 0..UNITS {
-        clients.push(None)?;
-    }
-    Ok(clients)
 }
 
 // Hands a block to a client.
@@ -102,7 +88,7 @@ impl Units {
         ensures limit { IfOk result (λ units. units.limit ≡ limit) }
         ensures heard { IfOk result (λ units. HaveHeard units []) }
     {
-        let clients = no_clients(alloc)?;
+        let clients = empty_places(alloc)?;
         Ok(Units { limit, clients })
     }
 
