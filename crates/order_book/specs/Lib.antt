@@ -3,3 +3,4 @@ pub mod Naming
 pub mod Standing
 pub mod Symbols
 pub mod Totals
+pub mod Images

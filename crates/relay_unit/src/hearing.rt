@@ -11,10 +11,10 @@ ghost use Rattle.relay_unit.specs.RelayText.{IsVenue};
 ghost use Rattle.relay_unit.specs.Sending.{SendsOn, IsItemOfRaw};
 
 use client_core::{Change, ImageEnd, Item, UnitClient};
+use order_book::image_of;
 use pitch_fields::OutOfMemory;
 use pitch_messages::session::{SessionError, SessionMessage};
 use pitch_messages::{Message, Raw, RawList, Raws, session, write};
-use spin_server::image_of;
 use std::alloc::Global;
 use unit_packets::BlockView;
 

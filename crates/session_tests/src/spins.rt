@@ -1,6 +1,6 @@
-use order_book::UnitBook;
+use order_book::{UnitBook, image_of};
 use pitch_messages::{Raw, RawList};
-use spin_server::{Account, CloseCause, Closed, ImageShelf, SpinServer, image_of};
+use spin_server::{Account, CloseCause, Closed, ImageShelf, SpinServer};
 use std::alloc::Global;
 use std::process::Abort;
 use unit_packets::BlockError;

@@ -11,7 +11,6 @@ use Rattle.unit_packets.specs.Cutting.{blocks_of, blocks_by, rest_of, rest_by}
 use Rattle.unit_packets.specs.Judging.{judge, messages_end}
 use Rattle.unit_packets.specs.Packing.{fits_datagram, packed_on}
 use Rattle.session_ends.specs.declared.role.Role.TheVariants.{SpinServer}
-use Rattle.session_ends.specs.Answering.{Answer}
 use Rattle.session_ends.specs.Closing.{Setup, login_status}
 use Rattle.session_ends.specs.Events.{Event, Fed, Ticked, Pumped, Told}
 use Rattle.session_ends.specs.Items.{stream_items}

@@ -1,4 +1,4 @@
-//! The Spin Server: images of a unit's book, and the server's end of a session. What the server
+//! The Spin Server: the shelf of a unit's images, and the server's end of a session. What the server
 //! answers to bytes, in whatever pieces they come, is what its definition says of all that happened
 //! to it and of the images that could be looked up meanwhile.
 //!
@@ -8,14 +8,12 @@
 //! [`SpinServer::tick`].
 #![tactic(auto)]
 
-mod image;
 mod laws;
 mod lookup;
 mod server;
 mod shelf;
 mod spin;
 
-pub use crate::image::image_of;
 pub use crate::laws::{image_look_laws, shelves_show_what_was_pushed, spin_cutting_laws};
 pub use crate::lookup::{ImageLookup, Imaged};
 pub use crate::server::SpinServer;

@@ -8,10 +8,9 @@ ghost use Rattle.pitch_model.specs.Advertising.{Operation, Accept, Advertise, ac
 ghost use Rattle.spin_server.specs.Shelves.{ShelfKeeps, base_at, is_number};
 ghost use Rattle.spin_server.specs.Stands.{ShelfStands, retained};
 
-use crate::image::image_of;
 use crate::lookup::{ImageLookup, Imaged};
 use arrayvec::ArrayVec;
-use order_book::UnitBook;
+use order_book::{UnitBook, image_of};
 use pitch_fields::OutOfMemory;
 use pitch_messages::{Raw, RawList, Raws};
 use std::alloc::Global;

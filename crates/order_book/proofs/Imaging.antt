@@ -7,15 +7,10 @@ use Rattle.pitch_messages.specs.declared.message.Message.{Message}
 use Rattle.pitch_messages.specs.Forms.{add_message, status_message}
 use Rattle.pitch_messages.specs.Writing.{written}
 use Rattle.pitch_model.specs.Book.{Book}
+use Rattle.order_book.specs.Images.{adds_of, raws_of}
 use Rattle.pitch_model.specs.Image.{clock_of, image_of}
 use Rattle.pitch_model.specs.Levels.{orders_of}
 use Rattle.pitch_model.specs.Statuses.{statuses_of}
-
-abbrev pub adds_of : List Order → List (List ℕ)
-adds_of orders = map written (map (λ (order : Order). add_message order 0) orders)
-
-abbrev pub raws_of : List TradingState → List (List ℕ)
-raws_of states = map written (map (λ (state : TradingState). status_message state 0) states)
 
 pub adds_more : (i : ℕ) (orders : List Order) (order : Order) (before so_far so_far' : List (List ℕ)) → so_far ++ adds_of (drop i orders) ≡ before ++ adds_of orders → drop i orders ≡ order ∷ drop (i + 1) orders
     → so_far' ≡ so_far ++ written (add_message order 0) ∷ [] → so_far' ++ adds_of (drop (i + 1) orders) ≡ before ++ adds_of orders
