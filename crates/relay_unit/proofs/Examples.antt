@@ -1,5 +1,5 @@
 -- Worked examples, computed by the definitions.
-use Rattle.std.proofs.Common.{◌≡◌, ℕ, ◌++◌, ◌+◌, true, List, [], ◌∷◌, map, length, drop, refl, sym, ap, ◌∙◌, codes}
+use Rattle.std.proofs.Common.{◌≡◌, ℕ, ◌++◌, ◌+◌, inr, Some, true, List, [], ◌∷◌, map, length, drop, refl, sym, ap, ◌∙◌, codes}
 use Rattle.std.specs.List.{concat}
 use Rattle.std.specs.Ordering.{nat_cmp}
 use Rattle.std.specs.FinMap as finite
@@ -16,13 +16,15 @@ use Rattle.pitch_messages.specs.Writing.{written}
 use Rattle.pitch_messages.specs.Forms.{add_message, status_message}
 use Rattle.pitch_messages.specs.declared.trading_state.TradingState.{TradingState}
 use Rattle.pitch_model.specs.History.{Raw}
-use Rattle.pitch_model.specs.Book.{after}
+use Rattle.pitch_model.specs.Book.{Book, empty_book, after, book_after}
 use Rattle.pitch_model.specs.Image.{image, image_of}
 use Rattle.pitch_model.specs.Reach.{reach, reach_of, held_count}
 use Rattle.pitch_model.specs.Statuses.{symbol_state}
 use Rattle.pitch_model.proofs.Examples.{no_statuses}
 use Rattle.feed_lines.specs.Texts.{texts_after}
+use Rattle.relay_unit.specs.Following.{Sends}
 use Rattle.relay_unit.specs.Hearing.{relay_history}
+use Rattle.relay_unit.proofs.Following.{one_step}
 use Rattle.relay_unit.specs.RelayText.{relay_text}
 
 -- ---- A book from an image, and then a line block: what the venue sent is an add, a message of another type and a deletion
@@ -99,3 +101,25 @@ clock = 0x06 ∷ 0x20 ∷ 0x98 ∷ 0x85 ∷ 0x00 ∷ 0x00 ∷ []
 a_repeat_adds_nothing : relay_text 4096 (λ unit. clock ∷ []) (block 1 (clock ∷ []) ∷ block 1 (clock ∷ []) ∷ []) ≡ 0x0e ∷ 0x00 ∷ 0x01 ∷ 0x01 ∷ 0x01 ∷ 0x00 ∷ 0x00 ∷ 0x00 ∷ 0x06 ∷ 0x20 ∷ 0x98 ∷ 0x85 ∷ 0x00 ∷ 0x00 ∷ []
 unfolding texts_after reach_of held_count packed_on fits_datagram block_bytes
 a_repeat_adds_nothing = refl
+
+-- ---- An image that no venue sends leaves the clock out
+abbrev knows_the_time : Book
+knows_the_time = record empty_book { second = Some 34200 }
+
+nothing_in_it : image_of empty_book ≡ []
+unfolding image_of
+nothing_in_it =
+    λ i. map written (map (λ (o : Order). add_message o 0) (map (λ (e : ℕ × Order). e.1) (no_entries i)) ++ map (λ (state : TradingState). status_message state 0) (map symbol_state (no_statuses i)))
+
+-- Unit Clear is sent for it
+it_is_sent : Sends knows_the_time (unit_clear ∷ []) empty_book
+unfolding written
+it_is_sent = one_step knows_the_time empty_book (unit_clear ∷ []) (inr (record {
+  raws_are = ap (λ (raws : List Raw). unit_clear ∷ raws) (sym nothing_in_it);
+  leaves = ap book_after nothing_in_it;
+}))
+
+-- which takes no clock back: a follower still has it, and not just the book of the relay
+a_follower_has_the_time : (book_after (clock ∷ unit_clear ∷ [])).second ≡ Some 34200
+unfolding after reads
+a_follower_has_the_time = refl

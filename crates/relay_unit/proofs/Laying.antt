@@ -98,13 +98,13 @@ module _ (below top whole : Book) (L : LaidOver below top whole) where
   unfolding after
   after_laid raw = read_laid (reads raw)
 
-fold_laid : (below top whole : Book) (raws : List Raw) → LaidOver below top whole → LaidOver below (fold after top raws) (fold after whole raws)
+pub fold_laid : (below top whole : Book) (raws : List Raw) → LaidOver below top whole → LaidOver below (fold after top raws) (fold after whole raws)
 fold_laid below top whole [] L = L
 fold_laid below top whole (raw ∷ raws) L = fold_laid below (after top raw) (after whole raw) raws (after_laid below top whole L raw)
 
 -- ---- A book over its own clock and statuses
 -- a cleared book is the empty one over its clock and statuses
-cleared_laid : (book : Book) → LaidOver book empty_book (cleared book)
+pub cleared_laid : (book : Book) → LaidOver book empty_book (cleared book)
 cleared_laid book = record {
   orders_are = refl;
   second_is = refl;

@@ -8,4 +8,6 @@ pub mod Weighed
 pub mod Bytes
 pub mod Speaking
 pub mod Units
+pub mod Following
+pub mod Packed
 pub mod Examples

@@ -21,7 +21,7 @@ take_then : (r t : ℕ) (V : List Raw) → r ≤ t → take t V ≡ take r V ++ 
 take_then r t V le = sym (take-append-drop r (take t V)) ∙ ap (λ xs. xs ++ drop r (take t V)) (take-take r t V le)
 
 -- Unit Clear takes all orders out
-clears : (book : Book) → after book (written (UnitClear 0)) ≡ cleared book
+pub clears : (book : Book) → after book (written (UnitClear 0)) ≡ cleared book
 unfolding after
 clears book = ap (after_read book) (unit_clear_back 0 (omega arith))
 

@@ -1,15 +1,21 @@
 -- The relay of a unit hears a block.
-use Rattle.std.proofs.Common.{◌≡◌, ◌≢◌, ℕ, ◌+◌, inl, inr, List, ◌∷◌, ◌==◌, length, refl, sym, ◌∙◌, subst, Option, Some, None, Result, Ok, Err}
+use Rattle.std.proofs.Common.{◌≡◌, ◌≢◌, ℕ, ◌<◌, zero, suc, arith, ◌+◌, ◌++◌, fold, slice_get, ap, inl, inr, List, [], ◌∷◌, ◌==◌, length, refl, sym, ◌∙◌, subst, Option, Some, None, Result, Ok, Err}
 use Rattle.std.specs.Result.{IsErr, IsErrAnd, IfErr}
 use Rattle.std.proofs.Math.ListN.{set}
 use Rattle.std.proofs.lemmas.Bool.{eq-eqb, ne_eqb, cond-false, cond-true}
+use Rattle.std.specs.List.{concat}
 use Rattle.unit_packets.specs.Blocks.{Block}
-use Rattle.pitch_model.specs.History.{Entry}
+use Rattle.unit_packets.specs.Packing.{packed}
+use Rattle.pitch_model.specs.Book.{Book, empty_book, after}
+use Rattle.pitch_model.specs.History.{Entry, Raw}
 use Rattle.unit_clients.proofs.Hearing.{get_set}
+use Rattle.relay_unit.specs.AnyRelays.{book_in, book_at, with_more, HasSentAt, AppendAny, AppendsAnyAt}
+use Rattle.relay_unit.specs.Calls.{AppendsAny}
+use Rattle.relay_unit.specs.Following.{Sends, HasSent}
 use Rattle.relay_unit.specs.Hearing.{first_heard, relay_heard, relay_history}
 use Rattle.relay_unit.specs.Relays.{StandsFor, StandsAt, IsRelay, HaveRelayed}
 use Rattle.relay_unit.specs.Sparing.{HasHeard, IsSpentBy, messages_heard}
-use Rattle.relay_unit.specs.Stands.{Stands}
+use Rattle.relay_unit.specs.Stands.{Stands, followed_book, relay_unit_of}
 use Rattle.relay_unit.specs.declared.relay.Relay.{Relay}
 use Rattle.relay_unit.specs.declared.relay.RelayError.{RelayError}
 
@@ -66,3 +72,95 @@ new_relay H unit relay slot before is fresh stands =
 
 pub old_relay : (H unit : ℕ) (relay : Relay) (slot : Option Relay) (before : List Block) → slot ≡ Some relay → IsRelay H before unit slot → StandsFor relay H unit (relay_history H unit before) × HasHeard relay (messages_heard unit before)
 old_relay H unit relay slot before is stands = subst (IsRelay H before unit) is stands
+
+-- where nothing stands no block was heard
+pub no_relay : (H unit : ℕ) (slot : Option Relay) → slot ≡ None → IsRelay H [] unit slot
+no_relay H unit slot none = subst (IsRelay H [] unit) (sym none) refl
+
+-- ---- Any input, honest or not
+pub no_sent : (unit : ℕ) (place : Option Relay) → place ≡ None → HasSentAt unit [] place
+no_sent unit place none = subst (HasSentAt unit []) (sym none) refl
+
+-- a relay that was made at the block
+pub new_sends : (block : Block) (fresh relay : Relay) (place : Option Relay) (out out' : List ℕ)
+    → place ≡ None → HasSent fresh [] → followed_book fresh ≡ empty_book → relay_unit_of fresh ≡ block.unit
+    → relay_unit_of relay ≡ relay_unit_of fresh
+    → AppendsAny fresh relay block out out' → AppendsAnyAt place (Some relay) block out out'
+new_sends block fresh relay place out out' is first empty named stays appends sent S =
+    let none : sent ≡ [] = subst (HasSentAt block.unit sent) is S in
+    let a = appends sent (subst (HasSent fresh) (sym none) first) in
+    let m = a.2 in (
+      a.0,
+      a.1,
+      record {
+        more = m.more;
+        added_is = m.added_is ∙ ap (λ (u : ℕ). concat (packed u (length sent + 1) m.more)) named;
+        sends = subst (λ (p : Option Relay). Sends (book_in p) m.more (followed_book relay)) (sym is)
+            (subst (λ (b : Book). Sends b m.more (followed_book relay)) empty m.sends);
+        line = λ some. m.line some ∙ ap (λ (b : Book). fold after b m.more) (empty ∙ ap book_in (sym is));
+        sent_is = (stays ∙ named, m.sent_is);
+      },
+    )
+
+-- a relay that was there
+pub old_sends : (block : Block) (relay relay' : Relay) (place : Option Relay) (out out' : List ℕ)
+    → place ≡ Some relay → relay_unit_of relay' ≡ relay_unit_of relay
+    → AppendsAny relay relay' block out out' → AppendsAnyAt place (Some relay') block out out'
+old_sends block relay relay' place out out' is stays appends sent S =
+    let there : (relay_unit_of relay ≡ block.unit) × HasSent relay sent = subst (HasSentAt block.unit sent) is S in
+    let a = appends sent there.1 in
+    let m = a.2 in (
+      a.0,
+      a.1,
+      record {
+        more = m.more;
+        added_is = m.added_is ∙ ap (λ (u : ℕ). concat (packed u (length sent + 1) m.more)) there.0;
+        sends = subst (λ (p : Option Relay). Sends (book_in p) m.more (followed_book relay')) (sym is) m.sends;
+        line = λ some. m.line some ∙ ap (λ (p : Option Relay). fold after (book_in p) m.more) (sym is);
+        sent_is = (stays ∙ there.0, m.sent_is);
+      },
+    )
+
+more_here : (Sent : ℕ → List Raw) (unit other : ℕ) (more : List Raw) → other ≡ unit → with_more Sent unit more other ≡ Sent other ++ more
+more_here Sent unit other more same = cond-true (other == unit) (Sent other ++ more) (Sent other) (eq-eqb other unit same)
+
+more_there : (Sent : ℕ → List Raw) (unit other : ℕ) (more : List Raw) → other ≢ unit → with_more Sent unit more other ≡ Sent other
+more_there Sent unit other more differs = cond-false (other == unit) (Sent other ++ more) (Sent other) (ne_eqb other unit differs)
+
+get_set_same : {X : Type 0} (xs : List X) (i : ℕ) (y : X) → i < length xs → slice_get (set xs i y) i ≡ Some y
+get_set_same [] i y within = absurd (omega arith)
+get_set_same (x ∷ xs) zero y within = refl
+get_set_same (x ∷ xs) (suc i) y within = get_set_same xs i y (omega arith)
+
+-- the relays of a stream, where the one in a unit's place sends
+pub relays_send : (H u : ℕ) (old : List (Option Relay)) (place place' : Option Relay) (block : Block) (out out' : List ℕ)
+    → u ≡ block.unit → u < length old → slice_get old u ≡ Some place → AppendsAnyAt place place' block out out'
+    → AppendAny (record { limit = H; relays = old }) (record { limit = H; relays = set old u place' }) block out out'
+relays_send H u old place place' block out out' same within at appends Sent S =
+    let unit = block.unit in
+    let at_unit : slice_get old unit ≡ Some place = ap (slice_get old) (sym same) ∙ at in
+    let then : slice_get (set old u place') unit ≡ Some place' = ap (slice_get (set old u place')) (sym same) ∙ get_set_same old u place' within in
+    let a = appends (Sent unit) (S.each unit place at_unit) in
+    let m = a.2 in (
+      a.0,
+      a.1,
+      record {
+        more = m.more;
+        added_is = m.added_is;
+        sends = subst (λ (p : Option (Option Relay)). Sends (book_at p) m.more (book_at (slice_get (set old u place') unit))) (sym at_unit)
+            (subst (λ (p : Option (Option Relay)). Sends (book_in place) m.more (book_at p)) (sym then) m.sends);
+        line = λ some. ap book_at then ∙ m.line some ∙ ap (λ (p : Option (Option Relay)). fold after (book_at p) m.more) (sym at_unit);
+        sent_are = record {
+          each = λ other p there. elim (get_set old u other place' p there) [
+            | inl here ↦
+                let named : other ≡ unit = here.0 ∙ same in
+                subst (HasSentAt other (with_more Sent unit m.more other)) (sym here.1)
+                (subst (λ (rs : List Raw). HasSentAt other rs place') (sym (more_here Sent unit other m.more named))
+                (subst (λ (n : ℕ). HasSentAt n (Sent n ++ m.more) place') (sym named) m.sent_is))
+            | inr kept ↦
+                subst (λ (rs : List Raw). HasSentAt other rs p) (sym (more_there Sent unit other m.more (λ e. kept.0 (e ∙ sym same))))
+                (S.each other p kept.1)
+          ];
+        };
+      },
+    )

@@ -17,12 +17,14 @@ use Rattle.relay_unit.specs.Hearing.{is_of_session, heard_unsequenced, heard_mer
 
 -- what becomes of an image at a message of a session
 abbrev pub told_end : ℕ → List Entry → Result SessionMessage SessionError → ImageEnd
-told_end H E (Ok (SpinFinished sequence)) = image_end_at (reach H E) (image_finished (spin_of E) sequence) (bad_image (spin_of E) sequence)
+told_end H E (Ok (SpinFinished sequence)) =
+    image_end_at (reach H E) (image_finished (spin_of E) sequence) (bad_image (spin_of E) sequence)
 told_end H E (Ok message) = end.NoImage
 told_end H E (Err error) = end.NoImage
 
 abbrev pub raw_end : ℕ → List Entry → Raw → ImageEnd
-raw_end H E raw = if is_of_session (kind_of raw) then told_end H E (session_reads raw) else end.NoImage
+raw_end H E raw =
+    if is_of_session (kind_of raw) then told_end H E (session_reads raw) else end.NoImage
 
 -- the last end of an image other than that there was none
 abbrev pub end_or : ImageEnd → ImageEnd → ImageEnd
@@ -31,7 +33,8 @@ end_or last other = other
 
 abbrev pub session_end : ℕ → ImageEnd → List Raw → List Entry → ImageEnd
 session_end H last [] E = last
-session_end H last (raw ∷ raws) E = session_end H (end_or last (raw_end H E raw)) raws (heard_unsequenced raw E)
+session_end H last (raw ∷ raws) E =
+    session_end H (end_or last (raw_end H E raw)) raws (heard_unsequenced raw E)
 
 -- an unsequenced block has no messages of a line
 abbrev pub session_change : ℕ → List Entry → Block → Change
@@ -45,4 +48,5 @@ session_change H E block = record {
 
 -- what a block changes that is heard after a history
 abbrev pub merged_change : ℕ → List Entry → Block → Change
-merged_change H E block = cond (block.sequence == 0) (session_change H E block) (block_change H E block)
+merged_change H E block =
+    cond (block.sequence == 0) (session_change H E block) (block_change H E block)

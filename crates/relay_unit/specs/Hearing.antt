@@ -1,10 +1,13 @@
 -- What a relay hears of the blocks of a merged stream: those of a line, and those of a Spin Server.
-use Rattle.std.specs.Prelude.{ℕ, Bool, ◌||◌, ◌&&◌, cond, List, [], ◌∷◌, ◌==◌, nat_le, Result, Ok, Err, if◌then◌else◌}
+use Rattle.std.specs.Prelude.{ℕ, Bool, ◌||◌, ◌&&◌, cond, List, [], ◌∷◌, ◌==◌, nat_le}
+use Rattle.std.specs.Prelude.{Result, Ok, Err, if◌then◌else◌}
 use Rattle.unit_packets.specs.Blocks.{Block}
 use Rattle.pitch_messages.specs.Raw.{kind_of}
 use Rattle.pitch_messages.specs.Session.{session_reads}
 use Rattle.pitch_messages.specs.declared.session.SessionMessage.{SessionMessage}
-use Rattle.pitch_messages.specs.declared.session.SessionMessage.TheVariants.{SpinAvailable, SpinReply, SpinFinished}
+use Rattle.pitch_messages.specs.declared.session.SessionMessage.TheVariants.{SpinAvailable}
+use Rattle.pitch_messages.specs.declared.session.SessionMessage.TheVariants.{SpinReply}
+use Rattle.pitch_messages.specs.declared.session.SessionMessage.TheVariants.{SpinFinished}
 use Rattle.pitch_messages.specs.declared.session.SessionError.{SessionError}
 use Rattle.pitch_model.specs.History.{Entry, Raw, ImageMessages, SpinUp, Advertised, Ticked}
 use Rattle.pitch_model.specs.History as entry
@@ -20,14 +23,17 @@ is_of_session kind = kind == 0x01 || (kind == 0x02 || (nat_le 0x80 kind && nat_l
 -- is too short
 abbrev pub heard_told : Result SessionMessage SessionError → List Entry → List Entry
 heard_told (Ok (SpinAvailable sequence)) E = Advertised sequence ∷ E
-heard_told (Ok (SpinReply sequence orders status)) E = entry.SpinReply sequence orders (is_accepted status) ∷ E
+heard_told (Ok (SpinReply sequence orders status)) E =
+    entry.SpinReply sequence orders (is_accepted status) ∷ E
 heard_told (Ok (SpinFinished sequence)) E = entry.SpinFinished sequence ∷ E
 heard_told (Ok message) E = E
 heard_told (Err error) E = E
 
 -- an unsequenced message is one of the session, or else one of an image
 abbrev pub heard_unsequenced : Raw → List Entry → List Entry
-heard_unsequenced raw E = if is_of_session (kind_of raw) then heard_told (session_reads raw) E else (ImageMessages (raw ∷ []) ∷ E)
+heard_unsequenced raw E =
+    if is_of_session (kind_of raw) then heard_told (session_reads raw) E
+    else (ImageMessages (raw ∷ []) ∷ E)
 
 abbrev pub heard_session : List Raw → List Entry → List Entry
 heard_session [] E = E
@@ -35,7 +41,9 @@ heard_session (raw ∷ raws) E = heard_session raws (heard_unsequenced raw E)
 
 -- a history with a block of either kind that is heard after it
 abbrev pub heard_merged : Block → List Entry → List Entry
-heard_merged block E = cond (block.sequence == 0) (heard_session block.raws E) (heard_sequenced block.sequence block.raws E)
+heard_merged block E =
+    cond (block.sequence == 0) (heard_session block.raws E)
+    (heard_sequenced block.sequence block.raws E)
 
 -- after each block comes a tick; what it asks for is not sent
 abbrev pub relay_heard : ℕ → Block → List Entry → List Entry
@@ -49,4 +57,5 @@ first_heard = SpinUp ∷ []
 abbrev pub relay_history : ℕ → ℕ → List Block → List Entry
 relay_history H unit [] = first_heard
 relay_history H unit (block ∷ before) =
-    if block.unit == unit then relay_heard H block (relay_history H unit before) else relay_history H unit before
+    if block.unit == unit then relay_heard H block (relay_history H unit before)
+    else relay_history H unit before

@@ -4,5 +4,9 @@ pub mod RelayText
 pub mod Changing
 pub mod Sending
 pub mod Stands
+pub mod Following
 pub mod Sparing
 pub mod Relays
+pub mod Calls
+pub mod AnyRelays
+pub mod Places

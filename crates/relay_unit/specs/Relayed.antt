@@ -10,7 +10,8 @@ use Rattle.pitch_model.specs.Image.{image}
 
 -- an entry finishes an image that is above the reach
 abbrev pub takes_image : ℕ → List Entry → Entry → Bool
-takes_image H E entry = list_any (λ s. nat_lt (reach H E) s) (sequences (images_at entry (spin_of E)))
+takes_image H E entry =
+    list_any (λ s. nat_lt (reach H E) s) (sequences (images_at entry (spin_of E)))
 
 -- what is sent for an entry that takes the reach from r to t: where an image was taken, Unit Clear
 -- and the image of the book through t; else the messages r + 1 to t
@@ -20,7 +21,8 @@ sent_for taken V r t = cond taken (written (UnitClear 0) ∷ image V t) (drop r 
 -- what is sent over a history, where V are the venue's messages and the hold has H places
 abbrev pub relayed : ℕ → List Raw → List Entry → List Raw
 relayed H V [] = []
-relayed H V (entry ∷ E) = relayed H V E ++ sent_for (takes_image H E entry) V (reach H E) (reach H (entry ∷ E))
+relayed H V (entry ∷ E) =
+    relayed H V E ++ sent_for (takes_image H E entry) V (reach H E) (reach H (entry ∷ E))
 
 -- how many messages that are
 abbrev pub relayed_count : ℕ → List Raw → List Entry → ℕ
@@ -28,4 +30,5 @@ relayed_count H V E = length (relayed H V E)
 
 -- the datagrams of what is sent up to E' and was not up to E, which runs on in sequence from 1
 abbrev pub relayed_datagrams : ℕ → List Raw → ℕ → List Entry → List Entry → List (List ℕ)
-relayed_datagrams H V unit E E' = packed unit (relayed_count H V E + 1) (drop (relayed_count H V E) (relayed H V E'))
+relayed_datagrams H V unit E E' =
+    packed unit (relayed_count H V E + 1) (drop (relayed_count H V E) (relayed H V E'))

@@ -24,8 +24,11 @@ StandsAt H unit E count (Some relay) = StandsFor relay H unit E × HasHeard rela
 -- a unit's relay is where the unit's blocks bring it; where there is none, no block named the unit
 abbrev pub IsRelay : ℕ → List Block → ℕ → Option Relay → Type 0
 IsRelay H before unit None = relay_history H unit before ≡ first_heard
-IsRelay H before unit (Some relay) = StandsFor relay H unit (relay_history H unit before) × HasHeard relay (messages_heard unit before)
+IsRelay H before unit (Some relay) =
+    StandsFor relay H unit (relay_history H unit before)
+    × HasHeard relay (messages_heard unit before)
 
 -- each unit's relay heard its blocks
 pub record HaveRelayed (r : Relays) (before : List Block) : Type 0 where
-  pub each : (unit : ℕ) (relay : Option Relay) → slice_get r.relays unit ≡ Some relay → IsRelay r.limit before unit relay
+  pub each : (unit : ℕ) (relay : Option Relay)
+      → slice_get r.relays unit ≡ Some relay → IsRelay r.limit before unit relay

@@ -1,18 +1,52 @@
 -- What the relay's own functions tell one another. No public clause needs this file.
-use Rattle.std.specs.Prelude.{◌≡◌, ◌≤◌, ℕ, List, ◌++◌, Option, Some, None}
+use Rattle.std.specs.Prelude.{◌≡◌, ◌≢◌, ◌+◌, ◌≤◌, ℕ, List, ◌++◌, fold, length, Option, Some, None}
+use Rattle.unit_packets.specs.Blocks.{Block}
+use Rattle.pitch_model.specs.Book.{Book, after}
 use Rattle.pitch_model.specs.History.{Entry, Raw}
 use Rattle.pitch_model.specs.declared.item.Item.{Item}
 use Rattle.pitch_model.specs.Heard.{IsItem, heard, image_end}
 use Rattle.pitch_model.specs.declared.change.ImageEnd.TheVariants as end
-use Rattle.client_core.specs.Weight.{told_by}
+use Rattle.client_core.specs.Tracks.{Tracks, Keeps, current_book}
+use Rattle.client_core.specs.Weight.{weight, told_by}
+use Rattle.client_core.specs.declared.client.UnitClient.{UnitClient}
 use Rattle.relay_unit.specs.Hearing.{heard_unsequenced}
 use Rattle.relay_unit.specs.Changing.{raw_end}
+use Rattle.relay_unit.specs.Following.{Sends}
 use Rattle.relay_unit.specs.Relayed.{relayed}
+use Rattle.relay_unit.specs.RelayText.{IsVenue}
 
 -- where `sent` is the end of what is sent up to E, `sent'` is that of what is sent up to E' behind
 -- the same beginning
 abbrev pub SendsOn : ℕ → List Raw → List Entry → List Entry → List Raw → List Raw → Type 0
-SendsOn H V E E' sent sent' = (before : List Raw) → relayed H V E ≡ before ++ sent → relayed H V E' ≡ before ++ sent'
+SendsOn H V E E' sent sent' =
+    (before : List Raw) → relayed H V E ≡ before ++ sent → relayed H V E' ≡ before ++ sent'
+
+-- ---- What a client and the messages so far are, once something was heard
+-- it stands for what it stood for and what was heard, which is what `hears` puts on a history
+abbrev pub TracksOn : UnitClient → UnitClient → (List Entry → List Entry) → Type 0
+TracksOn c c' hears = (H : ℕ) (E : List Entry) → Tracks c H E → Tracks c' H (hears E)
+
+-- wherever that is honest, it keeps the venue's messages
+abbrev pub KeepsOn : UnitClient → UnitClient → (List Entry → List Entry) → Type 0
+KeepsOn c c' hears =
+    (V : List Raw) (H : ℕ) (E : List Entry) → Tracks c H E → IsVenue V (hears E)
+    → Keeps c V → Keeps c' V
+
+-- and what is sent is what is relayed
+abbrev pub SendsRelayed :
+    UnitClient → (List Entry → List Entry) → (sent sent' : List Raw) → Type 0
+SendsRelayed c hears sent sent' =
+    (V : List Raw) (H : ℕ) (E : List Entry) → Tracks c H E → IsVenue V (hears E)
+    → Keeps c V → SendsOn H V E (hears E) sent sent'
+
+-- the answer is that of every history for which it stood
+abbrev pub IsToldBy : UnitClient → {A : Type 0} → (ℕ → List Entry → A) → A → Type 0
+IsToldBy c told answer = (H : ℕ) (E : List Entry) → Tracks c H E → answer ≡ told H E
+
+-- no more is sent, or left to send, than was before and so many messages
+abbrev pub WeighsNoMore : (c c' : UnitClient) → (sent sent' : List Raw) → ℕ → Type 0
+WeighsNoMore c c' sent sent' count =
+    length sent' + weight c' ≤ (length sent + weight c) + count
 
 -- ---- The item of an unsequenced message
 pub record SaysAs (raw : Raw) (item : Item) : Type 0 where
@@ -28,3 +62,25 @@ pub record SaysNothing (raw : Raw) : Type 0 where
 abbrev pub IsItemOfRaw : Raw → Option Item → Type 0
 IsItemOfRaw raw None = SaysNothing raw
 IsItemOfRaw raw (Some item) = SaysAs raw item
+
+-- ---- Any input, honest or not
+-- behind what was sent so far stands what is sent as the followed book becomes another
+pub record SendsFor (book book' : Book) (sent sent' : List Raw) : Type 0 where
+  pub more : List Raw
+  pub appended : sent' ≡ sent ++ more
+  pub sends : Sends book more book'
+
+-- these are messages that were applied, and nothing else
+pub record SendsApplied (book book' : Book) (sent sent' : List Raw) : Type 0 where
+  pub more : List Raw
+  pub appended : sent' ≡ sent ++ more
+  pub applied : book' ≡ fold after book more
+
+-- the same of what clients follow
+abbrev pub SendsAny : (c c' : UnitClient) → (sent sent' : List Raw) → Type 0
+SendsAny c c' sent sent' = SendsFor (current_book c) (current_book c') sent sent'
+
+-- and of a block with a sequence
+abbrev pub SendsLine : Block → (c c' : UnitClient) → (sent sent' : List Raw) → Type 0
+SendsLine block c c' sent sent' =
+    block.sequence ≢ 0 → SendsApplied (current_book c) (current_book c') sent sent'

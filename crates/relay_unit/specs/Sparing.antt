@@ -12,7 +12,8 @@ use Rattle.relay_unit.specs.declared.relay.RelayError.TheVariants.{SequencesSpen
 abbrev pub messages_heard : ℕ → List Block → ℕ
 messages_heard unit [] = 0
 messages_heard unit (block ∷ before) =
-    if block.unit == unit then messages_heard unit before + length block.raws else messages_heard unit before
+    if block.unit == unit then messages_heard unit before + length block.raws
+    else messages_heard unit before
 
 -- it goes on, and what it sent and may still have to send of what it heard are no more messages
 -- than so many

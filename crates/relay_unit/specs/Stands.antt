@@ -37,5 +37,6 @@ pub record Stands (relay : Relay) (H : ℕ) (E : List Entry) : Type 0 where
 
 -- the error says that what is sent up to E and what comes up to E' has no sequences any more
 abbrev pub IsOutrun : RelayError → (count count' : ℕ) → Type 0
-IsOutrun (SequencesSpent sent more) count count' = (sent ≡ count) × (sent + more ≡ count') × (last_sequence < count')
+IsOutrun (SequencesSpent sent more) count count' =
+    (sent ≡ count) × (sent + more ≡ count') × (last_sequence < count')
 IsOutrun OutOfMemory count count' = Unit {0}

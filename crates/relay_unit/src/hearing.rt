@@ -1,14 +1,14 @@
-ghost use Rattle.std.specs.Prelude.{◌≡◌, ◌≢◌, ◌+◌, ◌≤◌, ℕ, List, length, true, OnOk, IfOk, IsTrue, IsFalse};
+ghost use Rattle.std.specs.Prelude.{◌≡◌, ◌≢◌, true, OnOk, IfOk, IsTrue, IsFalse, length};
 ghost use Rattle.pitch_messages.specs.Raw.{IsRaw, kind_of};
 ghost use Rattle.pitch_messages.specs.Session.{session_reads};
-ghost use Rattle.pitch_model.specs.History.{Entry, Raw as RawBytes};
+ghost use Rattle.pitch_model.specs.History.{Raw as RawBytes};
 ghost use Rattle.pitch_model.specs.Heard.{IsItem, heard, change_of};
-ghost use Rattle.client_core.specs.Tracks.{Tracks, Keeps};
-ghost use Rattle.client_core.specs.Weight.{weight, told_by};
+ghost use Rattle.client_core.specs.Weight.{told_by};
 ghost use Rattle.relay_unit.specs.Changing.{raw_end, end_or, session_end, merged_change};
-ghost use Rattle.relay_unit.specs.Hearing.{is_of_session, heard_unsequenced, heard_session, heard_merged};
-ghost use Rattle.relay_unit.specs.RelayText.{IsVenue};
-ghost use Rattle.relay_unit.specs.Sending.{SendsOn, IsItemOfRaw};
+ghost use Rattle.relay_unit.specs.Hearing.{is_of_session};
+ghost use Rattle.relay_unit.specs.Hearing.{heard_unsequenced, heard_session, heard_merged};
+ghost use Rattle.relay_unit.specs.Sending.{IsItemOfRaw, IsToldBy, TracksOn, KeepsOn, WeighsNoMore};
+ghost use Rattle.relay_unit.specs.Sending.{SendsRelayed, SendsAny, SendsLine};
 
 use client_core::{Change, ImageEnd, Item, UnitClient};
 use order_book::image_of;
@@ -37,11 +37,14 @@ fn hear_item(
     sent: &mut RawList,
 ) -> Result<Change, OutOfMemory>
     requires { IsItem item.now }
-    ensures tracks { OnOk result ((H : ℕ) (E : List Entry) → Tracks client.old H E → Tracks client.new H (heard item.now E)) }
-    ensures keeps { OnOk result ((V : List RawBytes) (H : ℕ) (E : List Entry) → Tracks client.old H E → IsVenue V (heard item.now E) → Keeps client.old V → Keeps client.new V) }
-    ensures sends { OnOk result ((V : List RawBytes) (H : ℕ) (E : List Entry) → Tracks client.old H E → IsVenue V (heard item.now E) → Keeps client.old V → SendsOn H V E (heard item.now E) sent.old.items sent.new.items) }
-    ensures change { IfOk result (λ change. (H : ℕ) (E : List Entry) → Tracks client.old H E → change ≡ change_of H E item.now) }
-    ensures weighs { OnOk result (length sent.new.items + weight client.new ≤ (length sent.old.items + weight client.old) + told_by item.now) }
+    ensures tracks { OnOk result (TracksOn client.old client.new (heard item.now)) }
+    ensures keeps { OnOk result (KeepsOn client.old client.new (heard item.now)) }
+    ensures sends { OnOk result
+        (SendsRelayed client.old (heard item.now) sent.old.items sent.new.items) }
+    ensures any { OnOk result (SendsAny client.old client.new sent.old.items sent.new.items) }
+    ensures change { IfOk result (IsToldBy client.old (λ H E. change_of H E item.now)) }
+    ensures weighs { OnOk result
+        (WeighsNoMore client.old client.new sent.old.items sent.new.items (told_by item.now)) }
 {
     let change = client.hear_into(item, sent)?;
     let taken = is_taken(change.image);
@@ -61,7 +64,8 @@ fn is_of_session(kind: u8) -> bool
 
 // The item of a message of a session, where it tells something.
 fn item_told(read: Result<SessionMessage, SessionError>) -> Option<Item>
-    ensures { (raw : RawBytes) → is_of_session (kind_of raw) ≡ true → session_reads raw ≡ read → IsItemOfRaw raw result }
+    ensures { (raw : RawBytes) → is_of_session (kind_of raw) ≡ true
+        → session_reads raw ≡ read → IsItemOfRaw raw result }
 {
     match read {
         Ok(SessionMessage::SpinAvailable { sequence }) => Some(Item::Advertised { sequence }),
@@ -102,11 +106,14 @@ fn hear_raw(
     sent: &mut RawList,
 ) -> Result<ImageEnd, OutOfMemory>
     requires { IsRaw raw.now }
-    ensures tracks { OnOk result ((H : ℕ) (E : List Entry) → Tracks client.old H E → Tracks client.new H (heard_unsequenced raw.now E)) }
-    ensures keeps { OnOk result ((V : List RawBytes) (H : ℕ) (E : List Entry) → Tracks client.old H E → IsVenue V (heard_unsequenced raw.now E) → Keeps client.old V → Keeps client.new V) }
-    ensures sends { OnOk result ((V : List RawBytes) (H : ℕ) (E : List Entry) → Tracks client.old H E → IsVenue V (heard_unsequenced raw.now E) → Keeps client.old V → SendsOn H V E (heard_unsequenced raw.now E) sent.old.items sent.new.items) }
-    ensures end { IfOk result (λ end. (H : ℕ) (E : List Entry) → Tracks client.old H E → end ≡ raw_end H E raw.now) }
-    ensures weighs { OnOk result (length sent.new.items + weight client.new ≤ (length sent.old.items + weight client.old) + 1) }
+    ensures tracks { OnOk result (TracksOn client.old client.new (heard_unsequenced raw.now)) }
+    ensures keeps { OnOk result (KeepsOn client.old client.new (heard_unsequenced raw.now)) }
+    ensures sends { OnOk result
+        (SendsRelayed client.old (heard_unsequenced raw.now) sent.old.items sent.new.items) }
+    ensures any { OnOk result (SendsAny client.old client.new sent.old.items sent.new.items) }
+    ensures end { IfOk result (IsToldBy client.old (λ H E. raw_end H E raw.now)) }
+    ensures weighs { OnOk result
+        (WeighsNoMore client.old client.new sent.old.items sent.new.items 1) }
 {
     let Some(item) = item_of_raw(alloc, raw)? else {
         return Ok(ImageEnd::NoImage);
@@ -132,11 +139,15 @@ fn hear_session(
     raws: Raws<'_>,
     sent: &mut RawList,
 ) -> Result<ImageEnd, OutOfMemory>
-    ensures tracks { OnOk result ((H : ℕ) (E : List Entry) → Tracks client.old H E → Tracks client.new H (heard_session raws.entry E)) }
-    ensures keeps { OnOk result ((V : List RawBytes) (H : ℕ) (E : List Entry) → Tracks client.old H E → IsVenue V (heard_session raws.entry E) → Keeps client.old V → Keeps client.new V) }
-    ensures sends { OnOk result ((V : List RawBytes) (H : ℕ) (E : List Entry) → Tracks client.old H E → IsVenue V (heard_session raws.entry E) → Keeps client.old V → SendsOn H V E (heard_session raws.entry E) sent.old.items sent.new.items) }
-    ensures end { IfOk result (λ end. (H : ℕ) (E : List Entry) → Tracks client.old H E → end ≡ session_end H ImageEnd.NoImage raws.entry E) }
-    ensures weighs { OnOk result (length sent.new.items + weight client.new ≤ (length sent.old.items + weight client.old) + length raws.entry) }
+    ensures tracks { OnOk result (TracksOn client.old client.new (heard_session raws.entry)) }
+    ensures keeps { OnOk result (KeepsOn client.old client.new (heard_session raws.entry)) }
+    ensures sends { OnOk result
+        (SendsRelayed client.old (heard_session raws.entry) sent.old.items sent.new.items) }
+    ensures any { OnOk result (SendsAny client.old client.new sent.old.items sent.new.items) }
+    ensures end { IfOk result
+        (IsToldBy client.old (λ H E. session_end H ImageEnd.NoImage raws.entry E)) }
+    ensures weighs { OnOk result
+        (WeighsNoMore client.old client.new sent.old.items sent.new.items (length raws.entry)) }
 {
     let mut raws = raws;
     let mut last = ImageEnd::NoImage;
@@ -154,11 +165,17 @@ pub(crate) fn hear_merged(
     block: &BlockView<'_>,
     sent: &mut RawList,
 ) -> Result<Change, OutOfMemory>
-    ensures tracks { OnOk result ((H : ℕ) (E : List Entry) → Tracks client.old H E → Tracks client.new H (heard_merged block.now E)) }
-    ensures keeps { OnOk result ((V : List RawBytes) (H : ℕ) (E : List Entry) → Tracks client.old H E → IsVenue V (heard_merged block.now E) → Keeps client.old V → Keeps client.new V) }
-    ensures sends { OnOk result ((V : List RawBytes) (H : ℕ) (E : List Entry) → Tracks client.old H E → IsVenue V (heard_merged block.now E) → Keeps client.old V → SendsOn H V E (heard_merged block.now E) sent.old.items sent.new.items) }
-    ensures change { IfOk result (λ change. (H : ℕ) (E : List Entry) → Tracks client.old H E → change ≡ merged_change H E block.now) }
-    ensures weighs { OnOk result (length sent.new.items + weight client.new ≤ (length sent.old.items + weight client.old) + length block.now.raws) }
+    ensures tracks { OnOk result (TracksOn client.old client.new (heard_merged block.now)) }
+    ensures keeps { OnOk result (KeepsOn client.old client.new (heard_merged block.now)) }
+    ensures sends { OnOk result
+        (SendsRelayed client.old (heard_merged block.now) sent.old.items sent.new.items) }
+    ensures any { OnOk result (SendsAny client.old client.new sent.old.items sent.new.items) }
+    ensures change { IfOk result (IsToldBy client.old (λ H E. merged_change H E block.now)) }
+    // Of a block with a sequence, what is sent was applied.
+    ensures line { OnOk result
+        (SendsLine block.now client.old client.new sent.old.items sent.new.items) }
+    ensures weighs { OnOk result
+        (WeighsNoMore client.old client.new sent.old.items sent.new.items (length block.now.raws)) }
 {
     let sequence = block.header().sequence;
     if sequence == 0 {

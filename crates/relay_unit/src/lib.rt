@@ -9,11 +9,13 @@
 
 mod hearing;
 mod laws;
+mod packing;
 mod relay;
 mod relays;
 
 pub use crate::laws::{
-    blocks_have_no_more_messages_than_bytes, relayed_messages_leave_the_followed_book,
+    blocks_have_no_more_messages_than_bytes, followers_have_the_orders_of_a_relay,
+    relayed_messages_leave_the_followed_book,
 };
 pub use crate::relay::{Relay, RelayError};
 pub use crate::relays::Relays;

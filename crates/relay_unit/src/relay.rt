@@ -2,12 +2,13 @@ ghost use Rattle.std.specs.Prelude.{◌≤◌};
 ghost use Rattle.pitch_fields.specs.Limits.{last_sequence};
 
 use crate::hearing::hear_merged;
+use crate::packing::append_packed;
 use client_core::{Change, Item, UnitClient};
 use order_book::UnitBook;
 use pitch_fields::OutOfMemory;
 use pitch_messages::RawList;
 use std::alloc::Global;
-use unit_packets::{BlockView, DatagramList, LAST_SEQUENCE, pack};
+use unit_packets::{BlockView, LAST_SEQUENCE};
 
 /// Why a relay does not go on.
 #[derive(Clone, Copy, Debug, PartialEq, Eq)]
@@ -52,16 +53,16 @@ pub struct Relay {
 }
 
 impl Relay {
-    ghost use Rattle.std.specs.Prelude.{◌≡◌, ◌≤◌, ◌+◌, ◌++◌, ℕ, List, length, OnOk, OnErr, IfOk, IfErr, Err};
-    ghost use Rattle.pitch_fields.specs.Limits.{last_sequence, most_held};
-    ghost use Rattle.unit_packets.specs.Packing.{bytes_in};
-    ghost use Rattle.pitch_model.specs.History.{Entry, Raw as RawBytes};
-    ghost use Rattle.relay_unit.specs.Changing.{merged_change};
-    ghost use Rattle.relay_unit.specs.Hearing.{first_heard, relay_heard};
-    ghost use Rattle.relay_unit.specs.RelayText.{IsVenue};
-    ghost use Rattle.relay_unit.specs.Relayed.{relayed_count, relayed_datagrams};
-    ghost use Rattle.relay_unit.specs.Sparing.{HasHeard, IsSpentBy};
-    ghost use Rattle.relay_unit.specs.Stands.{Stands, GoesOn, IsSpent, IsOutrun, relay_unit_of, followed_book};
+    ghost use Rattle.std.specs.Prelude.{◌≡◌, ◌≤◌, ◌++◌, ℕ, [], OnOk, OnErr, IfOk, IfErr, Err};
+    ghost use Rattle.pitch_fields.specs.Limits.{most_held};
+    ghost use Rattle.pitch_model.specs.Book.{empty_book};
+    ghost use Rattle.relay_unit.specs.Calls.{StandsAfter, AppendsRelayed, OutrunsAfter};
+    ghost use Rattle.relay_unit.specs.Calls.{IsChangeAfter, HearsFew, SpendsFew, AppendsAny};
+    ghost use Rattle.relay_unit.specs.Following.{HasSent};
+    ghost use Rattle.relay_unit.specs.Hearing.{first_heard};
+    ghost use Rattle.relay_unit.specs.Sparing.{HasHeard};
+    ghost use Rattle.relay_unit.specs.Stands.{Stands, GoesOn, IsSpent};
+    ghost use Rattle.relay_unit.specs.Stands.{relay_unit_of, followed_book};
 
     /// A relay that has sent nothing, holds at most `limit` messages and counts its Spin Server as
     /// up.
@@ -70,6 +71,8 @@ impl Relay {
         ensures stands { IfOk result (λ relay. Stands relay limit first_heard) }
         // It has heard nothing, and so no more messages than any number.
         ensures heard { IfOk result (λ relay. (count : ℕ) → HasHeard relay count) }
+        ensures any { IfOk result (λ relay. HasSent relay []) }
+        ensures empty { IfOk result (λ relay. followed_book relay ≡ empty_book) }
         ensures unit { IfOk result (λ relay. relay_unit_of relay ≡ unit) }
     {
         let mut client = UnitClient::make(alloc, limit)?;
@@ -85,19 +88,16 @@ impl Relay {
     }
 
     // Hears a block, and appends the datagrams of what it adds.
-    fn hear_block(
-        &mut self,
-        block: &BlockView<'_>,
-        out: &mut DatagramList,
-    ) -> Result<Change, RelayError>
-        ensures stands { OnOk result ((H : ℕ) (E : List Entry) → Stands self.old H E → Stands self.new H (relay_heard H block.now E)) }
-        ensures sends { OnOk result ((V : List RawBytes) (H : ℕ) (E : List Entry) → Stands self.old H E → IsVenue V (relay_heard H block.now E)
-            → bytes_in out.new.items ≡ bytes_in out.old.items ++ relayed_datagrams H V (relay_unit_of self.old) E (relay_heard H block.now E)) }
-        ensures change { IfOk result (λ change. (H : ℕ) (E : List Entry) → Stands self.old H E → change ≡ merged_change H E block.now) }
-        ensures outrun { IfErr result (λ error. (V : List RawBytes) (H : ℕ) (E : List Entry) → Stands self.old H E → IsVenue V (relay_heard H block.now E)
-            → IsOutrun error (relayed_count H V E) (relayed_count H V (relay_heard H block.now E))) }
-        ensures heard { OnOk result ((count : ℕ) → HasHeard self.old count → HasHeard self.new (count + length block.now.raws)) }
-        ensures many { IfErr result (λ error. (count : ℕ) → HasHeard self.old count → IsSpentBy (count + length block.now.raws) error) }
+    fn hear_block(&mut self, block: &BlockView<'_>, out: &mut Vec<u8>) -> Result<Change, RelayError>
+        ensures stands { OnOk result (StandsAfter self.old self.new block.now) }
+        ensures sends { OnOk result
+            (AppendsRelayed self.old block.now out.old.items out.new.items) }
+        ensures change { IfOk result (IsChangeAfter self.old block.now) }
+        ensures outrun { IfErr result (OutrunsAfter self.old block.now) }
+        ensures heard { OnOk result (HearsFew self.old self.new block.now) }
+        ensures many { IfErr result (SpendsFew self.old block.now) }
+        ensures any { OnOk result
+            (AppendsAny self.old self.new block.now out.old.items out.new.items) }
         ensures unit { relay_unit_of self.new ≡ relay_unit_of self.old }
         ensures spent { self.new.spent ≡ self.old.spent }
         ensures out { OnErr result (out.new.items ≡ out.old.items) }
@@ -112,7 +112,7 @@ impl Relay {
                 more,
             });
         }
-        pack(self.alloc, self.unit, self.sent + 1, self.added.raws(), out)?;
+        append_packed(self.alloc, self.unit, self.sent + 1, self.added.raws(), out)?;
         self.sent += more as u32;
         Ok(change)
     }
@@ -122,27 +122,26 @@ impl Relay {
     /// A block with a sequence is one of a line. One without tells what a Spin Server says, or has
     /// messages of an image. Where an image is taken, what is sent is a Unit Clear and the image of
     /// the book as it is then; else it is the messages that were applied.
-    pub fn hear(
-        &mut self,
-        block: &BlockView<'_>,
-        out: &mut DatagramList,
-    ) -> Result<Change, RelayError>
+    pub fn hear(&mut self, block: &BlockView<'_>, out: &mut Vec<u8>) -> Result<Change, RelayError>
         // Whatever history the relay stood for, it now stands for that history and this block.
-        ensures stands { OnOk result ((H : ℕ) (E : List Entry) → Stands self.old H E → Stands self.new H (relay_heard H block.now E)) }
+        ensures stands { OnOk result (StandsAfter self.old self.new block.now) }
         // Of any venue of which that history speaks, what is appended is what it adds to what is
         // relayed, under the sequences behind those sent.
-        ensures sends { OnOk result ((V : List RawBytes) (H : ℕ) (E : List Entry) → Stands self.old H E → IsVenue V (relay_heard H block.now E)
-            → bytes_in out.new.items ≡ bytes_in out.old.items ++ relayed_datagrams H V (relay_unit_of self.old) E (relay_heard H block.now E)) }
+        ensures sends { OnOk result
+            (AppendsRelayed self.old block.now out.old.items out.new.items) }
         // The answer is what the block changes: the status before and after it, how many messages
         // were fresh and overflowed the hold, and the last end of an image.
-        ensures change { IfOk result (λ change. (H : ℕ) (E : List Entry) → Stands self.old H E → change ≡ merged_change H E block.now) }
+        ensures change { IfOk result (IsChangeAfter self.old block.now) }
         // The sequences are spent only where what is relayed then outruns the last one.
-        ensures outrun { IfErr result (λ error. (V : List RawBytes) (H : ℕ) (E : List Entry) → Stands self.old H E → IsVenue V (relay_heard H block.now E)
-            → IsOutrun error (relayed_count H V E) (relayed_count H V (relay_heard H block.now E))) }
+        ensures outrun { IfErr result (OutrunsAfter self.old block.now) }
         // Whatever it heard, it sends no more messages than it heard, and its sequences are spent
         // only where these are more than there are sequences.
-        ensures heard { OnOk result ((count : ℕ) → HasHeard self.old count → HasHeard self.new (count + length block.now.raws)) }
-        ensures many { IfErr result (λ error. (count : ℕ) → HasHeard self.old count → IsSpentBy (count + length block.now.raws) error) }
+        ensures heard { OnOk result (HearsFew self.old self.new block.now) }
+        ensures many { IfErr result (SpendsFew self.old block.now) }
+        // Whatever it heard, what is appended are messages behind all that it had sent, which leave
+        // the orders of the book that it follows then.
+        ensures any { OnOk result
+            (AppendsAny self.old self.new block.now out.old.items out.new.items) }
         ensures unit { relay_unit_of self.new ≡ relay_unit_of self.old }
         ensures out { OnErr result (out.new.items ≡ out.old.items) }
         // Once it was refused, the relay gives that answer again.

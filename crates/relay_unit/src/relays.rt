@@ -1,23 +1,19 @@
-ghost use Rattle.std.specs.Prelude.{◌≡◌, ◌≤◌, ◌+◌, ◌++◌, ℕ, List, [], ◌∷◌, OnOk, OnErr, IfOk, IfErr, length};
+ghost use Rattle.std.specs.Prelude.{◌≡◌, ◌≤◌, ◌++◌, [], OnOk, OnErr, IfOk, IfErr, length};
 ghost use Rattle.pitch_fields.specs.Limits.{most_held};
-ghost use Rattle.unit_packets.specs.Blocks.{Block};
-ghost use Rattle.unit_packets.specs.Packing.{bytes_in};
-ghost use Rattle.pitch_model.specs.History.{Raw};
-ghost use Rattle.relay_unit.specs.Changing.{merged_change};
-ghost use Rattle.relay_unit.specs.Hearing.{relay_heard, relay_history};
-ghost use Rattle.relay_unit.specs.RelayText.{IsVenue, AreRelayVenues, datagrams_after, sent_up_to};
-ghost use Rattle.relay_unit.specs.Relayed.{relayed_count, relayed_datagrams};
-ghost use Rattle.relay_unit.specs.Relays.{StandsAt, IsRelay, HaveRelayed};
-ghost use Rattle.relay_unit.specs.Sparing.{IsSpentBy, messages_heard};
-ghost use Rattle.relay_unit.specs.Stands.{IsOutrun};
+ghost use Rattle.relay_unit.specs.AnyRelays.{HaveSent, AppendAny, AppendsAnyAt};
+ghost use Rattle.relay_unit.specs.Calls.{HaveRelayedAfter, AppendVenues, AreChanged};
+ghost use Rattle.relay_unit.specs.Calls.{OutrunVenues, SpendFew};
+ghost use Rattle.relay_unit.specs.Places.{StandsThere, AppendsThere, ChangesThere};
+ghost use Rattle.relay_unit.specs.Places.{OutrunsThere, SpentThere};
+ghost use Rattle.relay_unit.specs.Relays.{HaveRelayed};
 
 use crate::relay::{Relay, RelayError};
 use client_core::Change;
 use pitch_fields::OutOfMemory;
 use std::alloc::Global;
 use std::marker::Model;
-use unit_clients::UNITS;
-use unit_packets::{BlockView, DatagramList};
+use unit_clients::empty_places;
+use unit_packets::BlockView;
 
 /// The relay of each unit that a block named. Each holds at most so many messages that came too
 /// early.
@@ -40,19 +36,8 @@ impl Model for Relays {
 
     ghost coded = { Prim.hlevel (codes, relay.the_row.coded) };
 
-    ghost invariant = { λ r. (1 ≤ r.limit) × (r.limit ≤ most_held) × (length r.relays.items ≡ 256) };
-}
-
-// No unit has a relay yet.
-fn no_relays(alloc: Global) -> Result<Vec<Option<Relay>>, OutOfMemory>
-    ensures relays { IfOk result (λ relays. (H : ℕ) → HaveRelayed (record { limit = H; relays = relays.items }) []) }
-    ensures many { IfOk result (λ relays. length relays.items ≡ 256) }
-{
-    let mut relays = Vec::with_capacity(alloc, UNITS)?;
-    for _ in 0..UNITS {
-        relays.push(None)?;
-    }
-    Ok(relays)
+    ghost invariant = { λ r. (1 ≤ r.limit) × (r.limit ≤ most_held)
+        × (length r.relays.items ≡ 256) };
 }
 
 // Hands a block to the relay at its unit's place, which is made where there is none.
@@ -61,18 +46,17 @@ fn hear_at(
     limit: u32,
     slot: &mut Option<Relay>,
     block: &BlockView<'_>,
-    out: &mut DatagramList,
+    out: &mut Vec<u8>,
 ) -> Result<Change, RelayError>
     requires { (1 ≤ limit) × (limit ≤ most_held) }
-    ensures stands { OnOk result ((before : List Block) → IsRelay limit before block.now.unit slot.old
-        → StandsAt limit block.now.unit (relay_heard limit block.now (relay_history limit block.now.unit before)) (messages_heard block.now.unit before + length block.now.raws) slot.new) }
-    ensures sends { OnOk result ((before : List Block) (V : List Raw) → IsRelay limit before block.now.unit slot.old → IsVenue V (relay_heard limit block.now (relay_history limit block.now.unit before))
-        → bytes_in out.new.items ≡ bytes_in out.old.items
-        ++ relayed_datagrams limit V block.now.unit (relay_history limit block.now.unit before) (relay_heard limit block.now (relay_history limit block.now.unit before))) }
-    ensures change { IfOk result (λ change. (before : List Block) → IsRelay limit before block.now.unit slot.old → change ≡ merged_change limit (relay_history limit block.now.unit before) block.now) }
-    ensures outrun { IfErr result (λ error. (before : List Block) (V : List Raw) → IsRelay limit before block.now.unit slot.old → IsVenue V (relay_heard limit block.now (relay_history limit block.now.unit before))
-        → IsOutrun error (relayed_count limit V (relay_history limit block.now.unit before)) (relayed_count limit V (relay_heard limit block.now (relay_history limit block.now.unit before)))) }
-    ensures many { IfErr result (λ error. (before : List Block) → IsRelay limit before block.now.unit slot.old → IsSpentBy (messages_heard block.now.unit before + length block.now.raws) error) }
+    ensures stands { OnOk result (StandsThere limit slot.old slot.new block.now) }
+    ensures sends { OnOk result
+        (AppendsThere limit slot.old block.now out.old.items out.new.items) }
+    ensures any { OnOk result
+        (AppendsAnyAt slot.old slot.new block.now out.old.items out.new.items) }
+    ensures change { IfOk result (ChangesThere limit slot.old block.now) }
+    ensures outrun { IfErr result (OutrunsThere limit slot.old block.now) }
+    ensures many { IfErr result (SpentThere limit slot.old block.now) }
     ensures out { OnErr result (out.new.items ≡ out.old.items) }
 {
     match slot {
@@ -92,8 +76,9 @@ impl Relays {
         requires { (1 ≤ limit) × (limit ≤ most_held) }
         ensures limit { IfOk result (λ relays. relays.limit ≡ limit) }
         ensures heard { IfOk result (λ relays. HaveRelayed relays []) }
+        ensures any { IfOk result (λ relays. HaveSent relays (λ unit. [])) }
     {
-        let relays = no_relays(alloc)?;
+        let relays = empty_places(alloc)?;
         Ok(Relays { limit, relays })
     }
 
@@ -104,23 +89,25 @@ impl Relays {
         &mut self,
         alloc: Global,
         block: &BlockView<'_>,
-        out: &mut DatagramList,
+        out: &mut Vec<u8>,
     ) -> Result<Change, RelayError>
         ensures limit { self.new.limit ≡ self.old.limit }
         // Whatever blocks came before, the relays then stand for these with the block after them.
-        ensures heard { OnOk result ((before : List Block) → HaveRelayed self.old before → HaveRelayed self.new (block.now ∷ before)) }
+        ensures heard { OnOk result (HaveRelayedAfter self.old self.new block.now) }
         // For every family of venues of which all these blocks speak, what is appended are the
         // block's datagrams.
-        ensures sends { OnOk result ((before : List Block) (Vs : ℕ → List Raw) → HaveRelayed self.old before → AreRelayVenues self.old.limit Vs (block.now ∷ before)
-            → bytes_in out.new.items ≡ bytes_in out.old.items ++ datagrams_after self.old.limit Vs before block.now) }
-        ensures change { IfOk result (λ change. (before : List Block) → HaveRelayed self.old before
-            → change ≡ merged_change self.old.limit (relay_history self.old.limit block.now.unit before) block.now) }
+        ensures sends { OnOk result
+            (AppendVenues self.old block.now out.old.items out.new.items) }
+        // Whatever they say, what is appended are messages of the unit behind all that its relay
+        // had sent, which leave the orders of the book that it follows then.
+        ensures any { OnOk result
+            (AppendAny self.old self.new block.now out.old.items out.new.items) }
+        ensures change { IfOk result (AreChanged self.old block.now) }
         // The sequences are spent only where the block outruns the last one.
-        ensures outrun { IfErr result (λ error. (before : List Block) (Vs : ℕ → List Raw) → HaveRelayed self.old before → AreRelayVenues self.old.limit Vs (block.now ∷ before)
-            → IsOutrun error (sent_up_to self.old.limit Vs block.now.unit before) (sent_up_to self.old.limit Vs block.now.unit (block.now ∷ before))) }
+        ensures outrun { IfErr result (OutrunVenues self.old block.now) }
         // Whatever the blocks say, they are spent only where those of the unit have more messages
         // than there are sequences.
-        ensures many { IfErr result (λ error. (before : List Block) → HaveRelayed self.old before → IsSpentBy (messages_heard block.now.unit (block.now ∷ before)) error) }
+        ensures many { IfErr result (SpendFew self.old block.now) }
         ensures out { OnErr result (out.new.items ≡ out.old.items) }
     {
         let unit = block.header().unit as usize;

@@ -1,11 +1,13 @@
 use Rattle.std.proofs.Common.{◌≡◌, ℕ, ◌+◌, List, ap, sym, ◌∙◌, arith}
 use Rattle.pitch_messages.specs.Room.{Roomy}
+use Rattle.client_core.specs.Tracks.{current_book}
 use Rattle.client_core.specs.Weight.{weight, told_by}
 use Rattle.pitch_model.specs.Image.{image}
 use Rattle.pitch_model.specs.Heard.{heard}
 use Rattle.pitch_model.specs.declared.change.Change.{Change}
 use Rattle.pitch_model.specs.declared.change.ImageEnd.TheVariants as end
 use Rattle.pitch_model.proofs.Images.{image_book}
+use Rattle.relay_unit.proofs.Following.{taken_sends, applied_sends}
 use Rattle.relay_unit.proofs.Growing.{sends_taken, sends_untaken}
 use Rattle.relay_unit.proofs.Weighed.{taken_weighs}
 use Rattle.relay_unit.proofs.hearing.hear_item.Goals as goal
@@ -42,3 +44,18 @@ returns-in_ok-image_of-clause-weighs c =
 
 pub returns-else-taken-clause-weighs : goal.returns-else-taken-clause-weighs
 returns-else-taken-clause-weighs c = c.in_ok-change.ensures.weighs (c.is_taken-taken.ensures.other c.if-taken.false)
+
+pub returns-in_ok-image_of-clause-any : goal.returns-in_ok-image_of-clause-any
+returns-in_ok-image_of-clause-any c =
+    let is : c.in_ok-change.change.image ≡ end.Taken = c.is_taken-taken.ensures.taken c.if-taken.true in
+    taken_sends (current_book c.args.client.now) c.book.result.now.book (current_book c.hear_into.new.self) c.write.result
+    c.args.sent.now.items c.hear_into.new.applied.items c.push.new.self.items c.image_of.new.out.items
+    (ap (λ (l : Roomy (List ℕ)). l.items) (c.in_ok-change.ensures.taken is)) c.in_ok-push.ensures.ok c.write.ensures.written
+    c.in_ok-image_of.ensures.ok c.in_ok-image_of.ensures.leaves c.book.ensures.same
+
+pub returns-else-taken-clause-any : goal.returns-else-taken-clause-any
+returns-else-taken-clause-any c =
+    let not : c.in_ok-change.change.image ≡ end.Taken → ⊥ = c.is_taken-taken.ensures.other c.if-taken.false in
+    let applies = c.in_ok-change.ensures.applies not in
+    applied_sends (current_book c.args.client.now) (current_book c.hear_into.new.self) c.args.sent.now.items c.hear_into.new.applied.items
+    applies.0 applies.1 applies.2.book_is

@@ -5,9 +5,10 @@ use Rattle.unit_packets.specs.declared.header.Header.{Header}
 use Rattle.pitch_model.specs.Honest.{Honest}
 use Rattle.pitch_model.specs.Image.{image}
 use Rattle.client_core.specs.Blocks.{Carries}
-use Rattle.client_core.specs.Tracks.{Tracks}
+use Rattle.client_core.specs.Tracks.{Tracks, current_book}
 use Rattle.client_core.proofs.Outcomes.{on_ok, if_ok}
 use Rattle.relay_unit.specs.Sending.{SendsOn}
+use Rattle.relay_unit.proofs.Following.{applied_sends}
 use Rattle.relay_unit.proofs.Growing.{sends_block}
 use Rattle.relay_unit.proofs.Merging.{merged_block, merged_block_change}
 use Rattle.relay_unit.proofs.hearing.hear_merged.Goals as goal
@@ -54,3 +55,17 @@ pub returns-clause-weighs : goal.returns-clause-weighs
 returns-clause-weighs c =
     let many = ap (λ (raws : List (List ℕ)). length raws) c.raws-2.ensures.raws in
     on_ok c.hear_block_into.result (λ weighs. omega arith) c.hear_block_into.ensures.weighs
+
+pub returns-clause-any : goal.returns-clause-any
+returns-clause-any c =
+    on_ok c.hear_block_into.result (λ applies.
+    applied_sends (current_book c.args.client.now) (current_book c.hear_block_into.new.self) c.args.sent.now.items c.hear_block_into.new.applied.items
+    applies.0 applies.1 applies.2.book_is) c.hear_block_into.ensures.applies
+
+pub returns-clause-line : goal.returns-clause-line
+returns-clause-line c =
+    on_ok c.hear_block_into.result (λ applies some. record {
+      more = applies.0;
+      appended = applies.1;
+      applied = applies.2.book_is;
+    }) c.hear_block_into.ensures.applies

@@ -5,7 +5,7 @@ use Rattle.relay_unit.specs.Hearing.{relay_history}
 use Rattle.relay_unit.specs.Relays.{IsRelay}
 use Rattle.relay_unit.specs.Sparing.{IsSpentBy, messages_heard}
 use Rattle.relay_unit.specs.declared.relay.RelayError.{RelayError}
-use Rattle.relay_unit.proofs.Units.{handed_on, new_relay}
+use Rattle.relay_unit.proofs.Units.{handed_on, new_relay, new_sends}
 use Rattle.relay_unit.proofs.relays.hear_at.Goals as goal
 
 -- a relay that was made here has heard nothing before
@@ -26,3 +26,10 @@ returns-in_ok-change-in-None-clause-stands c = λ before stands.
       (c.hear-in-None.ensures.unit ∙ fresh.unit ∙ ap (λ (h : Header). h.unit) c.header.ensures, heard.stands c.args.limit (relay_history c.args.limit block.unit before) there),
       heard.heard (messages_heard block.unit before) (fresh.heard (messages_heard block.unit before)),
     )
+
+pub returns-in_ok-change-in-None-clause-any : goal.returns-in_ok-change-in-None-clause-any
+returns-in_ok-change-in-None-clause-any c =
+    let fresh = c.in_ok-relay-in-None.ensures in
+    new_sends c.args.block.now c.in_ok-relay-in-None.relay c.hear-in-None.new.self c.args.slot.now c.args.out.now.items c.hear-in-None.new.out.items
+    c.in-None.is fresh.any fresh.empty (fresh.unit ∙ ap (λ (h : Header). h.unit) c.header.ensures) c.hear-in-None.ensures.unit
+    c.in_ok-change-in-None.ensures.any

@@ -1,10 +1,13 @@
-use Rattle.std.proofs.Common.{◌+◌, ◌++◌, List, ◌∷◌, length, drop, sym, ap, ◌∙◌, subst, arith}
-use Rattle.unit_packets.specs.Packing.{packed, bytes_in}
+use Rattle.std.proofs.Common.{ℕ, ◌+◌, ◌++◌, List, ◌∷◌, length, drop, sym, ap, ◌∙◌, subst, arith}
+use Rattle.std.specs.List.{concat}
+use Rattle.unit_packets.specs.Packing.{packed}
 use Rattle.pitch_model.specs.History.{Raw, Ticked}
-use Rattle.client_core.specs.Tracks.{Tracks}
+use Rattle.client_core.specs.Tracks.{Tracks, current_book}
+use Rattle.order_book.specs.Standing.{Standing}
 use Rattle.relay_unit.specs.Hearing.{heard_merged, relay_heard}
 use Rattle.relay_unit.specs.Relayed.{relayed}
 use Rattle.relay_unit.proofs.Counted.{counted, added_is, block_sends}
+use Rattle.relay_unit.proofs.Following.{block_sends_more}
 use Rattle.relay_unit.proofs.Speaking.{venue_ticked, venue_before}
 use Rattle.relay_unit.proofs.relay.Relay.hear_block.Goals as goal
 
@@ -40,8 +43,8 @@ returns-clause-sends c = λ V H E S v.
     let sent = S.sent_is V (venue_before H V block E v) in
     let all : List Raw = relayed H V (relay_heard H block E) in
     let unit = c.args.self.now.unit in
-    c.in_ok-pack.ensures.ok
-    ∙ ap (λ ds. bytes_in c.args.out.now.items ++ ds)
+    c.in_ok-append_packed.ensures.ok
+    ∙ ap (λ ds. c.args.out.now.items ++ concat ds)
     (ap (packed unit (c.args.self.now.sent + 1)) (c.raws.ensures ∙ sym (added_is c.args.self.now.sent (relayed H V E) all c.hear_merged.new.sent.items (block_sends H V block E c.truncate.new.self.items c.hear_merged.new.sent.items c.truncate.ensures.items
     (c.in_ok-change.ensures.sends V H E S.tracks (venue_ticked H V block E v) (S.keeps V (venue_before H V block E v)))) sent))
     ∙ ap (λ n. packed unit (n + 1) (drop n all)) sent)
@@ -63,3 +66,12 @@ returns-then-more-self-clause-many c = λ count heard.
     let more = c.len-more.ensures.length in
     let past = c.if-more-self.true in
     omega arith
+
+pub returns-clause-any : goal.returns-clause-any
+returns-clause-any c =
+    let heard = c.in_ok-change.ensures in
+    block_sends_more c.args.self.now _ (current_book c.hear_merged.new.client) c.args.block.now c.truncate.new.self.items c.hear_merged.new.sent.items
+    c.args.out.now.items c.append_packed.new.out.items
+    c.truncate.ensures.items heard.any heard.line (ap (λ (b : Standing). b.book) c.tick.ensures.still.book_is)
+    (c.in_ok-append_packed.ensures.ok ∙ ap (λ (raws : List Raw). c.args.out.now.items ++ concat (packed c.args.self.now.unit (c.args.self.now.sent + 1) raws)) c.raws.ensures)
+    (ap (λ (n : ℕ). c.args.self.now.sent + n) c.len-more.ensures.length)

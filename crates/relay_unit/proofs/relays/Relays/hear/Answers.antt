@@ -1,15 +1,16 @@
 use Rattle.std.proofs.Common.{rules, ◌≡◌, ◌++◌, ℕ, ◌<◌, List, ◌∷◌, Some, sym, ap, ◌∙◌, subst, slice_get, length, refl}
+use Rattle.std.proofs.Math.ListN.{set}
 use Rattle.std.proofs.lemmas.Option.{slice_get_read}
 use Rattle.unit_packets.specs.Blocks.{Block}
-use Rattle.unit_packets.specs.Packing.{bytes_in}
 use Rattle.unit_packets.specs.declared.header.Header.{Header}
+use Rattle.relay_unit.specs.AnyRelays.{AppendAny}
 use Rattle.relay_unit.specs.Changing.{merged_change}
 use Rattle.relay_unit.specs.Hearing.{relay_history, relay_heard}
-use Rattle.relay_unit.specs.RelayText.{IsVenue, datagrams_after}
+use Rattle.relay_unit.specs.RelayText.{IsVenue, relayed_after}
 use Rattle.relay_unit.specs.Relays.{Relays, IsRelay, HaveRelayed}
 use Rattle.relay_unit.specs.Sparing.{IsSpentBy, messages_heard}
 use Rattle.relay_unit.specs.declared.relay.RelayError.{RelayError}
-use Rattle.relay_unit.proofs.Units.{relays_hear, history_same, handed_on, spent_same}
+use Rattle.relay_unit.proofs.Units.{relays_hear, relays_send, history_same, handed_on, spent_same}
 use Rattle.relay_unit.proofs.relays.Relays.hear.Goals as goal
 
 -- the relays as they were at the call
@@ -46,7 +47,7 @@ returns-clause-sends c = λ before Vs heard venues.
     subst (λ (H : ℕ). IsVenue (Vs block.unit) (relay_heard H block (relay_history H block.unit before))) (sym limit_is)
     (subst (IsVenue (Vs block.unit)) (history_same c.args.self.now.limit block before) (venues block.unit)) in
     c.in_ok-change.ensures.sends before (Vs block.unit) (stood c before known) there
-    ∙ ap (λ (H : ℕ). bytes_in c.args.out.now.items ++ datagrams_after H Vs before block) limit_is
+    ∙ ap (λ (H : ℕ). c.args.out.now.items ++ relayed_after H Vs before block) limit_is
 
 pub returns-clause-change : goal.returns-clause-change
 returns-clause-change c = λ before heard.
@@ -68,3 +69,13 @@ returns-in_err-change-clause-many c =
     slice_get_read c.self.inside.relays.items (length c.self.inside.relays.items) c.header-unit.result.unit c.index_mut.result.now refl lt c.index_mut.ensures.value in
     let there = subst (λ (n : ℕ). IsRelay c.self.inside.limit before n c.index_mut.result.now) named (known.each c.header-unit.result.unit c.index_mut.result.now at) in
     spent_same block before c.in_err-change.field-0.0 (c.in_err-change.ensures.many before there))
+
+pub returns-clause-any : goal.returns-clause-any
+returns-clause-any c =
+    let lt : c.header-unit.result.unit < length c.self.inside.relays.items = search rules in
+    let at : slice_get c.self.inside.relays.items c.header-unit.result.unit ≡ Some c.index_mut.result.now =
+    slice_get_read c.self.inside.relays.items (length c.self.inside.relays.items) c.header-unit.result.unit c.index_mut.result.now refl lt c.index_mut.ensures.value in
+    let after : Relays = record { limit = c.self.inside.limit; relays = set c.self.inside.relays.items c.header-unit.result.unit c.hear_at.new.slot } in
+    subst (λ (r : Relays). AppendAny r after c.args.block.now c.args.out.now.items c.hear_at.new.out.items) c.self.view_is
+    (relays_send c.self.inside.limit c.header-unit.result.unit c.self.inside.relays.items c.index_mut.result.now c.hear_at.new.slot c.args.block.now
+    c.args.out.now.items c.hear_at.new.out.items (unit_is c) lt at c.in_ok-change.ensures.any)

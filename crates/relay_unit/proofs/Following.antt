@@ -1,0 +1,191 @@
+-- What a relay sends of any input, step by step, and that its followers have its orders.
+use Rattle.std.proofs.Common.{◌≡◌, ◌≢◌, ℕ, zero, suc, ◌+◌, inl, inr, take, List, [], ◌∷◌, ◌++◌, length, length-append, fold, Option, Some, None, refl, sym, ap, ◌∙◌, subst, append_assoc}
+use Rattle.std.specs.List.{concat}
+use Rattle.std.specs.Option.{option_or}
+use Rattle.std.specs.FinMap as finite
+use Rattle.std.proofs.lemmas.List.{append-nil}
+use Rattle.std.proofs.lemmas.List.Sums.{fold-append}
+use Rattle.pitch_messages.specs.declared.message.Message.TheVariants.{UnitClear}
+use Rattle.pitch_messages.specs.Writing.{written}
+use Rattle.pitch_model.specs.History.{Raw}
+use Rattle.pitch_model.specs.Book.{Book, empty_book, cleared, after, book_after}
+use Rattle.pitch_model.specs.Image.{image_of}
+use Rattle.unit_packets.specs.Blocks.{Block}
+use Rattle.unit_packets.specs.Packing.{packed}
+use Rattle.client_core.specs.Tracks.{Keeps, current_book}
+use Rattle.client_core.specs.declared.client.UnitClient.{UnitClient}
+use Rattle.relay_unit.specs.Following.{IsStep, AreSteps, sent_in, Sends, Shows, HasSent, SendsMore}
+use Rattle.relay_unit.specs.Sending.{SendsFor, SendsApplied}
+use Rattle.relay_unit.specs.Stands.{followed_book, relay_unit_of}
+use Rattle.relay_unit.specs.declared.relay.Relay.{Relay}
+use Rattle.relay_unit.proofs.Laying.{LaidOver, fold_laid, cleared_laid}
+use Rattle.relay_unit.proofs.Sending.{clears}
+
+-- ---- Steps
+-- nothing is sent where the book stays
+pub no_steps : (book book' : Book) → book' ≡ book → Sends book [] book'
+no_steps book book' same = record { steps = []; are = same; joined = refl }
+
+pub one_step : (book book' : Book) (raws : List Raw) → IsStep book raws book' → Sends book raws book'
+one_step book book' raws step = record {
+  steps = (raws, book') ∷ [];
+  are = (step, refl);
+  joined = sym (append-nil raws);
+}
+
+steps_then : (book book' book'' : Book) (steps more : List (List Raw × Book))
+    → AreSteps book steps book' → AreSteps book' more book'' → AreSteps book (steps ++ more) book''
+steps_then book book' book'' [] more same next = subst (λ (b : Book). AreSteps b more book'') same next
+steps_then book book' book'' (step ∷ steps) more are next = (are.0, steps_then step.1 book' book'' steps more are.1 next)
+
+sent_then : (steps more : List (List Raw × Book)) → sent_in (steps ++ more) ≡ sent_in steps ++ sent_in more
+sent_then [] more = refl
+sent_then (step ∷ steps) more =
+    ap (λ (rs : List Raw). step.0 ++ rs) (sent_then steps more) ∙ sym (append_assoc step.0 (sent_in steps) (sent_in more))
+
+pub sends_then : (book book' book'' : Book) (raws more : List Raw) → Sends book raws book' → Sends book' more book'' → Sends book (raws ++ more) book''
+sends_then book book' book'' raws more s t = record {
+  steps = s.steps ++ t.steps;
+  are = steps_then book book' book'' s.steps t.steps s.are t.are;
+  joined = ap (λ (rs : List Raw). rs ++ more) s.joined ∙ ap (λ (rs : List Raw). sent_in s.steps ++ rs) t.joined ∙ sym (sent_then s.steps t.steps);
+}
+
+pub sends_to : (book book' same : Book) (raws : List Raw) → book' ≡ same → Sends book raws book' → Sends book raws same
+sends_to book book' same raws e s = subst (Sends book raws) e s
+
+-- ---- What the code appends
+pub sends_nothing : (book : Book) (sent : List Raw) → SendsFor book book sent sent
+sends_nothing book sent = record { more = []; appended = sym (append-nil sent); sends = no_steps book book refl }
+
+pub sends_again : (book book' book'' : Book) (sent sent' sent'' : List Raw)
+    → SendsFor book book' sent sent' → SendsFor book' book'' sent' sent'' → SendsFor book book'' sent sent''
+sends_again book book' book'' sent sent' sent'' s t = record {
+  more = s.more ++ t.more;
+  appended = t.appended ∙ ap (λ (rs : List Raw). rs ++ t.more) s.appended ∙ append_assoc sent s.more t.more;
+  sends = sends_then book book' book'' s.more t.more s.sends t.sends;
+}
+
+pub applied_sends : (book book' : Book) (sent sent' more : List Raw)
+    → sent' ≡ sent ++ more → book' ≡ fold after book more → SendsFor book book' sent sent'
+applied_sends book book' sent sent' more appended applied = record {
+  more = more;
+  appended = appended;
+  sends = one_step book book' more (inl applied);
+}
+
+pub taken_sends : (old book book' : Book) (clear : Raw) (sent sent1 sent2 sent3 : List Raw)
+    → sent1 ≡ sent → sent2 ≡ sent1 ++ clear ∷ [] → clear ≡ written (UnitClear 0) → sent3 ≡ sent2 ++ image_of book
+    → book_after (image_of book) ≡ book → book ≡ book' → SendsFor old book' sent sent3
+taken_sends old book book' clear sent sent1 sent2 sent3 one two clears three leaves same = record {
+  more = written (UnitClear 0) ∷ image_of book;
+  appended =
+      three ∙ ap (λ (rs : List Raw). rs ++ image_of book) two
+      ∙ ap (λ (rs : List Raw). (rs ++ clear ∷ []) ++ image_of book) one
+      ∙ ap (λ (c : Raw). (sent ++ c ∷ []) ++ image_of book) clears
+      ∙ append_assoc sent (written (UnitClear 0) ∷ []) (image_of book);
+  sends = sends_to old book book' (written (UnitClear 0) ∷ image_of book) same
+      (one_step old book (written (UnitClear 0) ∷ image_of book) (inr (record { raws_are = refl; leaves = leaves })));
+}
+
+-- ---- A block
+-- what is sent before the first
+pub nothing_sent : (relay : Relay) → relay.sent ≡ 0 → followed_book relay ≡ empty_book → HasSent relay []
+nothing_sent relay none empty = record { count_is = none; sends = no_steps empty_book (followed_book relay) empty }
+
+-- a client that keeps the messages of a venue which has sent none has an empty book
+pub kept_nothing : (client : UnitClient) → Keeps client [] → current_book client ≡ empty_book
+kept_nothing client keeps = keeps.book_is ∙ ap book_after (none_taken client.hold.floor)
+  where
+    none_taken : (n : ℕ) → ◌≡◌ {A = List Raw} (take n []) []
+    none_taken zero = refl
+    none_taken (suc n) = refl
+
+-- what a relay appends for a block, where `items` are what it adds and `book` is its client's then
+pub block_sends_more : (r r' : Relay) (book : Book) (block : Block) (none items : List Raw) (out out' : List ℕ)
+    → none ≡ [] → SendsFor (followed_book r) book none items
+    → (block.sequence ≢ 0 → SendsApplied (followed_book r) book none items)
+    → followed_book r' ≡ book
+    → out' ≡ out ++ concat (packed (relay_unit_of r) (r.sent + 1) items)
+    → r'.sent ≡ r.sent + length items
+    → (sent : List Raw) → HasSent r sent
+    → (added : List ℕ) × (out' ≡ out ++ added) × SendsMore r r' block sent added
+block_sends_more r r' book block none items out out' empty any line book_is appended counted sent S =
+    let after_none = λ (more : List Raw). ap (λ (rs : List Raw). rs ++ more) empty in
+    let all : any.more ≡ items = sym (any.appended ∙ after_none any.more) in
+    let sends : Sends (followed_book r) items (followed_book r') =
+    subst (Sends (followed_book r) items) (sym book_is) (subst (λ (rs : List Raw). Sends (followed_book r) rs book) all any.sends) in (
+      concat (packed (relay_unit_of r) (length sent + 1) items),
+      appended ∙ ap (λ (n : ℕ). out ++ concat (packed (relay_unit_of r) (n + 1) items)) S.count_is,
+      record {
+        more = items;
+        added_is = refl;
+        sends = sends;
+        line = λ some.
+            let l = line some in
+            book_is ∙ l.applied ∙ ap (fold after (followed_book r)) (sym (l.appended ∙ after_none l.more));
+        sent_is = record {
+          count_is = counted ∙ ap (λ (n : ℕ). n + length items) S.count_is ∙ sym (length-append sent items);
+          sends = sends_then empty_book (followed_book r) (followed_book r') sent items S.sends sends;
+        };
+      },
+    )
+
+-- ---- Whoever follows
+-- what is laid over what it has itself
+shows_laid : (book other : Book) → Shows book other → LaidOver book other book
+shows_laid book other s = record {
+  orders_are = s.orders_are;
+  second_is = by other.second refl;
+  statuses_are = λ q. at q (finite.get other.statuses q) refl;
+}
+  where
+    by : (known : Option ℕ) → other.second ≡ known → book.second ≡ option_or known book.second
+    by None e = refl
+    by (Some second) e = s.clock second e
+
+    at : (q : List ℕ) (known : Option (ℕ × ℕ)) → finite.get other.statuses q ≡ known → finite.get book.statuses q ≡ option_or known (finite.get book.statuses q)
+    at q None e = refl
+    at q (Some status) e = s.statuses q status e
+
+laid_shows : (below other book : Book) → LaidOver below other book → Shows book other
+laid_shows below other book l = record {
+  orders_are = l.orders_are;
+  clock = λ second e. l.second_is ∙ ap (λ (o : Option ℕ). option_or o below.second) e;
+  statuses = λ q status e. l.statuses_are q ∙ ap (λ (o : Option (ℕ × ℕ)). option_or o (finite.get below.statuses q)) e;
+}
+
+pub shows_same : (book other : Book) → book ≡ other → Shows book other
+shows_same book other e = record {
+  orders_are = ap (λ (b : Book). b.orders) e;
+  clock = λ second f. ap (λ (b : Book). b.second) e ∙ f;
+  statuses = λ q status f. ap (λ (b : Book). finite.get b.statuses q) e ∙ f;
+}
+
+-- a follower applies the messages of a step
+step_shows : (follower book book' : Book) (raws : List Raw) → Shows follower book → IsStep book raws book' → Shows (fold after follower raws) book'
+step_shows follower book book' raws s (inl applied) =
+    laid_shows follower book' (fold after follower raws)
+    (subst (λ (b : Book). LaidOver follower b (fold after follower raws)) (sym applied)
+    (fold_laid follower book follower raws (shows_laid follower book s)))
+step_shows follower book book' raws s (inr imaged) =
+    let anew = fold_laid follower empty_book (cleared follower) (image_of book') (cleared_laid follower) in
+    let all : fold after follower raws ≡ fold after (cleared follower) (image_of book') =
+    ap (fold after follower) imaged.raws_are ∙ ap (λ (b : Book). fold after b (image_of book')) (clears follower) in
+    laid_shows follower book' (fold after follower raws)
+    (subst (LaidOver follower book') (sym all)
+    (subst (λ (b : Book). LaidOver follower b (fold after (cleared follower) (image_of book'))) imaged.leaves anew))
+
+steps_show : (follower book book' : Book) (steps : List (List Raw × Book)) → Shows follower book → AreSteps book steps book' → Shows (fold after follower (sent_in steps)) book'
+steps_show follower book book' [] s same = subst (Shows follower) (sym same) s
+steps_show follower book book' (step ∷ steps) s are =
+    subst (λ (b : Book). Shows b book') (sym (fold-append after follower step.0 (sent_in steps)))
+    (steps_show (fold after follower step.0) step.1 book' steps (step_shows follower book step.1 step.0 s are.0) are.1)
+
+pub followers_show : (follower book book' : Book) (raws : List Raw) → Shows follower book → Sends book raws book' → Shows (fold after follower raws) book'
+followers_show follower book book' raws s sends =
+    subst (λ (rs : List Raw). Shows (fold after follower rs) book') (sym sends.joined)
+    (steps_show follower book book' sends.steps s sends.are)
+
+pub relays_show : (relay : Relay) (raws : List Raw) → HasSent relay raws → Shows (book_after raws) (followed_book relay)
+relays_show relay raws S =
+    followers_show empty_book empty_book (followed_book relay) raws (shows_same empty_book empty_book refl) S.sends
