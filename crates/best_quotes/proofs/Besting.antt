@@ -4,7 +4,6 @@ use Rattle.std.specs.Str.{bytes_eq}
 use Rattle.std.specs.List.{AllByRecursion}
 use Rattle.std.specs.Set.{is_member}
 use Rattle.std.specs.FinMap as finite
-use Rattle.std.specs.BTreeMap.{BTreeMap, get}
 use Rattle.std.proofs.lemmas.Bool.{false≢true, or_left, or_right, or_cases, eqb-true, eq-eqb}
 use Rattle.std.proofs.lemmas.Cmp.{nat_cmp_total}
 use Rattle.std.proofs.lemmas.Option.{none-some, same_Some}
@@ -16,8 +15,7 @@ use Rattle.pitch_model.specs.Book.{Book, IsBook}
 use Rattle.pitch_model.specs.Levels.{same_side, better, level, best, orders_on, orders_of, prices_on}
 use Rattle.pitch_model.proofs.Prices.{best-some, best-none}
 use Rattle.pitch_model.proofs.Putting.{all_found, sorted_entries}
-use Rattle.best_quotes.specs.Leveling.{key_cmp, standing, Has, IsNearest}
-use Rattle.best_quotes.specs.declared.levels.Level.{Level}
+use Rattle.best_quotes.specs.Leveling.{standing, Entries, level_in, Has, IsNearest}
 
 abbrev at_price : ℕ → List Order → ℕ
 at_price price orders = sum_by (λ order. order.quantity) (filter (λ order. price == order.price) orders)
@@ -131,13 +129,12 @@ standing_is_some n some = by (n == 0) refl
     by true f = let zero = eqb-true n 0 f in absurd (omega arith)
     by false f = refl
 
-module _ (levels : BTreeMap Level ℕ) (symbol : List ℕ) (side : Side) (book : Book) (is : IsBook book) (has : Has levels (level book)) where
-  pub none_there : IsNearest levels symbol side None → None ≡ best book symbol side
-  none_there none = no_level_no_best book is symbol side (λ q. standing_none (level book symbol side q) (sym (has symbol side q) ∙ none q))
-
-  pub best_there : (found : Level × ℕ) → IsNearest levels symbol side (Some found) → Some (found.0.price, found.1) ≡ best book symbol side
-  best_there found near =
-      let there : standing (level book symbol side found.0.price) ≡ Some found.1 = sym (has symbol side found.0.price) ∙ ap (get key_cmp levels) (sym near.0) ∙ near.1 in
-      let parts = standing_some (level book symbol side found.0.price) found.1 there in
-      level_is_best book is symbol side found.0.price found.1 parts.0 parts.1
-      (λ q some. near.2 q (subst IsSome (sym (has symbol side q)) (standing_is_some (level book symbol side q) some)))
+-- the nearest level is the best
+pub nearest_is_best : (levels : Entries) (symbol : List ℕ) (side : Side) (book : Book) → IsBook book → Has levels (level book)
+    → (found : Option (ℕ × ℕ)) → IsNearest side (level_in levels symbol side) found → found ≡ best book symbol side
+nearest_is_best levels symbol side book is has None near =
+    no_level_no_best book is symbol side (λ q. standing_none (level book symbol side q) (sym (has symbol side q) ∙ near q))
+nearest_is_best levels symbol side book is has (Some found) near =
+    let parts = standing_some (level book symbol side found.0) found.1 (sym (has symbol side found.0) ∙ near.0) in
+    level_is_best book is symbol side found.0 found.1 parts.0 parts.1
+    (λ q some. near.1 q (subst IsSome (sym (has symbol side q)) (standing_is_some (level book symbol side q) some)))

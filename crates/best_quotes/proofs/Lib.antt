@@ -1,7 +1,8 @@
 pub mod Telling
 pub mod Lasting
 pub mod Balancing
-pub mod Keys
+pub mod Pricing
+pub mod Sided
 pub mod Besting
 pub mod Listing
 pub mod Moving

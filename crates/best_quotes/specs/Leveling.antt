@@ -1,64 +1,105 @@
--- Levels in an ordered map: under each symbol, side and price what is open there, where anything is.
-use Rattle.std.specs.Prelude.{◌≡◌, ℕ, ◌+◌, ◌-◌, Bool, true, false, not, ◌&&◌, ◌==◌, cond, List, bytes_eq, Option, Some, None, IsSome, if◌then◌else◌}
-use Rattle.std.specs.declared.cmp.Ordering.{Ordering}
-use Rattle.std.specs.Ordering.{nat_cmp, bool_cmp, is_eq, ordering_then}
-use Rattle.std.specs.Cmp.Lexicographic.{slice_cmp}
+-- Levels in maps: for each symbol what is open on either side at each price, where anything is.
+use Rattle.std.specs.Prelude.{◌≡◌, ℕ, ◌+◌, ◌-◌, ◌==◌, cond, List, bytes_eq, Option, Some, None, IsSome, if◌then◌else◌}
+use Rattle.std.specs.Map.{lookup}
+use Rattle.std.specs.Ordering.{nat_cmp}
 use Rattle.std.specs.BTreeMap.{BTreeMap, get}
 use Rattle.pitch_fields.specs.declared.side.Side.{Side}
 use Rattle.pitch_fields.specs.declared.side.Side.TheVariants.{Buy, Sell}
 use Rattle.pitch_messages.specs.declared.order.Order.{Order}
-use Rattle.pitch_model.specs.Levels.{better}
-use Rattle.best_quotes.specs.Balance.{shares_at}
-use Rattle.best_quotes.specs.declared.levels.Level.{Level}
-
--- to sell comes after to buy
-abbrev pub is_to_sell : Side → Bool
-is_to_sell Buy = false
-is_to_sell Sell = true
-
--- the key of a symbol, side and price
-abbrev pub key_of : List ℕ → Side → ℕ → Level
-key_of symbol side price = record { symbol = symbol; sells = is_to_sell side; price = price }
-
--- a key is one of a symbol on a side
-abbrev pub sells_on : Side → Bool → Bool
-sells_on Buy sells = not sells
-sells_on Sell sells = sells
-
-abbrev pub is_on : List ℕ → Side → Level → Bool
-is_on symbol side key = bytes_eq key.symbol symbol && sells_on side key.sells
-
--- the order of keys: by symbol, those to buy before those to sell, and by rising price
-abbrev pub key_cmp : Level → Level → Ordering
-key_cmp x y = ordering_then (slice_cmp nat_cmp x.symbol y.symbol) (ordering_then (bool_cmp x.sells y.sells) (nat_cmp x.price y.price))
+use Rattle.pitch_model.specs.Levels.{better, same_side}
+use Rattle.best_quotes.specs.Balance.{shares_of}
+use Rattle.best_quotes.specs.declared.levels.Sides.{Sides}
 
 -- shares that stand in a map: none stand as nothing
 abbrev pub standing : ℕ → Option ℕ
 standing n = if n == 0 then None else Some n
 
+-- ---- One side of a symbol
+-- the shares at each price
+abbrev pub Prices : Type 0
+Prices = BTreeMap ℕ ℕ
+
+-- a map has so many shares at each price, and no others
+abbrev pub HasPrices : Prices → (ℕ → ℕ) → Type 0
+HasPrices prices shares = (price : ℕ) → get nat_cmp prices price ≡ standing (shares price)
+
+-- the shares at a price were set to so many, and no others changed
+abbrev pub SetsPrice : Prices → ℕ → ℕ → Prices → Type 0
+SetsPrice prices price n prices' =
+    (other : ℕ) → get nat_cmp prices' other ≡ cond (price == other) (standing n) (get nat_cmp prices other)
+
+-- the shares of an order at a price; none where it has another one
+abbrev pub priced : ℕ → Option Order → ℕ
+priced price None = 0
+priced price (Some order) = cond (price == order.price) order.quantity 0
+
+-- shares without those of one order, and with those of another
+abbrev pub moved_at : Option Order → Option Order → (ℕ → ℕ) → ℕ → ℕ
+moved_at before now shares = λ price. (shares price - priced price before) + priced price now
+
+-- one order became another
+abbrev pub MovesPrices : Option Order → Option Order → Prices → Prices → Type 0
+MovesPrices before now prices prices' =
+    (shares : ℕ → ℕ) → HasPrices prices shares → HasPrices prices' (moved_at before now shares)
+
+-- a price with its shares, which none of the others is better than; or there is none
+abbrev pub IsNearest : Side → (ℕ → Option ℕ) → Option (ℕ × ℕ) → Type 0
+IsNearest side shares None = (price : ℕ) → shares price ≡ None
+IsNearest side shares (Some best) =
+    (shares best.0 ≡ Some best.1) × ((price : ℕ) → IsSome (shares price) → better side best.0 price ≡ best.0)
+
+-- ---- All symbols
+abbrev pub Entries : Type 0
+Entries = List (List ℕ × Sides)
+
+abbrev pub side_of : Side → Sides → Prices
+side_of Buy sides = sides.buy
+side_of Sell sides = sides.sell
+
+-- what stands at a price of a side, where the symbol has sides
+abbrev pub level_of : Side → ℕ → Option Sides → Option ℕ
+level_of side price None = None
+level_of side price (Some sides) = get nat_cmp (side_of side sides) price
+
+-- what stands for a symbol on a side at a price
+abbrev pub level_in : Entries → List ℕ → Side → ℕ → Option ℕ
+level_in levels symbol side price = level_of side price (lookup (bytes_eq symbol) levels)
+
 -- shares by symbol, side and price
 abbrev pub Shares : Type 0
 Shares = List ℕ → Side → ℕ → ℕ
 
--- a map has these shares, and no others
-abbrev pub Has : BTreeMap Level ℕ → Shares → Type 0
-Has levels shares = (symbol : List ℕ) (side : Side) (price : ℕ) → get key_cmp levels (key_of symbol side price) ≡ standing (shares symbol side price)
+-- the levels have these shares, and no others
+abbrev pub Has : Entries → Shares → Type 0
+Has levels shares =
+    (symbol : List ℕ) (side : Side) (price : ℕ)
+    → level_in levels symbol side price ≡ standing (shares symbol side price)
 
--- the shares at a key were set to so many, and no others changed
-abbrev pub Sets : BTreeMap Level ℕ → Level → ℕ → BTreeMap Level ℕ → Type 0
-Sets levels key n levels' = (other : Level) → get key_cmp levels' other ≡ cond (is_eq (key_cmp key other)) (standing n) (get key_cmp levels other)
+-- the same stands in both
+abbrev pub SameLevels : Entries → Entries → Type 0
+SameLevels levels levels' =
+    (symbol : List ℕ) (side : Side) (price : ℕ)
+    → level_in levels' symbol side price ≡ level_in levels symbol side price
 
--- without the shares of an order
-abbrev pub without : Order → Shares → Shares
-without order shares = λ symbol side price. shares symbol side price - shares_at symbol side price order
+-- shares without those of one order, and with those of another
+abbrev pub moved : Option Order → Option Order → Shares → Shares
+moved before now shares = λ symbol side price.
+    (shares symbol side price - shares_of symbol side price before) + shares_of symbol side price now
 
--- with those of an order
-abbrev pub with : Order → Shares → Shares
-with order shares = λ symbol side price. shares symbol side price + shares_at symbol side price order
+-- an order is one of a symbol on a side, where there is one
+abbrev pub IsOn : List ℕ → Side → Option Order → Type 0
+IsOn symbol side None = Unit {0}
+IsOn symbol side (Some order) = (order.symbol ≡ symbol) × (order.side ≡ side)
 
--- the level of a symbol on a side that is found, which none there is better than; or there is none
-abbrev pub IsNearest : BTreeMap Level ℕ → List ℕ → Side → Option (Level × ℕ) → Type 0
-IsNearest levels symbol side None = (price : ℕ) → get key_cmp levels (key_of symbol side price) ≡ None
-IsNearest levels symbol side (Some found) =
-    (found.0 ≡ key_of symbol side found.0.price) × (get key_cmp levels found.0 ≡ Some found.1)
-    × ((price : ℕ) → IsSome (get key_cmp levels (key_of symbol side price)) → better side found.0.price price ≡ found.0.price)
+-- one order became another in the levels
+abbrev pub MovesLevels : Option Order → Option Order → Entries → Entries → Type 0
+MovesLevels before now levels levels' =
+    (shares : Shares) → Has levels shares → Has levels' (moved before now shares)
+
+-- one order of a symbol on a side became another one of it, and these are the bests of the side
+-- before and after
+pub record TurnsSide (levels levels' : Entries) (symbol : List ℕ) (side : Side) (before now : Option Order)
+    (bests : Option (ℕ × ℕ) × Option (ℕ × ℕ)) : Type 0 where
+  pub moves : MovesLevels before now levels levels'
+  pub was : IsNearest side (level_in levels symbol side) bests.0
+  pub is : IsNearest side (level_in levels' symbol side) bests.1

@@ -1,8 +1,8 @@
 -- A message that turns one book into another, its levels into the other's, and tells the changes.
 use Rattle.std.specs.Prelude.{◌≡◌, ◌⊎◌, ℕ, ◌+◌, ◌-◌, true, IsSome, List, ◌++◌, Option, None, Some}
+use Rattle.std.specs.List.{flat_map}
 use Rattle.std.specs.Ordering.{nat_cmp}
 use Rattle.std.specs.Cmp.Lexicographic.{slice_cmp}
-use Rattle.std.specs.BTreeMap.{BTreeMap, get}
 use Rattle.std.specs.BTreeSet.{BTreeSet, contains}
 use Rattle.std.specs.FinMap as finite
 use Rattle.pitch_fields.specs.declared.side.Side.{Side}
@@ -12,8 +12,7 @@ use Rattle.pitch_model.specs.Book.{Book, IsBook}
 use Rattle.pitch_model.specs.Levels.{level, best}
 use Rattle.best_quotes.specs.Balance.{shares_of}
 use Rattle.best_quotes.specs.Changes.{changes, change_between}
-use Rattle.best_quotes.specs.Leveling.{Has, Shares, key_cmp}
-use Rattle.best_quotes.specs.declared.levels.Level.{Level}
+use Rattle.best_quotes.specs.Leveling.{Entries, Has, level_in}
 use Rattle.best_quotes.specs.declared.quote.Quote.{Quote}
 use Rattle.best_quotes.specs.declared.bests.Bests.{Bests}
 
@@ -23,13 +22,15 @@ bests_of book symbol = record { buy = best book symbol Buy; sell = best book sym
 
 -- the quotes of a symbol whose bests become others
 abbrev pub changes_between : List ℕ → Bests → Bests → List Quote
-changes_between symbol before now = change_between symbol Buy before.buy now.buy ++ change_between symbol Sell before.sell now.sell
+changes_between symbol before now =
+    change_between symbol Buy before.buy now.buy ++ change_between symbol Sell before.sell now.sell
 
 -- the levels of the new book are those of the old one, without the old order of the id and with
 -- the new one
 abbrev pub Moves : Book → Book → ℕ → Type 0
 Moves old new id = (symbol : List ℕ) (side : Side) (price : ℕ)
-    → level new symbol side price + shares_of symbol side price (finite.get old.orders id) ≡ level old symbol side price + shares_of symbol side price (finite.get new.orders id)
+    → level new symbol side price + shares_of symbol side price (finite.get old.orders id)
+    ≡ level old symbol side price + shares_of symbol side price (finite.get new.orders id)
 
 -- an order of an id becomes another
 pub record Becomes (old new : Book) (id : ℕ) (before now : Option Order) : Type 0 where
@@ -37,23 +38,19 @@ pub record Becomes (old new : Book) (id : ℕ) (before now : Option Order) : Typ
   pub is : finite.get new.orders id ≡ now
   pub moves : Moves old new id
 
--- shares without those of an order, with those of one, and without one's and then with another's
-abbrev pub without_any : Option Order → Shares → Shares
-without_any order shares = λ symbol side price. shares symbol side price - shares_of symbol side price order
-
-abbrev pub with_any : Option Order → Shares → Shares
-with_any order shares = λ symbol side price. shares symbol side price + shares_of symbol side price order
-
-abbrev pub moved : Option Order → Option Order → Shares → Shares
-moved before now shares = with_any now (without_any before shares)
-
 -- the levels of the old book became those of the new one, and the changes were told
-pub record Turned (old new : Book) (levels' : BTreeMap Level ℕ) (told told' : List Quote) : Type 0 where
+pub record Turned (old new : Book) (levels' : Entries) (told told' : List Quote) : Type 0 where
   pub has : Has levels' (level new)
   pub tells : told' ≡ told ++ changes old new
 
-abbrev pub Turns : Book → Book → BTreeMap Level ℕ → BTreeMap Level ℕ → List Quote → List Quote → Type 0
-Turns old new levels levels' told told' = IsBook old → IsBook new → Has levels (level old) → Turned old new levels' told told'
+abbrev pub Turns : Book → Book → Entries → Entries → List Quote → List Quote → Type 0
+Turns old new levels levels' told told' =
+    IsBook old → IsBook new → Has levels (level old) → Turned old new levels' told told'
+
+-- the same of any two books of which the second has one order in the place of another
+abbrev pub TurnsOrder : Option Order → Option Order → Entries → Entries → List Quote → List Quote → Type 0
+TurnsOrder before now levels levels' told told' =
+    (old new : Book) (id : ℕ) → Becomes old new id before now → Turns old new levels levels' told told'
 
 -- an order is one of a symbol, where there is one
 abbrev pub IsOf : List ℕ → Option Order → Type 0
@@ -69,9 +66,15 @@ IsOfTwo first second (Some order) = (order.symbol ≡ first) ⊎ (order.symbol �
 abbrev pub no_bests : Bests
 no_bests = record { buy = None; sell = None }
 
--- a set has the symbol of every level
-abbrev pub HasSymbols : BTreeMap Level ℕ → BTreeSet (List ℕ) → Type 0
-HasSymbols levels symbols = (key : Level) → IsSome (get key_cmp levels key) → contains (slice_cmp nat_cmp) symbols key.symbol ≡ true
+-- the quotes of symbols all of whose orders go
+abbrev pub gone : Book → List (List ℕ) → List Quote
+gone book symbols = flat_map (λ symbol. changes_between symbol (bests_of book symbol) no_bests) symbols
+
+-- a set has each symbol for which something is open
+abbrev pub HasSymbols : Entries → BTreeSet (List ℕ) → Type 0
+HasSymbols levels symbols =
+    (symbol : List ℕ) (side : Side) (price : ℕ) → IsSome (level_in levels symbol side price)
+    → contains (slice_cmp nat_cmp) symbols symbol ≡ true
 
 -- no order is open
 abbrev pub AreGone : Book → Type 0

@@ -6,8 +6,9 @@ ghost use Rattle.best_quotes.specs.Leveling.{Has};
 ghost use Rattle.best_quotes.specs.Turning.{bests_of, changes_between};
 
 use crate::levels::{Levels, best_level};
+use crate::prices::Best;
 use crate::quote::Quote;
-use pitch_fields::{OutOfMemory, Price, Side, Symbol};
+use pitch_fields::{OutOfMemory, Side, Symbol};
 use pitch_messages::List;
 
 /// A list of quotes.
@@ -16,12 +17,13 @@ pub type QuoteList = List<Quote>;
 // The bests of both sides of a symbol.
 #[derive(Clone, Copy, Debug)]
 pub(crate) struct Bests {
-    pub(crate) buy: Option<(Price, u64)>,
-    pub(crate) sell: Option<(Price, u64)>,
+    pub(crate) buy: Best,
+    pub(crate) sell: Best,
 }
 
 pub(crate) fn bests_of(levels: &Levels, symbol: Symbol) -> Bests
-    ensures { (book : Book) → IsBook book → Has levels.now (level book) → result ≡ bests_of book symbol }
+    ensures { (book : Book) → IsBook book → Has levels.now.entries (level book)
+        → result ≡ bests_of book symbol }
 {
     Bests {
         buy: best_level(levels, symbol, Side::Buy),
@@ -29,7 +31,7 @@ pub(crate) fn bests_of(levels: &Levels, symbol: Symbol) -> Bests
     }
 }
 
-fn same_best(before: Option<(Price, u64)>, now: Option<(Price, u64)>) -> bool
+fn same_best(before: Best, now: Best) -> bool
     ensures { result ≡ same_best before now }
 {
     match before {
@@ -45,8 +47,13 @@ fn same_best(before: Option<(Price, u64)>, now: Option<(Price, u64)>) -> bool
 }
 
 // Appends a quote, where its best is another than before.
-fn tell(told: &mut QuoteList, before: Option<(Price, u64)>, quote: Quote) -> Result<(), OutOfMemory>
-    ensures { OnOk result (told.new.items ≡ told.old.items ++ change_between quote.symbol quote.side before quote.best) }
+pub(crate) fn tell(
+    told: &mut QuoteList,
+    before: Best,
+    quote: Quote,
+) -> Result<(), OutOfMemory>
+    ensures { OnOk result (told.new.items
+        ≡ told.old.items ++ change_between quote.symbol quote.side before quote.best) }
 {
     if !same_best(before, quote.best) {
         told.push(quote)?;
@@ -61,7 +68,8 @@ pub(crate) fn tell_both(
     before: Bests,
     now: Bests,
 ) -> Result<(), OutOfMemory>
-    ensures { OnOk result (told.new.items ≡ told.old.items ++ changes_between symbol before now) }
+    ensures { OnOk result
+        (told.new.items ≡ told.old.items ++ changes_between symbol before now) }
 {
     let to_buy = Quote {
         symbol,

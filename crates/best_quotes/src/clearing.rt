@@ -1,12 +1,11 @@
 ghost use Rattle.std.specs.Prelude.{◌≡◌, ◌++◌, OnOk, IfOk};
-ghost use Rattle.std.specs.List.{flat_map};
 ghost use Rattle.std.specs.Ordering.{nat_cmp};
 ghost use Rattle.std.specs.Cmp.Lexicographic.{slice_cmp};
 ghost use Rattle.std.specs.BTreeSet.{IsOrdered};
 ghost use Rattle.pitch_model.specs.Book.{Book, IsBook};
 ghost use Rattle.pitch_model.specs.Levels.{level};
 ghost use Rattle.best_quotes.specs.Leveling.{Has};
-ghost use Rattle.best_quotes.specs.Turning.{bests_of, changes_between, no_bests, HasSymbols, AreGone, Turns};
+ghost use Rattle.best_quotes.specs.Turning.{gone, no_bests, HasSymbols, AreGone, Turns};
 
 use crate::bests::{Bests, QuoteList, bests_of, tell_both};
 use crate::levels::Levels;
@@ -14,13 +13,13 @@ use pitch_fields::{OutOfMemory, Symbol};
 use std::alloc::Global;
 use std::collections::BTreeSet;
 
-// The symbols of all levels.
+// The symbols for which anything is open.
 fn symbols_of(alloc: Global, levels: &Levels) -> Result<BTreeSet<[u8; 8]>, OutOfMemory>
-    ensures { IfOk result (λ symbols. HasSymbols levels.now symbols) }
+    ensures { IfOk result (λ symbols. HasSymbols levels.now.entries symbols) }
 {
     let mut symbols = BTreeSet::new(alloc);
-    for level in levels.keys() {
-        symbols.insert(level.symbol)?;
+    for symbol in levels.keys() {
+        symbols.insert(*symbol)?;
     }
     Ok(symbols)
 }
@@ -42,8 +41,8 @@ fn tell_gone(
     told: &mut QuoteList,
 ) -> Result<(), OutOfMemory>
     ensures ordered { IsOrdered (slice_cmp nat_cmp) symbols.now }
-    ensures told { OnOk result ((book : Book) → IsBook book → Has levels.now (level book)
-        → told.new.items ≡ told.old.items ++ flat_map (λ s. changes_between s (bests_of book s) no_bests) symbols.now.keys) }
+    ensures told { OnOk result ((book : Book) → IsBook book → Has levels.now.entries (level book)
+        → told.new.items ≡ told.old.items ++ gone book symbols.now.keys) }
 {
     for symbol in symbols.iter() {
         let symbol = Symbol::from_eight(*symbol);
@@ -58,7 +57,8 @@ pub(crate) fn turn_all(
     levels: &mut Levels,
     told: &mut QuoteList,
 ) -> Result<(), OutOfMemory>
-    ensures { OnOk result ((old new : Book) → AreGone new → Turns old new levels.old levels.new told.old.items told.new.items) }
+    ensures { OnOk result ((old new : Book) → AreGone new
+        → Turns old new levels.old.entries levels.new.entries told.old.items told.new.items) }
 {
     let symbols = symbols_of(alloc, levels)?;
     tell_gone(levels, &symbols, told)?;

@@ -9,11 +9,11 @@ ghost use Rattle.best_quotes.specs.Changes.{changes};
 use crate::bests::QuoteList;
 use crate::levels::{Levels, best_level};
 use crate::step;
+use indexmap::IndexMap;
 use order_book::UnitBook;
 use pitch_fields::{OutOfMemory, Price, Side, Symbol};
-use pitch_messages::Raw;
+use pitch_messages::{Raw, Raws};
 use std::alloc::Global;
-use std::collections::BTreeMap;
 use std::marker::Model;
 
 /// A book with the open shares by symbol, side and price, in order.
@@ -25,6 +25,8 @@ pub struct Ladder {
     book: UnitBook,
     levels: Levels,
     spent: bool,
+    // how many of the orders that were looked up ahead were open; nobody reads it
+    looked_up: usize,
 }
 
 impl Model for Ladder {
@@ -36,7 +38,7 @@ impl Model for Ladder {
 
     ghost view = { λ l. record { book = l.book; spent = l.spent } };
 
-    ghost invariant = { λ l. IsLadder l.book.book l.levels l.spent };
+    ghost invariant = { λ l. IsLadder l.book.book l.levels.entries l.spent };
 }
 
 impl Ladder {
@@ -48,8 +50,9 @@ impl Ladder {
         Ladder {
             alloc,
             book: UnitBook::make(alloc),
-            levels: BTreeMap::new(alloc),
+            levels: IndexMap::new(alloc),
             spent: false,
+            looked_up: 0,
         }
     }
 
@@ -66,6 +69,13 @@ impl Ladder {
         ensures { IsFalse result → map.len self.now.book.book.orders < most_orders }
     {
         self.book.len() == u32::MAX
+    }
+
+    // Looks up the orders that messages name, so that they are near when these are applied.
+    pub(crate) fn look_up(&mut self, raws: Raws<'_>)
+        ensures { self.new ≡ self.old }
+    {
+        self.looked_up = self.looked_up.wrapping_add(self.book.known_orders(raws));
     }
 
     /// Does what a raw message says, given its bytes, and appends the changes of the best prices:

@@ -1,164 +1,162 @@
-ghost use Rattle.std.specs.Prelude.{◌≡◌, false, None, Some, IsSome, IfSome, IfNone, OnOk, unwrap_or};
-ghost use Rattle.std.specs.Ordering.{is_lt, is_gt};
-ghost use Rattle.std.specs.declared.cmp.Ordering.TheVariants.{Less};
-ghost use Rattle.std.specs.BTreeMap.{get};
+ghost use Rattle.std.specs.Prelude.{◌≡◌, ◌<◌, ℕ, List, false, Some, OnOk, IfOk};
+ghost use Rattle.std.specs.Ordering.{nat_cmp};
+ghost use Rattle.std.specs.Str.{bytes_eq};
+ghost use Rattle.std.specs.BTreeMap.{get, IsEmpty};
+ghost use Rattle.indexmap.specs.IndexMap.{index_of, index_map_len};
+ghost use Rattle.pitch_fields.specs.declared.side.Side.{Side};
 ghost use Rattle.pitch_fields.specs.declared.side.Side.TheVariants.{Buy, Sell};
 ghost use Rattle.pitch_model.specs.Book.{Book, IsBook};
-ghost use Rattle.pitch_model.specs.Levels.{best, level};
-ghost use Rattle.best_quotes.specs.Leveling.{Has, IsNearest, is_on, Sets, Shares, key_cmp, key_of, without, with};
+ghost use Rattle.pitch_model.specs.Levels.{best, level, same_side};
+ghost use Rattle.best_quotes.specs.Leveling.{MovesPrices, IsNearest, side_of, level_in, Has, SameLevels, IsOn, TurnsSide};
 
-use pitch_fields::{OutOfMemory, Price, Side, Symbol};
+use crate::prices::{Best, Prices, best_of, turn};
+use indexmap::IndexMap;
+use pitch_fields::{OutOfMemory, Side, Symbol};
 use pitch_messages::Order;
+use std::alloc::Global;
 use std::collections::BTreeMap;
 
-// A place among the levels: by symbol, those to buy before those to sell, and by rising price.
-#[derive(Clone, Copy, Debug, PartialEq, Eq, PartialOrd, Ord, Drop)]
-pub(crate) struct Level {
-    pub(crate) symbol: [u8; 8],
-    pub(crate) sells: bool,
-    pub(crate) price: u64,
+// The two sides of a symbol.
+#[derive(Drop)]
+pub(crate) struct Sides {
+    pub(crate) buy: Prices,
+    pub(crate) sell: Prices,
 }
 
-// The open shares at each place where there are any.
-pub(crate) type Levels = BTreeMap<Level, u64>;
+// The sides of each symbol that has an open order.
+pub(crate) type Levels = IndexMap<[u8; 8], Sides>;
 
-// The place of a symbol, side and price.
-pub(crate) fn level_at(symbol: Symbol, side: Side, price: Price) -> Level
-    ensures { result ≡ key_of symbol side price }
+// Two empty sides, which take no memory.
+fn no_sides(alloc: Global) -> Sides
+    ensures { IsEmpty result.buy × IsEmpty result.sell }
 {
-    Level {
-        symbol: symbol.bytes(),
-        sells: match side {
-            Side::Buy => false,
-            Side::Sell => true,
-        },
-        price: price.ten_thousandths(),
+    Sides {
+        buy: BTreeMap::new(alloc),
+        sell: BTreeMap::new(alloc),
     }
 }
 
-// The last level below a place.
-fn last_below(levels: &Levels, place: Level) -> Option<(Level, u64)>
-    ensures found { IfSome result (λ e. (key_cmp e.0 place ≡ Less) × (get key_cmp levels.now e.0 ≡ Some e.1)) }
-    ensures last { IfSome result (λ e. (q : Level) → key_cmp q place ≡ Less → IsSome (get key_cmp levels.now q) → is_lt (key_cmp e.0 q) ≡ false) }
-    ensures none { IfNone result ((q : Level) → key_cmp q place ≡ Less → get key_cmp levels.now q ≡ None) }
-{
-    let (level, shares) = levels.range(..place).next_back()?;
-    Some((*level, *shares))
-}
-
-// The first level at a place or above it.
-fn first_from(levels: &Levels, place: Level) -> Option<(Level, u64)>
-    ensures found { IfSome result (λ e. (is_gt (key_cmp place e.0) ≡ false) × (get key_cmp levels.now e.0 ≡ Some e.1)) }
-    ensures first { IfSome result (λ e. (q : Level) → is_gt (key_cmp place q) ≡ false → IsSome (get key_cmp levels.now q) → is_gt (key_cmp e.0 q) ≡ false) }
-    ensures none { IfNone result ((q : Level) → is_gt (key_cmp place q) ≡ false → get key_cmp levels.now q ≡ None) }
-{
-    let (level, shares) = levels.range(place..).next()?;
-    Some((*level, *shares))
-}
-
-// Whether a place is one of a symbol on a side.
-fn is_on(level: Level, symbol: Symbol, side: Side) -> bool
-    ensures { result ≡ is_on symbol side level }
-{
-    level.symbol == symbol.bytes()
-        && match side {
-            Side::Buy => !level.sells,
-            Side::Sell => level.sells,
-        }
-}
-
-// The level to buy with the highest price: the last one before those to sell.
-#[tactic(auto, using(crate::proofs::Keys::no_buys, crate::proofs::Keys::highest_buy, crate::proofs::Keys::other_buy))]
-fn highest_to_buy(levels: &Levels, symbol: Symbol) -> Option<(Level, u64)>
-    ensures { IsNearest levels.now symbol Buy result }
-{
-    let Some(found) = last_below(levels, level_at(symbol, Side::Sell, Price::from_long(0))) else {
-        return None;
-    };
-    if is_on(found.0, symbol, Side::Buy) {
-        Some(found)
-    } else {
-        None
-    }
-}
-
-// The level to sell with the lowest price.
-#[tactic(auto, using(crate::proofs::Keys::no_sells, crate::proofs::Keys::lowest_sell, crate::proofs::Keys::other_sell))]
-fn lowest_to_sell(levels: &Levels, symbol: Symbol) -> Option<(Level, u64)>
-    ensures { IsNearest levels.now symbol Sell result }
-{
-    let Some(found) = first_from(levels, level_at(symbol, Side::Sell, Price::from_long(0))) else {
-        return None;
-    };
-    if is_on(found.0, symbol, Side::Sell) {
-        Some(found)
-    } else {
-        None
-    }
-}
-
-// The best level of a symbol on a side.
-fn nearest(levels: &Levels, symbol: Symbol, side: Side) -> Option<(Level, u64)>
-    ensures { IsNearest levels.now symbol side result }
+// The best of a side.
+fn best_in(sides: &Sides, side: Side) -> Best
+    ensures { IsNearest side (get nat_cmp (side_of side sides.now)) result }
 {
     match side {
-        Side::Buy => highest_to_buy(levels, symbol),
-        Side::Sell => lowest_to_sell(levels, symbol),
+        Side::Buy => best_of(&sides.buy, Side::Buy),
+        Side::Sell => best_of(&sides.sell, Side::Sell),
     }
 }
 
-// The best price of a symbol on a side, with its shares.
-
-pub(crate) fn best_level(levels: &Levels, symbol: Symbol, side: Side) -> Option<(Price, u64)>
-    ensures { (book : Book) → IsBook book → Has levels.now (level book) → result ≡ best book symbol side }
+// The level of a symbol on a side which no other there is better than.
+fn nearest(levels: &Levels, symbol: Symbol, side: Side) -> Best
+    ensures { IsNearest side (level_in levels.now.entries symbol side) result }
 {
-    match nearest(levels, symbol, side) {
-        Some((level, shares)) => Some((Price::from_long(level.price), shares)),
+    match levels.get(&symbol.bytes()) {
+        Some(sides) => best_in(sides, side),
         None => None,
     }
 }
 
-// The shares at a place.
-fn shares_at(levels: &Levels, level: Level) -> u64
-    ensures { result ≡ unwrap_or (get key_cmp levels.now level) 0 }
+// The best price of a symbol on a side, with its shares.
+pub(crate) fn best_level(levels: &Levels, symbol: Symbol, side: Side) -> Best
+    ensures { (book : Book) → IsBook book → Has levels.now.entries (level book)
+        → result ≡ best book symbol side }
 {
-    match levels.get(&level) {
-        Some(shares) => *shares,
-        None => 0,
+    nearest(levels, symbol, side)
+}
+
+// Where a symbol stands, with two empty sides if it is a new one.
+fn place_of(levels: &mut Levels, symbol: Symbol) -> Result<usize, OutOfMemory>
+    ensures same { OnOk result (SameLevels levels.old.entries levels.new.entries) }
+    ensures place { IfOk result (λ place. index_of bytes_eq levels.new symbol ≡ Some place) }
+    ensures within { IfOk result (λ place. place < index_map_len levels.new) }
+{
+    let bytes = symbol.bytes();
+    match levels.get_index_of(&bytes) {
+        Some(place) => Ok(place),
+        None => {
+            let alloc = *levels.allocator();
+            levels.insert(bytes, no_sides(alloc))?;
+            Ok(levels.get_index_of(&bytes).unwrap())
+        }
     }
 }
 
-// Has so many shares at a place from now on.
-fn set(levels: &mut Levels, level: Level, shares: u64) -> Result<(), OutOfMemory>
-    ensures { OnOk result (Sets levels.old level shares levels.new) }
+// One order of a side becomes another. It answers the best before and after.
+fn turn_in(
+    sides: &mut Sides,
+    side: Side,
+    before: &Option<Order>,
+    now: &Option<Order>,
+) -> Result<(Best, Best), OutOfMemory>
+    ensures moves { OnOk result (MovesPrices before.now now.now
+        (side_of side sides.old) (side_of side sides.new)) }
+    ensures was { IfOk result (λ bests.
+        IsNearest side (get nat_cmp (side_of side sides.old)) bests.0) }
+    ensures is { IfOk result (λ bests.
+        IsNearest side (get nat_cmp (side_of side sides.new)) bests.1) }
+    ensures others { (other : Side) → same_side other side ≡ false
+        → side_of other sides.new ≡ side_of other sides.old }
 {
-    if shares == 0 {
-        levels.remove(&level);
-    } else {
-        levels.insert(level, shares)?;
+    match side {
+        Side::Buy => {
+            let bests = turn(&mut sides.buy, Side::Buy, before, now)?;
+            Ok(bests)
+        }
+        Side::Sell => {
+            let bests = turn(&mut sides.sell, Side::Sell, before, now)?;
+            Ok(bests)
+        }
     }
-    Ok(())
 }
 
-// Takes the shares of an order away.
-pub(crate) fn take(levels: &mut Levels, order: &Order) -> Result<(), OutOfMemory>
-    ensures { OnOk result ((shares : Shares) → Has levels.old shares → Has levels.new (without order.now shares)) }
+// One order of the symbol that stands at a place becomes another one of it, on a side.
+fn turn_at(
+    levels: &mut Levels,
+    place: usize,
+    side: Side,
+    before: &Option<Order>,
+    now: &Option<Order>,
+) -> Result<(Best, Best), OutOfMemory>
+    requires { place < index_map_len levels.old }
+    ensures { IfOk result (λ bests. (symbol : List ℕ)
+        → index_of bytes_eq levels.old symbol ≡ Some place
+        → IsOn symbol side before.now → IsOn symbol side now.now
+        → TurnsSide levels.old.entries levels.new.entries symbol side before.now now.now bests) }
 {
-    let level = level_at(order.symbol, order.side, order.price);
-    let left = shares_at(levels, level).saturating_sub(u64::from(order.quantity));
-    set(levels, level, left)?;
-    Ok(())
+    let (_, sides) = levels.pair_mut(place);
+    let bests = turn_in(sides, side, before, now)?;
+    Ok(bests)
 }
 
-// Puts the shares of an order. They never pass the end of their type in a book of at most
-// 4,294,967,295 orders.
-pub(crate) fn put(levels: &mut Levels, order: &Order) -> Result<(), OutOfMemory>
-    ensures { OnOk result ((shares : Shares) → Has levels.old shares → Has levels.new (with order.now shares)) }
+// The symbol at a place goes, where it has no order left.
+fn drop_empty(levels: &mut Levels, place: usize)
+    ensures { SameLevels levels.old.entries levels.new.entries }
 {
-    let level = level_at(order.symbol, order.side, order.price);
-    let Some(more) = shares_at(levels, level).checked_add(u64::from(order.quantity)) else {
-        return Err(OutOfMemory);
+    let Some((_, sides)) = levels.get_index(place) else {
+        return;
     };
-    set(levels, level, more)?;
-    Ok(())
+    if sides.buy.is_empty() && sides.sell.is_empty() {
+        levels.swap_remove_index(place);
+    }
+}
+
+// One order of a symbol on a side becomes another. It answers the bests of the side before and
+// after.
+pub(crate) fn turn_side(
+    levels: &mut Levels,
+    symbol: Symbol,
+    side: Side,
+    before: &Option<Order>,
+    now: &Option<Order>,
+) -> Result<(Best, Best), OutOfMemory>
+    ensures { IfOk result (λ bests. IsOn symbol side before.now → IsOn symbol side now.now
+        → TurnsSide levels.old.entries levels.new.entries symbol side before.now now.now bests) }
+{
+    let place = place_of(levels, symbol)?;
+    let bests = turn_at(levels, place, side, before, now)?;
+    if bests.1.is_some() {
+        return Ok(bests);
+    }
+    drop_empty(levels, place);
+    Ok(bests)
 }

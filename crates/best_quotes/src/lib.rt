@@ -14,6 +14,7 @@ pub mod laws;
 mod levels;
 mod lines;
 mod naming;
+mod prices;
 mod quote;
 mod step;
 mod steps;

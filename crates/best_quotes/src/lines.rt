@@ -41,6 +41,7 @@ pub(crate) fn apply_all(
     ensures book { OnOk result (ladder.new.book.book ≡ fold after ladder.old.book.book raws.entry) }
     ensures lines { OnOk result (lines.new.items ≡ lines.old.items ++ quoted (reach + 1) ladder.old.book.book raws.entry) }
 {
+    ladder.look_up(raws.copy());
     let mut raws = raws;
     let mut sequence = reach;
     'messages: while let Some(raw) = raws.next_raw() {

@@ -25,7 +25,8 @@ pub(crate) fn apply(
     requires raw { IsRaw raw.now }
     requires few { map.len book.old.book.orders < most_orders }
     ensures book { OnOk result (book.new.book ≡ after book.old.book raw.now) }
-    ensures turns { OnOk result (Turns book.old.book book.new.book levels.old levels.new told.old.items told.new.items) }
+    ensures turns { OnOk result (Turns book.old.book book.new.book
+        levels.old.entries levels.new.entries told.old.items told.new.items) }
     ensures is_book { IsBook book.old.book → IsBook book.new.book }
 {
     match touched(raw) {

@@ -1,24 +1,47 @@
-ghost use Rattle.std.specs.Prelude.{◌≡◌, ◌++◌, ℕ, OnOk, None, Some};
+ghost use Rattle.std.specs.Prelude.{◌≡◌, OnOk, Some, None};
 ghost use Rattle.std.specs.Ordering.{nat_cmp};
 ghost use Rattle.std.specs.Cmp.Lexicographic.{slice_cmp};
 ghost use Rattle.std.specs.declared.cmp.Ordering.TheVariants.{Less};
-ghost use Rattle.pitch_model.specs.Book.{Book};
-ghost use Rattle.best_quotes.specs.Leveling.{Has, Shares};
-ghost use Rattle.best_quotes.specs.Turning.{without_any, with_any, moved, Becomes, Turns, IsOf, IsOfTwo};
+ghost use Rattle.best_quotes.specs.Leveling.{IsOn, MovesLevels};
+ghost use Rattle.best_quotes.specs.Turning.{TurnsOrder, IsOf, IsOfTwo};
 
-use crate::bests::{QuoteList, bests_of, tell_both};
-use crate::levels::{Levels, put, take};
-use pitch_fields::{OutOfMemory, Symbol};
+use crate::bests::{QuoteList, bests_of, tell, tell_both};
+use crate::levels::{Levels, turn_side};
+use crate::quote::Quote;
+use pitch_fields::{OutOfMemory, Side, Symbol};
 use pitch_messages::Order;
 use std::cmp::Ordering;
 
+// An order of a symbol on a side becomes another one of it.
+fn turn_on(
+    levels: &mut Levels,
+    symbol: Symbol,
+    side: Side,
+    before: &Option<Order>,
+    now: &Option<Order>,
+    told: &mut QuoteList,
+) -> Result<(), OutOfMemory>
+    ensures { OnOk result (IsOn symbol side before.now → IsOn symbol side now.now
+        → TurnsOrder before.now now.now levels.old.entries levels.new.entries
+            told.old.items told.new.items) }
+{
+    let bests = turn_side(levels, symbol, side, before, now)?;
+    let quote = Quote {
+        symbol,
+        side,
+        best: bests.1,
+    };
+    tell(told, bests.0, quote)?;
+    Ok(())
+}
+
 // Takes the shares of an order away, where there is one.
 fn take_any(levels: &mut Levels, order: &Option<Order>) -> Result<(), OutOfMemory>
-    ensures { OnOk result ((shares : Shares) → Has levels.old shares → Has levels.new (without_any order.now shares)) }
+    ensures { OnOk result (MovesLevels order.now None levels.old.entries levels.new.entries) }
 {
     match order {
-        Some(order) => {
-            take(levels, order)?;
+        Some(gone) => {
+            turn_side(levels, gone.symbol, gone.side, order, &None)?;
             Ok(())
         }
         None => Ok(()),
@@ -27,11 +50,11 @@ fn take_any(levels: &mut Levels, order: &Option<Order>) -> Result<(), OutOfMemor
 
 // Puts the shares of an order, where there is one.
 fn put_any(levels: &mut Levels, order: &Option<Order>) -> Result<(), OutOfMemory>
-    ensures { OnOk result ((shares : Shares) → Has levels.old shares → Has levels.new (with_any order.now shares)) }
+    ensures { OnOk result (MovesLevels None order.now levels.old.entries levels.new.entries) }
 {
     match order {
-        Some(order) => {
-            put(levels, order)?;
+        Some(come) => {
+            turn_side(levels, come.symbol, come.side, &None, order)?;
             Ok(())
         }
         None => Ok(()),
@@ -44,7 +67,8 @@ fn move_shares(
     before: &Option<Order>,
     now: &Option<Order>,
 ) -> Result<(), OutOfMemory>
-    ensures { OnOk result ((shares : Shares) → Has levels.old shares → Has levels.new (moved before.now now.now shares)) }
+    ensures { OnOk result
+        (MovesLevels before.now now.now levels.old.entries levels.new.entries) }
 {
     take_any(levels, before)?;
     put_any(levels, now)?;
@@ -59,8 +83,9 @@ fn turn_one(
     now: &Option<Order>,
     told: &mut QuoteList,
 ) -> Result<(), OutOfMemory>
-    ensures { OnOk result ((old new : Book) (id : ℕ) → Becomes old new id before.now now.now → IsOf symbol before.now → IsOf symbol now.now
-        → Turns old new levels.old levels.new told.old.items told.new.items) }
+    ensures { OnOk result (IsOf symbol before.now → IsOf symbol now.now
+        → TurnsOrder before.now now.now levels.old.entries levels.new.entries
+            told.old.items told.new.items) }
 {
     let bests = bests_of(levels, symbol);
     move_shares(levels, before, now)?;
@@ -78,8 +103,9 @@ fn turn_two(
     told: &mut QuoteList,
 ) -> Result<(), OutOfMemory>
     requires { slice_cmp nat_cmp first second ≡ Less }
-    ensures { OnOk result ((old new : Book) (id : ℕ) → Becomes old new id before.now now.now → IsOfTwo first second before.now → IsOfTwo first second now.now
-        → Turns old new levels.old levels.new told.old.items told.new.items) }
+    ensures { OnOk result (IsOfTwo first second before.now → IsOfTwo first second now.now
+        → TurnsOrder before.now now.now levels.old.entries levels.new.entries
+            told.old.items told.new.items) }
 {
     let bests_first = bests_of(levels, first);
     let bests_second = bests_of(levels, second);
@@ -89,42 +115,69 @@ fn turn_two(
     Ok(())
 }
 
-// An order becomes another. It may be one of another symbol, where an add takes an open id.
+// An order becomes another, which may be one of another symbol.
+fn turn_both(
+    levels: &mut Levels,
+    order: &Order,
+    other: &Order,
+    before: &Option<Order>,
+    now: &Option<Order>,
+    told: &mut QuoteList,
+) -> Result<(), OutOfMemory>
+    requires before { before.now ≡ Some order.now }
+    requires now { now.now ≡ Some other.now }
+    ensures { OnOk result
+        (TurnsOrder before.now now.now levels.old.entries levels.new.entries
+            told.old.items told.new.items) }
+{
+    match order.symbol.bytes().cmp(&other.symbol.bytes()) {
+        Ordering::Less => {
+            turn_two(levels, order.symbol, other.symbol, before, now, told)?;
+            Ok(())
+        }
+        Ordering::Equal => {
+            turn_one(levels, order.symbol, before, now, told)?;
+            Ok(())
+        }
+        Ordering::Greater => {
+            turn_two(levels, other.symbol, order.symbol, before, now, told)?;
+            Ok(())
+        }
+    }
+}
+
+// An order becomes another. It may be one of another symbol or side, where an add takes an open id.
 pub(crate) fn turn_order(
     levels: &mut Levels,
     before: &Option<Order>,
     now: &Option<Order>,
     told: &mut QuoteList,
 ) -> Result<(), OutOfMemory>
-    ensures { OnOk result ((old new : Book) (id : ℕ) → Becomes old new id before.now now.now → Turns old new levels.old levels.new told.old.items told.new.items) }
+    ensures { OnOk result
+        (TurnsOrder before.now now.now levels.old.entries levels.new.entries
+            told.old.items told.new.items) }
 {
     match before {
         None => match now {
             None => Ok(()),
             Some(order) => {
-                turn_one(levels, order.symbol, before, now, told)?;
+                turn_on(levels, order.symbol, order.side, before, now, told)?;
                 Ok(())
             }
         },
         Some(order) => match now {
             None => {
-                turn_one(levels, order.symbol, before, now, told)?;
+                turn_on(levels, order.symbol, order.side, before, now, told)?;
                 Ok(())
             }
-            Some(other) => match order.symbol.bytes().cmp(&other.symbol.bytes()) {
-                Ordering::Less => {
-                    turn_two(levels, order.symbol, other.symbol, before, now, told)?;
-                    Ok(())
+            Some(other) => {
+                if order.symbol == other.symbol && order.side == other.side {
+                    turn_on(levels, order.symbol, order.side, before, now, told)?;
+                } else {
+                    turn_both(levels, order, other, before, now, told)?;
                 }
-                Ordering::Equal => {
-                    turn_one(levels, order.symbol, before, now, told)?;
-                    Ok(())
-                }
-                Ordering::Greater => {
-                    turn_two(levels, other.symbol, order.symbol, before, now, told)?;
-                    Ok(())
-                }
-            },
+                Ok(())
+            }
         },
     }
 }

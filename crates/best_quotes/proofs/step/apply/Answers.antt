@@ -12,7 +12,7 @@ returns-in_err-turn_all-in-All-clause-is_book c = is_book_after c.args.book.now.
 
 pub returns-in_ok-apply_bytes-in-None-clause-turns : goal.returns-in_ok-apply_bytes-in-None-clause-turns
 returns-in_ok-apply_bytes-in-None-clause-turns c =
-    turned_still c.args.book.now.book c.apply_bytes.new.self.book c.args.levels.now c.args.told.now.items
+    turned_still c.args.book.now.book c.apply_bytes.new.self.book c.args.levels.now.entries c.args.told.now.items
     (is_touched c.args.book.now.book c.apply_bytes.new.self.book c.args.raw.now c.touched.result touches.None c.in_ok-apply_bytes-in-None.ensures.ok c.touched.ensures c.in-None.is)
 
 pub returns-in_ok-apply_bytes-in-None-clause-is_book : goal.returns-in_ok-apply_bytes-in-None-clause-is_book

@@ -1,0 +1,7 @@
+use Rattle.best_quotes.proofs.Sided.{moves_then}
+use Rattle.best_quotes.proofs.steps.move_shares.Goals as goal
+
+pub returns : goal.returns
+returns c =
+    moves_then c.args.before.now c.args.now.now c.args.levels.now.entries c.take_any.new.levels.entries c.put_any.new.levels.entries
+    c.in_ok-take_any.ensures c.in_ok-put_any.ensures

@@ -1,0 +1,163 @@
+ghost use Rattle.std.specs.Prelude.{◌≡◌, Some, None, OnOk, IfOk, unwrap_or};
+ghost use Rattle.std.specs.Ordering.{nat_cmp};
+ghost use Rattle.std.specs.BTreeMap.{get};
+ghost use Rattle.pitch_fields.specs.declared.side.Side.TheVariants.{Buy, Sell};
+ghost use Rattle.best_quotes.specs.Leveling.{SetsPrice, MovesPrices, IsNearest};
+
+use pitch_fields::{OutOfMemory, Price, Side};
+use pitch_messages::Order;
+use std::collections::BTreeMap;
+
+// The open shares at each price of one side of a symbol, where there are any.
+pub(crate) type Prices = BTreeMap<u64, u64>;
+
+// The best price of a side with its shares, or None where the side is empty.
+pub(crate) type Best = Option<(Price, u64)>;
+
+// The highest price.
+#[tactic(auto, using(crate::proofs::Pricing::highest_is))]
+fn highest(prices: &Prices) -> Best
+    ensures { IsNearest Buy (get nat_cmp prices.now) result }
+{
+    match prices.last_key_value() {
+        Some((price, shares)) => Some((Price::from_long(*price), *shares)),
+        None => None,
+    }
+}
+
+// The lowest price.
+#[tactic(auto, using(crate::proofs::Pricing::lowest_is))]
+fn lowest(prices: &Prices) -> Best
+    ensures { IsNearest Sell (get nat_cmp prices.now) result }
+{
+    match prices.first_key_value() {
+        Some((price, shares)) => Some((Price::from_long(*price), *shares)),
+        None => None,
+    }
+}
+
+// The best price of a side.
+pub(crate) fn best_of(prices: &Prices, side: Side) -> Best
+    ensures { IsNearest side (get nat_cmp prices.now) result }
+{
+    match side {
+        Side::Buy => highest(prices),
+        Side::Sell => lowest(prices),
+    }
+}
+
+// The shares at a price.
+fn shares_at(prices: &Prices, price: Price) -> u64
+    ensures { result ≡ unwrap_or (get nat_cmp prices.now price) 0 }
+{
+    match prices.get(&price.ten_thousandths()) {
+        Some(shares) => *shares,
+        None => 0,
+    }
+}
+
+// Has so many shares at a price from now on.
+fn set(prices: &mut Prices, price: Price, shares: u64) -> Result<(), OutOfMemory>
+    ensures { OnOk result (SetsPrice prices.old price shares prices.new) }
+{
+    let price = price.ten_thousandths();
+    if shares == 0 {
+        prices.remove(&price);
+    } else {
+        prices.insert(price, shares)?;
+    }
+    Ok(())
+}
+
+// Takes the shares of an order away.
+fn take(prices: &mut Prices, order: &Order) -> Result<(), OutOfMemory>
+    ensures { OnOk result (MovesPrices (Some order.now) None prices.old prices.new) }
+{
+    let left = shares_at(prices, order.price).saturating_sub(u64::from(order.quantity));
+    set(prices, order.price, left)?;
+    Ok(())
+}
+
+// Puts the shares of an order. They never pass the end of their type in a book of at most
+// 4,294,967,295 orders.
+fn put(prices: &mut Prices, order: &Order) -> Result<(), OutOfMemory>
+    ensures { OnOk result (MovesPrices None (Some order.now) prices.old prices.new) }
+{
+    let Some(more) = shares_at(prices, order.price).checked_add(u64::from(order.quantity)) else {
+        return Err(OutOfMemory);
+    };
+    set(prices, order.price, more)?;
+    Ok(())
+}
+
+// Takes the shares of an order away and puts those of another at the same price.
+fn exchange(prices: &mut Prices, before: &Order, now: &Order) -> Result<(), OutOfMemory>
+    requires { before.now.price ≡ now.now.price }
+    ensures { OnOk result (MovesPrices (Some before.now) (Some now.now) prices.old prices.new) }
+{
+    let left = shares_at(prices, before.price).saturating_sub(u64::from(before.quantity));
+    let Some(more) = left.checked_add(u64::from(now.quantity)) else {
+        return Err(OutOfMemory);
+    };
+    set(prices, before.price, more)?;
+    Ok(())
+}
+
+// Takes the shares of an order away and puts those of another, where both have orders.
+fn replace(prices: &mut Prices, before: &Order, now: &Order) -> Result<(), OutOfMemory>
+    ensures { OnOk result (MovesPrices (Some before.now) (Some now.now) prices.old prices.new) }
+{
+    if before.price == now.price {
+        exchange(prices, before, now)?;
+    } else {
+        take(prices, before)?;
+        put(prices, now)?;
+    }
+    Ok(())
+}
+
+// Takes the shares of one order away and puts those of another, where there are such.
+fn move_shares(
+    prices: &mut Prices,
+    before: &Option<Order>,
+    now: &Option<Order>,
+) -> Result<(), OutOfMemory>
+    ensures { OnOk result (MovesPrices before.now now.now prices.old prices.new) }
+{
+    match before {
+        None => match now {
+            None => Ok(()),
+            Some(now) => {
+                put(prices, now)?;
+                Ok(())
+            }
+        },
+        Some(before) => match now {
+            None => {
+                take(prices, before)?;
+                Ok(())
+            }
+            Some(now) => {
+                replace(prices, before, now)?;
+                Ok(())
+            }
+        },
+    }
+}
+
+// One order of a side becomes another. It answers the best before and after.
+pub(crate) fn turn(
+    prices: &mut Prices,
+    side: Side,
+    before: &Option<Order>,
+    now: &Option<Order>,
+) -> Result<(Best, Best), OutOfMemory>
+    ensures moves { OnOk result (MovesPrices before.now now.now prices.old prices.new) }
+    ensures was { IfOk result (λ bests. IsNearest side (get nat_cmp prices.old) bests.0) }
+    ensures is { IfOk result (λ bests. IsNearest side (get nat_cmp prices.new) bests.1) }
+{
+    let was = best_of(prices, side);
+    move_shares(prices, before, now)?;
+    let is = best_of(prices, side);
+    Ok((was, is))
+}
