@@ -1,7 +1,7 @@
 -- One order of a side of a symbol becomes another, in the levels of all symbols.
-use Rattle.std.proofs.Common.{◌≡◌, ℕ, ◌+◌, ◌-◌, ◌==◌, ◌&&◌, Bool, true, false, cond, List, Option, Some, None, IsSome, refl, sym, ap, ◌∙◌, subst, arith}
+use Rattle.std.proofs.Common.{◌≡◌, ℕ, ◌==◌, ◌&&◌, Bool, true, false, cond, List, Option, Some, None, IsSome, refl, sym, ap, ◌∙◌, subst, arith}
 use Rattle.std.specs.List.{position, slice_get}
-use Rattle.std.specs.Map.{lookup, lookup_key, keys_of}
+use Rattle.std.specs.Map.{lookup, keys_of}
 use Rattle.std.specs.Option.{is_some, option_map}
 use Rattle.std.specs.Ordering.{nat_cmp}
 use Rattle.std.specs.BTreeMap.{get, IsEmpty}
@@ -15,9 +15,9 @@ use Rattle.indexmap.proofs.MapLemmas.{Found-position}
 use Rattle.pitch_fields.specs.declared.side.Side.{Side}
 use Rattle.pitch_fields.specs.declared.side.Side.TheVariants.{Buy, Sell}
 use Rattle.pitch_messages.specs.declared.order.Order.{Order}
-use Rattle.pitch_model.specs.Levels.{same_side, better}
+use Rattle.pitch_model.specs.Levels.{same_side}
 use Rattle.best_quotes.specs.Balance.{shares_of}
-use Rattle.best_quotes.specs.Leveling.{standing, Prices, HasPrices, MovesPrices, priced, moved_at, IsNearest, Entries, side_of, level_of, level_in, Shares, Has, SameLevels, moved, IsOn, MovesLevels, TurnsSide}
+use Rattle.best_quotes.specs.Leveling.{standing, Prices, MovesPrices, priced, IsNearest, Entries, side_of, level_of, level_in, SameLevels, moved, IsOn, MovesLevels, TurnsSide}
 use Rattle.best_quotes.specs.declared.levels.Sides.{Sides}
 use Rattle.best_quotes.proofs.Pricing.{none_in}
 use Rattle.best_quotes.proofs.Telling.{same_side-equal, same_side-itself, bytes_eq-equal, bytes_eq-itself}
@@ -120,10 +120,11 @@ none_found (Some sides) e = absurd (false≢true e)
 pub placed : (es : Entries) (symbol k : List ℕ) (sides : Sides) (place : ℕ) → position (bytes_eq symbol) (keys_of es) ≡ Some place
     → slice_get es place ≡ Some (k, sides) → (lookup (bytes_eq symbol) es ≡ Some sides) × (symbol ≡ k)
 placed es symbol k sides place there at =
-    let found = Found-position (bytes_eq symbol) es place there in
-    (found.value ∙ slice_get-map (λ (e : List ℕ × Sides). e.1) es place ∙ ap (option_map (λ (e : List ℕ × Sides). e.1)) at,
-    lookup_key_same {eq = bytes_eq} bytes_eq-Decides symbol es k
-    (found.key ∙ slice_get-map (λ (e : List ℕ × Sides). e.0) es place ∙ ap (option_map (λ (e : List ℕ × Sides). e.0)) at))
+    let found = Found-position (bytes_eq symbol) es place there in (
+      found.value ∙ slice_get-map (λ (e : List ℕ × Sides). e.1) es place ∙ ap (option_map (λ (e : List ℕ × Sides). e.1)) at,
+      lookup_key_same {eq = bytes_eq} bytes_eq-Decides symbol es k
+          (found.key ∙ slice_get-map (λ (e : List ℕ × Sides). e.0) es place ∙ ap (option_map (λ (e : List ℕ × Sides). e.0)) at),
+    )
 
 -- what turned stands between levels that stayed
 pub turns_between : (a b d e : Entries) (symbol : List ℕ) (side : Side) (before now : Option Order) (bests : Option (ℕ × ℕ) × Option (ℕ × ℕ))

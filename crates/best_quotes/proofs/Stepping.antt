@@ -1,7 +1,6 @@
 -- What a message does to the book, as the step of a ladder needs it.
 use Rattle.std.proofs.Common.{◌≡◌, ℕ, ◌&&◌, false, List, [], filter, sym, ap, ◌∙◌, subst}
 use Rattle.std.specs.Str.{bytes_eq}
-use Rattle.pitch_messages.specs.Reading.{reads}
 use Rattle.pitch_model.specs.Book.{Book, IsBook, after, empty_book}
 use Rattle.pitch_model.specs.Levels.{same_side}
 use Rattle.pitch_model.proofs.Books.{after_book, empty_book_book}
@@ -16,8 +15,8 @@ use Rattle.best_quotes.proofs.Telling.{no_orders}
 pub is_book_after : (book book' : Book) (raw : List ℕ) → book' ≡ after book raw → IsBook book → IsBook book'
 is_book_after book book' raw e is = subst IsBook (sym e) (after_book book raw is)
 
-pub is_touched : (book book' : Book) (raw : List ℕ) (t u : Touches) → book' ≡ after book raw → t ≡ touched (reads raw) → t ≡ u → IsTouched book book' u
-is_touched book book' raw t u e f g = subst (IsTouched book book') (sym f ∙ g) (subst (λ (b : Book). IsTouched book b (touched (reads raw))) (sym e) (touches_orders book raw))
+pub is_touched : (book book' : Book) (raw : List ℕ) (t u : Touches) → book' ≡ after book raw → t ≡ touched raw → t ≡ u → IsTouched book book' u
+is_touched book book' raw t u e f g = subst (IsTouched book book') (sym f ∙ g) (subst (λ (b : Book). IsTouched book b (touched raw)) (sym e) (touches_orders book raw))
 
 pub starts : (book : Book) (levels : Entries) → book ≡ empty_book → levels ≡ [] → IsLadder book levels false
 starts book levels e none = subst (λ (b : Book). IsLadder b levels false) (sym e) (record {

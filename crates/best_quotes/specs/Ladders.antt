@@ -1,5 +1,5 @@
 -- What a ladder stands for.
-use Rattle.std.specs.Prelude.{◌≡◌, ℕ, Bool, false, refl}
+use Rattle.std.specs.Prelude.{◌≡◌, Bool, false, refl}
 use Rattle.std.specs.Coded.{Coded, code_by, coded×, coded_bool}
 use Rattle.order_book.specs.Standing.{Standing, standing_code}
 use Rattle.pitch_model.specs.Book.{Book, IsBook}
@@ -17,4 +17,6 @@ pub record IsLadder (book : Book) (levels : Entries) (spent : Bool) : Type 0 whe
   pub has : spent ≡ false → Has levels (level book)
 
 abbrev pub ladder_code : Coded Ladder
-ladder_code = code_by (Standing × Bool) (coded× standing_code coded_bool) (λ l. (l.book, l.spent)) (λ p. record { book = p.0; spent = p.1 }) (λ _. refl)
+ladder_code =
+    code_by (Standing × Bool) (coded× standing_code coded_bool)
+    (λ l. (l.book, l.spent)) (λ p. record { book = p.0; spent = p.1 }) (λ _. refl)

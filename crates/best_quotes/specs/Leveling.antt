@@ -6,7 +6,7 @@ use Rattle.std.specs.BTreeMap.{BTreeMap, get}
 use Rattle.pitch_fields.specs.declared.side.Side.{Side}
 use Rattle.pitch_fields.specs.declared.side.Side.TheVariants.{Buy, Sell}
 use Rattle.pitch_messages.specs.declared.order.Order.{Order}
-use Rattle.pitch_model.specs.Levels.{better, same_side}
+use Rattle.pitch_model.specs.Levels.{better}
 use Rattle.best_quotes.specs.Balance.{shares_of}
 use Rattle.best_quotes.specs.declared.levels.Sides.{Sides}
 
@@ -26,7 +26,8 @@ HasPrices prices shares = (price : ℕ) → get nat_cmp prices price ≡ standin
 -- the shares at a price were set to so many, and no others changed
 abbrev pub SetsPrice : Prices → ℕ → ℕ → Prices → Type 0
 SetsPrice prices price n prices' =
-    (other : ℕ) → get nat_cmp prices' other ≡ cond (price == other) (standing n) (get nat_cmp prices other)
+    (other : ℕ)
+    → get nat_cmp prices' other ≡ cond (price == other) (standing n) (get nat_cmp prices other)
 
 -- the shares of an order at a price; none where it has another one
 abbrev pub priced : ℕ → Option Order → ℕ
@@ -46,7 +47,8 @@ MovesPrices before now prices prices' =
 abbrev pub IsNearest : Side → (ℕ → Option ℕ) → Option (ℕ × ℕ) → Type 0
 IsNearest side shares None = (price : ℕ) → shares price ≡ None
 IsNearest side shares (Some best) =
-    (shares best.0 ≡ Some best.1) × ((price : ℕ) → IsSome (shares price) → better side best.0 price ≡ best.0)
+    (shares best.0 ≡ Some best.1)
+    × ((price : ℕ) → IsSome (shares price) → better side best.0 price ≡ best.0)
 
 -- ---- All symbols
 abbrev pub Entries : Type 0
@@ -84,7 +86,8 @@ SameLevels levels levels' =
 -- shares without those of one order, and with those of another
 abbrev pub moved : Option Order → Option Order → Shares → Shares
 moved before now shares = λ symbol side price.
-    (shares symbol side price - shares_of symbol side price before) + shares_of symbol side price now
+    (shares symbol side price - shares_of symbol side price before)
+    + shares_of symbol side price now
 
 -- an order is one of a symbol on a side, where there is one
 abbrev pub IsOn : List ℕ → Side → Option Order → Type 0
@@ -98,8 +101,8 @@ MovesLevels before now levels levels' =
 
 -- one order of a symbol on a side became another one of it, and these are the bests of the side
 -- before and after
-pub record TurnsSide (levels levels' : Entries) (symbol : List ℕ) (side : Side) (before now : Option Order)
-    (bests : Option (ℕ × ℕ) × Option (ℕ × ℕ)) : Type 0 where
+pub record TurnsSide (levels levels' : Entries) (symbol : List ℕ) (side : Side)
+    (before now : Option Order) (bests : Option (ℕ × ℕ) × Option (ℕ × ℕ)) : Type 0 where
   pub moves : MovesLevels before now levels levels'
   pub was : IsNearest side (level_in levels symbol side) bests.0
   pub is : IsNearest side (level_in levels' symbol side) bests.1

@@ -1,5 +1,6 @@
 pub mod Balance
 pub mod Changes
+pub mod Hearing
 pub mod Ladders
 pub mod Leveling
 pub mod Naming

@@ -19,11 +19,13 @@ best_text (Some best) = price_digits best.0 ++ (32 ∷ decimal best.1)
 
 -- how a line begins: the unit, and the sequence of the message
 abbrev pub quote_head : ℕ → ℕ → List ℕ
-quote_head unit sequence = codes "quote unit " ++ (decimal unit ++ (codes " at " ++ (decimal sequence ++ 32 ∷ [])))
+quote_head unit sequence =
+    codes "quote unit " ++ (decimal unit ++ (codes " at " ++ (decimal sequence ++ 32 ∷ [])))
 
 -- and how it ends: what the quote says
 abbrev pub quote_tail : Quote → List ℕ
-quote_tail quote = name_shown quote.symbol ++ (32 ∷ byte_of quote.side ∷ 32 ∷ (best_text quote.best ++ 10 ∷ []))
+quote_tail quote =
+    name_shown quote.symbol ++ (32 ∷ byte_of quote.side ∷ 32 ∷ (best_text quote.best ++ 10 ∷ []))
 
 -- the line of a change
 unfoldable pub quote_line : ℕ → QuoteLine → List ℕ
@@ -31,7 +33,9 @@ quote_line unit line = quote_head unit line.sequence ++ quote_tail line.quote
 
 -- the lines of a block that comes after others
 abbrev pub quoted_after : ℕ → (ℕ → List Raw) → List Block → Block → List ℕ
-quoted_after H Vs before block = flat_map (quote_line block.unit) (quotes_of_block H (Vs block.unit) (unit_history block.unit before) block)
+quoted_after H Vs before block =
+    flat_map (quote_line block.unit)
+    (quotes_of_block H (Vs block.unit) (unit_history block.unit before) block)
 
 -- the whole text for some blocks, the oldest first
 abbrev pub quotes_text : ℕ → (ℕ → List Raw) → List Block → List ℕ

@@ -23,7 +23,8 @@ quotes_at V k = numbered k (changes (book_after (take (k - 1) V)) (book_after (t
 -- those that messages make of a book, one after another, where the first has this sequence
 abbrev pub quoted : ℕ → Book → List Raw → List QuoteLine
 quoted first book [] = []
-quoted first book (raw ∷ raws) = numbered first (changes book (after book raw)) ++ quoted (first + 1) (after book raw) raws
+quoted first book (raw ∷ raws) =
+    numbered first (changes book (after book raw)) ++ quoted (first + 1) (after book raw) raws
 
 -- those of the n messages after the first r
 abbrev pub quotes_after : List Raw → ℕ → ℕ → List QuoteLine
@@ -38,7 +39,9 @@ quotes_of_block H V E block = quotes_after V (reach H E) (reach H (heard_block b
 abbrev pub unit_quotes : ℕ → List Raw → ℕ → List Block → List QuoteLine
 unit_quotes H V unit [] = []
 unit_quotes H V unit (block ∷ before) =
-    if block.unit == unit then unit_quotes H V unit before ++ quotes_of_block H V (unit_history unit before) block else unit_quotes H V unit before
+    if block.unit == unit
+    then unit_quotes H V unit before ++ quotes_of_block H V (unit_history unit before) block
+    else unit_quotes H V unit before
 
 -- ---- What the last line says
 abbrev pub is_for : List ℕ → Side → Quote → Bool
@@ -46,7 +49,9 @@ is_for symbol side quote = bytes_eq symbol quote.symbol && same_side side quote.
 
 -- the best that the last line of a symbol and side gives, or else this one
 abbrev pub last_or : List ℕ → Side → Option (ℕ × ℕ) → List QuoteLine → Option (ℕ × ℕ)
-last_or symbol side first lines = fold (λ before line. if is_for symbol side line.quote then line.quote.best else before) first lines
+last_or symbol side first lines =
+    fold (λ before line. if is_for symbol side line.quote then line.quote.best else before)
+    first lines
 
 -- none where there is no line
 abbrev pub last_best : List ℕ → Side → List QuoteLine → Option (ℕ × ℕ)

@@ -9,5 +9,6 @@ use Rattle.best_quotes.specs.declared.unit.QuotedUnit.{QuotedUnit}
 -- which E speaks; and its ladder has the client's book
 pub record Stands (unit : QuotedUnit) (H : ℕ) (E : List Entry) : Type 0 where
   pub tracks : Tracks unit.client H E
-  pub keeps : (Image : List Raw → ℕ → List Raw) (V : List Raw) → Honest Image V E → Keeps unit.client V
+  pub keeps : (Image : List Raw → ℕ → List Raw) (V : List Raw)
+      → Honest Image V E → Keeps unit.client V
   pub same : unit.ladder.book.book ≡ current_book unit.client

@@ -1,5 +1,5 @@
 -- A message that turns one book into another, its levels into the other's, and tells the changes.
-use Rattle.std.specs.Prelude.{◌≡◌, ◌⊎◌, ℕ, ◌+◌, ◌-◌, true, IsSome, List, ◌++◌, Option, None, Some}
+use Rattle.std.specs.Prelude.{◌≡◌, ◌⊎◌, ℕ, ◌+◌, true, IsSome, List, ◌++◌, Option, None, Some}
 use Rattle.std.specs.List.{flat_map}
 use Rattle.std.specs.Ordering.{nat_cmp}
 use Rattle.std.specs.Cmp.Lexicographic.{slice_cmp}
@@ -48,9 +48,11 @@ Turns old new levels levels' told told' =
     IsBook old → IsBook new → Has levels (level old) → Turned old new levels' told told'
 
 -- the same of any two books of which the second has one order in the place of another
-abbrev pub TurnsOrder : Option Order → Option Order → Entries → Entries → List Quote → List Quote → Type 0
+abbrev pub TurnsOrder
+    : Option Order → Option Order → Entries → Entries → List Quote → List Quote → Type 0
 TurnsOrder before now levels levels' told told' =
-    (old new : Book) (id : ℕ) → Becomes old new id before now → Turns old new levels levels' told told'
+    (old new : Book) (id : ℕ) → Becomes old new id before now
+    → Turns old new levels levels' told told'
 
 -- an order is one of a symbol, where there is one
 abbrev pub IsOf : List ℕ → Option Order → Type 0
@@ -68,7 +70,8 @@ no_bests = record { buy = None; sell = None }
 
 -- the quotes of symbols all of whose orders go
 abbrev pub gone : Book → List (List ℕ) → List Quote
-gone book symbols = flat_map (λ symbol. changes_between symbol (bests_of book symbol) no_bests) symbols
+gone book symbols =
+    flat_map (λ symbol. changes_between symbol (bests_of book symbol) no_bests) symbols
 
 -- a set has each symbol for which something is open
 abbrev pub HasSymbols : Entries → BTreeSet (List ℕ) → Type 0

@@ -17,12 +17,13 @@ abbrev pub StandsAt : ℕ → List Entry → Option QuotedUnit → Type 0
 StandsAt H E None = ⊥
 StandsAt H E (Some quoted) = Stands quoted H E
 
--- what is in a unit's place is where the unit's blocks bring it; where nothing is, no block was heard
--- of the unit
+-- what is in a unit's place is where the unit's blocks bring it; where nothing is, no block was
+-- heard of the unit
 abbrev pub IsQuoted : ℕ → List Block → ℕ → Option QuotedUnit → Type 0
 IsQuoted H before unit None = unit_history unit before ≡ []
 IsQuoted H before unit (Some quoted) = Stands quoted H (unit_history unit before)
 
 -- each unit heard its blocks
 pub record HaveQuoted (q : QuotedUnits) (before : List Block) : Type 0 where
-  pub each : (unit : ℕ) (quoted : Option QuotedUnit) → slice_get q.units unit ≡ Some quoted → IsQuoted q.limit before unit quoted
+  pub each : (unit : ℕ) (quoted : Option QuotedUnit)
+      → slice_get q.units unit ≡ Some quoted → IsQuoted q.limit before unit quoted

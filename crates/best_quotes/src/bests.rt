@@ -47,11 +47,7 @@ fn same_best(before: Best, now: Best) -> bool
 }
 
 // Appends a quote, where its best is another than before.
-pub(crate) fn tell(
-    told: &mut QuoteList,
-    before: Best,
-    quote: Quote,
-) -> Result<(), OutOfMemory>
+pub(crate) fn tell(told: &mut QuoteList, before: Best, quote: Quote) -> Result<(), OutOfMemory>
     ensures { OnOk result (told.new.items
         ≡ told.old.items ++ change_between quote.symbol quote.side before quote.best) }
 {

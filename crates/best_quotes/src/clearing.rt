@@ -41,7 +41,8 @@ fn tell_gone(
     told: &mut QuoteList,
 ) -> Result<(), OutOfMemory>
     ensures ordered { IsOrdered (slice_cmp nat_cmp) symbols.now }
-    ensures told { OnOk result ((book : Book) → IsBook book → Has levels.now.entries (level book)
+    ensures told { OnOk result ((book : Book)
+        → IsBook book → Has levels.now.entries (level book)
         → told.new.items ≡ told.old.items ++ gone book symbols.now.keys) }
 {
     for symbol in symbols.iter() {

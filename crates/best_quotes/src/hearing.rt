@@ -1,12 +1,7 @@
-ghost use Rattle.std.specs.Prelude.{◌≡◌, ◌++◌, ℕ, List, OnOk, IfOk, length};
-ghost use Rattle.unit_packets.specs.Blocks.{Block, StaysWithin};
-ghost use Rattle.pitch_model.specs.Heard.{block_change};
-ghost use Rattle.pitch_model.specs.HeardBlocks.{heard_block};
-ghost use Rattle.pitch_model.specs.History.{Entry, Raw};
-ghost use Rattle.pitch_model.specs.Honest.{Honest};
-ghost use Rattle.client_core.specs.Blocks.{Carries};
-ghost use Rattle.client_core.specs.Tracks.{Tracks, Keeps, current_book};
-ghost use Rattle.best_quotes.specs.Quoting.{quotes_of_block};
+ghost use Rattle.std.specs.Prelude.{◌≡◌, OnOk, IfOk, length};
+ghost use Rattle.unit_packets.specs.Blocks.{StaysWithin};
+ghost use Rattle.client_core.specs.Tracks.{current_book};
+ghost use Rattle.best_quotes.specs.Hearing.{OfBlock, TracksOn, KeepsOn, Answers, Tells};
 
 use crate::ladder::Ladder;
 use crate::lines::{QuoteLines, apply_all};
@@ -27,13 +22,15 @@ pub(crate) fn hear_block(
     lines: &mut QuoteLines,
 ) -> Result<Change, OutOfMemory>
     requires within { StaysWithin sequence (length raws) }
-    ensures same { OnOk result (ladder.old.book.book ≡ current_book client.old → ladder.new.book.book ≡ current_book client.new) }
-    ensures tracks { OnOk result ((block : Block) → Carries block sequence raws.entry → (H : ℕ) (E : List Entry) → Tracks client.old H E → Tracks client.new H (heard_block block E)) }
-    ensures keeps { OnOk result ((block : Block) → Carries block sequence raws.entry → (Image : List Raw → ℕ → List Raw) (V : List Raw) (E : List Entry) → Honest Image V (heard_block block E) → Keeps client.old V → Keeps client.new V) }
-    ensures change { IfOk result (λ change. (block : Block) → Carries block sequence raws.entry → (H : ℕ) (E : List Entry) → Tracks client.old H E → change ≡ block_change H E block) }
+    ensures same { OnOk result (ladder.old.book.book ≡ current_book client.old
+        → ladder.new.book.book ≡ current_book client.new) }
+    ensures tracks { OnOk result (OfBlock sequence raws.entry (TracksOn client.old client.new)) }
+    ensures keeps { OnOk result (OfBlock sequence raws.entry (KeepsOn client.old client.new)) }
+    ensures change { IfOk result (λ change.
+        OfBlock sequence raws.entry (Answers client.old change)) }
     // In an honest history the lines are those of the block, as the definition has them.
-    ensures lines { OnOk result ((block : Block) → Carries block sequence raws.entry → (Image : List Raw → ℕ → List Raw) (V : List Raw) → (H : ℕ) (E : List Entry) → Tracks client.old H E → Honest Image V (heard_block block E) → Keeps client.old V → ladder.old.book.book ≡ current_book client.old
-        → lines.new.items ≡ lines.old.items ++ quotes_of_block H V E block) }
+    ensures lines { OnOk result (OfBlock sequence raws.entry
+        (Tells client.old ladder.old.book.book lines.old.items lines.new.items)) }
 {
     applied.truncate(0);
     let reach = client.reach();

@@ -1,4 +1,4 @@
-ghost use Rattle.std.specs.Prelude.{◌≡◌, ◌<◌, ◌++◌, true, false, OnOk, OnErr, IsErr, IsFalse};
+ghost use Rattle.std.specs.Prelude.{◌≡◌, ◌<◌, ◌++◌, ◌↔◌, true, false, OnOk, OnErr, IsErr, IsTrue, IsFalse};
 ghost use Rattle.std.specs.FinMap as map;
 ghost use Rattle.pitch_messages.specs.Raw.{IsRaw};
 ghost use Rattle.order_book.specs.Standing.{most_orders};
@@ -64,9 +64,11 @@ impl Ladder {
         best_level(&self.levels, symbol, side)
     }
 
-    // Whether it has as many orders as a book has at most.
-    pub(crate) fn is_full(&self) -> bool
-        ensures { IsFalse result → map.len self.now.book.book.orders < most_orders }
+    /// Whether it has as many orders as a book has at most, 4,294,967,295. Where it has not,
+    /// `apply` may be asked.
+    pub fn is_full(&self) -> bool
+        ensures full { IsTrue result ↔ (map.len self.now.book.book.orders ≡ most_orders) }
+        ensures room { IsFalse result → map.len self.now.book.book.orders < most_orders }
     {
         self.book.len() == u32::MAX
     }
@@ -87,7 +89,8 @@ impl Ladder {
         requires raw { IsRaw raw.now }
         requires few { map.len self.old.book.book.orders < most_orders }
         ensures book { OnOk result (self.new.book.book ≡ after self.old.book.book raw.now) }
-        ensures quotes { OnOk result (quotes.new.items ≡ quotes.old.items ++ changes self.old.book.book self.new.book.book) }
+        ensures quotes { OnOk result (quotes.new.items
+            ≡ quotes.old.items ++ changes self.old.book.book self.new.book.book) }
         ensures ready { OnOk result (self.new.spent ≡ false) }
         ensures spent { OnErr result (self.new.spent ≡ true) }
         ensures err { OnErr result (quotes.new.items ≡ quotes.old.items) }
@@ -117,7 +120,8 @@ impl Ladder {
     pub fn apply(&mut self, raw: &Raw, quotes: &mut QuoteList) -> Result<(), OutOfMemory>
         requires few { map.len self.old.book.book.orders < most_orders }
         ensures book { OnOk result (self.new.book.book ≡ after self.old.book.book raw.now) }
-        ensures quotes { OnOk result (quotes.new.items ≡ quotes.old.items ++ changes self.old.book.book self.new.book.book) }
+        ensures quotes { OnOk result (quotes.new.items
+            ≡ quotes.old.items ++ changes self.old.book.book self.new.book.book) }
         ensures ready { OnOk result (self.new.spent ≡ false) }
         ensures spent { OnErr result (self.new.spent ≡ true) }
         ensures err { OnErr result (quotes.new.items ≡ quotes.old.items) }

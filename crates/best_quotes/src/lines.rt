@@ -14,7 +14,8 @@ pub type QuoteLines = List<QuoteLine>;
 
 // Appends quotes with a sequence.
 fn number(lines: &mut QuoteLines, sequence: u32, quotes: &QuoteList) -> Result<(), OutOfMemory>
-    ensures { OnOk result (lines.new.items ≡ lines.old.items ++ numbered sequence quotes.now.items) }
+    ensures { OnOk result
+        (lines.new.items ≡ lines.old.items ++ numbered sequence quotes.now.items) }
 {
     for quote in quotes.as_slice() {
         let line = QuoteLine {
@@ -38,18 +39,21 @@ pub(crate) fn apply_all(
     lines: &mut QuoteLines,
 ) -> Result<(), OutOfMemory>
     requires within { reach + length raws ≤ 4294967295 }
-    ensures book { OnOk result (ladder.new.book.book ≡ fold after ladder.old.book.book raws.entry) }
-    ensures lines { OnOk result (lines.new.items ≡ lines.old.items ++ quoted (reach + 1) ladder.old.book.book raws.entry) }
+    ensures book { OnOk result
+        (ladder.new.book.book ≡ fold after ladder.old.book.book raws.entry) }
+    ensures lines { OnOk result (lines.new.items
+        ≡ lines.old.items ++ quoted (reach + 1) ladder.old.book.book raws.entry) }
 {
     ladder.look_up(raws.copy());
     let mut raws = raws;
     let mut sequence = reach;
+    let mut quotes = QuoteList::make(alloc);
     'messages: while let Some(raw) = raws.next_raw() {
         sequence += 1;
         if ladder.is_full() {
             return Err(OutOfMemory);
         }
-        let mut quotes = QuoteList::make(alloc);
+        quotes.truncate(0);
         ladder.apply_bytes(raw, &mut quotes)?;
         number(lines, sequence, &quotes)?;
     }

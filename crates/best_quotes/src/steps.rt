@@ -23,7 +23,7 @@ fn turn_on(
 ) -> Result<(), OutOfMemory>
     ensures { OnOk result (IsOn symbol side before.now → IsOn symbol side now.now
         → TurnsOrder before.now now.now levels.old.entries levels.new.entries
-            told.old.items told.new.items) }
+        told.old.items told.new.items) }
 {
     let bests = turn_side(levels, symbol, side, before, now)?;
     let quote = Quote {
@@ -85,7 +85,7 @@ fn turn_one(
 ) -> Result<(), OutOfMemory>
     ensures { OnOk result (IsOf symbol before.now → IsOf symbol now.now
         → TurnsOrder before.now now.now levels.old.entries levels.new.entries
-            told.old.items told.new.items) }
+        told.old.items told.new.items) }
 {
     let bests = bests_of(levels, symbol);
     move_shares(levels, before, now)?;
@@ -105,7 +105,7 @@ fn turn_two(
     requires { slice_cmp nat_cmp first second ≡ Less }
     ensures { OnOk result (IsOfTwo first second before.now → IsOfTwo first second now.now
         → TurnsOrder before.now now.now levels.old.entries levels.new.entries
-            told.old.items told.new.items) }
+        told.old.items told.new.items) }
 {
     let bests_first = bests_of(levels, first);
     let bests_second = bests_of(levels, second);
@@ -128,7 +128,7 @@ fn turn_both(
     requires now { now.now ≡ Some other.now }
     ensures { OnOk result
         (TurnsOrder before.now now.now levels.old.entries levels.new.entries
-            told.old.items told.new.items) }
+        told.old.items told.new.items) }
 {
     match order.symbol.bytes().cmp(&other.symbol.bytes()) {
         Ordering::Less => {
@@ -155,7 +155,7 @@ pub(crate) fn turn_order(
 ) -> Result<(), OutOfMemory>
     ensures { OnOk result
         (TurnsOrder before.now now.now levels.old.entries levels.new.entries
-            told.old.items told.new.items) }
+        told.old.items told.new.items) }
 {
     match before {
         None => match now {

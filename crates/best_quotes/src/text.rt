@@ -78,7 +78,8 @@ fn append_quote(unit: u8, quote: &QuoteLine, text: &mut Vec<u8>) -> Result<(), O
 
 /// Appends the lines of quotes of a unit.
 pub fn append_quotes(unit: u8, quotes: &[QuoteLine], text: &mut Vec<u8>) -> Result<(), OutOfMemory>
-    ensures { OnOk result (text.new.items ≡ text.old.items ++ flat_map (quote_line unit) quotes.now) }
+    ensures { OnOk result
+        (text.new.items ≡ text.old.items ++ flat_map (quote_line unit) quotes.now) }
 {
     'lines: for quote in quotes {
         append_quote(unit, quote, text)?;

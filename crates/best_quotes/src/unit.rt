@@ -1,10 +1,8 @@
-ghost use Rattle.std.specs.Prelude.{◌≡◌, ◌≤◌, ◌++◌, ℕ, List, [], OnOk, IfOk};
+ghost use Rattle.std.specs.Prelude.{◌≡◌, ◌≤◌, ℕ, List, [], OnOk, IfOk};
 ghost use Rattle.pitch_fields.specs.Limits.{most_held};
 ghost use Rattle.pitch_model.specs.Heard.{block_change};
-ghost use Rattle.pitch_model.specs.HeardBlocks.{heard_block};
-ghost use Rattle.pitch_model.specs.History.{Entry, Raw};
-ghost use Rattle.pitch_model.specs.Honest.{Honest};
-ghost use Rattle.best_quotes.specs.Quoting.{quotes_of_block};
+ghost use Rattle.pitch_model.specs.History.{Entry};
+ghost use Rattle.best_quotes.specs.Hearing.{StandsOn, Quotes};
 ghost use Rattle.best_quotes.specs.Stands.{Stands};
 
 use crate::hearing::hear_block;
@@ -51,12 +49,12 @@ impl QuotedUnit {
         lines: &mut QuoteLines,
     ) -> Result<Change, OutOfMemory>
         // Whatever history the unit stood for, it now stands for that history and this block.
-        ensures stands { OnOk result ((H : ℕ) (E : List Entry) → Stands self.old H E → Stands self.new H (heard_block block.now E)) }
+        ensures stands { OnOk result (StandsOn self.old self.new block.now) }
         // Of any venue of which that history speaks, the lines are those of the block.
-        ensures quotes { OnOk result ((Image : List Raw → ℕ → List Raw) (V : List Raw) (H : ℕ) (E : List Entry) → Stands self.old H E → Honest Image V (heard_block block.now E)
-            → lines.new.items ≡ lines.old.items ++ quotes_of_block H V E block.now) }
+        ensures quotes { OnOk result (Quotes self.old lines.old.items lines.new.items block.now) }
         // The answer is what the block changes, as of a client alone.
-        ensures change { IfOk result (λ change. (H : ℕ) (E : List Entry) → Stands self.old H E → change ≡ block_change H E block.now) }
+        ensures change { IfOk result (λ change. (H : ℕ) (E : List Entry)
+            → Stands self.old H E → change ≡ block_change H E block.now) }
     {
         let sequence = block.header().sequence;
         let change = hear_block(

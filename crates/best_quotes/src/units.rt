@@ -44,7 +44,8 @@ impl Model for QuotedUnits {
 
 // No unit was heard of yet.
 fn no_units(alloc: Global) -> Result<Vec<Option<QuotedUnit>>, OutOfMemory>
-    ensures units { IfOk result (λ units. (H : ℕ) → HaveQuoted (record { limit = H; units = units.items }) []) }
+    ensures units { IfOk result (λ units. (H : ℕ)
+        → HaveQuoted (record { limit = H; units = units.items }) []) }
     ensures many { IfOk result (λ units. length units.items ≡ 256) }
 {
     let mut units = Vec::with_capacity(alloc, UNITS)?;
@@ -63,12 +64,18 @@ fn hear_at(
     lines: &mut QuoteLines,
 ) -> Result<Change, OutOfMemory>
     requires { (1 ≤ limit) × (limit ≤ most_held) }
-    ensures stands { OnOk result ((before : List Block) → IsQuoted limit before block.now.unit slot.old
+    ensures stands { OnOk result ((before : List Block)
+        → IsQuoted limit before block.now.unit slot.old
         → StandsAt limit (heard_block block.now (unit_history block.now.unit before)) slot.new) }
-    ensures quotes { OnOk result ((before : List Block) (Image : List Raw → ℕ → List Raw) (V : List Raw) → IsQuoted limit before block.now.unit slot.old
+    ensures quotes { OnOk result
+        ((before : List Block) (Image : List Raw → ℕ → List Raw) (V : List Raw)
+        → IsQuoted limit before block.now.unit slot.old
         → Honest Image V (heard_block block.now (unit_history block.now.unit before))
-        → lines.new.items ≡ lines.old.items ++ quotes_of_block limit V (unit_history block.now.unit before) block.now) }
-    ensures change { IfOk result (λ change. (before : List Block) → IsQuoted limit before block.now.unit slot.old → change ≡ block_change limit (unit_history block.now.unit before) block.now) }
+        → lines.new.items ≡ lines.old.items
+        ++ quotes_of_block limit V (unit_history block.now.unit before) block.now) }
+    ensures change { IfOk result (λ change. (before : List Block)
+        → IsQuoted limit before block.now.unit slot.old
+        → change ≡ block_change limit (unit_history block.now.unit before) block.now) }
 {
     match slot {
         Some(quoted) => quoted.hear(block, lines),
@@ -104,12 +111,17 @@ impl QuotedUnits {
     ) -> Result<Change, OutOfMemory>
         ensures limit { self.new.limit ≡ self.old.limit }
         // Whatever blocks came before, the units then stand for these with the block after them.
-        ensures heard { OnOk result ((before : List Block) → HaveQuoted self.old before → HaveQuoted self.new (block.now ∷ before)) }
+        ensures heard { OnOk result ((before : List Block)
+            → HaveQuoted self.old before → HaveQuoted self.new (block.now ∷ before)) }
         // For every family of venues of which all these blocks speak, what is appended are the
         // block's quotes.
-        ensures quotes { OnOk result ((before : List Block) (Image : List Raw → ℕ → List Raw) (Vs : ℕ → List Raw) → HaveQuoted self.old before → AllHonest Image Vs (block.now ∷ before)
-            → lines.new.items ≡ lines.old.items ++ quotes_of_block self.old.limit (Vs block.now.unit) (unit_history block.now.unit before) block.now) }
-        ensures change { IfOk result (λ change. (before : List Block) → HaveQuoted self.old before
+        ensures quotes { OnOk result
+            ((before : List Block) (Image : List Raw → ℕ → List Raw) (Vs : ℕ → List Raw)
+            → HaveQuoted self.old before → AllHonest Image Vs (block.now ∷ before)
+            → lines.new.items ≡ lines.old.items ++ quotes_of_block self.old.limit
+            (Vs block.now.unit) (unit_history block.now.unit before) block.now) }
+        ensures change { IfOk result (λ change. (before : List Block)
+            → HaveQuoted self.old before
             → change ≡ block_change self.old.limit (unit_history block.now.unit before) block.now) }
     {
         let unit = block.header().unit as usize;

@@ -1,4 +1,4 @@
-use Rattle.std.proofs.Common.{List, ℕ, Some, None, Option, sym, ap, ◌∙◌, subst}
+use Rattle.std.proofs.Common.{List, ℕ, Some, None, Option, sym, ◌∙◌, subst}
 use Rattle.std.specs.Option.{IfSome}
 use Rattle.std.specs.Str.{bytes_eq}
 use Rattle.std.proofs.lemmas.List.{nil_from_length}
@@ -13,7 +13,7 @@ returns-then-is_empty-2 c =
     let sides = c.in-Some.sides.now in
     let removed = c.swap_remove_index.ensures in
     let updates = subst (λ (r : Option (List ℕ × Sides)). IfSome r (λ p. Updates bytes_eq levels c.swap_remove_index.new.self p.0 None))
-        (removed.entry ∙ sym c.in-Some.ensures.entry) removed.updates in
+    (removed.entry ∙ sym c.in-Some.ensures.entry) removed.updates in
     let buy = nil_from_length sides.buy.entries (c.is_empty.ensures.0 c.if-is_empty.true) in
     let sell = nil_from_length sides.sell.entries (c.is_empty-then-is_empty.ensures.0 c.if-is_empty-2.true) in
     same_where levels.entries c.swap_remove_index.new.self.entries c.in-Some.field-0-0.now (Some sides) None

@@ -1,4 +1,4 @@
-use Rattle.std.proofs.Common.{List, ℕ, Some, None, sym, ap, ◌∙◌}
+use Rattle.std.proofs.Common.{Some, None}
 use Rattle.std.specs.Map.{lookup}
 use Rattle.std.specs.Str.{bytes_eq}
 use Rattle.best_quotes.proofs.Sided.{same_where, no_level, none_found}

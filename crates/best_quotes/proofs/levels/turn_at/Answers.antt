@@ -1,10 +1,9 @@
-use Rattle.std.proofs.Common.{List, ℕ, Some, Bool, Option, cond, sym, ap, ◌≡◌, ◌∙◌, subst}
+use Rattle.std.proofs.Common.{List, ℕ, Some, cond, sym, ap, ◌∙◌}
 use Rattle.std.specs.Map.{lookup}
 use Rattle.std.specs.Str.{bytes_eq}
 use Rattle.std.proofs.lemmas.Cmp.{nat_list_eq_equiv}
 use Rattle.indexmap.specs.IndexMap.{set_value_at}
 use Rattle.indexmap.proofs.CallerLemmas.{updates-with_value_at}
-use Rattle.best_quotes.specs.declared.levels.Sides.{Sides}
 use Rattle.best_quotes.proofs.Sided.{placed, turned_at}
 use Rattle.best_quotes.proofs.levels.turn_at.Goals as goal
 

@@ -15,6 +15,6 @@ messages-preserved c =
     record {
       book = book_along book now c.in-Some.raw.now c.messages.raws c.next_raw.new.self is then ∙ c.messages.invariant.book;
       lines = lines_along book now c.in-Some.raw.now c.messages.raws c.next_raw.new.self is then c.messages.lines.items c.number.new.lines.items (c.messages.sequence + 1) c.apply_bytes.new.quotes.items
-          (c.in_ok-apply_bytes.ensures.quotes ∙ ap (λ (q : List Quote). q ++ changes book now) c.make-quotes.ensures) c.in_ok-number.ensures ∙ c.messages.invariant.lines;
+          (c.in_ok-apply_bytes.ensures.quotes ∙ ap (λ (q : List Quote). q ++ changes book now) c.truncate.ensures.items) c.in_ok-number.ensures ∙ c.messages.invariant.lines;
       within = omega arith;
     }

@@ -1,4 +1,4 @@
-use Rattle.std.proofs.Common.{Option, None, Some, refl, sym, subst}
+use Rattle.std.proofs.Common.{Option, None, refl, sym, subst}
 use Rattle.pitch_messages.specs.declared.order.Order.{Order}
 use Rattle.best_quotes.specs.Leveling.{IsOn, MovesLevels}
 use Rattle.best_quotes.proofs.Sided.{moves_nothing}

@@ -1,4 +1,4 @@
-use Rattle.std.proofs.Common.{◌≡◌, List, sym, ap}
+use Rattle.std.proofs.Common.{sym, ap}
 use Rattle.unit_packets.specs.declared.header.Header.{Header}
 use Rattle.pitch_model.proofs.Units.{honest_block}
 use Rattle.client_core.specs.Blocks.{Carries}
