@@ -22,7 +22,8 @@ ghost use Rattle.best_quotes.specs.Quoting.{unit_quotes, last_best, quoted, quot
 /// The last line of a symbol and side gives its best in the reached book, and where there is no
 /// line it has none.
 pub fn last_lines_give_the_best()
-    ensures { (H : ℕ) (V : List Raw) (unit : ℕ) (before : List Block) (symbol : List ℕ) (side : Side)
+    ensures { (H : ℕ) (V : List Raw) (unit : ℕ) (before : List Block)
+        (symbol : List ℕ) (side : Side)
         → last_best symbol side (unit_quotes H V unit before)
         ≡ best (book_after (take (reach H (unit_history unit before)) V)) symbol side }
 {}
@@ -43,7 +44,8 @@ pub fn levels_change_by_the_orders()
 /// The changes are those of the symbols in any rising list outside of which no best becomes
 /// another: for each of them to buy and then to sell.
 pub fn changes_are_of_what_changes()
-    ensures { (old new : Book) (symbols : List (List ℕ)) → IsStrictlySortedBy (slice_cmp nat_cmp) symbols
+    ensures { (old new : Book) (symbols : List (List ℕ))
+        → IsStrictlySortedBy (slice_cmp nat_cmp) symbols
         → ((symbol : List ℕ) → list_any (eq_by_cmp (slice_cmp nat_cmp) symbol) symbols ≡ false
         → (side : Side) → same_best (best old symbol side) (best new symbol side) ≡ true)
         → changes old new ≡ flat_map (changes_for old new) symbols }
