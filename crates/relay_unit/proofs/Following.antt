@@ -14,11 +14,11 @@ use Rattle.unit_packets.specs.Blocks.{Block}
 use Rattle.unit_packets.specs.Packing.{packed}
 use Rattle.client_core.specs.Tracks.{Keeps, current_book}
 use Rattle.client_core.specs.declared.client.UnitClient.{UnitClient}
-use Rattle.relay_unit.specs.Following.{IsStep, AreSteps, sent_in, Sends, Shows, HasSent, SendsMore}
+use Rattle.relay_unit.specs.Following.{AreImage, IsStep, AreSteps, sent_in, Sends, Shows, KnowsAllOf, LeaveNothingOut, HasSent, SendsMore}
 use Rattle.relay_unit.specs.Sending.{SendsFor, SendsApplied}
 use Rattle.relay_unit.specs.Stands.{followed_book, relay_unit_of}
 use Rattle.relay_unit.specs.declared.relay.Relay.{Relay}
-use Rattle.relay_unit.proofs.Laying.{LaidOver, fold_laid, cleared_laid}
+use Rattle.relay_unit.proofs.Laying.{LaidOver, fold_laid, cleared_laid, laid_whole}
 use Rattle.relay_unit.proofs.Sending.{clears}
 
 -- ---- Steps
@@ -161,6 +161,15 @@ shows_same book other e = record {
   statuses = λ q status f. ap (λ (b : Book). finite.get b.statuses q) e ∙ f;
 }
 
+-- an image is laid over what was there, all orders of which go
+image_laid : (follower book' : Book) (raws : List Raw) → AreImage raws book' → LaidOver follower book' (fold after follower raws)
+image_laid follower book' raws imaged =
+    let anew = fold_laid follower empty_book (cleared follower) (image_of book') (cleared_laid follower) in
+    let all : fold after follower raws ≡ fold after (cleared follower) (image_of book') =
+    ap (fold after follower) imaged.raws_are ∙ ap (λ (b : Book). fold after b (image_of book')) (clears follower) in
+    subst (LaidOver follower book') (sym all)
+    (subst (λ (b : Book). LaidOver follower b (fold after (cleared follower) (image_of book'))) imaged.leaves anew)
+
 -- a follower applies the messages of a step
 step_shows : (follower book book' : Book) (raws : List Raw) → Shows follower book → IsStep book raws book' → Shows (fold after follower raws) book'
 step_shows follower book book' raws s (inl applied) =
@@ -168,12 +177,7 @@ step_shows follower book book' raws s (inl applied) =
     (subst (λ (b : Book). LaidOver follower b (fold after follower raws)) (sym applied)
     (fold_laid follower book follower raws (shows_laid follower book s)))
 step_shows follower book book' raws s (inr imaged) =
-    let anew = fold_laid follower empty_book (cleared follower) (image_of book') (cleared_laid follower) in
-    let all : fold after follower raws ≡ fold after (cleared follower) (image_of book') =
-    ap (fold after follower) imaged.raws_are ∙ ap (λ (b : Book). fold after b (image_of book')) (clears follower) in
-    laid_shows follower book' (fold after follower raws)
-    (subst (LaidOver follower book') (sym all)
-    (subst (λ (b : Book). LaidOver follower b (fold after (cleared follower) (image_of book'))) imaged.leaves anew))
+    laid_shows follower book' (fold after follower raws) (image_laid follower book' raws imaged)
 
 steps_show : (follower book book' : Book) (steps : List (List Raw × Book)) → Shows follower book → AreSteps book steps book' → Shows (fold after follower (sent_in steps)) book'
 steps_show follower book book' [] s same = subst (Shows follower) (sym same) s
@@ -189,3 +193,18 @@ followers_show follower book book' raws s sends =
 pub relays_show : (relay : Relay) (raws : List Raw) → HasSent relay raws → Shows (book_after raws) (followed_book relay)
 relays_show relay raws S =
     followers_show empty_book empty_book (followed_book relay) raws (shows_same empty_book empty_book refl) S.sends
+
+-- ---- Where no image leaves anything out
+step_exact : (book book' : Book) (raws : List Raw) → IsStep book raws book' → (AreImage raws book' → KnowsAllOf book' book) → fold after book raws ≡ book'
+step_exact book book' raws (inl applied) knows = sym applied
+step_exact book book' raws (inr imaged) knows = laid_whole book book' (fold after book raws) (image_laid book book' raws imaged) (knows imaged)
+
+steps_exact : (book book' : Book) (steps : List (List Raw × Book)) → AreSteps book steps book' → LeaveNothingOut book steps → fold after book (sent_in steps) ≡ book'
+steps_exact book book' [] same whole = sym same
+steps_exact book book' (step ∷ steps) are whole =
+    fold-append after book step.0 (sent_in steps)
+    ∙ ap (λ (b : Book). fold after b (sent_in steps)) (step_exact book step.1 step.0 are.0 whole.0)
+    ∙ steps_exact step.1 book' steps are.1 whole.1
+
+pub followers_exact : (book book' : Book) (raws : List Raw) (s : Sends book raws book') → LeaveNothingOut book s.steps → fold after book raws ≡ book'
+followers_exact book book' raws s whole = ap (fold after book) s.joined ∙ steps_exact book book' s.steps s.are whole

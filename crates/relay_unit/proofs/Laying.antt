@@ -5,6 +5,7 @@ use Rattle.std.specs.Option.{option_map, option_or}
 use Rattle.std.specs.Ordering.{eq_by_cmp, nat_cmp}
 use Rattle.std.specs.FinMap as map
 use Rattle.std.proofs.lemmas.Cmp.{nat_list_cmp_total}
+use Rattle.std.proofs.lemmas.Option.{none-some}
 use Rattle.pitch_messages.specs.declared.order.Order.{Order}
 use Rattle.pitch_messages.specs.declared.message.Message.{Message}
 use Rattle.pitch_messages.specs.declared.message.Message.TheVariants.{Time, AddLong, AddShort, Executed, ExecutedAt, ReduceLong, ReduceShort, ModifyLong, ModifyShort, Delete, TradeLong, TradeShort, TradeBreak, EndOfSession, AddExpanded, TradeExpanded, TradingStatus, UnitClear, Other}
@@ -12,6 +13,7 @@ use Rattle.pitch_messages.specs.declared.message.ReadError.{ReadError}
 use Rattle.pitch_messages.specs.Reading.{reads}
 use Rattle.pitch_model.specs.History.{Raw}
 use Rattle.pitch_model.specs.Book.{Book, symbol_cmp, empty_book, cleared, without_order, with_order, with_status, added, reformed, changed, order_of_long, order_of_short, order_of_expanded, reduced_by, left_with, modified, is_displayed, long_price, after_message, after_read, after}
+use Rattle.relay_unit.specs.Following.{KnowsAllOf}
 
 -- the whole is what is on top, with the clock and the statuses below where the top has none
 pub record LaidOver (below top whole : Book) : Type 0 where
@@ -149,3 +151,25 @@ anew_after_clear book raws more same =
     laid_twice book (fold after (record empty_book { orders = book.orders }) more) (fold after book more) (fold after (cleared book) raws)
     (fold_laid book (record empty_book { orders = book.orders }) book more (book_laid book))
     (subst (λ (b : Book). LaidOver book b (fold after (cleared book) raws)) same (fold_laid book empty_book (cleared book) raws (cleared_laid book)))
+
+same_or : {A : Type 0} (top below : Option A) → ((x : A) → below ≡ Some x → (y : A) × (top ≡ Some y)) → option_or top below ≡ top
+same_or None None knows = refl
+same_or (Some y) below knows = refl
+same_or None (Some x) knows = let found = knows x refl in absurd (none-some found.0 found.1)
+
+-- where the top has a clock and each status that is known below, nothing shows from below
+pub laid_whole : (below top whole : Book) → LaidOver below top whole → KnowsAllOf top below → whole ≡ top
+laid_whole below top whole L knows = λ i. record {
+  second = second i;
+  orders = L.orders_are i;
+  statuses = statuses i;
+}
+  where
+    second : whole.second ≡ top.second
+    second = L.second_is ∙ same_or top.second below.second knows.clock
+
+    shown : (q : List ℕ) → map.get whole.statuses q ≡ map.get top.statuses q
+    shown q = L.statuses_are q ∙ same_or (map.get top.statuses q) (map.get below.statuses q) (knows.statuses q)
+
+    statuses : whole.statuses ≡ top.statuses
+    statuses = map.same_map nat_list_cmp_total (map.slice_cmp-IsAntisymmetric map.nat_cmp-IsAntisymmetric) whole.statuses top.statuses shown

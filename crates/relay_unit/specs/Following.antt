@@ -48,6 +48,20 @@ pub record Shows (book other : Book) : Type 0 where
       → finite.get other.statuses symbol ≡ Some status
       → finite.get book.statuses symbol ≡ Some status
 
+-- a book has a clock where another has one, and a trading status of each symbol of which the other
+-- has one
+pub record KnowsAllOf (book other : Book) : Type 0 where
+  pub clock : (second : ℕ) → other.second ≡ Some second → (known : ℕ) × (book.second ≡ Some known)
+  pub statuses : (symbol : List ℕ) (status : ℕ × ℕ)
+      → finite.get other.statuses symbol ≡ Some status
+      → (known : ℕ × ℕ) × (finite.get book.statuses symbol ≡ Some known)
+
+-- no image of these steps leaves out a clock or a status that was known before it
+abbrev pub LeaveNothingOut : Book → List (List Raw × Book) → Type 0
+LeaveNothingOut book [] = Unit {0}
+LeaveNothingOut book (step ∷ steps) =
+    (AreImage step.0 step.1 → KnowsAllOf step.1 book) × LeaveNothingOut step.1 steps
+
 -- these are all the messages that the relay has sent, from an empty book on, whose sequences run
 -- from 1 without a break
 pub record HasSent (relay : Relay) (raws : List Raw) : Type 0 where

@@ -71,6 +71,7 @@ impl Relay {
         ensures stands { IfOk result (λ relay. Stands relay limit first_heard) }
         // It has heard nothing, and so no more messages than any number.
         ensures heard { IfOk result (λ relay. (count : ℕ) → HasHeard relay count) }
+        // It has sent no messages, and the book that it follows is empty.
         ensures any { IfOk result (λ relay. HasSent relay []) }
         ensures empty { IfOk result (λ relay. followed_book relay ≡ empty_book) }
         ensures unit { IfOk result (λ relay. relay_unit_of relay ≡ unit) }

@@ -76,6 +76,7 @@ impl Relays {
         requires { (1 ≤ limit) × (limit ≤ most_held) }
         ensures limit { IfOk result (λ relays. relays.limit ≡ limit) }
         ensures heard { IfOk result (λ relays. HaveRelayed relays []) }
+        // No unit's relay has sent a message.
         ensures any { IfOk result (λ relays. HaveSent relays (λ unit. [])) }
     {
         let relays = empty_places(alloc)?;
