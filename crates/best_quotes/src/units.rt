@@ -15,7 +15,7 @@ use client_core::Change;
 use pitch_fields::OutOfMemory;
 use std::alloc::Global;
 use std::marker::Model;
-use unit_clients::UNITS;
+use unit_clients::empty_places;
 use unit_packets::BlockView;
 
 /// The quoted unit of each unit that a block named. Each holds at most so many messages that came
@@ -40,19 +40,6 @@ impl Model for QuotedUnits {
     ghost coded = { Prim.hlevel (codes, quoted.the_row.coded) };
 
     ghost invariant = { λ q. (1 ≤ q.limit) × (q.limit ≤ most_held) × (length q.units.items ≡ 256) };
-}
-
-// No unit was heard of yet.
-fn no_units(alloc: Global) -> Result<Vec<Option<QuotedUnit>>, OutOfMemory>
-    ensures units { IfOk result (λ units. (H : ℕ)
-        → HaveQuoted (record { limit = H; units = units.items }) []) }
-    ensures many { IfOk result (λ units. length units.items ≡ 256) }
-{
-    let mut units = Vec::with_capacity(alloc, UNITS)?;
-    for _ in 0..UNITS {
-        units.push(None)?;
-    }
-    Ok(units)
 }
 
 // Hands a block to what is in its unit's place, which is made where there is nothing.
@@ -95,7 +82,7 @@ impl QuotedUnits {
         ensures limit { IfOk result (λ units. units.limit ≡ limit) }
         ensures heard { IfOk result (λ units. HaveQuoted units []) }
     {
-        let units = no_units(alloc)?;
+        let units = empty_places(alloc)?;
         Ok(QuotedUnits { limit, units })
     }
 
