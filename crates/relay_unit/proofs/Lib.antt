@@ -9,5 +9,6 @@ pub mod Bytes
 pub mod Speaking
 pub mod Units
 pub mod Following
+pub mod Followers
 pub mod Packed
 pub mod Examples

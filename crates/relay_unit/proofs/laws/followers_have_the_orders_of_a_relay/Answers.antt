@@ -1,4 +1,4 @@
-use Rattle.relay_unit.proofs.Following.{followers_show, followers_exact, relays_show}
+use Rattle.relay_unit.proofs.Followers.{followers_show, followers_exact, relays_show}
 use Rattle.relay_unit.proofs.laws.followers_have_the_orders_of_a_relay.Goals as goal
 
 pub returns-clause-step : goal.returns-clause-step
