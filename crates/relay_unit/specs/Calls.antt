@@ -55,6 +55,10 @@ AppendsAny r r' block out out' =
     (sent : List Raw) → HasSent r sent
     → (added : List ℕ) × (out' ≡ out ++ added) × SendsMore r r' block sent added
 
+-- bytes are appended to those before
+abbrev pub Appends : (out out' : List ℕ) → Type 0
+Appends out out' = (added : List ℕ) × (out' ≡ out ++ added)
+
 -- ---- Of the relays of a stream, the same, where these blocks were heard
 abbrev pub HaveRelayedAfter : Relays → Relays → Block → Type 0
 HaveRelayedAfter r r' block =

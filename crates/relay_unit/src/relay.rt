@@ -57,7 +57,7 @@ impl Relay {
     ghost use Rattle.pitch_fields.specs.Limits.{most_held};
     ghost use Rattle.pitch_model.specs.Book.{empty_book};
     ghost use Rattle.relay_unit.specs.Calls.{StandsAfter, AppendsRelayed, OutrunsAfter};
-    ghost use Rattle.relay_unit.specs.Calls.{IsChangeAfter, HearsFew, SpendsFew, AppendsAny};
+    ghost use Rattle.relay_unit.specs.Calls.{IsChangeAfter, HearsFew, SpendsFew, AppendsAny, Appends};
     ghost use Rattle.relay_unit.specs.Following.{HasSent};
     ghost use Rattle.relay_unit.specs.Hearing.{first_heard};
     ghost use Rattle.relay_unit.specs.Sparing.{HasHeard};
@@ -101,6 +101,7 @@ impl Relay {
             (AppendsAny self.old self.new block.now out.old.items out.new.items) }
         ensures unit { relay_unit_of self.new ≡ relay_unit_of self.old }
         ensures spent { self.new.spent ≡ self.old.spent }
+        ensures grown { OnOk result (Appends out.old.items out.new.items) }
         ensures out { OnErr result (out.new.items ≡ out.old.items) }
     {
         self.added.truncate(0);
@@ -144,6 +145,7 @@ impl Relay {
         ensures any { OnOk result
             (AppendsAny self.old self.new block.now out.old.items out.new.items) }
         ensures unit { relay_unit_of self.new ≡ relay_unit_of self.old }
+        ensures grown { OnOk result (Appends out.old.items out.new.items) }
         ensures out { OnErr result (out.new.items ≡ out.old.items) }
         // Once it was refused, the relay gives that answer again.
         ensures ready { OnOk result (GoesOn self.old) }

@@ -75,3 +75,7 @@ returns-clause-any c =
     c.truncate.ensures.items heard.any heard.line (ap (λ (b : Standing). b.book) c.tick.ensures.still.book_is)
     (c.in_ok-append_packed.ensures.ok ∙ ap (λ (raws : List Raw). c.args.out.now.items ++ concat (packed c.args.self.now.unit (c.args.self.now.sent + 1) raws)) c.raws.ensures)
     (ap (λ (n : ℕ). c.args.self.now.sent + n) c.len-more.ensures.length)
+
+pub returns-clause-grown : goal.returns-clause-grown
+returns-clause-grown c =
+    (concat (packed c.args.self.now.unit (c.args.self.now.sent + 1) c.raws.result), c.in_ok-append_packed.ensures.ok)
