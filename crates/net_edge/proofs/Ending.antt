@@ -8,7 +8,6 @@ use Rattle.pitch_io.specs.declared.line.Line.{Line}
 use Rattle.pitch_io.specs.declared.line.Line.TheVariants.{A, B, Gap}
 use Rattle.pitch_io.specs.Nets.{Call}
 use Rattle.pitch_messages.specs.Raw.{IsRaw}
-use Rattle.pitch_model.specs.Datagrams.{IsPiece}
 use Rattle.pitch_model.specs.History.{Raw}
 use Rattle.pitch_model.specs.Levels.{shares}
 use Rattle.pitch_model.specs.Status.{status_of}
@@ -24,7 +23,7 @@ use Rattle.net_edge.specs.Steps.{Step}
 use Rattle.net_edge.specs.Turns.{AreSteps, IsOver, client_status}
 use Rattle.net_edge.specs.declared.ends.Ends.{Ends}
 use Rattle.net_edge.specs.declared.market.Market.{Market}
-use Rattle.net_edge.proofs.Feeding.{due_pieces, replied_pieces}
+use Rattle.net_edge.proofs.Feeding.{sent_pieces}
 use Rattle.net_edge.proofs.Fitting.{due_short, replied_short}
 use Rattle.net_edge.proofs.Carried.{carried_book}
 
@@ -46,24 +45,17 @@ adds None (Some calls) run told = tt
 adds (Some calls) None run told = tt
 adds (Some before) (Some after) run told = told
 
--- what was sent are pieces
-all_are_pieces : (s : Setting) (ends : Ends) (run : List Step) → AreMessages (all_messages s) → EndsHave ends (scene_of s run) → IsOver s (scene_of s run)
-    → (line : Line) → AllByRecursion (IsPiece (all_messages s) demo_unit) (line_in line (scene_of s run)).sent
-all_are_pieces s ends run are has over A = subst (AllByRecursion (IsPiece (all_messages s) demo_unit)) (sym over.on_a) (due_pieces s are.raws are.few A (scene_of s run).turn)
-all_are_pieces s ends run are has over B = subst (AllByRecursion (IsPiece (all_messages s) demo_unit)) (sym over.on_b) (due_pieces s are.raws are.few B (scene_of s run).turn)
-all_are_pieces s ends run are has over Gap = subst (AllByRecursion (IsPiece (all_messages s) demo_unit)) (sym has.replayed) (replied_pieces s are.raws are.few run)
-
 all_are_short : (s : Setting) (ends : Ends) (run : List Step) → AreMessages (all_messages s) → EndsHave ends (scene_of s run) → IsOver s (scene_of s run) → (line : Line) → AreShort (line_in line (scene_of s run)).sent
-all_are_short s ends run are has over A = subst AreShort (sym over.on_a) (due_short s are.raws are.few A (scene_of s run).turn)
-all_are_short s ends run are has over B = subst AreShort (sym over.on_b) (due_short s are.raws are.few B (scene_of s run).turn)
-all_are_short s ends run are has over Gap = subst AreShort (sym has.replayed) (replied_short s are.raws are.few run)
+all_are_short s ends run are has over A = subst AreShort (sym over.on_a) (due_short s are.raws A (scene_of s run).turn)
+all_are_short s ends run are has over B = subst AreShort (sym over.on_b) (due_short s are.raws B (scene_of s run).turn)
+all_are_short s ends run are has over Gap = subst AreShort (sym has.replayed) (replied_short s are.raws run)
 
 run_ends : (s : Setting) (ends : Ends) (market : Market) (run : List Step) → AreSteps s run → EndsHave ends (scene_of s run) → IsOver s (scene_of s run) → IsLast s (scene_of s run) → MarketAt s market (scene_of s run).turn
     → EndsDemo s (scene_of s run) (map.len (current_book ends.client).orders) (shares (current_book ends.client))
 run_ends s ends market run steps has over last at =
     let R : Scene = scene_of s run in
     let are : AreMessages (all_messages s) = all_accepted s market R.turn last.above at in
-    let pieces = all_are_pieces s ends run are has over in
+    let pieces = sent_pieces s run steps in
     record {
       over = over;
       last = last;

@@ -1,5 +1,5 @@
--- What the venue and the proxy send on the lines are pieces of the venue's feed.
-use Rattle.std.proofs.Common.{◌≡◌, ℕ, zero, suc, ◌+◌, ◌-◌, ◌≤◌, ◌++◌, Bool, true, false, cond, List, [], ◌∷◌, length, drop, refl, sym, ap, ◌∙◌, subst, arith, inr, length-drop}
+-- What a run sends on the lines are pieces of the venue's feed.
+use Rattle.std.proofs.Common.{◌≡◌, ℕ, ◌+◌, ◌-◌, ◌≤◌, ◌++◌, List, [], ◌∷◌, length, drop, refl, sym, ap, ◌∙◌, subst, arith}
 use Rattle.std.specs.List.{AllByRecursion}
 use Rattle.std.proofs.lemmas.List.{take-append-drop}
 use Rattle.pitch_fields.specs.Limits.{last_sequence}
@@ -9,34 +9,27 @@ use Rattle.pitch_io.specs.declared.net.LinkEnd.TheVariants.{GrpClient, GrpServer
 use Rattle.pitch_io.specs.declared.net.NetTaken.TheVariants.{Got, Quiet, End, Failed}
 use Rattle.pitch_io.specs.Nets.{Begin, Send, Next, Put, Take}
 use Rattle.pitch_messages.specs.Raw.{IsRaw}
-use Rattle.unit_packets.proofs.OnePacking.{packing_is_computed}
 use Rattle.pitch_model.specs.Datagrams.{IsPiece}
 use Rattle.pitch_model.specs.History.{Raw}
-use Rattle.pitch_model.proofs.Datagrams.{packing_pieces, heartbeat_piece, venues_after}
-use Rattle.venue_core.specs.Losses.{is_lost}
+use Rattle.pitch_model.proofs.Datagrams.{piece_more}
 use Rattle.venue_core.specs.Plan.{plan}
 use Rattle.venue_core.proofs.PlanBooks.{plan_length}
 use Rattle.venue_core.proofs.PlanBytes.{plan_prefix}
-use Rattle.session_ends.specs.Events.{Event}
-use Rattle.grp_session.specs.Serving.{Source, proxy_answer}
 use Rattle.world_model.specs.Ends.{grp_server}
-use Rattle.world_model.proofs.Pieces.{Pieces, pieces_append, pieces_more}
+use Rattle.world_model.proofs.Pieces.{Pieces, pieces_append}
 use Rattle.world_model.proofs.Replies.{proxy_pieces, views_same}
 use Rattle.net_edge.specs.Acting.{scene_after, scene_of, source_at}
 use Rattle.net_edge.specs.Demo.{all_messages}
-use Rattle.net_edge.specs.Due.{Setting, demo_unit, accepted, messages, new_datagrams, copies, line_number, beat, beats, is_tenth, due, gap_view}
-use Rattle.net_edge.specs.Scene.{Scene}
+use Rattle.net_edge.specs.Due.{Setting, IsDuePiece, AreDuePieces, demo_unit, accepted, messages, gap_view}
+use Rattle.net_edge.specs.Playing.{proxy_said}
+use Rattle.net_edge.specs.Scene.{Scene, line_in}
 use Rattle.net_edge.specs.Steps.{Step, Did, Beat, Turn}
+use Rattle.net_edge.specs.Turns.{AreSteps, MayCome}
 
 -- ---- The plan's messages
 all_first : {A : Type 0} (P : A → Type 0) (xs ys : List A) → AllByRecursion P (xs ++ ys) → AllByRecursion P xs
 all_first P [] ys all = tt
 all_first P (x ∷ xs) ys all = (all.0, all_first P xs ys all.1)
-
-all_after : {A : Type 0} (P : A → Type 0) (n : ℕ) (xs : List A) → AllByRecursion P xs → AllByRecursion P (drop n xs)
-all_after P zero xs all = all
-all_after P (suc n) [] all = tt
-all_after P (suc n) (x ∷ xs) all = all_after P n xs all.1
 
 -- the messages that are accepted after a turn
 abbrev pub later_messages : Setting → ℕ → List Raw
@@ -57,86 +50,62 @@ pub all_many : (s : Setting) → length (all_messages s) ≡ s.count
 all_many s = plan_length s.number demo_unit s.count
 
 -- ---- Where they are raws
-module _ (s : Setting) (raws : AllByRecursion IsRaw (all_messages s)) (few : length (all_messages s) ≤ last_sequence) where
-  pub raws_at : (turn : ℕ) → AllByRecursion IsRaw (messages s turn)
-  raws_at turn = all_first IsRaw (messages s turn) (later_messages s turn) (subst (AllByRecursion IsRaw) (messages_first s turn) raws)
+pub raws_at : (s : Setting) → AllByRecursion IsRaw (all_messages s) → (turn : ℕ) → AllByRecursion IsRaw (messages s turn)
+raws_at s raws turn = all_first IsRaw (messages s turn) (later_messages s turn) (subst (AllByRecursion IsRaw) (messages_first s turn) raws)
 
-  few_at : (turn : ℕ) → length (messages s turn) ≤ last_sequence
-  few_at turn = let many = messages_many s turn in let all = all_many s in omega (arith, many, all, few)
+-- what the proxy answers are pieces
+pub reply_pieces : (s : Setting) (bytes : List ℕ) (now : Scene) → AllByRecursion IsRaw (messages s now.turn) → length (messages s now.turn) ≤ last_sequence → AreDuePieces s now.turn (proxy_said s bytes now).lines
+reply_pieces s bytes now raws few =
+    proxy_pieces (messages s now.turn) demo_unit (omega arith) raws few (grp_server demo_unit) now.grp.server bytes (source_at s bytes now) refl
+    (views_same _ (gap_view s now.turn) (messages s now.turn) refl)
 
-  -- pieces of what was accepted up to a turn are pieces of all
-  pieces_of_all : (turn : ℕ) (datagrams : List (List ℕ)) → Pieces (messages s turn) demo_unit datagrams → Pieces (all_messages s) demo_unit datagrams
-  pieces_of_all turn datagrams pieces = subst (λ (V : List Raw). Pieces V demo_unit datagrams) (sym (messages_first s turn)) (pieces_more (messages s turn) demo_unit (later_messages s turn) datagrams pieces)
+-- ---- What was sent
+module _ (s : Setting) where
+  pub piece_of_all : (turn : ℕ) (datagram : List ℕ) → IsDuePiece s turn datagram → IsPiece (all_messages s) demo_unit datagram
+  piece_of_all turn datagram piece =
+      subst (λ (V : List Raw). IsPiece V demo_unit datagram) (sym (messages_first s turn)) (piece_more (messages s turn) (later_messages s turn) demo_unit datagram piece)
 
-  -- ---- Lines A and B
-  new_pieces : (turn : ℕ) → Pieces (all_messages s) demo_unit (new_datagrams s turn)
-  new_pieces turn =
-      let k : ℕ = accepted s (turn - 1) in
-      let M : List Raw = messages s turn in
-      let many = messages_many s turn in
-      let left = length-drop k M in
-      let small = few_at turn in
-      pieces_of_all turn (new_datagrams s turn)
-      (packing_pieces M demo_unit (k + 1) (drop k M) (new_datagrams s turn) (omega arith) (omega (arith, many, left)) (venues_after M k)
-      (packing_is_computed demo_unit (k + 1) (drop k M) (omega arith) (all_after IsRaw k M (raws_at turn)) (inr (inr (omega (arith, many, left, small))))))
+  abbrev AreSentPieces : Scene → Type 0
+  AreSentPieces n = Pieces (all_messages s) demo_unit n.a.sent × Pieces (all_messages s) demo_unit n.b.sent × Pieces (all_messages s) demo_unit n.gap.sent
 
-  beat_piece : (turn : ℕ) → IsPiece (all_messages s) demo_unit (beat s turn)
-  beat_piece turn = let all = all_many s in heartbeat_piece (all_messages s) demo_unit (accepted s turn + 1) (omega arith) (omega arith) (omega (arith, all)) (omega (arith, all, few))
+  one_more : (sent : List (List ℕ)) (datagram : List ℕ) (turn : ℕ) → Pieces (all_messages s) demo_unit sent → IsDuePiece s turn datagram → Pieces (all_messages s) demo_unit (sent ++ datagram ∷ [])
+  one_more sent datagram turn are piece = pieces_append (all_messages s) demo_unit sent (datagram ∷ []) are (piece_of_all turn datagram piece, tt)
 
-  turn_pieces : (line : Line) (turn : ℕ) → Pieces (all_messages s) demo_unit (copies s line turn ++ beats s turn)
-  turn_pieces line turn = pieces_append (all_messages s) demo_unit (copies s line turn) (beats s turn) (by (is_lost s.number demo_unit turn (line_number line))) (with_beat (is_tenth turn))
-    where
-      by : (b : Bool) → Pieces (all_messages s) demo_unit (cond b [] (new_datagrams s turn))
-      by true = tt
-      by false = new_pieces turn
+  -- a step sends a piece or nothing
+  sends_pieces : (step : Step) (n : Scene) → MayCome s step n → AreSentPieces n → AreSentPieces (scene_after s step n)
+  sends_pieces (Did (Begin answer)) n may p = p
+  sends_pieces (Did (Send A datagram answer)) n may p = (one_more n.a.sent datagram n.turn p.0 may.1, p.1, p.2)
+  sends_pieces (Did (Send B datagram answer)) n may p = (p.0, one_more n.b.sent datagram n.turn p.1 may.1, p.2)
+  sends_pieces (Did (Send Gap datagram answer)) n may p = (p.0, p.1, one_more n.gap.sent datagram n.turn p.2 may.1)
+  sends_pieces (Did (Next A room bytes answer)) n may p = p
+  sends_pieces (Did (Next B room bytes answer)) n may p = p
+  sends_pieces (Did (Next Gap room bytes answer)) n may p = p
+  sends_pieces (Did (Put GrpClient piece answer)) n may p = p
+  sends_pieces (Did (Put GrpServer piece answer)) n may p = p
+  sends_pieces (Did (Put SpinClient piece answer)) n may p = p
+  sends_pieces (Did (Put SpinServer piece answer)) n may p = p
+  sends_pieces (Did (Take GrpServer room bytes (Got count))) n may p = p
+  sends_pieces (Did (Take GrpServer room bytes Quiet)) n may p = p
+  sends_pieces (Did (Take GrpServer room bytes End)) n may p = p
+  sends_pieces (Did (Take GrpServer room bytes Failed)) n may p = p
+  sends_pieces (Did (Take SpinServer room bytes answer)) n may p = p
+  sends_pieces (Did (Take GrpClient room bytes (Got count))) n may p = p
+  sends_pieces (Did (Take GrpClient room bytes Quiet)) n may p = p
+  sends_pieces (Did (Take GrpClient room bytes End)) n may p = p
+  sends_pieces (Did (Take GrpClient room bytes Failed)) n may p = p
+  sends_pieces (Did (Take SpinClient room bytes (Got count))) n may p = p
+  sends_pieces (Did (Take SpinClient room bytes Quiet)) n may p = p
+  sends_pieces (Did (Take SpinClient room bytes End)) n may p = p
+  sends_pieces (Did (Take SpinClient room bytes Failed)) n may p = p
+  sends_pieces (Beat heartbeat answer) n may p = (p.0, one_more n.b.sent heartbeat n.turn p.1 may.3, p.2)
+  sends_pieces Turn n may p = p
 
-      with_beat : (b : Bool) → Pieces (all_messages s) demo_unit (cond b (beat s turn ∷ []) [])
-      with_beat true = (beat_piece turn, tt)
-      with_beat false = tt
+  all_sent : (run : List Step) → AreSteps s run → AreSentPieces (scene_of s run)
+  all_sent [] steps = (tt, tt, tt)
+  all_sent (step ∷ before) steps = sends_pieces step (scene_of s before) steps.0 (all_sent before steps.1)
 
-  -- all that is sent on a line of the venue
-  pub due_pieces : (line : Line) (turn : ℕ) → Pieces (all_messages s) demo_unit (due s line turn)
-  due_pieces line zero = tt
-  due_pieces line (suc turn) = pieces_append (all_messages s) demo_unit (due s line turn) (copies s line (suc turn) ++ beats s (suc turn)) (due_pieces line turn) (turn_pieces line (suc turn))
-
-  -- ---- The gap line
-  reply_pieces : (turn : ℕ) (events : List (Event Source)) (bytes : List ℕ) (source : Source) → AllByRecursion (λ v. v.messages ≡ messages s turn) source.views
-      → Pieces (all_messages s) demo_unit (proxy_answer (grp_server demo_unit) events bytes source).lines
-  reply_pieces turn events bytes source views =
-      pieces_of_all turn (proxy_answer (grp_server demo_unit) events bytes source).lines (proxy_pieces (messages s turn) demo_unit (omega arith) (raws_at turn) (few_at turn) (grp_server demo_unit) events bytes source refl views)
-
-  -- a step adds pieces to what the proxy has for the line
-  replies_more : (step : Step) (n : Scene) → Pieces (all_messages s) demo_unit n.replayed → Pieces (all_messages s) demo_unit (scene_after s step n).replayed
-  replies_more (Did (Begin answer)) n p = p
-  replies_more (Did (Send A datagram answer)) n p = p
-  replies_more (Did (Send B datagram answer)) n p = p
-  replies_more (Did (Send Gap datagram answer)) n p = p
-  replies_more (Did (Next A room bytes answer)) n p = p
-  replies_more (Did (Next B room bytes answer)) n p = p
-  replies_more (Did (Next Gap room bytes answer)) n p = p
-  replies_more (Did (Put GrpClient piece answer)) n p = p
-  replies_more (Did (Put GrpServer piece answer)) n p = p
-  replies_more (Did (Put SpinClient piece answer)) n p = p
-  replies_more (Did (Put SpinServer piece answer)) n p = p
-  replies_more (Did (Take GrpServer room bytes (Got count))) n p =
-      let source : Source = source_at s bytes n in
-      pieces_append (all_messages s) demo_unit n.replayed (proxy_answer (grp_server demo_unit) n.grp.server bytes source).lines p
-      (reply_pieces n.turn n.grp.server bytes source (views_same _ (gap_view s n.turn) (messages s n.turn) refl))
-  replies_more (Did (Take GrpServer room bytes Quiet)) n p = p
-  replies_more (Did (Take GrpServer room bytes End)) n p = p
-  replies_more (Did (Take GrpServer room bytes Failed)) n p = p
-  replies_more (Did (Take SpinServer room bytes answer)) n p = p
-  replies_more (Did (Take GrpClient room bytes (Got count))) n p = p
-  replies_more (Did (Take GrpClient room bytes Quiet)) n p = p
-  replies_more (Did (Take GrpClient room bytes End)) n p = p
-  replies_more (Did (Take GrpClient room bytes Failed)) n p = p
-  replies_more (Did (Take SpinClient room bytes (Got count))) n p = p
-  replies_more (Did (Take SpinClient room bytes Quiet)) n p = p
-  replies_more (Did (Take SpinClient room bytes End)) n p = p
-  replies_more (Did (Take SpinClient room bytes Failed)) n p = p
-  replies_more (Beat heartbeat answer) n p = p
-  replies_more Turn n p = p
-
-  pub replied_pieces : (run : List Step) → Pieces (all_messages s) demo_unit (scene_of s run).replayed
-  replied_pieces [] = tt
-  replied_pieces (step ∷ before) = replies_more step (scene_of s before) (replied_pieces before)
+  -- what a run sent are pieces
+  pub sent_pieces : (run : List Step) → AreSteps s run → (line : Line) → Pieces (all_messages s) demo_unit (line_in line (scene_of s run)).sent
+  sent_pieces run steps A = (all_sent run steps).0
+  sent_pieces run steps B = (all_sent run steps).1
+  sent_pieces run steps Gap = (all_sent run steps).2

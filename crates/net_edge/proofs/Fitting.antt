@@ -1,7 +1,6 @@
 -- No datagram that a demo sends is longer than a packer makes one.
 use Rattle.std.proofs.Common.{◌≡◌, ℕ, zero, suc, ◌+◌, ◌-◌, ◌≤◌, ◌++◌, Bool, true, false, ◌||◌, cond, eqb, List, [], ◌∷◌, length, drop, take, replicate, refl, arith, is_some, length-append}
 use Rattle.std.specs.List.{AllByRecursion, concat}
-use Rattle.pitch_fields.specs.Limits.{last_sequence}
 use Rattle.pitch_io.specs.declared.line.Line.{Line}
 use Rattle.pitch_io.specs.declared.line.Line.TheVariants.{A, B, Gap}
 use Rattle.pitch_io.specs.declared.net.LinkEnd.TheVariants.{GrpClient, GrpServer, SpinClient, SpinServer}
@@ -123,13 +122,13 @@ views_raws zero v are = tt
 views_raws (suc n) v are = (are, views_raws n v are)
 
 -- ---- Where the venue's messages are raws
-module _ (s : Setting) (raws : AllByRecursion IsRaw (all_messages s)) (few : length (all_messages s) ≤ last_sequence) where
+module _ (s : Setting) (raws : AllByRecursion IsRaw (all_messages s)) where
   turn_short : (line : Line) (turn : ℕ) → AreShort (copies s line turn ++ beats s turn)
   turn_short line turn = short_append (copies s line turn) (beats s turn) (by (is_lost s.number demo_unit turn (line_number line))) (with_beat (is_tenth turn))
     where
       by : (b : Bool) → AreShort (cond b [] (new_datagrams s turn))
       by true = tt
-      by false = packed_short (drop (accepted s (turn - 1)) (messages s turn)) demo_unit (accepted s (turn - 1) + 1) [] (raws_after (accepted s (turn - 1)) (messages s turn) (raws_at s raws few turn)) (omega arith)
+      by false = packed_short (drop (accepted s (turn - 1)) (messages s turn)) demo_unit (accepted s (turn - 1) + 1) [] (raws_after (accepted s (turn - 1)) (messages s turn) (raws_at s raws turn)) (omega arith)
 
       with_beat : (b : Bool) → AreShort (cond b (beat s turn ∷ []) [])
       with_beat true = let long = block_long (record { unit = demo_unit; sequence = accepted s turn + 1; raws = [] }) in (omega (arith, long), tt)
@@ -155,7 +154,7 @@ module _ (s : Setting) (raws : AllByRecursion IsRaw (all_messages s)) (few : len
   replies_short (Did (Take GrpServer room bytes (Got count))) n p =
       let source : Source = source_at s bytes n in
       short_append n.replayed (proxy_answer (grp_server demo_unit) n.grp.server bytes source).lines p
-      (proxy_short (grp_server demo_unit) n.grp.server bytes source (views_raws (length (new_items n.grp.server bytes)) (gap_view s n.turn) (raws_at s raws few n.turn)))
+      (proxy_short (grp_server demo_unit) n.grp.server bytes source (views_raws (length (new_items n.grp.server bytes)) (gap_view s n.turn) (raws_at s raws n.turn)))
   replies_short (Did (Take GrpServer room bytes Quiet)) n p = p
   replies_short (Did (Take GrpServer room bytes End)) n p = p
   replies_short (Did (Take GrpServer room bytes Failed)) n p = p

@@ -1,15 +1,11 @@
 -- What the client hears on lines.
 use Rattle.std.proofs.Common.{◌≡◌, ℕ, ◌+◌, ◌≤◌, Bool, true, false, cond, eqb, List, [], ◌∷◌, ◌++◌, length, drop, take, Some, Err, ◌⊎◌, inl, inr, Option, refl, sym, ap, ◌∙◌, subst, arith, append_assoc}
-use Rattle.std.proofs.lemmas.List.{append-nil, length-drop, drop-drop, drop_all, take_more, map-append}
-use Rattle.std.proofs.lemmas.Option.{get_or_from_slice_get, slice_get_within}
-use Rattle.std.specs.List.{slice_get}
+use Rattle.std.proofs.lemmas.List.{append-nil, length-drop, drop-drop, drop_all}
 use Rattle.pitch_io.specs.declared.line.Line.{Line}
 use Rattle.pitch_io.specs.declared.line.Line.TheVariants.{A, B, Gap}
 use Rattle.pitch_io.specs.declared.net.NetTaken.{NetTaken}
 use Rattle.pitch_io.specs.declared.net.NetTaken.TheVariants as taken
 use Rattle.pitch_io.specs.Nets.{Call, Next, ListsCall, NetTakeFailed}
-use Rattle.pitch_messages.specs.Room.{Roomy}
-use Rattle.unit_packets.specs.Packing.{bytes_in}
 use Rattle.unit_packets.specs.Blocks.{Block}
 use Rattle.unit_packets.specs.Cutting.{blocks_of, blocks_by}
 use Rattle.unit_packets.specs.Judging.{judge}
@@ -26,17 +22,15 @@ use Rattle.pitch_model.proofs.Units.{honest_block}
 use Rattle.client_core.specs.Blocks.{Carries}
 use Rattle.client_core.specs.Tracks.{Tracks, Keeps}
 use Rattle.client_core.specs.declared.client.UnitClient.{UnitClient}
-use Rattle.net_edge.specs.Acting.{ours, is_group_open, came_by, blocks_heard}
+use Rattle.net_edge.specs.Acting.{called, ours, is_group_open, came_by, blocks_heard}
 use Rattle.net_edge.specs.Due.{Setting, demo_unit, call_room}
 use Rattle.net_edge.specs.Playing.{ClientHas, HearsOn, Plays}
 use Rattle.net_edge.specs.Scene.{Scene, OnLine, line_in, with_line}
+use Rattle.net_edge.specs.Turns.{MayCall}
+use Rattle.net_edge.specs.Breaking.{Breaks}
+use Rattle.net_edge.specs.declared.error.DemoError.TheVariants as errors
+use Rattle.net_edge.proofs.Breaking.{breaks_here, breaks_by}
 use Rattle.net_edge.proofs.Runs.{play_call}
-
-pub bytes_more : (lists : List (Roomy ℕ)) (i : ℕ) (list : Roomy ℕ) → slice_get lists i ≡ Some list → bytes_in (take (i + 1) lists) ≡ bytes_in (take i lists) ++ list.items ∷ []
-bytes_more lists i list at =
-    ap (λ (ls : List (Roomy ℕ)). bytes_in ls) (take_more lists i list (slice_get_within lists i list at))
-    ∙ ap (λ (l : Roomy ℕ). bytes_in (take i lists ++ l ∷ [])) (get_or_from_slice_get lists i list list at)
-    ∙ map-append _ (take i lists) (list ∷ [])
 
 -- ---- Blocks
 no_blocks : blocks_of [] ≡ []
@@ -132,6 +126,28 @@ line_at Gap on E now = refl
 
 heard_at : (line : Line) (on : OnLine) (E : List Entry) (now : Scene) → (record (with_line line on now) { heard = E }).heard ≡ E
 heard_at line on E now = refl
+
+-- where the client stands by what it heard on a line so far
+abbrev pub line_scene : (s : Setting) (base : List Call) (calls : Option (List Call)) (client : UnitClient) (line : Line) (answers : List NetTaken) (now : Scene) → HearsOn s base calls client line answers now → Scene
+line_scene s base calls client line answers now h = record (with_line line h.on now) { heard = h.heard }
+
+pub line_may : (s : Setting) (base : List Call) (calls : Option (List Call)) (client : UnitClient) (line : Line) (room : ℕ) (bytes : List ℕ) (answer : NetTaken) (answers : List NetTaken) (now : Scene) → (h : HearsOn s base calls client line answers now)
+    → room ≡ call_room → is_group_open answers ≡ true → MayCall s (Next line room bytes answer) (line_scene s base calls client line answers now h)
+line_may s base calls client line room bytes answer answers now h roomy opened = (roomy, ap (λ (l : OnLine). is_group_open l.answers) (line_at line h.on h.heard now) ∙ ap is_group_open h.answers_are ∙ opened)
+
+-- memory ran out with what came
+pub line_stops : (s : Setting) (base : List Call) (calls calls' : Option (List Call)) (client : UnitClient) (line : Line) (room : ℕ) (bytes : List ℕ) (count : ℕ) (answers : List NetTaken) (now : Scene) → HearsOn s base calls client line answers now
+    → ListsCall calls calls' (Next line room bytes (taken.Got count)) → room ≡ call_room → is_group_open answers ≡ true → Breaks s base calls' errors.OutOfMemory
+line_stops s base calls calls' client line room bytes count answers now h lists roomy opened =
+    let at : Scene = line_scene s base calls client line answers now h in
+    let call : Call = Next line room bytes (taken.Got count) in
+    breaks_here s base calls' (called s call at) (play_call s base calls calls' at call lists (λ f. f) (line_may s base calls client line room bytes (taken.Got count) answers now h roomy opened) h.plays)
+
+-- or the net failed
+pub line_fails : (s : Setting) (base : List Call) (calls calls' : Option (List Call)) (client : UnitClient) (line : Line) (room : ℕ) (answers : List NetTaken) (now : Scene) → HearsOn s base calls client line answers now
+    → ListsCall calls calls' (Next line room [] taken.Failed) → room ≡ call_room → is_group_open answers ≡ true → Breaks s base calls' errors.NetFault
+line_fails s base calls calls' client line room answers now h lists roomy opened =
+    breaks_by s base calls calls' (line_scene s base calls client line answers now h) (Next line room [] taken.Failed) lists tt (line_may s base calls client line room [] taken.Failed answers now h roomy opened) h.plays
 
 -- a call more on a line, of which the client heard what came
 pub hears_on : (s : Setting) (base : List Call) (calls calls' : Option (List Call)) (one two : UnitClient) (line : Line) (room : ℕ) (bytes : List ℕ) (answer : NetTaken) (answers : List NetTaken) (now : Scene) → (h : HearsOn s base calls one line answers now)

@@ -1,4 +1,5 @@
 pub mod Runs
+mod Breaking
 mod Grouping
 mod Hearing
 mod Serving
@@ -10,6 +11,7 @@ mod Ticking
 mod Turning
 mod Parts
 mod Starting
+mod Begun
 mod Growing
 mod Feeding
 mod Honesty
@@ -17,5 +19,6 @@ mod Spoken
 mod Carried
 mod Fitting
 mod Ending
+mod Sending
 mod Examples
 mod InMemory

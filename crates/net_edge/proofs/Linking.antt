@@ -31,6 +31,9 @@ use Rattle.net_edge.specs.Playing.{Plays, ClientHas, LinkHas, LinkSays, LinkTell
 use Rattle.net_edge.specs.Scene.{Scene, AtEnd}
 use Rattle.net_edge.specs.Peers.{Peer, ProxyPeer, SpinPeer, end_of, peer_setup, down_of, with_client_end}
 use Rattle.net_edge.specs.Turns.{MayCall}
+use Rattle.net_edge.specs.Breaking.{Breaks}
+use Rattle.net_edge.specs.declared.error.DemoError.TheVariants as errors
+use Rattle.net_edge.proofs.Breaking.{breaks_here, breaks_by}
 use Rattle.net_edge.proofs.Runs.{play_call}
 
 -- ---- Items
@@ -84,9 +87,9 @@ stands false so = refl
 
 -- it may come while the turn's group is open
 may_take : (peer : Peer) (end : AtEnd) (up : Pipe) (events : List (Event Lookups)) (E : List Entry) (now : Scene) (room : ℕ) (bytes : List ℕ) (answer : NetTaken) → room ≡ call_room → is_group_open end.answers ≡ true → (end.ended ≡ true → false ≡ true)
-    → MayCall (Take (end_of peer) room bytes answer) (with_client_end peer end up events false E now)
-may_take ProxyPeer end up events E now room bytes answer roomy opened unended = (roomy, opened, stands end.ended unended)
-may_take SpinPeer end up events E now room bytes answer roomy opened unended = (roomy, opened, stands end.ended unended)
+    → (s : Setting) → MayCall s (Take (end_of peer) room bytes answer) (with_client_end peer end up events false E now)
+may_take ProxyPeer end up events E now room bytes answer roomy opened unended s = (roomy, opened, stands end.ended unended)
+may_take SpinPeer end up events E now room bytes answer roomy opened unended s = (roomy, opened, stands end.ended unended)
 
 -- what the client heard so far, and then of one call more
 module _ (peer : Peer) (s : Setting) (base : List Call) (calls calls' : Option (List Call)) (at : LinkEnd) (link link' : Ending) (client client' : UnitClient) (room : ℕ) (roomy : room ≡ call_room) (answers : List NetTaken) (now : Scene) where
@@ -95,8 +98,21 @@ module _ (peer : Peer) (s : Setting) (base : List Call) (calls calls' : Option (
       → taken_at s (end_of peer) bytes answer (with_client_end peer h.end h.up h.events false h.heard now) ≡ after → Plays s base calls' after
   took_so bytes answer after h is opened well lists makes =
       let listed : ListsCall calls calls' (Take (end_of peer) room bytes answer) = subst (λ (e : LinkEnd). ListsCall calls calls' (Take e room bytes answer)) is lists in
-      let may : MayCall (Take (end_of peer) room bytes answer) (with_client_end peer h.end h.up h.events false h.heard now) = may_take peer h.end h.up h.events h.heard now room bytes answer roomy (ap is_group_open h.answers_are ∙ opened) h.ended_is in
+      let may : MayCall s (Take (end_of peer) room bytes answer) (with_client_end peer h.end h.up h.events false h.heard now) = may_take peer h.end h.up h.events h.heard now room bytes answer roomy (ap is_group_open h.answers_are ∙ opened) h.ended_is s in
       subst (Plays s base calls') makes (play_call s base calls calls' (with_client_end peer h.end h.up h.events false h.heard now) (Take (end_of peer) room bytes answer) listed well may h.plays)
+
+  -- memory ran out with what came
+  pub link_stops : (bytes : List ℕ) (answer : NetTaken) → (h : HearsLink peer s base calls link client answers false now) → at ≡ end_of peer → is_group_open answers ≡ true → (NetTakeFailed answer → ⊥) → ListsCall calls calls' (Take at room bytes answer) → Breaks s base calls' errors.OutOfMemory
+  link_stops bytes answer h is opened well lists =
+      let after : Scene = taken_at s (end_of peer) bytes answer (with_client_end peer h.end h.up h.events false h.heard now) in
+      breaks_here s base calls' after (took_so bytes answer after h is opened well lists refl)
+
+  -- or the net failed it
+  pub link_fails : (h : HearsLink peer s base calls link client answers false now) → at ≡ end_of peer → is_group_open answers ≡ true → ListsCall calls calls' (Take at room [] taken.Failed) → Breaks s base calls' errors.NetFault
+  link_fails h is opened lists =
+      let listed : ListsCall calls calls' (Take (end_of peer) room [] taken.Failed) = subst (λ (e : LinkEnd). ListsCall calls calls' (Take e room [] taken.Failed)) is lists in
+      let scene : Scene = with_client_end peer h.end h.up h.events false h.heard now in
+      breaks_by s base calls calls' scene (Take (end_of peer) room [] taken.Failed) listed tt (may_take peer h.end h.up h.events h.heard now room [] taken.Failed roomy (ap is_group_open h.answers_are ∙ opened) h.ended_is s) h.plays
 
   pub link_got : (bytes : List ℕ) (count : ℕ) (shut : Bool) → (h : HearsLink peer s base calls link client answers false now) → at ≡ end_of peer → is_group_open answers ≡ true → ListsCall calls calls' (Take at room bytes (taken.Got count))
       → LinkTells peer link' client' bytes h.events h.heard shut → HearsLink peer s base calls' link' client' (taken.Got count ∷ answers) shut now

@@ -17,7 +17,7 @@ use Rattle.world_model.specs.State.{Pipe}
 use Rattle.net_edge.specs.Acting.{is_group_open}
 use Rattle.net_edge.specs.Due.{Setting, messages, advertised_until}
 use Rattle.pitch_model.specs.History.{Entry}
-use Rattle.net_edge.specs.Playing.{ClientHas, EndsHave, DemoAt, Plays, ProxyServes, SpinServes, HearsOn, HearsLink, LinkAt, MarketAt, IsSentTo, IsUncalled, IsGroupOver, AreTaken, with_proxy}
+use Rattle.net_edge.specs.Playing.{ClientHas, EndsHave, DemoAt, Plays, ProxyServes, SpinServes, HearsOn, HearsLink, LinkAt, MarketAt, IsSentTo, IsUncalled, IsGroupOver, AreTaken, KeepsStore, ServersDone, LinesDone, with_proxy}
 use Rattle.net_edge.specs.Scene.{Scene, OnLine, AtEnd, line_in, with_line, at_end, said_at}
 use Rattle.net_edge.specs.Peers.{Peer, ProxyPeer, SpinPeer, end_of, peer_setup, with_client_end}
 use Rattle.net_edge.specs.Turns.{IsOver}
@@ -26,36 +26,9 @@ use Rattle.net_edge.specs.declared.market.Market.{Market}
 use Rattle.net_edge.specs.declared.proxy.Proxy.{Proxy}
 use Rattle.net_edge.proofs.Turning.{over_is}
 
--- ---- Between the parts
--- the servers are done with their calls, and nothing was heard in the turn
-record Served (s : Setting) (base : List Call) (calls : Option (List Call)) (turn : ℕ) (e : Ends) (n : Scene) : Type 0 where
-  at : DemoAt s base calls e n
-  turn_is : n.turn ≡ turn
-  sent : IsSentTo s turn n
-  a : n.a.answers ≡ []
-  b : n.b.answers ≡ []
-  gap : n.gap.answers ≡ []
-  grp_client : n.grp_client.answers ≡ []
-  spin_client : n.spin_client.answers ≡ []
-  grp_server : (cut : Bool) → (e.grp_cut ≡ true → cut ≡ true) → is_group_open n.grp_server.answers ≡ true → (n.grp_server.ended || cut) ≡ true
-  spin_server : (cut : Bool) → (e.spin_cut ≡ true → cut ≡ true) → is_group_open n.spin_server.answers ≡ true → (n.spin_server.ended || cut) ≡ true
-
--- the client heard its lines too
-record Lined (s : Setting) (base : List Call) (calls : Option (List Call)) (turn : ℕ) (e : Ends) (n : Scene) : Type 0 where
-  at : DemoAt s base calls e n
-  turn_is : n.turn ≡ turn
-  sent : IsSentTo s turn n
-  a : is_group_open n.a.answers ≡ false
-  b : is_group_open n.b.answers ≡ false
-  gap : is_group_open n.gap.answers ≡ false
-  grp_client : n.grp_client.answers ≡ []
-  spin_client : n.spin_client.answers ≡ []
-  grp_server : (cut : Bool) → (e.grp_cut ≡ true → cut ≡ true) → is_group_open n.grp_server.answers ≡ true → (n.grp_server.ended || cut) ≡ true
-  spin_server : (cut : Bool) → (e.spin_cut ≡ true → cut ≡ true) → is_group_open n.spin_server.answers ≡ true → (n.spin_server.ended || cut) ≡ true
-
 module _ (s : Setting) (base : List Call) where
   -- ---- The servers
-  proxy_begins : (calls : Option (List Call)) (e : Ends) (now : Scene) → DemoAt s base calls e now → now.grp_server.answers ≡ [] → ProxyServes s base calls e.proxy [] e.grp_ended now
+  pub proxy_begins : (calls : Option (List Call)) (e : Ends) (now : Scene) → DemoAt s base calls e now → now.grp_server.answers ≡ [] → ProxyServes s base calls e.proxy [] e.grp_ended now
   proxy_begins calls e now at none = record {
     end = now.grp_server;
     server = now.grp.server;
@@ -69,10 +42,10 @@ module _ (s : Setting) (base : List Call) where
     plays = subst (λ (ds : List (List ℕ)). Plays s base calls (record now { gap = record now.gap { sent = ds } })) at.has.replayed at.plays;
   }
 
-  abbrev proxied : (calls : Option (List Call)) (proxy : Proxy) (answers : List NetTaken) (ended : Bool) (now : Scene) → ProxyServes s base calls proxy answers ended now → Scene
+  abbrev pub proxied : (calls : Option (List Call)) (proxy : Proxy) (answers : List NetTaken) (ended : Bool) (now : Scene) → ProxyServes s base calls proxy answers ended now → Scene
   proxied calls proxy answers ended now h = with_proxy h.end h.down h.server h.spent h.lines now
 
-  proxy_ends : (calls : Option (List Call)) (e : Ends) (proxy : Proxy) (answers : List NetTaken) (ended : Bool) (now : Scene) → EndsHave e now → (h : ProxyServes s base calls proxy answers ended now)
+  pub proxy_ends : (calls : Option (List Call)) (e : Ends) (proxy : Proxy) (answers : List NetTaken) (ended : Bool) (now : Scene) → EndsHave e now → (h : ProxyServes s base calls proxy answers ended now)
       → DemoAt s base calls (record e { proxy = proxy; grp_ended = ended }) (proxied calls proxy answers ended now h)
   proxy_ends calls e proxy answers ended now has h = record {
     has = record {
@@ -88,7 +61,7 @@ module _ (s : Setting) (base : List Call) where
     plays = h.plays;
   }
 
-  spin_begins : (calls : Option (List Call)) (e : Ends) (now : Scene) → DemoAt s base calls e now → now.spin_server.answers ≡ [] → SpinServes s base calls e.spin [] e.spin_ended now
+  pub spin_begins : (calls : Option (List Call)) (e : Ends) (now : Scene) → DemoAt s base calls e now → now.spin_server.answers ≡ [] → SpinServes s base calls e.spin [] e.spin_ended now
   spin_begins calls e now at none = record {
     end = now.spin_server;
     server = now.spin.server;
@@ -120,7 +93,7 @@ module _ (s : Setting) (base : List Call) where
   }
 
   -- ---- The lines
-  line_begins : (line : Line) (calls : Option (List Call)) (e : Ends) (now : Scene) → DemoAt s base calls e now → (line_in line now).answers ≡ [] → HearsOn s base calls e.client line [] now
+  pub line_begins : (line : Line) (calls : Option (List Call)) (e : Ends) (now : Scene) → DemoAt s base calls e now → (line_in line now).answers ≡ [] → HearsOn s base calls e.client line [] now
   line_begins line calls e now at none = record {
     on = line_in line now;
     heard = now.heard;
@@ -135,7 +108,7 @@ module _ (s : Setting) (base : List Call) where
       same B = refl
       same Gap = refl
 
-  abbrev lined : (line : Line) (calls : Option (List Call)) (client : UnitClient) (answers : List NetTaken) (now : Scene) → HearsOn s base calls client line answers now → Scene
+  abbrev pub lined : (line : Line) (calls : Option (List Call)) (client : UnitClient) (answers : List NetTaken) (now : Scene) → HearsOn s base calls client line answers now → Scene
   lined line calls client answers now h = record (with_line line h.on now) { heard = h.heard }
 
   heard_ends : (e : Ends) (client : UnitClient) (now : Scene) (a b gap : OnLine) (E : List Entry) → EndsHave e now → ClientHas client E → gap.sent ≡ now.gap.sent
@@ -151,7 +124,7 @@ module _ (s : Setting) (base : List Call) where
     replayed = sent ∙ has.replayed;
   }
 
-  line_ends : (line : Line) (calls : Option (List Call)) (e : Ends) (client : UnitClient) (answers : List NetTaken) (now : Scene) → EndsHave e now → (h : HearsOn s base calls client line answers now)
+  pub line_ends : (line : Line) (calls : Option (List Call)) (e : Ends) (client : UnitClient) (answers : List NetTaken) (now : Scene) → EndsHave e now → (h : HearsOn s base calls client line answers now)
       → DemoAt s base calls (record e { client = client }) (lined line calls client answers now h)
   line_ends A calls e client answers now has h = record { has = heard_ends e client now h.on now.b now.gap h.heard has h.has refl; plays = h.plays }
   line_ends B calls e client answers now has h = record { has = heard_ends e client now now.a h.on now.gap h.heard has h.has refl; plays = h.plays }
@@ -159,15 +132,15 @@ module _ (s : Setting) (base : List Call) where
 
   -- ---- The links
   -- one of them in the code
-  abbrev link_of : Peer → Ends → Ending
+  abbrev pub link_of : Peer → Ends → Ending
   link_of ProxyPeer e = e.gap_link
   link_of SpinPeer e = e.spin_link
 
-  abbrev cut_of : Peer → Ends → Bool
+  abbrev pub cut_of : Peer → Ends → Bool
   cut_of ProxyPeer e = e.grp_cut
   cut_of SpinPeer e = e.spin_cut
 
-  abbrev with_link : Peer → Ending → UnitClient → Bool → Ends → Ends
+  abbrev pub with_link : Peer → Ending → UnitClient → Bool → Ends → Ends
   with_link ProxyPeer link client cut e = record e { gap_link = link; client = client; grp_cut = cut }
   with_link SpinPeer link client cut e = record e { spin_link = link; client = client; spin_cut = cut }
 
@@ -188,18 +161,18 @@ module _ (s : Setting) (base : List Call) where
     plays = subst (λ (b : Bool). Plays s base calls (with_client_end peer end up events b now.heard now)) (sym has.cut_is) plays;
   }
 
-  hears_begins : (peer : Peer) (calls : Option (List Call)) (e : Ends) (now : Scene) → DemoAt s base calls e now → (at_end (end_of peer) now).answers ≡ [] → HearsLink peer s base calls (link_of peer e) e.client [] (cut_of peer e) now
+  pub hears_begins : (peer : Peer) (calls : Option (List Call)) (e : Ends) (now : Scene) → DemoAt s base calls e now → (at_end (end_of peer) now).answers ≡ [] → HearsLink peer s base calls (link_of peer e) e.client [] (cut_of peer e) now
   hears_begins ProxyPeer calls e now at none = link_begins ProxyPeer calls e.gap_link e.client e.grp_cut now.grp_cut now.grp_client now.grp.up now.grp.link now at.has.gap_link at.has.client none refl refl at.plays
   hears_begins SpinPeer calls e now at none = link_begins SpinPeer calls e.spin_link e.client e.spin_cut now.spin_cut now.spin_client now.spin.up now.spin.link now at.has.spin_link at.has.client none refl refl at.plays
 
-  abbrev link_heard : (peer : Peer) (calls : Option (List Call)) (link : Ending) (client : UnitClient) (answers : List NetTaken) (cut : Bool) (now : Scene) → HearsLink peer s base calls link client answers cut now → Scene
+  abbrev pub link_heard : (peer : Peer) (calls : Option (List Call)) (link : Ending) (client : UnitClient) (answers : List NetTaken) (cut : Bool) (now : Scene) → HearsLink peer s base calls link client answers cut now → Scene
   link_heard peer calls link client answers cut now h = with_client_end peer h.end h.up h.events cut h.heard now
 
   link_ends : (peer : Peer) (calls : Option (List Call)) (link : Ending) (client : UnitClient) (answers : List NetTaken) (cut : Bool) (now : Scene) → (h : HearsLink peer s base calls link client answers cut now)
       → (at_end (end_of peer) now).put ≡ said_at (end_of peer) now → LinkAt (peer_setup peer) link cut h.end cut h.events h.up.put
   link_ends peer calls link client answers cut now h put = record { has = h.link_has; cut_is = refl; ended = h.ended_is; put_is = h.put_is ∙ put ∙ sym h.up_is }
 
-  hears_ends : (peer : Peer) (calls : Option (List Call)) (e : Ends) (link : Ending) (client : UnitClient) (answers : List NetTaken) (cut : Bool) (now : Scene) → EndsHave e now → (h : HearsLink peer s base calls link client answers cut now)
+  pub hears_ends : (peer : Peer) (calls : Option (List Call)) (e : Ends) (link : Ending) (client : UnitClient) (answers : List NetTaken) (cut : Bool) (now : Scene) → EndsHave e now → (h : HearsLink peer s base calls link client answers cut now)
       → DemoAt s base calls (with_link peer link client cut e) (link_heard peer calls link client answers cut now h)
   hears_ends ProxyPeer calls e link client answers cut now has h = record {
     has = record {
@@ -246,10 +219,10 @@ module _ (s : Setting) (base : List Call) where
       by false y e = e
 
   -- ---- The servers, the lines, the links
-  servers_over : (turn : ℕ) (c0 c1 c2 : Option (List Call)) (e : Ends) (proxy : Proxy) (spin : Serving) (grp_ended spin_ended : Bool) (now : Scene) → DemoAt s base c0 e now → now.turn ≡ turn → IsSentTo s turn now → IsUncalled now
+  pub servers_over : (turn : ℕ) (c0 c1 c2 : Option (List Call)) (e : Ends) (proxy : Proxy) (spin : Serving) (grp_ended spin_ended : Bool) (now : Scene) → DemoAt s base c0 e now → now.turn ≡ turn → IsSentTo s turn now → IsUncalled now
       → ((n : Scene) → ProxyServes s base c0 e.proxy [] e.grp_ended n → n.grp_cut ≡ e.grp_cut → n.turn ≡ turn → (answers : List NetTaken) × AreTaken answers (grp_ended || e.grp_cut) × ProxyServes s base c1 proxy answers grp_ended n)
       → ((n : Scene) → SpinServes s base c1 e.spin [] e.spin_ended n → n.spin_cut ≡ e.spin_cut → n.turn ≡ turn → (answers : List NetTaken) × AreTaken answers (spin_ended || e.spin_cut) × SpinServes s base c2 spin answers spin_ended n)
-      → (after : Scene) × Served s base c2 turn (record e { proxy = proxy; grp_ended = grp_ended; spin = spin; spin_ended = spin_ended }) after
+      → (after : Scene) × ServersDone s base c2 turn (record e { proxy = proxy; grp_ended = grp_ended; spin = spin; spin_ended = spin_ended }) after
   servers_over turn c0 c1 c2 e proxy spin grp_ended spin_ended now at turn_is sent none by_proxy by_spin =
       let p = by_proxy now (proxy_begins c0 e now at none.grp_server) (sym at.has.gap_link.cut_is) turn_is in
       let n1 : Scene = proxied c1 proxy p.0 grp_ended now p.2 in
@@ -271,11 +244,11 @@ module _ (s : Setting) (base : List Call) where
         },
       )
 
-  lines_over : (turn : ℕ) (c2 c3 c4 c5 : Option (List Call)) (e : Ends) (a b gap : UnitClient) (now : Scene) → Served s base c2 turn e now
+  pub lines_over : (turn : ℕ) (c2 c3 c4 c5 : Option (List Call)) (e : Ends) (a b gap : UnitClient) (now : Scene) → ServersDone s base c2 turn e now
       → ((n : Scene) → HearsOn s base c2 e.client A [] n → (answers : List NetTaken) × IsGroupOver answers × HearsOn s base c3 a A answers n)
       → ((n : Scene) → HearsOn s base c3 a B [] n → (answers : List NetTaken) × IsGroupOver answers × HearsOn s base c4 b B answers n)
       → ((n : Scene) → HearsOn s base c4 b Gap [] n → (answers : List NetTaken) × IsGroupOver answers × HearsOn s base c5 gap Gap answers n)
-      → (after : Scene) × Lined s base c5 turn (record e { client = gap }) after
+      → (after : Scene) × LinesDone s base c5 turn (record e { client = gap }) after
   lines_over turn c2 c3 c4 c5 e a b gap now so by_a by_b by_gap =
       let x = by_a now (line_begins A c2 e now so.at so.a) in
       let n3 : Scene = lined A c3 a x.0 now x.2 in
@@ -301,7 +274,7 @@ module _ (s : Setting) (base : List Call) where
         },
       )
 
-  links_over : (turn : ℕ) (c5 c6 c7 : Option (List Call)) (e : Ends) (gap_link spin_link : Ending) (down last : UnitClient) (grp_cut spin_cut : Bool) (now : Scene) → Lined s base c5 turn e now
+  pub links_over : (turn : ℕ) (c5 c6 c7 : Option (List Call)) (e : Ends) (gap_link spin_link : Ending) (down last : UnitClient) (grp_cut spin_cut : Bool) (now : Scene) → LinesDone s base c5 turn e now
       → ((n : Scene) → HearsLink ProxyPeer s base c5 e.gap_link e.client [] e.grp_cut n → (answers : List NetTaken) × AreTaken answers grp_cut × HearsLink ProxyPeer s base c6 gap_link down answers grp_cut n)
       → (e.grp_cut ≡ true → grp_cut ≡ true)
       → ((n : Scene) → HearsLink SpinPeer s base c6 e.spin_link down [] e.spin_cut n → (answers : List NetTaken) × AreTaken answers spin_cut × HearsLink SpinPeer s base c7 spin_link last answers spin_cut n)
@@ -326,26 +299,6 @@ module _ (s : Setting) (base : List Call) where
             all _ (hears_ends SpinPeer c7 e6 spin_link last l.0 spin_cut n6 at6.has l.2).has,
       )
 
-  -- ---- All of them
-  pub turn_over : (turn : ℕ) (c0 c1 c2 c3 c4 c5 c6 c7 : Option (List Call)) (e : Ends) (proxy : Proxy) (spin : Serving) (gap_link spin_link : Ending) (a b gap down last : UnitClient) (grp_ended spin_ended grp_cut spin_cut : Bool) (now : Scene)
-      → DemoAt s base c0 e now → now.turn ≡ turn → IsSentTo s turn now → IsUncalled now
-      → ((n : Scene) → ProxyServes s base c0 e.proxy [] e.grp_ended n → n.grp_cut ≡ e.grp_cut → n.turn ≡ turn → (answers : List NetTaken) × AreTaken answers (grp_ended || e.grp_cut) × ProxyServes s base c1 proxy answers grp_ended n)
-      → ((n : Scene) → SpinServes s base c1 e.spin [] e.spin_ended n → n.spin_cut ≡ e.spin_cut → n.turn ≡ turn → (answers : List NetTaken) × AreTaken answers (spin_ended || e.spin_cut) × SpinServes s base c2 spin answers spin_ended n)
-      → ((n : Scene) → HearsOn s base c2 e.client A [] n → (answers : List NetTaken) × IsGroupOver answers × HearsOn s base c3 a A answers n)
-      → ((n : Scene) → HearsOn s base c3 a B [] n → (answers : List NetTaken) × IsGroupOver answers × HearsOn s base c4 b B answers n)
-      → ((n : Scene) → HearsOn s base c4 b Gap [] n → (answers : List NetTaken) × IsGroupOver answers × HearsOn s base c5 gap Gap answers n)
-      → ((n : Scene) → HearsLink ProxyPeer s base c5 e.gap_link gap [] e.grp_cut n → (answers : List NetTaken) × AreTaken answers grp_cut × HearsLink ProxyPeer s base c6 gap_link down answers grp_cut n)
-      → (e.grp_cut ≡ true → grp_cut ≡ true)
-      → ((n : Scene) → HearsLink SpinPeer s base c6 e.spin_link down [] e.spin_cut n → (answers : List NetTaken) × AreTaken answers spin_cut × HearsLink SpinPeer s base c7 spin_link last answers spin_cut n)
-      → (e.spin_cut ≡ true → spin_cut ≡ true)
-      → (after : Scene) × (after.turn ≡ turn)
-      × DemoAt s base c7 (record e { proxy = proxy; spin = spin; gap_link = gap_link; spin_link = spin_link; client = last; grp_cut = grp_cut; spin_cut = spin_cut; grp_ended = grp_ended; spin_ended = spin_ended }) after × IsOver s after
-  turn_over turn c0 c1 c2 c3 c4 c5 c6 c7 e proxy spin gap_link spin_link a b gap down last grp_ended spin_ended grp_cut spin_cut now at turn_is sent none by_proxy by_spin by_a by_b by_gap by_gap_link grp_stays by_spin_link spin_stays =
-      let e2 : Ends = record e { proxy = proxy; grp_ended = grp_ended; spin = spin; spin_ended = spin_ended } in
-      let served = servers_over turn c0 c1 c2 e proxy spin grp_ended spin_ended now at turn_is sent none by_proxy by_spin in
-      let heard = lines_over turn c2 c3 c4 c5 e2 a b gap served.0 served.1 by_a by_b by_gap in
-      links_over turn c5 c6 c7 (record e2 { client = gap }) gap_link spin_link down last grp_cut spin_cut heard.0 heard.1 by_gap_link grp_stays by_spin_link spin_stays
-
 -- the servers look things up, and leave them as they are
 pub market_still : (s : Setting) (turn : ℕ) (market : Market) (store : Store) (shelf : Shelf) → MarketAt s market turn → store ≡ market.store → shelf ≡ market.shelf → MarketAt s (record market { store = store; shelf = shelf }) turn
 market_still s turn market store shelf has same_store same_shelf = record {
@@ -354,3 +307,11 @@ market_still s turn market store shelf has same_store same_shelf = record {
   store_is = same_store ∙ has.store_is;
   shelf = subst (λ (x : Shelf). KeepsShelf x (messages s turn) (advertised_until s turn)) (sym same_shelf) has.shelf;
 }
+
+-- where the servers look things up
+pub store_kept : (s : Setting) (turn : ℕ) (market : Market) (now : Scene) → MarketAt s market turn → now.turn ≡ turn → KeepsStore market.store (messages s now.turn)
+store_kept s turn market now has at_turn =
+    subst (λ (t : ℕ). KeepsStore market.store (messages s t)) (sym at_turn) (record { store_is = has.store_is; raws = has.venue.raws; few = has.venue.few })
+
+pub shelf_kept : (s : Setting) (turn : ℕ) (market : Market) (now : Scene) → MarketAt s market turn → now.turn ≡ turn → KeepsShelf market.shelf (messages s now.turn) (advertised_until s now.turn)
+shelf_kept s turn market now has at_turn = subst (λ (t : ℕ). KeepsShelf market.shelf (messages s t) (advertised_until s t)) (sym at_turn) has.shelf

@@ -1,6 +1,8 @@
 -- One step more in a run that is under way.
 use Rattle.std.proofs.Common.{◌≡◌, ℕ, ◌+◌, List, [], ◌∷◌, ◌++◌, take, drop, Option, None, Some, true, refl, ap, sym, ◌∙◌, subst, append_assoc}
-use Rattle.std.proofs.lemmas.List.{append-nil}
+use Rattle.std.specs.List.{AllByRecursion, slice_get}
+use Rattle.std.proofs.lemmas.List.{append-nil, map-append, take_more, take-append-drop}
+use Rattle.std.proofs.lemmas.Option.{get_or_from_slice_get, slice_get_within}
 use Rattle.std.proofs.Math.Seq.{take-add}
 use Rattle.pitch_io.specs.declared.line.Line.{Line}
 use Rattle.pitch_io.specs.declared.line.Line.TheVariants.{A, B, Gap}
@@ -8,8 +10,10 @@ use Rattle.pitch_io.specs.declared.net.LinkEnd.{LinkEnd}
 use Rattle.pitch_io.specs.declared.net.LinkEnd.TheVariants.{GrpClient, GrpServer, SpinClient, SpinServer}
 use Rattle.pitch_io.specs.declared.net.NetDone.{NetDone}
 use Rattle.pitch_io.specs.Nets.{Call, ListsCall, NetDoneFailed, Send}
+use Rattle.pitch_messages.specs.Room.{Roomy}
+use Rattle.unit_packets.specs.Packing.{bytes_in}
 use Rattle.net_edge.specs.Acting.{called, scene_after, sent_on, end_puts, all_tick, next_turn}
-use Rattle.net_edge.specs.Due.{Setting, beat, is_tenth}
+use Rattle.net_edge.specs.Due.{Setting, IsDuePiece, beat, is_tenth}
 use Rattle.net_edge.specs.Playing.{ListsCalls, Plays}
 use Rattle.net_edge.specs.Scene.{Scene}
 use Rattle.net_edge.specs.Steps.{Step, Did, Beat, Turn, call_at, calls_of}
@@ -21,24 +25,24 @@ told_more base None (Some after) step call run at told lists = absurd lists
 told_more base (Some before) (Some after) step call run at told lists = lists ∙ ap (λ (x : List Call). call ∷ x) told ∙ ap (λ (x : List Call). (x ++ calls_of run) ++ base) (sym at)
 
 -- a call more
-pub play_call : (s : Setting) (base : List Call) (calls calls' : Option (List Call)) (now : Scene) (call : Call) → ListsCall calls calls' call → GoesWell call → MayCall call now → Plays s base calls now → Plays s base calls' (called s call now)
+pub play_call : (s : Setting) (base : List Call) (calls calls' : Option (List Call)) (now : Scene) (call : Call) → ListsCall calls calls' call → GoesWell call → MayCall s call now → Plays s base calls now → Plays s base calls' (called s call now)
 play_call s base calls calls' now call lists well may plays = (
   Did call ∷ plays.0,
   record {
     told = told_more base calls calls' (Did call) call plays.0 refl plays.1.told lists;
-    steps = ((well, subst (MayCall call) (sym plays.1.now_is) may), plays.1.steps);
+    steps = ((well, subst (MayCall s call) (sym plays.1.now_is) may), plays.1.steps);
     now_is = ap (called s call) plays.1.now_is;
   },
 )
 
 -- the turn's heartbeat on line B, with its tick
-pub play_beat : (s : Setting) (base : List Call) (calls calls' : Option (List Call)) (now : Scene) (heartbeat : List ℕ) (answer : NetDone) → ListsCall calls calls' (Send B heartbeat answer) → (NetDoneFailed answer → ⊥) → heartbeat ≡ beat s now.turn → is_tenth now.turn ≡ true
+pub play_beat : (s : Setting) (base : List Call) (calls calls' : Option (List Call)) (now : Scene) (heartbeat : List ℕ) (answer : NetDone) → ListsCall calls calls' (Send B heartbeat answer) → (NetDoneFailed answer → ⊥) → heartbeat ≡ beat s now.turn → is_tenth now.turn ≡ true → IsDuePiece s now.turn heartbeat
     → Plays s base calls now → Plays s base calls' (all_tick s (sent_on B (heartbeat ∷ []) now))
-play_beat s base calls calls' now heartbeat answer lists well is tenth plays = (
+play_beat s base calls calls' now heartbeat answer lists well is tenth piece plays = (
   Beat heartbeat answer ∷ plays.0,
   record {
     told = told_more base calls calls' (Beat heartbeat answer) (Send B heartbeat answer) plays.0 refl plays.1.told lists;
-    steps = (subst (MayCome s (Beat heartbeat answer)) (sym plays.1.now_is) (well, is, tenth), plays.1.steps);
+    steps = (subst (MayCome s (Beat heartbeat answer)) (sym plays.1.now_is) (well, is, tenth, piece), plays.1.steps);
     now_is = ap (scene_after s (Beat heartbeat answer)) plays.1.now_is;
   },
 )
@@ -59,6 +63,12 @@ play_turn s base calls now over goes plays = (
     told_turn base (Some calls) run told = told
 
 -- ---- What was sent and put
+-- a datagram more is of the same turn
+pub sent_in_turn : (line : Line) (xs : List (List ℕ)) (now : Scene) → now.turn ≡ (sent_on line xs now).turn
+sent_in_turn A xs now = refl
+sent_in_turn B xs now = refl
+sent_in_turn Gap xs now = refl
+
 pub sent_none : (line : Line) (now : Scene) → sent_on line [] now ≡ now
 sent_none A now = ap (λ (xs : List (List ℕ)). record now { a = record now.a { sent = xs } }) (append-nil now.a.sent)
 sent_none B now = ap (λ (xs : List (List ℕ)). record now { b = record now.b { sent = xs } }) (append-nil now.b.sent)
@@ -80,6 +90,27 @@ put_both GrpClient xs ys now = ap (λ (zs : List ℕ). record now { grp_client =
 put_both GrpServer xs ys now = ap (λ (zs : List ℕ). record now { grp_server = record now.grp_server { put = zs } }) (append_assoc now.grp_server.put xs ys)
 put_both SpinClient xs ys now = ap (λ (zs : List ℕ). record now { spin_client = record now.spin_client { put = zs } }) (append_assoc now.spin_client.put xs ys)
 put_both SpinServer xs ys now = ap (λ (zs : List ℕ). record now { spin_server = record now.spin_server { put = zs } }) (append_assoc now.spin_server.put xs ys)
+
+-- ---- Some of many
+-- what holds of all holds of one among them
+all_at : {A : Type 0} (P : A → Type 0) (xs : List A) (y : A) (zs : List A) → AllByRecursion P ((xs ++ y ∷ []) ++ zs) → P y
+all_at P [] y zs all = all.0
+all_at P (x ∷ xs) y zs all = all_at P xs y zs all.1
+
+-- the first of some lists and one more
+pub bytes_more : (lists : List (Roomy ℕ)) (i : ℕ) (list : Roomy ℕ) → slice_get lists i ≡ Some list → bytes_in (take (i + 1) lists) ≡ bytes_in (take i lists) ++ list.items ∷ []
+bytes_more lists i list at =
+    ap (λ (ls : List (Roomy ℕ)). bytes_in ls) (take_more lists i list (slice_get_within lists i list at))
+    ∙ ap (λ (l : Roomy ℕ). bytes_in (take i lists ++ l ∷ [])) (get_or_from_slice_get lists i list list at)
+    ∙ map-append _ (take i lists) (list ∷ [])
+
+pub bytes_at : (P : List ℕ → Type 0) (lists : List (Roomy ℕ)) (i : ℕ) (list : Roomy ℕ) → slice_get lists i ≡ Some list → AllByRecursion P (bytes_in lists) → P list.items
+bytes_at P lists i list at all =
+    let cut : bytes_in lists ≡ (bytes_in (take i lists) ++ list.items ∷ []) ++ bytes_in (drop (i + 1) lists) =
+    ap (λ (ls : List (Roomy ℕ)). bytes_in ls) (sym (take-append-drop (i + 1) lists))
+    ∙ map-append _ (take (i + 1) lists) (drop (i + 1) lists)
+    ∙ ap (λ (xs : List (List ℕ)). xs ++ bytes_in (drop (i + 1) lists)) (bytes_more lists i list at) in
+    all_at P (bytes_in (take i lists)) list.items (bytes_in (drop (i + 1) lists)) (subst (AllByRecursion P) cut all)
 
 -- of some bytes the next piece was written
 pub put_next : (at : LinkEnd) (bytes piece : List ℕ) (done count : ℕ) (now : Scene) → piece ≡ drop done bytes → end_puts at (take count piece) (end_puts at (take done bytes) now) ≡ end_puts at (take (done + count) bytes) now

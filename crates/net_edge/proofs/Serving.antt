@@ -17,6 +17,7 @@ use Rattle.net_edge.specs.Acting.{source_at, proxy_took, end_took, taken_at, is_
 use Rattle.net_edge.specs.Due.{Setting, call_room, gap_view}
 use Rattle.net_edge.specs.Playing.{ProxyHas, ProxyFed, ProxyAnswers, ProxyServes, Plays, with_proxy, proxy_said}
 use Rattle.net_edge.specs.Scene.{Scene, AtEnd, got_end}
+use Rattle.net_edge.specs.Turns.{MayCall}
 use Rattle.net_edge.specs.declared.proxy.Proxy.{Proxy}
 use Rattle.net_edge.proofs.Runs.{play_call}
 use Rattle.net_edge.proofs.Hearing.{not_failed}
@@ -53,6 +54,14 @@ fed_at s now piece old new store store' none said nothing lines one has stored s
 -- ---- A call of `take`
 may_take : (room : ℕ) (end : AtEnd) (answers : List NetTaken) (cut : Bool) → room ≡ call_room → end.answers ≡ answers → is_group_open answers ≡ true → end.ended ≡ false → cut ≡ false → (room ≡ call_room) × (is_group_open end.answers ≡ true) × ((end.ended || cut) ≡ false)
 may_take room end answers cut roomy are opened unended whole = (roomy, ap is_group_open are ∙ opened, ap (λ (b : Bool). b || cut) unended ∙ whole)
+
+-- where the proxy stands by what it took so far
+abbrev pub proxy_scene : (s : Setting) (base : List Call) (calls : Option (List Call)) (proxy : Proxy) (answers : List NetTaken) (now : Scene) → ProxyServes s base calls proxy answers false now → Scene
+proxy_scene s base calls proxy answers now h = with_proxy h.end h.down h.server h.spent h.lines now
+
+pub proxy_may : (s : Setting) (base : List Call) (calls : Option (List Call)) (proxy : Proxy) (room : ℕ) (bytes : List ℕ) (answer : NetTaken) (answers : List NetTaken) (now : Scene) → (h : ProxyServes s base calls proxy answers false now)
+    → now.grp_cut ≡ false → is_group_open answers ≡ true → room ≡ call_room → MayCall s (Take GrpServer room bytes answer) (proxy_scene s base calls proxy answers now h)
+proxy_may s base calls proxy room bytes answer answers now h whole opened roomy = may_take room h.end answers now.grp_cut roomy h.answers_are opened h.ended_is whole
 
 -- something came
 pub serves_got : (s : Setting) (base : List Call) (calls calls' calls'' : Option (List Call)) (old new : Proxy) (room : ℕ) (bytes : List ℕ) (count : ℕ) (answers : List NetTaken) (now : Scene)

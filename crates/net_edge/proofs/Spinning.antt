@@ -22,6 +22,7 @@ use Rattle.net_edge.specs.Acting.{is_group_open, bytes_by, spin_server_fed, spin
 use Rattle.net_edge.specs.Due.{Setting, demo_unit, call_room, messages, advertised_until, spin_view}
 use Rattle.net_edge.specs.Playing.{SpinHas, SpinSays, SpinServes, Plays}
 use Rattle.net_edge.specs.Scene.{Scene, AtEnd, is_got, got_end}
+use Rattle.net_edge.specs.Turns.{MayCall}
 use Rattle.net_edge.proofs.Runs.{play_call}
 
 -- a connection of which these bytes are all that the server said
@@ -97,6 +98,14 @@ pub says_nothing : (spin : Serving) (said : List ℕ) (c : Connection (List Serv
 says_nothing spin said c none has = record { has = has; says = sym (append-nil c.down.put) ∙ ap (λ (b : List ℕ). c.down.put ++ b) (sym none); up_is = refl; link_is = refl }
 
 -- ---- A call of `take`
+-- where the server stands by what it took so far
+abbrev pub spin_scene : (s : Setting) (base : List Call) (calls : Option (List Call)) (spin : Serving) (answers : List NetTaken) (now : Scene) → SpinServes s base calls spin answers false now → Scene
+spin_scene s base calls spin answers now h = record now { spin_server = h.end; spin = record { up = now.spin.up; down = h.down; server = h.server; link = now.spin.link } }
+
+pub spin_may : (s : Setting) (base : List Call) (calls : Option (List Call)) (spin : Serving) (room : ℕ) (bytes : List ℕ) (answer : NetTaken) (answers : List NetTaken) (now : Scene) → (h : SpinServes s base calls spin answers false now)
+    → now.spin_cut ≡ false → is_group_open answers ≡ true → room ≡ call_room → MayCall s (Take SpinServer room bytes answer) (spin_scene s base calls spin answers now h)
+spin_may s base calls spin room bytes answer answers now h whole opened roomy = (roomy, ap is_group_open h.answers_are ∙ opened, ap (λ (b : Bool). b || now.spin_cut) h.ended_is ∙ whole)
+
 pub serves_on : (s : Setting) (base : List Call) (calls calls' calls'' : Option (List Call)) (old new : Serving) (room : ℕ) (bytes said : List ℕ) (answer : NetTaken) (goes_on : Bool) (answers : List NetTaken) (now : Scene)
     → SpinServes s base calls old answers false now → now.spin_cut ≡ false → is_group_open answers ≡ true → is_group_open (answer ∷ answers) ≡ goes_on → ListsCall calls calls' (Take SpinServer room bytes answer) → room ≡ call_room → (NetTakeFailed answer → ⊥)
     → ((c : Connection (List Served)) → SpinHas old c.server → SpinSays new said c (spin_answered s bytes answer now.turn goes_on c))

@@ -1,9 +1,8 @@
 -- How a run starts, and where it stops.
 use Rattle.std.proofs.Common.{◌≡◌, ℕ, ◌+◌, ◌<◌, ◌≤◌, ◌⊎◌, inl, inr, List, [], Option, None, Some, refl, sym, ◌∙◌, subst, arith}
 use Rattle.pitch_io.specs.declared.net.LinkEnd.TheVariants.{GrpClient, SpinClient}
-use Rattle.pitch_io.specs.declared.net.NetDone.{NetDone}
 use Rattle.pitch_io.specs.declared.net.NetDone.TheVariants.{Done}
-use Rattle.pitch_io.specs.Nets.{Call, Begin, ListsCall}
+use Rattle.pitch_io.specs.Nets.{Call, Begin, ListsCall, NetDoneFailed}
 use Rattle.pitch_model.specs.History.{Raw}
 use Rattle.pitch_model.specs.declared.status.Status.{Status}
 use Rattle.pitch_model.specs.declared.status.Status.TheVariants.{Current}
@@ -17,19 +16,23 @@ use Rattle.net_edge.specs.Turns.{MayGoOn, client_status}
 use Rattle.net_edge.specs.declared.market.Market.{Market}
 
 -- ---- The start
-plays_none : (s : Setting) (before after : Option (List Call)) → ListsCall before after (Begin Done) → Plays s (calls_before before) after first_scene
+-- what is done has not failed
+pub done_well : NetDoneFailed Done → ⊥
+done_well failed = failed
+
+pub plays_none : (s : Setting) (before after : Option (List Call)) → ListsCall before after (Begin Done) → Plays s (calls_before before) after first_scene
 plays_none s before None lists = ([], record { told = tt; steps = tt; now_is = refl })
 plays_none s None (Some calls) lists = absurd lists
 plays_none s (Some before) (Some calls) lists = ([], record { told = lists; steps = tt; now_is = refl })
 
 -- the net was set up, and both links put their logins
-pub begun : (s : Setting) (c0 c1 c2 c3 : Option (List Call)) (answer : NetDone) (login spin_login : List ℕ) → ListsCall c0 c1 (Begin answer) → answer ≡ Done
+pub begun : (s : Setting) (c0 c1 c2 c3 : Option (List Call)) (login spin_login : List ℕ) → ListsCall c0 c1 (Begin Done)
     → login ≡ said_at GrpClient first_scene → spin_login ≡ said_at SpinClient first_scene
     → ((n : Scene) → Plays s (calls_before c0) c1 n → Plays s (calls_before c0) c2 (end_puts GrpClient login n))
     → ((n : Scene) → Plays s (calls_before c0) c2 n → Plays s (calls_before c0) c3 (end_puts SpinClient spin_login n))
     → Plays s (calls_before c0) c3 (all_put first_scene)
-begun s c0 c1 c2 c3 answer login spin_login lists done login_is spin_is puts spin_puts =
-    let first : Plays s (calls_before c0) c1 first_scene = plays_none s c0 c1 (subst (λ (a : NetDone). ListsCall c0 c1 (Begin a)) done lists) in
+begun s c0 c1 c2 c3 login spin_login lists login_is spin_is puts spin_puts =
+    let first : Plays s (calls_before c0) c1 first_scene = plays_none s c0 c1 lists in
     subst (λ (b : List ℕ). Plays s (calls_before c0) c3 (end_puts SpinClient b (end_puts GrpClient (said_at GrpClient first_scene) first_scene))) spin_is
     (subst (λ (b : List ℕ). Plays s (calls_before c0) c3 (end_puts SpinClient spin_login (end_puts GrpClient b first_scene))) login_is (spin_puts (end_puts GrpClient login first_scene) (puts first_scene first)))
 

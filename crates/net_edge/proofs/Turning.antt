@@ -8,10 +8,12 @@ use Rattle.pitch_io.specs.declared.net.LinkEnd.{LinkEnd}
 use Rattle.pitch_io.specs.declared.net.LinkEnd.TheVariants.{GrpClient, GrpServer, SpinClient, SpinServer}
 use Rattle.pitch_io.specs.declared.net.NetDone.{NetDone}
 use Rattle.pitch_io.specs.Nets.{Call, Send, ListsCall, NetDoneFailed}
+use Rattle.pitch_messages.specs.Room.{Roomy}
+use Rattle.unit_packets.specs.Packing.{bytes_in}
 use Rattle.pitch_model.specs.Advertising.{with_sequence}
 use Rattle.venue_core.specs.Losses.{is_lost}
 use Rattle.net_edge.specs.Acting.{is_group_open, sent_on, all_tick, next_turn}
-use Rattle.net_edge.specs.Due.{Setting, demo_unit, accepted, advertised_until, beat, beats, copies, due, is_tenth, messages, new_datagrams, ticks}
+use Rattle.net_edge.specs.Due.{Setting, IsDuePiece, AreDuePieces, demo_unit, accepted, advertised_until, beat, beats, copies, due, is_tenth, messages, new_datagrams, ticks}
 use Rattle.net_edge.specs.Playing.{EndsHave, DemoAt, Plays, MarketHas, MarketAt, IsFlushed, IsSentTo, IsUncalled, after_beat, after_due_beat}
 use Rattle.net_edge.specs.Scene.{Scene, OnLine, line_in, at_end, said_at, all_put}
 use Rattle.net_edge.specs.Turns.{IsOver, MayGoOn, IsEndOver}
@@ -161,8 +163,8 @@ module _ (s : Setting) (base : List Call) where
   pub published : (turn : ℕ) (c0 c1 c2 c3 : Option (List Call)) (e e' : Ends) (market market' : Market) (lost_a lost_b : Bool) (given_a given_b : List (List ℕ)) (now : Scene)
       → 1 ≤ turn → now.turn ≡ turn → DemoAt s base c0 e now → IsSentTo s (turn - 1) now → IsUncalled now
       → lost_a ≡ is_lost s.number demo_unit turn 1 → lost_b ≡ is_lost s.number demo_unit turn 2 → given_a ≡ new_datagrams s turn → given_b ≡ new_datagrams s turn → IsFlushed s market turn
-      → ((n : Scene) → Plays s base c0 n → Plays s base c1 (sent_on A (cond lost_a [] given_a) n))
-      → ((n : Scene) → Plays s base c1 n → Plays s base c2 (sent_on B (cond lost_b [] given_b) n))
+      → ((n : Scene) → n.turn ≡ turn → Plays s base c0 n → Plays s base c1 (sent_on A (cond lost_a [] given_a) n))
+      → ((n : Scene) → n.turn ≡ turn → Plays s base c1 n → Plays s base c2 (sent_on B (cond lost_b [] given_b) n))
       → ((n : Scene) → n.turn ≡ turn → DemoAt s base c2 e n → IsFlushed s market turn → DemoAt s base c3 e' (after_due_beat s n) × MarketAt s market' turn)
       → (after : Scene) × (after.turn ≡ turn) × DemoAt s base c3 e' after × MarketAt s market' turn × IsSentTo s turn after × IsUncalled after
   published turn c0 c1 c2 c3 e e' market market' lost_a lost_b given_a given_b now some turn_is at before none by_a by_b are_a are_b flushed send_a send_b beat_on =
@@ -171,7 +173,7 @@ module _ (s : Setting) (base : List Call) where
       let n : Scene = copied s turn now in
       let there : Plays s base c2 n =
       subst (λ (ds : List (List ℕ)). Plays s base c2 (sent_on B ds (sent_on A (copies s A turn) now))) on_b
-      (subst (λ (ds : List (List ℕ)). Plays s base c2 (sent_on B (cond lost_b [] given_b) (sent_on A ds now))) on_a (send_b (sent_on A (cond lost_a [] given_a) now) (send_a now at.plays))) in
+      (subst (λ (ds : List (List ℕ)). Plays s base c2 (sent_on B (cond lost_b [] given_b) (sent_on A ds now))) on_a (send_b (sent_on A (cond lost_a [] given_a) now) turn_is (send_a now turn_is at.plays))) in
       let more = beat_on n turn_is (record { has = ends_sent e now n.a n.b at.has; plays = there }) flushed in
       let all : IsSentTo s now.turn (after_due_beat s (copied s now.turn now)) = sent_to s now (subst (λ (t : ℕ). 1 ≤ t) (sym turn_is) some) (subst (λ (t : ℕ). IsSentTo s (t - 1) now) (sym turn_is) before) in (
         after_due_beat s n,
@@ -198,13 +200,13 @@ module _ (s : Setting) (base : List Call) where
 
   -- ---- A heartbeat
   pub beats_then : (c0 c1 c2 c3 : Option (List Call)) (e e' : Ends) (heartbeat : List ℕ) (answer : NetDone) (sequence : ℕ) (now : Scene) → DemoAt s base c0 e now → is_tenth now.turn ≡ true → heartbeat ≡ beat s now.turn → sequence ≡ accepted s now.turn
-      → ((n : Scene) → Plays s base c0 n → Plays s base c1 (sent_on A (heartbeat ∷ []) n)) → ListsCall c1 c2 (Send B heartbeat answer) → (NetDoneFailed answer → ⊥)
+      → IsDuePiece s now.turn heartbeat → (Plays s base c0 now → Plays s base c1 (sent_on A (heartbeat ∷ []) now)) → ListsCall c1 c2 (Send B heartbeat answer) → (NetDoneFailed answer → ⊥)
       → ((n : Scene) → EndsHave e n → sequence ≡ accepted s n.turn → Plays s base c2 (all_tick s n) → DemoAt s base c3 e' (all_put (all_tick s n)))
       → DemoAt s base c3 e' (after_beat s now)
-  beats_then c0 c1 c2 c3 e e' heartbeat answer sequence now at tenth is number sends lists well ticks_on =
+  beats_then c0 c1 c2 c3 e e' heartbeat answer sequence now at tenth is number piece sends lists well ticks_on =
       let first : Scene = sent_on A (heartbeat ∷ []) now in
       let n : Scene = sent_on B (heartbeat ∷ []) first in
-      let played : Plays s base c2 (all_tick s n) = play_beat s base c1 c2 first heartbeat answer lists well is tenth (sends now at.plays) in
+      let played : Plays s base c2 (all_tick s n) = play_beat s base c1 c2 first heartbeat answer lists well is tenth piece (sends at.plays) in
       subst (λ (b : List ℕ). DemoAt s base c3 e' (all_put (all_tick s (sent_on B (b ∷ []) (sent_on A (b ∷ []) now))))) is (ticks_on n (ends_sent e now n.a n.b at.has) number played)
 
   pub beaten_tenth : (calls : Option (List Call)) (e : Ends) (now : Scene) (turn : ℕ) → now.turn ≡ turn → is_tenth turn ≡ true → DemoAt s base calls e (after_beat s now) → DemoAt s base calls e (after_due_beat s now)
@@ -214,6 +216,11 @@ module _ (s : Setting) (base : List Call) where
   beaten_other calls e now turn turn_is other at = subst (λ (b : Bool). DemoAt s base calls e (cond b (after_beat s now) now)) (sym (ap is_tenth turn_is ∙ other)) at
 
 -- ---- The market
+-- what was flushed in a turn are pieces, as a scene of the turn has it
+pub pieces_in_turn : (s : Setting) (turn : ℕ) (flushed : List (Roomy ℕ)) → AreDuePieces s turn (bytes_in flushed) → (list : List (Roomy ℕ)) (now : Scene) → now.turn ≡ turn → list ≡ flushed → AreDuePieces s now.turn (bytes_in list)
+pieces_in_turn s turn flushed pieces list now at_turn is =
+    subst (λ (t : ℕ). AreDuePieces s t (bytes_in list)) (sym at_turn) (subst (λ (ls : List (Roomy ℕ)). AreDuePieces s turn (bytes_in ls)) (sym is) pieces)
+
 -- all that was accepted was sent
 pub flushed_is : (s : Setting) (turn : ℕ) (market : Market) → MarketHas market (messages s turn) (length (messages s turn)) (advertised_until s (turn - 1)) → IsFlushed s market turn
 flushed_is s turn market has = subst (λ (n : ℕ). MarketHas market (messages s turn) n (advertised_until s (turn - 1))) (messages_many s turn) has

@@ -4,8 +4,8 @@ use Rattle.std.specs.List.{AllByRecursion}
 use Rattle.std.specs.FinMap as map
 use Rattle.pitch_io.specs.declared.line.Line.{Line}
 use Rattle.pitch_io.specs.declared.net.LinkEnd.{LinkEnd}
-use Rattle.pitch_io.specs.Nets.{Call, Begin, other_end}
-use Rattle.pitch_io.specs.declared.net.NetDone.TheVariants.{Done}
+use Rattle.pitch_io.specs.Nets.{Call, Begin, Send, other_end}
+use Rattle.pitch_io.specs.declared.net.NetDone.TheVariants.{Done, Failed}
 use Rattle.unit_packets.specs.Packing.{datagram_size}
 use Rattle.pitch_model.specs.Book.{Book, book_after}
 use Rattle.pitch_model.specs.Datagrams.{IsPiece}
@@ -15,10 +15,13 @@ use Rattle.pitch_model.specs.declared.status.Status.TheVariants.{Current}
 use Rattle.venue_core.specs.Plan.{plan}
 use Rattle.storm_plan.specs.StormText.{unit_line}
 use Rattle.net_edge.specs.Acting.{scene_of}
+use Rattle.net_edge.specs.Breaking.{Breaks}
 use Rattle.net_edge.specs.Due.{Setting, demo_unit, hold_limit}
 use Rattle.net_edge.specs.Scene.{Scene, line_in, at_end}
 use Rattle.net_edge.specs.Steps.{Step, calls_of}
 use Rattle.net_edge.specs.Turns.{AreSteps, IsOver, client_status}
+use Rattle.net_edge.specs.declared.error.DemoError.{DemoError}
+use Rattle.net_edge.specs.declared.error.DemoError.TheVariants as errors
 
 -- each datagram that came was sent on its line, and the bytes that came to each end begin those that
 -- were put at the other
@@ -64,6 +67,30 @@ pub record EndsDemo (s : Setting) (now : Scene) (orders quantity : ℕ) : Type 0
 abbrev pub AddsCalls : List Step → Option (List Call) → Option (List Call) → Type 0
 AddsCalls run (Some before) (Some after) = after ≡ calls_of run ++ (Begin Done ∷ before)
 AddsCalls run before after = Unit {0}
+
+-- a demo that ended early had not begun: memory ran out before its first call, or `begin` was that
+-- call, and failed
+abbrev pub IsUnbegun : DemoError → List Call → List Call → Type 0
+IsUnbegun errors.OutOfMemory before after = after ≡ before
+IsUnbegun errors.NetFault before after = after ≡ Begin Failed ∷ before
+
+-- a demo ended early. Where the net lists its calls, it had not begun, or `begin` and then the calls
+-- of a run that broke off were added
+abbrev pub BreaksDemo : Setting → Option (List Call) → Option (List Call) → DemoError → Type 0
+BreaksDemo s (Some before) (Some after) error =
+    IsUnbegun error before after ⊎ Breaks s (Begin Done ∷ before) (Some after) error
+BreaksDemo s before after error = Unit {0}
+
+-- what a call sends, if it sends something, has the venue's messages, at their sequences
+abbrev pub SendsPiece : Setting → Call → Type 0
+SendsPiece s (Send line datagram answer) = IsPiece (all_messages s) demo_unit datagram
+SendsPiece s call = Unit {0}
+
+-- where the net lists its calls, some were added, and each of them that sends something sends a piece
+abbrev pub SendsPieces : Setting → Option (List Call) → Option (List Call) → Type 0
+SendsPieces s (Some before) (Some after) =
+    (added : List Call) × (after ≡ added ++ before) × AllByRecursion (SendsPiece s) added
+SendsPieces s before after = Unit {0}
 
 -- a demo did such a run, and printed the unit's line
 pub record IsDemo (s : Setting) (before after : Option (List Call)) (text text' : List ℕ) : Type 0 where

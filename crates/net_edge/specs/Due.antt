@@ -1,11 +1,13 @@
 -- What a turn brings: a message that is accepted, datagrams that are sent, a sequence that is
 -- advertised.
 use Rattle.std.specs.Prelude.{ℕ, zero, suc, ◌+◌, ◌-◌, ◌%◌, Bool, ◌==◌, min, List, [], ◌∷◌, ◌++◌, drop, if◌then◌else◌}
+use Rattle.std.specs.List.{AllByRecursion}
 use Rattle.pitch_io.specs.declared.line.Line.{Line}
 use Rattle.pitch_io.specs.declared.line.Line.TheVariants.{A, B, Gap}
 use Rattle.unit_packets.specs.BlockBytes.{block_bytes, heartbeat_block}
 use Rattle.unit_packets.specs.Packing.{packed}
 use Rattle.pitch_model.specs.Advertising.{with_sequence, last_ten}
+use Rattle.pitch_model.specs.Datagrams.{IsPiece}
 use Rattle.pitch_model.specs.History.{Raw}
 use Rattle.venue_core.specs.Losses.{is_lost}
 use Rattle.venue_core.specs.Plan.{plan}
@@ -47,6 +49,13 @@ accepted s turn = min turn s.count
 -- the messages that were accepted up to a turn
 abbrev pub messages : Setting → ℕ → List Raw
 messages s turn = plan s.number demo_unit (accepted s turn)
+
+-- a datagram has messages that were accepted up to a turn, at their sequences
+abbrev pub IsDuePiece : Setting → ℕ → List ℕ → Type 0
+IsDuePiece s turn datagram = IsPiece (messages s turn) demo_unit datagram
+
+abbrev pub AreDuePieces : Setting → ℕ → List (List ℕ) → Type 0
+AreDuePieces s turn datagrams = AllByRecursion (IsDuePiece s turn) datagrams
 
 -- the datagrams of the turn's message; there is none once all were accepted
 abbrev pub new_datagrams : Setting → ℕ → List (List ℕ)

@@ -3,6 +3,7 @@ pub mod Scene
 pub mod Due
 pub mod Acting
 pub mod Turns
+pub mod Breaking
 pub mod Demo
 pub mod Peers
 pub mod Playing

@@ -1,19 +1,22 @@
 -- What the code knows of a run that is under way. No caller needs it.
-use Rattle.std.specs.Prelude.{◌≡◌, ℕ, ◌-◌, Bool, true, false, not, ◌||◌, ◌&&◌, List, [], ◌∷◌, ◌++◌, Option, None, Some, is_some, if◌then◌else◌}
+use Rattle.std.specs.Prelude.{◌≡◌, ◌≤◌, ℕ, length, ◌-◌, Bool, true, false, not, ◌||◌, ◌&&◌, List, [], ◌∷◌, ◌++◌, Option, None, Some, is_some, if◌then◌else◌}
 use Rattle.std.specs.List.{AllByRecursion}
 use Rattle.pitch_fields.specs.Fields.{AreBytes}
+use Rattle.pitch_fields.specs.Limits.{last_sequence}
+use Rattle.pitch_messages.specs.Raw.{IsRaw}
 use Rattle.pitch_io.specs.declared.line.Line.{Line}
 use Rattle.pitch_io.specs.declared.line.Line.TheVariants.{A, B, Gap}
 use Rattle.pitch_io.specs.declared.net.LinkEnd.TheVariants.{GrpServer, SpinServer}
 use Rattle.pitch_io.specs.declared.net.NetTaken.TheVariants.{Got}
 use Rattle.pitch_io.specs.declared.net.NetTaken.{NetTaken}
+use Rattle.pitch_io.specs.Causes.{Rose}
 use Rattle.pitch_io.specs.Nets.{Call, Begin}
 use Rattle.pitch_io.specs.declared.net.NetDone.TheVariants.{Done}
 use Rattle.pitch_model.specs.History.{Entry, Raw}
 use Rattle.pitch_model.specs.Honest.{Honest}
 use Rattle.pitch_model.specs.Image.{image}
 use Rattle.venue_core.specs.Stands.{Stands as VenueStands}
-use Rattle.gap_store.specs.Look.{store_of}
+use Rattle.gap_store.specs.Look.{Store, store_of}
 use Rattle.session_ends.specs.Closing.{Setup, closed_of}
 use Rattle.session_ends.specs.Ending.{Ending}
 use Rattle.session_ends.specs.Answering.{Answer}
@@ -34,10 +37,17 @@ use Rattle.net_edge.specs.Due.{Setting, demo_unit, kept_messages, hold_limit, re
 use Rattle.net_edge.specs.Scene.{Scene, OnLine, AtEnd, line_in, with_line, at_end, said_at, all_put}
 use Rattle.net_edge.specs.Peers.{Peer, LooksIn, end_of, peer_setup, down_of, with_client_end}
 use Rattle.net_edge.specs.Steps.{Step, calls_of}
+use Rattle.net_edge.specs.Breaking.{Breaks}
 use Rattle.net_edge.specs.Turns.{AreSteps}
+use Rattle.net_edge.specs.declared.error.DemoError.{DemoError}
+use Rattle.net_edge.specs.declared.error.DemoError.TheVariants as errors
 use Rattle.net_edge.specs.declared.market.Market.{Market}
 use Rattle.net_edge.specs.declared.ends.Ends.{Ends}
 use Rattle.net_edge.specs.declared.proxy.Proxy.{Proxy}
+
+-- where it was a fault of the net, its count of faults rose
+abbrev pub RoseAtFault : ℕ → ℕ → DemoError → Type 0
+RoseAtFault before after error = error ≡ errors.NetFault → Rose before after
 
 -- the net's calls, where it lists them: those of the run, and those before it
 abbrev pub ListsCalls : List Call → Option (List Call) → List Step → Type 0
@@ -59,6 +69,20 @@ pub record LeadsTo (s : Setting) (base : List Call) (calls : Option (List Call))
 abbrev pub Plays : Setting → List Call → Option (List Call) → Scene → Type 0
 Plays s base calls now = (run : List Step) × LeadsTo s base calls now run
 
+-- ---- Where a run breaks off
+-- some run is under way
+abbrev pub Runs : Setting → List Call → Option (List Call) → Type 0
+Runs s base calls = (now : Scene) × Plays s base calls now
+
+-- whatever run was under way, it goes on
+abbrev pub KeepsRun : Option (List Call) → Option (List Call) → Type 0
+KeepsRun before after = (s : Setting) (base : List Call) → Runs s base before → Runs s base after
+
+-- or it breaks off
+abbrev pub BreaksRun : Option (List Call) → Option (List Call) → DemoError → Type 0
+BreaksRun before after error =
+    (s : Setting) (base : List Call) → Runs s base before → Breaks s base after error
+
 -- ---- The ends
 -- the venue has these messages and sent so many of them, and proxy and Spin Server look them up
 pub record MarketHas (market : Market) (messages : List Raw) (sent : ℕ) (advertised : List ℕ) : Type 0 where
@@ -66,6 +90,12 @@ pub record MarketHas (market : Market) (messages : List Raw) (sent : ℕ) (adver
   pub venue : VenueStands market.venue messages sent
   pub store_is : market.store ≡ store_of (record { messages = messages; kept = kept_messages })
   pub shelf : KeepsShelf market.shelf messages advertised
+
+-- the proxy's store has these messages, which are raws, and no more of them than have sequences
+pub record KeepsStore (store : Store) (messages : List Raw) : Type 0 where
+  pub store_is : store ≡ store_of (record { messages = messages; kept = kept_messages })
+  pub raws : AllByRecursion IsRaw messages
+  pub few : length messages ≤ last_sequence
 
 -- the proxy stands for what happened to it, and its budget for what it accepted
 pub record ProxyHas (proxy : Proxy) (events : List (Event Source)) (spent : Spent) : Type 0 where
@@ -267,6 +297,46 @@ pub record IsSentTo (s : Setting) (turn : ℕ) (now : Scene) : Type 0 where
 pub record DemoAt (s : Setting) (base : List Call) (calls : Option (List Call)) (ends : Ends) (now : Scene) : Type 0 where
   pub has : EndsHave ends now
   pub plays : Plays s base calls now
+
+-- ---- The parts of a turn
+-- the venue has done its part
+pub record VenueDone (s : Setting) (base : List Call) (calls : Option (List Call)) (turn : ℕ) (ends : Ends) (now : Scene) : Type 0 where
+  pub at : DemoAt s base calls ends now
+  pub turn_is : now.turn ≡ turn
+  pub sent : IsSentTo s turn now
+  pub uncalled : IsUncalled now
+
+-- a server's group of calls is over; or it got End, or its connection was cut, or is cut since
+abbrev pub IsServed : AtEnd → Bool → Type 0
+IsServed end cut =
+    (after : Bool) → (cut ≡ true → after ≡ true) → is_group_open end.answers ≡ true
+    → (end.ended || after) ≡ true
+
+-- then the servers are done with their calls, and the client with none
+pub record ServersDone (s : Setting) (base : List Call) (calls : Option (List Call)) (turn : ℕ) (ends : Ends) (now : Scene) : Type 0 where
+  pub at : DemoAt s base calls ends now
+  pub turn_is : now.turn ≡ turn
+  pub sent : IsSentTo s turn now
+  pub a : now.a.answers ≡ []
+  pub b : now.b.answers ≡ []
+  pub gap : now.gap.answers ≡ []
+  pub grp_client : now.grp_client.answers ≡ []
+  pub spin_client : now.spin_client.answers ≡ []
+  pub grp_server : IsServed now.grp_server ends.grp_cut
+  pub spin_server : IsServed now.spin_server ends.spin_cut
+
+-- then the client has heard its lines
+pub record LinesDone (s : Setting) (base : List Call) (calls : Option (List Call)) (turn : ℕ) (ends : Ends) (now : Scene) : Type 0 where
+  pub at : DemoAt s base calls ends now
+  pub turn_is : now.turn ≡ turn
+  pub sent : IsSentTo s turn now
+  pub a : is_group_open now.a.answers ≡ false
+  pub b : is_group_open now.b.answers ≡ false
+  pub gap : is_group_open now.gap.answers ≡ false
+  pub grp_client : now.grp_client.answers ≡ []
+  pub spin_client : now.spin_client.answers ≡ []
+  pub grp_server : IsServed now.grp_server ends.grp_cut
+  pub spin_server : IsServed now.spin_server ends.spin_cut
 
 -- ---- Groups of calls
 -- a group that is over: 100 calls were made, or one of them got nothing

@@ -9,7 +9,7 @@ use Rattle.pitch_model.specs.Status.{status_of}
 use Rattle.pitch_model.specs.declared.status.Status.{Status}
 use Rattle.pitch_model.specs.declared.status.Status.TheVariants.{Current}
 use Rattle.net_edge.specs.Acting.{is_group_open, scene_of}
-use Rattle.net_edge.specs.Due.{Setting, call_room, hold_limit, beat, due, is_tenth, ticks}
+use Rattle.net_edge.specs.Due.{Setting, IsDuePiece, call_room, hold_limit, beat, due, is_tenth, ticks}
 use Rattle.net_edge.specs.Scene.{Scene, line_in, at_end, said_at, is_done}
 use Rattle.net_edge.specs.Steps.{Step, Did, Beat, Turn}
 
@@ -21,13 +21,16 @@ GoesWell (Next line room bytes answer) = NetTakeFailed answer → ⊥
 GoesWell (Put at piece answer) = PutFailed answer → ⊥
 GoesWell (Take at room bytes answer) = NetTakeFailed answer → ⊥
 
--- a call of `next` or `take` has room for the longest datagram; it comes while the turn's group of
--- them is open, which ends with its first Quiet or End, or with the 100th call; and no end is asked
--- that got End or was cut
-abbrev pub MayCall : Call → Scene → Type 0
-MayCall (Next line room bytes answer) now = (room ≡ call_room) × (is_group_open (line_in line now).answers ≡ true)
-MayCall (Take at room bytes answer) now = (room ≡ call_room) × (is_group_open (at_end at now).answers ≡ true) × (is_done at now ≡ false)
-MayCall call now = Unit {0}
+-- a datagram that is sent has the venue's messages; a call of `next` or `take` has room for the
+-- longest datagram; it comes while the turn's group of them is open, which ends with its first Quiet
+-- or End, or with the 100th call; and no end is asked that got End or was cut
+abbrev pub MayCall : Setting → Call → Scene → Type 0
+MayCall s (Send line datagram answer) now = IsDuePiece s now.turn datagram
+MayCall s (Next line room bytes answer) now =
+    (room ≡ call_room) × (is_group_open (line_in line now).answers ≡ true)
+MayCall s (Take at room bytes answer) now =
+    (room ≡ call_room) × (is_group_open (at_end at now).answers ≡ true) × (is_done at now ≡ false)
+MayCall s call now = Unit {0}
 
 -- the turn's group of calls at an end is over, or the end is asked no more
 abbrev pub IsEndOver : LinkEnd → Scene → Type 0
@@ -54,8 +57,12 @@ abbrev pub MayGoOn : Setting → Scene → Type 0
 MayGoOn s now = s.count < now.turn → client_status now ≡ Current s.count → ⊥
 
 abbrev pub MayCome : Setting → Step → Scene → Type 0
-MayCome s (Did call) now = GoesWell call × MayCall call now
-MayCome s (Beat heartbeat answer) now = (NetDoneFailed answer → ⊥) × (heartbeat ≡ beat s now.turn) × (is_tenth now.turn ≡ true)
+MayCome s (Did call) now = GoesWell call × MayCall s call now
+MayCome s (Beat heartbeat answer) now =
+    (NetDoneFailed answer → ⊥)
+    × (heartbeat ≡ beat s now.turn)
+    × (is_tenth now.turn ≡ true)
+    × IsDuePiece s now.turn heartbeat
 MayCome s Turn now = IsOver s now × MayGoOn s now
 
 -- each step may come after those before it

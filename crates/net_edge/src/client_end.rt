@@ -32,7 +32,8 @@ pub(crate) trait ClientEnd {
 
     /// The client hears that the connection is down.
     fn hear_down(client: &mut UnitClient) -> Result<(), OutOfMemory>
-        ensures { OnOk result ((E : List Entry) → ClientHas client.old E → ClientHas client.new (down_of peer ∷ E)) };
+        ensures { OnOk result ((E : List Entry) → ClientHas client.old E
+            → ClientHas client.new (down_of peer ∷ E)) };
 
     /// Whether it has closed.
     fn has_closed(&self) -> bool
@@ -40,21 +41,30 @@ pub(crate) trait ClientEnd {
 
     /// Takes the next piece of the stream, and appends what it tells the client.
     fn take_piece(&mut self, piece: &[u8], items: &mut ItemList) -> Result<(), OutOfMemory>
-        ensures stands { OnOk result ((es : List (Event Lookups)) → LinkStands (ending self.old) es → LinkStands (ending self.new) (Fed piece.now NoLookup ∷ es)) }
-        ensures tells { OnOk result ((es : List (Event Lookups)) → LinkStands (ending self.old) es → map without_spare items.new.items ≡ map without_spare items.old.items ++ link_tells (ending self.old).setup es piece.now) }
+        ensures stands { OnOk result ((es : List (Event Lookups)) → LinkStands (ending self.old) es
+            → LinkStands (ending self.new) (Fed piece.now NoLookup ∷ es)) }
+        ensures tells { OnOk result ((es : List (Event Lookups)) → LinkStands (ending self.old) es
+            → map without_spare items.new.items ≡ map without_spare items.old.items
+            ++ link_tells (ending self.old).setup es piece.now) }
         ensures setup { (ending self.new).setup ≡ (ending self.old).setup };
 
     /// A second passes; appends what it says by that.
     fn pass_second(&mut self, said: &mut Vec<u8>) -> Result<(), OutOfMemory>
-        ensures stands { OnOk result ((es : List (Event Lookups)) → LinkStands (ending self.old) es → LinkStands (ending self.new) (Ticked ∷ es)) }
-        ensures says { OnOk result ((es : List (Event Lookups)) → LinkStands (ending self.old) es → said.new.items ≡ said.old.items ++ sent_at_tick (link_sends (ending self.old).setup) (ending self.old).setup es) }
+        ensures stands { OnOk result ((es : List (Event Lookups)) → LinkStands (ending self.old) es
+            → LinkStands (ending self.new) (Ticked ∷ es)) }
+        ensures says { OnOk result ((es : List (Event Lookups)) → LinkStands (ending self.old) es
+            → said.new.items ≡ said.old.items
+            ++ sent_at_tick (link_sends (ending self.old).setup) (ending self.old).setup es) }
         ensures setup { (ending self.new).setup ≡ (ending self.old).setup };
 
     /// Asks for what the client wants of this server, and appends what it sends: nothing where the
     /// other server is meant.
     fn pass_on(&mut self, ask: Option<Ask>, said: &mut Vec<u8>) -> Result<(), OutOfMemory>
         requires { said.old.items ≡ [] }
-        ensures { OnOk result ((c : Connection (LooksIn peer)) → LinkHas (peer_setup peer) (ending self.old) c.link → LinkSays (peer_setup peer) (ending self.new) said.new.items c (asked_of peer ask c)) };
+        ensures { OnOk result ((c : Connection (LooksIn peer))
+            → LinkHas (peer_setup peer) (ending self.old) c.link
+            → LinkSays (peer_setup peer) (ending self.new) said.new.items c
+            (asked_of peer ask c)) };
 }
 
 impl ClientEnd for GapLink {

@@ -1,12 +1,11 @@
 //! The four ends and the client, and what a turn does with them.
 
 ghost use Rattle.std.specs.Prelude.{◌≡◌, ◌≤◌, ◌<◌, ◌-◌, ℕ, List, [], ◌∷◌, length, OnOk, IfOk, IfErr, true};
-ghost use Rattle.pitch_io.specs.Causes.{Rose};
 ghost use Rattle.pitch_io.specs.Nets.{Call};
-ghost use Rattle.net_edge.specs.declared.error.DemoError.TheVariants as errors;
 ghost use Rattle.net_edge.specs.Acting.{all_tick};
+ghost use Rattle.net_edge.specs.Breaking.{Breaks};
 ghost use Rattle.net_edge.specs.Due.{Setting, setting, call_room, accepted, is_tenth};
-ghost use Rattle.net_edge.specs.Playing.{Plays, EndsHave, MarketAt, IsFlushed, IsUncalled, IsSentTo, DemoAt, after_beat, after_due_beat};
+ghost use Rattle.net_edge.specs.Playing.{RoseAtFault, Plays, BreaksRun, EndsHave, MarketAt, IsFlushed, IsUncalled, IsSentTo, DemoAt, VenueDone, ServersDone, LinesDone, after_beat, after_due_beat};
 ghost use Rattle.net_edge.specs.Scene.{Scene, all_put};
 ghost use Rattle.net_edge.specs.Turns.{IsOver};
 
@@ -44,9 +43,12 @@ impl Ends {
     // A second passes at all ends, once the turn's heartbeat was sent on line B. First the Spin
     // Server is told of the sequence that was advertised.
     fn tick<N: Net>(&mut self, net: &mut N, sequence: u32) -> Result<(), DemoError>
-        ensures ticked { OnOk result ((s : Setting) (base : List Call) (now : Scene) → EndsHave self.old now → sequence ≡ accepted s now.turn → Plays s base (N.calls net.old) (all_tick s now)
+        ensures ticked { OnOk result ((s : Setting) (base : List Call) (now : Scene)
+            → EndsHave self.old now → sequence ≡ accepted s now.turn
+            → Plays s base (N.calls net.old) (all_tick s now)
             → DemoAt s base (N.calls net.new) self.new (all_put (all_tick s now))) }
-        ensures fault { IfErr result (λ error. error ≡ errors.NetFault → Rose (N.faults net.old) (N.faults net.new)) }
+        ensures broke { IfErr result (BreaksRun (N.calls net.old) (N.calls net.new)) }
+        ensures fault { IfErr result (RoseAtFault (N.faults net.old) (N.faults net.new)) }
         ensures later { N.faults net.old ≤ N.faults net.new }
         ensures still { OnOk result (N.faults net.new ≡ N.faults net.old) }
     {
@@ -77,9 +79,15 @@ impl Ends {
 
     // The turn's heartbeat is sent, an image is advertised, and a second passes.
     fn beat<N: Net>(&mut self, net: &mut N, market: &mut Market) -> Result<(), DemoError>
-        ensures beaten { OnOk result ((s : Setting) (base : List Call) (now : Scene) → DemoAt s base (N.calls net.old) self.old now → IsFlushed s market.old now.turn → 1 ≤ now.turn → is_tenth now.turn ≡ true
-            → DemoAt s base (N.calls net.new) self.new (after_beat s now) × MarketAt s market.new now.turn) }
-        ensures fault { IfErr result (λ error. error ≡ errors.NetFault → Rose (N.faults net.old) (N.faults net.new)) }
+        ensures beaten { OnOk result ((s : Setting) (base : List Call) (now : Scene)
+            → DemoAt s base (N.calls net.old) self.old now → IsFlushed s market.old now.turn
+            → 1 ≤ now.turn → is_tenth now.turn ≡ true
+            → DemoAt s base (N.calls net.new) self.new (after_beat s now)
+            × MarketAt s market.new now.turn) }
+        ensures broke { IfErr result (λ error. (s : Setting) (base : List Call) (now : Scene)
+            → Plays s base (N.calls net.old) now → IsFlushed s market.old now.turn
+            → Breaks s base (N.calls net.new) error) }
+        ensures fault { IfErr result (RoseAtFault (N.faults net.old) (N.faults net.new)) }
         ensures later { N.faults net.old ≤ N.faults net.new }
         ensures still { OnOk result (N.faults net.new ≡ N.faults net.old) }
     {
@@ -103,9 +111,15 @@ impl Ends {
         turn: u32,
     ) -> Result<(), DemoError>
         requires { 1 ≤ turn }
-        ensures beaten { OnOk result ((s : Setting) (base : List Call) (now : Scene) → now.turn ≡ turn → DemoAt s base (N.calls net.old) self.old now → IsFlushed s market.old turn
-            → DemoAt s base (N.calls net.new) self.new (after_due_beat s now) × MarketAt s market.new turn) }
-        ensures fault { IfErr result (λ error. error ≡ errors.NetFault → Rose (N.faults net.old) (N.faults net.new)) }
+        ensures beaten { OnOk result ((s : Setting) (base : List Call) (now : Scene)
+            → now.turn ≡ turn → DemoAt s base (N.calls net.old) self.old now
+            → IsFlushed s market.old turn
+            → DemoAt s base (N.calls net.new) self.new (after_due_beat s now)
+            × MarketAt s market.new turn) }
+        ensures broke { IfErr result (λ error. (s : Setting) (base : List Call) (now : Scene)
+            → now.turn ≡ turn → Plays s base (N.calls net.old) now → IsFlushed s market.old turn
+            → Breaks s base (N.calls net.new) error) }
+        ensures fault { IfErr result (RoseAtFault (N.faults net.old) (N.faults net.new)) }
         ensures later { N.faults net.old ≤ N.faults net.new }
         ensures still { OnOk result (N.faults net.new ≡ N.faults net.old) }
     {
@@ -127,11 +141,19 @@ impl Ends {
         turn: u32,
     ) -> Result<(), DemoError>
         requires { 1 ≤ turn }
-        ensures published { OnOk result ((base : List Call) (now : Scene) → now.turn ≡ turn → DemoAt (setting number count) base (N.calls net.old) self.old now → MarketAt (setting number count) market.old (turn - 1)
+        ensures published { OnOk result ((base : List Call) (now : Scene) → now.turn ≡ turn
+            → DemoAt (setting number count) base (N.calls net.old) self.old now
+            → MarketAt (setting number count) market.old (turn - 1)
             → IsSentTo (setting number count) (turn - 1) now → IsUncalled now
-            → (after : Scene) × (after.turn ≡ turn) × DemoAt (setting number count) base (N.calls net.new) self.new after × MarketAt (setting number count) market.new turn
+            → (after : Scene) × (after.turn ≡ turn)
+            × DemoAt (setting number count) base (N.calls net.new) self.new after
+            × MarketAt (setting number count) market.new turn
             × IsSentTo (setting number count) turn after × IsUncalled after) }
-        ensures fault { IfErr result (λ error. error ≡ errors.NetFault → Rose (N.faults net.old) (N.faults net.new)) }
+        ensures broke { IfErr result (λ error. (base : List Call) (now : Scene) → now.turn ≡ turn
+            → Plays (setting number count) base (N.calls net.old) now
+            → MarketAt (setting number count) market.old (turn - 1)
+            → Breaks (setting number count) base (N.calls net.new) error) }
+        ensures fault { IfErr result (RoseAtFault (N.faults net.old) (N.faults net.new)) }
         ensures later { N.faults net.old ≤ N.faults net.new }
         ensures still { OnOk result (N.faults net.new ≡ N.faults net.old) }
     {
@@ -145,27 +167,27 @@ impl Ends {
         Ok(())
     }
 
-    /// One turn.
-    pub(crate) fn turn<N: Net>(
+    // In a turn both servers take what came to them.
+    fn serve<N: Net>(
         &mut self,
         net: &mut N,
         market: &mut Market,
-        number: u64,
-        count: u32,
-        turn: u32,
         into: &mut [u8],
     ) -> Result<(), DemoError>
-        requires some { 1 ≤ turn }
-        requires room { length into.old ≡ call_room }
-        ensures over { OnOk result ((base : List Call) (now : Scene) → now.turn ≡ turn → DemoAt (setting number count) base (N.calls net.old) self.old now → MarketAt (setting number count) market.old (turn - 1)
-            → IsSentTo (setting number count) (turn - 1) now → IsUncalled now
-            → (after : Scene) × (after.turn ≡ turn) × DemoAt (setting number count) base (N.calls net.new) self.new after × MarketAt (setting number count) market.new turn × IsOver (setting number count) after) }
+        requires { length into.old ≡ call_room }
+        ensures served { OnOk result ((s : Setting) (base : List Call) (turn : ℕ) (now : Scene)
+            → VenueDone s base (N.calls net.old) turn self.old now → MarketAt s market.old turn
+            → (after : Scene) × ServersDone s base (N.calls net.new) turn self.new after) }
+        ensures broke { IfErr result (λ error. (s : Setting) (base : List Call) (turn : ℕ)
+            (now : Scene) → VenueDone s base (N.calls net.old) turn self.old now
+            → MarketAt s market.old turn → Breaks s base (N.calls net.new) error) }
+        ensures market { OnOk result ((s : Setting) (turn : ℕ)
+            → MarketAt s market.old turn → MarketAt s market.new turn) }
         ensures room { length into.new ≡ length into.old }
-        ensures fault { IfErr result (λ error. error ≡ errors.NetFault → Rose (N.faults net.old) (N.faults net.new)) }
+        ensures fault { IfErr result (RoseAtFault (N.faults net.old) (N.faults net.new)) }
         ensures later { N.faults net.old ≤ N.faults net.new }
         ensures still { OnOk result (N.faults net.new ≡ N.faults net.old) }
     {
-        self.publish(net, market, number, count, turn)?;
         self.grp_ended = serve_end(
             self.alloc,
             net,
@@ -184,9 +206,44 @@ impl Ends {
             self.spin_cut,
             self.spin_ended,
         )?;
+        Ok(())
+    }
+
+    // Then the client hears its lines.
+    fn hear_lines<N: Net>(&mut self, net: &mut N, into: &mut [u8]) -> Result<(), DemoError>
+        requires { length into.old ≡ call_room }
+        ensures heard { OnOk result ((s : Setting) (base : List Call) (turn : ℕ) (now : Scene)
+            → ServersDone s base (N.calls net.old) turn self.old now
+            → (after : Scene) × LinesDone s base (N.calls net.new) turn self.new after) }
+        ensures broke { IfErr result (λ error. (s : Setting) (base : List Call) (turn : ℕ)
+            (now : Scene) → ServersDone s base (N.calls net.old) turn self.old now
+            → Breaks s base (N.calls net.new) error) }
+        ensures room { length into.new ≡ length into.old }
+        ensures fault { IfErr result (RoseAtFault (N.faults net.old) (N.faults net.new)) }
+        ensures later { N.faults net.old ≤ N.faults net.new }
+        ensures still { OnOk result (N.faults net.new ≡ N.faults net.old) }
+    {
         hear_line(net, Line::A, &mut self.client, into)?;
         hear_line(net, Line::B, &mut self.client, into)?;
         hear_line(net, Line::Gap, &mut self.client, into)?;
+        Ok(())
+    }
+
+    // Then it hears its links.
+    fn hear_links<N: Net>(&mut self, net: &mut N, into: &mut [u8]) -> Result<(), DemoError>
+        requires { length into.old ≡ call_room }
+        ensures over { OnOk result ((s : Setting) (base : List Call) (turn : ℕ) (now : Scene)
+            → LinesDone s base (N.calls net.old) turn self.old now
+            → (after : Scene) × (after.turn ≡ turn) × DemoAt s base (N.calls net.new) self.new after
+            × IsOver s after) }
+        ensures broke { IfErr result (λ error. (s : Setting) (base : List Call) (turn : ℕ)
+            (now : Scene) → LinesDone s base (N.calls net.old) turn self.old now
+            → Breaks s base (N.calls net.new) error) }
+        ensures room { length into.new ≡ length into.old }
+        ensures fault { IfErr result (RoseAtFault (N.faults net.old) (N.faults net.new)) }
+        ensures later { N.faults net.old ≤ N.faults net.new }
+        ensures still { OnOk result (N.faults net.new ≡ N.faults net.old) }
+    {
         self.grp_cut = hear_link(
             self.alloc,
             net,
@@ -203,6 +260,43 @@ impl Ends {
             into,
             self.spin_cut,
         )?;
+        Ok(())
+    }
+
+    /// One turn.
+    pub(crate) fn turn<N: Net>(
+        &mut self,
+        net: &mut N,
+        market: &mut Market,
+        number: u64,
+        count: u32,
+        turn: u32,
+        into: &mut [u8],
+    ) -> Result<(), DemoError>
+        requires some { 1 ≤ turn }
+        requires room { length into.old ≡ call_room }
+        ensures over { OnOk result ((base : List Call) (now : Scene) → now.turn ≡ turn
+            → DemoAt (setting number count) base (N.calls net.old) self.old now
+            → MarketAt (setting number count) market.old (turn - 1)
+            → IsSentTo (setting number count) (turn - 1) now → IsUncalled now
+            → (after : Scene) × (after.turn ≡ turn)
+            × DemoAt (setting number count) base (N.calls net.new) self.new after
+            × MarketAt (setting number count) market.new turn
+            × IsOver (setting number count) after) }
+        ensures room { length into.new ≡ length into.old }
+        ensures broke { IfErr result (λ error. (base : List Call) (now : Scene) → now.turn ≡ turn
+            → DemoAt (setting number count) base (N.calls net.old) self.old now
+            → MarketAt (setting number count) market.old (turn - 1)
+            → IsSentTo (setting number count) (turn - 1) now → IsUncalled now
+            → Breaks (setting number count) base (N.calls net.new) error) }
+        ensures fault { IfErr result (RoseAtFault (N.faults net.old) (N.faults net.new)) }
+        ensures later { N.faults net.old ≤ N.faults net.new }
+        ensures still { OnOk result (N.faults net.new ≡ N.faults net.old) }
+    {
+        self.publish(net, market, number, count, turn)?;
+        self.serve(net, market, into)?;
+        self.hear_lines(net, into)?;
+        self.hear_links(net, into)?;
         Ok(())
     }
 }

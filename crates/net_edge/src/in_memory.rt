@@ -13,7 +13,8 @@ use pitch_io::MemoryNet;
 ///
 /// It says so of each demo whose calls are the last that the net lists.
 pub fn carried_in_memory(net: &MemoryNet)
-    ensures { (s : Setting) (before after : List Call) (text text' : List ℕ) (demo : IsDemo s (Some before) (Some after) text text') → net.now.calls ≡ Some after
+    ensures { (s : Setting) (before after : List Call) (text text' : List ℕ)
+        (demo : IsDemo s (Some before) (Some after) text text') → net.now.calls ≡ Some after
         → IsCarried (scene_of s demo.run) }
 {
     net.carries();

@@ -1,16 +1,15 @@
 //! What the client hears on the lines.
 
 ghost use Rattle.std.specs.Prelude.{◌≡◌, ◌≤◌, ◌<◌, ℕ, List, [], ◌∷◌, length, OnOk, IfOk, IfErr, true};
-ghost use Rattle.pitch_io.specs.Causes.{Rose};
 ghost use Rattle.pitch_io.specs.Nets.{Call};
 ghost use Rattle.pitch_io.specs.declared.net.NetTaken.{NetTaken as TakenSaid};
 ghost use Rattle.unit_packets.specs.Cutting.{blocks_of};
 ghost use Rattle.pitch_model.specs.Datagrams.{heard_blocks};
 ghost use Rattle.pitch_model.specs.History.{Entry};
-ghost use Rattle.net_edge.specs.declared.error.DemoError.TheVariants as errors;
 ghost use Rattle.net_edge.specs.Acting.{ours, is_group_open};
+ghost use Rattle.net_edge.specs.Breaking.{Breaks};
 ghost use Rattle.net_edge.specs.Due.{Setting, call_room};
-ghost use Rattle.net_edge.specs.Playing.{ClientHas, HearsOn, IsGroupOver};
+ghost use Rattle.net_edge.specs.Playing.{RoseAtFault, ClientHas, HearsOn, IsGroupOver};
 ghost use Rattle.net_edge.specs.Scene.{Scene};
 
 use crate::error::DemoError;
@@ -24,7 +23,8 @@ pub(crate) const MOST_CALLS: u32 = 100;
 
 // The client hears a block of the demo's unit, and passes over others.
 fn hear_if_ours(client: &mut UnitClient, block: &BlockView<'_>) -> Result<(), OutOfMemory>
-    ensures { OnOk result ((E : List Entry) → ClientHas client.old E → ClientHas client.new (heard_blocks (ours (block.now ∷ [])) E)) }
+    ensures { OnOk result ((E : List Entry) → ClientHas client.old E
+        → ClientHas client.new (heard_blocks (ours (block.now ∷ [])) E)) }
 {
     let header = block.header();
     if header.unit != 1 {
@@ -36,7 +36,8 @@ fn hear_if_ours(client: &mut UnitClient, block: &BlockView<'_>) -> Result<(), Ou
 
 // The client hears the blocks of a datagram.
 fn hear_datagram(client: &mut UnitClient, datagram: &[u8]) -> Result<(), OutOfMemory>
-    ensures { OnOk result ((E : List Entry) → ClientHas client.old E → ClientHas client.new (heard_blocks (ours (blocks_of datagram.now)) E)) }
+    ensures { OnOk result ((E : List Entry) → ClientHas client.old E
+        → ClientHas client.new (heard_blocks (ours (blocks_of datagram.now)) E)) }
 {
     let mut at = 0;
     'next: while at < datagram.len() {
@@ -59,10 +60,17 @@ fn hear_one<N: Net>(
     into: &mut [u8],
 ) -> Result<NetTaken, DemoError>
     requires { length into.old ≡ call_room }
-    ensures heard { IfOk result (λ answer. (s : Setting) (base : List Call) (answers : List TakenSaid) (now : Scene) → HearsOn s base (N.calls net.old) client.old line answers now
-        → is_group_open answers ≡ true → HearsOn s base (N.calls net.new) client.new line (answer ∷ answers) now) }
+    ensures heard { IfOk result (λ answer. (s : Setting) (base : List Call)
+        (answers : List TakenSaid) (now : Scene)
+        → HearsOn s base (N.calls net.old) client.old line answers now
+        → is_group_open answers ≡ true
+        → HearsOn s base (N.calls net.new) client.new line (answer ∷ answers) now) }
     ensures room { length into.new ≡ length into.old }
-    ensures fault { IfErr result (λ error. error ≡ errors.NetFault → Rose (N.faults net.old) (N.faults net.new)) }
+    ensures broke { IfErr result (λ error. (s : Setting) (base : List Call)
+        (answers : List TakenSaid) (now : Scene)
+        → HearsOn s base (N.calls net.old) client.old line answers now
+        → is_group_open answers ≡ true → Breaks s base (N.calls net.new) error) }
+    ensures fault { IfErr result (RoseAtFault (N.faults net.old) (N.faults net.new)) }
     ensures later { N.faults net.old ≤ N.faults net.new }
     ensures still { OnOk result (N.faults net.new ≡ N.faults net.old) }
 {
@@ -85,10 +93,15 @@ pub(crate) fn hear_line<N: Net>(
     into: &mut [u8],
 ) -> Result<(), DemoError>
     requires { length into.old ≡ call_room }
-    ensures heard { OnOk result ((s : Setting) (base : List Call) (now : Scene) → HearsOn s base (N.calls net.old) client.old line [] now
-        → (answers : List TakenSaid) × IsGroupOver answers × HearsOn s base (N.calls net.new) client.new line answers now) }
+    ensures heard { OnOk result ((s : Setting) (base : List Call) (now : Scene)
+        → HearsOn s base (N.calls net.old) client.old line [] now
+        → (answers : List TakenSaid) × IsGroupOver answers
+        × HearsOn s base (N.calls net.new) client.new line answers now) }
     ensures room { length into.new ≡ length into.old }
-    ensures fault { IfErr result (λ error. error ≡ errors.NetFault → Rose (N.faults net.old) (N.faults net.new)) }
+    ensures broke { IfErr result (λ error. (s : Setting) (base : List Call) (now : Scene)
+        → HearsOn s base (N.calls net.old) client.old line [] now
+        → Breaks s base (N.calls net.new) error) }
+    ensures fault { IfErr result (RoseAtFault (N.faults net.old) (N.faults net.new)) }
     ensures later { N.faults net.old ≤ N.faults net.new }
     ensures still { OnOk result (N.faults net.new ≡ N.faults net.old) }
 {

@@ -1,7 +1,6 @@
 //! The client's ends of the two connections.
 
 ghost use Rattle.std.specs.Prelude.{◌≡◌, ◌≤◌, ◌<◌, ℕ, Bool, false, true, ◌||◌, List, [], ◌∷◌, length, OnOk, IfOk, IfErr};
-ghost use Rattle.pitch_io.specs.Causes.{Rose};
 ghost use Rattle.pitch_io.specs.Nets.{Call};
 ghost use Rattle.pitch_io.specs.declared.net.NetTaken.{NetTaken as TakenSaid};
 ghost use Rattle.pitch_model.specs.History.{Entry};
@@ -9,10 +8,10 @@ ghost use Rattle.session_ends.specs.Events.{Event, Ticked};
 ghost use Rattle.client_links.specs.Linking.{Lookups};
 ghost use Rattle.world_model.specs.State.{Connection};
 ghost use Rattle.world_model.specs.Verbs.{at_link};
-ghost use Rattle.net_edge.specs.declared.error.DemoError.TheVariants as errors;
 ghost use Rattle.net_edge.specs.Acting.{is_group_open, where_stands};
+ghost use Rattle.net_edge.specs.Breaking.{Breaks};
 ghost use Rattle.net_edge.specs.Due.{Setting, call_room};
-ghost use Rattle.net_edge.specs.Playing.{Plays, ClientHas, LinkHas, LinkTells, LinkSays, LinkActs, LinkTicks, closes, told_down, HearsLink, AreTaken};
+ghost use Rattle.net_edge.specs.Playing.{RoseAtFault, Plays, KeepsRun, BreaksRun, ClientHas, LinkHas, LinkTells, LinkSays, LinkActs, LinkTicks, closes, told_down, HearsLink, AreTaken};
 ghost use Rattle.net_edge.specs.Scene.{Scene};
 ghost use Rattle.net_edge.specs.Peers.{LooksIn, peer_setup, asked_of};
 
@@ -31,8 +30,11 @@ use world_model::hear_told;
 // Where the link has closed whose connection stood, the client hears it. Answers whether the
 // connection is cut then.
 fn settle<L: ClientEnd>(link: &L, client: &mut UnitClient, cut: bool) -> Result<bool, OutOfMemory>
-    ensures cut { IfOk result (λ after. (events : List (Event Lookups)) → LinkHas (peer_setup L.peer) (L.ending link.now) events → after ≡ (cut || closes L.peer cut events)) }
-    ensures heard { OnOk result ((events : List (Event Lookups)) (E : List Entry) → LinkHas (peer_setup L.peer) (L.ending link.now) events → ClientHas client.old E
+    ensures cut { IfOk result (λ after. (events : List (Event Lookups))
+        → LinkHas (peer_setup L.peer) (L.ending link.now) events
+        → after ≡ (cut || closes L.peer cut events)) }
+    ensures heard { OnOk result ((events : List (Event Lookups)) (E : List Entry)
+        → LinkHas (peer_setup L.peer) (L.ending link.now) events → ClientHas client.old E
         → ClientHas client.new (told_down L.peer (closes L.peer cut events) E)) }
 {
     if cut {
@@ -52,7 +54,8 @@ fn feed_link<L: ClientEnd>(
     client: &mut UnitClient,
     piece: &[u8],
 ) -> Result<bool, OutOfMemory>
-    ensures { IfOk result (λ shut. (events : List (Event Lookups)) (E : List Entry) → LinkHas (peer_setup L.peer) (L.ending link.old) events → ClientHas client.old E
+    ensures { IfOk result (λ shut. (events : List (Event Lookups)) (E : List Entry)
+        → LinkHas (peer_setup L.peer) (L.ending link.old) events → ClientHas client.old E
         → LinkTells L.peer (L.ending link.new) client.new piece.now events E shut) }
 {
     let mut items = ItemList::make(alloc);
@@ -72,10 +75,18 @@ fn hear_link_once<N: Net, L: ClientEnd>(
     into: &mut [u8],
 ) -> Result<(NetTaken, bool), DemoError>
     requires { length into.old ≡ call_room }
-    ensures heard { IfOk result (λ both. (s : Setting) (base : List Call) (answers : List TakenSaid) (now : Scene) → HearsLink L.peer s base (N.calls net.old) (L.ending link.old) client.old answers false now
-        → is_group_open answers ≡ true → HearsLink L.peer s base (N.calls net.new) (L.ending link.new) client.new (both.0 ∷ answers) both.1 now) }
+    ensures heard { IfOk result (λ both. (s : Setting) (base : List Call) (answers : List TakenSaid)
+        (now : Scene)
+        → HearsLink L.peer s base (N.calls net.old) (L.ending link.old) client.old answers false now
+        → is_group_open answers ≡ true
+        → HearsLink L.peer s base (N.calls net.new) (L.ending link.new) client.new
+        (both.0 ∷ answers) both.1 now) }
     ensures room { length into.new ≡ length into.old }
-    ensures fault { IfErr result (λ error. error ≡ errors.NetFault → Rose (N.faults net.old) (N.faults net.new)) }
+    ensures broke { IfErr result (λ error. (s : Setting) (base : List Call)
+        (answers : List TakenSaid) (now : Scene)
+        → HearsLink L.peer s base (N.calls net.old) (L.ending link.old) client.old answers false now
+        → is_group_open answers ≡ true → Breaks s base (N.calls net.new) error) }
+    ensures fault { IfErr result (RoseAtFault (N.faults net.old) (N.faults net.new)) }
     ensures later { N.faults net.old ≤ N.faults net.new }
     ensures still { OnOk result (N.faults net.new ≡ N.faults net.old) }
 {
@@ -106,11 +117,17 @@ pub(crate) fn hear_link<N: Net, L: ClientEnd>(
     cut: bool,
 ) -> Result<bool, DemoError>
     requires { length into.old ≡ call_room }
-    ensures heard { IfOk result (λ after. (s : Setting) (base : List Call) (now : Scene) → HearsLink L.peer s base (N.calls net.old) (L.ending link.old) client.old [] cut now
-        → (answers : List TakenSaid) × AreTaken answers after × HearsLink L.peer s base (N.calls net.new) (L.ending link.new) client.new answers after now) }
+    ensures heard { IfOk result (λ after. (s : Setting) (base : List Call) (now : Scene)
+        → HearsLink L.peer s base (N.calls net.old) (L.ending link.old) client.old [] cut now
+        → (answers : List TakenSaid) × AreTaken answers after
+        × HearsLink L.peer s base (N.calls net.new) (L.ending link.new) client.new
+        answers after now) }
     ensures stays { IfOk result (λ after. cut ≡ true → after ≡ true) }
     ensures room { length into.new ≡ length into.old }
-    ensures fault { IfErr result (λ error. error ≡ errors.NetFault → Rose (N.faults net.old) (N.faults net.new)) }
+    ensures broke { IfErr result (λ error. (s : Setting) (base : List Call) (now : Scene)
+        → HearsLink L.peer s base (N.calls net.old) (L.ending link.old) client.old [] cut now
+        → Breaks s base (N.calls net.new) error) }
+    ensures fault { IfErr result (RoseAtFault (N.faults net.old) (N.faults net.new)) }
     ensures later { N.faults net.old ≤ N.faults net.new }
     ensures still { OnOk result (N.faults net.new ≡ N.faults net.old) }
 {
@@ -133,8 +150,10 @@ pub(crate) fn hear_link<N: Net, L: ClientEnd>(
 // What a link says at a tick, where its connection stands.
 fn say_ticked<L: ClientEnd>(link: &mut L, cut: bool, said: &mut Vec<u8>) -> Result<(), OutOfMemory>
     requires { said.old.items ≡ [] }
-    ensures { OnOk result ((c : Connection (LooksIn L.peer)) → LinkHas (peer_setup L.peer) (L.ending link.old) c.link
-        → LinkSays (peer_setup L.peer) (L.ending link.new) said.new.items c (where_stands cut (λ k. at_link (peer_setup L.peer) Ticked k) c)) }
+    ensures { OnOk result ((c : Connection (LooksIn L.peer))
+        → LinkHas (peer_setup L.peer) (L.ending link.old) c.link
+        → LinkSays (peer_setup L.peer) (L.ending link.new) said.new.items c
+        (where_stands cut (λ k. at_link (peer_setup L.peer) Ticked k) c)) }
 {
     if cut {
         return Ok(());
@@ -152,9 +171,15 @@ pub(crate) fn tick_link<N: Net, L: ClientEnd>(
     client: &mut UnitClient,
     cut: bool,
 ) -> Result<bool, DemoError>
-    ensures ticked { IfOk result (λ after. (s : Setting) (base : List Call) (c : Connection (LooksIn L.peer)) (E : List Entry) (now : Scene) → LinkHas (peer_setup L.peer) (L.ending link.old) c.link → ClientHas client.old E
-        → Plays s base (N.calls net.old) now → LinkTicks L.peer s base (N.calls net.new) (L.ending link.new) client.new c (where_stands cut (λ k. at_link (peer_setup L.peer) Ticked k) c) E cut after now) }
-    ensures fault { IfErr result (λ error. error ≡ errors.NetFault → Rose (N.faults net.old) (N.faults net.new)) }
+    ensures ticked { IfOk result (λ after. (s : Setting) (base : List Call)
+        (c : Connection (LooksIn L.peer)) (E : List Entry) (now : Scene)
+        → LinkHas (peer_setup L.peer) (L.ending link.old) c.link → ClientHas client.old E
+        → Plays s base (N.calls net.old) now
+        → LinkTicks L.peer s base (N.calls net.new) (L.ending link.new) client.new c
+        (where_stands cut (λ k. at_link (peer_setup L.peer) Ticked k) c) E cut after now) }
+    ensures runs { OnOk result (KeepsRun (N.calls net.old) (N.calls net.new)) }
+    ensures broke { IfErr result (BreaksRun (N.calls net.old) (N.calls net.new)) }
+    ensures fault { IfErr result (RoseAtFault (N.faults net.old) (N.faults net.new)) }
     ensures later { N.faults net.old ≤ N.faults net.new }
     ensures still { OnOk result (N.faults net.new ≡ N.faults net.old) }
 {
@@ -173,8 +198,10 @@ fn say_asked<L: ClientEnd>(
     said: &mut Vec<u8>,
 ) -> Result<(), OutOfMemory>
     requires { said.old.items ≡ [] }
-    ensures { OnOk result ((c : Connection (LooksIn L.peer)) → LinkHas (peer_setup L.peer) (L.ending link.old) c.link
-        → LinkSays (peer_setup L.peer) (L.ending link.new) said.new.items c (where_stands cut (asked_of L.peer ask) c)) }
+    ensures { OnOk result ((c : Connection (LooksIn L.peer))
+        → LinkHas (peer_setup L.peer) (L.ending link.old) c.link
+        → LinkSays (peer_setup L.peer) (L.ending link.new) said.new.items c
+        (where_stands cut (asked_of L.peer ask) c)) }
 {
     if cut {
         return Ok(());
@@ -191,9 +218,14 @@ pub(crate) fn ask_link<N: Net, L: ClientEnd>(
     ask: Option<Ask>,
     cut: bool,
 ) -> Result<(), DemoError>
-    ensures acts { OnOk result ((s : Setting) (base : List Call) (c : Connection (LooksIn L.peer)) (now : Scene) → LinkHas (peer_setup L.peer) (L.ending link.old) c.link → Plays s base (N.calls net.old) now
-        → LinkActs L.peer s base (N.calls net.new) (L.ending link.new) c (where_stands cut (asked_of L.peer ask) c) now) }
-    ensures fault { IfErr result (λ error. error ≡ errors.NetFault → Rose (N.faults net.old) (N.faults net.new)) }
+    ensures acts { OnOk result ((s : Setting) (base : List Call) (c : Connection (LooksIn L.peer))
+        (now : Scene) → LinkHas (peer_setup L.peer) (L.ending link.old) c.link
+        → Plays s base (N.calls net.old) now
+        → LinkActs L.peer s base (N.calls net.new) (L.ending link.new) c
+        (where_stands cut (asked_of L.peer ask) c) now) }
+    ensures runs { OnOk result (KeepsRun (N.calls net.old) (N.calls net.new)) }
+    ensures broke { IfErr result (BreaksRun (N.calls net.old) (N.calls net.new)) }
+    ensures fault { IfErr result (RoseAtFault (N.faults net.old) (N.faults net.new)) }
     ensures later { N.faults net.old ≤ N.faults net.new }
     ensures still { OnOk result (N.faults net.new ≡ N.faults net.old) }
 {

@@ -44,7 +44,8 @@ impl Market {
     // The venue accepts a command of the plan.
     fn accept(&mut self, number: u64, index: u32) -> Result<(), OutOfMemory>
         requires { 1 ≤ index }
-        ensures { OnOk result ((sent : ℕ) (advertised : List ℕ) → MarketHas self.old (plan number demo_unit (index - 1)) sent advertised
+        ensures { OnOk result ((sent : ℕ) (advertised : List ℕ)
+            → MarketHas self.old (plan number demo_unit (index - 1)) sent advertised
             → MarketHas self.new (plan number demo_unit index) sent advertised) }
     {
         operations_add_up();
@@ -71,7 +72,9 @@ impl Market {
     ) -> Result<(), OutOfMemory>
         requires { 1 ≤ turn }
         ensures { OnOk result (MarketAt (setting number count) self.old (turn - 1)
-            → MarketHas self.new (messages (setting number count) turn) (accepted (setting number count) (turn - 1)) (advertised_until (setting number count) (turn - 1))) }
+            → MarketHas self.new (messages (setting number count) turn)
+            (accepted (setting number count) (turn - 1))
+            (advertised_until (setting number count) (turn - 1))) }
     {
         if turn > count {
             return Ok(());
@@ -82,11 +85,15 @@ impl Market {
 
     /// The datagrams of what was accepted and not sent yet.
     pub(crate) fn flush(&mut self) -> Result<DatagramList, OutOfMemory>
-        ensures datagrams { IfOk result (λ list. (messages : List RawSaid) (sent : ℕ) (advertised : List ℕ) → MarketHas self.old messages sent advertised
+        ensures datagrams { IfOk result
+            (λ list. (messages : List RawSaid) (sent : ℕ) (advertised : List ℕ)
+            → MarketHas self.old messages sent advertised
             → bytes_in list.items ≡ packed demo_unit (sent + 1) (drop sent messages)) }
-        ensures pieces { IfOk result (λ list. (messages : List RawSaid) (sent : ℕ) (advertised : List ℕ) → MarketHas self.old messages sent advertised
+        ensures pieces { IfOk result (λ list. (messages : List RawSaid) (sent : ℕ)
+            (advertised : List ℕ) → MarketHas self.old messages sent advertised
             → AllByRecursion (IsPiece messages demo_unit) (bytes_in list.items)) }
-        ensures has { OnOk result ((messages : List RawSaid) (sent : ℕ) (advertised : List ℕ) → MarketHas self.old messages sent advertised
+        ensures has { OnOk result ((messages : List RawSaid) (sent : ℕ) (advertised : List ℕ)
+            → MarketHas self.old messages sent advertised
             → MarketHas self.new messages (length messages) advertised) }
     {
         let mut list = DatagramList::make(self.alloc);
@@ -96,9 +103,11 @@ impl Market {
 
     /// The heartbeat, which tells the first sequence that was not sent yet.
     pub(crate) fn beat(&self) -> [u8; 8]
-        ensures bytes { (messages : List RawSaid) (sent : ℕ) (advertised : List ℕ) → MarketHas self.now messages sent advertised
+        ensures bytes { (messages : List RawSaid) (sent : ℕ) (advertised : List ℕ)
+            → MarketHas self.now messages sent advertised
             → result ≡ block_bytes (heartbeat_block demo_unit (sent + 1)) }
-        ensures piece { (messages : List RawSaid) (sent : ℕ) (advertised : List ℕ) → MarketHas self.now messages sent advertised
+        ensures piece { (messages : List RawSaid) (sent : ℕ) (advertised : List ℕ)
+            → MarketHas self.now messages sent advertised
             → IsPiece messages demo_unit result }
     {
         self.venue.beat()
@@ -106,9 +115,11 @@ impl Market {
 
     /// The image of all messages is advertised. Answers its sequence.
     pub(crate) fn advertise(&mut self) -> Result<u32, OutOfMemory>
-        ensures sequence { IfOk result (λ sequence. (messages : List RawSaid) (sent : ℕ) (advertised : List ℕ) → MarketHas self.old messages sent advertised
+        ensures sequence { IfOk result (λ sequence. (messages : List RawSaid) (sent : ℕ)
+            (advertised : List ℕ) → MarketHas self.old messages sent advertised
             → sequence ≡ length messages) }
-        ensures has { OnOk result ((messages : List RawSaid) (sent : ℕ) (advertised : List ℕ) → MarketHas self.old messages sent advertised
+        ensures has { OnOk result ((messages : List RawSaid) (sent : ℕ) (advertised : List ℕ)
+            → MarketHas self.old messages sent advertised
             → MarketHas self.new messages sent (with_sequence advertised (length messages))) }
     {
         operations_add_up();

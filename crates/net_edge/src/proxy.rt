@@ -1,7 +1,6 @@
 //! The proxy's end of its connection.
 
 ghost use Rattle.std.specs.Prelude.{◌≡◌, ◌≤◌, ◌<◌, ℕ, Bool, false, true, ◌||◌, List, [], ◌∷◌, ◌++◌, length, OnOk, IfOk, IfErr};
-ghost use Rattle.pitch_io.specs.Causes.{Rose};
 ghost use Rattle.pitch_io.specs.Nets.{Call};
 ghost use Rattle.pitch_io.specs.declared.net.LinkEnd.TheVariants.{GrpServer as ServerEnd};
 ghost use Rattle.pitch_io.specs.declared.net.NetTaken.{NetTaken as TakenSaid};
@@ -13,10 +12,10 @@ ghost use Rattle.grp_session.specs.Budget.{Spent, next_second};
 ghost use Rattle.grp_session.specs.Serving.{Source};
 ghost use Rattle.world_model.specs.State.{Connection};
 ghost use Rattle.world_model.specs.Verbs.{at_grp_server};
-ghost use Rattle.net_edge.specs.declared.error.DemoError.TheVariants as errors;
 ghost use Rattle.net_edge.specs.Acting.{taken_at, where_stands, is_group_open};
-ghost use Rattle.net_edge.specs.Due.{Setting, demo_unit, gap_view};
-ghost use Rattle.net_edge.specs.Playing.{Plays, ProxyHas, ProxyFed, ProxyAnswers, ProxyServes, ProxySays, ProxyActs, AreTaken};
+ghost use Rattle.net_edge.specs.Breaking.{Breaks};
+ghost use Rattle.net_edge.specs.Due.{Setting, demo_unit, gap_view, messages};
+ghost use Rattle.net_edge.specs.Playing.{RoseAtFault, Plays, KeepsRun, BreaksRun, KeepsStore, ProxyHas, ProxyFed, ProxyAnswers, ProxyServes, ProxySays, ProxyActs, AreTaken};
 ghost use Rattle.net_edge.specs.Scene.{Scene, got_end};
 
 use crate::error::DemoError;
@@ -64,7 +63,9 @@ impl Proxy {
     ) -> Result<(), OutOfMemory>
         requires no_said { said.old.items ≡ [] }
         requires no_lines { lines.old.items ≡ [] }
-        ensures fed { OnOk result ((s : Setting) (now : Scene) → ProxyHas self.old now.grp.server now.spent → store.old ≡ store_of (gap_view s now.turn)
+        ensures fed { OnOk result ((s : Setting) (now : Scene)
+            → ProxyHas self.old now.grp.server now.spent
+            → store.old ≡ store_of (gap_view s now.turn)
             → ProxyFed s piece.now now self.new said.new.items (bytes_in lines.new.items)) }
         ensures store { store.new ≡ store.old }
     {
@@ -77,8 +78,10 @@ impl Proxy {
     // A second passes: for the budget of requests, and for the server while its connection stands.
     fn tick(&mut self, cut: bool, said: &mut Vec<u8>) -> Result<(), OutOfMemory>
         requires { said.old.items ≡ [] }
-        ensures { OnOk result ((c : Connection Source) (spent : Spent) → ProxyHas self.old c.server spent
-            → ProxySays self.new said.new.items c (where_stands cut (λ k. at_grp_server demo_unit Ticked k) c) (next_second spent)) }
+        ensures { OnOk result ((c : Connection Source) (spent : Spent)
+            → ProxyHas self.old c.server spent
+            → ProxySays self.new said.new.items c
+            (where_stands cut (λ k. at_grp_server demo_unit Ticked k) c) (next_second spent)) }
     {
         self.budget.tick();
         if cut {
@@ -96,9 +99,14 @@ pub(crate) fn tick_proxy<N: Net>(
     proxy: &mut Proxy,
     cut: bool,
 ) -> Result<(), DemoError>
-    ensures acts { OnOk result ((s : Setting) (base : List Call) (c : Connection Source) (spent : Spent) (now : Scene) → ProxyHas proxy.old c.server spent → Plays s base (N.calls net.old) now
-        → ProxyActs s base (N.calls net.new) proxy.new c (where_stands cut (λ k. at_grp_server demo_unit Ticked k) c) (next_second spent) now) }
-    ensures fault { IfErr result (λ error. error ≡ errors.NetFault → Rose (N.faults net.old) (N.faults net.new)) }
+    ensures acts { OnOk result ((s : Setting) (base : List Call) (c : Connection Source)
+        (spent : Spent) (now : Scene) → ProxyHas proxy.old c.server spent
+        → Plays s base (N.calls net.old) now
+        → ProxyActs s base (N.calls net.new) proxy.new c
+        (where_stands cut (λ k. at_grp_server demo_unit Ticked k) c) (next_second spent) now) }
+    ensures runs { OnOk result (KeepsRun (N.calls net.old) (N.calls net.new)) }
+    ensures broke { IfErr result (BreaksRun (N.calls net.old) (N.calls net.new)) }
+    ensures fault { IfErr result (RoseAtFault (N.faults net.old) (N.faults net.new)) }
     ensures later { N.faults net.old ≤ N.faults net.new }
     ensures still { OnOk result (N.faults net.new ≡ N.faults net.old) }
 {
@@ -116,10 +124,19 @@ fn serve_piece<N: Net>(
     store: &mut GapStore,
     piece: &[u8],
 ) -> Result<(), DemoError>
-    ensures served { OnOk result ((s : Setting) (base : List Call) (count : ℕ) (now : Scene) → ProxyHas proxy.old now.grp.server now.spent → store.old ≡ store_of (gap_view s now.turn)
-        → Plays s base (N.calls net.old) (taken_at s ServerEnd piece.now (Got count) now) → ProxyAnswers s base (N.calls net.new) proxy.new piece.now count now) }
+    ensures served { OnOk result ((s : Setting) (base : List Call) (count : ℕ) (now : Scene)
+        → ProxyHas proxy.old now.grp.server now.spent
+        → KeepsStore store.old (messages s now.turn)
+        → Plays s base (N.calls net.old) (taken_at s ServerEnd piece.now (Got count) now)
+        → ProxyAnswers s base (N.calls net.new) proxy.new piece.now count now) }
     ensures store { store.new ≡ store.old }
-    ensures fault { IfErr result (λ error. error ≡ errors.NetFault → Rose (N.faults net.old) (N.faults net.new)) }
+    ensures broke { IfErr result (λ error. (s : Setting) (base : List Call)
+        (count : ℕ) (now : Scene)
+        → ProxyHas proxy.old now.grp.server now.spent
+        → KeepsStore store.old (messages s now.turn)
+        → Plays s base (N.calls net.old) (taken_at s ServerEnd piece.now (Got count) now)
+        → Breaks s base (N.calls net.new) error) }
+    ensures fault { IfErr result (RoseAtFault (N.faults net.old) (N.faults net.new)) }
     ensures later { N.faults net.old ≤ N.faults net.new }
     ensures still { OnOk result (N.faults net.new ≡ N.faults net.old) }
 {
@@ -136,7 +153,7 @@ impl ServerEnd for Proxy {
 
     ghost serves = { λ proxy s base calls answers ended now. ProxyServes s base calls proxy answers ended now };
 
-    ghost shows = { λ store s now. store ≡ store_of (gap_view s now.turn) };
+    ghost shows = { λ store s now. KeepsStore store (messages s now.turn) };
 
     ghost is_cut = { λ now. now.grp_cut };
 

@@ -1,13 +1,12 @@
 //! What is sent on lines and put at ends.
 
 ghost use Rattle.std.specs.Prelude.{◌≡◌, ◌≤◌, List, [], ◌∷◌, OnOk, IfErr, if◌then◌else◌};
-ghost use Rattle.pitch_io.specs.Causes.{Rose};
 ghost use Rattle.pitch_io.specs.Nets.{Call};
 ghost use Rattle.unit_packets.specs.Packing.{bytes_in};
-ghost use Rattle.net_edge.specs.declared.error.DemoError.TheVariants as errors;
 ghost use Rattle.net_edge.specs.Acting.{sent_on, end_puts};
-ghost use Rattle.net_edge.specs.Due.{Setting};
-ghost use Rattle.net_edge.specs.Playing.{Plays};
+ghost use Rattle.net_edge.specs.Breaking.{Breaks};
+ghost use Rattle.net_edge.specs.Due.{Setting, IsDuePiece, AreDuePieces};
+ghost use Rattle.net_edge.specs.Playing.{RoseAtFault, Plays, KeepsRun, BreaksRun};
 ghost use Rattle.net_edge.specs.Scene.{Scene};
 
 use crate::error::DemoError;
@@ -16,9 +15,13 @@ use pitch_messages::ByteList;
 
 /// Sends a datagram on a line.
 pub(crate) fn send<N: Net>(net: &mut N, line: Line, datagram: &[u8]) -> Result<(), DemoError>
-    ensures sent { OnOk result ((s : Setting) (base : List Call) (now : Scene) → Plays s base (N.calls net.old) now
+    ensures sent { OnOk result ((s : Setting) (base : List Call) (now : Scene)
+        → Plays s base (N.calls net.old) now → IsDuePiece s now.turn datagram.now
         → Plays s base (N.calls net.new) (sent_on line (datagram.now ∷ []) now)) }
-    ensures fault { IfErr result (λ error. error ≡ errors.NetFault → Rose (N.faults net.old) (N.faults net.new)) }
+    ensures broke { IfErr result (λ error. (s : Setting) (base : List Call) (now : Scene)
+        → Plays s base (N.calls net.old) now → IsDuePiece s now.turn datagram.now
+        → Breaks s base (N.calls net.new) error) }
+    ensures fault { IfErr result (RoseAtFault (N.faults net.old) (N.faults net.new)) }
     ensures later { N.faults net.old ≤ N.faults net.new }
     ensures still { OnOk result (N.faults net.new ≡ N.faults net.old) }
 {
@@ -34,9 +37,13 @@ pub(crate) fn send_all<N: Net>(
     line: Line,
     datagrams: &[ByteList],
 ) -> Result<(), DemoError>
-    ensures sent { OnOk result ((s : Setting) (base : List Call) (now : Scene) → Plays s base (N.calls net.old) now
+    ensures sent { OnOk result ((s : Setting) (base : List Call) (now : Scene)
+        → Plays s base (N.calls net.old) now → AreDuePieces s now.turn (bytes_in datagrams.now)
         → Plays s base (N.calls net.new) (sent_on line (bytes_in datagrams.now) now)) }
-    ensures fault { IfErr result (λ error. error ≡ errors.NetFault → Rose (N.faults net.old) (N.faults net.new)) }
+    ensures broke { IfErr result (λ error. (s : Setting) (base : List Call) (now : Scene)
+        → Plays s base (N.calls net.old) now → AreDuePieces s now.turn (bytes_in datagrams.now)
+        → Breaks s base (N.calls net.new) error) }
+    ensures fault { IfErr result (RoseAtFault (N.faults net.old) (N.faults net.new)) }
     ensures later { N.faults net.old ≤ N.faults net.new }
     ensures still { OnOk result (N.faults net.new ≡ N.faults net.old) }
 {
@@ -53,9 +60,14 @@ pub(crate) fn send_unless<N: Net>(
     line: Line,
     datagrams: &[ByteList],
 ) -> Result<(), DemoError>
-    ensures sent { OnOk result ((s : Setting) (base : List Call) (now : Scene) → Plays s base (N.calls net.old) now
-        → Plays s base (N.calls net.new) (sent_on line (if lost then [] else bytes_in datagrams.now) now)) }
-    ensures fault { IfErr result (λ error. error ≡ errors.NetFault → Rose (N.faults net.old) (N.faults net.new)) }
+    ensures sent { OnOk result ((s : Setting) (base : List Call) (now : Scene)
+        → Plays s base (N.calls net.old) now → AreDuePieces s now.turn (bytes_in datagrams.now)
+        → Plays s base (N.calls net.new)
+        (sent_on line (if lost then [] else bytes_in datagrams.now) now)) }
+    ensures broke { IfErr result (λ error. (s : Setting) (base : List Call) (now : Scene)
+        → Plays s base (N.calls net.old) now → AreDuePieces s now.turn (bytes_in datagrams.now)
+        → Breaks s base (N.calls net.new) error) }
+    ensures fault { IfErr result (RoseAtFault (N.faults net.old) (N.faults net.new)) }
     ensures later { N.faults net.old ≤ N.faults net.new }
     ensures still { OnOk result (N.faults net.new ≡ N.faults net.old) }
 {
@@ -68,9 +80,12 @@ pub(crate) fn send_unless<N: Net>(
 
 /// Puts all of some bytes at an end.
 pub(crate) fn put_whole<N: Net>(net: &mut N, at: LinkEnd, bytes: &[u8]) -> Result<(), DemoError>
-    ensures put { OnOk result ((s : Setting) (base : List Call) (now : Scene) → Plays s base (N.calls net.old) now
+    ensures put { OnOk result ((s : Setting) (base : List Call) (now : Scene)
+        → Plays s base (N.calls net.old) now
         → Plays s base (N.calls net.new) (end_puts at bytes.now now)) }
-    ensures fault { IfErr result (λ error. error ≡ errors.NetFault → Rose (N.faults net.old) (N.faults net.new)) }
+    ensures runs { OnOk result (KeepsRun (N.calls net.old) (N.calls net.new)) }
+    ensures broke { IfErr result (BreaksRun (N.calls net.old) (N.calls net.new)) }
+    ensures fault { IfErr result (RoseAtFault (N.faults net.old) (N.faults net.new)) }
     ensures later { N.faults net.old ≤ N.faults net.new }
     ensures still { OnOk result (N.faults net.new ≡ N.faults net.old) }
 {

@@ -3,7 +3,8 @@
 ghost use Rattle.std.specs.Prelude.{◌≡◌, ◌≤◌, ◌<◌, ◌+◌, ◌++◌, ◌⊎◌, List, [], length, OnOk, OnErr, IfOk, IfErr, MatchBool};
 ghost use Rattle.std.specs.FinMap as map;
 ghost use Rattle.pitch_io.specs.Causes.{Rose};
-ghost use Rattle.pitch_io.specs.Nets.{Call};
+ghost use Rattle.pitch_io.specs.Nets.{Call, Begin, ListsCall};
+ghost use Rattle.pitch_io.specs.declared.net.NetDone.TheVariants.{Done, Failed};
 ghost use Rattle.pitch_io.specs.declared.net.LinkEnd.TheVariants.{GrpClient, SpinClient};
 ghost use Rattle.pitch_model.specs.declared.status.Status.TheVariants.{Current};
 ghost use Rattle.pitch_model.specs.History.{Entry};
@@ -13,9 +14,10 @@ ghost use Rattle.client_core.specs.Tracks.{current_book};
 ghost use Rattle.storm_plan.specs.StormText.{unit_line};
 ghost use Rattle.world_model.specs.Ends.{the_account};
 ghost use Rattle.net_edge.specs.declared.error.DemoError.TheVariants as errors;
-ghost use Rattle.net_edge.specs.Demo.{IsDemo, IsLast};
+ghost use Rattle.net_edge.specs.Breaking.{Breaks};
+ghost use Rattle.net_edge.specs.Demo.{IsDemo, IsLast, BreaksDemo, SendsPieces};
 ghost use Rattle.net_edge.specs.Due.{Setting, setting, demo_unit, call_room, hold_limit};
-ghost use Rattle.net_edge.specs.Playing.{ClientHas, SpinHas, EndsHave, DemoAt, MarketHas, MarketAt, Plays, calls_before};
+ghost use Rattle.net_edge.specs.Playing.{RoseAtFault, ClientHas, SpinHas, EndsHave, DemoAt, MarketHas, MarketAt, Plays, calls_before};
 ghost use Rattle.net_edge.specs.Scene.{Scene, first_scene, all_put, said_at};
 ghost use Rattle.net_edge.specs.Turns.{IsOver};
 
@@ -92,18 +94,34 @@ fn make_ends(
     })
 }
 
-// The net is set up, and both logins are put.
-fn set_up<N: Net>(net: &mut N, login: &[u8], spin_login: &[u8]) -> Result<(), DemoError>
-    ensures set_up { OnOk result ((s : Setting) → login.now ≡ said_at GrpClient first_scene → spin_login.now ≡ said_at SpinClient first_scene
-        → Plays s (calls_before (N.calls net.old)) (N.calls net.new) (all_put first_scene)) }
-    ensures fault { IfErr result (λ error. error ≡ errors.NetFault → Rose (N.faults net.old) (N.faults net.new)) }
+// The net is set up; this comes once, before a run.
+#[tactic(auto, using(crate::proofs::Starting::done_well))]
+fn begin<N: Net>(net: &mut N) -> Result<(), DemoError>
+    ensures begun { OnOk result (ListsCall (N.calls net.old) (N.calls net.new) (Begin Done)) }
+    ensures failed { IfErr result (λ error. (error ≡ errors.NetFault)
+        × ListsCall (N.calls net.old) (N.calls net.new) (Begin Failed)) }
+    ensures fault { IfErr result (RoseAtFault (N.faults net.old) (N.faults net.new)) }
     ensures later { N.faults net.old ≤ N.faults net.new }
     ensures still { OnOk result (N.faults net.new ≡ N.faults net.old) }
 {
     match net.begin() {
-        NetDone::Done => {}
-        NetDone::Failed => return Err(DemoError::NetFault),
+        NetDone::Done => Ok(()),
+        NetDone::Failed => Err(DemoError::NetFault),
     }
+}
+
+// The net is set up, and both logins are put.
+fn set_up<N: Net>(net: &mut N, login: &[u8], spin_login: &[u8]) -> Result<(), DemoError>
+    ensures set_up { OnOk result ((s : Setting) → login.now ≡ said_at GrpClient first_scene
+        → spin_login.now ≡ said_at SpinClient first_scene
+        → Plays s (calls_before (N.calls net.old)) (N.calls net.new) (all_put first_scene)) }
+    ensures broke { IfErr result (λ error. (s : Setting)
+        → BreaksDemo s (N.calls net.old) (N.calls net.new) error) }
+    ensures fault { IfErr result (RoseAtFault (N.faults net.old) (N.faults net.new)) }
+    ensures later { N.faults net.old ≤ N.faults net.new }
+    ensures still { OnOk result (N.faults net.new ≡ N.faults net.old) }
+{
+    begin(net)?;
     put_whole(net, LinkEnd::GrpClient, login)?;
     put_whole(net, LinkEnd::SpinClient, spin_login)?;
     Ok(())
@@ -112,7 +130,9 @@ fn set_up<N: Net>(net: &mut N, login: &[u8], spin_login: &[u8]) -> Result<(), De
 // Whether a run ends with this turn.
 fn ends_with(turn: u32, count: u32, status: Status) -> bool
     requires { count ≤ 1000 }
-    ensures { MatchBool result ((count < turn) × ((status ≡ Current count) ⊎ (turn ≡ count + 200))) ((count < turn → status ≡ Current count → ⊥) × (turn ≡ count + 200 → ⊥)) }
+    ensures { MatchBool result
+        ((count < turn) × ((status ≡ Current count) ⊎ (turn ≡ count + 200)))
+        ((count < turn → status ≡ Current count → ⊥) × (turn ≡ count + 200 → ⊥)) }
 {
     if turn == count + 200 {
         return true;
@@ -134,9 +154,17 @@ fn run<N: Net>(
 ) -> Result<(), DemoError>
     requires many { (1 ≤ count) × (count ≤ 1000) }
     requires room { length into.old ≡ call_room }
-    ensures ran { OnOk result ((base : List Call) → DemoAt (setting number count) base (N.calls net.old) ends.old (all_put first_scene) → MarketHas market.old [] 0 []
-        → (now : Scene) × DemoAt (setting number count) base (N.calls net.new) ends.new now × MarketAt (setting number count) market.new now.turn × IsOver (setting number count) now × IsLast (setting number count) now) }
-    ensures fault { IfErr result (λ error. error ≡ errors.NetFault → Rose (N.faults net.old) (N.faults net.new)) }
+    ensures ran { OnOk result ((base : List Call)
+        → DemoAt (setting number count) base (N.calls net.old) ends.old (all_put first_scene)
+        → MarketHas market.old [] 0 []
+        → (now : Scene) × DemoAt (setting number count) base (N.calls net.new) ends.new now
+        × MarketAt (setting number count) market.new now.turn × IsOver (setting number count) now
+        × IsLast (setting number count) now) }
+    ensures broke { IfErr result (λ error. (base : List Call)
+        → DemoAt (setting number count) base (N.calls net.old) ends.old (all_put first_scene)
+        → MarketHas market.old [] 0 []
+        → Breaks (setting number count) base (N.calls net.new) error) }
+    ensures fault { IfErr result (RoseAtFault (N.faults net.old) (N.faults net.new)) }
     ensures later { N.faults net.old ≤ N.faults net.new }
     ensures still { OnOk result (N.faults net.new ≡ N.faults net.old) }
 {
@@ -152,7 +180,8 @@ fn run<N: Net>(
 // Appends the line of the unit's client.
 fn append_end(client: &UnitClient, out: &mut Vec<u8>) -> Result<(), OutOfMemory>
     ensures line { OnOk result ((E : List Entry) → ClientHas client.now E
-        → out.new.items ≡ out.old.items ++ unit_line demo_unit (status_of hold_limit E) (map.len (current_book client.now).orders) (shares (current_book client.now))) }
+        → out.new.items ≡ out.old.items ++ unit_line demo_unit (status_of hold_limit E)
+        (map.len (current_book client.now).orders) (shares (current_book client.now))) }
     ensures err { OnErr result (out.new.items ≡ out.old.items) }
 {
     let book = client.book();
@@ -174,7 +203,8 @@ struct Parts {
 fn make_parts(alloc: Global) -> Result<Parts, OutOfMemory>
     ensures ends { IfOk result (λ parts. EndsHave parts.ends (all_put first_scene)) }
     ensures login { IfOk result (λ parts. parts.login.items ≡ said_at GrpClient first_scene) }
-    ensures spin_login { IfOk result (λ parts. parts.spin_login.items ≡ said_at SpinClient first_scene) }
+    ensures spin_login { IfOk result
+        (λ parts. parts.spin_login.items ≡ said_at SpinClient first_scene) }
     ensures market { IfOk result (λ parts. MarketHas parts.market [] 0 []) }
     ensures room { IfOk result (λ parts. length parts.into.items ≡ call_room) }
 {
@@ -202,9 +232,18 @@ fn play<N: Net>(
 ) -> Result<(), DemoError>
     requires many { (1 ≤ count) × (count ≤ 1000) }
     requires room { length parts.old.into.items ≡ call_room }
-    ensures played { OnOk result (EndsHave parts.old.ends (all_put first_scene) → parts.old.login.items ≡ said_at GrpClient first_scene → parts.old.spin_login.items ≡ said_at SpinClient first_scene → MarketHas parts.old.market [] 0 []
-        → IsDemo (setting number count) (N.calls net.old) (N.calls net.new) out.old.items out.new.items) }
-    ensures fault { IfErr result (λ error. error ≡ errors.NetFault → Rose (N.faults net.old) (N.faults net.new)) }
+    ensures played { OnOk result (EndsHave parts.old.ends (all_put first_scene)
+        → parts.old.login.items ≡ said_at GrpClient first_scene
+        → parts.old.spin_login.items ≡ said_at SpinClient first_scene
+        → MarketHas parts.old.market [] 0 []
+        → IsDemo (setting number count) (N.calls net.old) (N.calls net.new)
+        out.old.items out.new.items) }
+    ensures broke { IfErr result (λ error. EndsHave parts.old.ends (all_put first_scene)
+        → parts.old.login.items ≡ said_at GrpClient first_scene
+        → parts.old.spin_login.items ≡ said_at SpinClient first_scene
+        → MarketHas parts.old.market [] 0 []
+        → BreaksDemo (setting number count) (N.calls net.old) (N.calls net.new) error) }
+    ensures fault { IfErr result (RoseAtFault (N.faults net.old) (N.faults net.new)) }
     ensures later { N.faults net.old ≤ N.faults net.new }
     ensures still { OnOk result (N.faults net.new ≡ N.faults net.old) }
     ensures err { OnErr result (out.new.items ≡ out.old.items) }
@@ -242,9 +281,16 @@ pub fn demo<N: Net>(
     out: &mut Vec<u8>,
 ) -> Result<(), DemoError>
     requires { (1 ≤ count) × (count ≤ 1000) }
-    ensures ran { OnOk result (IsDemo (setting number count) (N.calls net.old) (N.calls net.new) out.old.items out.new.items) }
+    ensures ran { OnOk result (IsDemo (setting number count)
+        (N.calls net.old) (N.calls net.new) out.old.items out.new.items) }
+    // Also before an error the calls are those of a run.
+    ensures broke { IfErr result (λ error.
+        BreaksDemo (setting number count) (N.calls net.old) (N.calls net.new) error) }
+    // Whatever the answer, what was sent has the venue's messages.
+    ensures pieces { SendsPieces (setting number count) (N.calls net.old) (N.calls net.new) }
     // The net failed only where its count of faults rose.
-    ensures fault { IfErr result (λ error. error ≡ errors.NetFault → Rose (N.faults net.old) (N.faults net.new)) }
+    ensures fault { IfErr result (λ error.
+        error ≡ errors.NetFault → Rose (N.faults net.old) (N.faults net.new)) }
     ensures later { N.faults net.old ≤ N.faults net.new }
     ensures still { OnOk result (N.faults net.new ≡ N.faults net.old) }
     ensures err { OnErr result (out.new.items ≡ out.old.items) }

@@ -2,13 +2,12 @@
 //! Spin Server.
 
 ghost use Rattle.std.specs.Prelude.{◌≡◌, ◌≤◌, ◌<◌, Bool, false, true, ◌||◌, ◌&&◌, not, List, [], ◌∷◌, length, Option, IfOk, IfErr, OnOk};
-ghost use Rattle.pitch_io.specs.Causes.{Rose};
 ghost use Rattle.pitch_io.specs.Nets.{Call};
 ghost use Rattle.pitch_io.specs.declared.net.NetTaken.{NetTaken as TakenSaid};
-ghost use Rattle.net_edge.specs.declared.error.DemoError.TheVariants as errors;
 ghost use Rattle.net_edge.specs.Acting.{is_group_open};
+ghost use Rattle.net_edge.specs.Breaking.{Breaks};
 ghost use Rattle.net_edge.specs.Due.{Setting, call_room};
-ghost use Rattle.net_edge.specs.Playing.{AreTaken};
+ghost use Rattle.net_edge.specs.Playing.{RoseAtFault, AreTaken};
 ghost use Rattle.net_edge.specs.Scene.{Scene, is_got, got_end};
 
 use crate::error::DemoError;
@@ -22,7 +21,8 @@ pub(crate) trait ServerEnd {
     type Store;
 
     /// It took what came in a turn, and what it said by that was put and sent.
-    ghost serves: { Self → Setting → List Call → Option (List Call) → List TakenSaid → Bool → Scene → Type 0 };
+    ghost serves: { Self → Setting → List Call → Option (List Call) → List TakenSaid → Bool → Scene
+        → Type 0 };
 
     /// The store is that of a scene's turn.
     ghost shows: { Self.Store → Setting → Scene → Type 0 };
@@ -40,11 +40,21 @@ pub(crate) trait ServerEnd {
         last: bool,
     ) -> Result<NetTaken, DemoError>
         requires { length into.old ≡ call_room }
-        ensures served { IfOk result (λ answer. (s : Setting) (base : List Call) (answers : List TakenSaid) (now : Scene) → serves self.old s base (N.calls net.old) answers false now → is_cut now ≡ false → shows store.old s now
-            → is_group_open answers ≡ true → is_group_open (answer ∷ answers) ≡ (is_got answer && not last) → serves self.new s base (N.calls net.new) (answer ∷ answers) (got_end answer) now) }
+        ensures served { IfOk result (λ answer. (s : Setting) (base : List Call)
+            (answers : List TakenSaid) (now : Scene)
+            → serves self.old s base (N.calls net.old) answers false now → is_cut now ≡ false
+            → shows store.old s now
+            → is_group_open answers ≡ true
+            → is_group_open (answer ∷ answers) ≡ (is_got answer && not last)
+            → serves self.new s base (N.calls net.new) (answer ∷ answers) (got_end answer) now) }
         ensures store { store.new ≡ store.old }
         ensures room { length into.new ≡ length into.old }
-        ensures fault { IfErr result (λ error. error ≡ errors.NetFault → Rose (N.faults net.old) (N.faults net.new)) }
+        ensures broke { IfErr result (λ error. (s : Setting) (base : List Call)
+            (answers : List TakenSaid) (now : Scene)
+            → serves self.old s base (N.calls net.old) answers false now → is_cut now ≡ false
+            → shows store.old s now → is_group_open answers ≡ true
+            → Breaks s base (N.calls net.new) error) }
+        ensures fault { IfErr result (RoseAtFault (N.faults net.old) (N.faults net.new)) }
         ensures later { N.faults net.old ≤ N.faults net.new }
         ensures still { OnOk result (N.faults net.new ≡ N.faults net.old) };
 }
@@ -61,11 +71,17 @@ pub(crate) fn serve_end<N: Net, E: ServerEnd>(
     ended: bool,
 ) -> Result<bool, DemoError>
     requires { length into.old ≡ call_room }
-    ensures served { IfOk result (λ ends. (s : Setting) (base : List Call) (now : Scene) → E.serves server.old s base (N.calls net.old) [] ended now → E.is_cut now ≡ cut → E.shows store.old s now
-        → (answers : List TakenSaid) × AreTaken answers (ends || cut) × E.serves server.new s base (N.calls net.new) answers ends now) }
+    ensures served { IfOk result (λ ends. (s : Setting) (base : List Call) (now : Scene)
+        → E.serves server.old s base (N.calls net.old) [] ended now → E.is_cut now ≡ cut
+        → E.shows store.old s now
+        → (answers : List TakenSaid) × AreTaken answers (ends || cut)
+        × E.serves server.new s base (N.calls net.new) answers ends now) }
     ensures store { store.new ≡ store.old }
     ensures room { length into.new ≡ length into.old }
-    ensures fault { IfErr result (λ error. error ≡ errors.NetFault → Rose (N.faults net.old) (N.faults net.new)) }
+    ensures broke { IfErr result (λ error. (s : Setting) (base : List Call) (now : Scene)
+        → E.serves server.old s base (N.calls net.old) [] ended now → E.is_cut now ≡ cut
+        → E.shows store.old s now → Breaks s base (N.calls net.new) error) }
+    ensures fault { IfErr result (RoseAtFault (N.faults net.old) (N.faults net.new)) }
     ensures later { N.faults net.old ≤ N.faults net.new }
     ensures still { OnOk result (N.faults net.new ≡ N.faults net.old) }
 {

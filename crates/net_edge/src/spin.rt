@@ -1,7 +1,6 @@
 //! The Spin Server's end of its connection.
 
 ghost use Rattle.std.specs.Prelude.{◌≡◌, ◌≤◌, ◌<◌, ℕ, Bool, false, true, ◌||◌, ◌&&◌, not, List, [], ◌∷◌, ◌++◌, length, OnOk, IfOk, IfErr, if◌then◌else◌};
-ghost use Rattle.pitch_io.specs.Causes.{Rose};
 ghost use Rattle.pitch_io.specs.Nets.{Call, came, CameWithin};
 ghost use Rattle.pitch_io.specs.declared.net.NetTaken.{NetTaken as TakenSaid};
 ghost use Rattle.pitch_io.specs.declared.net.NetTaken.TheVariants.{Got};
@@ -10,10 +9,9 @@ ghost use Rattle.spin_server.specs.Served.{Served};
 ghost use Rattle.world_model.specs.Connections.{KeepsShelf};
 ghost use Rattle.world_model.specs.State.{Connection};
 ghost use Rattle.world_model.specs.Verbs.{at_spin_server, sent_whole};
-ghost use Rattle.net_edge.specs.declared.error.DemoError.TheVariants as errors;
 ghost use Rattle.net_edge.specs.Acting.{where_stands, is_group_open, spin_server_fed, spin_answered};
 ghost use Rattle.net_edge.specs.Due.{Setting, demo_unit, messages, advertised_until};
-ghost use Rattle.net_edge.specs.Playing.{Plays, SpinHas, SpinSays, SpinActs, SpinServes, AreTaken};
+ghost use Rattle.net_edge.specs.Playing.{RoseAtFault, Plays, KeepsRun, BreaksRun, SpinHas, SpinSays, SpinActs, SpinServes, AreTaken};
 ghost use Rattle.net_edge.specs.Scene.{Scene, is_got, got_end};
 
 use crate::error::DemoError;
@@ -32,7 +30,9 @@ fn feed(
     said: &mut Vec<u8>,
 ) -> Result<(), OutOfMemory>
     requires { said.old.items ≡ [] }
-    ensures fed { OnOk result ((s : Setting) (count turn : ℕ) (c : Connection (List Served)) → SpinHas spin.old c.server → KeepsShelf shelf.old (messages s turn) (advertised_until s turn)
+    ensures fed { OnOk result ((s : Setting) (count turn : ℕ) (c : Connection (List Served))
+        → SpinHas spin.old c.server
+        → KeepsShelf shelf.old (messages s turn) (advertised_until s turn)
         → SpinSays spin.new said.new.items c (spin_server_fed s piece.now (Got count) turn c)) }
     ensures shelf { shelf.new ≡ shelf.old }
 {
@@ -42,7 +42,8 @@ fn feed(
 
 // It sends a running image to its end.
 fn pump_whole(spin: &mut SpinServer, said: &mut Vec<u8>) -> Result<(), OutOfMemory>
-    ensures { OnOk result ((before c : Connection (List Served)) → SpinSays spin.old said.old.items before c
+    ensures { OnOk result ((before c : Connection (List Served))
+        → SpinSays spin.old said.old.items before c
         → SpinSays spin.new said.new.items before (sent_whole demo_unit c)) }
 {
     let mut more = true;
@@ -64,8 +65,11 @@ fn answer(
 ) -> Result<(), OutOfMemory>
     requires none { said.old.items ≡ [] }
     requires within { CameWithin taken into.now }
-    ensures says { OnOk result ((s : Setting) (turn : ℕ) (c : Connection (List Served)) → SpinHas spin.old c.server → KeepsShelf shelf.old (messages s turn) (advertised_until s turn)
-        → SpinSays spin.new said.new.items c (spin_answered s (came taken into.now) taken turn (is_got taken && not last) c)) }
+    ensures says { OnOk result ((s : Setting) (turn : ℕ) (c : Connection (List Served))
+        → SpinHas spin.old c.server
+        → KeepsShelf shelf.old (messages s turn) (advertised_until s turn)
+        → SpinSays spin.new said.new.items c
+        (spin_answered s (came taken into.now) taken turn (is_got taken && not last) c)) }
     ensures shelf { shelf.new ≡ shelf.old }
 {
     match taken {
@@ -122,7 +126,8 @@ fn say_told(
 ) -> Result<(), OutOfMemory>
     requires { said.old.items ≡ [] }
     ensures { OnOk result ((c : Connection (List Served)) → SpinHas spin.old c.server
-        → SpinSays spin.new said.new.items c (where_stands cut (λ k. at_spin_server demo_unit (Told sequence) k) c)) }
+        → SpinSays spin.new said.new.items c
+        (where_stands cut (λ k. at_spin_server demo_unit (Told sequence) k) c)) }
 {
     if cut {
         return Ok(());
@@ -135,7 +140,8 @@ fn say_told(
 fn say_ticked(spin: &mut SpinServer, cut: bool, said: &mut Vec<u8>) -> Result<(), OutOfMemory>
     requires { said.old.items ≡ [] }
     ensures { OnOk result ((c : Connection (List Served)) → SpinHas spin.old c.server
-        → SpinSays spin.new said.new.items c (where_stands cut (λ k. at_spin_server demo_unit Ticked k) c)) }
+        → SpinSays spin.new said.new.items c
+        (where_stands cut (λ k. at_spin_server demo_unit Ticked k) c)) }
 {
     if cut {
         return Ok(());
@@ -152,9 +158,13 @@ pub(crate) fn tell_spin<N: Net>(
     sequence: u32,
     cut: bool,
 ) -> Result<(), DemoError>
-    ensures acts { OnOk result ((s : Setting) (base : List Call) (c : Connection (List Served)) (now : Scene) → SpinHas spin.old c.server → Plays s base (N.calls net.old) now
-        → SpinActs s base (N.calls net.new) spin.new c (where_stands cut (λ k. at_spin_server demo_unit (Told sequence) k) c) now) }
-    ensures fault { IfErr result (λ error. error ≡ errors.NetFault → Rose (N.faults net.old) (N.faults net.new)) }
+    ensures acts { OnOk result ((s : Setting) (base : List Call) (c : Connection (List Served))
+        (now : Scene) → SpinHas spin.old c.server → Plays s base (N.calls net.old) now
+        → SpinActs s base (N.calls net.new) spin.new c
+        (where_stands cut (λ k. at_spin_server demo_unit (Told sequence) k) c) now) }
+    ensures runs { OnOk result (KeepsRun (N.calls net.old) (N.calls net.new)) }
+    ensures broke { IfErr result (BreaksRun (N.calls net.old) (N.calls net.new)) }
+    ensures fault { IfErr result (RoseAtFault (N.faults net.old) (N.faults net.new)) }
     ensures later { N.faults net.old ≤ N.faults net.new }
     ensures still { OnOk result (N.faults net.new ≡ N.faults net.old) }
 {
@@ -171,9 +181,13 @@ pub(crate) fn tick_spin<N: Net>(
     spin: &mut SpinServer,
     cut: bool,
 ) -> Result<(), DemoError>
-    ensures acts { OnOk result ((s : Setting) (base : List Call) (c : Connection (List Served)) (now : Scene) → SpinHas spin.old c.server → Plays s base (N.calls net.old) now
-        → SpinActs s base (N.calls net.new) spin.new c (where_stands cut (λ k. at_spin_server demo_unit Ticked k) c) now) }
-    ensures fault { IfErr result (λ error. error ≡ errors.NetFault → Rose (N.faults net.old) (N.faults net.new)) }
+    ensures acts { OnOk result ((s : Setting) (base : List Call) (c : Connection (List Served))
+        (now : Scene) → SpinHas spin.old c.server → Plays s base (N.calls net.old) now
+        → SpinActs s base (N.calls net.new) spin.new c
+        (where_stands cut (λ k. at_spin_server demo_unit Ticked k) c) now) }
+    ensures runs { OnOk result (KeepsRun (N.calls net.old) (N.calls net.new)) }
+    ensures broke { IfErr result (BreaksRun (N.calls net.old) (N.calls net.new)) }
+    ensures fault { IfErr result (RoseAtFault (N.faults net.old) (N.faults net.new)) }
     ensures later { N.faults net.old ≤ N.faults net.new }
     ensures still { OnOk result (N.faults net.new ≡ N.faults net.old) }
 {

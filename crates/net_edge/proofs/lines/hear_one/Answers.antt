@@ -1,7 +1,8 @@
 use Rattle.std.proofs.Common.{ℕ, List, length, take}
 use Rattle.pitch_io.specs.Nets.{came}
 use Rattle.pitch_io.specs.declared.net.NetTaken.TheVariants.{Got}
-use Rattle.net_edge.proofs.Hearing.{not_failed, hears_on, heard_nothing_of}
+use Rattle.net_edge.proofs.Hearing.{not_failed, hears_on, heard_nothing_of, line_stops, line_fails}
+use Rattle.net_edge.proofs.Breaking.{at_exit}
 use Rattle.net_edge.proofs.lines.hear_one.Goals as goal
 
 pub returns-in_ok-hear_datagram-in-Got-clause-heard : goal.returns-in_ok-hear_datagram-in-Got-clause-heard
@@ -18,3 +19,11 @@ returns-in_ok-hear_datagram-in-Got-clause-still g c = c.in-Got.ensures.still (λ
 
 pub returns-in-Quiet-clause-still : goal.returns-in-Quiet-clause-still
 returns-in-Quiet-clause-still g c = c.next-answer.ensures.still (not_failed c.next-answer.result c.in-Quiet.is)
+
+pub returns-in_err-hear_datagram-in-Got-clause-broke : goal.returns-in_err-hear_datagram-in-Got-clause-broke
+returns-in_err-hear_datagram-in-Got-clause-broke g c = at_exit _ c.from_residual.result _ c.from_residual.ensures
+    (λ s base answers now h opened. line_stops s base (g.N.Net.calls c.args.net.now) (g.N.Net.calls c.next-answer.new.self) c.args.client.now c.args.line (length c.args.into.now) (take c.in-Got.count c.next-answer.new.into) c.in-Got.count answers now h c.in-Got.ensures.calls c.requires opened)
+
+pub returns-in-Failed-clause-broke : goal.returns-in-Failed-clause-broke
+returns-in-Failed-clause-broke g c = λ s base answers now h opened.
+    line_fails s base (g.N.Net.calls c.args.net.now) (g.N.Net.calls c.next-answer.new.self) c.args.client.now c.args.line (length c.args.into.now) answers now h c.in-Failed.ensures.calls c.requires opened

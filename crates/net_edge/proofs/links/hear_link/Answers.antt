@@ -1,7 +1,8 @@
 use Rattle.std.proofs.Common.{Bool, false, [], ◌∷◌, ap, refl, ◌∙◌, subst, arith, inl, inr}
 use Rattle.net_edge.specs.Playing.{HearsLink}
 use Rattle.net_edge.specs.Scene.{is_got}
-use Rattle.net_edge.proofs.Grouping.{gots_none, call_more, take_last, takes_full, nothing}
+use Rattle.net_edge.proofs.Grouping.{gots_none, call_more, take_last, takes_full, nothing, open_by}
+use Rattle.net_edge.proofs.Breaking.{at_exit}
 use Rattle.net_edge.proofs.links.hear_link.Goals as goal
 
 pub returns-then-cut-clause-heard : goal.returns-then-cut-clause-heard
@@ -50,3 +51,10 @@ pub returns-clause-heard : goal.returns-clause-heard
 returns-clause-heard g c = λ s base now h.
     let begun = subst (λ (b : Bool). HearsLink g.L.ClientEnd.peer s base (g.N.Net.calls c.args.net.now) (g.L.ClientEnd.ending c.args.link.now) c.args.client.now [] b now) c.if-cut.false h in
     takes_full c.takes._index (omega arith) (c.takes.invariant.heard s base now begun) false
+
+pub returns-in_err-answer-clause-broke : goal.returns-in_err-answer-clause-broke
+returns-in_err-answer-clause-broke g c = at_exit _ c.from_residual.result _ c.from_residual.ensures
+    (λ s base now h.
+    let begun = subst (λ (b : Bool). HearsLink g.L.ClientEnd.peer s base (g.N.Net.calls c.args.net.now) (g.L.ClientEnd.ending c.args.link.now) c.args.client.now [] b now) c.if-cut.false h in
+    let so = c.takes.invariant.heard s base now begun in
+    c.in_err-answer.ensures.broke s base so.0 now so.2 (open_by so.0 c.takes._index so.1 (omega arith)))

@@ -1,7 +1,9 @@
-use Rattle.std.proofs.Common.{◌∷◌, true, false, length, take, sym, subst}
+use Rattle.std.proofs.Common.{◌∷◌, true, false, length, take, sym, subst, []}
 use Rattle.pitch_io.specs.declared.net.NetTaken.{NetTaken}
 use Rattle.net_edge.specs.Playing.{HearsLink}
-use Rattle.net_edge.proofs.Linking.{link_got, link_quiet, link_end}
+use Rattle.net_edge.proofs.Linking.{link_got, link_quiet, link_end, link_stops, link_fails}
+use Rattle.net_edge.proofs.Breaking.{at_exit}
+use Rattle.pitch_io.specs.declared.net.NetTaken.TheVariants as taken
 use Rattle.net_edge.proofs.links.hear_link_once.Goals as goal
 
 pub returns-in_ok-shut-in-Got-clause-heard : goal.returns-in_ok-shut-in-Got-clause-heard
@@ -32,3 +34,22 @@ returns-in-Quiet-clause-still g c = c.in-Quiet.ensures.still (λ f. f)
 
 pub returns-in_ok-hear_down-in-End-clause-still : goal.returns-in_ok-hear_down-in-End-clause-still
 returns-in_ok-hear_down-in-End-clause-still g c = c.in-End.ensures.still (λ f. f)
+
+pub returns-in_err-shut-in-Got-clause-broke : goal.returns-in_err-shut-in-Got-clause-broke
+returns-in_err-shut-in-Got-clause-broke g c = at_exit _ c.from_residual.result _ c.from_residual.ensures
+    (λ s base answers now h opened.
+    let link = g.L.ClientEnd.ending c.args.link.now in
+    link_stops g.L.ClientEnd.peer s base (g.N.Net.calls c.args.net.now) (g.N.Net.calls c.take-answer.new.self) c.net_end-end.result link link c.args.client.now c.args.client.now (length c.args.into.now) c.requires answers now
+    (take c.in-Got.count c.take-answer.new.into) (taken.Got c.in-Got.count) h c.net_end-end.ensures opened (λ f. f) c.in-Got.ensures.calls)
+
+pub returns-in_err-hear_down-in-End-clause-broke : goal.returns-in_err-hear_down-in-End-clause-broke
+returns-in_err-hear_down-in-End-clause-broke g c = at_exit _ c.from_residual-in_err-hear_down-in-End.result _ c.from_residual-in_err-hear_down-in-End.ensures
+    (λ s base answers now h opened.
+    let link = g.L.ClientEnd.ending c.args.link.now in
+    link_stops g.L.ClientEnd.peer s base (g.N.Net.calls c.args.net.now) (g.N.Net.calls c.take-answer.new.self) c.net_end-end.result link link c.args.client.now c.args.client.now (length c.args.into.now) c.requires answers now
+    [] taken.End h c.net_end-end.ensures opened (λ f. f) c.in-End.ensures.calls)
+
+pub returns-in-Failed-clause-broke : goal.returns-in-Failed-clause-broke
+returns-in-Failed-clause-broke g c = λ s base answers now h opened.
+    let link = g.L.ClientEnd.ending c.args.link.now in
+    link_fails g.L.ClientEnd.peer s base (g.N.Net.calls c.args.net.now) (g.N.Net.calls c.take-answer.new.self) c.net_end-end.result link link c.args.client.now c.args.client.now (length c.args.into.now) c.requires answers now h c.net_end-end.ensures opened c.in-Failed.ensures.calls

@@ -3,6 +3,7 @@ use Rattle.world_model.specs.Verbs.{at_link}
 use Rattle.net_edge.specs.Acting.{where_stands}
 use Rattle.net_edge.specs.Peers.{peer_setup}
 use Rattle.net_edge.proofs.Linking.{said_put}
+use Rattle.net_edge.proofs.Breaking.{at_exit, stops_here}
 use Rattle.net_edge.proofs.links.tick_link.Goals as goal
 
 pub returns-clause-ticked : goal.returns-clause-ticked
@@ -18,3 +19,12 @@ returns-clause-ticked g c = λ s base k E now is has plays.
       cut_is = c.in_ok-after.ensures.cut after.link says.link_has;
       has = c.in_ok-after.ensures.heard after.link E says.link_has has;
     }
+
+pub returns-in_err-say_ticked-clause-broke : goal.returns-in_err-say_ticked-clause-broke
+returns-in_err-say_ticked-clause-broke g c = at_exit _ c.from_residual.result _ c.from_residual.ensures (λ s base runs. stops_here s base _ runs)
+
+pub returns-in_err-put_whole-clause-broke : goal.returns-in_err-put_whole-clause-broke
+returns-in_err-put_whole-clause-broke g c = at_exit _ c.from_residual-in_err-put_whole.result _ c.from_residual-in_err-put_whole.ensures c.in_err-put_whole.ensures.broke
+
+pub returns-in_err-after-clause-broke : goal.returns-in_err-after-clause-broke
+returns-in_err-after-clause-broke g c = at_exit _ c.from_residual-in_err-after.result _ c.from_residual-in_err-after.ensures (λ s base runs. stops_here s base _ (c.in_ok-put_whole.ensures.runs s base runs))

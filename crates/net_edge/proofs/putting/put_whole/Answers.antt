@@ -5,6 +5,7 @@ use Rattle.pitch_io.specs.declared.sink.Put.TheVariants as puts
 use Rattle.net_edge.specs.Acting.{end_puts}
 use Rattle.net_edge.specs.Playing.{Plays}
 use Rattle.net_edge.proofs.Runs.{play_call, put_none, put_next}
+use Rattle.net_edge.proofs.Breaking.{breaks_by}
 use Rattle.net_edge.proofs.putting.put_whole.Goals as goal
 
 pub puts-init : goal.puts-init
@@ -33,3 +34,12 @@ puts-preserved g c =
 pub returns-clause-put : goal.returns-clause-put
 returns-clause-put g c = λ s base now plays.
     subst (λ (bytes : List ℕ). Plays s base (g.N.Net.calls c.puts.net) (end_puts c.args.at bytes now)) (take_all c.puts.done c.args.bytes.now (omega arith)) (c.puts.invariant.plays s base now plays)
+
+pub returns-clause-runs : goal.returns-clause-runs
+returns-clause-runs g c = λ s base runs. (end_puts c.args.at (take c.puts.done c.args.bytes.now) runs.0, c.puts.invariant.plays s base runs.0 runs.1)
+
+pub returns-in-Failed-clause-broke : goal.returns-in-Failed-clause-broke
+returns-in-Failed-clause-broke g c =
+    let bytes : List ℕ = c.args.bytes.now in
+    let piece : List ℕ = take (length bytes - c.puts.done) (drop c.puts.done bytes) in
+    λ s base runs. breaks_by s base _ _ (end_puts c.args.at (take c.puts.done bytes) runs.0) (Put c.args.at piece puts.Failed) c.in-Failed.ensures.calls tt tt (c.puts.invariant.plays s base runs.0 runs.1)

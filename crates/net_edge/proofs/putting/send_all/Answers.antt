@@ -4,14 +4,15 @@ use Rattle.std.proofs.lemmas.Option.{slice_get_read}
 use Rattle.pitch_messages.specs.Room.{Roomy}
 use Rattle.unit_packets.specs.Packing.{bytes_in}
 use Rattle.net_edge.specs.Acting.{sent_on}
+use Rattle.net_edge.specs.Due.{IsDuePiece}
 use Rattle.net_edge.specs.Playing.{Plays}
-use Rattle.net_edge.proofs.Runs.{sent_none, sent_both}
-use Rattle.net_edge.proofs.Hearing.{bytes_more}
+use Rattle.net_edge.proofs.Runs.{sent_none, sent_both, sent_in_turn, bytes_more, bytes_at}
+use Rattle.net_edge.proofs.Breaking.{at_exit}
 use Rattle.net_edge.proofs.putting.send_all.Goals as goal
 
 pub sends-init : goal.sends-init
 sends-init g c = record {
-  plays = λ s base now plays. subst (Plays s base (g.N.Net.calls c.args.net.now)) (sym (sent_none c.args.line now)) plays;
+  plays = λ s base now plays pieces. subst (Plays s base (g.N.Net.calls c.args.net.now)) (sym (sent_none c.args.line now)) plays;
   later = omega arith;
   still = refl;
 }
@@ -20,18 +21,33 @@ pub sends-preserved : goal.sends-preserved
 sends-preserved g c =
     let i = c.sends.datagram-index in
     let all = c.args.datagrams.now in
-    let at = slice_get_read all (length all) i c.datagram-item.result refl (search rules) c.datagram-item.is in
+    let item = c.datagram-item.result in
+    let at = slice_get_read all (length all) i item refl (search rules) c.datagram-item.is in
     record {
-      plays = λ s base now plays.
+      plays = λ s base now plays pieces.
+          let sent = bytes_in (take i all) in
+          let piece = subst (λ t. IsDuePiece s t c.bytes.result.now) (sent_in_turn c.args.line sent now) (subst (IsDuePiece s now.turn) (sym c.bytes.ensures) (bytes_at (IsDuePiece s now.turn) all i item at pieces)) in
           subst (Plays s base (g.N.Net.calls c.send.new.net))
-          (ap (λ (x : List _). sent_on c.args.line (x ∷ []) (sent_on c.args.line (bytes_in (take i all)) now)) c.bytes.ensures
-          ∙ sent_both c.args.line (bytes_in (take i all)) (c.datagram-item.result.items ∷ []) now
-          ∙ ap (λ (xs : List (List _)). sent_on c.args.line xs now) (sym (bytes_more all i c.datagram-item.result at)))
-          (c.in_ok-send.ensures.sent s base (sent_on c.args.line (bytes_in (take i all)) now) (c.sends.invariant.plays s base now plays));
+          (ap (λ (x : List _). sent_on c.args.line (x ∷ []) (sent_on c.args.line sent now)) c.bytes.ensures
+          ∙ sent_both c.args.line sent (item.items ∷ []) now
+          ∙ ap (λ (xs : List (List _)). sent_on c.args.line xs now) (sym (bytes_more all i item at)))
+          (c.in_ok-send.ensures.sent s base (sent_on c.args.line sent now) (c.sends.invariant.plays s base now plays pieces) piece);
       later = omega (arith, c.sends.invariant.later, c.send.ensures.later);
       still = c.in_ok-send.ensures.still ∙ c.sends.invariant.still;
     }
 
 pub returns-clause-sent : goal.returns-clause-sent
-returns-clause-sent g c = λ s base now plays.
-    subst (λ (ls : List (Roomy ℕ)). Plays s base (g.N.Net.calls c.sends.net) (sent_on c.args.line (bytes_in ls) now)) (take_all c.sends.datagram-index c.args.datagrams.now (omega arith)) (c.sends.invariant.plays s base now plays)
+returns-clause-sent g c = λ s base now plays pieces.
+    subst (λ (ls : List (Roomy ℕ)). Plays s base (g.N.Net.calls c.sends.net) (sent_on c.args.line (bytes_in ls) now)) (take_all c.sends.datagram-index c.args.datagrams.now (omega arith)) (c.sends.invariant.plays s base now plays pieces)
+
+pub returns-in_err-send-clause-broke : goal.returns-in_err-send-clause-broke
+returns-in_err-send-clause-broke g c =
+    let i = c.sends.datagram-index in
+    let all = c.args.datagrams.now in
+    let item = c.datagram-item.result in
+    let at = slice_get_read all (length all) i item refl (search rules) c.datagram-item.is in
+    at_exit _ c.from_residual.result _ c.from_residual.ensures
+    (λ s base now plays pieces.
+    let sent = bytes_in (take i all) in
+    let piece = subst (λ t. IsDuePiece s t c.bytes.result.now) (sent_in_turn c.args.line sent now) (subst (IsDuePiece s now.turn) (sym c.bytes.ensures) (bytes_at (IsDuePiece s now.turn) all i item at pieces)) in
+    c.in_err-send.ensures.broke s base (sent_on c.args.line sent now) (c.sends.invariant.plays s base now plays pieces) piece)

@@ -1,10 +1,14 @@
-use Rattle.std.proofs.Common.{◌≡◌, ◌≢◌, ◌+◌, ℕ, refl, sym, ◌∙◌, subst, arith}
+use Rattle.std.proofs.Common.{◌≡◌, ◌≢◌, ◌+◌, ℕ, List, [], refl, sym, ◌∙◌, subst, arith}
 use Rattle.net_edge.specs.Due.{Setting, setting, hold_limit}
-use Rattle.net_edge.specs.Playing.{MarketAt}
+use Rattle.pitch_io.specs.Nets.{Call}
+use Rattle.net_edge.specs.Breaking.{Breaks}
+use Rattle.net_edge.specs.Playing.{DemoAt, MarketHas, MarketAt}
 use Rattle.net_edge.specs.Scene.{first_scene, all_put}
 use Rattle.net_edge.specs.Turns.{MayGoOn, client_status}
 use Rattle.net_edge.proofs.Starting.{market_first, sent_first, uncalled_first, goes_on, last_is}
+use Rattle.net_edge.proofs.Begun.{turn_breaks}
 use Rattle.net_edge.proofs.Turning.{turn_again}
+use Rattle.net_edge.proofs.Breaking.{at_exit}
 use Rattle.net_edge.proofs.running.run.Goals as goal
 
 pub turns-init : goal.turns-init
@@ -46,3 +50,19 @@ returns-clause-ran g c = λ base at market.
     let status : c.status.result ≡ client_status now.0 = c.status.ensures hold_limit now.0.heard now.2.has.client.tracks in
     let end = c.turns-test.ensures in
     (now.0, now.2, subst (MarketAt s c.turns.market) (sym now.1) now.3, now.4, last_is s now.0 c.turns.turn c.status.result now.1 c.turns.invariant.most status end.0 end.1)
+
+pub returns-in_err-turn-clause-broke : goal.returns-in_err-turn-clause-broke
+returns-in_err-turn-clause-broke g c =
+    at_exit (λ error. (base : List Call) → DemoAt (setting c.args.number c.args.count) base (g.N.Net.calls c.args.net.now) c.args.ends.now (all_put first_scene) → MarketHas c.args.market.now [] 0 [] → Breaks (setting c.args.number c.args.count) base (g.N.Net.calls c.turn.new.net) error)
+    c.from_residual.result _ c.from_residual.ensures
+    (λ base at market.
+    c.in_err-turn.ensures.broke base (all_put first_scene) refl at (market_first (setting c.args.number c.args.count) c.args.market.now market) (sent_first (setting c.args.number c.args.count)) uncalled_first)
+
+pub returns-in_err-turn-2-clause-broke : goal.returns-in_err-turn-2-clause-broke
+returns-in_err-turn-2-clause-broke g c =
+    at_exit (λ error. (base : List Call) → DemoAt (setting c.args.number c.args.count) base (g.N.Net.calls c.args.net.now) c.args.ends.now (all_put first_scene) → MarketHas c.args.market.now [] 0 [] → Breaks (setting c.args.number c.args.count) base (g.N.Net.calls c.turn-in-turns.new.net) error)
+    c.from_residual-in_err-turn-2.result _ c.from_residual-in_err-turn-2.ensures
+    (λ base at market.
+    turn_breaks (setting c.args.number c.args.count) base c.turns.turn (g.N.Net.calls c.turns.net) (g.N.Net.calls c.turn-in-turns.new.net) c.turns.ends c.turns.market c.status.result _ c.turns-test.ensures.0
+    (λ now has. c.status.ensures hold_limit now.heard has.client.tracks)
+    (c.turns.invariant.ran base at market) (λ n. c.in_err-turn-2.ensures.broke base n))

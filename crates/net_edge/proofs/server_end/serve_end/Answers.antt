@@ -2,7 +2,8 @@ use Rattle.std.proofs.Common.{◌≡◌, ◌||◌, Bool, true, false, [], ◌∷
 use Rattle.pitch_io.specs.declared.net.NetTaken.{NetTaken}
 use Rattle.pitch_io.specs.declared.net.NetTaken.TheVariants as taken
 use Rattle.net_edge.specs.Scene.{is_got, got_end}
-use Rattle.net_edge.proofs.Grouping.{gots_none, call_more, take_last, takes_full, none_over, open_then}
+use Rattle.net_edge.proofs.Grouping.{gots_none, call_more, take_last, takes_full, none_over, open_then, open_by}
+use Rattle.net_edge.proofs.Breaking.{at_exit}
 use Rattle.net_edge.proofs.server_end.serve_end.Goals as goal
 
 pub returns-then-cut-clause-served : goal.returns-then-cut-clause-served
@@ -63,3 +64,11 @@ pub returns-clause-served : goal.returns-clause-served
 returns-clause-served g c = λ s base now h whole stored.
     let begun = subst (λ (b : Bool). g.E.ServerEnd.serves c.args.server.now s base (g.N.Net.calls c.args.net.now) [] b now) c.if-ended.false h in
     takes_full c.takes.index (omega arith) (c.takes.invariant.served s base now begun (whole ∙ c.if-cut.false) stored) (false || c.args.cut)
+
+pub returns-in_err-serve_one-clause-broke : goal.returns-in_err-serve_one-clause-broke
+returns-in_err-serve_one-clause-broke g c = at_exit _ c.from_residual.result _ c.from_residual.ensures
+    (λ s base now h whole stored.
+    let stands = whole ∙ c.if-cut.false in
+    let begun = subst (λ (b : Bool). g.E.ServerEnd.serves c.args.server.now s base (g.N.Net.calls c.args.net.now) [] b now) c.if-ended.false h in
+    let so = c.takes.invariant.served s base now begun stands stored in
+    c.in_err-serve_one.ensures.broke s base so.0 now so.2 stands (subst (λ x. g.E.ServerEnd.shows x s now) (sym c.takes.invariant.store) stored) (open_by so.0 c.takes.index so.1 (omega arith)))

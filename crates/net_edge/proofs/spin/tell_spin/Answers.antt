@@ -2,6 +2,7 @@ use Rattle.std.proofs.Common.{List, subst}
 use Rattle.pitch_io.specs.declared.net.LinkEnd.TheVariants.{SpinServer}
 use Rattle.net_edge.specs.Acting.{end_puts}
 use Rattle.net_edge.specs.Playing.{Plays}
+use Rattle.net_edge.proofs.Breaking.{at_exit, stops_here}
 use Rattle.net_edge.proofs.spin.tell_spin.Goals as goal
 
 pub returns-clause-acts : goal.returns-clause-acts
@@ -10,3 +11,9 @@ returns-clause-acts g c = λ s base k now has plays. record {
   is = c.in_ok-say_told.ensures k has;
   plays = subst (λ (b : List _). Plays s base (g.N.Net.calls c.put_whole.new.net) (end_puts SpinServer b now)) c.deref.ensures.value (c.in_ok-put_whole.ensures.put s base now plays);
 }
+
+pub returns-in_err-say_told-clause-broke : goal.returns-in_err-say_told-clause-broke
+returns-in_err-say_told-clause-broke g c = at_exit _ c.from_residual.result _ c.from_residual.ensures (λ s base runs. stops_here s base _ runs)
+
+pub returns-in_err-put_whole-clause-broke : goal.returns-in_err-put_whole-clause-broke
+returns-in_err-put_whole-clause-broke g c = at_exit _ c.from_residual-in_err-put_whole.result _ c.from_residual-in_err-put_whole.ensures c.in_err-put_whole.ensures.broke

@@ -3,6 +3,7 @@ use Rattle.std.proofs.lemmas.Bool.Decides.{nat_tests}
 use Rattle.net_edge.specs.Due.{is_tenth}
 use Rattle.net_edge.specs.Playing.{IsFlushed, MarketAt}
 use Rattle.net_edge.proofs.Turning.{beaten_tenth, beaten_other, advertised_still}
+use Rattle.net_edge.proofs.Breaking.{at_exit}
 use Rattle.net_edge.proofs.ends.Ends.beat_if_tenth.Goals as goal
 
 other : (turn : ℕ) → (turn % 10 ≡ 0 → ⊥) → is_tenth turn ≡ false
@@ -22,3 +23,7 @@ returns-clause-beaten g c = λ s base now turn_is at market.
     let back : c.args.turn ≡ now.turn = sym turn_is in
     let both = c.in_ok-beat.ensures.beaten s base now at (subst (IsFlushed s c.args.market.now) back market) (subst (λ (t : ℕ). 1 ≤ t) back c.requires) (ap is_tenth turn_is ∙ yes) in
     (beaten_tenth s base _ c.beat.new.self now c.args.turn turn_is yes both.0, subst (MarketAt s c.beat.new.market) turn_is both.1)
+
+pub returns-in_err-beat-clause-broke : goal.returns-in_err-beat-clause-broke
+returns-in_err-beat-clause-broke g c = at_exit _ c.from_residual.result _ c.from_residual.ensures
+    (λ s base now turn_is plays market. c.in_err-beat.ensures.broke s base now plays (subst (IsFlushed s c.args.market.now) (sym turn_is) market))

@@ -1,12 +1,14 @@
-use Rattle.std.proofs.Common.{◌≡◌, ℕ, List, length, ◌&&◌, not, refl, subst, ◌∙◌}
-use Rattle.pitch_io.specs.Nets.{came, NetTakeFailed}
+use Rattle.std.proofs.Common.{◌≡◌, ℕ, List, length, ◌&&◌, not, refl, subst, ◌∙◌, []}
+use Rattle.pitch_io.specs.Nets.{came, NetTakeFailed, Take}
 use Rattle.pitch_io.specs.declared.net.NetTaken.{NetTaken}
 use Rattle.pitch_io.specs.declared.net.NetTaken.TheVariants as taken
 use Rattle.pitch_io.specs.declared.net.LinkEnd.TheVariants.{SpinServer}
 use Rattle.net_edge.specs.Acting.{end_puts}
 use Rattle.net_edge.specs.Playing.{Plays}
 use Rattle.net_edge.specs.Scene.{is_got}
-use Rattle.net_edge.proofs.Spinning.{serves_on}
+use Rattle.net_edge.proofs.Spinning.{serves_on, spin_scene, spin_may}
+use Rattle.net_edge.proofs.Breaking.{at_exit, breaks_by, stops_here}
+use Rattle.net_edge.proofs.Runs.{play_call}
 use Rattle.net_edge.proofs.spin.SpinServerServerEnd.serve_one.Goals as goal
 
 unfailed : (answer : NetTaken) → (answer ≡ taken.Failed → ⊥) → NetTakeFailed answer → ⊥
@@ -23,3 +25,24 @@ returns-clause-served g c = λ s base answers now h whole keeps opened more.
 
 pub returns-clause-still : goal.returns-clause-still
 returns-clause-still g c = c.in_ok-put_whole.ensures.still ∙ c.take-taken.ensures.still (unfailed c.take-taken.result c.in_default.not-Failed)
+
+pub returns-in-Failed-clause-broke : goal.returns-in-Failed-clause-broke
+returns-in-Failed-clause-broke g c = λ s base answers now h whole keeps opened.
+    let room : ℕ = length c.args.into.now in
+    breaks_by s base _ _ (spin_scene s base _ c.args.self.now answers now h) (Take SpinServer room [] taken.Failed) c.in-Failed.ensures.calls tt (spin_may s base _ c.args.self.now room [] taken.Failed answers now h whole opened c.requires) h.plays
+
+pub returns-in_err-answer-clause-broke : goal.returns-in_err-answer-clause-broke
+returns-in_err-answer-clause-broke g c = at_exit _ c.from_residual.result _ c.from_residual.ensures
+    (λ s base answers now h whole keeps opened.
+    let room : ℕ = length c.args.into.now in
+    let bytes = came c.take-taken.result c.take-taken.new.into in
+    let at = spin_scene s base _ c.args.self.now answers now h in
+    stops_here s base _ (_, play_call s base _ _ at (Take SpinServer room bytes c.take-taken.result) c.take-taken.ensures.calls (unfailed c.take-taken.result c.in_default.not-Failed) (spin_may s base _ c.args.self.now room bytes c.take-taken.result answers now h whole opened c.requires) h.plays))
+
+pub returns-in_err-put_whole-clause-broke : goal.returns-in_err-put_whole-clause-broke
+returns-in_err-put_whole-clause-broke g c = at_exit _ c.from_residual-in_err-put_whole.result _ c.from_residual-in_err-put_whole.ensures
+    (λ s base answers now h whole keeps opened.
+    let room : ℕ = length c.args.into.now in
+    let bytes = came c.take-taken.result c.take-taken.new.into in
+    let at = spin_scene s base _ c.args.self.now answers now h in
+    c.in_err-put_whole.ensures.broke s base (_, play_call s base _ _ at (Take SpinServer room bytes c.take-taken.result) c.take-taken.ensures.calls (unfailed c.take-taken.result c.in_default.not-Failed) (spin_may s base _ c.args.self.now room bytes c.take-taken.result answers now h whole opened c.requires) h.plays))
