@@ -30,8 +30,8 @@ pub fn blocks_have_no_more_messages_than_bytes()
 
 /// Whatever comes in, whoever applies what a relay sends has the orders of the book that the relay
 /// follows, its clock and its trading statuses: at each step where it had them before, and so after
-/// all that the relay has sent. Where no image leaves out a clock or a status that was known before,
-/// it has just that book.
+/// all that the relay has sent. Where no image leaves out a clock or a status that was known
+/// before, it has just that book.
 pub fn followers_have_the_orders_of_a_relay()
     ensures step { (follower book book' : Book) (raws : List Raw)
         → Shows follower book → Sends book raws book' → Shows (fold after follower raws) book' }

@@ -57,7 +57,8 @@ impl Relay {
     ghost use Rattle.pitch_fields.specs.Limits.{most_held};
     ghost use Rattle.pitch_model.specs.Book.{empty_book};
     ghost use Rattle.relay_unit.specs.Calls.{StandsAfter, AppendsRelayed, OutrunsAfter};
-    ghost use Rattle.relay_unit.specs.Calls.{IsChangeAfter, HearsFew, SpendsFew, AppendsAny, Appends};
+    ghost use Rattle.relay_unit.specs.Calls.{IsChangeAfter, HearsFew, SpendsFew};
+    ghost use Rattle.relay_unit.specs.Calls.{AppendsAny, Appends};
     ghost use Rattle.relay_unit.specs.Following.{HasSent};
     ghost use Rattle.relay_unit.specs.Hearing.{first_heard};
     ghost use Rattle.relay_unit.specs.Sparing.{HasHeard};
