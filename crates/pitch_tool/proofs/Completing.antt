@@ -10,17 +10,12 @@ use Rattle.stream_print.specs.Inputs.{Has, AreAll, stream_limit, trouble_of}
 use Rattle.pitch_tool.specs.Devices.{Run, Wires, HasFaulted, HasNetFaulted}
 use Rattle.pitch_tool.specs.Jobs.{job_of, JobEnds, Judges, blocks_trouble}
 use Rattle.pitch_tool.specs.Program.{Closes, HasCauses, IsNoForm, IsWhole, IsRefusal}
-use Rattle.pitch_tool.specs.VenueStreams.{JudgesVenues}
-use Rattle.venue_stream.specs.Ends.{WritesAll}
-use Rattle.venue_stream.specs.declared.form.VenueForm.{VenueForm}
-use Rattle.stream_print.specs.declared.carrier.Carrier.TheVariants.{Bare}
-use Rattle.stream_print.specs.declared.failure.StreamTrouble.{StreamTrouble}
 use Rattle.pitch_tool.specs.TextForms.{text_limit, text_trouble, made}
 use Rattle.pitch_tool.specs.declared.failure.Failure.TheVariants as ending
 use Rattle.pitch_tool.specs.declared.failure.Trouble.{Trouble}
 use Rattle.pitch_tool.specs.declared.failure.Trouble.TheVariants.{Blocks, LongText, Commands, Schedule, SequencesSpent}
 use Rattle.pitch_tool.specs.declared.job.Job.{Job}
-use Rattle.pitch_tool.specs.declared.job.Job.TheVariants.{Stream, Text, Storm, Drill, Demo, Venues, Audit}
+use Rattle.pitch_tool.specs.declared.job.Job.TheVariants.{Stream, Text, Storm, Drill, Demo, Audit}
 use Rattle.pitch_tool.specs.declared.failure.Trouble.TheVariants as faults
 use Rattle.std.specs.Option.{option_map}
 use Rattle.run_audit.specs.Input.{input_fault}
@@ -43,12 +38,6 @@ clash o trouble none some = no (sym none ∙ some)
     no : ◌≡◌ {A = Option Trouble} None (Some trouble) → ⊥
     no e = cc
 
-no_trouble : (o : Option StreamTrouble) (trouble : StreamTrouble) → o ≡ None → o ≡ Some trouble → ⊥
-no_trouble o trouble none some = no (sym none ∙ some)
-  where
-    no : ◌≡◌ {A = Option StreamTrouble} None (Some trouble) → ⊥
-    no e = cc
-
 -- ---- A sound input is not refused
 not_refused : (job : Job) (trouble : Trouble) (input out : Told) (net : Wires) → Judges job input.old None → JobEnds job (Err (ending.BadInput trouble)) input out net → ⊥
 not_refused (Stream carrier form) (Blocks trouble) input out net sound r =
@@ -58,14 +47,6 @@ not_refused (Stream carrier form) LongText input out net sound r = r
 not_refused (Stream carrier form) (Commands error) input out net sound r = r
 not_refused (Stream carrier form) (Schedule error) input out net sound r = r
 not_refused (Stream carrier form) SequencesSpent input out net sound r = r
-not_refused (Venues form) (Blocks trouble) input out net sound r =
-    no_trouble (trouble_of Bare stream_limit r.bytes) trouble
-    (ap (trouble_of Bare stream_limit) (same_bytes input.old sound.0 r.bytes sound.1 r.has) ∙ sound.2) r.trouble_is
-not_refused (Venues form) SequencesSpent input out net sound r = r
-not_refused (Venues form) LongText input out net sound r = r
-not_refused (Venues form) (Commands error) input out net sound r = r
-not_refused (Venues form) (Schedule error) input out net sound r = r
-not_refused (Venues form) (faults.Audit fault) input out net sound r = r
 not_refused (Stream carrier form) (faults.Audit fault) input out net sound r = r
 not_refused Audit trouble input out net sound r =
     clash (audit_trouble stream_limit r.bytes) trouble (ap (audit_trouble stream_limit) (same_bytes input.old sound.0 r.bytes sound.1 r.has) ∙ sound.2) r.trouble_is
@@ -88,15 +69,6 @@ closes_whole words BadInput run form (trouble, does, said) causes is sound =
     (subst (λ (f : Form). JobEnds (job_of f) (Err (ending.BadInput trouble)) run.input.bytes run.out.bytes run.net) (at_most_one words does.0 form does.1 is) does.2))
 
 -- ---- A faulty input is not done
-venues_not_done : (form : VenueForm) (trouble : Trouble) (input out : Told) (bytes : List ℕ) → input.old ≡ Some bytes → JudgesVenues form stream_limit bytes (Some trouble) → WritesAll form stream_limit input out → ⊥
-venues_not_done form (Blocks trouble) input out bytes is wrong r =
-    no_trouble (trouble_of Bare stream_limit r.bytes) trouble r.sound (ap (trouble_of Bare stream_limit) (all_bytes input.old input.new bytes r.bytes is r.read) ∙ wrong)
-venues_not_done form LongText input out bytes is wrong r = wrong
-venues_not_done form (Commands error) input out bytes is wrong r = wrong
-venues_not_done form (Schedule error) input out bytes is wrong r = wrong
-venues_not_done form SequencesSpent input out bytes is wrong r = wrong
-venues_not_done form (faults.Audit fault) input out bytes is wrong r = wrong
-
 not_done : (job : Job) (trouble : Trouble) (input out : Told) (net : Wires) → Judges job input.old (Some trouble) → JobEnds job (Ok tt) input out net → ⊥
 not_done (Stream carrier form) trouble input out net wrong r =
     clash (blocks_trouble (trouble_of carrier stream_limit r.bytes)) trouble (ap blocks_trouble r.sound)
@@ -104,7 +76,6 @@ not_done (Stream carrier form) trouble input out net wrong r =
 not_done (Storm number units steps workers) trouble input out net wrong r = clash None trouble refl (sym wrong)
 not_done (Drill number units count) trouble input out net wrong r = clash None trouble refl (sym wrong)
 not_done (Demo number count) trouble input out net wrong r = clash None trouble refl (sym wrong)
-not_done (Venues form) trouble input out net wrong r = venues_not_done form trouble input out wrong.0 wrong.1 wrong.2 r
 not_done Audit trouble input out net wrong (verdict, reads, grows) =
     let none : audit_trouble stream_limit reads.bytes ≡ None =
     ap (λ b. cond b (Some (Blocks TooLong)) (option_map faults.Audit (input_fault reads.bytes))) (le-ltb stream_limit (length reads.bytes) reads.small) ∙ ap (option_map faults.Audit) reads.audits.0 in

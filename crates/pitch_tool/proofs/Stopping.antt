@@ -8,8 +8,7 @@ use Rattle.stream_print.proofs.Taking.{stops_none}
 use Rattle.pitch_tool.specs.Jobs.{job_of, most_taken, StopsInTime}
 use Rattle.pitch_tool.specs.Program.{StopsAtTrouble}
 use Rattle.pitch_tool.specs.declared.job.Job.{Job}
-use Rattle.pitch_tool.specs.declared.job.Job.TheVariants.{Stream, Text, Storm, Drill, Demo, Venues, Audit}
-use Rattle.stream_print.specs.declared.carrier.Carrier.TheVariants.{Bare}
+use Rattle.pitch_tool.specs.declared.job.Job.TheVariants.{Stream, Text, Storm, Drill, Demo, Audit}
 
 -- where nothing is taken, any job stops in time
 untaken : (job : Job) (left : Option (List ℕ)) → StopsInTime job (between left left)
@@ -18,7 +17,6 @@ untaken (Text form) left = tt
 untaken (Storm number units steps workers) left = tt
 untaken (Drill number units count) left = tt
 untaken (Demo number count) left = tt
-untaken (Venues form) left = stops_none Bare left
 untaken Audit left = tt
 
 pub stops_untaken : (words : List (List ℕ)) (left : Option (List ℕ)) → StopsAtTrouble words (between left left)

@@ -3,28 +3,25 @@ use Rattle.std.specs.Prelude.{Bool, true, false, ◌≡◌, ◌+◌, ℕ, List, 
 use Rattle.pitch_words.specs.declared.form.Form.{Form}
 use Rattle.pitch_words.specs.declared.form.Form.TheVariants as form
 use Rattle.stream_print.specs.Inputs.{stream_limit, trouble_of, StopsSoon, StreamEnds}
-use Rattle.stream_print.specs.Holding.{CanHold}
+use Rattle.stream_print.specs.Holding.{CanHold, Suits}
 use Rattle.stream_print.specs.Told.{Told, IsUntouched}
 use Rattle.stream_print.specs.declared.carrier.Carrier.TheVariants.{Bare, Capture}
 use Rattle.stream_print.specs.declared.failure.StreamFailure.{StreamFailure}
 use Rattle.stream_print.specs.declared.failure.StreamFailure.TheVariants as stream
 use Rattle.stream_print.specs.declared.failure.StreamTrouble.{StreamTrouble}
-use Rattle.stream_print.specs.declared.stream_form.StreamForm.TheVariants.{Follow, Show}
+use Rattle.stream_print.specs.declared.stream_form.StreamForm.TheVariants.{Follow, Show, Relay, Quotes}
 use Rattle.pitch_tool.specs.AuditForm.{audit_trouble, AuditEnds}
 use Rattle.pitch_tool.specs.DemoForm.{IsDemoCount, DemoEnds}
 use Rattle.pitch_tool.specs.Devices.{Wires}
 use Rattle.pitch_tool.specs.DrillForm.{IsDrill, DrillEnds}
 use Rattle.pitch_tool.specs.StormForm.{IsStorm, StormEnds}
-use Rattle.pitch_tool.specs.VenueStreams.{JudgesVenues, VenuesEnd}
-use Rattle.venue_stream.specs.Forms as venue
-use Rattle.venue_stream.specs.declared.form.VenueForm.TheVariants.{Relay, Quotes}
 use Rattle.pitch_tool.specs.TextForms.{text_limit, text_trouble, AreWorkers, CanMake, TextEnds}
 use Rattle.pitch_tool.specs.declared.failure.Failure.{Failure}
 use Rattle.pitch_tool.specs.declared.failure.Failure.TheVariants.{BadInput, Read, Write, OutOfMemory}
 use Rattle.pitch_tool.specs.declared.failure.Trouble.{Trouble}
-use Rattle.pitch_tool.specs.declared.failure.Trouble.TheVariants.{Blocks}
+use Rattle.pitch_tool.specs.declared.failure.Trouble.TheVariants.{Blocks, SequencesSpent}
 use Rattle.pitch_tool.specs.declared.job.Job.{Job}
-use Rattle.pitch_tool.specs.declared.job.Job.TheVariants.{Stream, Text, Storm, Drill, Demo, Venues, Audit}
+use Rattle.pitch_tool.specs.declared.job.Job.TheVariants.{Stream, Text, Storm, Drill, Demo, Audit}
 use Rattle.pitch_tool.specs.declared.job.TextForm.TheVariants.{Pack, Replay}
 
 -- the job of a form
@@ -37,18 +34,17 @@ job_of (form.Replay workers) = Text (Replay workers)
 job_of (form.Storm number units steps workers) = Storm number units steps workers
 job_of (form.Drill number units count) = Drill number units count
 job_of (form.Demo number count) = Demo number count
-job_of (form.Relay hold) = Venues (Relay hold)
-job_of (form.Quotes hold) = Venues (Quotes hold)
+job_of (form.Relay hold) = Stream Bare (Relay hold)
+job_of (form.Quotes hold) = Stream Bare (Quotes hold)
 job_of form.Audit = Audit
 
 -- the numbers of a job lie in their ranges
 abbrev pub CanDo : Job → Type 0
-CanDo (Stream carrier form) = CanHold form
+CanDo (Stream carrier form) = CanHold form × Suits carrier form
 CanDo (Text form) = CanMake form
 CanDo (Storm number units steps workers) = IsStorm units steps × AreWorkers workers
 CanDo (Drill number units count) = IsDrill units count
 CanDo (Demo number count) = IsDemoCount count
-CanDo (Venues form) = venue.CanHold form
 CanDo Audit = Unit {0}
 
 -- how many bytes of the source a job takes at most: one more than it reads
@@ -58,14 +54,12 @@ most_taken (Text form) = text_limit + 1
 most_taken (Storm number units steps workers) = 0
 most_taken (Drill number units count) = 0
 most_taken (Demo number count) = 0
-most_taken (Venues form) = stream_limit + 1
 most_taken Audit = stream_limit + 1
 
 -- a job that reads a stream takes less than a piece behind the byte with which a trouble shows; one
 -- that reads a text takes all of it, and the others take nothing
 abbrev pub StopsInTime : Job → Told → Type 0
 StopsInTime (Stream carrier form) input = StopsSoon carrier input
-StopsInTime (Venues form) input = StopsSoon Bare input
 StopsInTime job input = Unit {0}
 
 -- what is wrong with a stream, as the trouble of a job
@@ -80,7 +74,6 @@ trouble_in (Text form) bytes = text_trouble form text_limit bytes
 trouble_in (Storm number units steps workers) bytes = None
 trouble_in (Drill number units count) bytes = None
 trouble_in (Demo number count) bytes = None
-trouble_in (Venues form) bytes = blocks_trouble (trouble_of Bare stream_limit bytes)
 trouble_in Audit bytes = audit_trouble stream_limit bytes
 
 -- a source tells its bytes, and a job has this to say of them; a job that reads nothing finds
@@ -91,29 +84,35 @@ Judges (Text form) left trouble = (bytes : List ℕ) × (left ≡ Some bytes) ×
 Judges (Storm number units steps workers) left trouble = trouble ≡ None
 Judges (Drill number units count) left trouble = trouble ≡ None
 Judges (Demo number count) left trouble = trouble ≡ None
-Judges (Venues form) left trouble = (bytes : List ℕ) × (left ≡ Some bytes) × JudgesVenues form stream_limit bytes trouble
 Judges Audit left trouble = (bytes : List ℕ) × (left ≡ Some bytes) × (trouble_in Audit bytes ≡ trouble)
 
 -- why a stream ended, as why the program ends
 abbrev pub of_stream : StreamFailure → Failure
 of_stream (stream.BadInput trouble) = BadInput (Blocks trouble)
+of_stream stream.SequencesSpent = BadInput SequencesSpent
 of_stream stream.Read = Read
 of_stream stream.Write = Write
 of_stream stream.OutOfMemory = OutOfMemory
 
 -- how a job ends: what was read of the source and written to the sink, and what the net lists
 abbrev pub JobEnds : Job → Result (Unit {0}) Failure → (input out : Told) → Wires → Type 0
-JobEnds (Stream carrier form) (Ok done) input out net = StreamEnds carrier form stream_limit (Ok done) input out
-JobEnds (Stream carrier form) (Err (BadInput (Blocks trouble))) input out net = StreamEnds carrier form stream_limit (Err (stream.BadInput trouble)) input out
-JobEnds (Stream carrier form) (Err Read) input out net = StreamEnds carrier form stream_limit (Err stream.Read) input out
-JobEnds (Stream carrier form) (Err Write) input out net = StreamEnds carrier form stream_limit (Err stream.Write) input out
-JobEnds (Stream carrier form) (Err OutOfMemory) input out net = StreamEnds carrier form stream_limit (Err stream.OutOfMemory) input out
+JobEnds (Stream carrier form) (Ok done) input out net =
+    StreamEnds carrier form stream_limit (Ok done) input out
+JobEnds (Stream carrier form) (Err (BadInput (Blocks trouble))) input out net =
+    StreamEnds carrier form stream_limit (Err (stream.BadInput trouble)) input out
+JobEnds (Stream carrier form) (Err (BadInput SequencesSpent)) input out net =
+    StreamEnds carrier form stream_limit (Err stream.SequencesSpent) input out
+JobEnds (Stream carrier form) (Err Read) input out net =
+    StreamEnds carrier form stream_limit (Err stream.Read) input out
+JobEnds (Stream carrier form) (Err Write) input out net =
+    StreamEnds carrier form stream_limit (Err stream.Write) input out
+JobEnds (Stream carrier form) (Err OutOfMemory) input out net =
+    StreamEnds carrier form stream_limit (Err stream.OutOfMemory) input out
 JobEnds (Stream carrier form) (Err _) input out net = ⊥
 JobEnds (Text form) result input out net = TextEnds form text_limit result input out
 JobEnds (Storm number units steps workers) result input out net = IsUntouched input × StormEnds number units steps result out
 JobEnds (Drill number units count) result input out net = IsUntouched input × DrillEnds number units count result out
 JobEnds (Demo number count) result input out net = IsUntouched input × DemoEnds number count result out net
-JobEnds (Venues form) result input out net = VenuesEnd form stream_limit result input out
 JobEnds Audit result input out net = AuditEnds stream_limit result input out
 
 -- whether a job uses the net

@@ -8,4 +8,3 @@ pub mod Reading
 pub mod Statuses
 pub mod StormForm
 pub mod TextForms
-pub mod VenueStreams

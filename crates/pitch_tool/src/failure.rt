@@ -4,7 +4,6 @@ use pitch_fields::OutOfMemory;
 use run_audit::{AuditFault, InputError};
 use schedule_replay::ReplayError;
 use stream_print::{PutFailed, StreamFailure, StreamTrouble};
-use venue_stream::VenueFailure;
 
 /// What is wrong with an input.
 #[derive(Clone, Copy, Debug, PartialEq, Eq)]
@@ -71,26 +70,10 @@ impl From<StreamFailure> for Failure {
     fn from(failure: StreamFailure) -> Failure {
         match failure {
             StreamFailure::BadInput(trouble) => Failure::BadInput(Trouble::Blocks(trouble)),
+            StreamFailure::SequencesSpent => Failure::BadInput(Trouble::SequencesSpent),
             StreamFailure::Read => Failure::Read,
             StreamFailure::Write => Failure::Write,
             StreamFailure::OutOfMemory => Failure::OutOfMemory,
-        }
-    }
-}
-
-impl From<VenueFailure> for Failure {
-    ghost use Rattle.std.specs.Prelude.{◌≡◌};
-    ghost use Rattle.pitch_tool.specs.VenueStreams.{of_venues};
-
-    ghost from_gives = { λ ended failure. failure ≡ of_venues ended };
-
-    fn from(failure: VenueFailure) -> Failure {
-        match failure {
-            VenueFailure::BadInput(trouble) => Failure::BadInput(Trouble::Blocks(trouble)),
-            VenueFailure::SequencesSpent => Failure::BadInput(Trouble::SequencesSpent),
-            VenueFailure::Read => Failure::Read,
-            VenueFailure::Write => Failure::Write,
-            VenueFailure::OutOfMemory => Failure::OutOfMemory,
         }
     }
 }

@@ -4,7 +4,6 @@ ghost use Rattle.pitch_tool.specs.Jobs.{job_of as the_job, CanDo};
 
 use pitch_words::Form;
 use stream_print::{Carrier, StreamForm};
-use venue_stream::VenueForm;
 
 /// What is made of a whole text.
 #[derive(Clone, Copy, Debug, PartialEq, Eq)]
@@ -41,10 +40,6 @@ pub enum Job {
     Demo {
         number: u64,
         count: u32,
-    },
-    /// A stream of blocks is read, and a text that rests on the venues is written as it comes.
-    Venues {
-        form: VenueForm,
     },
 }
 
@@ -83,12 +78,8 @@ pub fn job_of(form: Form) -> Job
             count,
         },
         Form::Demo { number, count } => Job::Demo { number, count },
-        Form::Relay { hold } => Job::Venues {
-            form: VenueForm::Relay { hold },
-        },
-        Form::Quotes { hold } => Job::Venues {
-            form: VenueForm::Quotes { hold },
-        },
+        Form::Relay { hold } => Job::Stream(Carrier::Bare, StreamForm::Relay { hold }),
+        Form::Quotes { hold } => Job::Stream(Carrier::Bare, StreamForm::Quotes { hold }),
         Form::Audit => Job::Audit,
     }
 }

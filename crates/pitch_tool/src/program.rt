@@ -24,7 +24,6 @@ use std::sync::Wait;
 use std::thread::Threads;
 use std::time::Clock;
 use stream_print::{StreamTrouble, print_stream, put_all};
-use venue_stream::write_stream;
 
 // Does a job.
 #[tactic(auto, using(crate::proofs::Storms::takes_none, crate::proofs::Storms::no_read_fault))]
@@ -66,10 +65,6 @@ fn do_job<R: Threads + Wait + Clock + Sync, I: Source, O: Sink, N: Net, G: Gate 
             count,
         } => print_drill(rt, alloc, number, units, count, out, gate),
         Job::Demo { number, count } => print_demo(alloc, number, count, out, net),
-        Job::Venues { form } => {
-            write_stream(alloc, form, input, out)?;
-            Ok(())
-        }
     }
 }
 

@@ -6,43 +6,67 @@ use Rattle.std.proofs.Math.Seq.{take-length, drop-length}
 use Rattle.std.proofs.lemmas.Bool.{lt-ltb, le-ltb}
 use Rattle.pitch_io.specs.Putting.{Grows}
 use Rattle.unit_packets.specs.Blocks.{Block}
-use Rattle.feed_lines.specs.Texts.{texts_after}
+use Rattle.pitch_model.specs.History.{Raw}
+use Rattle.feed_lines.specs.Follow.{lines_after, books_of}
+use Rattle.relay_unit.proofs.Bytes.{heard_within}
 use Rattle.stream_print.specs.Carriers.{carried_blocks, with_counts}
+use Rattle.stream_print.specs.Holding.{Suits}
 use Rattle.stream_print.specs.Told.{between}
 use Rattle.stream_print.specs.declared.carrier.Carrier.{Carrier}
 use Rattle.stream_print.specs.declared.stream_form.StreamForm.{StreamForm}
-use Rattle.stream_print.specs.declared.stream_form.StreamForm.TheVariants.{Follow, Show}
+use Rattle.stream_print.specs.declared.stream_form.StreamForm.TheVariants.{Follow, Show, Relay, Quotes}
 use Rattle.stream_print.specs.Feeding.{Fed}
-use Rattle.stream_print.specs.Inputs.{lasting_trouble, end_trouble, or_trouble, trouble_of, AreAll, WritesAll, Has, Refuses, WritesSome}
+use Rattle.stream_print.specs.Inputs.{lasting_trouble, end_trouble, or_trouble, trouble_of, AreAll, WritesAll, WritesTexts, Has, Refuses, WritesSome}
 use Rattle.stream_print.specs.Knowing.{HasPrinted}
-use Rattle.stream_print.specs.Page.{Prints}
-use Rattle.stream_print.specs.Printing.{PrintsPiece, FailsBlocks}
-use Rattle.stream_print.specs.Putting.{PutsSome}
+use Rattle.stream_print.specs.Page.{Prints, PrintsSuch}
+use Rattle.stream_print.specs.Printing.{PrintsPiece}
+use Rattle.stream_print.specs.Putting.{PutsSome, PutsSuch}
 use Rattle.stream_print.specs.Readers.{blocks_with}
-use Rattle.stream_print.specs.Texts.{block_text, texts_for, IsText, IsPrefixOfText, IsEnd, IsPrefixOfEnd}
+use Rattle.stream_print.specs.Texts.{AreVenuesOf, texts_by, AreTexts, BeginTexts, AreTextsAfter, BeginTextsAfter, Outruns, OutrunsAmong, IsText, IsPrefixOfText, IsEnd, IsPrefixOfEnd}
 use Rattle.stream_print.specs.declared.printer.Printer.{Printer}
 use Rattle.stream_print.specs.declared.reader.StreamReader.{StreamReader}
 use Rattle.stream_print.specs.declared.failure.StreamTrouble.{StreamTrouble}
 use Rattle.stream_print.specs.declared.failure.StreamTrouble.TheVariants.{TooLong}
 use Rattle.stream_print.proofs.Carriers.{blocks_split, blocks_longer, trouble_lasts, counts_behind}
-use Rattle.stream_print.proofs.Printing.{prints_more, prints_whole, puts_after, puts_longer, puts_then}
-use Rattle.stream_print.proofs.Streaming.{texts_append}
+use Rattle.stream_print.proofs.Printing.{prints_more, prints_whole, prints_written, puts_after, such_more, such_then}
+use Rattle.stream_print.proofs.Streaming.{texts_joined, begin_joined, begin_longer}
 
 -- ---- Texts of longer bytes
--- the texts of blocks that follow those of some bytes
-abbrev more_texts : Carrier → StreamForm → List ℕ → List Block → List ℕ
-more_texts carrier form bytes more = texts_after (block_text form) (reverse (carried_blocks carrier bytes)) more
+-- the blocks of a stream come after none
+from_start : (form : StreamForm) (blocks : List Block) (text : List ℕ) → AreTextsAfter form [] blocks text → AreTexts form blocks text
+from_start form blocks text are = λ Vs venues. are Vs (subst (AreVenuesOf form Vs) (sym (append-nil (reverse blocks))) venues)
 
-texts_then : (carrier : Carrier) (form : StreamForm) (bytes longer : List ℕ) (more : List Block) → carried_blocks carrier longer ≡ carried_blocks carrier bytes ++ more → texts_for carrier form longer ≡ texts_for carrier form bytes ++ more_texts carrier form bytes more
-texts_then carrier form bytes longer more are =
-    ap (texts_after (block_text form) []) are ∙ texts_append (block_text form) [] (carried_blocks carrier bytes) more
-    ∙ ap (λ (bs : List Block). texts_for carrier form bytes ++ texts_after (block_text form) bs more) (append-nil (reverse (carried_blocks carrier bytes)))
+to_start : (form : StreamForm) (blocks : List Block) (text : List ℕ) → AreTexts form blocks text → AreTextsAfter form [] blocks text
+to_start form blocks text are = λ Vs venues. are Vs (subst (AreVenuesOf form Vs) (append-nil (reverse blocks)) venues)
+
+begin_from : (form : StreamForm) (blocks : List Block) (text : List ℕ) → BeginTextsAfter form [] blocks text → BeginTexts form blocks text
+begin_from form blocks text first = λ Vs venues. first Vs (subst (AreVenuesOf form Vs) (sym (append-nil (reverse blocks))) venues)
+
+module _ (form : StreamForm) (xs ys all : List Block) (are : all ≡ xs ++ ys) where
+  texts_then : (t u : List ℕ) → AreTexts form xs t → AreTextsAfter form (reverse xs) ys u → AreTexts form all (t ++ u)
+  texts_then t u one other =
+      from_start form all (t ++ u) (texts_joined form [] xs ys all are t u (to_start form xs t one)
+      (subst (λ (bs : List Block). AreTextsAfter form bs ys u) (sym (append-nil (reverse xs))) other))
+
+  begin_then : (t u : List ℕ) → AreTexts form xs t → BeginTextsAfter form (reverse xs) ys u → BeginTexts form all (t ++ u)
+  begin_then t u one other =
+      begin_from form all (t ++ u) (begin_joined form [] xs ys all are t u (to_start form xs t one)
+      (subst (λ (bs : List Block). BeginTextsAfter form bs ys u) (sym (append-nil (reverse xs))) other))
+
+  begin_more : (t : List ℕ) → BeginTexts form xs t → BeginTexts form all t
+  begin_more t some =
+      begin_from form all t (begin_longer form [] xs ys all are t (λ Vs venues. some Vs (subst (AreVenuesOf form Vs) (append-nil (reverse xs)) venues)))
+
+-- the texts begin themselves
+texts_begin : (form : StreamForm) (blocks : List Block) (t : List ℕ) → AreTexts form blocks t → BeginTexts form blocks t
+texts_begin form blocks t are = λ Vs venues. ([], sym (are Vs venues) ∙ sym (append-nil t))
 
 -- some prefix of the texts of fewer bytes is some prefix of those of more
-pub puts_texts : (carrier : Carrier) (form : StreamForm) (a b : Option (List ℕ)) (bytes piece : List ℕ) → PutsSome a b (texts_for carrier form bytes) → PutsSome a b (texts_for carrier form (bytes ++ piece))
+pub puts_texts : (carrier : Carrier) (form : StreamForm) (a b : Option (List ℕ)) (bytes piece : List ℕ) → PutsSuch (BeginTexts form (carried_blocks carrier bytes)) a [] b
+    → PutsSuch (BeginTexts form (carried_blocks carrier (bytes ++ piece))) a [] b
 puts_texts carrier form a b bytes piece p =
     let longer = blocks_longer carrier bytes piece in
-    subst (PutsSome a b) (sym (texts_then carrier form bytes (bytes ++ piece) longer.0 longer.1)) (puts_longer a b (texts_for carrier form bytes) (more_texts carrier form bytes longer.0) p)
+    record { text = p.text; puts = p.puts; such = begin_more form (carried_blocks carrier bytes) longer.0 (carried_blocks carrier (bytes ++ piece)) longer.1 p.text p.such }
 
 -- what was printed, once the page is written out
 pub prints_out : (a b c : Option (List ℕ)) (t x : List ℕ) → Prints a [] b t x → Grows b c t → Grows a c x
@@ -53,27 +77,23 @@ prints_out a b c t x p g = prints_whole a c [] x (subst (Prints a [] c []) (appe
   rest = sym (ap (drop (length t)) (append-nil t) ∙ drop-length t);
 })))
 
--- what was written leaves nothing on an empty page
-prints_written : (a b : Option (List ℕ)) (x : List ℕ) → Grows a b x → Prints a [] b [] x
-prints_written a b x g = record {
-  count = length x;
-  within = omega arith;
-  written = subst (Grows a b) (sym (take-length x)) g;
-  rest = sym (drop-length x);
-}
-
 -- all that was printed was written, since nothing stands on the page
-pub fed_printed : (carrier : Carrier) (form : StreamForm) (start u : Option (List ℕ)) (f : Printer) (r : StreamReader) (bytes : List ℕ) → Fed carrier form start u f r bytes → Prints start [] u f.page.text (texts_for carrier form bytes)
-fed_printed carrier form start u f r bytes fed = subst (λ (t : List ℕ). Prints start [] u t (texts_for carrier form bytes)) (sym fed.empty) (prints_written start u (texts_for carrier form bytes) fed.wrote)
+pub fed_printed : (carrier : Carrier) (form : StreamForm) (start u : Option (List ℕ)) (f : Printer) (r : StreamReader) (bytes : List ℕ) → (fed : Fed carrier form start u f r bytes) → Prints start [] u f.page.text fed.wrote.text
+fed_printed carrier form start u f r bytes fed = subst (λ (t : List ℕ). Prints start [] u t fed.wrote.text) (sym fed.empty) (prints_written start u fed.wrote.text fed.wrote.wrote)
+
+fed_texts : (carrier : Carrier) (form : StreamForm) (start u : Option (List ℕ)) (f : Printer) (r : StreamReader) (bytes : List ℕ) → Fed carrier form start u f r bytes → PrintsSuch (AreTexts form (carried_blocks carrier bytes)) start [] u f.page.text
+fed_texts carrier form start u f r bytes fed = record { text = fed.wrote.text; printed = fed_printed carrier form start u f r bytes fed; such = fed.wrote.are_texts }
 
 -- the texts of the blocks that a piece more completes
 printed_more : (carrier : Carrier) (form : StreamForm) (start u v : Option (List ℕ)) (f g : Printer) (r s : StreamReader) (bytes piece : List ℕ) → Fed carrier form start u f r bytes → PrintsPiece f g r s piece u v
-    → Prints start [] v g.page.text (texts_for carrier form (bytes ++ piece))
+    → PrintsSuch (AreTexts form (carried_blocks carrier (bytes ++ piece))) start [] v g.page.text
 printed_more carrier form start u v f g r s bytes piece fed all =
+    let xs : List Block = carried_blocks carrier bytes in
     let more : List Block = blocks_with r piece in
-    subst (Prints start [] v g.page.text) (sym (texts_then carrier form bytes (bytes ++ piece) more (blocks_split carrier r bytes piece fed.read)))
-    (prints_more start u v [] f.page.text g.page.text (texts_for carrier form bytes) (more_texts carrier form bytes more) (fed_printed carrier form start u f r bytes fed)
-    (subst (λ (k : StreamForm). Prints u f.page.text v g.page.text (texts_after (block_text k) (reverse (carried_blocks carrier bytes)) more)) fed.form_is (all.prints.printed (reverse (carried_blocks carrier bytes)) fed.known)))
+    let whole : List Block = carried_blocks carrier (bytes ++ piece) in
+    such_more (AreTexts form xs) (AreTextsAfter form (reverse xs) more) (AreTexts form whole) (texts_then form xs more whole (blocks_split carrier r bytes piece fed.read))
+    start u v [] f.page.text g.page.text (fed_texts carrier form start u f r bytes fed)
+    (subst (λ (k : StreamForm). PrintsSuch (AreTextsAfter k (reverse xs) more) u f.page.text v g.page.text) fed.form_is (all.prints.printed (reverse xs) fed.known))
 
 -- a piece more, after which the page was written out
 pub fed_piece : (carrier : Carrier) (form : StreamForm) (start u v w : Option (List ℕ)) (f g h : Printer) (r s : StreamReader) (bytes piece : List ℕ) → Fed carrier form start u f r bytes
@@ -86,30 +106,56 @@ fed_piece carrier form start u v w f g h r s bytes piece fed all grows emptied =
     let split : reverse (carried_blocks carrier (bytes ++ piece)) ≡ reverse more ++ reverse (carried_blocks carrier bytes) =
     ap reverse (blocks_split carrier r bytes piece fed.read) ∙ reverse-append (carried_blocks carrier bytes) more in
     let known : HasPrinted g (reverse (carried_blocks carrier (bytes ++ piece))) = subst (HasPrinted g) (sym split) (all.prints.known (reverse (carried_blocks carrier bytes)) fed.known) in
+    let printed = printed_more carrier form start u v f g r s bytes piece fed all in
     subst (λ (p : Printer). Fed carrier form start w p s (bytes ++ piece)) (sym emptied) (record {
+      suits = fed.suits;
       form_is = all.prints.form_is ∙ fed.form_is;
       read = all.read carrier bytes fed.read;
       known = record { number_is = known.number_is; knows = known.knows };
       empty = refl;
-      wrote = prints_out start v w g.page.text (texts_for carrier form (bytes ++ piece)) (printed_more carrier form start u v f g r s bytes piece fed all) grows;
+      wrote = record { text = printed.text; wrote = prints_out start v w g.page.text printed.text printed.printed grows; are_texts = printed.such };
       few = omega (arith, few, few', joined);
     })
 
 -- a sink that fails when the page is written out after a piece
 pub fed_unflushed : (carrier : Carrier) (form : StreamForm) (start u v w : Option (List ℕ)) (f g : Printer) (r s : StreamReader) (bytes piece : List ℕ) → Fed carrier form start u f r bytes → PrintsPiece f g r s piece u v
-    → PutsSome v w g.page.text → PutsSome start w (texts_for carrier form (bytes ++ piece))
+    → PutsSome v w g.page.text → PutsSuch (BeginTexts form (carried_blocks carrier (bytes ++ piece))) start [] w
 fed_unflushed carrier form start u v w f g r s bytes piece fed all puts =
-    puts_after start v w [] g.page.text (texts_for carrier form (bytes ++ piece)) (printed_more carrier form start u v f g r s bytes piece fed all) puts
+    let printed = printed_more carrier form start u v f g r s bytes piece fed all in
+    record {
+      text = printed.text;
+      puts = puts_after start v w [] g.page.text printed.text printed.printed puts;
+      such = texts_begin form (carried_blocks carrier (bytes ++ piece)) printed.text printed.such;
+    }
 
 -- a sink that fails at a piece
 pub fed_fails : (carrier : Carrier) (form : StreamForm) (start u v : Option (List ℕ)) (f : Printer) (r : StreamReader) (bytes piece : List ℕ) → Fed carrier form start u f r bytes
-    → FailsBlocks f u v (blocks_with r piece) → PutsSome start v (texts_for carrier form (bytes ++ piece))
+    → PutsSuch (BeginTextsAfter form (reverse (carried_blocks carrier bytes)) (blocks_with r piece)) u f.page.text v → PutsSuch (BeginTexts form (carried_blocks carrier (bytes ++ piece))) start [] v
 fed_fails carrier form start u v f r bytes piece fed fails =
+    let xs : List Block = carried_blocks carrier bytes in
     let more : List Block = blocks_with r piece in
-    let here : PutsSome u v (f.page.text ++ more_texts carrier form bytes more) =
-    subst (λ (k : StreamForm). PutsSome u v (f.page.text ++ texts_after (block_text k) (reverse (carried_blocks carrier bytes)) more)) fed.form_is (fails (reverse (carried_blocks carrier bytes)) fed.known) in
-    subst (PutsSome start v) (sym (texts_then carrier form bytes (bytes ++ piece) more (blocks_split carrier r bytes piece fed.read)))
-    (puts_then start u v [] f.page.text (texts_for carrier form bytes) (more_texts carrier form bytes more) (fed_printed carrier form start u f r bytes fed) here)
+    let whole : List Block = carried_blocks carrier (bytes ++ piece) in
+    such_then (AreTexts form xs) (BeginTextsAfter form (reverse xs) more) (BeginTexts form whole) (begin_then form xs more whole (blocks_split carrier r bytes piece fed.read))
+    start u v [] f.page.text (fed_texts carrier form start u f r bytes fed) fails
+
+-- ---- The sequences are never spent
+never_outruns : (carrier : Carrier) (form : StreamForm) (bytes : List ℕ) (done left : List Block) (block : Block) → Suits carrier form → length bytes ≤ 1073741824 → carried_blocks carrier bytes ≡ done ++ (block ∷ left)
+    → Outruns form (reverse done) block → ⊥
+never_outruns carrier (Follow hold) bytes done left block suits small are spent = spent
+never_outruns carrier Show bytes done left block suits small are spent = spent
+never_outruns carrier (Relay hold) bytes done left block bare small are spent =
+    let few = heard_within block.unit bytes done left block (ap (λ (k : Carrier). carried_blocks k bytes) (sym bare) ∙ are) in
+    absurd (omega (arith, few, small, spent))
+never_outruns carrier (Quotes hold) bytes done left block suits small are spent = spent
+
+-- within the limit no block outruns the last sequence
+pub never_spent : (carrier : Carrier) (form : StreamForm) (start u : Option (List ℕ)) (f : Printer) (r : StreamReader) (bytes piece : List ℕ) → Fed carrier form start u f r bytes → length (bytes ++ piece) ≤ 1073741824
+    → OutrunsAmong form (reverse (carried_blocks carrier bytes)) (blocks_with r piece) → ⊥
+never_spent carrier form start u f r bytes piece fed small o =
+    let xs : List Block = carried_blocks carrier bytes in
+    never_outruns carrier form (bytes ++ piece) (xs ++ o.done) o.left o.block fed.suits small
+    (blocks_split carrier r bytes piece fed.read ∙ ap (λ (bs : List Block). xs ++ bs) o.blocks_are ∙ sym (append_assoc xs o.done (o.block ∷ o.left)))
+    (subst (λ (bs : List Block). Outruns form bs o.block) (sym (reverse-append xs o.done)) o.outruns)
 
 -- ---- How it ends
 pub take_prefix : (most : ℕ) (bytes more : List ℕ) → length bytes ≤ most → take most (bytes ++ more) ≡ bytes ++ take (most - length bytes) more
@@ -170,7 +216,7 @@ has_all (Some all) (Some left) (Some now) bytes read end =
 
 -- a trouble that lasts, wherever the input ends
 pub refuses_lasting : (carrier : Carrier) (form : StreamForm) (most : ℕ) (first now start written : Option (List ℕ)) (bytes extra : List ℕ) (trouble : StreamTrouble) → length bytes ≤ most → Consumes first now (bytes ++ extra)
-    → lasting_trouble carrier bytes ≡ Some trouble → Grows start written (texts_for carrier form bytes) → Refuses carrier form most trouble (between first now) (between start written)
+    → lasting_trouble carrier bytes ≡ Some trouble → WritesTexts form (between start written) (carried_blocks carrier bytes) → Refuses carrier form most trouble (between first now) (between start written)
 refuses_lasting carrier form most first now start written bytes extra trouble le read is wrote =
     let more = has_more first now (bytes ++ extra) read in
     let lasts = lasts_trouble carrier most bytes (extra ++ more.0) trouble le is in
@@ -178,107 +224,127 @@ refuses_lasting carrier form most first now start written bytes extra trouble le
       bytes = bytes ++ (extra ++ more.0);
       has = subst (Has first) (append_assoc bytes extra more.0) more.1;
       trouble_is = lasts.0;
-      wrote = subst (λ (bs : List Block). Grows start written (texts_after (block_text form) [] bs)) (sym lasts.1) wrote;
+      wrote = subst (WritesTexts form (between start written)) (sym lasts.1) wrote;
     }
 
 pub refuses_long : (carrier : Carrier) (form : StreamForm) (most : ℕ) (first now start written : Option (List ℕ)) (bytes extra : List ℕ) → length bytes ≡ most → 0 < length extra → Consumes first now (bytes ++ extra)
-    → lasting_trouble carrier bytes ≡ None → Grows start written (texts_for carrier form bytes) → Refuses carrier form most TooLong (between first now) (between start written)
+    → lasting_trouble carrier bytes ≡ None → WritesTexts form (between start written) (carried_blocks carrier bytes) → Refuses carrier form most TooLong (between first now) (between start written)
 refuses_long carrier form most first now start written bytes extra size some read none wrote =
     let more = has_more first now (bytes ++ extra) read in
     record {
       bytes = bytes ++ (extra ++ more.0);
       has = subst (Has first) (append_assoc bytes extra more.0) more.1;
       trouble_is = long_trouble carrier most bytes (extra ++ more.0) size (omega (arith, length-append extra more.0, some)) none;
-      wrote = subst (λ (bs : List ℕ). Grows start written (texts_for carrier form bs)) (sym (take_at bytes (extra ++ more.0) most size)) wrote;
+      wrote = subst (λ (bs : List ℕ). WritesTexts form (between start written) (carried_blocks carrier bs)) (sym (take_at bytes (extra ++ more.0) most size)) wrote;
     }
 
 -- the input ended inside a block or a packet
 pub refuses_end : (carrier : Carrier) (form : StreamForm) (most : ℕ) (first before now start written : Option (List ℕ)) (bytes : List ℕ) (trouble : StreamTrouble) → length bytes ≤ most → Consumes first before bytes → IsAtEnd before × Keeps before now
-    → lasting_trouble carrier bytes ≡ None → end_trouble carrier bytes ≡ Some trouble → Grows start written (texts_for carrier form bytes) → Refuses carrier form most trouble (between first now) (between start written)
+    → lasting_trouble carrier bytes ≡ None → end_trouble carrier bytes ≡ Some trouble → WritesTexts form (between start written) (carried_blocks carrier bytes) → Refuses carrier form most trouble (between first now) (between start written)
 refuses_end carrier form most first before now start written bytes trouble le read end none is wrote = record {
   bytes = bytes;
   has = (has_all first before now bytes read end).0;
   trouble_is = ended carrier most bytes le none ∙ is;
-  wrote = subst (λ (bs : List ℕ). Grows start written (texts_for carrier form bs)) (sym (take_all most bytes le)) wrote;
+  wrote = subst (λ (bs : List ℕ). WritesTexts form (between start written) (carried_blocks carrier bs)) (sym (take_all most bytes le)) wrote;
 }
 
 -- ---- The whole text
-is_text : (carrier : Carrier) (form : StreamForm) (bytes end : List ℕ) → IsEnd form (reverse (carried_blocks carrier bytes)) end → IsText carrier form bytes (with_counts carrier bytes (texts_for carrier form bytes ++ end))
-is_text carrier (Follow hold) bytes end is = record {
-  lines = (end, refl);
-  honest = λ Image Vs honest. ap (λ (t : List ℕ). with_counts carrier bytes (texts_for carrier (Follow hold) bytes ++ t)) (is Image Vs honest);
+-- the texts of the blocks, and nothing at the end
+no_end : (texts end : List ℕ) → ◌≡◌ {A = List ℕ} end [] → texts ++ end ≡ texts
+no_end texts end is = ap (λ (t : List ℕ). texts ++ t) is ∙ append-nil texts
+
+-- a family of venues without messages
+no_venues : ℕ → List Raw
+no_venues unit = []
+
+is_text : (carrier : Carrier) (form : StreamForm) (bytes texts end : List ℕ) → AreTexts form (carried_blocks carrier bytes) texts → IsEnd form (reverse (carried_blocks carrier bytes)) end → IsText carrier form bytes (with_counts carrier bytes (texts ++ end))
+is_text carrier (Follow hold) bytes texts end are is = record {
+  lines = (end, ap (λ (t : List ℕ). with_counts carrier bytes (t ++ end)) (are no_venues tt));
+  honest = λ Image Vs honest. ap (with_counts carrier bytes) (ap (λ (t : List ℕ). t ++ end) (are Vs tt) ∙ ap (λ (t : List ℕ). lines_after hold [] (carried_blocks carrier bytes) ++ t) (is Image Vs honest));
 }
-is_text carrier Show bytes end is = ap (with_counts carrier bytes) (ap (λ (t : List ℕ). texts_for carrier Show bytes ++ t) is ∙ append-nil (texts_for carrier Show bytes))
+is_text carrier Show bytes texts end are is = ap (with_counts carrier bytes) (no_end texts end is ∙ are no_venues tt)
+is_text carrier (Relay hold) bytes texts end are is = λ Vs venues. ap (with_counts carrier bytes) (no_end texts end is ∙ are Vs venues)
+is_text carrier (Quotes hold) bytes texts end are is = λ Vs venues. ap (with_counts carrier bytes) (no_end texts end is ∙ are Vs venues)
 
 -- a prefix of what is printed at the end
-is_prefix : (carrier : Carrier) (form : StreamForm) (bytes end : List ℕ) → IsPrefixOfEnd form (reverse (carried_blocks carrier bytes)) end → IsPrefixOfText carrier form bytes (texts_for carrier form bytes ++ end)
-is_prefix carrier (Follow hold) bytes end are = record {
-  lines = (end, refl);
+begins_with : (carrier : Carrier) (bytes texts end whole : List ℕ) → ◌≡◌ {A = List ℕ} end [] → texts ≡ whole → (more : List ℕ) × (with_counts carrier bytes whole ≡ (texts ++ end) ++ more)
+begins_with carrier bytes texts end whole none is =
+    let behind = counts_behind carrier bytes texts in
+    (behind.0, ap (with_counts carrier bytes) (sym is) ∙ behind.1 ∙ ap (λ (t : List ℕ). t ++ behind.0) (sym (no_end texts end none)))
+
+is_prefix : (carrier : Carrier) (form : StreamForm) (bytes texts end : List ℕ) → AreTexts form (carried_blocks carrier bytes) texts → IsPrefixOfEnd form (reverse (carried_blocks carrier bytes)) end → IsPrefixOfText carrier form bytes (texts ++ end)
+is_prefix carrier (Follow hold) bytes texts end are first = record {
+  lines = (end, ap (λ (t : List ℕ). t ++ end) (are no_venues tt));
   honest = λ Image Vs honest.
-      let here = are Image Vs honest in
-      let texts : List ℕ = texts_for carrier (Follow hold) bytes in
+      let here = first Image Vs honest in
       let behind = counts_behind carrier bytes ((texts ++ end) ++ here.0) in (
         here.0 ++ behind.0,
-        ap (with_counts carrier bytes) (ap (λ (t : List ℕ). texts ++ t) here.1 ∙ sym (append_assoc texts end here.0)) ∙ behind.1 ∙ append_assoc (texts ++ end) here.0 behind.0,
+        ap (with_counts carrier bytes) (ap (λ (t : List ℕ). t ++ books_of hold Vs (reverse (carried_blocks carrier bytes))) (sym (are Vs tt)) ∙ ap (λ (t : List ℕ). texts ++ t) here.1 ∙ sym (append_assoc texts end here.0))
+            ∙ behind.1 ∙ append_assoc (texts ++ end) here.0 behind.0,
       );
 }
-is_prefix carrier Show bytes end is =
-    let texts : List ℕ = texts_for carrier Show bytes in
-    let behind = counts_behind carrier bytes texts in
-    (behind.0, behind.1 ∙ ap (λ (t : List ℕ). t ++ behind.0) (sym (ap (λ (t : List ℕ). texts ++ t) is ∙ append-nil texts)))
+is_prefix carrier Show bytes texts end are is = begins_with carrier bytes texts end (texts_by Show no_venues [] (carried_blocks carrier bytes)) is (are no_venues tt)
+is_prefix carrier (Relay hold) bytes texts end are is = λ Vs venues. begins_with carrier bytes texts end (texts_by (Relay hold) Vs [] (carried_blocks carrier bytes)) is (are Vs venues)
+is_prefix carrier (Quotes hold) bytes texts end are is = λ Vs venues. begins_with carrier bytes texts end (texts_by (Quotes hold) Vs [] (carried_blocks carrier bytes)) is (are Vs venues)
 
 -- the whole is a prefix of itself
-is_all : (carrier : Carrier) (form : StreamForm) (bytes end counts : List ℕ) → IsEnd form (reverse (carried_blocks carrier bytes)) end
-    → with_counts carrier bytes (texts_for carrier form bytes ++ end) ≡ (texts_for carrier form bytes ++ end) ++ counts → IsPrefixOfText carrier form bytes ((texts_for carrier form bytes ++ end) ++ counts)
-is_all carrier (Follow hold) bytes end counts is whole = record {
-  lines = (end ++ counts, append_assoc (texts_for carrier (Follow hold) bytes) end counts);
+is_whole : (carrier : Carrier) (bytes texts end counts whole : List ℕ) → ◌≡◌ {A = List ℕ} end [] → texts ≡ whole → with_counts carrier bytes (texts ++ end) ≡ (texts ++ end) ++ counts
+    → (more : List ℕ) × (with_counts carrier bytes whole ≡ ((texts ++ end) ++ counts) ++ more)
+is_whole carrier bytes texts end counts whole none is all = ([], ap (with_counts carrier bytes) (sym (no_end texts end none ∙ is)) ∙ all ∙ sym (append-nil ((texts ++ end) ++ counts)))
+
+is_all : (carrier : Carrier) (form : StreamForm) (bytes texts end counts : List ℕ) → AreTexts form (carried_blocks carrier bytes) texts → IsEnd form (reverse (carried_blocks carrier bytes)) end
+    → with_counts carrier bytes (texts ++ end) ≡ (texts ++ end) ++ counts → IsPrefixOfText carrier form bytes ((texts ++ end) ++ counts)
+is_all carrier (Follow hold) bytes texts end counts are is whole = record {
+  lines = (end ++ counts, append_assoc texts end counts ∙ ap (λ (t : List ℕ). t ++ (end ++ counts)) (are no_venues tt));
   honest = λ Image Vs honest. (
     [],
-    ap (λ (t : List ℕ). with_counts carrier bytes (texts_for carrier (Follow hold) bytes ++ t)) (sym (is Image Vs honest)) ∙ whole ∙ sym (append-nil ((texts_for carrier (Follow hold) bytes ++ end) ++ counts)),
+    ap (with_counts carrier bytes) (ap (λ (t : List ℕ). t ++ books_of hold Vs (reverse (carried_blocks carrier bytes))) (sym (are Vs tt)) ∙ ap (λ (t : List ℕ). texts ++ t) (sym (is Image Vs honest)))
+        ∙ whole ∙ sym (append-nil ((texts ++ end) ++ counts)),
   );
 }
-is_all carrier Show bytes end counts is whole =
-    let texts : List ℕ = texts_for carrier Show bytes in
-    ([], ap (with_counts carrier bytes) (sym (ap (λ (t : List ℕ). texts ++ t) is ∙ append-nil texts)) ∙ whole ∙ sym (append-nil ((texts ++ end) ++ counts)))
+is_all carrier Show bytes texts end counts are is whole = is_whole carrier bytes texts end counts (texts_by Show no_venues [] (carried_blocks carrier bytes)) is (are no_venues tt) whole
+is_all carrier (Relay hold) bytes texts end counts are is whole = λ Vs venues. is_whole carrier bytes texts end counts (texts_by (Relay hold) Vs [] (carried_blocks carrier bytes)) is (are Vs venues) whole
+is_all carrier (Quotes hold) bytes texts end counts are is whole = λ Vs venues. is_whole carrier bytes texts end counts (texts_by (Quotes hold) Vs [] (carried_blocks carrier bytes)) is (are Vs venues) whole
 
 -- all was written
-pub writes_whole : (carrier : Carrier) (form : StreamForm) (most : ℕ) (first before now start written : Option (List ℕ)) (bytes end counts : List ℕ) → length bytes ≤ most → Consumes first before bytes → IsAtEnd before × Keeps before now
-    → lasting_trouble carrier bytes ≡ None → end_trouble carrier bytes ≡ None → IsEnd form (reverse (carried_blocks carrier bytes)) end
-    → with_counts carrier bytes (texts_for carrier form bytes ++ end) ≡ (texts_for carrier form bytes ++ end) ++ counts
-    → Grows start written ((texts_for carrier form bytes ++ end) ++ counts) → WritesAll carrier form most (between first now) (between start written)
-writes_whole carrier form most first before now start written bytes end counts le read ends none sound is whole wrote = record {
+pub writes_whole : (carrier : Carrier) (form : StreamForm) (most : ℕ) (first before now start written : Option (List ℕ)) (bytes texts end counts : List ℕ) → length bytes ≤ most → Consumes first before bytes → IsAtEnd before × Keeps before now
+    → lasting_trouble carrier bytes ≡ None → end_trouble carrier bytes ≡ None → AreTexts form (carried_blocks carrier bytes) texts → IsEnd form (reverse (carried_blocks carrier bytes)) end
+    → with_counts carrier bytes (texts ++ end) ≡ (texts ++ end) ++ counts
+    → Grows start written ((texts ++ end) ++ counts) → WritesAll carrier form most (between first now) (between start written)
+writes_whole carrier form most first before now start written bytes texts end counts le read ends none sound are is whole wrote = record {
   bytes = bytes;
   read = (has_all first before now bytes read ends).1;
   sound = ended carrier most bytes le none ∙ sound;
-  text = with_counts carrier bytes (texts_for carrier form bytes ++ end);
-  is_text = is_text carrier form bytes end is;
+  text = with_counts carrier bytes (texts ++ end);
+  is_text = is_text carrier form bytes texts end are is;
   wrote = subst (Grows start written) (sym whole) wrote;
 }
 
 -- a prefix of the texts was written
-pub writes_texts : (carrier : Carrier) (form : StreamForm) (first now start written : Option (List ℕ)) (bytes : List ℕ) → Consumes first now bytes → PutsSome start written (texts_for carrier form bytes) → WritesSome carrier form (between first now) (between start written)
-writes_texts carrier form first now start written bytes read puts = record { bytes = bytes; read = read; text = texts_for carrier form bytes; wrote = puts; is_prefix = inl refl }
+pub writes_texts : (carrier : Carrier) (form : StreamForm) (first now start written : Option (List ℕ)) (bytes : List ℕ) → Consumes first now bytes → PutsSuch (BeginTexts form (carried_blocks carrier bytes)) start [] written
+    → WritesSome carrier form (between first now) (between start written)
+writes_texts carrier form first now start written bytes read some = record { bytes = bytes; read = read; text = some.text; wrote = some.puts; is_prefix = inl some.such }
 
 -- a prefix of the whole text was written
-pub writes_prefix : (carrier : Carrier) (form : StreamForm) (first before now start written : Option (List ℕ)) (bytes end : List ℕ) → Consumes first now bytes → Consumes first before bytes → IsAtEnd before × Keeps before now
-    → IsPrefixOfEnd form (reverse (carried_blocks carrier bytes)) end → PutsSome start written (texts_for carrier form bytes ++ end) → WritesSome carrier form (between first now) (between start written)
-writes_prefix carrier form first before now start written bytes end read so_far ends are puts = record {
+pub writes_prefix : (carrier : Carrier) (form : StreamForm) (first before now start written : Option (List ℕ)) (bytes texts end : List ℕ) → Consumes first now bytes → Consumes first before bytes → IsAtEnd before × Keeps before now
+    → AreTexts form (carried_blocks carrier bytes) texts → IsPrefixOfEnd form (reverse (carried_blocks carrier bytes)) end → PutsSome start written (texts ++ end) → WritesSome carrier form (between first now) (between start written)
+writes_prefix carrier form first before now start written bytes texts end read so_far ends are first_of puts = record {
   bytes = bytes;
   read = read;
-  text = texts_for carrier form bytes ++ end;
+  text = texts ++ end;
   wrote = puts;
-  is_prefix = inr ((has_all first before now bytes so_far ends).1, is_prefix carrier form bytes end are);
+  is_prefix = inr ((has_all first before now bytes so_far ends).1, is_prefix carrier form bytes texts end are first_of);
 }
 
-pub writes_counts : (carrier : Carrier) (form : StreamForm) (first before now start written : Option (List ℕ)) (bytes end counts : List ℕ) → Consumes first now bytes → Consumes first before bytes → IsAtEnd before × Keeps before now
-    → IsEnd form (reverse (carried_blocks carrier bytes)) end → with_counts carrier bytes (texts_for carrier form bytes ++ end) ≡ (texts_for carrier form bytes ++ end) ++ counts
-    → PutsSome start written ((texts_for carrier form bytes ++ end) ++ counts) → WritesSome carrier form (between first now) (between start written)
-writes_counts carrier form first before now start written bytes end counts read so_far ends is whole puts = record {
+pub writes_counts : (carrier : Carrier) (form : StreamForm) (first before now start written : Option (List ℕ)) (bytes texts end counts : List ℕ) → Consumes first now bytes → Consumes first before bytes → IsAtEnd before × Keeps before now
+    → AreTexts form (carried_blocks carrier bytes) texts → IsEnd form (reverse (carried_blocks carrier bytes)) end → with_counts carrier bytes (texts ++ end) ≡ (texts ++ end) ++ counts
+    → PutsSome start written ((texts ++ end) ++ counts) → WritesSome carrier form (between first now) (between start written)
+writes_counts carrier form first before now start written bytes texts end counts read so_far ends are is whole puts = record {
   bytes = bytes;
   read = read;
-  text = (texts_for carrier form bytes ++ end) ++ counts;
+  text = (texts ++ end) ++ counts;
   wrote = puts;
-  is_prefix = inr ((has_all first before now bytes so_far ends).1, is_all carrier form bytes end counts is whole);
+  is_prefix = inr ((has_all first before now bytes so_far ends).1, is_all carrier form bytes texts end counts are is whole);
 }
 
 -- what was kept of the bytes taken

@@ -12,7 +12,7 @@ use Rattle.stream_print.specs.Inputs.{lasting_trouble, end_trouble, StreamEnds, 
 use Rattle.stream_print.specs.Page.{PrintsSuch, Prints}
 use Rattle.stream_print.specs.Putting.{PutsSuch, PutsSome}
 use Rattle.stream_print.specs.Readers.{packets_text}
-use Rattle.stream_print.specs.Texts.{texts_for, IsEnd, IsPrefixOfEnd}
+use Rattle.stream_print.specs.Texts.{IsEnd, IsPrefixOfEnd}
 use Rattle.stream_print.specs.declared.printer.Printer.{Printer}
 use Rattle.stream_print.specs.declared.reader.StreamReader.{StreamReader}
 use Rattle.stream_print.specs.declared.failure.StreamFailure.{StreamFailure}
@@ -21,17 +21,17 @@ use Rattle.stream_print.proofs.Feeding.{fed_printed, prints_out, writes_whole, w
 use Rattle.stream_print.proofs.Printing.{prints_more, puts_after, puts_then}
 
 -- the end was printed behind the texts of the blocks
-end_printed : (carrier : Carrier) (form : StreamForm) (p : Printer) (start u v : Option (List ℕ)) (t : List ℕ) (r : StreamReader) (bytes : List ℕ) → Fed carrier form start u p r bytes
-    → (q : PrintsSuch (IsEnd form (reverse (carried_blocks carrier bytes))) u p.page.text v t) → Prints start [] v t (texts_for carrier form bytes ++ q.text)
-end_printed carrier form p start u v t r bytes fed q = prints_more start u v [] p.page.text t (texts_for carrier form bytes) q.text (fed_printed carrier form start u p r bytes fed) q.printed
+end_printed : (carrier : Carrier) (form : StreamForm) (p : Printer) (start u v : Option (List ℕ)) (t : List ℕ) (r : StreamReader) (bytes : List ℕ) → (fed : Fed carrier form start u p r bytes)
+    → (q : PrintsSuch (IsEnd form (reverse (carried_blocks carrier bytes))) u p.page.text v t) → Prints start [] v t (fed.wrote.text ++ q.text)
+end_printed carrier form p start u v t r bytes fed q = prints_more start u v [] p.page.text t fed.wrote.text q.text (fed_printed carrier form start u p r bytes fed) q.printed
 
 -- all was written
 pub ends_whole : (carrier : Carrier) (form : StreamForm) (most : ℕ) (first before now start u v w x : Option (List ℕ)) (p : Printer) (t t' : List ℕ) (r : StreamReader) (bytes : List ℕ) → length bytes ≤ most → most ≤ 1073741824
     → Fed carrier form start u p r bytes → lasting_trouble carrier bytes ≡ None → end_trouble carrier bytes ≡ None → Consumes first before bytes → IsAtEnd before × Keeps before now
     → PrintsSuch (IsEnd form (reverse (carried_blocks carrier bytes))) u p.page.text v t → Prints v t w t' (packets_text r) → Grows w x t' → WritesAll carrier form most (between first now) (between start x)
 ends_whole carrier form most first before now start u v w x p t t' r bytes small few fed none sound read end q counts wrote =
-    let texts : List ℕ = texts_for carrier form bytes ++ q.text in
-    writes_whole carrier form most first before now start x bytes q.text (packets_text r) small read end none sound q.such (counts_are carrier r bytes texts (omega (arith, small, few)) fed.read)
+    let texts : List ℕ = fed.wrote.text ++ q.text in
+    writes_whole carrier form most first before now start x bytes fed.wrote.text q.text (packets_text r) small read end none sound fed.wrote.are_texts q.such (counts_are carrier r bytes texts (omega (arith, small, few)) fed.read)
     (prints_out start w x t' (texts ++ packets_text r) (prints_more start v w [] t t' texts (packets_text r) (end_printed carrier form p start u v t r bytes fed q) counts) wrote)
 
 -- the sink failed at the last page
@@ -39,8 +39,8 @@ pub ends_unflushed : (carrier : Carrier) (form : StreamForm) (first before now s
     → Fed carrier form start u p r bytes → Consumes first now bytes → Consumes first before bytes → IsAtEnd before × Keeps before now
     → PrintsSuch (IsEnd form (reverse (carried_blocks carrier bytes))) u p.page.text v t → Prints v t w t' (packets_text r) → PutsSome w x t' → WritesSome carrier form (between first now) (between start x)
 ends_unflushed carrier form first before now start u v w x p t t' r bytes small fed all read end q counts puts =
-    let texts : List ℕ = texts_for carrier form bytes ++ q.text in
-    writes_counts carrier form first before now start x bytes q.text (packets_text r) all read end q.such (counts_are carrier r bytes texts small fed.read)
+    let texts : List ℕ = fed.wrote.text ++ q.text in
+    writes_counts carrier form first before now start x bytes fed.wrote.text q.text (packets_text r) all read end fed.wrote.are_texts q.such (counts_are carrier r bytes texts small fed.read)
     (puts_after start w x [] t' (texts ++ packets_text r) (prints_more start v w [] t t' texts (packets_text r) (end_printed carrier form p start u v t r bytes fed q) counts) puts)
 
 -- the sink failed at the line of the packets
@@ -48,8 +48,8 @@ pub ends_uncounted : (carrier : Carrier) (form : StreamForm) (first before now s
     → Fed carrier form start u p r bytes → Consumes first now bytes → Consumes first before bytes → IsAtEnd before × Keeps before now
     → PrintsSuch (IsEnd form (reverse (carried_blocks carrier bytes))) u p.page.text v t → PutsSome v w (t ++ packets_text r) → WritesSome carrier form (between first now) (between start w)
 ends_uncounted carrier form first before now start u v w p t r bytes small fed all read end q puts =
-    let texts : List ℕ = texts_for carrier form bytes ++ q.text in
-    writes_counts carrier form first before now start w bytes q.text (packets_text r) all read end q.such (counts_are carrier r bytes texts small fed.read)
+    let texts : List ℕ = fed.wrote.text ++ q.text in
+    writes_counts carrier form first before now start w bytes fed.wrote.text q.text (packets_text r) all read end fed.wrote.are_texts q.such (counts_are carrier r bytes texts small fed.read)
     (puts_then start v w [] t texts (packets_text r) (end_printed carrier form p start u v t r bytes fed q) puts)
 
 -- the sink failed while the end was printed
@@ -57,8 +57,8 @@ pub ends_unprinted : (carrier : Carrier) (form : StreamForm) (first before now s
     → Fed carrier form start u p r bytes → Consumes first now bytes → Consumes first before bytes → IsAtEnd before × Keeps before now
     → PutsSuch (IsPrefixOfEnd form (reverse (carried_blocks carrier bytes))) u p.page.text v → WritesSome carrier form (between first now) (between start v)
 ends_unprinted carrier form first before now start u v p r bytes fed all read end q =
-    writes_prefix carrier form first before now start v bytes q.text all read end q.such
-    (puts_then start u v [] p.page.text (texts_for carrier form bytes) q.text (fed_printed carrier form start u p r bytes fed) q.puts)
+    writes_prefix carrier form first before now start v bytes fed.wrote.text q.text all read end fed.wrote.are_texts q.such
+    (puts_then start u v [] p.page.text fed.wrote.text q.text (fed_printed carrier form start u p r bytes fed) q.puts)
 
 -- the answer of a `?` is its error
 pub ends_same : (carrier : Carrier) (form : StreamForm) (most : ℕ) (answer : Result (Unit {0}) StreamFailure) (stop : StreamFailure) (first now start written : Option (List ℕ)) → IsErr answer × IsErrAnd answer (λ s. s ≡ stop)

@@ -1,29 +1,30 @@
 -- A piece of which a prefix is kept, as far as the limit of an input goes.
-use Rattle.std.proofs.Common.{◌≡◌, ℕ, ◌+◌, ◌-◌, ◌≤◌, ◌<◌, true≢false, min, List, [], ◌++◌, length, take, drop, sym, ap, ◌∙◌, subst, arith, append_assoc, length-append, Option, Some, None, Result, Ok, Err}
+use Rattle.std.proofs.Common.{◌≡◌, ℕ, ◌+◌, ◌-◌, ◌≤◌, ◌<◌, true≢false, min, List, [], ◌++◌, length, take, drop, reverse, sym, ap, ◌∙◌, subst, arith, append_assoc, length-append, Option, Some, None, Result, Ok, Err}
 use Rattle.std.specs.Io.KnownBytes.{Consumes}
 use Rattle.std.specs.Result.{IsErr, IsErrAnd}
 use Rattle.std.proofs.lemmas.List.{append-nil, take-append-drop, length-take, length-drop}
 use Rattle.std.proofs.Math.ListN.{drop_of_length-le}
 use Rattle.pitch_io.specs.Putting.{Grows}
-use Rattle.stream_print.specs.Told.{between}
-use Rattle.stream_print.specs.declared.carrier.Carrier.{Carrier}
-use Rattle.stream_print.specs.declared.stream_form.StreamForm.{StreamForm}
+use Rattle.stream_print.specs.Carriers.{carried_blocks}
+use Rattle.stream_print.specs.Failures.{unprinted}
 use Rattle.stream_print.specs.Feeding.{Fed, StreamFeeds}
 use Rattle.stream_print.specs.Inputs.{lasting_trouble, StreamEnds, Refuses, WritesSome}
 use Rattle.stream_print.specs.Knowing.{task_form}
-use Rattle.stream_print.specs.Printing.{PrintsPiece, FailsBlocks}
-use Rattle.stream_print.specs.Putting.{PutsSome}
+use Rattle.stream_print.specs.Printing.{PrintsPiece, Fails, FailsBlocks}
+use Rattle.stream_print.specs.Putting.{PutsSome, PutsSuch}
 use Rattle.stream_print.specs.Readers.{blocks_with}
-use Rattle.stream_print.specs.Texts.{texts_for}
-use Rattle.stream_print.specs.declared.printer.Printer.{Printer}
-use Rattle.stream_print.specs.declared.reader.StreamReader.{StreamReader}
+use Rattle.stream_print.specs.Texts.{BeginTexts}
+use Rattle.stream_print.specs.Told.{between}
+use Rattle.stream_print.specs.declared.carrier.Carrier.{Carrier}
 use Rattle.stream_print.specs.declared.failure.PrintError.{PrintError}
+use Rattle.stream_print.specs.declared.failure.PrintError.TheVariants.{SequencesSpent, Write, OutOfMemory}
 use Rattle.stream_print.specs.declared.failure.StreamFailure.{StreamFailure}
 use Rattle.stream_print.specs.declared.failure.StreamTrouble.{StreamTrouble}
-use Rattle.stream_print.specs.Failures.{unprinted}
 use Rattle.stream_print.specs.declared.failure.StreamTrouble.TheVariants.{TooLong}
-use Rattle.stream_print.proofs.Unprinted.{ends_unwritten}
-use Rattle.stream_print.proofs.Feeding.{fed_piece, fed_fails, fed_unflushed, puts_texts, writes_texts, refuses_lasting, refuses_long}
+use Rattle.stream_print.specs.declared.printer.Printer.{Printer}
+use Rattle.stream_print.specs.declared.reader.StreamReader.{StreamReader}
+use Rattle.stream_print.specs.declared.stream_form.StreamForm.{StreamForm}
+use Rattle.stream_print.proofs.Feeding.{fed_piece, fed_fails, fed_unflushed, never_spent, puts_texts, writes_texts, refuses_lasting, refuses_long}
 
 pub whole : (k : ℕ) (bytes piece : List ℕ) → (bytes ++ take k piece) ++ drop k piece ≡ bytes ++ piece
 whole k bytes piece = append_assoc bytes (take k piece) (drop k piece) ∙ ap (λ (l : List ℕ). bytes ++ l) (take-append-drop k piece)
@@ -35,19 +36,24 @@ fed_kept k carrier f g h start u v w r s bytes piece fed prints grows emptied =
     fed_piece carrier (task_form f.task) start u v w f g h r s bytes (take k piece) fed prints grows emptied
 
 -- some prefix of the texts of what was kept is some prefix of those of the piece
-writes_kept : (k : ℕ) (carrier : Carrier) (form : StreamForm) (first now start v : Option (List ℕ)) (bytes piece : List ℕ) → Consumes first now (bytes ++ piece) → PutsSome start v (texts_for carrier form (bytes ++ take k piece))
+writes_kept : (k : ℕ) (carrier : Carrier) (form : StreamForm) (first now start v : Option (List ℕ)) (bytes piece : List ℕ) → Consumes first now (bytes ++ piece) → PutsSuch (BeginTexts form (carried_blocks carrier (bytes ++ take k piece))) start [] v
     → WritesSome carrier form (between first now) (between start v)
 writes_kept k carrier form first now start v bytes piece read puts =
     writes_texts carrier form first now start v (bytes ++ piece) read
-    (subst (λ (l : List ℕ). PutsSome start v (texts_for carrier form l)) (whole k bytes piece) (puts_texts carrier form start v (bytes ++ take k piece) (drop k piece) puts))
+    (subst (λ (l : List ℕ). PutsSuch (BeginTexts form (carried_blocks carrier l)) start [] v) (whole k bytes piece) (puts_texts carrier form start v (bytes ++ take k piece) (drop k piece) puts))
 
--- the sink failed while the piece was heard
-pub kept_fails : (k : ℕ) (carrier : Carrier) (f : Printer) (first now start u v : Option (List ℕ)) (r : StreamReader) (bytes piece : List ℕ) → Fed carrier (task_form f.task) start u f r bytes → Consumes first now (bytes ++ piece)
-    → FailsBlocks f u v (blocks_with r (take k piece)) → WritesSome carrier (task_form f.task) (between first now) (between start v)
-kept_fails k carrier f first now start u v r bytes piece fed read fails =
-    writes_kept k carrier (task_form f.task) first now start v bytes piece read (fed_fails carrier (task_form f.task) start u v f r bytes (take k piece) fed fails)
+-- the piece was not printed whole
+pub kept_fails : (k : ℕ) (carrier : Carrier) (f : Printer) (e : PrintError) (most : ℕ) (first now start u v : Option (List ℕ)) (r : StreamReader) (bytes piece : List ℕ) → k + length bytes ≤ 1073741824 → Fed carrier (task_form f.task) start u f r bytes
+    → Consumes first now (bytes ++ piece) → FailsBlocks e f u v (blocks_with r (take k piece)) → StreamEnds carrier (task_form f.task) most (Err (unprinted e)) (between first now) (between start v)
+kept_fails k carrier f e most first now start u v r bytes piece small fed read fails = by e (fails (reverse (carried_blocks carrier bytes)) fed.known)
+  where
+    by : (e : PrintError) → Fails e (task_form f.task) (reverse (carried_blocks carrier bytes)) (blocks_with r (take k piece)) u f.page.text v → StreamEnds carrier (task_form f.task) most (Err (unprinted e)) (between first now) (between start v)
+    by SequencesSpent spent =
+        never_spent carrier (task_form f.task) start u f r bytes (take k piece) fed (omega (arith, length-append bytes (take k piece), length-take k piece, small)) spent
+    by Write puts = writes_kept k carrier (task_form f.task) first now start v bytes piece read (fed_fails carrier (task_form f.task) start u v f r bytes (take k piece) fed puts)
+    by OutOfMemory puts = writes_kept k carrier (task_form f.task) first now start v bytes piece read (fed_fails carrier (task_form f.task) start u v f r bytes (take k piece) fed puts)
 
--- or when the page was written out
+-- or the sink failed when the page was written out
 pub kept_unflushed : (k : ℕ) (carrier : Carrier) (f g : Printer) (first now start u v w : Option (List ℕ)) (r s : StreamReader) (bytes piece : List ℕ) → Fed carrier (task_form f.task) start u f r bytes
     → PrintsPiece f g r s (take k piece) u v → Consumes first now (bytes ++ piece) → PutsSome v w g.page.text → WritesSome carrier (task_form f.task) (between first now) (between start w)
 kept_unflushed k carrier f g first now start u v w r s bytes piece fed prints read puts =
@@ -79,8 +85,8 @@ kept_all k carrier form g start v s bytes piece le fed none =
     (subst (Fed carrier form start v g s) all fed, ap (lasting_trouble carrier) (sym all) ∙ none)
 
 -- what could not be printed ends the stream
-pub feeds_unprinted : (carrier : Carrier) (form : StreamForm) (most : ℕ) (answer : Result (Unit {0}) StreamFailure) (first now start v : Option (List ℕ)) (g : Printer) (s : StreamReader) (bytes : List ℕ) (e : PrintError)
-    → IsErr answer × IsErrAnd answer (λ failure. failure ≡ unprinted e) → WritesSome carrier form (between first now) (between start v) → StreamFeeds carrier form most answer (between first now) (between start v) g s bytes
-feeds_unprinted carrier form most (Ok done) first now start v g s bytes e is writes = absurd (true≢false (sym is.0))
-feeds_unprinted carrier form most (Err failure) first now start v g s bytes e is writes =
-    subst (λ (x : StreamFailure). StreamEnds carrier form most (Err x) (between first now) (between start v)) (sym is.1) (ends_unwritten carrier form most first now start v e writes)
+pub feeds_unprinted : (carrier : Carrier) (form : StreamForm) (most : ℕ) (answer : Result (Unit {0}) StreamFailure) (first now start v : Option (List ℕ)) (g : Printer) (s : StreamReader) (bytes : List ℕ) (stop : StreamFailure)
+    → IsErr answer × IsErrAnd answer (λ failure. failure ≡ stop) → StreamEnds carrier form most (Err stop) (between first now) (between start v) → StreamFeeds carrier form most answer (between first now) (between start v) g s bytes
+feeds_unprinted carrier form most (Ok done) first now start v g s bytes stop is ends = absurd (true≢false (sym is.0))
+feeds_unprinted carrier form most (Err failure) first now start v g s bytes stop is ends =
+    subst (λ (x : StreamFailure). StreamEnds carrier form most (Err x) (between first now) (between start v)) (sym is.1) ends

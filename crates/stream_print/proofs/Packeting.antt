@@ -26,6 +26,7 @@ use Rattle.stream_print.specs.Printing.{PrintsBlocks, FailsBlocks, PrintsWhole, 
 use Rattle.stream_print.specs.declared.counts.PacketCounts.{PacketCounts}
 use Rattle.stream_print.specs.declared.counts.PacketUse.{PacketUse}
 use Rattle.stream_print.specs.declared.counts.PacketUse.TheVariants.{PassedOver, Used, Faulty}
+use Rattle.stream_print.specs.declared.failure.PrintError.{PrintError}
 use Rattle.stream_print.specs.declared.packets.PacketReader.{PacketReader}
 use Rattle.stream_print.specs.declared.printer.Printer.{Printer}
 use Rattle.stream_print.proofs.Carriers.{blocks_append}
@@ -79,8 +80,8 @@ sound_printed p p' d n size w w' whole le some all =
       few = omega (arith, few, within, le);
     }
 
-pub datagram_fails : (p : Printer) (d : List ℕ) (w w' : Option (List ℕ)) → FailsBlocks p w w' (blocks_of d) → FailsBlocks p w w' (flat_map blocks_of (d ∷ []))
-datagram_fails p d w w' fails = subst (FailsBlocks p w w') (sym (one_datagram d)) fails
+pub datagram_fails : (p : Printer) (e : PrintError) (d : List ℕ) (w w' : Option (List ℕ)) → FailsBlocks e p w w' (blocks_of d) → FailsBlocks e p w w' (flat_map blocks_of (d ∷ []))
+datagram_fails p e d w w' fails = subst (FailsBlocks e p w w') (sym (one_datagram d)) fails
 
 -- a packet may have more bytes than its datagram
 pub in_packet : (p p' : Printer) (n size : ℕ) (datagrams : List (List ℕ)) (is : PacketUse) (w w' : Option (List ℕ)) → n ≤ size → PrintsDatagrams p p' n datagrams is w w' → PrintsDatagrams p p' size datagrams is w w'
@@ -220,16 +221,16 @@ packet_within order bytes rest at packet here stands within =
     let fits = (records_are_fronts order).fits rest (packet, 16 + length packet.bytes) stands.front in
     omega (arith, fits.1, ap length here, length-drop at bytes, within)
 
--- a sink that fails at a packet has some prefix of the texts
-pub passing_fails : (order : ByteOrder) (port : Option ℕ) (f g : Printer) (counts counts' : PacketCounts) (bytes rest : List ℕ) (at : ℕ) (u v w : Option (List ℕ)) (packet : Packet)
-    → Passing order port f g counts counts' bytes at u v → rest ≡ drop at bytes → StandsAtFront order rest packet → FailsBlocks g v w (flat_map blocks_of (payloads_in port packet))
-    → FailsBlocks f u w (blocks_in port (items_within (front_of order) bytes))
-passing_fails order port f g counts counts' bytes rest at u v w packet so_far here stands fails =
+-- a packet that is not printed, behind others
+pub passing_fails : (order : ByteOrder) (port : Option ℕ) (f g : Printer) (e : PrintError) (counts counts' : PacketCounts) (bytes rest : List ℕ) (at : ℕ) (u v w : Option (List ℕ)) (packet : Packet)
+    → Passing order port f g counts counts' bytes at u v → rest ≡ drop at bytes → StandsAtFront order rest packet → FailsBlocks e g v w (flat_map blocks_of (payloads_in port packet))
+    → FailsBlocks e f u w (blocks_in port (items_within (front_of order) bytes))
+passing_fails order port f g e counts counts' bytes rest at u v w packet so_far here stands fails =
     let first = first_of is_cut_off (front_of order) (records_are_fronts order) rest (packet, 16 + length packet.bytes) stands.front in
     let left : List Packet = items_within (front_of order) (drop (16 + length packet.bytes) rest) in
     let all : items_within (front_of order) bytes ≡ so_far.seen ++ (packet ∷ [] ++ left) =
     so_far.packets ∙ ap (λ (l : List ℕ). so_far.seen ++ items_within (front_of order) l) (sym here) ∙ ap (λ (ps : List Packet). so_far.seen ++ ps) first.items in
-    fails_more f g u v w (blocks_in port (items_within (front_of order) bytes)) (blocks_in port so_far.seen) (flat_map blocks_of (payloads_in port packet)) (blocks_in port left)
+    fails_more f g e u v w (blocks_in port (items_within (front_of order) bytes)) (blocks_in port so_far.seen) (flat_map blocks_of (payloads_in port packet)) (blocks_in port left)
     (ap (blocks_in port) all ∙ blocks_append port so_far.seen (packet ∷ [] ++ left)
     ∙ ap (λ (bs : List Block). blocks_in port so_far.seen ++ bs) (blocks_append port (packet ∷ []) left ∙ ap (λ (bs : List Block). bs ++ blocks_in port left) (blocks_one port packet)))
     so_far.prints fails
@@ -344,11 +345,11 @@ no_header p r t None e w at is err =
 pub loaded_none : (p : Printer) (r t : PacketReader) (e : CaptureError) (w : Option (List ℕ)) → t ≡ record r { reader = past_head r.reader } → ordered r.reader.told r.reader.rest ≡ Err e → PrintsLoaded p p r t w w
 loaded_none p r t e w is err = no_header p r t r.reader.told e w refl is err
 
--- a sink that fails behind the header
-pub loaded_fails : (p : Printer) (r s : PacketReader) (order : ByteOrder) (w w' : Option (List ℕ)) → s ≡ record r { reader = past_head r.reader } → ordered r.reader.told r.reader.rest ≡ Ok order
-    → FailsBlocks p w w' (blocks_in s.port (items_within (front_of order) s.reader.rest)) → FailsBlocks p w w' (blocks_in r.port (packets_from r.reader.told r.reader.rest))
-loaded_fails p r s order w w' is ok fails =
+-- packets behind the header that are not printed
+pub loaded_fails : (p : Printer) (e : PrintError) (r s : PacketReader) (order : ByteOrder) (w w' : Option (List ℕ)) → s ≡ record r { reader = past_head r.reader } → ordered r.reader.told r.reader.rest ≡ Ok order
+    → FailsBlocks e p w w' (blocks_in s.port (items_within (front_of order) s.reader.rest)) → FailsBlocks e p w w' (blocks_in r.port (packets_from r.reader.told r.reader.rest))
+loaded_fails p e r s order w w' is ok fails =
     let h = heads r.reader s.reader order r.reader.told refl (ap (λ (q : PacketReader). q.reader) is) ok in
     let read = read_of r.reader.told r.reader.rest order ok in
-    subst (λ (o : Option ℕ). FailsBlocks p w w' (blocks_in o (packets_from r.reader.told r.reader.rest))) (ap (λ (q : PacketReader). q.port) is)
-    (subst (λ (ps : List Packet). FailsBlocks p w w' (blocks_in s.port ps)) (ap (items_within (front_of order)) h.rest ∙ sym read.packets) fails)
+    subst (λ (o : Option ℕ). FailsBlocks e p w w' (blocks_in o (packets_from r.reader.told r.reader.rest))) (ap (λ (q : PacketReader). q.port) is)
+    (subst (λ (ps : List Packet). FailsBlocks e p w w' (blocks_in s.port ps)) (ap (items_within (front_of order)) h.rest ∙ sym read.packets) fails)

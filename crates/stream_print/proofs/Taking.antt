@@ -3,22 +3,23 @@ use Rattle.std.proofs.Common.{◌≡◌, ℕ, ◌+◌, ◌≤◌, List, [], ◌+
 use Rattle.std.specs.Io.KnownBytes.{Consumes, Keeps}
 use Rattle.std.proofs.lemmas.List.{take-append-le}
 use Rattle.pitch_io.specs.Causes.{HasCause}
-use Rattle.pitch_io.specs.Putting.{Grows}
-use Rattle.feed_lines.specs.Texts.{texts_after}
 use Rattle.feed_lines.proofs.Texts.{texts_none}
 use Rattle.stream_print.specs.Told.{between}
 use Rattle.stream_print.specs.declared.carrier.Carrier.{Carrier}
 use Rattle.stream_print.specs.declared.stream_form.StreamForm.{StreamForm}
+use Rattle.stream_print.specs.Carriers.{carried_blocks}
+use Rattle.stream_print.specs.Holding.{Suits}
 use Rattle.stream_print.specs.Feeding.{Fed}
-use Rattle.stream_print.specs.Inputs.{lasting_trouble, StopsSoon, WritesSome}
+use Rattle.stream_print.specs.Inputs.{lasting_trouble, StopsSoon, WritesSome, WritesTexts}
 use Rattle.stream_print.specs.Knowing.{task_form, HasPrinted}
 use Rattle.stream_print.specs.Readers.{HasRead, rest_size}
-use Rattle.stream_print.specs.Texts.{block_text, texts_for}
+use Rattle.stream_print.specs.Texts.{block_text, texts_by}
 use Rattle.stream_print.specs.declared.printer.Printer.{Printer}
 use Rattle.stream_print.specs.declared.reader.StreamReader.{StreamReader}
 use Rattle.stream_print.proofs.Carriers.{no_blocks, no_trouble}
 use Rattle.stream_print.proofs.Feeding.{take_prefix, consumes_more, consumes_kept, consumes_none, writes_texts}
 use Rattle.stream_print.proofs.Flow.{grows_none}
+use Rattle.stream_print.proofs.Streaming.{puts_nothing}
 
 -- the bytes that were taken so far were fed
 pub record Taken (carrier : Carrier) (form : StreamForm) (f : Printer) (r : StreamReader) (count : ℕ) (first left start written : Option (List ℕ)) : Type 0 where
@@ -29,13 +30,10 @@ pub record Taken (carrier : Carrier) (form : StreamForm) (f : Printer) (r : Stre
   pub fed : Fed carrier form start written f r bytes
   pub unended : lasting_trouble carrier bytes ≡ None
 
-no_texts : (carrier : Carrier) (form : StreamForm) → texts_for carrier form [] ≡ []
-no_texts carrier form = ap (texts_after (block_text form) []) (no_blocks carrier) ∙ texts_none (block_text form) []
-
 -- nothing was taken yet
-pub taken_none : (carrier : Carrier) (form : StreamForm) (f : Printer) (r : StreamReader) (first start : Option (List ℕ)) → task_form f.task ≡ form → HasPrinted f [] → f.page.text ≡ []
+pub taken_none : (carrier : Carrier) (form : StreamForm) (f : Printer) (r : StreamReader) (first start : Option (List ℕ)) → Suits carrier form → task_form f.task ≡ form → HasPrinted f [] → f.page.text ≡ []
     → HasRead carrier r [] → rest_size r ≡ 0 → Taken carrier form f r 0 first first start start
-taken_none carrier form f r first start is known page read empty =
+taken_none carrier form f r first start suits is known page read empty =
     let number = known.number_is in
     record {
       bytes = [];
@@ -43,11 +41,12 @@ taken_none carrier form f r first start is known page read empty =
       within = omega arith;
       read = consumes_none first;
       fed = record {
+        suits = suits;
         form_is = is;
         read = read;
         known = subst (HasPrinted f) (sym (ap reverse (no_blocks carrier))) known;
         empty = page;
-        wrote = subst (Grows start start) (sym (no_texts carrier form)) (grows_none start);
+        wrote = subst (WritesTexts form (between start start)) (sym (no_blocks carrier)) (record { text = []; wrote = grows_none start; are_texts = λ Vs venues. sym (texts_none (block_text form Vs) []) });
         few = omega (arith, number, empty);
       };
       unended = no_trouble carrier;
@@ -68,7 +67,8 @@ taken_more carrier form f g r s count more first left left' start u v piece t si
 
 -- nothing was read and nothing written
 pub writes_none : (carrier : Carrier) (form : StreamForm) (first start : Option (List ℕ)) → WritesSome carrier form (between first first) (between start start)
-writes_none carrier form first start = writes_texts carrier form first first start start [] (consumes_none first) (record { count = 0; within = omega arith; grows = grows_none start })
+writes_none carrier form first start = writes_texts carrier form first first start start [] (consumes_none first)
+    (record { text = []; puts = puts_nothing start []; such = λ Vs venues. (texts_by form Vs [] (carried_blocks carrier []), refl) })
 
 -- a later cause is one
 pub later_cause : (a b c : ℕ) (failed wanted : Type 0) → a ≤ b → HasCause b c failed → (wanted → failed) → HasCause a c wanted

@@ -15,12 +15,17 @@ named_text H Vs before unit = cond (is_named before unit) (unit_text H Vs before
 -- the text of a unit's book, where it has a client, by each list of messages to which that client
 -- keeps
 abbrev pub IsUnitText : ℕ → Option UnitClient → List Block → ℕ → List ℕ → Type 0
-IsUnitText H slot before unit book = (Vs : ℕ → List Raw) → KeepsTo (Vs unit) slot → book ≡ named_text H Vs before unit
+IsUnitText H slot before unit book =
+    (Vs : ℕ → List Raw) → KeepsTo (Vs unit) slot → book ≡ named_text H Vs before unit
 
 -- the books of the units below a number, by each family of venues to which the clients keep
 abbrev pub AreBooksBelow : ℕ → List (Option UnitClient) → List Block → ℕ → List ℕ → Type 0
-AreBooksBelow H clients before count books = (Vs : ℕ → List Raw) → AllKeep Vs clients → books ≡ flat_map (unit_text H Vs before) (named_below (is_named before) count)
+AreBooksBelow H clients before count books =
+    (Vs : ℕ → List Raw) → AllKeep Vs clients
+    → books ≡ flat_map (unit_text H Vs before) (named_below (is_named before) count)
 
 -- a prefix of the books of all units
 abbrev pub AreFirstBooks : ℕ → List (Option UnitClient) → List Block → List ℕ → Type 0
-AreFirstBooks H clients before books = (Vs : ℕ → List Raw) → AllKeep Vs clients → (more : List ℕ) × (books_of H Vs before ≡ books ++ more)
+AreFirstBooks H clients before books =
+    (Vs : ℕ → List Raw) → AllKeep Vs clients
+    → (more : List ℕ) × (books_of H Vs before ≡ books ++ more)

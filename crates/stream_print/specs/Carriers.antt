@@ -26,12 +26,17 @@ is_faulty datagram = length datagram == 0 || nat_lt 0 (length (rest_of datagram)
 abbrev pub counts_of : Option ℕ → List Packet → PacketCounts
 counts_of port packets =
     let datagrams = payloads_of port packets in
-    record { packets = length packets; used = length datagrams; faulty = count_by is_faulty datagrams }
+    record {
+      packets = length packets;
+      used = length datagrams;
+      faulty = count_by is_faulty datagrams;
+    }
 
 -- the line of what was counted
 unfoldable pub counts_line : PacketCounts → List ℕ
 counts_line counts =
-    codes "packets " ++ decimal counts.packets ++ codes " used " ++ decimal counts.used ++ codes " faulty " ++ decimal counts.faulty ++ 10 ∷ []
+    codes "packets " ++ decimal counts.packets ++ codes " used " ++ decimal counts.used
+    ++ codes " faulty " ++ decimal counts.faulty ++ 10 ∷ []
 
 -- the text of a stream's blocks, and for a capture the line of its packets behind it
 abbrev pub with_counts : Carrier → List ℕ → List ℕ → List ℕ

@@ -16,9 +16,21 @@ use_of (datagram ∷ others) = if is_faulty datagram then Faulty else Used
 
 -- one packet more was counted; a count stays at the end of its type
 abbrev pub counts_with : PacketUse → PacketCounts → PacketCounts
-counts_with PassedOver counts = record { packets = counted (counts.packets + 1); used = counts.used; faulty = counts.faulty }
-counts_with Used counts = record { packets = counted (counts.packets + 1); used = counted (counts.used + 1); faulty = counts.faulty }
-counts_with Faulty counts = record { packets = counted (counts.packets + 1); used = counted (counts.used + 1); faulty = counted (counts.faulty + 1) }
+counts_with PassedOver counts = record {
+  packets = counted (counts.packets + 1);
+  used = counts.used;
+  faulty = counts.faulty;
+}
+counts_with Used counts = record {
+  packets = counted (counts.packets + 1);
+  used = counted (counts.used + 1);
+  faulty = counts.faulty;
+}
+counts_with Faulty counts = record {
+  packets = counted (counts.packets + 1);
+  used = counted (counts.used + 1);
+  faulty = counted (counts.faulty + 1);
+}
 
 -- these packets were counted
 pub record IsCount (port : Option ℕ) (packets : List Packet) (counts : PacketCounts) : Type 0 where
@@ -28,4 +40,5 @@ pub record IsCount (port : Option ℕ) (packets : List Packet) (counts : PacketC
 
 -- further packets were counted
 abbrev pub CountsMore : Option ℕ → List Packet → PacketCounts → PacketCounts → Type 0
-CountsMore port more counts counts' = (packets : List Packet) → IsCount port packets counts → IsCount port (packets ++ more) counts'
+CountsMore port more counts counts' =
+    (packets : List Packet) → IsCount port packets counts → IsCount port (packets ++ more) counts'

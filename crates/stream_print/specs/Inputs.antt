@@ -2,16 +2,18 @@
 use Rattle.std.specs.Prelude.{◌≡◌, ◌≤◌, ℕ, List, ◌++◌, [], length, take, nat_lt, cond, option_map, Option, Some, None, Result, Ok, Err, ◌⊎◌}
 use Rattle.std.specs.Io.KnownBytes.{Consumes}
 use Rattle.pitch_io.specs.Putting.{Grows}
+use Rattle.unit_packets.specs.Blocks.{Block}
 use Rattle.unit_packets.specs.Cutting.{fault_of, fault_at_end}
 use Rattle.pcap_feed.specs.Capture.{capture_fault, capture_end_fault}
+use Rattle.stream_print.specs.Carriers.{carried_blocks}
 use Rattle.stream_print.specs.declared.carrier.Carrier.{Carrier}
 use Rattle.stream_print.specs.declared.carrier.Carrier.TheVariants.{Bare, Capture}
 use Rattle.stream_print.specs.declared.stream_form.StreamForm.{StreamForm}
 use Rattle.stream_print.specs.Putting.{PutsSome}
-use Rattle.stream_print.specs.Texts.{texts_for, IsText, IsPrefixOfText}
+use Rattle.stream_print.specs.Texts.{AreTexts, BeginTexts, IsText, IsPrefixOfText}
 use Rattle.stream_print.specs.Told.{Told}
 use Rattle.stream_print.specs.declared.failure.StreamFailure.{StreamFailure}
-use Rattle.stream_print.specs.declared.failure.StreamFailure.TheVariants.{BadInput, Read, Write, OutOfMemory}
+use Rattle.stream_print.specs.declared.failure.StreamFailure.TheVariants.{BadInput, SequencesSpent, Read, Write, OutOfMemory}
 use Rattle.stream_print.specs.declared.failure.StreamTrouble.{StreamTrouble}
 use Rattle.stream_print.specs.declared.failure.StreamTrouble.TheVariants.{Faulty, BadCapture, TooLong}
 
@@ -38,10 +40,12 @@ or_trouble None other = other
 -- them that more bytes do not mend, or else more bytes than that, or else an end inside a block or
 -- a packet
 unfoldable pub trouble_of : Carrier → ℕ → List ℕ → Option StreamTrouble
-trouble_of carrier most bytes = or_trouble (lasting_trouble carrier (take most bytes)) (cond (nat_lt most (length bytes)) (Some TooLong) (end_trouble carrier bytes))
+trouble_of carrier most bytes =
+    or_trouble (lasting_trouble carrier (take most bytes))
+    (cond (nat_lt most (length bytes)) (Some TooLong) (end_trouble carrier bytes))
 
--- what was taken is some bytes without a trouble that lasts, and then at most the 65,536 of one piece:
--- so less than a piece is taken behind the byte with which a trouble shows
+-- what was taken is some bytes without a trouble that lasts, and then at most the 65,536 of one
+-- piece: so less than a piece is taken behind the byte with which a trouble shows
 pub record StopsSoon (carrier : Carrier) (input : Told) : Type 0 where
   pub sound : List ℕ
   pub last : List ℕ
@@ -65,7 +69,8 @@ Has None bytes = Unit {0}
 Has (Some all) bytes = all ≡ bytes
 
 -- the whole stream was read and has no fault, and its text was written
-pub record WritesAll (carrier : Carrier) (form : StreamForm) (most : ℕ) (input out : Told) : Type 0 where
+pub record WritesAll (carrier : Carrier) (form : StreamForm) (most : ℕ)
+    (input out : Told) : Type 0 where
   pub bytes : List ℕ
   pub read : ReadsAll input bytes
   pub sound : trouble_of carrier most bytes ≡ None
@@ -73,18 +78,25 @@ pub record WritesAll (carrier : Carrier) (form : StreamForm) (most : ℕ) (input
   pub is_text : IsText carrier form bytes text
   pub wrote : Grows out.old out.new text
 
+-- the texts of these blocks were written
+pub record WritesTexts (form : StreamForm) (out : Told) (blocks : List Block) : Type 0 where
+  pub text : List ℕ
+  pub wrote : Grows out.old out.new text
+  pub are_texts : AreTexts form blocks text
+
 -- the stream has this trouble, and the texts of the whole blocks before were written, and no book
-pub record Refuses (carrier : Carrier) (form : StreamForm) (most : ℕ) (trouble : StreamTrouble) (input out : Told) : Type 0 where
+pub record Refuses (carrier : Carrier) (form : StreamForm) (most : ℕ) (trouble : StreamTrouble)
+    (input out : Told) : Type 0 where
   pub bytes : List ℕ
   pub has : Has input.old bytes
   pub trouble_is : trouble_of carrier most bytes ≡ Some trouble
-  pub wrote : Grows out.old out.new (texts_for carrier form (take most bytes))
+  pub wrote : WritesTexts form out (carried_blocks carrier (take most bytes))
 
 -- the source failed after some bytes, and the texts of their whole blocks were written
 pub record ReadsSome (carrier : Carrier) (form : StreamForm) (input out : Told) : Type 0 where
   pub bytes : List ℕ
   pub read : Consumes input.old input.new bytes
-  pub wrote : Grows out.old out.new (texts_for carrier form bytes)
+  pub wrote : WritesTexts form out (carried_blocks carrier bytes)
 
 -- some bytes were read, and a prefix of the texts of their blocks was written, or, where they are
 -- all, of the whole text
@@ -93,12 +105,16 @@ pub record WritesSome (carrier : Carrier) (form : StreamForm) (input out : Told)
   pub read : Consumes input.old input.new bytes
   pub text : List ℕ
   pub wrote : PutsSome out.old out.new text
-  pub is_prefix : (text ≡ texts_for carrier form bytes) ⊎ (ReadsAll input bytes × IsPrefixOfText carrier form bytes text)
+  pub is_prefix : BeginTexts form (carried_blocks carrier bytes) text
+      ⊎ (ReadsAll input bytes × IsPrefixOfText carrier form bytes text)
 
--- how a stream ends
-abbrev pub StreamEnds : Carrier → StreamForm → ℕ → Result (Unit {0}) StreamFailure → (input out : Told) → Type 0
+-- how a stream ends; no relay comes to the last sequence, since no stream has so many messages
+abbrev pub StreamEnds : Carrier → StreamForm → ℕ → Result (Unit {0}) StreamFailure
+    → (input out : Told) → Type 0
 StreamEnds carrier form most (Ok done) input out = WritesAll carrier form most input out
-StreamEnds carrier form most (Err (BadInput trouble)) input out = Refuses carrier form most trouble input out
+StreamEnds carrier form most (Err (BadInput trouble)) input out =
+    Refuses carrier form most trouble input out
+StreamEnds carrier form most (Err SequencesSpent) input out = ⊥
 StreamEnds carrier form most (Err Read) input out = ReadsSome carrier form input out
 StreamEnds carrier form most (Err Write) input out = WritesSome carrier form input out
 StreamEnds carrier form most (Err OutOfMemory) input out = WritesSome carrier form input out

@@ -12,5 +12,6 @@ pub mod Printing
 pub mod Putting
 pub mod Readers
 pub mod Rising
+pub mod Sinks
 pub mod Texts
 pub mod Told

@@ -9,7 +9,8 @@ pub record PutsSome (old new : Option (List ℕ)) (bytes : List ℕ) : Type 0 wh
   pub grows : Grows old new (take count bytes)
 
 -- some prefix was written of what stood on the page and of a text of which this is true
-pub record PutsSuch (is : List ℕ → Type 0) (old : Option (List ℕ)) (before : List ℕ) (new : Option (List ℕ)) : Type 0 where
+pub record PutsSuch (is : List ℕ → Type 0) (old : Option (List ℕ)) (before : List ℕ)
+    (new : Option (List ℕ)) : Type 0 where
   pub text : List ℕ
   pub puts : PutsSome old new (before ++ text)
   pub such : is text

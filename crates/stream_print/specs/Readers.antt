@@ -41,7 +41,8 @@ rest_size (Packets r) = length r.reader.rest
 -- the blocks that a piece more completes
 abbrev pub blocks_with : StreamReader → List ℕ → List Block
 blocks_with (Blocks r) piece = blocks_of (r.rest ++ piece)
-blocks_with (Packets r) piece = blocks_in r.port (packets_from r.reader.told (r.reader.rest ++ piece))
+blocks_with (Packets r) piece =
+    blocks_in r.port (packets_from r.reader.told (r.reader.rest ++ piece))
 
 -- the line of the packets that were counted
 abbrev pub packets_text : StreamReader → List ℕ

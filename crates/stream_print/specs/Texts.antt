@@ -1,56 +1,133 @@
--- What is printed for a stream, by the form of the words.
-use Rattle.std.specs.Prelude.{◌≡◌, ℕ, List, [], ◌++◌, reverse}
+-- What is printed for a stream, by the form of the words. Blocks that came before stand newest
+-- first.
+use Rattle.std.specs.Prelude.{◌≡◌, ◌<◌, ℕ, List, [], ◌∷◌, ◌++◌, reverse}
+use Rattle.pitch_fields.specs.Limits.{last_sequence}
 use Rattle.unit_packets.specs.Blocks.{Block}
 use Rattle.pitch_model.specs.History.{Raw}
+use Rattle.pitch_model.specs.Image.{image}
 use Rattle.pitch_model.specs.Units.{AllHonest}
-use Rattle.feed_lines.specs.Follow.{line_after, books_of, follow_text}
+use Rattle.feed_lines.specs.Follow.{line_after, lines_after, books_of, follow_text}
 use Rattle.feed_lines.specs.Show.{shown_after, show_text}
 use Rattle.feed_lines.specs.Texts.{texts_after}
+use Rattle.best_quotes.specs.QuotesText.{quoted_after}
+use Rattle.relay_unit.specs.RelayText.{AreRelayVenues, relayed_after}
+use Rattle.relay_unit.specs.Sparing.{messages_heard}
 use Rattle.stream_print.specs.Carriers.{carried_blocks, with_counts}
 use Rattle.stream_print.specs.declared.carrier.Carrier.{Carrier}
 use Rattle.stream_print.specs.declared.stream_form.StreamForm.{StreamForm}
-use Rattle.stream_print.specs.declared.stream_form.StreamForm.TheVariants.{Follow, Show}
+use Rattle.stream_print.specs.declared.stream_form.StreamForm.TheVariants.{Follow, Show, Relay, Quotes}
 
--- the text of a block that comes after others, which stand newest first
-abbrev pub block_text : StreamForm → List Block → Block → List ℕ
-block_text (Follow hold) before block = line_after hold before block
-block_text Show before block = shown_after before block
+-- ---- The texts of blocks
+-- `Vs` gives the messages of each unit's venue, and the blocks speak of no others; the texts of
+-- blocks that `follow` and `show` print rest on no venue
+abbrev pub AreVenuesOf : StreamForm → (ℕ → List Raw) → List Block → Type 0
+AreVenuesOf (Follow hold) Vs before = Unit {0}
+AreVenuesOf Show Vs before = Unit {0}
+AreVenuesOf (Relay hold) Vs before = AreRelayVenues hold Vs before
+AreVenuesOf (Quotes hold) Vs before = AllHonest image Vs before
 
--- the texts of the whole blocks that some bytes carry
-abbrev pub texts_for : Carrier → StreamForm → List ℕ → List ℕ
-texts_for carrier form bytes = texts_after (block_text form) [] (carried_blocks carrier bytes)
+-- the text of a block that comes after others
+abbrev pub block_text : StreamForm → (ℕ → List Raw) → List Block → Block → List ℕ
+block_text (Follow hold) Vs before block = line_after hold before block
+block_text Show Vs before block = shown_after before block
+block_text (Relay hold) Vs before block = relayed_after hold Vs before block
+block_text (Quotes hold) Vs before block = quoted_after hold Vs before block
 
--- what is printed at the end, where the blocks before stand newest first: for every family of
--- venues of which they speak, the books of all units; `show` prints nothing there
+-- the texts of some blocks that come after others, the oldest of which stands first
+abbrev pub texts_by : StreamForm → (ℕ → List Raw) → List Block → List Block → List ℕ
+texts_by form Vs before blocks = texts_after (block_text form Vs) before blocks
+
+-- for every family of venues of which the blocks of a stream speak, these are their texts
+abbrev pub AreTexts : StreamForm → List Block → List ℕ → Type 0
+AreTexts form blocks text =
+    (Vs : ℕ → List Raw) → AreVenuesOf form Vs (reverse blocks) → text ≡ texts_by form Vs [] blocks
+
+-- a prefix of them
+abbrev pub BeginTexts : StreamForm → List Block → List ℕ → Type 0
+BeginTexts form blocks text =
+    (Vs : ℕ → List Raw) → AreVenuesOf form Vs (reverse blocks)
+    → (more : List ℕ) × (texts_by form Vs [] blocks ≡ text ++ more)
+
+-- likewise the texts of some blocks that come after others
+abbrev pub AreTextsAfter : StreamForm → List Block → List Block → List ℕ → Type 0
+AreTextsAfter form before blocks text =
+    (Vs : ℕ → List Raw) → AreVenuesOf form Vs (reverse blocks ++ before)
+    → text ≡ texts_by form Vs before blocks
+
+-- a prefix of them
+abbrev pub BeginTextsAfter : StreamForm → List Block → List Block → List ℕ → Type 0
+BeginTextsAfter form before blocks text =
+    (Vs : ℕ → List Raw) → AreVenuesOf form Vs (reverse blocks ++ before)
+    → (more : List ℕ) × (texts_by form Vs before blocks ≡ text ++ more)
+
+-- a block's text can't be made: of a relay, since its unit's blocks have more messages than there
+-- are sequences; of the other forms each can
+abbrev pub Outruns : StreamForm → List Block → Block → Type 0
+Outruns (Follow hold) before block = ⊥
+Outruns Show before block = ⊥
+Outruns (Relay hold) before block = last_sequence < messages_heard block.unit (block ∷ before)
+Outruns (Quotes hold) before block = ⊥
+
+-- one of some blocks that come after others can't
+pub record OutrunsAmong (form : StreamForm) (before blocks : List Block) : Type 0 where
+  pub done : List Block
+  pub block : Block
+  pub left : List Block
+  pub blocks_are : blocks ≡ done ++ (block ∷ left)
+  pub outruns : Outruns form (reverse done ++ before) block
+
+-- ---- The end of a stream
+-- what `follow` prints there: for every family of venues of which the blocks before speak, the
+-- books of all units; the others print nothing there
 abbrev pub IsEnd : StreamForm → List Block → List ℕ → Type 0
-IsEnd (Follow hold) before books = (Image : List Raw → ℕ → List Raw) (Vs : ℕ → List Raw) → AllHonest Image Vs before → books ≡ books_of hold Vs before
-IsEnd Show before books = books ≡ []
+IsEnd (Follow hold) before books =
+    (Image : List Raw → ℕ → List Raw) (Vs : ℕ → List Raw) → AllHonest Image Vs before
+    → books ≡ books_of hold Vs before
+IsEnd form before books = books ≡ []
 
 -- a prefix of it
 abbrev pub IsPrefixOfEnd : StreamForm → List Block → List ℕ → Type 0
 IsPrefixOfEnd (Follow hold) before books =
-    (Image : List Raw → ℕ → List Raw) (Vs : ℕ → List Raw) → AllHonest Image Vs before → (more : List ℕ) × (books_of hold Vs before ≡ books ++ more)
-IsPrefixOfEnd Show before books = books ≡ []
+    (Image : List Raw → ℕ → List Raw) (Vs : ℕ → List Raw) → AllHonest Image Vs before
+    → (more : List ℕ) × (books_of hold Vs before ≡ books ++ more)
+IsPrefixOfEnd form before books = books ≡ []
 
+-- ---- The whole text
 -- the whole text of `follow`: the lines, and books; for every family of venues of which the blocks
 -- speak, the defined text; and of a capture the line of its packets
 pub record IsFollowText (carrier : Carrier) (H : ℕ) (bytes text : List ℕ) : Type 0 where
-  pub lines : (books : List ℕ) × (text ≡ with_counts carrier bytes (texts_for carrier (Follow H) bytes ++ books))
-  pub honest : (Image : List Raw → ℕ → List Raw) (Vs : ℕ → List Raw) → AllHonest Image Vs (reverse (carried_blocks carrier bytes))
+  pub lines : (books : List ℕ) × (text
+      ≡ with_counts carrier bytes (lines_after H [] (carried_blocks carrier bytes) ++ books))
+  pub honest : (Image : List Raw → ℕ → List Raw) (Vs : ℕ → List Raw)
+      → AllHonest Image Vs (reverse (carried_blocks carrier bytes))
       → text ≡ with_counts carrier bytes (follow_text H Vs (carried_blocks carrier bytes))
 
 -- a prefix of it, with all lines
 pub record IsPrefixOfFollowText (carrier : Carrier) (H : ℕ) (bytes text : List ℕ) : Type 0 where
-  pub lines : (books : List ℕ) × (text ≡ texts_for carrier (Follow H) bytes ++ books)
-  pub honest : (Image : List Raw → ℕ → List Raw) (Vs : ℕ → List Raw) → AllHonest Image Vs (reverse (carried_blocks carrier bytes))
-      → (more : List ℕ) × (with_counts carrier bytes (follow_text H Vs (carried_blocks carrier bytes)) ≡ text ++ more)
+  pub lines : (books : List ℕ) × (text ≡ lines_after H [] (carried_blocks carrier bytes) ++ books)
+  pub honest : (Image : List Raw → ℕ → List Raw) (Vs : ℕ → List Raw)
+      → AllHonest Image Vs (reverse (carried_blocks carrier bytes))
+      → (more : List ℕ)
+      × (with_counts carrier bytes (follow_text H Vs (carried_blocks carrier bytes)) ≡ text ++ more)
 
--- the whole text for some bytes
+-- the whole text for some bytes: of a relay and of quotes for every family of venues of which the
+-- blocks speak
 abbrev pub IsText : Carrier → StreamForm → List ℕ → List ℕ → Type 0
 IsText carrier (Follow hold) bytes text = IsFollowText carrier hold bytes text
-IsText carrier Show bytes text = text ≡ with_counts carrier bytes (show_text (carried_blocks carrier bytes))
+IsText carrier Show bytes text =
+    text ≡ with_counts carrier bytes (show_text (carried_blocks carrier bytes))
+IsText carrier form bytes text =
+    (Vs : ℕ → List Raw) → AreVenuesOf form Vs (reverse (carried_blocks carrier bytes))
+    → text ≡ with_counts carrier bytes (texts_by form Vs [] (carried_blocks carrier bytes))
 
 -- all the texts of the blocks, and a prefix of what follows them
 abbrev pub IsPrefixOfText : Carrier → StreamForm → List ℕ → List ℕ → Type 0
 IsPrefixOfText carrier (Follow hold) bytes text = IsPrefixOfFollowText carrier hold bytes text
-IsPrefixOfText carrier Show bytes text = (more : List ℕ) × (with_counts carrier bytes (show_text (carried_blocks carrier bytes)) ≡ text ++ more)
+IsPrefixOfText carrier Show bytes text =
+    (more : List ℕ)
+    × (with_counts carrier bytes (show_text (carried_blocks carrier bytes)) ≡ text ++ more)
+IsPrefixOfText carrier form bytes text =
+    (Vs : ℕ → List Raw) → AreVenuesOf form Vs (reverse (carried_blocks carrier bytes))
+    → (more : List ℕ)
+    × (with_counts carrier bytes (texts_by form Vs [] (carried_blocks carrier bytes))
+    ≡ text ++ more)

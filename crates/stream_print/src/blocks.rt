@@ -1,6 +1,6 @@
-ghost use Rattle.std.specs.Prelude.{◌≡◌, ◌≤◌, ◌+◌, ◌*◌, length, OnErr, IfOk, Err};
+ghost use Rattle.std.specs.Prelude.{◌≡◌, ◌≤◌, ◌+◌, ◌*◌, length, IfErr, IfOk, Err};
 ghost use Rattle.unit_packets.specs.Cutting.{blocks_of};
-ghost use Rattle.pitch_io.specs.Causes.{HasCause};
+ghost use Rattle.stream_print.specs.Sinks.{CountsFault};
 ghost use Rattle.stream_print.specs.Printing.{PrintsWhole, FailsBlocks};
 
 use crate::failure::PrintError;
@@ -17,9 +17,12 @@ pub fn print_blocks<O: Sink>(
     out: &mut O,
 ) -> Result<usize, PrintError>
     requires few { 8 * printer.old.number + length bytes.now ≤ 1073741824 }
-    ensures prints { IfOk result (λ n. PrintsWhole printer.old printer.new bytes.now n (O.written out.old) (O.written out.new)) }
-    ensures err { OnErr result (FailsBlocks printer.old (O.written out.old) (O.written out.new) (blocks_of bytes.now)) }
-    ensures cause { HasCause (O.faults out.old) (O.faults out.new) (result ≡ Err PrintError.Write) }
+    ensures prints { IfOk result (λ n.
+        PrintsWhole printer.old printer.new bytes.now n (O.written out.old) (O.written out.new)) }
+    ensures err { IfErr result (λ error.
+        FailsBlocks error printer.old (O.written out.old) (O.written out.new) (blocks_of
+        bytes.now)) }
+    ensures cause { CountsFault O.faults out.old out.new (result ≡ Err PrintError.Write) }
 {
     let mut at = 0;
     'block: while at <= bytes.len() {

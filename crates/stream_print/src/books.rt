@@ -1,12 +1,10 @@
-ghost use Rattle.std.specs.Prelude.{◌≡◌, ◌++◌, [], List, ℕ, OnOk, OnErr, Err, length};
+ghost use Rattle.std.specs.Prelude.{◌≡◌, ◌≢◌, ◌++◌, [], List, ℕ, OnOk, OnErr, Err, length};
 ghost use Rattle.unit_packets.specs.Blocks.{Block};
 ghost use Rattle.unit_clients.specs.Clients.{AreUnits, IsClient, Clients};
 ghost use Rattle.stream_print.specs.Books.{IsUnitText, AreBooksBelow, AreFirstBooks};
 ghost use Rattle.std.specs.List.{flat_map};
-ghost use Rattle.pitch_io.specs.Causes.{HasCause};
+ghost use Rattle.stream_print.specs.Sinks.{PagePrints, PagePrintsSuch, PutsPrefix, PutsPrefixSuch, CountsFault};
 ghost use Rattle.feed_lines.specs.BookText.{order_line, status_line, book_orders, book_text};
-ghost use Rattle.stream_print.specs.Page.{PrintsSuch, Prints};
-ghost use Rattle.stream_print.specs.Putting.{PutsSuch, PutsSome};
 
 use crate::failure::PrintError;
 use crate::page::Page;
@@ -18,9 +16,14 @@ use std::alloc::Global;
 
 // Prints the lines of orders.
 fn print_orders<O: Sink>(page: &mut Page, out: &mut O, orders: &[Order]) -> Result<(), PrintError>
-    ensures printed { OnOk result (Prints (O.written out.old) page.old.text (O.written out.new) page.new.text (flat_map (λ o. order_line o.id o) orders.now)) }
-    ensures err { OnErr result (PutsSome (O.written out.old) (O.written out.new) (page.old.text ++ flat_map (λ o. order_line o.id o) orders.now)) }
-    ensures cause { HasCause (O.faults out.old) (O.faults out.new) (result ≡ Err PrintError.Write) }
+    ensures printed { OnOk result (
+        PagePrints O.written out.old out.new page.old page.new
+        (flat_map (λ o. order_line o.id o) orders.now)) }
+    ensures err { OnErr result (
+        PutsPrefix O.written out.old out.new
+        (page.old.text ++ flat_map (λ o. order_line o.id o) orders.now)) }
+    ensures unspent { result ≢ Err PrintError.SequencesSpent }
+    ensures cause { CountsFault O.faults out.old out.new (result ≡ Err PrintError.Write) }
 {
     'lines: for order in orders {
         page.make_place(out)?;
@@ -35,9 +38,12 @@ fn print_statuses<O: Sink>(
     out: &mut O,
     states: &[TradingState],
 ) -> Result<(), PrintError>
-    ensures printed { OnOk result (Prints (O.written out.old) page.old.text (O.written out.new) page.new.text (flat_map status_line states.now)) }
-    ensures err { OnErr result (PutsSome (O.written out.old) (O.written out.new) (page.old.text ++ flat_map status_line states.now)) }
-    ensures cause { HasCause (O.faults out.old) (O.faults out.new) (result ≡ Err PrintError.Write) }
+    ensures printed { OnOk result (
+        PagePrints O.written out.old out.new page.old page.new (flat_map status_line states.now)) }
+    ensures err { OnErr result (
+        PutsPrefix O.written out.old out.new (page.old.text ++ flat_map status_line states.now)) }
+    ensures unspent { result ≢ Err PrintError.SequencesSpent }
+    ensures cause { CountsFault O.faults out.old out.new (result ≡ Err PrintError.Write) }
 {
     'lines: for state in states {
         page.make_place(out)?;
@@ -55,9 +61,14 @@ pub fn print_book<O: Sink>(
     reach: u32,
     book: &UnitBook,
 ) -> Result<(), PrintError>
-    ensures printed { OnOk result (Prints (O.written out.old) page.old.text (O.written out.new) page.new.text (book_text unit reach book.now.book)) }
-    ensures err { OnErr result (PutsSome (O.written out.old) (O.written out.new) (page.old.text ++ book_text unit reach book.now.book)) }
-    ensures cause { HasCause (O.faults out.old) (O.faults out.new) (result ≡ Err PrintError.Write) }
+    ensures printed { OnOk result (
+        PagePrints O.written out.old out.new page.old page.new (book_text unit reach
+        book.now.book)) }
+    ensures err { OnErr result (
+        PutsPrefix O.written out.old out.new (page.old.text ++ book_text unit reach
+        book.now.book)) }
+    ensures unspent { result ≢ Err PrintError.SequencesSpent }
+    ensures cause { CountsFault O.faults out.old out.new (result ≡ Err PrintError.Write) }
 {
     let mut states = StatusList::make(alloc);
     book.statuses_by_symbol(&mut states)?;
@@ -74,9 +85,14 @@ fn print_book_orders<O: Sink>(
     reach: u32,
     book: &UnitBook,
 ) -> Result<(), PrintError>
-    ensures printed { OnOk result (Prints (O.written out.old) page.old.text (O.written out.new) page.new.text (book_orders unit reach book.now.book)) }
-    ensures err { OnErr result (PutsSome (O.written out.old) (O.written out.new) (page.old.text ++ book_orders unit reach book.now.book)) }
-    ensures cause { HasCause (O.faults out.old) (O.faults out.new) (result ≡ Err PrintError.Write) }
+    ensures printed { OnOk result (
+        PagePrints O.written out.old out.new page.old page.new
+        (book_orders unit reach book.now.book)) }
+    ensures err { OnErr result (
+        PutsPrefix O.written out.old out.new (page.old.text ++ book_orders unit reach
+        book.now.book)) }
+    ensures unspent { result ≢ Err PrintError.SequencesSpent }
+    ensures cause { CountsFault O.faults out.old out.new (result ≡ Err PrintError.Write) }
 {
     let mut orders = OrderList::make(alloc);
     book.orders_by_id(&mut orders)?;
@@ -95,10 +111,12 @@ fn print_unit<O: Sink>(
 ) -> Result<(), PrintError>
     // Whatever blocks the unit's client has heard, the book that it has by them was printed.
     ensures printed { OnOk result ((H : ℕ) (before : List Block) → IsClient H before unit slot.now
-        → PrintsSuch (IsUnitText H slot.now before unit) (O.written out.old) page.old.text (O.written out.new) page.new.text) }
+        → PagePrintsSuch (IsUnitText H slot.now before unit)
+        O.written out.old out.new page.old page.new) }
     ensures err { OnErr result ((H : ℕ) (before : List Block) → IsClient H before unit slot.now
-        → PutsSuch (IsUnitText H slot.now before unit) (O.written out.old) page.old.text (O.written out.new)) }
-    ensures cause { HasCause (O.faults out.old) (O.faults out.new) (result ≡ Err PrintError.Write) }
+        → PutsPrefixSuch (IsUnitText H slot.now before unit) O.written out.old out.new page.old) }
+    ensures unspent { result ≢ Err PrintError.SequencesSpent }
+    ensures cause { CountsFault O.faults out.old out.new (result ≡ Err PrintError.Write) }
 {
     match slot {
         Some(client) => print_book(alloc, page, out, unit, client.reach(), client.book()),
@@ -116,10 +134,13 @@ pub fn print_books<O: Sink>(
     requires many { length clients.now ≡ 256 }
     // Whatever blocks the clients have heard, the books that they have by them were printed.
     ensures printed { OnOk result ((H : ℕ) (before : List Block) → Clients H clients.now before
-        → PrintsSuch (AreBooksBelow H clients.now before 256) (O.written out.old) page.old.text (O.written out.new) page.new.text) }
-    ensures err { OnErr result ((H : ℕ) (before : List Block) → Clients H clients.now before → AreUnits before
-        → PutsSuch (AreFirstBooks H clients.now before) (O.written out.old) page.old.text (O.written out.new)) }
-    ensures cause { HasCause (O.faults out.old) (O.faults out.new) (result ≡ Err PrintError.Write) }
+        → PagePrintsSuch (AreBooksBelow H clients.now before 256)
+        O.written out.old out.new page.old page.new) }
+    ensures err { OnErr result ((H : ℕ) (before : List Block)
+        → Clients H clients.now before → AreUnits before
+        → PutsPrefixSuch (AreFirstBooks H clients.now before) O.written out.old out.new page.old) }
+    ensures unspent { result ≢ Err PrintError.SequencesSpent }
+    ensures cause { CountsFault O.faults out.old out.new (result ≡ Err PrintError.Write) }
 {
     'units: for unit in 0..clients.len() {
         print_unit(alloc, unit as u8, &clients[unit], page, out)?;

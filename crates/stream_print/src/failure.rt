@@ -1,6 +1,7 @@
 use crate::putting::PutFailed;
 use pcap_feed::CaptureFault;
 use pitch_fields::OutOfMemory;
+use relay_unit::RelayError;
 use unit_packets::BlockFault;
 
 /// What is wrong with a stream of blocks.
@@ -19,6 +20,8 @@ pub enum StreamTrouble {
 pub enum StreamFailure {
     /// The stream has a fault, or is too long.
     BadInput(StreamTrouble),
+    /// What a unit's relay sends has no sequences any more.
+    SequencesSpent,
     /// The source failed.
     Read,
     /// The sink failed.
@@ -30,6 +33,8 @@ pub enum StreamFailure {
 /// Why text could not be printed.
 #[derive(Clone, Copy, Debug, PartialEq, Eq)]
 pub enum PrintError {
+    /// What a unit's relay sends has no sequences any more.
+    SequencesSpent,
     /// The sink failed.
     Write,
     /// Memory ran out.
@@ -58,6 +63,20 @@ impl From<OutOfMemory> for PrintError {
     }
 }
 
+impl From<RelayError> for PrintError {
+    ghost use Rattle.std.specs.Prelude.{◌≡◌};
+    ghost use Rattle.stream_print.specs.Failures.{unrelayed};
+
+    ghost from_gives = { λ relayed error. error ≡ unrelayed relayed };
+
+    fn from(error: RelayError) -> PrintError {
+        match error {
+            RelayError::SequencesSpent { .. } => PrintError::SequencesSpent,
+            RelayError::OutOfMemory => PrintError::OutOfMemory,
+        }
+    }
+}
+
 impl From<PrintError> for StreamFailure {
     ghost use Rattle.std.specs.Prelude.{◌≡◌};
     ghost use Rattle.stream_print.specs.Failures.{unprinted};
@@ -66,6 +85,7 @@ impl From<PrintError> for StreamFailure {
 
     fn from(error: PrintError) -> StreamFailure {
         match error {
+            PrintError::SequencesSpent => StreamFailure::SequencesSpent,
             PrintError::Write => StreamFailure::Write,
             PrintError::OutOfMemory => StreamFailure::OutOfMemory,
         }

@@ -4,8 +4,9 @@
 //!
 //! `print_stream` says for each way to end what was written, whatever pieces the source gives: the
 //! whole text, the texts of the blocks before a fault, or some prefix of the text where a device or
-//! memory failed. Give it a carrier, a form, a source and a sink; a command with a new form adds a
-//! `Task`, and one whose blocks come otherwise a `Carrier` with its reader.
+//! memory failed. Where a text rests on the messages of the venues, that is said for every family
+//! of venues of which the blocks speak. Give it a carrier, a form, a source and a sink; a command
+//! with a new form adds a `Task`, and one whose blocks come otherwise a `Carrier` with its reader.
 #![tactic(auto)]
 
 mod blocks;
@@ -13,6 +14,7 @@ mod books;
 mod carrier;
 mod counts;
 mod failure;
+mod listed;
 mod packets;
 mod page;
 mod pieces;
@@ -28,6 +30,5 @@ pub use crate::carrier::Carrier;
 pub use crate::failure::{StreamFailure, StreamTrouble};
 pub use crate::pieces::{PIECE, piece_buffer, take_at_most};
 pub use crate::putting::{PutFailed, put_all};
-pub use crate::reader::block_trouble;
 pub use crate::stream::{INPUT_LIMIT, print_stream};
 pub use crate::stream_form::StreamForm;

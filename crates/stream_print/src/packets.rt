@@ -1,10 +1,10 @@
-ghost use Rattle.std.specs.Prelude.{◌≡◌, ◌≤◌, ◌+◌, ◌*◌, ◌++◌, [], ◌∷◌, List, ℕ, length, OnOk, OnErr, IfOk, IfSome, Err, Some};
+ghost use Rattle.std.specs.Prelude.{◌≡◌, ◌≤◌, ◌+◌, ◌*◌, ◌++◌, [], ◌∷◌, List, ℕ, length, OnOk, IfErr, IfOk, IfSome, Err, Some};
 ghost use Rattle.std.specs.List.{flat_map};
 ghost use Rattle.unit_packets.specs.Cutting.{blocks_of};
 ghost use Rattle.pcap_feed.specs.Capture.{packets_from, front_of};
 ghost use Rattle.pcap_feed.specs.Datagrams.{span_bytes, payloads_in};
 ghost use Rattle.pcap_feed.specs.Stream.{items_within};
-ghost use Rattle.pitch_io.specs.Causes.{HasCause};
+ghost use Rattle.stream_print.specs.Sinks.{CountsFault};
 ghost use Rattle.stream_print.specs.Carriers.{blocks_in};
 ghost use Rattle.stream_print.specs.Printing.{PrintsDatagrams, PrintsPackets, PrintsLoaded, FailsBlocks};
 
@@ -24,9 +24,13 @@ fn print_payload<O: Sink>(
     out: &mut O,
 ) -> Result<PacketUse, PrintError>
     requires few { 8 * printer.old.number + length datagram.now ≤ 1073741824 }
-    ensures prints { IfOk result (λ is. PrintsDatagrams printer.old printer.new (length datagram.now) (datagram.now ∷ []) is (O.written out.old) (O.written out.new)) }
-    ensures err { OnErr result (FailsBlocks printer.old (O.written out.old) (O.written out.new) (flat_map blocks_of (datagram.now ∷ []))) }
-    ensures cause { HasCause (O.faults out.old) (O.faults out.new) (result ≡ Err PrintError.Write) }
+    ensures prints { IfOk result (λ is.
+        PrintsDatagrams printer.old printer.new (length datagram.now) (datagram.now ∷ []) is
+        (O.written out.old) (O.written out.new)) }
+    ensures err { IfErr result (λ error.
+        FailsBlocks error printer.old (O.written out.old) (O.written out.new)
+        (flat_map blocks_of (datagram.now ∷ []))) }
+    ensures cause { CountsFault O.faults out.old out.new (result ≡ Err PrintError.Write) }
 {
     let whole = print_blocks(alloc, datagram, printer, out)?;
     if datagram.is_empty() {
@@ -48,9 +52,13 @@ fn print_datagram<O: Sink>(
 ) -> Result<PacketUse, PrintError>
     requires within { IfSome datagram (λ found. found.0 + found.1 ≤ length frame.now) }
     requires few { 8 * printer.old.number + length frame.now ≤ 1073741824 }
-    ensures prints { IfOk result (λ is. PrintsDatagrams printer.old printer.new (length frame.now) (span_bytes frame.now datagram) is (O.written out.old) (O.written out.new)) }
-    ensures err { OnErr result (FailsBlocks printer.old (O.written out.old) (O.written out.new) (flat_map blocks_of (span_bytes frame.now datagram))) }
-    ensures cause { HasCause (O.faults out.old) (O.faults out.new) (result ≡ Err PrintError.Write) }
+    ensures prints { IfOk result (λ is.
+        PrintsDatagrams printer.old printer.new (length frame.now) (span_bytes frame.now datagram)
+        is (O.written out.old) (O.written out.new)) }
+    ensures err { IfErr result (λ error.
+        FailsBlocks error printer.old (O.written out.old) (O.written out.new)
+        (flat_map blocks_of (span_bytes frame.now datagram))) }
+    ensures cause { CountsFault O.faults out.old out.new (result ≡ Err PrintError.Write) }
 {
     match datagram {
         Some(found) => print_payload(alloc, &frame[found.0..found.0 + found.1], printer, out),
@@ -67,9 +75,13 @@ fn print_packet<O: Sink>(
     out: &mut O,
 ) -> Result<PacketUse, PrintError>
     requires few { 8 * printer.old.number + length packet.now.bytes ≤ 1073741824 }
-    ensures prints { IfOk result (λ is. PrintsDatagrams printer.old printer.new (length packet.now.bytes) (payloads_in port packet.now) is (O.written out.old) (O.written out.new)) }
-    ensures err { OnErr result (FailsBlocks printer.old (O.written out.old) (O.written out.new) (flat_map blocks_of (payloads_in port packet.now))) }
-    ensures cause { HasCause (O.faults out.old) (O.faults out.new) (result ≡ Err PrintError.Write) }
+    ensures prints { IfOk result (λ is.
+        PrintsDatagrams printer.old printer.new (length packet.now.bytes)
+        (payloads_in port packet.now) is (O.written out.old) (O.written out.new)) }
+    ensures err { IfErr result (λ error.
+        FailsBlocks error printer.old (O.written out.old) (O.written out.new)
+        (flat_map blocks_of (payloads_in port packet.now))) }
+    ensures cause { CountsFault O.faults out.old out.new (result ≡ Err PrintError.Write) }
 {
     let datagram = payload_in(packet.original, packet.bytes, port);
     print_datagram(alloc, packet.bytes, datagram, printer, out)
@@ -87,9 +99,13 @@ fn print_packets<O: Sink>(
     out: &mut O,
 ) -> Result<usize, PrintError>
     requires few { 8 * printer.old.number + length bytes.now ≤ 1073741824 }
-    ensures prints { IfOk result (λ n. PrintsPackets order port printer.old printer.new counts.old counts.new bytes.now n (O.written out.old) (O.written out.new)) }
-    ensures err { OnErr result (FailsBlocks printer.old (O.written out.old) (O.written out.new) (blocks_in port (items_within (front_of order) bytes.now))) }
-    ensures cause { HasCause (O.faults out.old) (O.faults out.new) (result ≡ Err PrintError.Write) }
+    ensures prints { IfOk result (λ n.
+        PrintsPackets order port printer.old printer.new counts.old counts.new bytes.now n
+        (O.written out.old) (O.written out.new)) }
+    ensures err { IfErr result (λ error.
+        FailsBlocks error printer.old (O.written out.old) (O.written out.new)
+        (blocks_in port (items_within (front_of order) bytes.now))) }
+    ensures cause { CountsFault O.faults out.old out.new (result ≡ Err PrintError.Write) }
 {
     let mut at = 0;
     'packet: while at <= bytes.len() {
@@ -114,17 +130,18 @@ pub struct PacketReader {
 }
 
 impl PacketReader {
-    ghost use Rattle.std.specs.Prelude.{◌≡◌, ◌≤◌, ◌+◌, ◌*◌, ◌++◌, [], length, OnOk, OnErr, Err, Ok};
+    ghost use Rattle.std.specs.Prelude.{◌≡◌, ◌≤◌, ◌+◌, ◌*◌, ◌++◌, [], length, OnOk, IfErr, Err, Ok};
     ghost use Rattle.pcap_feed.specs.Capture.{front_of, packets_from, judge_head};
     ghost use Rattle.pcap_feed.specs.Feeding.{more_loaded, unfed};
     ghost use Rattle.pcap_feed.specs.Stream.{items_within};
-    ghost use Rattle.pitch_io.specs.Causes.{HasCause};
+    ghost use Rattle.stream_print.specs.Sinks.{CountsFault};
     ghost use Rattle.stream_print.specs.Carriers.{blocks_in};
     ghost use Rattle.stream_print.specs.Printing.{PrintsFrom, PrintsLoaded, FailsBlocks};
 
     /// Nothing was read of the capture yet.
     pub fn make(alloc: Global, port: Option<u16>) -> PacketReader
-        ensures { result ≡ record { reader = unfed; port = port; counts = record { packets = 0; used = 0; faulty = 0 } } }
+        ensures { result ≡ record
+            { reader = unfed; port = port; counts = record { packets = 0; used = 0; faulty = 0 } } }
     {
         PacketReader {
             reader: CaptureReader::make(alloc),
@@ -142,9 +159,13 @@ impl PacketReader {
         out: &mut O,
     ) -> Result<(), PrintError>
         requires few { 8 * printer.old.number + length self.old.reader.rest ≤ 1073741824 }
-        ensures prints { OnOk result (PrintsFrom order printer.old printer.new self.old self.new (O.written out.old) (O.written out.new)) }
-        ensures err { OnErr result (FailsBlocks printer.old (O.written out.old) (O.written out.new) (blocks_in self.old.port (items_within (front_of order) self.old.reader.rest))) }
-        ensures cause { HasCause (O.faults out.old) (O.faults out.new) (result ≡ Err PrintError.Write) }
+        ensures prints { OnOk result (
+            PrintsFrom order printer.old printer.new self.old self.new (O.written out.old)
+            (O.written out.new)) }
+        ensures err { IfErr result (λ error.
+            FailsBlocks error printer.old (O.written out.old) (O.written out.new)
+            (blocks_in self.old.port (items_within (front_of order) self.old.reader.rest))) }
+        ensures cause { CountsFault O.faults out.old out.new (result ≡ Err PrintError.Write) }
     {
         let rest = self.reader.rest();
         let size = print_packets(
@@ -168,9 +189,13 @@ impl PacketReader {
         out: &mut O,
     ) -> Result<(), PrintError>
         requires few { 8 * printer.old.number + length self.old.reader.rest ≤ 1073741824 }
-        ensures prints { OnOk result (PrintsLoaded printer.old printer.new self.old self.new (O.written out.old) (O.written out.new)) }
-        ensures err { OnErr result (FailsBlocks printer.old (O.written out.old) (O.written out.new) (blocks_in self.old.port (packets_from self.old.reader.told self.old.reader.rest))) }
-        ensures cause { HasCause (O.faults out.old) (O.faults out.new) (result ≡ Err PrintError.Write) }
+        ensures prints { OnOk result (
+            PrintsLoaded printer.old printer.new self.old self.new (O.written out.old)
+            (O.written out.new)) }
+        ensures err { IfErr result (λ error.
+            FailsBlocks error printer.old (O.written out.old) (O.written out.new)
+            (blocks_in self.old.port (packets_from self.old.reader.told self.old.reader.rest))) }
+        ensures cause { CountsFault O.faults out.old out.new (result ≡ Err PrintError.Write) }
     {
         match self.reader.begin() {
             Ok(order) => self.print_from(alloc, order, printer, out),
@@ -186,10 +211,17 @@ impl PacketReader {
         piece: &[u8],
         out: &mut O,
     ) -> Result<(), PrintError>
-        requires few { 8 * printer.old.number + length self.old.reader.rest + length piece.now ≤ 1073741824 }
-        ensures prints { OnOk result (PrintsLoaded printer.old printer.new (record self.old { reader = more_loaded self.old.reader piece.now }) self.new (O.written out.old) (O.written out.new)) }
-        ensures err { OnErr result (FailsBlocks printer.old (O.written out.old) (O.written out.new) (blocks_in self.old.port (packets_from self.old.reader.told (self.old.reader.rest ++ piece.now)))) }
-        ensures cause { HasCause (O.faults out.old) (O.faults out.new) (result ≡ Err PrintError.Write) }
+        requires few { 8 * printer.old.number + length self.old.reader.rest + length piece.now
+            ≤ 1073741824 }
+        ensures prints { OnOk result (
+            PrintsLoaded printer.old printer.new
+            (record self.old { reader = more_loaded self.old.reader piece.now }) self.new
+            (O.written out.old) (O.written out.new)) }
+        ensures err { IfErr result (λ error.
+            FailsBlocks error printer.old (O.written out.old) (O.written out.new)
+            (blocks_in self.old.port (packets_from self.old.reader.told (self.old.reader.rest ++
+            piece.now)))) }
+        ensures cause { CountsFault O.faults out.old out.new (result ≡ Err PrintError.Write) }
     {
         self.reader.load(piece)?;
         self.print_loaded(alloc, printer, out)

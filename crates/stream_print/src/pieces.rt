@@ -1,5 +1,5 @@
 ghost use Rattle.std.specs.Prelude.{◌≡◌, ◌<◌, IfOk, length};
-ghost use Rattle.pitch_io.specs.Causes.{HasCause};
+ghost use Rattle.stream_print.specs.Sinks.{CountsFault};
 ghost use Rattle.pitch_io.specs.Taking.{Takes, TakeFailed};
 ghost use Rattle.stream_print.specs.Pieces.{IsBetween};
 
@@ -24,7 +24,7 @@ pub fn take_at_most<I: Source>(input: &mut I, piece: &mut [u8], most: usize) -> 
     ensures count { IsBetween result most piece.new }
     ensures bytes { Takes (I.left input.old) (I.left input.new) result piece.new }
     ensures size { length piece.new ≡ length piece.old }
-    ensures cause { HasCause (I.faults input.old) (I.faults input.new) (TakeFailed result) }
+    ensures cause { CountsFault I.faults input.old input.new (TakeFailed result) }
 {
     let count = piece.len().min(most);
     input.take(&mut piece[..count])

@@ -19,15 +19,13 @@ pub struct Printer {
 }
 
 impl Printer {
-    ghost use Rattle.stream_print.specs.Page.{PrintsSuch, Prints};
-    ghost use Rattle.std.specs.Prelude.{◌≡◌, ◌≤◌, ◌<◌, ◌+◌, ◌^◌, ◌++◌, [], ◌∷◌, List, length, OnOk, OnErr, IfOk, Err};
+    ghost use Rattle.std.specs.Prelude.{◌≡◌, ◌≢◌, ◌<◌, ◌+◌, ◌^◌, [], ◌∷◌, List, OnOk, OnErr, IfOk, IfErr, Err};
     ghost use Rattle.unit_packets.specs.Blocks.{Block};
-    ghost use Rattle.pitch_io.specs.Causes.{HasCause};
+    ghost use Rattle.stream_print.specs.Sinks.{PagePrintsSuch, PutsPrefixSuch, CountsFault};
     ghost use Rattle.stream_print.specs.Holding.{CanHold};
     ghost use Rattle.stream_print.specs.Knowing.{task_form, HasPrinted};
-    ghost use Rattle.stream_print.specs.Printing.{PrintsBlock};
-    ghost use Rattle.stream_print.specs.Putting.{PutsSuch, PutsSome};
-    ghost use Rattle.stream_print.specs.Texts.{block_text, IsEnd, IsPrefixOfEnd};
+    ghost use Rattle.stream_print.specs.Printing.{PrintsBlocks, FailsBlocks};
+    ghost use Rattle.stream_print.specs.Texts.{IsEnd, IsPrefixOfEnd};
 
     /// Nothing was printed yet of what the form asks for.
     pub fn make(alloc: Global, form: StreamForm) -> Result<Printer, OutOfMemory>
@@ -51,12 +49,14 @@ impl Printer {
         out: &mut O,
     ) -> Result<(), PrintError>
         requires few { self.old.number < 2 ^ 32 }
-        ensures prints { OnOk result (PrintsBlock self.old self.new (O.written out.old) (O.written out.new) block.now) }
+        ensures prints { OnOk result (
+            PrintsBlocks self.old self.new (O.written out.old) (O.written out.new)
+            (block.now ∷ [])) }
         ensures number { OnOk result (self.new.number ≡ self.old.number + 1) }
         // After a failure the sink has a prefix of the page and of the block's text.
-        ensures err { OnErr result ((before : List Block) → HasPrinted self.old before
-            → PutsSome (O.written out.old) (O.written out.new) (self.old.page.text ++ block_text (task_form self.old.task) before block.now)) }
-        ensures cause { HasCause (O.faults out.old) (O.faults out.new) (result ≡ Err PrintError.Write) }
+        ensures err { IfErr result (λ error.
+            FailsBlocks error self.old (O.written out.old) (O.written out.new) (block.now ∷ [])) }
+        ensures cause { CountsFault O.faults out.old out.new (result ≡ Err PrintError.Write) }
     {
         self.number += 1;
         print_block(
@@ -73,10 +73,13 @@ impl Printer {
     pub fn print_end<O: Sink>(&mut self, alloc: Global, out: &mut O) -> Result<(), PrintError>
         // Whatever blocks were printed before, what follows them at the end was printed.
         ensures printed { OnOk result ((before : List Block) → HasPrinted self.old before
-            → PrintsSuch (IsEnd (task_form self.old.task) before) (O.written out.old) self.old.page.text (O.written out.new) self.new.page.text) }
+            → PagePrintsSuch (IsEnd (task_form self.old.task) before)
+            O.written out.old out.new self.old.page self.new.page) }
         ensures err { OnErr result ((before : List Block) → HasPrinted self.old before
-            → PutsSuch (IsPrefixOfEnd (task_form self.old.task) before) (O.written out.old) self.old.page.text (O.written out.new)) }
-        ensures cause { HasCause (O.faults out.old) (O.faults out.new) (result ≡ Err PrintError.Write) }
+            → PutsPrefixSuch (IsPrefixOfEnd (task_form self.old.task) before)
+            O.written out.old out.new self.old.page) }
+        ensures unspent { IfErr result (λ error. error ≢ PrintError.SequencesSpent) }
+        ensures cause { CountsFault O.faults out.old out.new (result ≡ Err PrintError.Write) }
     {
         print_end(alloc, &self.task, &mut self.page, out)
     }

@@ -1,7 +1,6 @@
 ghost use Rattle.std.specs.Prelude.{OnOk, OnErr, IsErr};
-ghost use Rattle.pitch_io.specs.Causes.{HasCause};
+ghost use Rattle.stream_print.specs.Sinks.{PutsPrefix, CountsFault};
 ghost use Rattle.pitch_io.specs.Putting.{Grows};
-ghost use Rattle.stream_print.specs.Putting.{PutsSome};
 
 use pitch_io::{Put, Sink};
 
@@ -12,8 +11,8 @@ pub struct PutFailed;
 /// Writes all the bytes. After a failure the sink has a prefix of them.
 pub fn put_all<O: Sink>(out: &mut O, bytes: &[u8]) -> Result<(), PutFailed>
     ensures ok { OnOk result (Grows (O.written out.old) (O.written out.new) bytes.now) }
-    ensures err { OnErr result (PutsSome (O.written out.old) (O.written out.new) bytes.now) }
-    ensures cause { HasCause (O.faults out.old) (O.faults out.new) (IsErr result) }
+    ensures err { OnErr result (PutsPrefix O.written out.old out.new bytes.now) }
+    ensures cause { CountsFault O.faults out.old out.new (IsErr result) }
 {
     let mut at = 0;
     'puts: while at < bytes.len() {

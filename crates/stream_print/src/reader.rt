@@ -1,7 +1,7 @@
-ghost use Rattle.std.specs.Prelude.{◌≡◌, ◌≤◌, ◌+◌, ◌*◌, ◌++◌, length, OnOk, OnErr, Err, option_map};
+ghost use Rattle.std.specs.Prelude.{◌≡◌, ◌≤◌, ◌+◌, ◌*◌, ◌++◌, length, OnOk, OnErr, IfErr, Err, option_map};
 ghost use Rattle.unit_packets.specs.Cutting.{blocks_of, fault_in};
 ghost use Rattle.unit_packets.specs.Reading.{loaded};
-ghost use Rattle.pitch_io.specs.Causes.{HasCause};
+ghost use Rattle.stream_print.specs.Sinks.{CountsFault};
 ghost use Rattle.pcap_feed.specs.Feeding.{held_fault};
 ghost use Rattle.stream_print.specs.Printing.{PrintsBare, FailsBlocks};
 ghost use Rattle.stream_print.specs.declared.failure.StreamTrouble.TheVariants.{Faulty, BadCapture};
@@ -27,9 +27,13 @@ fn print_bare<O: Sink>(
     out: &mut O,
 ) -> Result<(), PrintError>
     requires few { 8 * printer.old.number + length reader.old.rest + length piece.now ≤ 1073741824 }
-    ensures prints { OnOk result (PrintsBare printer.old printer.new (loaded reader.old piece.now) reader.new (O.written out.old) (O.written out.new)) }
-    ensures err { OnErr result (FailsBlocks printer.old (O.written out.old) (O.written out.new) (blocks_of (reader.old.rest ++ piece.now))) }
-    ensures cause { HasCause (O.faults out.old) (O.faults out.new) (result ≡ Err PrintError.Write) }
+    ensures prints { OnOk result (
+        PrintsBare printer.old printer.new (loaded reader.old piece.now) reader.new
+        (O.written out.old) (O.written out.new)) }
+    ensures err { IfErr result (λ error.
+        FailsBlocks error printer.old (O.written out.old) (O.written out.new)
+        (blocks_of (reader.old.rest ++ piece.now))) }
+    ensures cause { CountsFault O.faults out.old out.new (result ≡ Err PrintError.Write) }
 {
     reader.load(piece)?;
     let size = print_blocks(alloc, reader.rest(), printer, out)?;
@@ -57,9 +61,9 @@ fn block_fault(reader: &BlockReader, ended: bool) -> Option<BlockFault>
     }
 }
 
-/// What is wrong behind the whole blocks that a reader has passed, where the stream goes on or has
-/// ended.
-pub fn block_trouble(reader: &BlockReader, ended: bool) -> Option<StreamTrouble>
+// What is wrong behind the whole blocks that a reader has passed, where the stream goes on or has
+// ended.
+fn block_trouble(reader: &BlockReader, ended: bool) -> Option<StreamTrouble>
     ensures { result ≡ option_map Faulty (fault_in ended reader.now.place reader.now.rest) }
 {
     match block_fault(reader, ended) {
@@ -88,13 +92,11 @@ pub enum StreamReader {
 }
 
 impl StreamReader {
-    ghost use Rattle.std.specs.Prelude.{◌≡◌, ◌≤◌, ◌+◌, ◌*◌, ◌++◌, [], List, ℕ, length, OnOk, OnErr, Err, IsErr};
-    ghost use Rattle.pitch_io.specs.Causes.{HasCause};
+    ghost use Rattle.std.specs.Prelude.{◌≡◌, ◌≤◌, ◌+◌, ◌*◌, ◌++◌, [], List, ℕ, length, OnOk, OnErr, IfErr, Err, IsErr};
+    ghost use Rattle.stream_print.specs.Sinks.{PagePrints, PutsPrefix, CountsFault};
     ghost use Rattle.stream_print.specs.Carriers.{with_counts};
     ghost use Rattle.stream_print.specs.Inputs.{stream_limit, lasting_trouble, end_trouble};
-    ghost use Rattle.stream_print.specs.Page.{Prints};
     ghost use Rattle.stream_print.specs.Printing.{PrintsPiece, FailsBlocks};
-    ghost use Rattle.stream_print.specs.Putting.{PutsSome};
     ghost use Rattle.stream_print.specs.Readers.{HasRead, rest_size, blocks_with, packets_text};
     ghost use Rattle.stream_print.specs.declared.carrier.Carrier.{Carrier};
 
@@ -118,9 +120,13 @@ impl StreamReader {
         out: &mut O,
     ) -> Result<(), PrintError>
         requires few { 8 * printer.old.number + rest_size self.old + length piece.now ≤ 1073741824 }
-        ensures prints { OnOk result (PrintsPiece printer.old printer.new self.old self.new piece.now (O.written out.old) (O.written out.new)) }
-        ensures err { OnErr result (FailsBlocks printer.old (O.written out.old) (O.written out.new) (blocks_with self.old piece.now)) }
-        ensures cause { HasCause (O.faults out.old) (O.faults out.new) (result ≡ Err PrintError.Write) }
+        ensures prints { OnOk result (
+            PrintsPiece printer.old printer.new self.old self.new piece.now (O.written out.old)
+            (O.written out.new)) }
+        ensures err { IfErr result (λ error.
+            FailsBlocks error printer.old (O.written out.old) (O.written out.new)
+            (blocks_with self.old piece.now)) }
+        ensures cause { CountsFault O.faults out.old out.new (result ≡ Err PrintError.Write) }
     {
         match self {
             StreamReader::Blocks(reader) => print_bare(alloc, reader, printer, piece, out),
@@ -130,7 +136,9 @@ impl StreamReader {
 
     /// What is wrong with the stream so far, which more bytes do not mend.
     pub fn lasting_trouble(&self) -> Option<StreamTrouble>
-        ensures { (carrier : Carrier) (bytes : List ℕ) → length bytes ≤ stream_limit → HasRead carrier self.now bytes → result ≡ lasting_trouble carrier bytes }
+        // Whatever bytes the reader has come to the end of, this is their trouble.
+        ensures { (carrier : Carrier) (bytes : List ℕ) → length bytes ≤ stream_limit
+            → HasRead carrier self.now bytes → result ≡ lasting_trouble carrier bytes }
     {
         match self {
             StreamReader::Blocks(reader) => block_trouble(reader, false),
@@ -140,7 +148,9 @@ impl StreamReader {
 
     /// What is wrong with the stream, where it ends here.
     pub fn end_trouble(&self) -> Option<StreamTrouble>
-        ensures { (carrier : Carrier) (bytes : List ℕ) → length bytes ≤ stream_limit → HasRead carrier self.now bytes → result ≡ end_trouble carrier bytes }
+        // Whatever bytes the reader has come to the end of, this is their trouble.
+        ensures { (carrier : Carrier) (bytes : List ℕ) → length bytes ≤ stream_limit
+            → HasRead carrier self.now bytes → result ≡ end_trouble carrier bytes }
     {
         match self {
             StreamReader::Blocks(reader) => block_trouble(reader, true),
@@ -150,9 +160,11 @@ impl StreamReader {
 
     /// Prints the line of the packets of a capture.
     pub fn print_counts<O: Sink>(&self, page: &mut Page, out: &mut O) -> Result<(), PutFailed>
-        ensures ok { OnOk result (Prints (O.written out.old) page.old.text (O.written out.new) page.new.text (packets_text self.now)) }
-        ensures err { OnErr result (PutsSome (O.written out.old) (O.written out.new) (page.old.text ++ packets_text self.now)) }
-        ensures cause { HasCause (O.faults out.old) (O.faults out.new) (IsErr result) }
+        ensures ok { OnOk result (
+            PagePrints O.written out.old out.new page.old page.new (packets_text self.now)) }
+        ensures err { OnErr result (
+            PutsPrefix O.written out.old out.new (page.old.text ++ packets_text self.now)) }
+        ensures cause { CountsFault O.faults out.old out.new (IsErr result) }
     {
         match self {
             StreamReader::Blocks(_) => Ok(()),

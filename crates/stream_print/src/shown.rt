@@ -1,9 +1,7 @@
 ghost use Rattle.std.specs.Prelude.{◌≡◌, ◌≤◌, ◌++◌, length, OnOk, OnErr, IsErr};
 ghost use Rattle.unit_packets.specs.Blocks.{StaysWithin};
-ghost use Rattle.pitch_io.specs.Causes.{HasCause};
+ghost use Rattle.stream_print.specs.Sinks.{PagePrints, PutsPrefix, CountsFault};
 ghost use Rattle.feed_lines.specs.Show.{message_lines};
-ghost use Rattle.stream_print.specs.Page.{Prints};
-ghost use Rattle.stream_print.specs.Putting.{PutsSome};
 
 use crate::page::Page;
 use crate::putting::PutFailed;
@@ -19,9 +17,11 @@ pub fn print_messages<O: Sink>(
     raws: Raws<'_>,
 ) -> Result<(), PutFailed>
     requires within { StaysWithin first (length raws) }
-    ensures printed { OnOk result (Prints (O.written out.old) page.old.text (O.written out.new) page.new.text (message_lines first raws.entry)) }
-    ensures err { OnErr result (PutsSome (O.written out.old) (O.written out.new) (page.old.text ++ message_lines first raws.entry)) }
-    ensures cause { HasCause (O.faults out.old) (O.faults out.new) (IsErr result) }
+    ensures printed { OnOk result (
+        PagePrints O.written out.old out.new page.old page.new (message_lines first raws.entry)) }
+    ensures err { OnErr result (
+        PutsPrefix O.written out.old out.new (page.old.text ++ message_lines first raws.entry)) }
+    ensures cause { CountsFault O.faults out.old out.new (IsErr result) }
 {
     let mut raws = raws;
     let mut sequence = first;

@@ -1,10 +1,10 @@
 ghost use Rattle.std.specs.Prelude.{◌≡◌, ◌≢◌, Option, None, ◌≤◌, ◌+◌, ◌*◌, ◌++◌, ℕ, List, length, Err};
 ghost use Rattle.std.specs.Io.KnownBytes.{Consumes, Keeps, IsAtEnd};
-ghost use Rattle.pitch_io.specs.Causes.{HasCause};
+ghost use Rattle.stream_print.specs.Sinks.{CountsFault};
 ghost use Rattle.stream_print.specs.Feeding.{Fed, StreamFeeds};
 ghost use Rattle.stream_print.specs.Inputs.{stream_limit, lasting_trouble, StopsSoon, StreamEnds};
 ghost use Rattle.stream_print.specs.Told.{between, told, TakesAtMost};
-ghost use Rattle.stream_print.specs.Holding.{CanHold};
+ghost use Rattle.stream_print.specs.Holding.{CanHold, Suits};
 ghost use Rattle.stream_print.specs.Knowing.{task_form};
 ghost use Rattle.stream_print.specs.Readers.{rest_size};
 ghost use Rattle.stream_print.specs.declared.carrier.Carrier.{Carrier};
@@ -33,10 +33,14 @@ fn feed<O: Sink>(
     requires within { fed ≤ INPUT_LIMIT }
     requires few { 8 * printer.old.number + rest_size reader.old ≤ fed }
     // Where the bytes before were fed, this piece was fed after them, or the stream has ended.
-    ensures feeds { (carrier : Carrier) (first now start : Option (List ℕ)) (bytes : List ℕ) → length bytes ≡ fed
-        → Fed carrier (task_form printer.old.task) start (O.written out.old) printer.old reader.old bytes → Consumes first now (bytes ++ piece.now)
-        → StreamFeeds carrier (task_form printer.old.task) stream_limit result (between first now) (between start (O.written out.new)) printer.new reader.new (bytes ++ piece.now) }
-    ensures cause { HasCause (O.faults out.old) (O.faults out.new) (result ≡ Err StreamFailure.Write) }
+    ensures feeds { (carrier : Carrier) (first now start : Option (List ℕ)) (bytes : List ℕ)
+        → length bytes ≡ fed
+        → Fed carrier (task_form printer.old.task) start (O.written out.old)
+        printer.old reader.old bytes
+        → Consumes first now (bytes ++ piece.now)
+        → StreamFeeds carrier (task_form printer.old.task) stream_limit result (between first now)
+        (between start (O.written out.new)) printer.new reader.new (bytes ++ piece.now) }
+    ensures cause { CountsFault O.faults out.old out.new (result ≡ Err StreamFailure.Write) }
     ensures not_read { result ≢ Err StreamFailure.Read }
 {
     let kept = piece.len().min(INPUT_LIMIT - fed);
@@ -60,11 +64,15 @@ fn finish<O: Sink>(
     out: &mut O,
 ) -> Result<(), StreamFailure>
     // Where these bytes were fed and the source is at its end, the stream has ended.
-    ensures finishes { (carrier : Carrier) (first before now start : Option (List ℕ)) (bytes : List ℕ) → length bytes ≤ stream_limit
-        → Fed carrier (task_form printer.old.task) start (O.written out.old) printer.old reader.now bytes → lasting_trouble carrier bytes ≡ None
+    ensures finishes { (carrier : Carrier) (first before now start : Option (List ℕ))
+        (bytes : List ℕ) → length bytes ≤ stream_limit
+        → Fed carrier (task_form printer.old.task) start (O.written out.old)
+        printer.old reader.now bytes
+        → lasting_trouble carrier bytes ≡ None
         → Consumes first before bytes → IsAtEnd before × Keeps before now
-        → StreamEnds carrier (task_form printer.old.task) stream_limit result (between first now) (between start (O.written out.new)) }
-    ensures cause { HasCause (O.faults out.old) (O.faults out.new) (result ≡ Err StreamFailure.Write) }
+        → StreamEnds carrier (task_form printer.old.task) stream_limit result (between first now)
+        (between start (O.written out.new)) }
+    ensures cause { CountsFault O.faults out.old out.new (result ≡ Err StreamFailure.Write) }
     ensures not_read { result ≢ Err StreamFailure.Read }
 {
     match reader.end_trouble() {
@@ -78,11 +86,13 @@ fn finish<O: Sink>(
 }
 
 /// Prints what the form asks for of the blocks in the stream that a source gives: a text for each
-/// block, and one at the stream's end. At most `INPUT_LIMIT` bytes are read.
+/// block, as soon as it has come, and one at the stream's end. At most `INPUT_LIMIT` bytes are
+/// read.
 ///
-/// The blocks stand back to back, or in the datagrams of a capture file. Of a capture the texts are
-/// those of the whole blocks of each datagram, in the order of the packets, and the last line
-/// counts the packets, those with a datagram and those whose datagram is faulty.
+/// The blocks stand back to back, for a relay those of the lines and those of Spin Servers as they
+/// came; or in the datagrams of a capture file. Of a capture the texts are those of the whole
+/// blocks of each datagram, in the order of the packets, and the last line counts the packets,
+/// those with a datagram and those whose datagram is faulty.
 pub fn print_stream<I: Source, O: Sink>(
     alloc: Global,
     carrier: Carrier,
@@ -90,15 +100,19 @@ pub fn print_stream<I: Source, O: Sink>(
     input: &mut I,
     out: &mut O,
 ) -> Result<(), StreamFailure>
-    requires { CanHold form }
+    requires hold { CanHold form }
+    // A relay, behind whose datagrams no line of packets can stand, reads bare blocks.
+    requires suits { Suits carrier form }
     // How the stream ended says what was read and what was written.
-    ensures ends { StreamEnds carrier form stream_limit result (told I.left input.old input.new) (told O.written out.old out.new) }
+    ensures ends { StreamEnds carrier form stream_limit result (told I.left input.old input.new)
+        (told O.written out.old out.new) }
     // However it ended, at most one byte was taken past the limit.
     ensures reads { TakesAtMost (stream_limit + 1) (told I.left input.old input.new) }
     // Nothing was taken after the piece that shows a trouble which lasts.
     ensures stops { StopsSoon carrier (told I.left input.old input.new) }
-    ensures read_cause { HasCause (I.faults input.old) (I.faults input.new) (result ≡ Err StreamFailure.Read) }
-    ensures write_cause { HasCause (O.faults out.old) (O.faults out.new) (result ≡ Err StreamFailure.Write) }
+    ensures read_cause { CountsFault I.faults input.old input.new
+        (result ≡ Err StreamFailure.Read) }
+    ensures write_cause { CountsFault O.faults out.old out.new (result ≡ Err StreamFailure.Write) }
 {
     let mut printer = Printer::make(alloc, form)?;
     let mut reader = StreamReader::make(alloc, carrier);

@@ -1,22 +1,23 @@
-ghost use Rattle.std.specs.Prelude.{◌≡◌, ◌≤◌, ◌<◌, ◌+◌, ◌++◌, [], ◌∷◌, List, length, OnOk, OnErr, IfOk, Err, ◌^◌};
+ghost use Rattle.std.specs.Prelude.{◌≡◌, ◌≢◌, ◌+◌, [], ◌∷◌, List, length, OnOk, OnErr, IfOk, IfErr, Err};
 ghost use Rattle.unit_packets.specs.Blocks.{Block};
-ghost use Rattle.pitch_io.specs.Causes.{HasCause};
 ghost use Rattle.feed_lines.specs.Follow.{line_after};
-ghost use Rattle.feed_lines.specs.Show.{shown_head, message_lines};
 ghost use Rattle.unit_clients.specs.Clients.{HaveHeard};
 ghost use Rattle.stream_print.specs.Holding.{CanHold};
 ghost use Rattle.stream_print.specs.Knowing.{task_form, Knows};
-ghost use Rattle.stream_print.specs.Page.{PrintsSuch, Prints};
-ghost use Rattle.stream_print.specs.Putting.{PutsSuch, PutsSome};
-ghost use Rattle.stream_print.specs.Texts.{block_text, IsEnd, IsPrefixOfEnd};
+ghost use Rattle.stream_print.specs.Printing.{PrintsBlock, FailsBlock};
+ghost use Rattle.stream_print.specs.Sinks.{PagePrints, PagePrintsSuch, PutsPrefix, PutsPrefixSuch, CountsFault};
+ghost use Rattle.stream_print.specs.Texts.{IsEnd, IsPrefixOfEnd};
 
 use crate::books::print_books;
 use crate::failure::PrintError;
+use crate::listed::print_quotes;
 use crate::page::Page;
 use crate::shown::print_messages;
 use crate::stream_form::StreamForm;
+use best_quotes::{QuoteLines, QuotedUnits};
 use pitch_fields::OutOfMemory;
 use pitch_io::Sink;
+use relay_unit::Relays;
 use std::alloc::Global;
 use unit_clients::Units;
 use unit_packets::BlockView;
@@ -28,6 +29,10 @@ pub enum Task {
     Follow(Units),
     /// Each block is printed with its messages.
     Show,
+    /// Each block is handed to its unit's relay.
+    Relay(Relays),
+    /// Each block is handed to its unit's client, with a ladder beside it.
+    Quotes(QuotedUnits),
 }
 
 /// The task of a form.
@@ -39,6 +44,8 @@ pub fn make_task(alloc: Global, form: StreamForm) -> Result<Task, OutOfMemory>
     match form {
         StreamForm::Follow { hold } => Ok(Task::Follow(Units::make(alloc, hold)?)),
         StreamForm::Show => Ok(Task::Show),
+        StreamForm::Relay { hold } => Ok(Task::Relay(Relays::make(alloc, hold)?)),
+        StreamForm::Quotes { hold } => Ok(Task::Quotes(QuotedUnits::make(alloc, hold)?)),
     }
 }
 
@@ -54,11 +61,15 @@ fn print_heard<O: Sink>(
     ensures limit { OnOk result (units.new.limit ≡ units.old.limit) }
     // Whatever blocks came before, the clients have then heard this one too, and its line was
     // printed.
-    ensures heard { OnOk result ((before : List Block) → HaveHeard units.old before → HaveHeard units.new (block.now ∷ before)) }
-    ensures printed { OnOk result ((before : List Block) → HaveHeard units.old before → number ≡ length before + 1
-        → Prints (O.written out.old) page.old.text (O.written out.new) page.new.text (line_after units.old.limit before block.now)) }
-    ensures err { OnErr result (PutsSome (O.written out.old) (O.written out.new) page.old.text) }
-    ensures cause { HasCause (O.faults out.old) (O.faults out.new) (result ≡ Err PrintError.Write) }
+    ensures heard { OnOk result ((before : List Block)
+        → HaveHeard units.old before → HaveHeard units.new (block.now ∷ before)) }
+    ensures printed { OnOk result ((before : List Block)
+        → HaveHeard units.old before → number ≡ length before + 1
+        → PagePrints O.written out.old out.new page.old page.new
+        (line_after units.old.limit before block.now)) }
+    ensures err { OnErr result (PutsPrefix O.written out.old out.new page.old.text) }
+    ensures unspent { result ≢ Err PrintError.SequencesSpent }
+    ensures cause { CountsFault O.faults out.old out.new (result ≡ Err PrintError.Write) }
 {
     page.make_place(out)?;
     let change = units.hear_block(alloc, block)?;
@@ -74,16 +85,65 @@ fn print_shown<O: Sink>(
     page: &mut Page,
     out: &mut O,
 ) -> Result<(), PrintError>
-    ensures printed { OnOk result (Prints (O.written out.old) page.old.text (O.written out.new) page.new.text
-        (shown_head number block.now.unit block.now.sequence (length block.now.raws) ++ message_lines block.now.sequence block.now.raws)) }
-    ensures err { OnErr result (PutsSome (O.written out.old) (O.written out.new)
-        (page.old.text ++ (shown_head number block.now.unit block.now.sequence (length block.now.raws) ++ message_lines block.now.sequence block.now.raws))) }
-    ensures cause { HasCause (O.faults out.old) (O.faults out.new) (result ≡ Err PrintError.Write) }
+    ensures prints { OnOk result (
+        PrintsBlock Task.Show Task.Show number
+        (O.written out.old) page.old.text (O.written out.new) page.new.text block.now) }
+    ensures err { IfErr result (λ error.
+        FailsBlock error Task.Show number
+        (O.written out.old) page.old.text (O.written out.new) block.now) }
+    ensures cause { CountsFault O.faults out.old out.new (result ≡ Err PrintError.Write) }
 {
     page.make_place(out)?;
     let header = block.header();
     page.add_shown_head(number, header);
     print_messages(page, out, header.sequence, block.raws())?;
+    Ok(())
+}
+
+// Hands a block to its unit's relay, and prints the datagrams that it adds.
+fn print_relayed<O: Sink>(
+    alloc: Global,
+    relays: &mut Relays,
+    number: u64,
+    block: &BlockView<'_>,
+    page: &mut Page,
+    out: &mut O,
+) -> Result<(), PrintError>
+    ensures prints { OnOk result (
+        PrintsBlock (Task.Relay relays.old) (Task.Relay relays.new) number
+        (O.written out.old) page.old.text (O.written out.new) page.new.text block.now) }
+    ensures err { IfErr result (λ error.
+        FailsBlock error (Task.Relay relays.old) number
+        (O.written out.old) page.old.text (O.written out.new) block.now) }
+    ensures cause { CountsFault O.faults out.old out.new (result ≡ Err PrintError.Write) }
+{
+    let mut datagrams = Vec::new(alloc);
+    relays.hear(alloc, block, &mut datagrams)?;
+    page.print_bytes(&datagrams, out)?;
+    Ok(())
+}
+
+// Hands a block to its unit's client, and prints a line for each best that it changes.
+fn print_quoted<O: Sink>(
+    alloc: Global,
+    units: &mut QuotedUnits,
+    number: u64,
+    block: &BlockView<'_>,
+    page: &mut Page,
+    out: &mut O,
+) -> Result<(), PrintError>
+    ensures prints { OnOk result (
+        PrintsBlock (Task.Quotes units.old) (Task.Quotes units.new) number
+        (O.written out.old) page.old.text (O.written out.new) page.new.text block.now) }
+    ensures err { IfErr result (λ error.
+        FailsBlock error (Task.Quotes units.old) number
+        (O.written out.old) page.old.text (O.written out.new) block.now) }
+    ensures cause { CountsFault O.faults out.old out.new (result ≡ Err PrintError.Write) }
+{
+    let mut lines = QuoteLines::make(alloc);
+    units.hear(alloc, block, &mut lines)?;
+    let unit = block.header().unit;
+    print_quotes(page, out, unit, lines.as_slice())?;
     Ok(())
 }
 
@@ -96,19 +156,21 @@ pub fn print_block<O: Sink>(
     page: &mut Page,
     out: &mut O,
 ) -> Result<(), PrintError>
-    ensures form { OnOk result (task_form task.new ≡ task_form task.old) }
     // Whatever blocks came before, the task knows of this one too, and its text was printed.
-    ensures knows { OnOk result ((before : List Block) → Knows task.old before → Knows task.new (block.now ∷ before)) }
-    ensures printed { OnOk result ((before : List Block) → Knows task.old before → number ≡ length before + 1
-        → Prints (O.written out.old) page.old.text (O.written out.new) page.new.text (block_text (task_form task.old) before block.now)) }
+    ensures prints { OnOk result (
+        PrintsBlock task.old task.new number
+        (O.written out.old) page.old.text (O.written out.new) page.new.text block.now) }
     // After a failure the sink has a prefix of what was to be printed.
-    ensures err { OnErr result ((before : List Block) → Knows task.old before → number ≡ length before + 1
-        → PutsSome (O.written out.old) (O.written out.new) (page.old.text ++ block_text (task_form task.old) before block.now)) }
-    ensures cause { HasCause (O.faults out.old) (O.faults out.new) (result ≡ Err PrintError.Write) }
+    ensures err { IfErr result (λ error.
+        FailsBlock error task.old number
+        (O.written out.old) page.old.text (O.written out.new) block.now) }
+    ensures cause { CountsFault O.faults out.old out.new (result ≡ Err PrintError.Write) }
 {
     match task {
         Task::Follow(units) => print_heard(alloc, units, number, block, page, out),
         Task::Show => print_shown(number, block, page, out),
+        Task::Relay(relays) => print_relayed(alloc, relays, number, block, page, out),
+        Task::Quotes(units) => print_quoted(alloc, units, number, block, page, out),
     }
 }
 
@@ -121,12 +183,18 @@ pub fn print_end<O: Sink>(
 ) -> Result<(), PrintError>
     // Whatever blocks came before, what follows them at the end of a stream was printed.
     ensures printed { OnOk result ((before : List Block) → Knows task.now before
-        → PrintsSuch (IsEnd (task_form task.now) before) (O.written out.old) page.old.text (O.written out.new) page.new.text) }
-    ensures err { OnErr result ((before : List Block) → Knows task.now before → PutsSuch (IsPrefixOfEnd (task_form task.now) before) (O.written out.old) page.old.text (O.written out.new)) }
-    ensures cause { HasCause (O.faults out.old) (O.faults out.new) (result ≡ Err PrintError.Write) }
+        → PagePrintsSuch (IsEnd (task_form task.now) before)
+        O.written out.old out.new page.old page.new) }
+    ensures err { OnErr result ((before : List Block) → Knows task.now before
+        → PutsPrefixSuch (IsPrefixOfEnd (task_form task.now) before)
+        O.written out.old out.new page.old) }
+    ensures unspent { result ≢ Err PrintError.SequencesSpent }
+    ensures cause { CountsFault O.faults out.old out.new (result ≡ Err PrintError.Write) }
 {
     match task {
         Task::Follow(units) => print_books(alloc, units.clients(), page, out),
         Task::Show => Ok(()),
+        Task::Relay(_) => Ok(()),
+        Task::Quotes(_) => Ok(()),
     }
 }

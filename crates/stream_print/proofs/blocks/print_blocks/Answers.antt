@@ -1,9 +1,10 @@
 use Rattle.std.proofs.Common.{ap, arith}
 use Rattle.std.proofs.lemmas.List.{take_rest}
-use Rattle.pitch_model.proofs.Results.{on_err}
 use Rattle.unit_packets.specs.Cutting.{blocks_of}
 use Rattle.unit_packets.specs.declared.header.Header.{Header}
 use Rattle.stream_print.specs.Printing.{FailsBlocks}
+use Rattle.stream_print.specs.declared.failure.PrintError.{PrintError}
+use Rattle.stream_print.proofs.Unprinted.{if_err}
 use Rattle.stream_print.proofs.Streaming.{taking_start, taking_more, taking_end, taking_fails}
 use Rattle.stream_print.proofs.blocks.print_blocks.Goals as goal
 
@@ -12,9 +13,9 @@ block-init g c = record { taking = taking_start c.args.printer.now c.args.bytes.
 
 pub returns-in_err-print-in-Ok-clause-err : goal.returns-in_err-print-in-Ok-clause-err
 returns-in_err-print-in-Ok-clause-err g c =
-    on_err (FailsBlocks c.args.printer.now (g.O.Sink.written c.args.out.now) (g.O.Sink.written c.print.new.out) (blocks_of c.args.bytes.now))
-    c.from_residual.result
-    (taking_fails c.args.printer.now c.block.printer c.args.bytes.now _ c.block.at (g.O.Sink.written c.args.out.now) (g.O.Sink.written c.block.out) (g.O.Sink.written c.print.new.out)
+    if_err (λ (e : PrintError). FailsBlocks e c.args.printer.now (g.O.Sink.written c.args.out.now) (g.O.Sink.written c.print.new.out) (blocks_of c.args.bytes.now))
+    c.from_residual.result _ c.from_residual.ensures
+    (taking_fails c.args.printer.now c.block.printer _ c.args.bytes.now _ c.block.at (g.O.Sink.written c.args.out.now) (g.O.Sink.written c.block.out) (g.O.Sink.written c.print.new.out)
     c.in-Ok.block c.block.invariant.taking (take_rest c.args.bytes.now c.block.at) c.in-Ok.ensures.found c.in_err-print-in-Ok.ensures.err)
 
 pub returns-in-Err-clause-prints : goal.returns-in-Err-clause-prints

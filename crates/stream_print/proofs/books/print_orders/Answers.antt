@@ -1,39 +1,31 @@
+use Rattle.std.proofs.Common.{rules, ◌++◌, length, refl, ap, arith}
+use Rattle.std.specs.List.{flat_map}
 use Rattle.std.proofs.lemmas.Option.{slice_get_read}
-use Rattle.std.proofs.Common.{refl, rules, ◌++◌, ℕ, List, take, drop, length, sym, ap, ◌∙◌, subst, arith, append_assoc}
-use Rattle.std.proofs.lemmas.List.{take-append-drop}
 use Rattle.pitch_messages.specs.declared.order.Order.{Order}
 use Rattle.feed_lines.specs.BookText.{order_line}
-use Rattle.stream_print.specs.Page.{Page, Prints}
-use Rattle.stream_print.specs.Putting.{PutsSome}
-use Rattle.feed_lines.proofs.Booking.{lines_of, lines_append, lines_take}
 use Rattle.pitch_model.proofs.Results.{on_err}
-use Rattle.stream_print.proofs.Printing.{prints_line, prints_more, puts_after, puts_longer}
+use Rattle.stream_print.specs.Page.{Page}
+use Rattle.stream_print.specs.Putting.{PutsSome}
+use Rattle.stream_print.proofs.Printing.{prints_line, puts_longer, items_more, items_fail}
 use Rattle.stream_print.proofs.books.print_orders.Goals as goal
 
 pub returns-in_err-make_place-clause-err : goal.returns-in_err-make_place-clause-err
 returns-in_err-make_place-clause-err g c =
-    let all : List Order = c.args.orders.now in
-    let i : ℕ = c.lines.order-index in
-    let some = puts_after (g.O.Sink.written c.args.out.now) (g.O.Sink.written c.lines.out) (g.O.Sink.written c.make_place.new.out) c.args.page.now.text c.lines.page.text (lines_of (take i all))
-    c.lines.invariant.printed c.in_err-make_place.ensures.err in
-    let longer = puts_longer (g.O.Sink.written c.args.out.now) (g.O.Sink.written c.make_place.new.out) (c.args.page.now.text ++ lines_of (take i all)) (lines_of (drop i all)) some in
-    on_err (PutsSome (g.O.Sink.written c.args.out.now) (g.O.Sink.written c.make_place.new.out) (c.args.page.now.text ++ lines_of all)) _
-    (subst (PutsSome (g.O.Sink.written c.args.out.now) (g.O.Sink.written c.make_place.new.out))
-    (append_assoc c.args.page.now.text (lines_of (take i all)) (lines_of (drop i all)) ∙ ap (λ (t : List ℕ). c.args.page.now.text ++ t) (sym (lines_append (take i all) (drop i all)) ∙ ap lines_of (take-append-drop i all)))
-    longer)
+    let at = slice_get_read c.args.orders.now (length c.args.orders.now) c.lines.order-index c.order-item.result refl (search rules) c.order-item.is in
+    on_err (PutsSome (g.O.Sink.written c.args.out.now) (g.O.Sink.written c.make_place.new.out) (c.args.page.now.text ++ flat_map (λ (o : Order). order_line o.id o) c.args.orders.now)) _
+    (items_fail (λ (o : Order). order_line o.id o) c.args.orders.now c.lines.order-index c.order-item.result at
+    (g.O.Sink.written c.args.out.now) (g.O.Sink.written c.lines.out) (g.O.Sink.written c.make_place.new.out) c.args.page.now.text c.lines.page.text c.lines.invariant.printed
+    (puts_longer (g.O.Sink.written c.lines.out) (g.O.Sink.written c.make_place.new.out) c.lines.page.text ((λ (o : Order). order_line o.id o) c.order-item.result) c.in_err-make_place.ensures.err))
 
 pub lines-preserved : goal.lines-preserved
 lines-preserved g c =
-    let all : List Order = c.args.orders.now in
-    let i : ℕ = c.lines.order-index in
     let later = c.lines.invariant.later in
     let cause = c.make_place.ensures.cause.later in
-    let line = prints_line (g.O.Sink.written c.lines.out) (g.O.Sink.written c.make_place.new.out) c.lines.page.text c.make_place.new.self.text c.add_order.new.self.text
-    (order_line c.order-item.result.id c.order-item.result) c.in_ok-make_place.ensures.ok (ap (λ (p : Page). p.text) c.add_order.ensures) in
+    let at = slice_get_read c.args.orders.now (length c.args.orders.now) c.lines.order-index c.order-item.result refl (search rules) c.order-item.is in
     record {
-      printed = subst (λ (t : List ℕ). Prints (g.O.Sink.written c.args.out.now) c.args.page.now.text (g.O.Sink.written c.make_place.new.out) c.add_order.new.self.text t)
-          (sym (lines_take all i c.order-item.result (slice_get_read all (length all) i c.order-item.result refl (search rules) c.order-item.is)))
-          (prints_more (g.O.Sink.written c.args.out.now) (g.O.Sink.written c.lines.out) (g.O.Sink.written c.make_place.new.out) c.args.page.now.text c.lines.page.text c.add_order.new.self.text
-          (lines_of (take i all)) (order_line c.order-item.result.id c.order-item.result) c.lines.invariant.printed line);
+      printed = items_more (λ (o : Order). order_line o.id o) c.args.orders.now c.lines.order-index c.order-item.result at
+          (g.O.Sink.written c.args.out.now) (g.O.Sink.written c.lines.out) (g.O.Sink.written c.make_place.new.out) c.args.page.now.text c.lines.page.text c.add_order.new.self.text c.lines.invariant.printed
+          (prints_line (g.O.Sink.written c.lines.out) (g.O.Sink.written c.make_place.new.out) c.lines.page.text c.make_place.new.self.text c.add_order.new.self.text
+          ((λ (o : Order). order_line o.id o) c.order-item.result) c.in_ok-make_place.ensures.ok (ap (λ (p : Page). p.text) c.add_order.ensures));
       later = omega arith;
     }

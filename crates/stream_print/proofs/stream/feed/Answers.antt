@@ -1,6 +1,6 @@
 use Rattle.std.proofs.Common.{rules, ◌≤◌, ◌+◌, ◌-◌, ◌++◌, min, ℕ, length, take, sym, ap, ◌∙◌, arith, length-append, length-take}
 use Rattle.stream_print.specs.Page.{Page}
-use Rattle.stream_print.specs.declared.failure.PrintError.TheVariants.{Write}
+use Rattle.stream_print.specs.declared.failure.StreamFailure.TheVariants.{Write}
 use Rattle.stream_print.specs.Knowing.{task_form}
 use Rattle.stream_print.specs.Inputs.{stream_limit}
 use Rattle.stream_print.proofs.Keeping.{feeds_unprinted, fed_kept, kept_fails, kept_unflushed, kept_faulty, kept_long, kept_all}
@@ -9,8 +9,8 @@ use Rattle.stream_print.proofs.stream.feed.Goals as goal
 pub returns-in_err-print_piece-clause-feeds : goal.returns-in_err-print_piece-clause-feeds
 returns-in_err-print_piece-clause-feeds g c = λ carrier first now start bytes size fed read.
     feeds_unprinted carrier (task_form c.args.printer.now.task) stream_limit c.from_residual.result first now start (g.O.Sink.written c.print_piece.new.out) c.print_piece.new.printer c.print_piece.new.self _ _ c.from_residual.ensures
-    (kept_fails c.min-kept.result carrier c.args.printer.now first now start (g.O.Sink.written c.args.out.now) (g.O.Sink.written c.print_piece.new.out) c.args.reader.now bytes c.args.piece.now fed read
-    c.in_err-print_piece.ensures.err)
+    (kept_fails c.min-kept.result carrier c.args.printer.now _ stream_limit first now start (g.O.Sink.written c.args.out.now) (g.O.Sink.written c.print_piece.new.out) c.args.reader.now bytes c.args.piece.now
+    (omega (arith, c.min-kept.ensures, c.requires.within, size)) fed read c.in_err-print_piece.ensures.err)
 
 pub returns-in_err-flush-clause-feeds : goal.returns-in_err-flush-clause-feeds
 returns-in_err-flush-clause-feeds g c = λ carrier first now start bytes size fed read.

@@ -25,7 +25,7 @@ returns-in_err-piece-clause-ends g c =
 pub takes-init : goal.takes-init
 takes-init g c = record {
   taken = taken_none c.args.carrier c.args.form c.in_ok-printer.printer c.make-reader.result (g.I.Source.left c.args.input.now) (g.O.Sink.written c.args.out.now)
-      c.in_ok-printer.ensures.form c.in_ok-printer.ensures.known c.in_ok-printer.ensures.page c.make-reader.ensures.read c.make-reader.ensures.empty;
+      c.requires.suits c.in_ok-printer.ensures.form c.in_ok-printer.ensures.known c.in_ok-printer.ensures.page c.make-reader.ensures.read c.make-reader.ensures.empty;
   turns = omega arith;
   place = c.in_ok-piece.ensures;
   read_later = omega arith;

@@ -1,9 +1,11 @@
 use Rattle.std.proofs.Common.{◌∙◌, sym, ap, arith}
 use Rattle.pcap_feed.specs.Capture.{packets_from}
 use Rattle.pcap_feed.specs.Feeding.{Capturing}
-use Rattle.pitch_model.proofs.Results.{on_ok_map, on_err_map}
+use Rattle.pitch_model.proofs.Results.{on_ok_map}
 use Rattle.stream_print.specs.Carriers.{blocks_in}
 use Rattle.stream_print.specs.Printing.{PrintsLoaded, FailsBlocks}
+use Rattle.std.proofs.lemmas.Result.{IfErr-weaker}
+use Rattle.stream_print.specs.declared.failure.PrintError.{PrintError}
 use Rattle.stream_print.proofs.Packeting.{head_short, loaded_from, loaded_none, loaded_fails}
 use Rattle.stream_print.proofs.packets.PacketReader.print_loaded.Goals as goal
 
@@ -21,10 +23,11 @@ returns-in-Ok-clause-prints g c =
 
 pub returns-in-Ok-clause-err : goal.returns-in-Ok-clause-err
 returns-in-Ok-clause-err g c =
-    on_err_map _ (FailsBlocks c.args.printer.now (g.O.Sink.written c.args.out.now) (g.O.Sink.written c.print_from.new.out) (blocks_in c.args.self.now.port (packets_from c.args.self.now.reader.told c.args.self.now.reader.rest)))
-    c.print_from.result c.print_from.ensures.err
-    (λ fails. loaded_fails c.args.printer.now c.args.self.now _ c.in-Ok.order (g.O.Sink.written c.args.out.now) (g.O.Sink.written c.print_from.new.out)
+    IfErr-weaker c.print_from.result _
+    (λ (e : PrintError). FailsBlocks e c.args.printer.now (g.O.Sink.written c.args.out.now) (g.O.Sink.written c.print_from.new.out) (blocks_in c.args.self.now.port (packets_from c.args.self.now.reader.told c.args.self.now.reader.rest)))
+    (λ e fails. loaded_fails c.args.printer.now e c.args.self.now _ c.in-Ok.order (g.O.Sink.written c.args.out.now) (g.O.Sink.written c.print_from.new.out)
     (ap (λ (q : Capturing). record c.args.self.now { reader = q }) c.begin.ensures.behind) (sym c.begin.ensures.order ∙ c.in-Ok.is) fails)
+    c.print_from.ensures.err
 
 pub returns-in-Err-clause-prints : goal.returns-in-Err-clause-prints
 returns-in-Err-clause-prints g c =

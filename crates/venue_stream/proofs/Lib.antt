@@ -1,4 +1,0 @@
-pub mod Joining
-pub mod Adding
-pub mod Piecing
-pub mod Ending
