@@ -1,5 +1,5 @@
 -- What a run did to its devices.
-use Rattle.std.specs.Prelude.{ℕ, List, Option, ◌⊎◌}
+use Rattle.std.specs.Prelude.{◌≡◌, ℕ, List, Option, ◌⊎◌}
 use Rattle.pitch_io.specs.Causes.{Rose}
 use Rattle.pitch_io.specs.Nets.{Call}
 use Rattle.pitch_io.specs.Putting.{Grows}
@@ -26,6 +26,10 @@ pub record Wires : Type 0 where
 -- a net before and after, by what it lists and its count of faults
 abbrev pub wires : {T : Type 0} → (T → Option (List Call)) → (T → ℕ) → T → T → Wires
 wires lists counts before after = record { calls = lists before; calls' = lists after; faults = counts before; faults' = counts after }
+
+-- none of the net's calls came, where it lists them
+abbrev pub IsUncalled : Wires → Type 0
+IsUncalled net = net.calls' ≡ net.calls
 
 -- the devices of a run
 pub record Run : Type 0 where

@@ -10,7 +10,7 @@ use Rattle.run_audit.specs.Causes.{audit_fault_text}
 use Rattle.schedule_replay.specs.Causes.{replay_error_text}
 use Rattle.stream_print.specs.Told.{Told, IsUntouched}
 use Rattle.stream_print.specs.declared.failure.StreamTrouble.TheVariants.{Faulty, BadCapture, TooLong}
-use Rattle.pitch_tool.specs.Devices.{Run, Says, Wires}
+use Rattle.pitch_tool.specs.Devices.{Run, Says, Wires, IsUncalled}
 use Rattle.pitch_tool.specs.Jobs.{job_of, uses_net, JobEnds, StopsInTime}
 use Rattle.pitch_tool.specs.declared.failure.Failure.{Failure}
 use Rattle.pitch_tool.specs.declared.failure.Failure.TheVariants as ending
@@ -63,10 +63,10 @@ StopsAtTrouble words input = (form : Form) → IsForm words form → StopsInTime
 abbrev pub Does : List (List ℕ) → Result (Unit {0}) Failure → (input out : Told) → Wires → Type 0
 Does words result input out net = (form : Form) × IsForm words form × JobEnds (job_of form) result input out net
 
--- memory ran out: before anything was read, during the job, or where an input was refused and the
--- line that says so was made
+-- memory ran out: before anything was read or the net was called, during the job, or where an input
+-- was refused and the line that says so was made
 abbrev pub RunsOut : List (List ℕ) → (input out : Told) → Wires → Type 0
-RunsOut words input out net = (IsUntouched input × IsUntouched out)
+RunsOut words input out net = (IsUntouched input × IsUntouched out × IsUncalled net)
     ⊎ (Does words (Err ending.OutOfMemory) input out net ⊎ ((trouble : Trouble) × Does words (Err (ending.BadInput trouble)) input out net))
 
 -- how the program ends: what the words are, what was read and written, and what was said
@@ -90,7 +90,9 @@ pub record HasCauses (status : ExitStatus) (run : Run) : Type 0 where
 -- how it ends before anything is said
 abbrev pub RunEnds : List (List ℕ) → Result (Unit {0}) Failure → (input out : Told) → Wires → Type 0
 RunEnds words (Err ending.Usage) input out net = IsNoForm words × IsUntouched input × IsUntouched out
-RunEnds words (Err ending.OutOfMemory) input out net = (IsUntouched input × IsUntouched out) ⊎ Does words (Err ending.OutOfMemory) input out net
+RunEnds words (Err ending.OutOfMemory) input out net =
+    (IsUntouched input × IsUntouched out × IsUncalled net)
+    ⊎ Does words (Err ending.OutOfMemory) input out net
 RunEnds words result input out net = Does words result input out net
 
 -- ---- Completeness
