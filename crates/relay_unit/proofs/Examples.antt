@@ -27,7 +27,8 @@ use Rattle.relay_unit.specs.Hearing.{relay_history}
 use Rattle.relay_unit.proofs.Following.{one_step}
 use Rattle.relay_unit.specs.RelayText.{relay_text}
 
--- ---- A book from an image, and then a line block: what the venue sent is an add, a message of another type and a deletion
+-- ---- A book from an image, and then a line block: what the venue sent is an add, a message of
+-- another type and a deletion
 abbrev order : Raw
 order = 0x1a ∷ 0x22 ∷ 0x00 ∷ 0x00 ∷ 0x00 ∷ 0x00 ∷ 0x05 ∷ 0x00 ∷ 0x00 ∷ 0x00 ∷ 0x00 ∷ 0x00 ∷ 0x00 ∷ 0x00 ∷ 0x42 ∷ 0x64 ∷ 0x00 ∷ 0x49 ∷ 0x42 ∷ 0x4d ∷ 0x20 ∷ 0x20 ∷ 0x20 ∷ 0xe8 ∷ 0x03 ∷ 0x01 ∷ []
 

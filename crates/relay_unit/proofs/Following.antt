@@ -1,6 +1,5 @@
 -- What a relay sends of any input, step by step.
 use Rattle.std.proofs.Common.{◌≡◌, ◌≢◌, ℕ, zero, suc, ◌+◌, inl, inr, take, List, [], ◌∷◌, ◌++◌, length, length-append, fold, refl, sym, ap, ◌∙◌, subst, append_assoc}
-use Rattle.std.specs.List.{concat}
 use Rattle.std.proofs.lemmas.List.{append-nil}
 use Rattle.pitch_messages.specs.declared.message.Message.TheVariants.{UnitClear}
 use Rattle.pitch_messages.specs.Writing.{written}
@@ -12,7 +11,8 @@ use Rattle.unit_packets.specs.Packing.{packed}
 use Rattle.client_core.specs.Tracks.{Keeps, current_book}
 use Rattle.client_core.specs.declared.client.UnitClient.{UnitClient}
 use Rattle.relay_unit.specs.Following.{IsStep, AreSteps, sent_in, Sends, HasSent, SendsMore}
-use Rattle.relay_unit.specs.Sending.{SendsFor, SendsApplied}
+use Rattle.relay_unit.specs.Calls.{AppendsRelayed, AppendsAny}
+use Rattle.relay_unit.specs.Sending.{SendsFor, SendsApplied, added_datagrams, AddsRelayed, AddsAny}
 use Rattle.relay_unit.specs.Stands.{followed_book, relay_unit_of}
 use Rattle.relay_unit.specs.declared.relay.Relay.{Relay}
 use Rattle.relay_unit.proofs.Sending.{clears}
@@ -96,32 +96,36 @@ kept_nothing client keeps = keeps.book_is ∙ ap book_after (none_taken client.h
     none_taken zero = refl
     none_taken (suc n) = refl
 
--- what a relay appends for a block, where `items` are what it adds and `book` is its client's then
-pub block_sends_more : (r r' : Relay) (book : Book) (block : Block) (none items : List Raw) (out out' : List ℕ)
+-- what a relay adds for a block, where `items` are the messages and `book` is its client's then
+pub block_sends_more : (r r' : Relay) (book : Book) (block : Block) (none items : List Raw)
     → none ≡ [] → SendsFor (followed_book r) book none items
     → (block.sequence ≢ 0 → SendsApplied (followed_book r) book none items)
     → followed_book r' ≡ book
-    → out' ≡ out ++ concat (packed (relay_unit_of r) (r.sent + 1) items)
     → r'.sent ≡ r.sent + length items
     → (sent : List Raw) → HasSent r sent
-    → (added : List ℕ) × (out' ≡ out ++ added) × SendsMore r r' block sent added
-block_sends_more r r' book block none items out out' empty any line book_is appended counted sent S =
+    → SendsMore r r' block sent (packed (relay_unit_of r) (r.sent + 1) items)
+block_sends_more r r' book block none items empty any line book_is counted sent S =
     let after_none = λ (more : List Raw). ap (λ (rs : List Raw). rs ++ more) empty in
     let all : any.more ≡ items = sym (any.appended ∙ after_none any.more) in
     let sends : Sends (followed_book r) items (followed_book r') =
-    subst (Sends (followed_book r) items) (sym book_is) (subst (λ (rs : List Raw). Sends (followed_book r) rs book) all any.sends) in (
-      concat (packed (relay_unit_of r) (length sent + 1) items),
-      appended ∙ ap (λ (n : ℕ). out ++ concat (packed (relay_unit_of r) (n + 1) items)) S.count_is,
-      record {
-        more = items;
-        added_is = refl;
-        sends = sends;
-        line = λ some.
-            let l = line some in
-            book_is ∙ l.applied ∙ ap (fold after (followed_book r)) (sym (l.appended ∙ after_none l.more));
-        sent_is = record {
-          count_is = counted ∙ ap (λ (n : ℕ). n + length items) S.count_is ∙ sym (length-append sent items);
-          sends = sends_then empty_book (followed_book r) (followed_book r') sent items S.sends sends;
-        };
-      },
-    )
+    subst (Sends (followed_book r) items) (sym book_is) (subst (λ (rs : List Raw). Sends (followed_book r) rs book) all any.sends) in
+    record {
+      more = items;
+      datagrams_are = ap (λ (n : ℕ). packed (relay_unit_of r) (n + 1) items) S.count_is;
+      sends = sends;
+      line = λ some.
+          let l = line some in
+          book_is ∙ l.applied ∙ ap (fold after (followed_book r)) (sym (l.appended ∙ after_none l.more));
+      sent_is = record {
+        count_is = counted ∙ ap (λ (n : ℕ). n + length items) S.count_is ∙ sym (length-append sent items);
+        sends = sends_then empty_book (followed_book r) (followed_book r') sent items S.sends sends;
+      };
+    }
+
+-- ---- What is appended for it
+module _ (r r' : Relay) (block : Block) (Lays : List (List ℕ) → Type 0) (laid : Lays (added_datagrams r r')) where
+  pub lays_relayed : AddsRelayed r r' block → AppendsRelayed r block Lays
+  lays_relayed adds V H E S v = subst Lays (adds V H E S v) laid
+
+  pub lays_any : AddsAny r r' block → AppendsAny r r' block Lays
+  lays_any any sent S = (added_datagrams r r', laid, any sent S)

@@ -10,7 +10,7 @@ use Rattle.pitch_model.specs.Book.{Book, empty_book, after}
 use Rattle.pitch_model.specs.History.{Entry, Raw}
 use Rattle.unit_clients.proofs.Hearing.{get_set}
 use Rattle.relay_unit.specs.AnyRelays.{book_in, book_at, with_more, HasSentAt, AppendAny, AppendsAnyAt}
-use Rattle.relay_unit.specs.Calls.{AppendsAny}
+use Rattle.relay_unit.specs.Calls.{AppendsAny, JoinsMore}
 use Rattle.relay_unit.specs.Following.{Sends, HasSent}
 use Rattle.relay_unit.specs.Hearing.{first_heard, relay_heard, relay_history}
 use Rattle.relay_unit.specs.Relays.{StandsFor, StandsAt, IsRelay, HaveRelayed}
@@ -85,16 +85,16 @@ no_sent unit place none = subst (HasSentAt unit []) (sym none) refl
 pub new_sends : (block : Block) (fresh relay : Relay) (place : Option Relay) (out out' : List ℕ)
     → place ≡ None → HasSent fresh [] → followed_book fresh ≡ empty_book → relay_unit_of fresh ≡ block.unit
     → relay_unit_of relay ≡ relay_unit_of fresh
-    → AppendsAny fresh relay block out out' → AppendsAnyAt place (Some relay) block out out'
+    → AppendsAny fresh relay block (JoinsMore out out') → AppendsAnyAt place (Some relay) block out out'
 new_sends block fresh relay place out out' is first empty named stays appends sent S =
     let none : sent ≡ [] = subst (HasSentAt block.unit sent) is S in
     let a = appends sent (subst (HasSent fresh) (sym none) first) in
     let m = a.2 in (
-      a.0,
+      concat a.0,
       a.1,
       record {
         more = m.more;
-        added_is = m.added_is ∙ ap (λ (u : ℕ). concat (packed u (length sent + 1) m.more)) named;
+        added_is = ap concat m.datagrams_are ∙ ap (λ (u : ℕ). concat (packed u (length sent + 1) m.more)) named;
         sends = subst (λ (p : Option Relay). Sends (book_in p) m.more (followed_book relay)) (sym is)
             (subst (λ (b : Book). Sends b m.more (followed_book relay)) empty m.sends);
         line = λ some. m.line some ∙ ap (λ (b : Book). fold after b m.more) (empty ∙ ap book_in (sym is));
@@ -105,16 +105,16 @@ new_sends block fresh relay place out out' is first empty named stays appends se
 -- a relay that was there
 pub old_sends : (block : Block) (relay relay' : Relay) (place : Option Relay) (out out' : List ℕ)
     → place ≡ Some relay → relay_unit_of relay' ≡ relay_unit_of relay
-    → AppendsAny relay relay' block out out' → AppendsAnyAt place (Some relay') block out out'
+    → AppendsAny relay relay' block (JoinsMore out out') → AppendsAnyAt place (Some relay') block out out'
 old_sends block relay relay' place out out' is stays appends sent S =
     let there : (relay_unit_of relay ≡ block.unit) × HasSent relay sent = subst (HasSentAt block.unit sent) is S in
     let a = appends sent there.1 in
     let m = a.2 in (
-      a.0,
+      concat a.0,
       a.1,
       record {
         more = m.more;
-        added_is = m.added_is ∙ ap (λ (u : ℕ). concat (packed u (length sent + 1) m.more)) there.0;
+        added_is = ap concat m.datagrams_are ∙ ap (λ (u : ℕ). concat (packed u (length sent + 1) m.more)) there.0;
         sends = subst (λ (p : Option Relay). Sends (book_in p) m.more (followed_book relay')) (sym is) m.sends;
         line = λ some. m.line some ∙ ap (λ (p : Option Relay). fold after (book_in p) m.more) (sym is);
         sent_is = (stays ∙ there.0, m.sent_is);

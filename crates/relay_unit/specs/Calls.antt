@@ -1,7 +1,9 @@
 -- What a call of a relay, and of the relays of a stream, promises of a block that it hears.
 use Rattle.std.specs.Prelude.{◌≡◌, ◌+◌, ◌++◌, ℕ, List, ◌∷◌, length}
 use Rattle.std.specs.List.{concat}
+use Rattle.pitch_messages.specs.Room.{Roomy}
 use Rattle.unit_packets.specs.Blocks.{Block}
+use Rattle.unit_packets.specs.Packing.{bytes_in}
 use Rattle.pitch_model.specs.History.{Entry, Raw}
 use Rattle.pitch_model.specs.declared.change.Change.{Change}
 use Rattle.relay_unit.specs.Changing.{merged_change}
@@ -15,6 +17,19 @@ use Rattle.relay_unit.specs.Stands.{Stands, IsOutrun, relay_unit_of}
 use Rattle.relay_unit.specs.declared.relay.Relay.{Relay}
 use Rattle.relay_unit.specs.declared.relay.RelayError.{RelayError}
 
+-- ---- What is appended
+-- datagrams are appended to those of a list
+abbrev pub ListsMore : (out out' : List (Roomy ℕ)) → List (List ℕ) → Type 0
+ListsMore out out' datagrams = bytes_in out' ≡ bytes_in out ++ datagrams
+
+-- or to bytes, one behind another
+abbrev pub JoinsMore : (out out' : List ℕ) → List (List ℕ) → Type 0
+JoinsMore out out' datagrams = out' ≡ out ++ concat datagrams
+
+-- some datagrams are
+abbrev pub Appends : (List (List ℕ) → Type 0) → Type 0
+Appends Lays = (datagrams : List (List ℕ)) × Lays datagrams
+
 -- ---- Of a relay
 -- whatever history it stood for, it stands for that history and the block
 abbrev pub StandsAfter : Relay → Relay → Block → Type 0
@@ -23,10 +38,10 @@ StandsAfter r r' block =
 
 -- of any venue of which that history speaks, what is appended are the datagrams of what the block
 -- adds to what is relayed
-abbrev pub AppendsRelayed : Relay → Block → (out out' : List ℕ) → Type 0
-AppendsRelayed r block out out' =
+abbrev pub AppendsRelayed : Relay → Block → (List (List ℕ) → Type 0) → Type 0
+AppendsRelayed r block Lays =
     (V : List Raw) (H : ℕ) (E : List Entry) → Stands r H E → IsVenue V (relay_heard H block E)
-    → out' ≡ out ++ concat (relayed_datagrams H V (relay_unit_of r) E (relay_heard H block E))
+    → Lays (relayed_datagrams H V (relay_unit_of r) E (relay_heard H block E))
 
 -- of any such venue, the error says that what is relayed then outruns the last sequence
 abbrev pub OutrunsAfter : Relay → Block → RelayError → Type 0
@@ -50,14 +65,10 @@ SpendsFew r block error =
     (count : ℕ) → HasHeard r count → IsSpentBy (count + length block.raws) error
 
 -- whatever was heard, what is appended are messages behind all that it had sent
-abbrev pub AppendsAny : Relay → Relay → Block → (out out' : List ℕ) → Type 0
-AppendsAny r r' block out out' =
+abbrev pub AppendsAny : Relay → Relay → Block → (List (List ℕ) → Type 0) → Type 0
+AppendsAny r r' block Lays =
     (sent : List Raw) → HasSent r sent
-    → (added : List ℕ) × (out' ≡ out ++ added) × SendsMore r r' block sent added
-
--- bytes are appended to those before
-abbrev pub Appends : (out out' : List ℕ) → Type 0
-Appends out out' = (added : List ℕ) × (out' ≡ out ++ added)
+    → (datagrams : List (List ℕ)) × Lays datagrams × SendsMore r r' block sent datagrams
 
 -- ---- Of the relays of a stream, the same, where these blocks were heard
 abbrev pub HaveRelayedAfter : Relays → Relays → Block → Type 0

@@ -1,6 +1,5 @@
 -- What a relay sends of any input, honest or not, and what whoever follows it has.
 use Rattle.std.specs.Prelude.{◌≡◌, ◌≢◌, ℕ, ◌+◌, ◌⊎◌, List, [], ◌∷◌, ◌++◌, Some, fold, length}
-use Rattle.std.specs.List.{concat}
 use Rattle.std.specs.FinMap as finite
 use Rattle.pitch_messages.specs.declared.message.Message.TheVariants.{UnitClear}
 use Rattle.pitch_messages.specs.Writing.{written}
@@ -70,10 +69,10 @@ pub record HasSent (relay : Relay) (raws : List Raw) : Type 0 where
 
 -- behind what it had sent, a relay sends messages for a block, under the next sequences; those of a
 -- block with a sequence are applied and nothing else
-pub record SendsMore (relay relay' : Relay) (block : Block) (sent : List Raw) (added : List ℕ) :
-    Type 0 where
+pub record SendsMore (relay relay' : Relay) (block : Block) (sent : List Raw)
+    (datagrams : List (List ℕ)) : Type 0 where
   pub more : List Raw
-  pub added_is : added ≡ concat (packed (relay_unit_of relay) (length sent + 1) more)
+  pub datagrams_are : datagrams ≡ packed (relay_unit_of relay) (length sent + 1) more
   pub sends : Sends (followed_book relay) more (followed_book relay')
   pub line : block.sequence ≢ 0 → followed_book relay' ≡ fold after (followed_book relay) more
   pub sent_is : HasSent relay' (sent ++ more)

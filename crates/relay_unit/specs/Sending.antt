@@ -1,6 +1,7 @@
 -- What the relay's own functions tell one another. No public clause needs this file.
 use Rattle.std.specs.Prelude.{◌≡◌, ◌≢◌, ◌+◌, ◌≤◌, ℕ, List, ◌++◌, fold, length, Option, Some, None}
 use Rattle.unit_packets.specs.Blocks.{Block}
+use Rattle.unit_packets.specs.Packing.{packed}
 use Rattle.pitch_model.specs.Book.{Book, after}
 use Rattle.pitch_model.specs.History.{Entry, Raw}
 use Rattle.pitch_model.specs.declared.item.Item.{Item}
@@ -9,11 +10,13 @@ use Rattle.pitch_model.specs.declared.change.ImageEnd.TheVariants as end
 use Rattle.client_core.specs.Tracks.{Tracks, Keeps, current_book}
 use Rattle.client_core.specs.Weight.{weight, told_by}
 use Rattle.client_core.specs.declared.client.UnitClient.{UnitClient}
-use Rattle.relay_unit.specs.Hearing.{heard_unsequenced}
+use Rattle.relay_unit.specs.Hearing.{heard_unsequenced, relay_heard}
 use Rattle.relay_unit.specs.Changing.{raw_end}
-use Rattle.relay_unit.specs.Following.{Sends}
-use Rattle.relay_unit.specs.Relayed.{relayed}
+use Rattle.relay_unit.specs.Following.{Sends, HasSent, SendsMore}
+use Rattle.relay_unit.specs.Relayed.{relayed, relayed_datagrams}
 use Rattle.relay_unit.specs.RelayText.{IsVenue}
+use Rattle.relay_unit.specs.Stands.{Stands, relay_unit_of}
+use Rattle.relay_unit.specs.declared.relay.Relay.{Relay}
 
 -- where `sent` is the end of what is sent up to E, `sent'` is that of what is sent up to E' behind
 -- the same beginning
@@ -84,3 +87,20 @@ SendsAny c c' sent sent' = SendsFor (current_book c) (current_book c') sent sent
 abbrev pub SendsLine : Block → (c c' : UnitClient) → (sent sent' : List Raw) → Type 0
 SendsLine block c c' sent sent' =
     block.sequence ≢ 0 → SendsApplied (current_book c) (current_book c') sent sent'
+
+-- ---- What a relay adds for a block
+-- the datagrams of it, under the sequences behind those that were sent before
+abbrev pub added_datagrams : (r r' : Relay) → List (List ℕ)
+added_datagrams r r' = packed (relay_unit_of r') (r.sent + 1) r'.added.items
+
+-- of any venue of which the history speaks, they are those of what the block adds to what is
+-- relayed
+abbrev pub AddsRelayed : (r r' : Relay) → Block → Type 0
+AddsRelayed r r' block =
+    (V : List Raw) (H : ℕ) (E : List Entry) → Stands r H E → IsVenue V (relay_heard H block E)
+    → added_datagrams r r' ≡ relayed_datagrams H V (relay_unit_of r) E (relay_heard H block E)
+
+-- whatever was heard, they are messages behind all that was sent
+abbrev pub AddsAny : (r r' : Relay) → Block → Type 0
+AddsAny r r' block =
+    (sent : List Raw) → HasSent r sent → SendsMore r r' block sent (added_datagrams r r')

@@ -8,7 +8,7 @@ use order_book::UnitBook;
 use pitch_fields::OutOfMemory;
 use pitch_messages::RawList;
 use std::alloc::Global;
-use unit_packets::{BlockView, LAST_SEQUENCE};
+use unit_packets::{BlockView, DatagramList, LAST_SEQUENCE, pack};
 
 /// Why a relay does not go on.
 #[derive(Clone, Copy, Debug, PartialEq, Eq)]
@@ -53,14 +53,17 @@ pub struct Relay {
 }
 
 impl Relay {
-    ghost use Rattle.std.specs.Prelude.{◌≡◌, ◌≤◌, ◌++◌, ℕ, [], OnOk, OnErr, IfOk, IfErr, Err};
+    ghost use Rattle.std.specs.Prelude.{◌≡◌, ◌+◌, ◌≤◌, ℕ, [], length};
+    ghost use Rattle.std.specs.Prelude.{OnOk, OnErr, IfOk, IfErr, Err};
     ghost use Rattle.pitch_fields.specs.Limits.{most_held};
+    ghost use Rattle.unit_packets.specs.Blocks.{StaysWithin};
     ghost use Rattle.pitch_model.specs.Book.{empty_book};
     ghost use Rattle.relay_unit.specs.Calls.{StandsAfter, AppendsRelayed, OutrunsAfter};
     ghost use Rattle.relay_unit.specs.Calls.{IsChangeAfter, HearsFew, SpendsFew};
-    ghost use Rattle.relay_unit.specs.Calls.{AppendsAny, Appends};
+    ghost use Rattle.relay_unit.specs.Calls.{AppendsAny, Appends, ListsMore, JoinsMore};
     ghost use Rattle.relay_unit.specs.Following.{HasSent};
     ghost use Rattle.relay_unit.specs.Hearing.{first_heard};
+    ghost use Rattle.relay_unit.specs.Sending.{AddsRelayed, AddsAny};
     ghost use Rattle.relay_unit.specs.Sparing.{HasHeard};
     ghost use Rattle.relay_unit.specs.Stands.{Stands, GoesOn, IsSpent};
     ghost use Rattle.relay_unit.specs.Stands.{relay_unit_of, followed_book};
@@ -89,35 +92,45 @@ impl Relay {
         })
     }
 
-    // Hears a block, and appends the datagrams of what it adds.
-    fn hear_block(&mut self, block: &BlockView<'_>, out: &mut Vec<u8>) -> Result<Change, RelayError>
+    // Hears a block, unless the relay is spent. What the block adds is then in `added`, and counts
+    // as sent: it answers the change, and the sequence of the first of these messages.
+    fn take(&mut self, block: &BlockView<'_>) -> Result<(Change, u32), RelayError>
         ensures stands { OnOk result (StandsAfter self.old self.new block.now) }
-        ensures sends { OnOk result
-            (AppendsRelayed self.old block.now out.old.items out.new.items) }
-        ensures change { IfOk result (IsChangeAfter self.old block.now) }
+        ensures adds { OnOk result (AddsRelayed self.old self.new block.now) }
+        ensures change { IfOk result (λ taken. IsChangeAfter self.old block.now taken.0) }
+        ensures first { IfOk result (λ taken. taken.1 ≡ self.old.sent + 1) }
+        ensures within { IfOk result
+            (λ taken. StaysWithin taken.1 (length self.new.added.items)) }
         ensures outrun { IfErr result (OutrunsAfter self.old block.now) }
         ensures heard { OnOk result (HearsFew self.old self.new block.now) }
         ensures many { IfErr result (SpendsFew self.old block.now) }
-        ensures any { OnOk result
-            (AppendsAny self.old self.new block.now out.old.items out.new.items) }
+        ensures any { OnOk result (AddsAny self.old self.new block.now) }
         ensures unit { relay_unit_of self.new ≡ relay_unit_of self.old }
-        ensures spent { self.new.spent ≡ self.old.spent }
-        ensures grown { OnOk result (Appends out.old.items out.new.items) }
-        ensures out { OnErr result (out.new.items ≡ out.old.items) }
+        ensures ready { OnOk result (GoesOn self.old) }
+        ensures spent { IfErr result (IsSpent self.new) }
+        ensures again { (error : RelayError) → IsSpent self.old error → result ≡ Err error }
     {
+        if let Some(error) = self.spent {
+            return Err(error);
+        }
         self.added.truncate(0);
-        let change = hear_merged(self.alloc, &mut self.client, block, &mut self.added)?;
+        let Ok(change) = hear_merged(self.alloc, &mut self.client, block, &mut self.added) else {
+            self.spent = Some(RelayError::OutOfMemory);
+            return Err(RelayError::OutOfMemory);
+        };
         self.client.tick();
         let more = self.added.len() as u64;
         if more > (LAST_SEQUENCE - self.sent) as u64 {
-            return Err(RelayError::SequencesSpent {
+            let error = RelayError::SequencesSpent {
                 sent: self.sent,
                 more,
-            });
+            };
+            self.spent = Some(error);
+            return Err(error);
         }
-        append_packed(self.alloc, self.unit, self.sent + 1, self.added.raws(), out)?;
+        let first = self.sent + 1;
         self.sent += more as u32;
-        Ok(change)
+        Ok((change, first))
     }
 
     /// Hears a block, and appends the datagrams of what it adds.
@@ -125,13 +138,17 @@ impl Relay {
     /// A block with a sequence is one of a line. One without tells what a Spin Server says, or has
     /// messages of an image. Where an image is taken, what is sent is a Unit Clear and the image of
     /// the book as it is then; else it is the messages that were applied.
-    pub fn hear(&mut self, block: &BlockView<'_>, out: &mut Vec<u8>) -> Result<Change, RelayError>
+    pub fn hear(
+        &mut self,
+        block: &BlockView<'_>,
+        out: &mut DatagramList,
+    ) -> Result<Change, RelayError>
         // Whatever history the relay stood for, it now stands for that history and this block.
         ensures stands { OnOk result (StandsAfter self.old self.new block.now) }
         // Of any venue of which that history speaks, what is appended is what it adds to what is
         // relayed, under the sequences behind those sent.
         ensures sends { OnOk result
-            (AppendsRelayed self.old block.now out.old.items out.new.items) }
+            (AppendsRelayed self.old block.now (ListsMore out.old.items out.new.items)) }
         // The answer is what the block changes: the status before and after it, how many messages
         // were fresh and overflowed the hold, and the last end of an image.
         ensures change { IfOk result (IsChangeAfter self.old block.now) }
@@ -143,24 +160,68 @@ impl Relay {
         ensures many { IfErr result (SpendsFew self.old block.now) }
         // Whatever it heard, what is appended are messages behind all that it had sent, which leave
         // the orders of the book that it follows then.
-        ensures any { OnOk result
-            (AppendsAny self.old self.new block.now out.old.items out.new.items) }
+        ensures any { OnOk result (AppendsAny self.old self.new block.now
+            (ListsMore out.old.items out.new.items)) }
         ensures unit { relay_unit_of self.new ≡ relay_unit_of self.old }
-        ensures grown { OnOk result (Appends out.old.items out.new.items) }
+        ensures grown { OnOk result (Appends (ListsMore out.old.items out.new.items)) }
         ensures out { OnErr result (out.new.items ≡ out.old.items) }
         // Once it was refused, the relay gives that answer again.
         ensures ready { OnOk result (GoesOn self.old) }
         ensures spent { IfErr result (IsSpent self.new) }
         ensures again { (error : RelayError) → IsSpent self.old error → result ≡ Err error }
     {
-        if let Some(error) = self.spent {
-            return Err(error);
+        let (change, first) = self.take(block)?;
+        match pack(self.alloc, self.unit, first, self.added.raws(), out) {
+            Ok(()) => Ok(change),
+            Err(_) => {
+                self.spent = Some(RelayError::OutOfMemory);
+                Err(RelayError::OutOfMemory)
+            }
         }
-        let heard = self.hear_block(block, out);
-        if let Err(error) = heard {
-            self.spent = Some(error);
+    }
+
+    /// Hears a block as `hear` does, and appends the datagrams of what it adds one behind another,
+    /// as a stream of blocks has them. It takes no list of datagrams where they are one.
+    pub fn hear_onto(
+        &mut self,
+        block: &BlockView<'_>,
+        out: &mut Vec<u8>,
+    ) -> Result<Change, RelayError>
+        // Whatever history the relay stood for, it now stands for that history and this block.
+        ensures stands { OnOk result (StandsAfter self.old self.new block.now) }
+        // Of any venue of which that history speaks, what is appended is what it adds to what is
+        // relayed, under the sequences behind those sent.
+        ensures sends { OnOk result
+            (AppendsRelayed self.old block.now (JoinsMore out.old.items out.new.items)) }
+        // The answer is what the block changes: the status before and after it, how many messages
+        // were fresh and overflowed the hold, and the last end of an image.
+        ensures change { IfOk result (IsChangeAfter self.old block.now) }
+        // The sequences are spent only where what is relayed then outruns the last one.
+        ensures outrun { IfErr result (OutrunsAfter self.old block.now) }
+        // Whatever it heard, it sends no more messages than it heard, and its sequences are spent
+        // only where these are more than there are sequences.
+        ensures heard { OnOk result (HearsFew self.old self.new block.now) }
+        ensures many { IfErr result (SpendsFew self.old block.now) }
+        // Whatever it heard, what is appended are messages behind all that it had sent, which leave
+        // the orders of the book that it follows then.
+        ensures any { OnOk result (AppendsAny self.old self.new block.now
+            (JoinsMore out.old.items out.new.items)) }
+        ensures unit { relay_unit_of self.new ≡ relay_unit_of self.old }
+        ensures grown { OnOk result (Appends (JoinsMore out.old.items out.new.items)) }
+        ensures out { OnErr result (out.new.items ≡ out.old.items) }
+        // Once it was refused, the relay gives that answer again.
+        ensures ready { OnOk result (GoesOn self.old) }
+        ensures spent { IfErr result (IsSpent self.new) }
+        ensures again { (error : RelayError) → IsSpent self.old error → result ≡ Err error }
+    {
+        let (change, first) = self.take(block)?;
+        match append_packed(self.alloc, self.unit, first, self.added.raws(), out) {
+            Ok(()) => Ok(change),
+            Err(_) => {
+                self.spent = Some(RelayError::OutOfMemory);
+                Err(RelayError::OutOfMemory)
+            }
         }
-        heard
     }
 
     /// The book that the relay follows.

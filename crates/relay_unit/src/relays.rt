@@ -2,7 +2,7 @@ ghost use Rattle.std.specs.Prelude.{◌≡◌, ◌≤◌, ◌++◌, [], OnOk, On
 ghost use Rattle.pitch_fields.specs.Limits.{most_held};
 ghost use Rattle.relay_unit.specs.AnyRelays.{HaveSent, AppendAny, AppendsAnyAt};
 ghost use Rattle.relay_unit.specs.Calls.{HaveRelayedAfter, AppendVenues, AreChanged};
-ghost use Rattle.relay_unit.specs.Calls.{OutrunVenues, SpendFew, Appends};
+ghost use Rattle.relay_unit.specs.Calls.{OutrunVenues, SpendFew, Appends, JoinsMore};
 ghost use Rattle.relay_unit.specs.Places.{StandsThere, AppendsThere, ChangesThere};
 ghost use Rattle.relay_unit.specs.Places.{OutrunsThere, SpentThere};
 ghost use Rattle.relay_unit.specs.Relays.{HaveRelayed};
@@ -57,14 +57,14 @@ fn hear_at(
     ensures change { IfOk result (ChangesThere limit slot.old block.now) }
     ensures outrun { IfErr result (OutrunsThere limit slot.old block.now) }
     ensures many { IfErr result (SpentThere limit slot.old block.now) }
-    ensures grown { OnOk result (Appends out.old.items out.new.items) }
+    ensures grown { OnOk result (Appends (JoinsMore out.old.items out.new.items)) }
     ensures out { OnErr result (out.new.items ≡ out.old.items) }
 {
     match slot {
-        Some(relay) => relay.hear(block, out),
+        Some(relay) => relay.hear_onto(block, out),
         None => {
             let mut relay = Relay::make(alloc, block.header().unit, limit)?;
-            let change = relay.hear(block, out)?;
+            let change = relay.hear_onto(block, out)?;
             *slot = Some(relay);
             Ok(change)
         }
@@ -110,7 +110,7 @@ impl Relays {
         // Whatever the blocks say, they are spent only where those of the unit have more messages
         // than there are sequences.
         ensures many { IfErr result (SpendFew self.old block.now) }
-        ensures grown { OnOk result (Appends out.old.items out.new.items) }
+        ensures grown { OnOk result (Appends (JoinsMore out.old.items out.new.items)) }
         ensures out { OnErr result (out.new.items ≡ out.old.items) }
     {
         let unit = block.header().unit as usize;
