@@ -1,5 +1,5 @@
 -- Where a run breaks off.
-use Rattle.std.proofs.Common.{◌≡◌, List, [], ◌∷◌, ◌++◌, Option, None, Some, Result, Ok, Err, sym, ap, ◌∙◌, subst}
+use Rattle.std.proofs.Common.{◌≡◌, List, [], ◌∷◌, Option, None, Some, Result, Ok, Err, sym, ap, ◌∙◌, subst}
 use Rattle.std.specs.Result.{IfErr, IsErr, IsErrAnd}
 use Rattle.pitch_io.specs.Nets.{Call, ListsCall}
 use Rattle.net_edge.specs.Breaking.{HasFailed, ListsAdded, Breaks}
@@ -8,7 +8,6 @@ use Rattle.net_edge.specs.Playing.{ListsCalls, Plays, Runs}
 use Rattle.net_edge.specs.Scene.{Scene}
 use Rattle.net_edge.specs.Steps.{Step, calls_of}
 use Rattle.net_edge.specs.Turns.{MayCall}
-use Rattle.net_edge.specs.declared.error.DemoError.{DemoError}
 use Rattle.net_edge.specs.declared.error.DemoError.TheVariants as errors
 
 told_here : (base : List Call) (calls : Option (List Call)) (run : List Step) → ListsCalls base calls run → ListsAdded base calls (calls_of run)

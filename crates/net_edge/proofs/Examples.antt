@@ -1,6 +1,6 @@
 -- A run over a plan without messages: ten turns in which nothing comes but, in the last, the
--- heartbeat on line A.
-use Rattle.std.proofs.Common.{◌≡◌, ℕ, zero, suc, List, [], ◌∷◌, refl}
+-- heartbeat on line A. And runs that break off at their first call.
+use Rattle.std.proofs.Common.{◌≡◌, ℕ, zero, suc, List, [], ◌∷◌, length, refl, ap, arith}
 use Rattle.pitch_io.specs.declared.line.Line.TheVariants.{A, B, Gap}
 use Rattle.pitch_io.specs.declared.net.LinkEnd.TheVariants.{GrpClient, GrpServer, SpinClient, SpinServer}
 use Rattle.pitch_io.specs.declared.net.NetDone.TheVariants as done
@@ -9,10 +9,16 @@ use Rattle.pitch_io.specs.Nets.{Begin, Send, Next, Take}
 use Rattle.unit_packets.specs.BlockBytes.{block_bytes}
 use Rattle.pitch_model.specs.declared.status.Status.TheVariants.{Silent}
 use Rattle.session_ends.specs.Events.{Ticked}
+use Rattle.pitch_messages.specs.Raw.{raws_of}
+use Rattle.unit_packets.specs.Cutting.{blocks_of, blocks_by}
+use Rattle.unit_packets.specs.Judging.{judge, messages_end}
 use Rattle.net_edge.specs.Acting.{scene_of}
-use Rattle.net_edge.specs.Due.{Setting, advertised_until, beat, ticks}
+use Rattle.net_edge.specs.Breaking.{BreaksOff}
+use Rattle.venue_core.specs.Plan.{plan}
+use Rattle.net_edge.specs.Due.{Setting, IsDuePiece, advertised_until, beat, messages, ticks}
 use Rattle.net_edge.specs.Steps.{Step, Did, Beat, Turn}
 use Rattle.net_edge.specs.Turns.{client_status}
+use Rattle.net_edge.specs.declared.error.DemoError.TheVariants as errors
 
 s : Setting
 s = record { number = 0; count = 0 }
@@ -59,3 +65,35 @@ proxy_is = refl
 silent_before : client_status (scene_of s (quiet_turns 9)) ≡ Silent
 unfolding s served heard quiet_turns
 silent_before = refl
+
+-- ---- Breaking off
+-- with a call that the net failed
+at_a_failure : BreaksOff s errors.NetFault (Next A 65535 [] taken.Failed ∷ []) (scene_of s [])
+at_a_failure = (tt, (refl, refl))
+
+-- not with one that it did well, nor with one that has less room than a run's
+not_at_a_quiet_line :
+    BreaksOff s errors.NetFault (Next A 65535 [] taken.Quiet ∷ []) (scene_of s []) → ⊥
+not_at_a_quiet_line broke = broke.0
+
+not_with_less_room : BreaksOff s errors.NetFault (Next A 16 [] taken.Failed ∷ []) (scene_of s []) → ⊥
+not_with_less_room broke = absurd (omega (arith, broke.1.0))
+
+-- with no call where memory ran out
+not_with_a_call :
+    BreaksOff s errors.OutOfMemory (Next A 65535 [] taken.Failed ∷ []) (scene_of s []) → ⊥
+not_with_a_call broke = broke
+
+-- ---- What may be sent
+-- where no message was accepted, no heartbeat that tells of message 2
+later_heartbeat : List ℕ
+later_heartbeat = 8 ∷ 0 ∷ 0 ∷ 1 ∷ 3 ∷ 0 ∷ 0 ∷ 0 ∷ []
+
+none : messages s 1 ≡ []
+unfolding s plan
+none = refl
+
+not_of_a_later_message : IsDuePiece s 1 later_heartbeat → ⊥
+unfolding s later_heartbeat blocks_of blocks_by judge messages_end raws_of
+not_of_a_later_message piece =
+    absurd (omega (arith, piece.blocks.0.within, ap (λ (ms : List (List ℕ)). length ms) none))

@@ -1,8 +1,8 @@
-use Rattle.std.proofs.Common.{◌≡◌, ◌-◌, ◌∙◌, ℕ, List, ap, sym, subst, [], cond}
+use Rattle.std.proofs.Common.{◌≡◌, ◌-◌, ◌∙◌, ℕ, List, ap, [], cond}
 use Rattle.pitch_messages.specs.Room.{Roomy}
 use Rattle.unit_packets.specs.Packing.{bytes_in}
 use Rattle.net_edge.specs.Due.{Setting, AreDuePieces, setting, accepted, advertised_until, messages, new_datagrams}
-use Rattle.net_edge.specs.Playing.{MarketHas, IsFlushed}
+use Rattle.net_edge.specs.Playing.{MarketHas}
 use Rattle.net_edge.specs.Scene.{Scene}
 use Rattle.net_edge.proofs.Turning.{published, flushed_is, pieces_in_turn}
 use Rattle.net_edge.proofs.Breaking.{at_exit, breaks_here}

@@ -1,4 +1,4 @@
-use Rattle.std.proofs.Common.{sym, ap, ◌∙◌}
+use Rattle.std.proofs.Common.{sym}
 use Rattle.net_edge.proofs.Breaking.{at_exit}
 use Rattle.net_edge.proofs.Parts.{servers_over, proxy_begins, proxy_ends, spin_begins, market_still, store_kept, shelf_kept}
 use Rattle.net_edge.proofs.ends.Ends.serve.Goals as goal
