@@ -4,3 +4,4 @@ pub mod Standing
 pub mod Symbols
 pub mod Totals
 pub mod Images
+pub mod Turns

@@ -1,7 +1,19 @@
 ghost use Rattle.std.specs.Prelude.{◌≡◌};
-ghost use Rattle.order_book.specs.Naming.{names_order, named_order};
+ghost use Rattle.pitch_messages.specs.Raw.{IsRaw};
+ghost use Rattle.order_book.specs.Naming.{names_order, named_order, touched};
 
 use pitch_fields::get_u64;
+
+/// Which orders a message touches.
+#[derive(Clone, Copy, Debug, PartialEq, Eq)]
+pub enum Touches {
+    /// None.
+    None,
+    /// The one of this id, if any.
+    One(u64),
+    /// All.
+    All,
+}
 
 // The id of the order that a message names, or None where it names none.
 #[inline(always)]
@@ -21,4 +33,22 @@ fn names_order(kind: u8) -> bool
     ensures { result ≡ names_order kind }
 {
     matches!(kind, 0x21..=0x29 | 0x2f)
+}
+
+/// Which orders a raw message touches, given its bytes. Its type and the id are all that is read.
+#[inline(always)]
+pub fn touched(raw: &[u8]) -> Touches
+    requires { IsRaw raw.now }
+    ensures { result ≡ touched raw.now }
+{
+    match named_order(raw) {
+        Some(id) => Touches::One(id),
+        None => {
+            if raw[1] == 0x97 && raw.len() >= 6 {
+                Touches::All
+            } else {
+                Touches::None
+            }
+        }
+    }
 }

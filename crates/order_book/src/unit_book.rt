@@ -7,13 +7,15 @@ ghost use Rattle.pitch_model.specs.Statuses.{statuses_of};
 ghost use Rattle.order_book.specs.Changes.{changed_by};
 ghost use Rattle.order_book.specs.Naming.{names_open};
 ghost use Rattle.order_book.specs.Standing.{most_orders};
+ghost use Rattle.order_book.specs.Turns.{turn_of};
 
 use crate::adding::{is_displayed, order_of_expanded, order_of_long, order_of_short};
 use crate::change::Change;
-use crate::naming::named_order;
+use crate::naming::{Touches, named_order, touched};
 use crate::order_list::{OrderList, append_by_id};
 use crate::statuses::{StatusList, Statuses};
 use crate::totals::{all_shares, best_price, shares_at};
+use crate::turn::Turn;
 use arrayvec::ArrayVec;
 use indexmap::IndexMap;
 use pitch_fields::{OutOfMemory, Price, Side, Symbol};
@@ -115,6 +117,65 @@ impl UnitBook {
         ensures spare { self.old.spare ≤ self.new.spare + 1 }
     {
         self.apply_bytes(raw).unwrap();
+    }
+
+    /// Does what a raw message says, as `apply_bytes` does, and answers what that did to the open
+    /// orders.
+    ///
+    /// The book is as before after OutOfMemory, which never comes where the spare is at least 1.
+    pub fn turn_bytes(&mut self, raw: &[u8]) -> Result<Turn, OutOfMemory>
+        requires raw { IsRaw raw.now }
+        requires few { map.len self.old.book.orders < most_orders }
+        ensures ok { OnOk result (self.new.book ≡ after self.old.book raw.now) }
+        ensures turn { IfOk result (λ turn. turn ≡ turn_of self.old.book raw.now) }
+        ensures err { OnErr result (self.new.book ≡ self.old.book) }
+        ensures succeeds { 1 ≤ self.old.spare → IsOk result }
+        ensures spare { self.old.spare ≤ self.new.spare + 1 }
+    {
+        match touched(raw) {
+            Touches::None => {
+                self.apply_bytes(raw)?;
+                Ok(Turn::None)
+            }
+            Touches::One(id) => {
+                let before = self.order(id);
+                self.apply_bytes(raw)?;
+                let now = self.order(id);
+                Ok(Turn::One { before, now })
+            }
+            Touches::All => {
+                self.apply_bytes(raw)?;
+                Ok(Turn::All)
+            }
+        }
+    }
+
+    /// Does what a raw message says, as `apply_reserved` does, and answers what that did to the
+    /// open orders.
+    pub fn turn_reserved(&mut self, raw: &[u8]) -> Turn
+        requires raw { IsRaw raw.now }
+        requires room { 1 ≤ self.old.spare }
+        requires few { map.len self.old.book.orders < most_orders }
+        ensures book { self.new.book ≡ after self.old.book raw.now }
+        ensures turn { result ≡ turn_of self.old.book raw.now }
+        ensures spare { self.old.spare ≤ self.new.spare + 1 }
+    {
+        match touched(raw) {
+            Touches::None => {
+                self.apply_reserved(raw);
+                Turn::None
+            }
+            Touches::One(id) => {
+                let before = self.order(id);
+                self.apply_reserved(raw);
+                let now = self.order(id);
+                Turn::One { before, now }
+            }
+            Touches::All => {
+                self.apply_reserved(raw);
+                Turn::All
+            }
+        }
     }
 
     /// Makes room for more messages of any kind: the spare is then at least so many. The book is
