@@ -3,8 +3,10 @@ use Rattle.std.specs.Prelude.{◌≡◌, ℕ, ◌+◌, ◌-◌, ◌^◌, ◌≤�
 use Rattle.pitch_fields.specs.Limits.{last_sequence}
 use Rattle.std.specs.FinMap.{len}
 use Rattle.order_book.specs.Standing.{Standing}
+use Rattle.order_book.specs.Turns.{turns_of}
+use Rattle.order_book.specs.declared.turn.Turn.{Turn}
 use Rattle.hold_buffer.specs.HoldView.{HoldView}
-use Rattle.pitch_model.specs.Book.{book_after}
+use Rattle.pitch_model.specs.Book.{Book, book_after}
 use Rattle.pitch_model.specs.History.{Entry, Raw, Spinning, adds, image_finished, bad_image}
 use Rattle.pitch_model.specs.Reach.{Part, grown, settled, overflows, reach_of, is_seen}
 use Rattle.pitch_model.specs.Settling.{Settled}
@@ -16,7 +18,7 @@ use Rattle.client_core.specs.Items.{NeedsNoMemory}
 use Rattle.client_core.specs.Tracks.{held_number}
 use Rattle.client_core.specs.declared.client.UnitClient.{UnitClient}
 use Rattle.client_core.specs.declared.applied_log.AppliedLog.{AppliedLog}
-use Rattle.client_core.specs.declared.applied_log.AppliedLog.TheVariants.{Off, On}
+use Rattle.client_core.specs.declared.applied_log.AppliedLog.TheVariants.{Off, On, Turned}
 use Rattle.client_core.specs.declared.hearing.Heard.{Heard}
 use Rattle.client_core.specs.declared.spinning.Finish.{Finish}
 use Rattle.client_core.specs.declared.spinning.Finish.TheVariants.{Nothing, Image, BadCount}
@@ -49,24 +51,38 @@ FitsHeld held Nothing = Unit {0}
 FitsHeld held (BadCount promised got) = Unit {0}
 
 -- ---- The log of what is applied
--- the messages noted so far, where any are noted
+-- the messages noted so far, where messages are noted
 abbrev pub noted : AppliedLog → Option (List Raw)
 noted Off = None
 noted (On list) = Some list.items
+noted (Turned turns) = None
 
--- the same with more messages at the end
-abbrev pub with_more : List Raw → Option (List Raw) → Option (List Raw)
-with_more raws so_far = option_map (λ before. before ++ raws) so_far
+-- the turns noted so far, where the turns of messages are
+abbrev pub turned : AppliedLog → Option (List Turn)
+turned Off = None
+turned (On list) = None
+turned (Turned turns) = Some turns.items
+
+-- the same with more at the end
+abbrev pub with_more : {A : Type 0} → List A → Option (List A) → Option (List A)
+with_more more so_far = option_map (λ before. before ++ more) so_far
+
+-- of these messages, which were applied to this book, just what is noted of messages was noted
+pub record Notes (book : Book) (raws : List Raw) (log log' : AppliedLog) : Type 0 where
+  pub noted_is : noted log' ≡ with_more raws (noted log)
+  pub turned_is : turned log' ≡ with_more (turns_of book raws) (turned log)
 
 -- so many more messages can be noted without memory
 abbrev pub CanNote : ℕ → AppliedLog → Type 0
 CanNote count Off = Unit {0}
 CanNote count (On list) = count ≤ list.spare
+CanNote count (Turned turns) = count ≤ turns.spare
 
 -- what an item applies can be noted without memory where so many messages are held
 abbrev pub CanNoteItem : Item → ℕ → AppliedLog → Type 0
 CanNoteItem item held Off = Unit {0}
 CanNoteItem item held (On list) = NeedsNoMemory item held list.spare
+CanNoteItem item held (Turned turns) = NeedsNoMemory item held turns.spare
 
 -- beyond what is held, a log's room that served so many messages and more now serves those more
 abbrev pub KeepsLogRoom : UnitClient → UnitClient → ℕ → AppliedLog → AppliedLog → Type 0
@@ -77,6 +93,7 @@ pub record NotesApplied (n n' : ℕ) (book book' : Standing) (log log' : Applied
   pub applied : List Raw
   pub applies : Applies n n' book book' applied
   pub noted_is : noted log' ≡ with_more applied (noted log)
+  pub turned_is : turned log' ≡ with_more (turns_of book.book applied) (turned log)
 
 -- ---- Answers
 -- a message was taken in where what came so far was P: the hold then stands at the reach and holds

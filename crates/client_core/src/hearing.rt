@@ -6,6 +6,7 @@ use crate::applied_log::AppliedLog;
 use crate::client::UnitClient;
 use crate::spinning::{Finish, SpinState};
 use crate::taking::{Taken, take_image, take_in};
+use order_book::TurnList;
 use pitch_fields::OutOfMemory;
 use pitch_messages::{RawList, Raws};
 use pitch_model::{Change, ImageEnd, Item, Status};
@@ -103,10 +104,11 @@ impl UnitClient {
     ghost use Rattle.pitch_model.specs.Reach.{is_overflow, reach};
     ghost use Rattle.pitch_model.specs.Status.{status_of};
     ghost use Rattle.hold_buffer.specs.HoldView.{IsHold};
+    ghost use Rattle.order_book.specs.Turns.{turns_of};
     ghost use Rattle.client_core.specs.Tracks.{Tracks, Keeps, IsAsBefore, IsStill, Applied, KeepsRoom, KeepsListRoom, current_book, held_number, reached, spare_of};
     ghost use Rattle.client_core.specs.Blocks.{Carries};
     ghost use Rattle.client_core.specs.Items.{IsImage, NeedsNoMemory, message_count};
-    ghost use Rattle.client_core.specs.Bookkeeping.{HasRoom, IsImageReady, noted, with_more, CanNote, CanNoteItem, KeepsLogRoom, NotesApplied, Tells};
+    ghost use Rattle.client_core.specs.Bookkeeping.{HasRoom, IsImageReady, noted, turned, Notes, CanNote, CanNoteItem, KeepsLogRoom, NotesApplied, Tells};
     ghost use Rattle.client_core.specs.Keeping.{book_size};
     ghost use Rattle.client_core.specs.Weight.{weight, told_by};
 
@@ -137,7 +139,7 @@ impl UnitClient {
         ensures overflow { (H : ℕ) (E : List Entry) → Tracks self.old H E → result.overflow ≡ is_overflow H E (Message sequence raw.now) }
         ensures notes { NotesApplied (reached self.old) (reached self.new) self.old.book self.new.book log.old log.new }
         ensures held { reached self.new + held_number self.new ≤ (reached self.old + held_number self.old) + 1 }
-        ensures venues { (V : List Raw) → message_at V sequence ≡ Some raw.now → Keeps self.old V → noted log.new ≡ with_more (drop (reached self.old) (take (reached self.new) V)) (noted log.old) }
+        ensures venues { (V : List Raw) → message_at V sequence ≡ Some raw.now → Keeps self.old V → Notes (current_book self.old) (drop (reached self.old) (take (reached self.new) V)) log.old log.new }
         ensures log { (left : ℕ) → CanNote ((left + 1) + held_number self.old) log.old → CanNote (left + held_number self.new) log.new }
         ensures spin { self.new.spin ≡ self.old.spin }
     {
@@ -159,7 +161,7 @@ impl UnitClient {
         ensures overflows { (H : ℕ) (E : List Entry) → Tracks self.old H E → result.overflows ≡ overflowed_messages H first raws.entry E }
         ensures notes { NotesApplied (reached self.old) (reached self.new) self.old.book self.new.book log.old log.new }
         ensures held { reached self.new + held_number self.new ≤ (reached self.old + held_number self.old) + length raws.entry }
-        ensures venues { (V : List Raw) → AreVenues V first raws.entry → Keeps self.old V → noted log.new ≡ with_more (drop (reached self.old) (take (reached self.new) V)) (noted log.old) }
+        ensures venues { (V : List Raw) → AreVenues V first raws.entry → Keeps self.old V → Notes (current_book self.old) (drop (reached self.old) (take (reached self.new) V)) log.old log.new }
         ensures log { KeepsLogRoom self.old self.new (length raws.entry) log.old log.new }
         ensures spin { self.new.spin ≡ self.old.spin }
     {
@@ -191,10 +193,11 @@ impl UnitClient {
         ensures overflows { IfOk result (λ counts. (H : ℕ) (E : List Entry) → Tracks self.old H E → counts.overflows ≡ overflowed_messages H first raws.entry E) }
         ensures notes { OnOk result (NotesApplied (reached self.old) (reached self.new) self.old.book self.new.book log.old log.new) }
         ensures held { OnOk result (reached self.new + held_number self.new ≤ (reached self.old + held_number self.old) + length raws.entry) }
-        ensures venues { OnOk result ((V : List Raw) → AreVenues V first raws.entry → Keeps self.old V → noted log.new ≡ with_more (drop (reached self.old) (take (reached self.new) V)) (noted log.old)) }
+        ensures venues { OnOk result ((V : List Raw) → AreVenues V first raws.entry → Keeps self.old V → Notes (current_book self.old) (drop (reached self.old) (take (reached self.new) V)) log.old log.new) }
         ensures log { OnOk result (KeepsLogRoom self.old self.new (length raws.entry) log.old log.new) }
         ensures err { OnErr result (IsAsBefore self.old self.new) }
         ensures err_noted { OnErr result (noted log.new ≡ noted log.old) }
+        ensures err_turned { OnErr result (turned log.new ≡ turned log.old) }
         ensures err_log { OnErr result ((left : ℕ) → CanNote left log.old → CanNote left log.new) }
         ensures memory { CanNote (length raws.entry + held_number self.old) log.old → length raws.entry + held_number self.old ≤ spare_of self.old → IsOk result }
         ensures spin { OnOk result (self.new.spin ≡ self.old.spin) }
@@ -246,10 +249,11 @@ impl UnitClient {
         ensures notes { OnOk result (NotesApplied (reached self.old) (reached self.new) self.old.book self.new.book log.old log.new) }
         ensures held { OnOk result (reached self.new + held_number self.new ≤ (reached self.old + held_number self.old) + length raws.entry) }
         ensures venues { OnOk result ((block : Block) → Carries block sequence raws.entry → (Image : List Raw → ℕ → List Raw) (V : List Raw) (E : List Entry) → Honest Image V (heard_block block E) → Keeps self.old V
-            → noted log.new ≡ with_more (drop (reached self.old) (take (reached self.new) V)) (noted log.old)) }
+            → Notes (current_book self.old) (drop (reached self.old) (take (reached self.new) V)) log.old log.new) }
         ensures log { OnOk result (KeepsLogRoom self.old self.new (length raws.entry) log.old log.new) }
         ensures err { OnErr result (IsAsBefore self.old self.new) }
         ensures err_noted { OnErr result (noted log.new ≡ noted log.old) }
+        ensures err_turned { OnErr result (turned log.new ≡ turned log.old) }
         ensures err_log { OnErr result ((left : ℕ) → CanNote left log.old → CanNote left log.new) }
         ensures memory { CanNote (length raws.entry + held_number self.old) log.old → length raws.entry + held_number self.old ≤ spare_of self.old → IsOk result }
         ensures heartbeat { raws.entry ≡ [] → IsOk result }
@@ -344,6 +348,52 @@ impl UnitClient {
         let mut log = AppliedLog::On(replace(applied, RawList::make(self.alloc)));
         let counts = self.take_block(&mut log, sequence, raws);
         *applied = log.into_list(self.alloc);
+        Ok(self.changed_since(before, counts?.heard()))
+    }
+
+    /// Hears a block as `hear_block` does, and appends to `turns` what each message that it applied
+    /// did to the open orders, in their order.
+    ///
+    /// After OutOfMemory both are as before the block. That never comes where it wouldn't in
+    /// `hear_block` and `turns` too has room for the block's messages and those held. What the
+    /// caller reserved in `turns` stays, but for the turns that are appended.
+    pub fn hear_block_turned(
+        &mut self,
+        sequence: u32,
+        raws: Raws<'_>,
+        turns: &mut TurnList,
+    ) -> Result<Change, OutOfMemory>
+        requires { StaysWithin sequence (length raws) }
+        // Whatever history the client stood for, it now stands for that history and this block.
+        ensures tracks { OnOk result ((block : Block) → Carries block sequence raws.entry → (H : ℕ) (E : List Entry) → Tracks self.old H E → Tracks self.new H (heard_block block E)) }
+        // In an honest history, where all that is heard comes from one venue, the book stays the
+        // one that the venue's messages up to the reach leave, and what is held stays the venue's.
+        ensures keeps { OnOk result ((block : Block) → Carries block sequence raws.entry → (Image : List Raw → ℕ → List Raw) (V : List Raw) (E : List Entry) → Honest Image V (heard_block block E) → Keeps self.old V → Keeps self.new V) }
+        // Whatever was heard before, the answer is what the block changes: the status before and
+        // after it, and how many messages were fresh and overflowed the hold.
+        ensures change { IfOk result (λ change. (block : Block) → Carries block sequence raws.entry → (H : ℕ) (E : List Entry) → Tracks self.old H E → change ≡ block_change H E block) }
+        // Honest or not, what is appended are the turns of the applied messages, by which the reach
+        // rose.
+        ensures applies { OnOk result ((more : List Raw) × (turns.new.items ≡ turns.old.items ++ turns_of (current_book self.old) more) × Applied self.old self.new more) }
+        // In an honest history these are the turns of the venue's messages after the old reach, up
+        // to the new one.
+        ensures venues { OnOk result ((block : Block) → Carries block sequence raws.entry → (Image : List Raw → ℕ → List Raw) (V : List Raw) (H : ℕ) (E : List Entry) → Tracks self.old H E → Honest Image V (heard_block block E) → Keeps self.old V
+            → turns.new.items ≡ turns.old.items ++ turns_of (current_book self.old) (drop (reach H E) (take (reach H (heard_block block E)) V))) }
+        // Where there was room for this block and for more messages, there is still room for those:
+        // in the book, and in the list.
+        ensures room { OnOk result (KeepsRoom self.old self.new (length raws.entry)) }
+        ensures room_turns { OnOk result (KeepsListRoom self.old self.new (length raws.entry) turns.old.spare turns.new.spare) }
+        ensures err { OnErr result (IsAsBefore self.old self.new) }
+        ensures err_turns { OnErr result (turns.new.items ≡ turns.old.items) }
+        ensures err_room { OnErr result (turns.old.spare ≤ turns.new.spare) }
+        ensures memory { length raws.entry + held_number self.old ≤ spare_of self.old → length raws.entry + held_number self.old ≤ turns.old.spare → IsOk result }
+        ensures heartbeat { raws.entry ≡ [] → IsOk result }
+        ensures unsequenced { sequence ≡ 0 → IsOk result }
+    {
+        let before = self.status();
+        let mut log = AppliedLog::Turned(replace(turns, TurnList::make(self.alloc)));
+        let counts = self.take_block(&mut log, sequence, raws);
+        *turns = log.into_turns(self.alloc);
         Ok(self.changed_since(before, counts?.heard()))
     }
 
@@ -466,11 +516,12 @@ impl UnitClient {
         ensures notes { IfOk result (λ told. told.image ≢ ImageEnd.Taken → NotesApplied (reached self.old) (reached self.new) self.old.book self.new.book log.old log.new) }
         ensures held { IfOk result (λ told. told.image ≢ ImageEnd.Taken → reached self.new + held_number self.new ≤ (reached self.old + held_number self.old) + message_count item.now) }
         ensures venues { IfOk result (λ told. told.image ≢ ImageEnd.Taken → (Image : List Raw → ℕ → List Raw) (V : List Raw) (E : List Entry) → Honest Image V (heard item.now E) → Keeps self.old V
-            → noted log.new ≡ with_more (drop (reached self.old) (take (reached self.new) V)) (noted log.old)) }
+            → Notes (current_book self.old) (drop (reached self.old) (take (reached self.new) V)) log.old log.new) }
         ensures log { IfOk result (λ told. told.image ≢ ImageEnd.Taken → KeepsLogRoom self.old self.new (message_count item.now) log.old log.new) }
         ensures taken { IfOk result (λ told. told.image ≡ ImageEnd.Taken → log.new ≡ log.old) }
         ensures err { OnErr result (IsAsBefore self.old self.new) }
         ensures err_noted { OnErr result (noted log.new ≡ noted log.old) }
+        ensures err_turned { OnErr result (turned log.new ≡ turned log.old) }
         ensures err_log { OnErr result ((left : ℕ) → CanNote left log.old → CanNote left log.new) }
         ensures memory { NeedsNoMemory item.now (held_number self.old) (spare_of self.old) → CanNoteItem item.now (held_number self.old) log.old → IsOk result }
         ensures weighs { IfOk result (λ told. told.image ≢ ImageEnd.Taken → reached self.new + weight self.new ≤ (reached self.old + weight self.old) + told_by item.now) }

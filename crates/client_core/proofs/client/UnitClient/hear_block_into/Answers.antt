@@ -10,7 +10,7 @@ returns-clause-venues c = λ block C Image V H E T honest K.
     let to = (c.in_ok-counts.ensures.tracks block C H E T).floor_is in
     let is = c.in_ok-counts.ensures.venues block C Image V E honest K in
     let before = ap (λ (list : _). list.items) c.replace.ensures.value in
-    listed _ c.replace.result.items _ c.into_list.result.items is c.into_list.ensures.items
+    listed _ c.replace.result.items _ c.into_list.result.items is.noted_is c.into_list.ensures.items
     ∙ ap (λ items. items ++ drop (reached c.args.self.now) (take (reached c.take_block-counts.new.self) V)) before
     ∙ (λ i. c.args.applied.now.items ++ drop (from i) (take (to i) V))
 
