@@ -10,6 +10,7 @@ pub mod Turning
 pub mod Gone
 pub mod Stepping
 pub mod Along
+pub mod Leaving
 pub mod Following
 pub mod Quoted
 pub mod Lining

@@ -19,11 +19,10 @@ use Rattle.pitch_messages.specs.Reading.{MessageRow, with_side, reads, row_of, t
 use Rattle.pitch_model.specs.Book.{Book, with_order, without_order, added, changed, reformed, reduced_by, left_with, modified, is_displayed, long_price, order_of_long, order_of_short, order_of_expanded, after_message, after_read, after}
 use Rattle.pitch_model.specs.Levels.{level}
 use Rattle.best_quotes.specs.Balance.{shares_of}
-use Rattle.order_book.specs.Naming.{names_order, named_order}
-use Rattle.best_quotes.specs.Naming.{touches_as, touched}
+use Rattle.order_book.specs.Naming.{names_order, named_order, touches_as, touched}
 use Rattle.best_quotes.specs.Turning.{Moves}
-use Rattle.best_quotes.specs.declared.naming.Touches.{Touches}
-use Rattle.best_quotes.specs.declared.naming.Touches.TheVariants as touches
+use Rattle.order_book.specs.declared.naming.Touches.{Touches}
+use Rattle.order_book.specs.declared.naming.Touches.TheVariants as touches
 use Rattle.best_quotes.proofs.Balancing.{level_removed, level_put}
 
 itself : (k : ℕ) → eq_by_cmp nat_cmp k k ≡ true

@@ -3,7 +3,6 @@ pub mod Changes
 pub mod Hearing
 pub mod Ladders
 pub mod Leveling
-pub mod Naming
 pub mod Quoting
 pub mod QuotesText
 pub mod Stands

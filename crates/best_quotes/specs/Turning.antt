@@ -1,5 +1,5 @@
 -- A message that turns one book into another, its levels into the other's, and tells the changes.
-use Rattle.std.specs.Prelude.{◌≡◌, ◌⊎◌, ℕ, ◌+◌, true, IsSome, List, ◌++◌, Option, None, Some}
+use Rattle.std.specs.Prelude.{◌≡◌, ◌⊎◌, ℕ, ◌+◌, true, IsSome, List, ◌++◌, fold, Option, None, Some}
 use Rattle.std.specs.List.{flat_map}
 use Rattle.std.specs.Ordering.{nat_cmp}
 use Rattle.std.specs.Cmp.Lexicographic.{slice_cmp}
@@ -8,12 +8,17 @@ use Rattle.std.specs.FinMap as finite
 use Rattle.pitch_fields.specs.declared.side.Side.{Side}
 use Rattle.pitch_fields.specs.declared.side.Side.TheVariants.{Buy, Sell}
 use Rattle.pitch_messages.specs.declared.order.Order.{Order}
-use Rattle.pitch_model.specs.Book.{Book, IsBook}
+use Rattle.order_book.specs.Turns.{turn_of, turns_of}
+use Rattle.order_book.specs.declared.turn.Turn.{Turn}
+use Rattle.pitch_model.specs.Book.{Book, IsBook, after}
+use Rattle.pitch_model.specs.History.{Raw}
 use Rattle.pitch_model.specs.Levels.{level, best}
 use Rattle.best_quotes.specs.Balance.{shares_of}
 use Rattle.best_quotes.specs.Changes.{changes, change_between}
 use Rattle.best_quotes.specs.Leveling.{Entries, Has, level_in}
+use Rattle.best_quotes.specs.Quoting.{quoted}
 use Rattle.best_quotes.specs.declared.quote.Quote.{Quote}
+use Rattle.best_quotes.specs.declared.quote.QuoteLine.{QuoteLine}
 use Rattle.best_quotes.specs.declared.bests.Bests.{Bests}
 
 -- the bests of both sides of a symbol
@@ -82,3 +87,23 @@ HasSymbols levels symbols =
 -- no order is open
 abbrev pub AreGone : Book → Type 0
 AreGone book = book.orders ≡ finite.empty
+
+-- ---- What messages did to the orders
+-- the same of any book and any message that did this to its orders
+abbrev pub TurnsLevels : Turn → Entries → Entries → List Quote → List Quote → Type 0
+TurnsLevels turn levels levels' told told' =
+    (book : Book) (raw : Raw) → turn ≡ turn_of book raw
+    → Turns book (after book raw) levels levels' told told'
+
+-- the levels of a book became those that messages leave, and the lines of these were told
+pub record IsTurned (first : ℕ) (book : Book) (raws : List Raw)
+    (levels' : Entries) (lines lines' : List QuoteLine) : Type 0 where
+  pub has : Has levels' (level (fold after book raws))
+  pub tells : lines' ≡ lines ++ quoted first book raws
+
+-- of any book and any messages that did all this to its orders, the first with this sequence
+abbrev pub TurnsEach
+    : ℕ → List Turn → Entries → Entries → List QuoteLine → List QuoteLine → Type 0
+TurnsEach first turns levels levels' lines lines' =
+    (book : Book) (raws : List Raw) → IsBook book → turns ≡ turns_of book raws
+    → Has levels (level book) → IsTurned first book raws levels' lines lines'

@@ -12,7 +12,7 @@ use crate::step;
 use indexmap::IndexMap;
 use order_book::UnitBook;
 use pitch_fields::{OutOfMemory, Price, Side, Symbol};
-use pitch_messages::{Raw, Raws};
+use pitch_messages::Raw;
 use std::alloc::Global;
 use std::marker::Model;
 
@@ -25,8 +25,6 @@ pub struct Ladder {
     book: UnitBook,
     levels: Levels,
     spent: bool,
-    // how many of the orders that were looked up ahead were open; nobody reads it
-    looked_up: usize,
 }
 
 impl Model for Ladder {
@@ -52,7 +50,6 @@ impl Ladder {
             book: UnitBook::make(alloc),
             levels: IndexMap::new(alloc),
             spent: false,
-            looked_up: 0,
         }
     }
 
@@ -71,13 +68,6 @@ impl Ladder {
         ensures room { IsFalse result → map.len self.now.book.book.orders < most_orders }
     {
         self.book.len() == u32::MAX
-    }
-
-    // Looks up the orders that messages name, so that they are near when these are applied.
-    pub(crate) fn look_up(&mut self, raws: Raws<'_>)
-        ensures { self.new ≡ self.old }
-    {
-        self.looked_up = self.looked_up.wrapping_add(self.book.known_orders(raws));
     }
 
     /// Does what a raw message says, given its bytes, and appends the changes of the best prices:

@@ -2,8 +2,8 @@
 //!
 //! A `Ladder` keeps a book with its levels in order. `apply` does what a message says and appends
 //! the best of each symbol and side where it became another; `best` answers one at any time. A
-//! `QuotedUnit` has a ladder beside the client of a unit, and `QuotedUnits` one for each unit of a
-//! stream; `append_quotes` writes the lines of what they tell.
+//! `QuotedUnit` has such levels beside the client of a unit, and `QuotedUnits` one for each unit of
+//! a stream; `append_quotes` writes the lines of what they tell.
 #![tactic(auto)]
 
 mod bests;
@@ -13,7 +13,6 @@ mod ladder;
 pub mod laws;
 mod levels;
 mod lines;
-mod naming;
 mod prices;
 mod quote;
 mod step;

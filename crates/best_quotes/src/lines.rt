@@ -1,12 +1,14 @@
-ghost use Rattle.std.specs.Prelude.{◌≡◌, ◌≤◌, ◌+◌, ◌++◌, length, fold, OnOk};
-ghost use Rattle.pitch_model.specs.Book.{after};
-ghost use Rattle.best_quotes.specs.Quoting.{numbered, quoted};
+ghost use Rattle.std.specs.Prelude.{◌≡◌, ◌≤◌, ◌+◌, ◌++◌, length, OnOk};
+ghost use Rattle.best_quotes.specs.Quoting.{numbered};
+ghost use Rattle.best_quotes.specs.Turning.{TurnsEach};
 
 use crate::bests::QuoteList;
-use crate::ladder::Ladder;
+use crate::levels::Levels;
 use crate::quote::QuoteLine;
+use crate::step::turn_levels;
+use order_book::Turn;
 use pitch_fields::OutOfMemory;
-use pitch_messages::{List, Raws};
+use pitch_messages::List;
 use std::alloc::Global;
 
 /// A list of quotes with their sequences.
@@ -27,34 +29,25 @@ fn number(lines: &mut QuoteLines, sequence: u32, quotes: &QuoteList) -> Result<(
     Ok(())
 }
 
-// Does what messages say that follow the one with this sequence, and appends what each changes.
-//
-// It answers OutOfMemory too where the ladder has as many orders as a book has at most. A ladder
-// that has the book of a unit's client never comes so far, since each message opens one at most.
-pub(crate) fn apply_all(
+// Does to the levels of a book what each of some messages did to its orders, and appends what each
+// changes. The messages follow the one with this sequence.
+pub(crate) fn turn_each(
     alloc: Global,
-    ladder: &mut Ladder,
+    levels: &mut Levels,
     reach: u32,
-    raws: Raws<'_>,
+    turns: &[Turn],
     lines: &mut QuoteLines,
 ) -> Result<(), OutOfMemory>
-    requires within { reach + length raws ≤ 4294967295 }
-    ensures book { OnOk result
-        (ladder.new.book.book ≡ fold after ladder.old.book.book raws.entry) }
-    ensures lines { OnOk result (lines.new.items
-        ≡ lines.old.items ++ quoted (reach + 1) ladder.old.book.book raws.entry) }
+    requires within { reach + length turns.now ≤ 4294967295 }
+    ensures { OnOk result (TurnsEach (reach + 1) turns.now
+        levels.old.entries levels.new.entries lines.old.items lines.new.items) }
 {
-    ladder.look_up(raws.copy());
-    let mut raws = raws;
     let mut sequence = reach;
     let mut quotes = QuoteList::make(alloc);
-    'messages: while let Some(raw) = raws.next_raw() {
+    'messages: for turn in turns {
         sequence += 1;
-        if ladder.is_full() {
-            return Err(OutOfMemory);
-        }
         quotes.truncate(0);
-        ladder.apply_bytes(raw, &mut quotes)?;
+        turn_levels(alloc, levels, turn, &mut quotes)?;
         number(lines, sequence, &quotes)?;
     }
     Ok(())

@@ -3,16 +3,38 @@ ghost use Rattle.std.specs.FinMap as map;
 ghost use Rattle.pitch_messages.specs.Raw.{IsRaw};
 ghost use Rattle.order_book.specs.Standing.{most_orders};
 ghost use Rattle.pitch_model.specs.Book.{IsBook, after};
-ghost use Rattle.best_quotes.specs.Turning.{Turns};
+ghost use Rattle.best_quotes.specs.Turning.{Turns, TurnsLevels};
 
 use crate::bests::QuoteList;
 use crate::clearing::turn_all;
 use crate::levels::Levels;
-use crate::naming::{Touches, touched};
 use crate::steps::turn_order;
-use order_book::UnitBook;
+use order_book::{Turn, UnitBook};
 use pitch_fields::OutOfMemory;
 use std::alloc::Global;
+
+// Does to the levels of a book what a message did to its orders, and tells the changes.
+pub(crate) fn turn_levels(
+    alloc: Global,
+    levels: &mut Levels,
+    turn: &Turn,
+    told: &mut QuoteList,
+) -> Result<(), OutOfMemory>
+    ensures { OnOk result (TurnsLevels turn.now
+        levels.old.entries levels.new.entries told.old.items told.new.items) }
+{
+    match turn {
+        Turn::None => Ok(()),
+        Turn::One { before, now } => {
+            turn_order(levels, before, now, told)?;
+            Ok(())
+        }
+        Turn::All => {
+            turn_all(alloc, levels, told)?;
+            Ok(())
+        }
+    }
+}
 
 // Does to a book and its levels what a message says, and tells the changes.
 pub(crate) fn apply(
@@ -29,22 +51,7 @@ pub(crate) fn apply(
         levels.old.entries levels.new.entries told.old.items told.new.items) }
     ensures is_book { IsBook book.old.book → IsBook book.new.book }
 {
-    match touched(raw) {
-        Touches::None => {
-            book.apply_bytes(raw)?;
-            Ok(())
-        }
-        Touches::One(id) => {
-            let before = book.order(id);
-            book.apply_bytes(raw)?;
-            let now = book.order(id);
-            turn_order(levels, &before, &now, told)?;
-            Ok(())
-        }
-        Touches::All => {
-            book.apply_bytes(raw)?;
-            turn_all(alloc, levels, told)?;
-            Ok(())
-        }
-    }
+    let turn = book.turn_bytes(raw)?;
+    turn_levels(alloc, levels, &turn, told)?;
+    Ok(())
 }

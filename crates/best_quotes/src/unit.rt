@@ -6,24 +6,25 @@ ghost use Rattle.best_quotes.specs.Hearing.{StandsOn, Quotes};
 ghost use Rattle.best_quotes.specs.Stands.{Stands};
 
 use crate::hearing::hear_block;
-use crate::ladder::Ladder;
+use crate::levels::Levels;
 use crate::lines::QuoteLines;
 use client_core::{Change, UnitClient};
+use indexmap::IndexMap;
+use order_book::TurnList;
 use pitch_fields::OutOfMemory;
-use pitch_messages::RawList;
 use std::alloc::Global;
 use unit_packets::BlockView;
 
-/// A client of one unit with a ladder beside it.
+/// A client of one unit with the open shares of its book by symbol, side and price, in order.
 ///
 /// After OutOfMemory it stands for nothing any more.
 #[derive(Drop)]
 pub struct QuotedUnit {
     pub(crate) alloc: Global,
     pub(crate) client: UnitClient,
-    pub(crate) ladder: Ladder,
-    // what the last block applied
-    pub(crate) applied: RawList,
+    pub(crate) levels: Levels,
+    // what the messages that the last block applied did to the orders
+    pub(crate) turns: TurnList,
 }
 
 impl QuotedUnit {
@@ -37,8 +38,8 @@ impl QuotedUnit {
         Ok(QuotedUnit {
             alloc,
             client,
-            ladder: Ladder::make(alloc),
-            applied: RawList::make(alloc),
+            levels: IndexMap::new(alloc),
+            turns: TurnList::make(alloc),
         })
     }
 
@@ -60,10 +61,10 @@ impl QuotedUnit {
         let change = hear_block(
             self.alloc,
             &mut self.client,
-            &mut self.ladder,
+            &mut self.levels,
             sequence,
             block.raws(),
-            &mut self.applied,
+            &mut self.turns,
             lines,
         )?;
         Ok(change)

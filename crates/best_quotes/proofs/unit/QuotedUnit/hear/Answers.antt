@@ -14,13 +14,13 @@ returns-clause-stands c = λ H E S.
     record {
       tracks = c.in_ok-change.ensures.tracks block (carries c) H E S.tracks;
       keeps = λ Image V honest. c.in_ok-change.ensures.keeps block (carries c) Image V E honest (S.keeps Image V (honest_block Image V block E honest));
-      same = c.in_ok-change.ensures.same S.same;
+      has = c.in_ok-change.ensures.levels S.has;
     }
 
 pub returns-clause-quotes : goal.returns-clause-quotes
 returns-clause-quotes c = λ Image V H E S honest.
     let block = c.args.block.now in
-    c.in_ok-change.ensures.lines block (carries c) Image V H E S.tracks honest (S.keeps Image V (honest_block Image V block E honest)) S.same
+    c.in_ok-change.ensures.lines block (carries c) Image V H E S.tracks honest (S.keeps Image V (honest_block Image V block E honest)) S.has
 
 pub returns-clause-change : goal.returns-clause-change
 returns-clause-change c = λ H E S. c.in_ok-change.ensures.change c.args.block.now (carries c) H E S.tracks

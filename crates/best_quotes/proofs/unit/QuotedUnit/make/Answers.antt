@@ -1,6 +1,8 @@
-use Rattle.std.proofs.Common.{◌≡◌, ℕ, zero, suc, [], take, refl, sym, ap, ◌∙◌}
+use Rattle.std.proofs.Common.{◌≡◌, ℕ, zero, suc, [], take, refl, ap, ◌∙◌}
 use Rattle.pitch_model.specs.Book.{book_after}
 use Rattle.pitch_model.specs.History.{Raw}
+use Rattle.client_core.specs.Tracks.{current_book}
+use Rattle.best_quotes.proofs.Stepping.{starts_with}
 use Rattle.best_quotes.proofs.unit.QuotedUnit.make.Goals as goal
 
 nothing : (n : ℕ) → take {A = Raw} n [] ≡ []
@@ -11,5 +13,6 @@ pub returns : goal.returns
 returns c = record {
   tracks = c.in_ok-client.ensures.tracks;
   keeps = λ Image V honest. c.in_ok-client.ensures.keeps V;
-  same = c.make-2.ensures.book ∙ sym ((c.in_ok-client.ensures.keeps []).book_is ∙ ap book_after (nothing c.in_ok-client.client.hold.floor));
+  has = starts_with (current_book c.in_ok-client.client) c.new.result.entries
+      ((c.in_ok-client.ensures.keeps []).book_is ∙ ap book_after (nothing c.in_ok-client.client.hold.floor)) c.new.ensures.empty;
 }
