@@ -1,5 +1,6 @@
 -- The changes of the best levels along the messages of a unit.
-use Rattle.std.specs.Prelude.{ℕ, zero, suc, ◌+◌, ◌-◌, Bool, ◌&&◌, ◌==◌, List, [], ◌∷◌, ◌++◌, map, take, fold, Option, None, if◌then◌else◌, bytes_eq}
+use Rattle.std.specs.Prelude.{ℕ, zero, suc, ◌+◌, ◌-◌, Bool, ◌&&◌, ◌==◌, List, [], ◌∷◌, ◌++◌, map}
+use Rattle.std.specs.Prelude.{take, fold, Option, None, if◌then◌else◌, bytes_eq}
 use Rattle.unit_packets.specs.Blocks.{Block}
 use Rattle.pitch_fields.specs.declared.side.Side.{Side}
 use Rattle.pitch_model.specs.Book.{Book, after, book_after}

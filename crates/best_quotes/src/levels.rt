@@ -7,7 +7,8 @@ ghost use Rattle.pitch_fields.specs.declared.side.Side.{Side};
 ghost use Rattle.pitch_fields.specs.declared.side.Side.TheVariants.{Buy, Sell};
 ghost use Rattle.pitch_model.specs.Book.{Book, IsBook};
 ghost use Rattle.pitch_model.specs.Levels.{best, level, same_side};
-ghost use Rattle.best_quotes.specs.Leveling.{MovesPrices, IsNearest, side_of, level_in, Has, SameLevels, IsOn, TurnsSide};
+ghost use Rattle.best_quotes.specs.Leveling.{MovesPrices, IsNearest, side_of, level_in, Has};
+ghost use Rattle.best_quotes.specs.Leveling.{SameLevels, IsOn, TurnsSide};
 
 use crate::prices::{Best, Prices, best_of, turn};
 use indexmap::IndexMap;

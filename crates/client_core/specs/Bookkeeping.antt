@@ -1,5 +1,6 @@
 -- What the client's own functions tell one another. No public clause needs this file.
-use Rattle.std.specs.Prelude.{◌≡◌, ℕ, ◌+◌, ◌-◌, ◌^◌, ◌≤◌, ◌&&◌, not, nat_lt, min, List, [], ◌∷◌, ◌++◌, Option, Some, None, option_map}
+use Rattle.std.specs.Prelude.{◌≡◌, ℕ, ◌+◌, ◌-◌, ◌^◌, ◌≤◌, ◌&&◌, not, nat_lt, min, List, [], ◌∷◌}
+use Rattle.std.specs.Prelude.{◌++◌, Option, Some, None, option_map}
 use Rattle.pitch_fields.specs.Limits.{last_sequence}
 use Rattle.std.specs.FinMap.{len}
 use Rattle.order_book.specs.Standing.{Standing}
@@ -40,13 +41,16 @@ HasRoomAfter held through spare = min held (last_sequence - through) ≤ spare
 -- the image that a Spin Finished for a sequence would finish has room for so many messages that are
 -- held
 abbrev pub IsImageReady : ℕ → ℕ → SpinState → Type 0
-IsImageReady held sequence (Running image) = image.sequence ≡ sequence → image.got ≡ image.promised → HasRoomAfter held sequence image.book.spare
+IsImageReady held sequence (Running image) =
+    image.sequence ≡ sequence
+    → image.got ≡ image.promised → HasRoomAfter held sequence image.book.spare
 IsImageReady held sequence NoSpin = Unit {0}
 IsImageReady held sequence (Asked asked) = Unit {0}
 
 -- the book of a finished image has such room, and no more orders than messages
 abbrev pub FitsHeld : ℕ → Finish → Type 0
-FitsHeld held (Image through book) = (order_count book.book ≤ through) × HasRoomAfter held through book.spare
+FitsHeld held (Image through book) =
+    (order_count book.book ≤ through) × HasRoomAfter held through book.spare
 FitsHeld held Nothing = Unit {0}
 FitsHeld held (BadCount promised got) = Unit {0}
 
@@ -86,7 +90,8 @@ CanNoteItem item held (Turned turns) = NeedsNoMemory item held turns.spare
 
 -- beyond what is held, a log's room that served so many messages and more now serves those more
 abbrev pub KeepsLogRoom : UnitClient → UnitClient → ℕ → AppliedLog → AppliedLog → Type 0
-KeepsLogRoom c c' count log log' = (more : ℕ) → CanNote ((count + held_number c) + more) log → CanNote (held_number c' + more) log'
+KeepsLogRoom c c' count log log' =
+    (more : ℕ) → CanNote ((count + held_number c) + more) log → CanNote (held_number c' + more) log'
 
 -- some messages were applied, and just these were noted
 pub record NotesApplied (n n' : ℕ) (book book' : Standing) (log log' : AppliedLog) : Type 0 where
@@ -98,8 +103,10 @@ pub record NotesApplied (n n' : ℕ) (book book' : Standing) (log log' : Applied
 -- ---- Answers
 -- a message was taken in where what came so far was P: the hold then stands at the reach and holds
 -- what is held, and the answer says whether the message was fresh and whether the hold overflowed
-pub record TakesIn (P : Part) (h : HoldView) (sequence : ℕ) (h' : HoldView) (taken : Taken) : Type 0 where
-  pub settled_then : Settled (settled h.limit (grown P [] (sequence ∷ [])) (sequence ∷ [])) h'.floor (holds h')
+pub record TakesIn (P : Part) (h : HoldView) (sequence : ℕ) (h' : HoldView) (taken : Taken) :
+    Type 0 where
+  pub settled_then : Settled
+      (settled h.limit (grown P [] (sequence ∷ [])) (sequence ∷ [])) h'.floor (holds h')
   pub overflow_is : taken.overflow ≡ overflows h.limit (grown P [] (sequence ∷ [])) (sequence ∷ [])
   pub fresh_is : taken.fresh ≡ (nat_lt (reach_of P) sequence && not (is_seen P sequence))
 
@@ -108,9 +115,13 @@ abbrev pub EndsSpin : Finish → Spinning → ℕ → Type 0
 -- no image ends
 EndsSpin Nothing S sequence = (image_finished S sequence ≡ []) × (bad_image S sequence ≡ [])
 -- one is finished, and this is its book
-EndsSpin (Image through book) S sequence = (raws : List Raw) × (image_finished S sequence ≡ (through, raws) ∷ []) × (book.book ≡ book_after raws)
+EndsSpin (Image through book) S sequence =
+    (raws : List Raw) × (image_finished S sequence ≡ (through, raws) ∷ [])
+    × (book.book ≡ book_after raws)
 -- one is bad
-EndsSpin (BadCount promised got) S sequence = (image_finished S sequence ≡ []) × (raws : List Raw) × (bad_image S sequence ≡ (promised, raws) ∷ []) × (got ≡ min (adds raws) (2 ^ 64 - 1))
+EndsSpin (BadCount promised got) S sequence =
+    (image_finished S sequence ≡ []) × (raws : List Raw)
+    × (bad_image S sequence ≡ (promised, raws) ∷ []) × (got ≡ min (adds raws) (2 ^ 64 - 1))
 
 -- the counts and the image of an item that is heard after a history
 pub record Tells (H : ℕ) (E : List Entry) (it : Item) (heard : Heard) : Type 0 where

@@ -1,4 +1,5 @@
-ghost use Rattle.std.specs.Prelude.{◌≡◌, ◌+◌, ◌^◌, ◌<◌, ◌≤◌, ◌||◌, [], ◌∷◌, false, IsTrue, if◌then◌else◌};
+ghost use Rattle.std.specs.Prelude.{◌≡◌, ◌+◌, ◌^◌, ◌<◌, ◌≤◌, ◌||◌, [], ◌∷◌, false, IsTrue};
+ghost use Rattle.std.specs.Prelude.{if◌then◌else◌};
 ghost use Rattle.pitch_fields.specs.Limits.{last_sequence};
 ghost use Rattle.pitch_model.specs.Status.{raised};
 
@@ -27,7 +28,8 @@ const NO_MESSAGES: Counts = Counts {
 impl Counts {
     // What is heard where nothing but messages is.
     fn heard(self) -> Heard
-        ensures { result ≡ record { fresh = self.fresh; overflows = self.overflows; image = ImageEnd.NoImage } }
+        ensures { result
+            ≡ record { fresh = self.fresh; overflows = self.overflows; image = ImageEnd.NoImage } }
     {
         Heard {
             fresh: self.fresh,
@@ -94,28 +96,45 @@ fn image_end_of(taken: bool) -> ImageEnd
 }
 
 impl UnitClient {
-    ghost use Rattle.std.specs.Prelude.{◌≡◌, ◌≢◌, ℕ, ◌+◌, ◌≤◌, List, OnOk, OnErr, IfOk, IsOk, Some, ◌∷◌, [], ◌++◌, length, take, drop};
+    ghost use Rattle.std.specs.Prelude.{◌≡◌, ◌≢◌, ℕ, ◌+◌, ◌≤◌, List, OnOk, OnErr, IfOk, IsOk, Some};
+    ghost use Rattle.std.specs.Prelude.{◌∷◌, [], ◌++◌, length, take, drop};
     ghost use Rattle.pitch_fields.specs.Limits.{last_sequence};
     ghost use Rattle.pitch_messages.specs.Raw.{IsRaw};
     ghost use Rattle.unit_packets.specs.Blocks.{Block, StaysWithin};
-    ghost use Rattle.pitch_model.specs.History.{Entry, Raw, Message, Next, GrpUp, GrpDown, GapReply, SpinUp, SpinDown, Advertised, SpinReply, ImageMessages, SpinFinished, image_finished, bad_image, spin_of};
-    ghost use Rattle.pitch_model.specs.Heard.{heard_messages, heard_block, heard, IsItem, is_fresh, fresh_messages, overflowed_messages, block_fresh, block_overflows, block_change, image_end_at, change_of};
+    ghost use Rattle.pitch_model.specs.History.{Entry, Raw, Message, Next, GrpUp, GrpDown};
+    ghost use Rattle.pitch_model.specs.History.{GapReply, SpinUp, SpinDown, Advertised, SpinReply};
+    ghost use Rattle.pitch_model.specs.History.{ImageMessages, SpinFinished, image_finished};
+    ghost use Rattle.pitch_model.specs.History.{bad_image, spin_of};
+    ghost use Rattle.pitch_model.specs.Heard.{heard_messages, heard_block, heard, IsItem, is_fresh};
+    ghost use Rattle.pitch_model.specs.Heard.{fresh_messages, overflowed_messages, block_fresh};
+    ghost use Rattle.pitch_model.specs.Heard.{block_overflows, block_change, image_end_at};
+    ghost use Rattle.pitch_model.specs.Heard.{change_of};
     ghost use Rattle.pitch_model.specs.Honest.{Honest, IsHonestAt, AreVenues, message_at};
     ghost use Rattle.pitch_model.specs.Reach.{is_overflow, reach};
     ghost use Rattle.pitch_model.specs.Status.{status_of};
     ghost use Rattle.hold_buffer.specs.HoldView.{IsHold};
     ghost use Rattle.order_book.specs.Turns.{turns_of};
-    ghost use Rattle.client_core.specs.Tracks.{Tracks, Keeps, IsAsBefore, IsStill, Applied, KeepsRoom, KeepsListRoom, current_book, held_number, reached, spare_of};
+    ghost use Rattle.client_core.specs.Tracks.{Tracks, Keeps, IsAsBefore, IsStill, Applied};
+    ghost use Rattle.client_core.specs.Tracks.{KeepsRoom, KeepsListRoom, current_book, held_number};
+    ghost use Rattle.client_core.specs.Tracks.{reached, spare_of};
     ghost use Rattle.client_core.specs.Blocks.{Carries};
     ghost use Rattle.client_core.specs.Items.{IsImage, NeedsNoMemory, message_count};
-    ghost use Rattle.client_core.specs.Bookkeeping.{HasRoom, IsImageReady, noted, turned, Notes, CanNote, CanNoteItem, KeepsLogRoom, NotesApplied, Tells};
+    ghost use Rattle.client_core.specs.Bookkeeping.{HasRoom, IsImageReady, noted, turned, Notes};
+    ghost use Rattle.client_core.specs.Bookkeeping.{CanNote, CanNoteItem, KeepsLogRoom};
+    ghost use Rattle.client_core.specs.Bookkeeping.{NotesApplied, Tells};
     ghost use Rattle.client_core.specs.Keeping.{book_size};
     ghost use Rattle.client_core.specs.Weight.{weight, told_by};
 
     // What changed since the client had a status, as something was heard.
     fn changed_since(&self, before: Status, heard: Heard) -> Change
-        ensures change { (H : ℕ) (E : List Entry) → Tracks self.now H E
-            → result ≡ record { before = before; after = status_of H E; fresh = heard.fresh; overflows = heard.overflows; image = heard.image } }
+        ensures change { (H : ℕ) (E : List Entry)
+            → Tracks self.now H E → result ≡ record {
+              before = before;
+              after = status_of H E;
+              fresh = heard.fresh;
+              overflows = heard.overflows;
+              image = heard.image;
+            } }
         ensures image { result.image ≡ heard.image }
     {
         Change {
@@ -133,14 +152,23 @@ impl UnitClient {
         requires raw { IsRaw raw.now }
         requires room { HasRoom 1 self.old.hold self.old.book.spare }
         requires log { CanNote (1 + held_number self.old) log.old }
-        ensures tracks { (H : ℕ) (E : List Entry) → Tracks self.old H E → Tracks self.new H (Message sequence raw.now ∷ E) }
-        ensures keeps { (V : List Raw) → message_at V sequence ≡ Some raw.now → Keeps self.old V → Keeps self.new V }
-        ensures fresh { (H : ℕ) (E : List Entry) → Tracks self.old H E → result.fresh ≡ is_fresh H E sequence }
-        ensures overflow { (H : ℕ) (E : List Entry) → Tracks self.old H E → result.overflow ≡ is_overflow H E (Message sequence raw.now) }
-        ensures notes { NotesApplied (reached self.old) (reached self.new) self.old.book self.new.book log.old log.new }
-        ensures held { reached self.new + held_number self.new ≤ (reached self.old + held_number self.old) + 1 }
-        ensures venues { (V : List Raw) → message_at V sequence ≡ Some raw.now → Keeps self.old V → Notes (current_book self.old) (drop (reached self.old) (take (reached self.new) V)) log.old log.new }
-        ensures log { (left : ℕ) → CanNote ((left + 1) + held_number self.old) log.old → CanNote (left + held_number self.new) log.new }
+        ensures tracks { (H : ℕ) (E : List Entry)
+            → Tracks self.old H E → Tracks self.new H (Message sequence raw.now ∷ E) }
+        ensures keeps { (V : List Raw)
+            → message_at V sequence ≡ Some raw.now → Keeps self.old V → Keeps self.new V }
+        ensures fresh { (H : ℕ) (E : List Entry)
+            → Tracks self.old H E → result.fresh ≡ is_fresh H E sequence }
+        ensures overflow { (H : ℕ) (E : List Entry)
+            → Tracks self.old H E → result.overflow ≡ is_overflow H E (Message sequence raw.now) }
+        ensures notes { NotesApplied
+            (reached self.old) (reached self.new) self.old.book self.new.book log.old log.new }
+        ensures held { reached self.new + held_number self.new
+            ≤ (reached self.old + held_number self.old) + 1 }
+        ensures venues { (V : List Raw) → message_at V sequence ≡ Some raw.now
+            → Keeps self.old V → Notes (current_book self.old)
+            (drop (reached self.old) (take (reached self.new) V)) log.old log.new }
+        ensures log { (left : ℕ) → CanNote ((left + 1) + held_number self.old) log.old
+            → CanNote (left + held_number self.new) log.new }
         ensures spin { self.new.spin ≡ self.old.spin }
     {
         let before = self.hold.floor();
@@ -155,13 +183,21 @@ impl UnitClient {
         requires first { (1 ≤ first) × (first + length raws ≤ last_sequence + 1) }
         requires room { HasRoom (length raws) self.old.hold self.old.book.spare }
         requires log { CanNote (length raws + held_number self.old) log.old }
-        ensures tracks { (H : ℕ) (E : List Entry) → Tracks self.old H E → Tracks self.new H (heard_messages first raws.entry E) }
-        ensures keeps { (V : List Raw) → AreVenues V first raws.entry → Keeps self.old V → Keeps self.new V }
-        ensures fresh { (H : ℕ) (E : List Entry) → Tracks self.old H E → result.fresh ≡ fresh_messages H first raws.entry E }
-        ensures overflows { (H : ℕ) (E : List Entry) → Tracks self.old H E → result.overflows ≡ overflowed_messages H first raws.entry E }
-        ensures notes { NotesApplied (reached self.old) (reached self.new) self.old.book self.new.book log.old log.new }
-        ensures held { reached self.new + held_number self.new ≤ (reached self.old + held_number self.old) + length raws.entry }
-        ensures venues { (V : List Raw) → AreVenues V first raws.entry → Keeps self.old V → Notes (current_book self.old) (drop (reached self.old) (take (reached self.new) V)) log.old log.new }
+        ensures tracks { (H : ℕ) (E : List Entry)
+            → Tracks self.old H E → Tracks self.new H (heard_messages first raws.entry E) }
+        ensures keeps { (V : List Raw)
+            → AreVenues V first raws.entry → Keeps self.old V → Keeps self.new V }
+        ensures fresh { (H : ℕ) (E : List Entry)
+            → Tracks self.old H E → result.fresh ≡ fresh_messages H first raws.entry E }
+        ensures overflows { (H : ℕ) (E : List Entry)
+            → Tracks self.old H E → result.overflows ≡ overflowed_messages H first raws.entry E }
+        ensures notes { NotesApplied
+            (reached self.old) (reached self.new) self.old.book self.new.book log.old log.new }
+        ensures held { reached self.new + held_number self.new
+            ≤ (reached self.old + held_number self.old) + length raws.entry }
+        ensures venues { (V : List Raw)
+            → AreVenues V first raws.entry → Keeps self.old V → Notes (current_book self.old)
+            (drop (reached self.old) (take (reached self.new) V)) log.old log.new }
         ensures log { KeepsLogRoom self.old self.new (length raws.entry) log.old log.new }
         ensures spin { self.new.spin ≡ self.old.spin }
     {
@@ -187,19 +223,29 @@ impl UnitClient {
         raws: Raws<'_>,
     ) -> Result<Counts, OutOfMemory>
         requires first { (1 ≤ first) × (first + length raws ≤ last_sequence + 1) }
-        ensures tracks { OnOk result ((H : ℕ) (E : List Entry) → Tracks self.old H E → Tracks self.new H (heard_messages first raws.entry E)) }
-        ensures keeps { OnOk result ((V : List Raw) → AreVenues V first raws.entry → Keeps self.old V → Keeps self.new V) }
-        ensures fresh { IfOk result (λ counts. (H : ℕ) (E : List Entry) → Tracks self.old H E → counts.fresh ≡ fresh_messages H first raws.entry E) }
-        ensures overflows { IfOk result (λ counts. (H : ℕ) (E : List Entry) → Tracks self.old H E → counts.overflows ≡ overflowed_messages H first raws.entry E) }
-        ensures notes { OnOk result (NotesApplied (reached self.old) (reached self.new) self.old.book self.new.book log.old log.new) }
-        ensures held { OnOk result (reached self.new + held_number self.new ≤ (reached self.old + held_number self.old) + length raws.entry) }
-        ensures venues { OnOk result ((V : List Raw) → AreVenues V first raws.entry → Keeps self.old V → Notes (current_book self.old) (drop (reached self.old) (take (reached self.new) V)) log.old log.new) }
-        ensures log { OnOk result (KeepsLogRoom self.old self.new (length raws.entry) log.old log.new) }
+        ensures tracks { OnOk result ((H : ℕ) (E : List Entry)
+            → Tracks self.old H E → Tracks self.new H (heard_messages first raws.entry E)) }
+        ensures keeps { OnOk result
+            ((V : List Raw) → AreVenues V first raws.entry → Keeps self.old V → Keeps self.new V) }
+        ensures fresh { IfOk result (λ counts. (H : ℕ) (E : List Entry)
+            → Tracks self.old H E → counts.fresh ≡ fresh_messages H first raws.entry E) }
+        ensures overflows { IfOk result (λ counts. (H : ℕ) (E : List Entry)
+            → Tracks self.old H E → counts.overflows ≡ overflowed_messages H first raws.entry E) }
+        ensures notes { OnOk result (NotesApplied (reached self.old)
+            (reached self.new) self.old.book self.new.book log.old log.new) }
+        ensures held { OnOk result (reached self.new + held_number self.new
+            ≤ (reached self.old + held_number self.old) + length raws.entry) }
+        ensures venues { OnOk result ((V : List Raw)
+            → AreVenues V first raws.entry → Keeps self.old V → Notes (current_book self.old)
+            (drop (reached self.old) (take (reached self.new) V)) log.old log.new) }
+        ensures log { OnOk result
+            (KeepsLogRoom self.old self.new (length raws.entry) log.old log.new) }
         ensures err { OnErr result (IsAsBefore self.old self.new) }
         ensures err_noted { OnErr result (noted log.new ≡ noted log.old) }
         ensures err_turned { OnErr result (turned log.new ≡ turned log.old) }
         ensures err_log { OnErr result ((left : ℕ) → CanNote left log.old → CanNote left log.new) }
-        ensures memory { CanNote (length raws.entry + held_number self.old) log.old → length raws.entry + held_number self.old ≤ spare_of self.old → IsOk result }
+        ensures memory { CanNote (length raws.entry + held_number self.old) log.old
+            → length raws.entry + held_number self.old ≤ spare_of self.old → IsOk result }
         ensures spin { OnOk result (self.new.spin ≡ self.old.spin) }
     {
         if is_old(first, raws.len(), self.hold.floor()) {
@@ -217,16 +263,20 @@ impl UnitClient {
         requires some { (1 ≤ first) × (1 ≤ length raws.now) }
         requires old { first + length raws.now ≤ self.now.hold.floor + 1 }
         requires hold { IsHold self.now.hold }
-        ensures tracks { (H : ℕ) (E : List Entry) → Tracks self.now H E → Tracks self.now H (heard_messages first raws.now E) }
-        ensures fresh { (H : ℕ) (E : List Entry) → Tracks self.now H E → result.fresh ≡ fresh_messages H first raws.now E }
-        ensures overflows { (H : ℕ) (E : List Entry) → Tracks self.now H E → result.overflows ≡ overflowed_messages H first raws.now E }
+        ensures tracks { (H : ℕ) (E : List Entry)
+            → Tracks self.now H E → Tracks self.now H (heard_messages first raws.now E) }
+        ensures fresh { (H : ℕ) (E : List Entry)
+            → Tracks self.now H E → result.fresh ≡ fresh_messages H first raws.now E }
+        ensures overflows { (H : ℕ) (E : List Entry)
+            → Tracks self.now H E → result.overflows ≡ overflowed_messages H first raws.now E }
     {
         NO_MESSAGES
     }
 
     fn hear_next(&mut self, next: u32)
         requires { 1 ≤ next }
-        ensures tracks { (H : ℕ) (E : List Entry) → Tracks self.old H E → Tracks self.new H (Next next ∷ E) }
+        ensures tracks { (H : ℕ) (E : List Entry)
+            → Tracks self.old H E → Tracks self.new H (Next next ∷ E) }
         ensures still { IsStill self.old self.new }
         ensures spin { self.new.spin ≡ self.old.spin }
     {
@@ -242,20 +292,33 @@ impl UnitClient {
         raws: Raws<'_>,
     ) -> Result<Counts, OutOfMemory>
         requires { StaysWithin sequence (length raws) }
-        ensures tracks { OnOk result ((block : Block) → Carries block sequence raws.entry → (H : ℕ) (E : List Entry) → Tracks self.old H E → Tracks self.new H (heard_block block E)) }
-        ensures keeps { OnOk result ((block : Block) → Carries block sequence raws.entry → (Image : List Raw → ℕ → List Raw) (V : List Raw) (E : List Entry) → Honest Image V (heard_block block E) → Keeps self.old V → Keeps self.new V) }
-        ensures fresh { IfOk result (λ counts. (block : Block) → Carries block sequence raws.entry → (H : ℕ) (E : List Entry) → Tracks self.old H E → counts.fresh ≡ block_fresh H E block) }
-        ensures overflows { IfOk result (λ counts. (block : Block) → Carries block sequence raws.entry → (H : ℕ) (E : List Entry) → Tracks self.old H E → counts.overflows ≡ block_overflows H E block) }
-        ensures notes { OnOk result (NotesApplied (reached self.old) (reached self.new) self.old.book self.new.book log.old log.new) }
-        ensures held { OnOk result (reached self.new + held_number self.new ≤ (reached self.old + held_number self.old) + length raws.entry) }
-        ensures venues { OnOk result ((block : Block) → Carries block sequence raws.entry → (Image : List Raw → ℕ → List Raw) (V : List Raw) (E : List Entry) → Honest Image V (heard_block block E) → Keeps self.old V
-            → Notes (current_book self.old) (drop (reached self.old) (take (reached self.new) V)) log.old log.new) }
-        ensures log { OnOk result (KeepsLogRoom self.old self.new (length raws.entry) log.old log.new) }
+        ensures tracks { OnOk result ((block : Block) → Carries block sequence raws.entry → (H : ℕ)
+            (E : List Entry) → Tracks self.old H E → Tracks self.new H (heard_block block E)) }
+        ensures keeps { OnOk result ((block : Block) → Carries block sequence raws.entry
+            → (Image : List Raw → ℕ → List Raw) (V : List Raw) (E : List Entry)
+            → Honest Image V (heard_block block E) → Keeps self.old V → Keeps self.new V) }
+        ensures fresh { IfOk result (λ counts. (block : Block)
+            → Carries block sequence raws.entry → (H : ℕ) (E : List Entry)
+            → Tracks self.old H E → counts.fresh ≡ block_fresh H E block) }
+        ensures overflows { IfOk result (λ counts. (block : Block)
+            → Carries block sequence raws.entry → (H : ℕ) (E : List Entry)
+            → Tracks self.old H E → counts.overflows ≡ block_overflows H E block) }
+        ensures notes { OnOk result (NotesApplied (reached self.old)
+            (reached self.new) self.old.book self.new.book log.old log.new) }
+        ensures held { OnOk result (reached self.new + held_number self.new
+            ≤ (reached self.old + held_number self.old) + length raws.entry) }
+        ensures venues { OnOk result ((block : Block) → Carries block sequence raws.entry
+            → (Image : List Raw → ℕ → List Raw) (V : List Raw) (E : List Entry) → Honest Image V
+            (heard_block block E) → Keeps self.old V → Notes (current_book self.old)
+            (drop (reached self.old) (take (reached self.new) V)) log.old log.new) }
+        ensures log { OnOk result
+            (KeepsLogRoom self.old self.new (length raws.entry) log.old log.new) }
         ensures err { OnErr result (IsAsBefore self.old self.new) }
         ensures err_noted { OnErr result (noted log.new ≡ noted log.old) }
         ensures err_turned { OnErr result (turned log.new ≡ turned log.old) }
         ensures err_log { OnErr result ((left : ℕ) → CanNote left log.old → CanNote left log.new) }
-        ensures memory { CanNote (length raws.entry + held_number self.old) log.old → length raws.entry + held_number self.old ≤ spare_of self.old → IsOk result }
+        ensures memory { CanNote (length raws.entry + held_number self.old) log.old
+            → length raws.entry + held_number self.old ≤ spare_of self.old → IsOk result }
         ensures heartbeat { raws.entry ≡ [] → IsOk result }
         ensures unsequenced { sequence ≡ 0 → IsOk result }
         ensures spin { OnOk result (self.new.spin ≡ self.old.spin) }
@@ -280,20 +343,25 @@ impl UnitClient {
     pub fn hear_block(&mut self, sequence: u32, raws: Raws<'_>) -> Result<Change, OutOfMemory>
         requires { StaysWithin sequence (length raws) }
         // Whatever history the client stood for, it now stands for that history and this block.
-        ensures tracks { OnOk result ((block : Block) → Carries block sequence raws.entry → (H : ℕ) (E : List Entry) → Tracks self.old H E → Tracks self.new H (heard_block block E)) }
+        ensures tracks { OnOk result ((block : Block) → Carries block sequence raws.entry → (H : ℕ)
+            (E : List Entry) → Tracks self.old H E → Tracks self.new H (heard_block block E)) }
         // In an honest history, where all that is heard comes from one venue, the book stays the
         // one that the venue's messages up to the reach leave, and what is held stays the venue's.
-        ensures keeps { OnOk result ((block : Block) → Carries block sequence raws.entry → (Image : List Raw → ℕ → List Raw) (V : List Raw) (E : List Entry) → Honest Image V (heard_block block E) → Keeps self.old V → Keeps self.new V) }
+        ensures keeps { OnOk result ((block : Block) → Carries block sequence raws.entry
+            → (Image : List Raw → ℕ → List Raw) (V : List Raw) (E : List Entry)
+            → Honest Image V (heard_block block E) → Keeps self.old V → Keeps self.new V) }
         // Whatever was heard before, the answer is what the block changes: the status before and
         // after it, and how many messages were fresh and overflowed the hold.
-        ensures change { IfOk result (λ change. (block : Block) → Carries block sequence raws.entry → (H : ℕ) (E : List Entry) → Tracks self.old H E → change ≡ block_change H E block) }
+        ensures change { IfOk result (λ change. (block : Block) → Carries block sequence raws.entry
+            → (H : ℕ) (E : List Entry) → Tracks self.old H E → change ≡ block_change H E block) }
         // Honest or not, the book is what the applied messages make of the one before, and only
         // their room is used up.
         ensures applies { OnOk result ((applied : List Raw) × Applied self.old self.new applied) }
         // Where there was room for this block and for more messages, there is still room for those.
         ensures room { OnOk result (KeepsRoom self.old self.new (length raws.entry)) }
         ensures err { OnErr result (IsAsBefore self.old self.new) }
-        ensures memory { length raws.entry + held_number self.old ≤ spare_of self.old → IsOk result }
+        ensures memory { length raws.entry + held_number self.old ≤ spare_of self.old
+            → IsOk result }
         ensures heartbeat { raws.entry ≡ [] → IsOk result }
         ensures unsequenced { sequence ≡ 0 → IsOk result }
     {
@@ -317,32 +385,43 @@ impl UnitClient {
     ) -> Result<Change, OutOfMemory>
         requires { StaysWithin sequence (length raws) }
         // Whatever history the client stood for, it now stands for that history and this block.
-        ensures tracks { OnOk result ((block : Block) → Carries block sequence raws.entry → (H : ℕ) (E : List Entry) → Tracks self.old H E → Tracks self.new H (heard_block block E)) }
+        ensures tracks { OnOk result ((block : Block) → Carries block sequence raws.entry → (H : ℕ)
+            (E : List Entry) → Tracks self.old H E → Tracks self.new H (heard_block block E)) }
         // In an honest history, where all that is heard comes from one venue, the book stays the
         // one that the venue's messages up to the reach leave, and what is held stays the venue's.
-        ensures keeps { OnOk result ((block : Block) → Carries block sequence raws.entry → (Image : List Raw → ℕ → List Raw) (V : List Raw) (E : List Entry) → Honest Image V (heard_block block E) → Keeps self.old V → Keeps self.new V) }
+        ensures keeps { OnOk result ((block : Block) → Carries block sequence raws.entry
+            → (Image : List Raw → ℕ → List Raw) (V : List Raw) (E : List Entry)
+            → Honest Image V (heard_block block E) → Keeps self.old V → Keeps self.new V) }
         // Whatever was heard before, the answer is what the block changes: the status before and
         // after it, and how many messages were fresh and overflowed the hold.
-        ensures change { IfOk result (λ change. (block : Block) → Carries block sequence raws.entry → (H : ℕ) (E : List Entry) → Tracks self.old H E → change ≡ block_change H E block) }
+        ensures change { IfOk result (λ change. (block : Block) → Carries block sequence raws.entry
+            → (H : ℕ) (E : List Entry) → Tracks self.old H E → change ≡ block_change H E block) }
         // Honest or not, what is appended are the applied messages, by which the reach rose.
-        ensures applies { OnOk result ((more : List Raw) × (applied.new.items ≡ applied.old.items ++ more) × Applied self.old self.new more) }
+        ensures applies { OnOk result ((more : List Raw)
+            × (applied.new.items ≡ applied.old.items ++ more) × Applied self.old self.new more) }
         // In an honest history these are the venue's messages after the old reach, up to the new
         // one.
-        ensures venues { OnOk result ((block : Block) → Carries block sequence raws.entry → (Image : List Raw → ℕ → List Raw) (V : List Raw) (H : ℕ) (E : List Entry) → Tracks self.old H E → Honest Image V (heard_block block E) → Keeps self.old V
-            → applied.new.items ≡ applied.old.items ++ drop (reach H E) (take (reach H (heard_block block E)) V)) }
+        ensures venues { OnOk result ((block : Block) → Carries block sequence raws.entry
+            → (Image : List Raw → ℕ → List Raw) (V : List Raw) (H : ℕ) (E : List Entry)
+            → Tracks self.old H E → Honest Image V (heard_block block E)
+            → Keeps self.old V → applied.new.items
+            ≡ applied.old.items ++ drop (reach H E) (take (reach H (heard_block block E)) V)) }
         // Where there was room for this block and for more messages, there is still room for those:
         // in the book, and in the list.
         ensures room { OnOk result (KeepsRoom self.old self.new (length raws.entry)) }
-        ensures room_applied { OnOk result (KeepsListRoom self.old self.new (length raws.entry) applied.old.spare applied.new.spare) }
+        ensures room_applied { OnOk result (KeepsListRoom self.old self.new
+            (length raws.entry) applied.old.spare applied.new.spare) }
         ensures err { OnErr result (IsAsBefore self.old self.new) }
         ensures err_applied { OnErr result (applied.new.items ≡ applied.old.items) }
         ensures err_room { OnErr result (applied.old.spare ≤ applied.new.spare) }
-        ensures memory { length raws.entry + held_number self.old ≤ spare_of self.old → length raws.entry + held_number self.old ≤ applied.old.spare → IsOk result }
+        ensures memory { length raws.entry + held_number self.old ≤ spare_of self.old
+            → length raws.entry + held_number self.old ≤ applied.old.spare → IsOk result }
         ensures heartbeat { raws.entry ≡ [] → IsOk result }
         ensures unsequenced { sequence ≡ 0 → IsOk result }
         // Honest or not, what is appended and what is left to pass on was left before, or is the
         // block's.
-        ensures weighs { OnOk result (length applied.new.items + weight self.new ≤ (length applied.old.items + weight self.old) + length raws.entry) }
+        ensures weighs { OnOk result (length applied.new.items + weight self.new
+            ≤ (length applied.old.items + weight self.old) + length raws.entry) }
     {
         let before = self.status();
         let mut log = AppliedLog::On(replace(applied, RawList::make(self.alloc)));
@@ -365,28 +444,38 @@ impl UnitClient {
     ) -> Result<Change, OutOfMemory>
         requires { StaysWithin sequence (length raws) }
         // Whatever history the client stood for, it now stands for that history and this block.
-        ensures tracks { OnOk result ((block : Block) → Carries block sequence raws.entry → (H : ℕ) (E : List Entry) → Tracks self.old H E → Tracks self.new H (heard_block block E)) }
+        ensures tracks { OnOk result ((block : Block) → Carries block sequence raws.entry → (H : ℕ)
+            (E : List Entry) → Tracks self.old H E → Tracks self.new H (heard_block block E)) }
         // In an honest history, where all that is heard comes from one venue, the book stays the
         // one that the venue's messages up to the reach leave, and what is held stays the venue's.
-        ensures keeps { OnOk result ((block : Block) → Carries block sequence raws.entry → (Image : List Raw → ℕ → List Raw) (V : List Raw) (E : List Entry) → Honest Image V (heard_block block E) → Keeps self.old V → Keeps self.new V) }
+        ensures keeps { OnOk result ((block : Block) → Carries block sequence raws.entry
+            → (Image : List Raw → ℕ → List Raw) (V : List Raw) (E : List Entry)
+            → Honest Image V (heard_block block E) → Keeps self.old V → Keeps self.new V) }
         // Whatever was heard before, the answer is what the block changes: the status before and
         // after it, and how many messages were fresh and overflowed the hold.
-        ensures change { IfOk result (λ change. (block : Block) → Carries block sequence raws.entry → (H : ℕ) (E : List Entry) → Tracks self.old H E → change ≡ block_change H E block) }
+        ensures change { IfOk result (λ change. (block : Block) → Carries block sequence raws.entry
+            → (H : ℕ) (E : List Entry) → Tracks self.old H E → change ≡ block_change H E block) }
         // Honest or not, what is appended are the turns of the applied messages, by which the reach
         // rose.
-        ensures applies { OnOk result ((more : List Raw) × (turns.new.items ≡ turns.old.items ++ turns_of (current_book self.old) more) × Applied self.old self.new more) }
+        ensures applies { OnOk result ((more : List Raw) × (turns.new.items ≡ turns.old.items
+            ++ turns_of (current_book self.old) more) × Applied self.old self.new more) }
         // In an honest history these are the turns of the venue's messages after the old reach, up
         // to the new one.
-        ensures venues { OnOk result ((block : Block) → Carries block sequence raws.entry → (Image : List Raw → ℕ → List Raw) (V : List Raw) (H : ℕ) (E : List Entry) → Tracks self.old H E → Honest Image V (heard_block block E) → Keeps self.old V
-            → turns.new.items ≡ turns.old.items ++ turns_of (current_book self.old) (drop (reach H E) (take (reach H (heard_block block E)) V))) }
+        ensures venues { OnOk result ((block : Block) → Carries block sequence raws.entry
+            → (Image : List Raw → ℕ → List Raw) (V : List Raw) (H : ℕ) (E : List Entry)
+            → Tracks self.old H E → Honest Image V (heard_block block E)
+            → Keeps self.old V → turns.new.items ≡ turns.old.items ++ turns_of
+            (current_book self.old) (drop (reach H E) (take (reach H (heard_block block E)) V))) }
         // Where there was room for this block and for more messages, there is still room for those:
         // in the book, and in the list.
         ensures room { OnOk result (KeepsRoom self.old self.new (length raws.entry)) }
-        ensures room_turns { OnOk result (KeepsListRoom self.old self.new (length raws.entry) turns.old.spare turns.new.spare) }
+        ensures room_turns { OnOk result
+            (KeepsListRoom self.old self.new (length raws.entry) turns.old.spare turns.new.spare) }
         ensures err { OnErr result (IsAsBefore self.old self.new) }
         ensures err_turns { OnErr result (turns.new.items ≡ turns.old.items) }
         ensures err_room { OnErr result (turns.old.spare ≤ turns.new.spare) }
-        ensures memory { length raws.entry + held_number self.old ≤ spare_of self.old → length raws.entry + held_number self.old ≤ turns.old.spare → IsOk result }
+        ensures memory { length raws.entry + held_number self.old ≤ spare_of self.old
+            → length raws.entry + held_number self.old ≤ turns.old.spare → IsOk result }
         ensures heartbeat { raws.entry ≡ [] → IsOk result }
         ensures unsequenced { sequence ≡ 0 → IsOk result }
     {
@@ -398,7 +487,8 @@ impl UnitClient {
     }
 
     fn hear_grp_up(&mut self)
-        ensures tracks { (H : ℕ) (E : List Entry) → Tracks self.old H E → Tracks self.new H (GrpUp ∷ E) }
+        ensures tracks { (H : ℕ) (E : List Entry)
+            → Tracks self.old H E → Tracks self.new H (GrpUp ∷ E) }
         ensures still { IsStill self.old self.new }
         ensures weighs { weight self.new ≤ weight self.old }
     {
@@ -406,7 +496,8 @@ impl UnitClient {
     }
 
     fn hear_grp_down(&mut self)
-        ensures tracks { (H : ℕ) (E : List Entry) → Tracks self.old H E → Tracks self.new H (GrpDown ∷ E) }
+        ensures tracks { (H : ℕ) (E : List Entry)
+            → Tracks self.old H E → Tracks self.new H (GrpDown ∷ E) }
         ensures still { IsStill self.old self.new }
         ensures weighs { weight self.new ≤ weight self.old }
     {
@@ -415,7 +506,8 @@ impl UnitClient {
     }
 
     fn hear_gap_reply(&mut self, accepted: bool)
-        ensures tracks { (H : ℕ) (E : List Entry) → Tracks self.old H E → Tracks self.new H (GapReply accepted ∷ E) }
+        ensures tracks { (H : ℕ) (E : List Entry)
+            → Tracks self.old H E → Tracks self.new H (GapReply accepted ∷ E) }
         ensures still { IsStill self.old self.new }
         ensures weighs { weight self.new ≤ weight self.old }
     {
@@ -424,7 +516,8 @@ impl UnitClient {
     }
 
     fn hear_spin_up(&mut self)
-        ensures tracks { (H : ℕ) (E : List Entry) → Tracks self.old H E → Tracks self.new H (SpinUp ∷ E) }
+        ensures tracks { (H : ℕ) (E : List Entry)
+            → Tracks self.old H E → Tracks self.new H (SpinUp ∷ E) }
         ensures still { IsStill self.old self.new }
         ensures weighs { weight self.new ≤ weight self.old }
     {
@@ -432,7 +525,8 @@ impl UnitClient {
     }
 
     fn hear_spin_down(&mut self)
-        ensures tracks { (H : ℕ) (E : List Entry) → Tracks self.old H E → Tracks self.new H (SpinDown ∷ E) }
+        ensures tracks { (H : ℕ) (E : List Entry)
+            → Tracks self.old H E → Tracks self.new H (SpinDown ∷ E) }
         ensures still { IsStill self.old self.new }
         ensures weighs { weight self.new ≤ weight self.old }
     {
@@ -442,7 +536,8 @@ impl UnitClient {
     }
 
     fn hear_advertised(&mut self, sequence: u32)
-        ensures tracks { (H : ℕ) (E : List Entry) → Tracks self.old H E → Tracks self.new H (Advertised sequence ∷ E) }
+        ensures tracks { (H : ℕ) (E : List Entry)
+            → Tracks self.old H E → Tracks self.new H (Advertised sequence ∷ E) }
         ensures still { IsStill self.old self.new }
         ensures weighs { weight self.new ≤ weight self.old }
     {
@@ -451,7 +546,8 @@ impl UnitClient {
     }
 
     fn hear_spin_reply(&mut self, sequence: u32, orders: u32, accepted: bool)
-        ensures tracks { (H : ℕ) (E : List Entry) → Tracks self.old H E → Tracks self.new H (SpinReply sequence orders accepted ∷ E) }
+        ensures tracks { (H : ℕ) (E : List Entry)
+            → Tracks self.old H E → Tracks self.new H (SpinReply sequence orders accepted ∷ E) }
         ensures still { IsStill self.old self.new }
         ensures weighs { weight self.new ≤ weight self.old + 1 }
     {
@@ -459,7 +555,8 @@ impl UnitClient {
     }
 
     fn hear_image_messages(&mut self, raws: Raws<'_>) -> Result<(), OutOfMemory>
-        ensures tracks { OnOk result ((H : ℕ) (E : List Entry) → Tracks self.old H E → Tracks self.new H (ImageMessages raws.entry ∷ E)) }
+        ensures tracks { OnOk result ((H : ℕ) (E : List Entry)
+            → Tracks self.old H E → Tracks self.new H (ImageMessages raws.entry ∷ E)) }
         ensures still { IsStill self.old self.new }
         ensures err { OnErr result (IsAsBefore self.old self.new) }
         ensures weighs { OnOk result (weight self.new ≤ weight self.old + length raws.entry) }
@@ -470,12 +567,17 @@ impl UnitClient {
     // Hears the end of a spin, whose image has room for what is held.
     fn end_spin(&mut self, sequence: u32) -> ImageEnd
         requires { IsImageReady (held_number self.old) sequence self.old.spin }
-        ensures tracks { (H : ℕ) (E : List Entry) → Tracks self.old H E → Tracks self.new H (SpinFinished sequence ∷ E) }
-        ensures keeps { (Image : List Raw → ℕ → List Raw) (V : List Raw) → IsImage Image V → (H : ℕ) (E : List Entry) → Tracks self.old H E → IsHonestAt Image V E (SpinFinished sequence) → Keeps self.old V → Keeps self.new V }
-        ensures image { (H : ℕ) (E : List Entry) → Tracks self.old H E → result ≡ image_end_at (reach H E) (image_finished (spin_of E) sequence) (bad_image (spin_of E) sequence) }
+        ensures tracks { (H : ℕ) (E : List Entry)
+            → Tracks self.old H E → Tracks self.new H (SpinFinished sequence ∷ E) }
+        ensures keeps { (Image : List Raw → ℕ → List Raw) (V : List Raw)
+            → IsImage Image V → (H : ℕ) (E : List Entry) → Tracks self.old H E
+            → IsHonestAt Image V E (SpinFinished sequence) → Keeps self.old V → Keeps self.new V }
+        ensures image { (H : ℕ) (E : List Entry) → Tracks self.old H E → result ≡ image_end_at
+            (reach H E) (image_finished (spin_of E) sequence) (bad_image (spin_of E) sequence) }
         ensures still { result ≢ ImageEnd.Taken → IsStill self.old self.new }
         ensures weighs { result ≢ ImageEnd.Taken → weight self.new ≤ weight self.old }
-        ensures weighs_taken { result ≡ ImageEnd.Taken → (1 + book_size (current_book self.new)) + weight self.new ≤ weight self.old }
+        ensures weighs_taken { result ≡ ImageEnd.Taken
+            → (1 + book_size (current_book self.new)) + weight self.new ≤ weight self.old }
     {
         match self.spin.finish(sequence) {
             Finish::Nothing => ImageEnd::NoImage,
@@ -493,13 +595,20 @@ impl UnitClient {
     }
 
     fn hear_spin_finished(&mut self, sequence: u32) -> Result<ImageEnd, OutOfMemory>
-        ensures tracks { OnOk result ((H : ℕ) (E : List Entry) → Tracks self.old H E → Tracks self.new H (SpinFinished sequence ∷ E)) }
-        ensures keeps { OnOk result ((Image : List Raw → ℕ → List Raw) (V : List Raw) → IsImage Image V → (H : ℕ) (E : List Entry) → Tracks self.old H E → IsHonestAt Image V E (SpinFinished sequence) → Keeps self.old V → Keeps self.new V) }
-        ensures image { IfOk result (λ image. (H : ℕ) (E : List Entry) → Tracks self.old H E → image ≡ image_end_at (reach H E) (image_finished (spin_of E) sequence) (bad_image (spin_of E) sequence)) }
+        ensures tracks { OnOk result ((H : ℕ) (E : List Entry)
+            → Tracks self.old H E → Tracks self.new H (SpinFinished sequence ∷ E)) }
+        ensures keeps { OnOk result ((Image : List Raw → ℕ → List Raw) (V : List Raw)
+            → IsImage Image V → (H : ℕ) (E : List Entry) → Tracks self.old H E
+            → IsHonestAt Image V E (SpinFinished sequence) → Keeps self.old V → Keeps self.new V) }
+        ensures image { IfOk result
+            (λ image. (H : ℕ) (E : List Entry) → Tracks self.old H E → image ≡ image_end_at
+            (reach H E) (image_finished (spin_of E) sequence) (bad_image (spin_of E) sequence)) }
         ensures still { IfOk result (λ image. image ≢ ImageEnd.Taken → IsStill self.old self.new) }
         ensures err { OnErr result (IsAsBefore self.old self.new) }
-        ensures weighs { IfOk result (λ image. image ≢ ImageEnd.Taken → weight self.new ≤ weight self.old) }
-        ensures weighs_taken { IfOk result (λ image. image ≡ ImageEnd.Taken → (1 + book_size (current_book self.new)) + weight self.new ≤ weight self.old) }
+        ensures weighs { IfOk result
+            (λ image. image ≢ ImageEnd.Taken → weight self.new ≤ weight self.old) }
+        ensures weighs_taken { IfOk result (λ image. image ≡ ImageEnd.Taken
+            → (1 + book_size (current_book self.new)) + weight self.new ≤ weight self.old) }
     {
         let held = self.hold.len();
         self.spin.make_ready(sequence, held)?;
@@ -510,22 +619,35 @@ impl UnitClient {
     #[tactic(auto, using(crate::proofs::Applying::still_keeps, crate::proofs::Applying::still_notes, crate::proofs::Applying::still_held, crate::proofs::Applying::still_venues, crate::proofs::Applying::still_log))]
     fn hear_item(&mut self, log: &mut AppliedLog, item: &Item) -> Result<Heard, OutOfMemory>
         requires { IsItem item.now }
-        ensures tracks { OnOk result ((H : ℕ) (E : List Entry) → Tracks self.old H E → Tracks self.new H (heard item.now E)) }
-        ensures keeps { OnOk result ((Image : List Raw → ℕ → List Raw) (V : List Raw) → IsImage Image V → (H : ℕ) (E : List Entry) → Tracks self.old H E → Honest Image V (heard item.now E) → Keeps self.old V → Keeps self.new V) }
-        ensures heard { IfOk result (λ told. (H : ℕ) (E : List Entry) → Tracks self.old H E → Tells H E item.now told) }
-        ensures notes { IfOk result (λ told. told.image ≢ ImageEnd.Taken → NotesApplied (reached self.old) (reached self.new) self.old.book self.new.book log.old log.new) }
-        ensures held { IfOk result (λ told. told.image ≢ ImageEnd.Taken → reached self.new + held_number self.new ≤ (reached self.old + held_number self.old) + message_count item.now) }
-        ensures venues { IfOk result (λ told. told.image ≢ ImageEnd.Taken → (Image : List Raw → ℕ → List Raw) (V : List Raw) (E : List Entry) → Honest Image V (heard item.now E) → Keeps self.old V
-            → Notes (current_book self.old) (drop (reached self.old) (take (reached self.new) V)) log.old log.new) }
-        ensures log { IfOk result (λ told. told.image ≢ ImageEnd.Taken → KeepsLogRoom self.old self.new (message_count item.now) log.old log.new) }
+        ensures tracks { OnOk result ((H : ℕ) (E : List Entry)
+            → Tracks self.old H E → Tracks self.new H (heard item.now E)) }
+        ensures keeps { OnOk result ((Image : List Raw → ℕ → List Raw) (V : List Raw)
+            → IsImage Image V → (H : ℕ) (E : List Entry) → Tracks self.old H E
+            → Honest Image V (heard item.now E) → Keeps self.old V → Keeps self.new V) }
+        ensures heard { IfOk result
+            (λ told. (H : ℕ) (E : List Entry) → Tracks self.old H E → Tells H E item.now told) }
+        ensures notes { IfOk result (λ told. told.image ≢ ImageEnd.Taken → NotesApplied
+            (reached self.old) (reached self.new) self.old.book self.new.book log.old log.new) }
+        ensures held { IfOk result
+            (λ told. told.image ≢ ImageEnd.Taken → reached self.new + held_number self.new
+            ≤ (reached self.old + held_number self.old) + message_count item.now) }
+        ensures venues { IfOk result (λ told. told.image ≢ ImageEnd.Taken
+            → (Image : List Raw → ℕ → List Raw) (V : List Raw) (E : List Entry)
+            → Honest Image V (heard item.now E) → Keeps self.old V → Notes (current_book self.old)
+            (drop (reached self.old) (take (reached self.new) V)) log.old log.new) }
+        ensures log { IfOk result (λ told. told.image ≢ ImageEnd.Taken
+            → KeepsLogRoom self.old self.new (message_count item.now) log.old log.new) }
         ensures taken { IfOk result (λ told. told.image ≡ ImageEnd.Taken → log.new ≡ log.old) }
         ensures err { OnErr result (IsAsBefore self.old self.new) }
         ensures err_noted { OnErr result (noted log.new ≡ noted log.old) }
         ensures err_turned { OnErr result (turned log.new ≡ turned log.old) }
         ensures err_log { OnErr result ((left : ℕ) → CanNote left log.old → CanNote left log.new) }
-        ensures memory { NeedsNoMemory item.now (held_number self.old) (spare_of self.old) → CanNoteItem item.now (held_number self.old) log.old → IsOk result }
-        ensures weighs { IfOk result (λ told. told.image ≢ ImageEnd.Taken → reached self.new + weight self.new ≤ (reached self.old + weight self.old) + told_by item.now) }
-        ensures weighs_taken { IfOk result (λ told. told.image ≡ ImageEnd.Taken → (2 + book_size (current_book self.new)) + weight self.new ≤ weight self.old + told_by item.now) }
+        ensures memory { NeedsNoMemory item.now (held_number self.old) (spare_of self.old)
+            → CanNoteItem item.now (held_number self.old) log.old → IsOk result }
+        ensures weighs { IfOk result (λ told. told.image ≢ ImageEnd.Taken → reached self.new
+            + weight self.new ≤ (reached self.old + weight self.old) + told_by item.now) }
+        ensures weighs_taken { IfOk result (λ told. told.image ≡ ImageEnd.Taken → (2 + book_size
+            (current_book self.new)) + weight self.new ≤ weight self.old + told_by item.now) }
     {
         match item {
             Item::Messages { first, raws } => {
@@ -565,21 +687,28 @@ impl UnitClient {
     pub fn hear(&mut self, item: &Item) -> Result<Change, OutOfMemory>
         requires { IsItem item.now }
         // Whatever history the client stood for, it now stands for that history and this item.
-        ensures tracks { OnOk result ((H : ℕ) (E : List Entry) → Tracks self.old H E → Tracks self.new H (heard item.now E)) }
+        ensures tracks { OnOk result ((H : ℕ) (E : List Entry)
+            → Tracks self.old H E → Tracks self.new H (heard item.now E)) }
         // In an honest history, where all that is heard comes from one venue, the book stays the
         // one that the venue's messages up to the reach leave, and what is held stays the venue's.
         // An image may be any messages that leave the book for which it stands.
-        ensures keeps { OnOk result ((Image : List Raw → ℕ → List Raw) (V : List Raw) → IsImage Image V → (H : ℕ) (E : List Entry) → Tracks self.old H E → Honest Image V (heard item.now E) → Keeps self.old V → Keeps self.new V) }
+        ensures keeps { OnOk result ((Image : List Raw → ℕ → List Raw) (V : List Raw)
+            → IsImage Image V → (H : ℕ) (E : List Entry) → Tracks self.old H E
+            → Honest Image V (heard item.now E) → Keeps self.old V → Keeps self.new V) }
         // Whatever was heard before, the answer is what the item changes: the status before and
         // after it, how many messages were fresh and overflowed the hold, and an image's end.
-        ensures change { IfOk result (λ change. (H : ℕ) (E : List Entry) → Tracks self.old H E → change ≡ change_of H E item.now) }
+        ensures change { IfOk result (λ change. (H : ℕ) (E : List Entry)
+            → Tracks self.old H E → change ≡ change_of H E item.now) }
         // Honest or not, the book is what the applied messages make of the one before, and only
         // their room is used up.
-        ensures applies { IfOk result (λ change. change.image ≢ ImageEnd.Taken → (applied : List Raw) × Applied self.old self.new applied) }
+        ensures applies { IfOk result (λ change. change.image ≢ ImageEnd.Taken
+            → (applied : List Raw) × Applied self.old self.new applied) }
         // Where there was room for this item and for more messages, there is still room for those.
-        ensures room { IfOk result (λ change. change.image ≢ ImageEnd.Taken → KeepsRoom self.old self.new (message_count item.now)) }
+        ensures room { IfOk result (λ change. change.image ≢ ImageEnd.Taken
+            → KeepsRoom self.old self.new (message_count item.now)) }
         ensures err { OnErr result (IsAsBefore self.old self.new) }
-        ensures memory { NeedsNoMemory item.now (held_number self.old) (spare_of self.old) → IsOk result }
+        ensures memory { NeedsNoMemory item.now (held_number self.old) (spare_of self.old)
+            → IsOk result }
     {
         let before = self.status();
         let heard = self.hear_item(&mut AppliedLog::Off, item)?;
@@ -596,33 +725,47 @@ impl UnitClient {
     pub fn hear_into(&mut self, item: &Item, applied: &mut RawList) -> Result<Change, OutOfMemory>
         requires { IsItem item.now }
         // Whatever history the client stood for, it now stands for that history and this item.
-        ensures tracks { OnOk result ((H : ℕ) (E : List Entry) → Tracks self.old H E → Tracks self.new H (heard item.now E)) }
+        ensures tracks { OnOk result ((H : ℕ) (E : List Entry)
+            → Tracks self.old H E → Tracks self.new H (heard item.now E)) }
         // In an honest history, where all that is heard comes from one venue, the book stays the
         // one that the venue's messages up to the reach leave, and what is held stays the venue's.
         // An image may be any messages that leave the book for which it stands.
-        ensures keeps { OnOk result ((Image : List Raw → ℕ → List Raw) (V : List Raw) → IsImage Image V → (H : ℕ) (E : List Entry) → Tracks self.old H E → Honest Image V (heard item.now E) → Keeps self.old V → Keeps self.new V) }
+        ensures keeps { OnOk result ((Image : List Raw → ℕ → List Raw) (V : List Raw)
+            → IsImage Image V → (H : ℕ) (E : List Entry) → Tracks self.old H E
+            → Honest Image V (heard item.now E) → Keeps self.old V → Keeps self.new V) }
         // Whatever was heard before, the answer is what the item changes: the status before and
         // after it, how many messages were fresh and overflowed the hold, and an image's end.
-        ensures change { IfOk result (λ change. (H : ℕ) (E : List Entry) → Tracks self.old H E → change ≡ change_of H E item.now) }
+        ensures change { IfOk result (λ change. (H : ℕ) (E : List Entry)
+            → Tracks self.old H E → change ≡ change_of H E item.now) }
         // Honest or not, what is appended are the applied messages, by which the reach rose.
-        ensures applies { IfOk result (λ change. change.image ≢ ImageEnd.Taken → (more : List Raw) × (applied.new.items ≡ applied.old.items ++ more) × Applied self.old self.new more) }
+        ensures applies { IfOk result (λ change. change.image ≢ ImageEnd.Taken → (more : List Raw)
+            × (applied.new.items ≡ applied.old.items ++ more) × Applied self.old self.new more) }
         // In an honest history these are the venue's messages after the old reach, up to the new
         // one.
-        ensures venues { IfOk result (λ change. change.image ≢ ImageEnd.Taken → (Image : List Raw → ℕ → List Raw) (V : List Raw) (H : ℕ) (E : List Entry) → Tracks self.old H E → Honest Image V (heard item.now E) → Keeps self.old V
-            → applied.new.items ≡ applied.old.items ++ drop (reach H E) (take (reach H (heard item.now E)) V)) }
-        ensures taken { IfOk result (λ change. change.image ≡ ImageEnd.Taken → applied.new ≡ applied.old) }
+        ensures venues { IfOk result (λ change. change.image ≢ ImageEnd.Taken
+            → (Image : List Raw → ℕ → List Raw) (V : List Raw) (H : ℕ) (E : List Entry) → Tracks
+            self.old H E → Honest Image V (heard item.now E) → Keeps self.old V → applied.new.items
+            ≡ applied.old.items ++ drop (reach H E) (take (reach H (heard item.now E)) V)) }
+        ensures taken { IfOk result
+            (λ change. change.image ≡ ImageEnd.Taken → applied.new ≡ applied.old) }
         // Where there was room for this item and for more messages, there is still room for those:
         // in the book, and in the list.
-        ensures room { IfOk result (λ change. change.image ≢ ImageEnd.Taken → KeepsRoom self.old self.new (message_count item.now)) }
-        ensures room_applied { IfOk result (λ change. change.image ≢ ImageEnd.Taken → KeepsListRoom self.old self.new (message_count item.now) applied.old.spare applied.new.spare) }
+        ensures room { IfOk result (λ change. change.image ≢ ImageEnd.Taken
+            → KeepsRoom self.old self.new (message_count item.now)) }
+        ensures room_applied { IfOk result (λ change. change.image ≢ ImageEnd.Taken → KeepsListRoom
+            self.old self.new (message_count item.now) applied.old.spare applied.new.spare) }
         ensures err { OnErr result (IsAsBefore self.old self.new) }
         ensures err_applied { OnErr result (applied.new.items ≡ applied.old.items) }
         ensures err_room { OnErr result (applied.old.spare ≤ applied.new.spare) }
-        ensures memory { NeedsNoMemory item.now (held_number self.old) (spare_of self.old) → NeedsNoMemory item.now (held_number self.old) applied.old.spare → IsOk result }
+        ensures memory { NeedsNoMemory item.now (held_number self.old) (spare_of self.old)
+            → NeedsNoMemory item.now (held_number self.old) applied.old.spare → IsOk result }
         // Honest or not, what is appended and what is left to pass on was left before, or is the
         // item's; and so is the book of an image that was taken, with a Unit Clear and a Time.
-        ensures weighs { IfOk result (λ change. change.image ≢ ImageEnd.Taken → length applied.new.items + weight self.new ≤ (length applied.old.items + weight self.old) + told_by item.now) }
-        ensures weighs_taken { IfOk result (λ change. change.image ≡ ImageEnd.Taken → (2 + book_size (current_book self.new)) + weight self.new ≤ weight self.old + told_by item.now) }
+        ensures weighs { IfOk result
+            (λ change. change.image ≢ ImageEnd.Taken → length applied.new.items + weight self.new
+            ≤ (length applied.old.items + weight self.old) + told_by item.now) }
+        ensures weighs_taken { IfOk result (λ change. change.image ≡ ImageEnd.Taken → (2 + book_size
+            (current_book self.new)) + weight self.new ≤ weight self.old + told_by item.now) }
     {
         let before = self.status();
         let mut log = AppliedLog::On(replace(applied, RawList::make(self.alloc)));

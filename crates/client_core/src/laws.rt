@@ -18,11 +18,13 @@ pub fn images_of_bytes_are_images()
 /// A client that keeps to a venue's messages still does once the venue has accepted more, where its
 /// reach was within those accepted before.
 pub fn keeping_lasts_while_a_venue_accepts()
-    ensures { (client : UnitClient) (V more : List Raw) → reached client ≤ length V → Keeps client V → Keeps client (V ++ more) }
+    ensures { (client : UnitClient) (V more : List Raw)
+        → reached client ≤ length V → Keeps client V → Keeps client (V ++ more) }
 {}
 
 /// Room reserved once for the messages of two blocks, and for those held, still serves the second
 /// block when the first was heard.
 pub fn room_for_two_blocks_serves_both()
-    ensures { (client later : UnitClient) (one two : ℕ) → (one + two) + held_number client ≤ spare_of client → KeepsRoom client later one → two + held_number later ≤ spare_of later }
+    ensures { (client later : UnitClient) (one two : ℕ) → (one + two) + held_number client
+        ≤ spare_of client → KeepsRoom client later one → two + held_number later ≤ spare_of later }
 {}

@@ -1,7 +1,12 @@
 -- What a client is told of what a stream says to its link.
-use Rattle.std.specs.Prelude.{ℕ, Bool, true, false, ◌||◌, ◌==◌, List, [], ◌∷◌, ◌++◌, Option, None, Some, is_some, if◌then◌else◌}
+use Rattle.std.specs.Prelude.{ℕ, Bool, true, false, ◌||◌, ◌==◌, List, [], ◌∷◌, ◌++◌, Option, None}
+use Rattle.std.specs.Prelude.{Some, is_some, if◌then◌else◌}
 use Rattle.pitch_messages.specs.declared.session.SessionMessage.{SessionMessage}
-use Rattle.pitch_messages.specs.declared.session.SessionMessage.TheVariants.{Login, LoginReply, GapRequest, GapReply, SpinAvailable, SpinRequest, SpinReply, SpinFinished}
+use Rattle.pitch_messages.specs.declared.session.SessionMessage.TheVariants.{Login, LoginReply}
+use Rattle.pitch_messages.specs.declared.session.SessionMessage.TheVariants.{GapRequest, GapReply}
+use Rattle.pitch_messages.specs.declared.session.SessionMessage.TheVariants.{SpinAvailable}
+use Rattle.pitch_messages.specs.declared.session.SessionMessage.TheVariants.{SpinRequest, SpinReply}
+use Rattle.pitch_messages.specs.declared.session.SessionMessage.TheVariants.{SpinFinished}
 use Rattle.pitch_model.specs.declared.item.Item.{Item}
 use Rattle.pitch_model.specs.declared.item.Item.TheVariants as item
 use Rattle.session_ends.specs.declared.inbox.Heard.{Heard}
@@ -16,7 +21,8 @@ use Rattle.session_ends.specs.Saying.{heard_by, said_to}
 -- ---- Items
 -- an item, whatever room its list has for more
 abbrev pub without_spare : Item → Item
-without_spare (item.ImageMessages raws) = item.ImageMessages (record { items = raws.items; spare = 0 })
+without_spare (item.ImageMessages raws) =
+    item.ImageMessages (record { items = raws.items; spare = 0 })
 without_spare other = other
 
 -- ---- One message
@@ -29,7 +35,8 @@ hands_out role = false
 -- Available Message", "Spin Response Message", "Spin Finished Message"); a login that is refused
 -- gives none
 abbrev pub told_of : Bool → SessionMessage → List Item
-told_of spin (LoginReply status) = if status == 65 then ((if spin then item.SpinUp else item.GrpUp) ∷ []) else []
+told_of spin (LoginReply status) =
+    if status == 65 then ((if spin then item.SpinUp else item.GrpUp) ∷ []) else []
 told_of spin (GapReply unit sequence count status) = item.GapReply sequence count status ∷ []
 told_of spin (SpinAvailable sequence) = item.Advertised sequence ∷ []
 told_of spin (SpinReply sequence orders status) = item.SpinReply sequence orders status ∷ []
@@ -77,7 +84,8 @@ or_items None more mine = mine
 abbrev pub after_others : Role → List Heard → List Item
 after_others role [] = []
 after_others role (item ∷ items) =
-    or_items (other_of role item) (after_others role items) (told_said role (heard_by role item) ++ (run_of role (others role items) ++ after_others role items))
+    or_items (other_of role item) (after_others role items) (told_said role (heard_by role item)
+    ++ (run_of role (others role items) ++ after_others role items))
 
 -- what is told where a run of other messages has begun: each longest run within a block is one item
 abbrev pub tells_on : Role → List (List ℕ) → List Heard → List Item
@@ -87,12 +95,15 @@ tells_on role run items = run_of role (run ++ others role items) ++ after_others
 abbrev pub message_tells : Role → Said → List ℕ → List (List ℕ) → List Heard → List Item
 message_tells role said raw run rest =
     run_of role (run ++ before_more (other_in said raw) (others role rest))
-    ++ or_items (other_in said raw) (after_others role rest) (told_said role said ++ tells_on role [] rest)
+    ++ or_items (other_in said raw)
+    (after_others role rest) (told_said role said ++ tells_on role [] rest)
 
 -- the messages up to the one that closes the link, if there is one
 abbrev pub until : Setup → Bool → List Heard → List Heard
 until s logged [] = []
-until s logged (item ∷ items) = item ∷ (if is_some (cause_of s logged item) then [] else until s (logged || logs_in s.role item) items)
+until s logged (item ∷ items) =
+    item ∷ (if is_some (cause_of s logged item)
+    then [] else until s (logged || logs_in s.role item) items)
 
 -- what is told of what the stream says, up to the message that closes the link
 abbrev pub tells : Setup → Bool → List Heard → List Item

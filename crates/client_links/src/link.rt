@@ -1,4 +1,5 @@
-ghost use Rattle.std.specs.Prelude.{◌≡◌, ℕ, ◌||◌, List, [], ◌∷◌, ◌++◌, ◌+◌, length, map, OnOk, OnErr, IsOk, IfOk, IfSome, None, Some};
+ghost use Rattle.std.specs.Prelude.{◌≡◌, ℕ, ◌||◌, List, [], ◌∷◌, ◌++◌, ◌+◌, length, map, OnOk};
+ghost use Rattle.std.specs.Prelude.{OnErr, IsOk, IfOk, IfSome, None, Some};
 ghost use Rattle.std.specs.List.{list_any};
 ghost use Rattle.unit_packets.specs.Causes.{counted};
 ghost use Rattle.session_ends.specs.declared.closed.CloseCause.TheVariants.{Memory};
@@ -9,8 +10,10 @@ ghost use Rattle.session_ends.specs.Events.{Event, Fed, Ticked, Asked};
 ghost use Rattle.session_ends.specs.Hearing.{reader_items, IsThrough};
 ghost use Rattle.session_ends.specs.Items.{closed_at};
 ghost use Rattle.session_ends.specs.Sending.{sent_at_tick};
-ghost use Rattle.client_links.specs.Linking.{Lookups, NoLookup, link_setup, login_bytes, link_sends, link_tells, LinkStands};
-ghost use Rattle.client_links.specs.Telling.{without_spare, run_of, told_of, tells_on, message_tells, tells};
+ghost use Rattle.client_links.specs.Linking.{Lookups, NoLookup, link_setup, login_bytes};
+ghost use Rattle.client_links.specs.Linking.{link_sends, link_tells, LinkStands};
+ghost use Rattle.client_links.specs.Telling.{without_spare, run_of, told_of, tells_on};
+ghost use Rattle.client_links.specs.Telling.{message_tells, tells};
 
 use crate::items::ItemList;
 use pitch_fields::OutOfMemory;
@@ -113,7 +116,8 @@ impl Link {
     ) -> Result<Link, OutOfMemory>
         ensures stands { IfOk result (λ link. EndKnows link (nothing_known role)) }
         ensures setup { IfOk result (λ link. link.setup ≡ link_setup role unit) }
-        ensures says { OnOk result (out.new.items ≡ out.old.items ++ login_bytes role unit account.now) }
+        ensures says { OnOk result
+            (out.new.items ≡ out.old.items ++ login_bytes role unit account.now) }
         ensures err { OnErr result (out.new.items ≡ out.old.items) }
     {
         let end = End::make(alloc, role, unit, Vec::new(alloc), false);
@@ -140,7 +144,8 @@ impl Link {
 
     // Appends a run of other messages, and begins the next.
     fn put_run(&self, run: &mut RawList, told: &mut Vec<Item>) -> Result<(), OutOfMemory>
-        ensures told { OnOk result (map without_spare told.new.items ≡ map without_spare told.old.items ++ run_of self.now.setup.role run.old.items) }
+        ensures told { OnOk result (map without_spare told.new.items
+            ≡ map without_spare told.old.items ++ run_of self.now.setup.role run.old.items) }
         ensures run { OnOk result (run.new.items ≡ []) }
     {
         if run.len() == 0 {
@@ -162,8 +167,9 @@ impl Link {
         run: &mut RawList,
         told: &mut Vec<Item>,
     ) -> Result<(), OutOfMemory>
-        ensures { OnOk result ((rest : List Heard) → map without_spare told.new.items ++ tells_on self.now.setup.role run.new.items rest
-            ≡ map without_spare told.old.items ++ message_tells self.now.setup.role said.now raw.now run.old.items rest) }
+        ensures { OnOk result ((rest : List Heard) → map without_spare told.new.items
+            ++ tells_on self.now.setup.role run.new.items rest ≡ map without_spare told.old.items
+            ++ message_tells self.now.setup.role said.now raw.now run.old.items rest) }
     {
         match said {
             Said::Skipped => {
@@ -189,8 +195,9 @@ impl Link {
         run: &mut RawList,
         told: &mut Vec<Item>,
     ) -> Result<(), OutOfMemory>
-        ensures { OnOk result ((rest : List Heard) → map without_spare told.new.items ++ tells_on self.now.setup.role run.new.items rest
-            ≡ map without_spare told.old.items ++ tells_on self.now.setup.role run.old.items (item.now ∷ rest)) }
+        ensures { OnOk result ((rest : List Heard) → map without_spare told.new.items
+            ++ tells_on self.now.setup.role run.new.items rest ≡ map without_spare told.old.items
+            ++ tells_on self.now.setup.role run.old.items (item.now ∷ rest)) }
     {
         match item {
             Heard::Message { raw, .. } => {
@@ -220,10 +227,14 @@ impl Link {
         requires open { self.old.closed ≡ None }
         requires no_run { run.old.items ≡ [] }
         ensures through { IfOk result (λ count. IsThrough reader.now.rest count) }
-        ensures closed { OnOk result (self.new.closed ≡ first_cause self.old.setup self.old.logged (reader_items reader.now)) }
-        ensures logged { OnOk result (self.new.closed ≡ None → self.new.logged ≡ (self.old.logged || list_any (logs_in self.old.setup.role) (reader_items reader.now))) }
+        ensures closed { OnOk result (self.new.closed ≡ first_cause self.old.setup self.old.logged
+            (reader_items reader.now)) }
+        ensures logged { OnOk result (self.new.closed ≡ None → self.new.logged ≡ (self.old.logged
+            || list_any (logs_in self.old.setup.role) (reader_items reader.now))) }
         ensures rest { self.new ≡ record self.old { closed = self.new.closed; logged = self.new.logged } }
-        ensures tells { OnOk result (map without_spare told.new.items ++ run_of self.old.setup.role run.new.items ≡ map without_spare told.old.items ++ tells self.old.setup self.old.logged (reader_items reader.now)) }
+        ensures tells { OnOk result (map without_spare told.new.items
+            ++ run_of self.old.setup.role run.new.items ≡ map without_spare told.old.items
+            ++ tells self.old.setup self.old.logged (reader_items reader.now)) }
     {
         let mut items = Sayings::of(reader);
         'items: while let Some(item) = items.next_item() {
@@ -240,8 +251,10 @@ impl Link {
     fn hear_piece(&mut self, piece: &[u8], told: &mut Vec<Item>) -> Result<(), OutOfMemory>
         requires open { self.old.closed ≡ None }
         requires none_told { told.old.items ≡ [] }
-        ensures stands { OnOk result ((es : List (Event Lookups)) → LinkStands self.old es → LinkStands self.new (Fed piece.now NoLookup ∷ es)) }
-        ensures tells { OnOk result ((es : List (Event Lookups)) → LinkStands self.old es → map without_spare told.new.items ≡ link_tells self.old.setup es piece.now) }
+        ensures stands { OnOk result ((es : List (Event Lookups))
+            → LinkStands self.old es → LinkStands self.new (Fed piece.now NoLookup ∷ es)) }
+        ensures tells { OnOk result ((es : List (Event Lookups)) → LinkStands self.old es
+            → map without_spare told.new.items ≡ link_tells self.old.setup es piece.now) }
         ensures setup { self.new.setup ≡ self.old.setup }
         ensures count { self.new.inbox.fed ≡ counted (self.old.inbox.fed + length piece.now) }
     {
@@ -256,13 +269,18 @@ impl Link {
     // Takes the next piece of the stream, and appends what it tells the client. After OutOfMemory
     // `items` is as before, and the link is closed.
     pub(crate) fn feed(&mut self, piece: &[u8], items: &mut ItemList) -> Result<(), OutOfMemory>
-        ensures stands { OnOk result ((es : List (Event Lookups)) → LinkStands self.old es → LinkStands self.new (Fed piece.now NoLookup ∷ es)) }
-        ensures tells { OnOk result ((es : List (Event Lookups)) → LinkStands self.old es → map without_spare items.new.items ≡ map without_spare items.old.items ++ link_tells self.old.setup es piece.now) }
+        ensures stands { OnOk result ((es : List (Event Lookups))
+            → LinkStands self.old es → LinkStands self.new (Fed piece.now NoLookup ∷ es)) }
+        ensures tells { OnOk result ((es : List (Event Lookups))
+            → LinkStands self.old es → map without_spare items.new.items
+            ≡ map without_spare items.old.items ++ link_tells self.old.setup es piece.now) }
         ensures setup { self.new.setup ≡ self.old.setup }
-        ensures err_closed { OnErr result (self.new.closed ≡ Some (closed_at Memory (counted (self.old.inbox.fed + length piece.now)))) }
+        ensures err_closed { OnErr result (self.new.closed ≡ Some
+            (closed_at Memory (counted (self.old.inbox.fed + length piece.now)))) }
         ensures err_items { OnErr result (items.new.items ≡ items.old.items) }
         ensures shut { IfSome self.old.closed (λ c. self.new ≡ self.old) }
-        ensures shut_ok { IfSome self.old.closed (λ c. IsOk result × (items.new.items ≡ items.old.items)) }
+        ensures shut_ok { IfSome self.old.closed
+            (λ c. IsOk result × (items.new.items ≡ items.old.items)) }
     {
         if self.end.is_closed() {
             return Ok(());
@@ -285,11 +303,14 @@ impl Link {
         request: &SessionMessage,
         out: &mut Vec<u8>,
     ) -> Result<(), OutOfMemory>
-        ensures stands { OnOk result ((es : List (Event Lookups)) → LinkStands self.old es → LinkStands self.new (Asked request.now ∷ es)) }
-        ensures says { OnOk result ((es : List (Event Lookups)) → LinkStands self.old es → out.new.items ≡ out.old.items ++ link_sends self.old.setup (Asked request.now) es) }
+        ensures stands { OnOk result ((es : List (Event Lookups))
+            → LinkStands self.old es → LinkStands self.new (Asked request.now ∷ es)) }
+        ensures says { OnOk result ((es : List (Event Lookups)) → LinkStands self.old es
+            → out.new.items ≡ out.old.items ++ link_sends self.old.setup (Asked request.now) es) }
         ensures setup { self.new.setup ≡ self.old.setup }
         ensures err { OnErr result ((self.new ≡ self.old) × (out.new.items ≡ out.old.items)) }
-        ensures shut { IfSome self.old.closed (λ c. IsOk result × ((self.new ≡ self.old) × (out.new.items ≡ out.old.items))) }
+        ensures shut { IfSome self.old.closed
+            (λ c. IsOk result × ((self.new ≡ self.old) × (out.new.items ≡ out.old.items))) }
     {
         if self.end.is_closed() {
             return Ok(());
@@ -303,13 +324,18 @@ impl Link {
 
     // A second passes.
     pub(crate) fn tick(&mut self, out: &mut Vec<u8>) -> Result<(), OutOfMemory>
-        ensures stands { OnOk result ((es : List (Event Lookups)) → LinkStands self.old es → LinkStands self.new (Ticked ∷ es)) }
-        ensures says { OnOk result ((es : List (Event Lookups)) → LinkStands self.old es → out.new.items ≡ out.old.items ++ sent_at_tick (link_sends self.old.setup) self.old.setup es) }
+        ensures stands { OnOk result ((es : List (Event Lookups))
+            → LinkStands self.old es → LinkStands self.new (Ticked ∷ es)) }
+        ensures says { OnOk result
+            ((es : List (Event Lookups)) → LinkStands self.old es → out.new.items
+            ≡ out.old.items ++ sent_at_tick (link_sends self.old.setup) self.old.setup es) }
         ensures setup { self.new.setup ≡ self.old.setup }
-        ensures err_closed { OnErr result (self.new.closed ≡ Some (closed_at Memory self.old.inbox.fed)) }
+        ensures err_closed { OnErr result
+            (self.new.closed ≡ Some (closed_at Memory self.old.inbox.fed)) }
         ensures err_out { OnErr result (out.new.items ≡ out.old.items) }
         ensures shut { IfSome self.old.closed (λ c. self.new ≡ self.old) }
-        ensures shut_ok { IfSome self.old.closed (λ c. IsOk result × (out.new.items ≡ out.old.items)) }
+        ensures shut_ok { IfSome self.old.closed
+            (λ c. IsOk result × (out.new.items ≡ out.old.items)) }
     {
         self.end.tick(out)?;
         Ok(())

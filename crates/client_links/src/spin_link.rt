@@ -1,4 +1,5 @@
-ghost use Rattle.std.specs.Prelude.{◌≡◌, List, [], ◌∷◌, ◌++◌, ◌+◌, length, map, OnOk, OnErr, IsOk, IfOk, IfSome, Some};
+ghost use Rattle.std.specs.Prelude.{◌≡◌, List, [], ◌∷◌, ◌++◌, ◌+◌, length, map, OnOk, OnErr, IsOk};
+ghost use Rattle.std.specs.Prelude.{IfOk, IfSome, Some};
 ghost use Rattle.pitch_messages.specs.declared.session.SessionMessage.TheVariants.{SpinRequest};
 ghost use Rattle.session_ends.specs.declared.closed.CloseCause.TheVariants.{Memory};
 ghost use Rattle.session_ends.specs.declared.role.Role.TheVariants.{SpinLink as LinkRole};
@@ -7,7 +8,8 @@ ghost use Rattle.unit_packets.specs.Causes.{counted};
 ghost use Rattle.session_ends.specs.Events.{Event, Fed, Ticked, Asked};
 ghost use Rattle.session_ends.specs.Items.{closed_at};
 ghost use Rattle.session_ends.specs.Sending.{sent_at_tick};
-ghost use Rattle.client_links.specs.Linking.{Lookups, NoLookup, link_setup, login_bytes, link_sends, link_tells, LinkStands};
+ghost use Rattle.client_links.specs.Linking.{Lookups, NoLookup, link_setup, login_bytes};
+ghost use Rattle.client_links.specs.Linking.{link_sends, link_tells, LinkStands};
 ghost use Rattle.client_links.specs.Telling.{without_spare};
 
 use crate::items::ItemList;
@@ -46,7 +48,8 @@ impl SpinLink {
         // Nothing happened to it.
         ensures stands { IfOk result (λ link. LinkStands link []) }
         ensures setup { IfOk result (λ link. link.setup ≡ link_setup LinkRole unit) }
-        ensures says { OnOk result (out.new.items ≡ out.old.items ++ login_bytes LinkRole unit account.now) }
+        ensures says { OnOk result
+            (out.new.items ≡ out.old.items ++ login_bytes LinkRole unit account.now) }
         ensures err { OnErr result (out.new.items ≡ out.old.items) }
     {
         let link = Link::make(alloc, Role::SpinLink, unit, account, out)?;
@@ -57,7 +60,8 @@ impl SpinLink {
     pub fn closed(&self) -> Option<Closed>
         ensures kept { result ≡ self.now.closed }
         // Of all that happened to it: the first cause that closes it.
-        ensures cause { (es : List (Event Lookups)) → LinkStands self.now es → result ≡ closed_of self.now.setup es }
+        ensures cause { (es : List (Event Lookups))
+            → LinkStands self.now es → result ≡ closed_of self.now.setup es }
     {
         self.link.closed()
     }
@@ -73,15 +77,20 @@ impl SpinLink {
     /// "Spin Finished Message".
     pub fn feed(&mut self, piece: &[u8], items: &mut ItemList) -> Result<(), OutOfMemory>
         // Of all that happened to it: the piece came too.
-        ensures stands { OnOk result ((es : List (Event Lookups)) → LinkStands self.old es → LinkStands self.new (Fed piece.now NoLookup ∷ es)) }
+        ensures stands { OnOk result ((es : List (Event Lookups))
+            → LinkStands self.old es → LinkStands self.new (Fed piece.now NoLookup ∷ es)) }
         // Of all that happened to it: what the piece then tells was appended, whatever room the
         // lists of the items have.
-        ensures tells { OnOk result ((es : List (Event Lookups)) → LinkStands self.old es → map without_spare items.new.items ≡ map without_spare items.old.items ++ link_tells self.old.setup es piece.now) }
+        ensures tells { OnOk result ((es : List (Event Lookups))
+            → LinkStands self.old es → map without_spare items.new.items
+            ≡ map without_spare items.old.items ++ link_tells self.old.setup es piece.now) }
         ensures setup { self.new.setup ≡ self.old.setup }
-        ensures err_closed { OnErr result (self.new.closed ≡ Some (closed_at Memory (counted (self.old.inbox.fed + length piece.now)))) }
+        ensures err_closed { OnErr result (self.new.closed ≡ Some
+            (closed_at Memory (counted (self.old.inbox.fed + length piece.now)))) }
         ensures err_items { OnErr result (items.new.items ≡ items.old.items) }
         ensures shut { IfSome self.old.closed (λ c. self.new ≡ self.old) }
-        ensures shut_ok { IfSome self.old.closed (λ c. IsOk result × (items.new.items ≡ items.old.items)) }
+        ensures shut_ok { IfSome self.old.closed
+            (λ c. IsOk result × (items.new.items ≡ items.old.items)) }
     {
         self.link.feed(piece, items)?;
         Ok(())
@@ -93,12 +102,16 @@ impl SpinLink {
     /// Standard: "Spin Request Message".
     pub fn ask(&mut self, sequence: u32, out: &mut Vec<u8>) -> Result<(), OutOfMemory>
         // Of all that happened to it: it was asked too.
-        ensures stands { OnOk result ((es : List (Event Lookups)) → LinkStands self.old es → LinkStands self.new (Asked (SpinRequest sequence) ∷ es)) }
+        ensures stands { OnOk result ((es : List (Event Lookups))
+            → LinkStands self.old es → LinkStands self.new (Asked (SpinRequest sequence) ∷ es)) }
         // Of all that happened to it: the request was appended, while it was open.
-        ensures says { OnOk result ((es : List (Event Lookups)) → LinkStands self.old es → out.new.items ≡ out.old.items ++ link_sends self.old.setup (Asked (SpinRequest sequence)) es) }
+        ensures says { OnOk result
+            ((es : List (Event Lookups)) → LinkStands self.old es → out.new.items
+            ≡ out.old.items ++ link_sends self.old.setup (Asked (SpinRequest sequence)) es) }
         ensures setup { self.new.setup ≡ self.old.setup }
         ensures err { OnErr result ((self.new ≡ self.old) × (out.new.items ≡ out.old.items)) }
-        ensures shut { IfSome self.old.closed (λ c. IsOk result × ((self.new ≡ self.old) × (out.new.items ≡ out.old.items))) }
+        ensures shut { IfSome self.old.closed
+            (λ c. IsOk result × ((self.new ≡ self.old) × (out.new.items ≡ out.old.items))) }
     {
         self.link
             .ask(&SessionMessage::SpinRequest { sequence }, out)?;
@@ -113,14 +126,19 @@ impl SpinLink {
     /// Standard: "Heartbeat Messages". The number of ticks is this project's own.
     pub fn tick(&mut self, out: &mut Vec<u8>) -> Result<(), OutOfMemory>
         // Of all that happened to it: the tick happened too.
-        ensures stands { OnOk result ((es : List (Event Lookups)) → LinkStands self.old es → LinkStands self.new (Ticked ∷ es)) }
+        ensures stands { OnOk result ((es : List (Event Lookups))
+            → LinkStands self.old es → LinkStands self.new (Ticked ∷ es)) }
         // Of all that happened to it: what is then sent at a tick was appended.
-        ensures says { OnOk result ((es : List (Event Lookups)) → LinkStands self.old es → out.new.items ≡ out.old.items ++ sent_at_tick (link_sends self.old.setup) self.old.setup es) }
+        ensures says { OnOk result
+            ((es : List (Event Lookups)) → LinkStands self.old es → out.new.items
+            ≡ out.old.items ++ sent_at_tick (link_sends self.old.setup) self.old.setup es) }
         ensures setup { self.new.setup ≡ self.old.setup }
-        ensures err_closed { OnErr result (self.new.closed ≡ Some (closed_at Memory self.old.inbox.fed)) }
+        ensures err_closed { OnErr result
+            (self.new.closed ≡ Some (closed_at Memory self.old.inbox.fed)) }
         ensures err_out { OnErr result (out.new.items ≡ out.old.items) }
         ensures shut { IfSome self.old.closed (λ c. self.new ≡ self.old) }
-        ensures shut_ok { IfSome self.old.closed (λ c. IsOk result × (out.new.items ≡ out.old.items)) }
+        ensures shut_ok { IfSome self.old.closed
+            (λ c. IsOk result × (out.new.items ≡ out.old.items)) }
     {
         self.link.tick(out)?;
         Ok(())

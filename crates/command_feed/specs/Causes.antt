@@ -7,5 +7,6 @@ use Rattle.command_feed.specs.declared.error.CommandError.TheVariants.{Bad, Refu
 
 abbrev pub command_error_text : CommandError → List ℕ
 command_error_text (Bad line column cause) = codes "bad input at " ++ place_text line column cause
-command_error_text (Refused line error) = codes "refused at line " ++ (decimal line ++ (codes ": " ++ refusal_text error))
+command_error_text (Refused line error) =
+    codes "refused at line " ++ (decimal line ++ (codes ": " ++ refusal_text error))
 command_error_text OutOfMemory = codes "out of memory"

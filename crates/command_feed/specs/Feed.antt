@@ -13,7 +13,8 @@ use Rattle.command_feed.specs.declared.error.CommandError.{CommandError}
 use Rattle.command_feed.specs.declared.error.CommandError.TheVariants.{Bad, Refused}
 
 -- the command of a line is refused, or others follow it
-abbrev pub then_accepted : Option VenueError → ℕ → Result (List (List ℕ)) CommandError → Result (List (List ℕ)) CommandError
+abbrev pub then_accepted : Option VenueError
+    → ℕ → Result (List (List ℕ)) CommandError → Result (List (List ℕ)) CommandError
 then_accepted (Some error) line others = Err (Refused line error)
 then_accepted None line others = others
 
@@ -21,7 +22,9 @@ then_accepted None line others = others
 -- it refuses, with its line
 abbrev pub accepted_after : List (List ℕ) → List CommandEntry → Result (List (List ℕ)) CommandError
 accepted_after accepted [] = Ok accepted
-accepted_after accepted (entry ∷ entries) = then_accepted (refusal accepted entry.command) entry.line (accepted_after (accepted ++ raw_of entry.command ∷ []) entries)
+accepted_after accepted (entry ∷ entries) =
+    then_accepted (refusal accepted entry.command) entry.line
+    (accepted_after (accepted ++ raw_of entry.command ∷ []) entries)
 
 -- the messages of the commands that were read, or the first fault of their text
 abbrev pub messages_on : Result (List (ℕ × Command)) TextFault → Result (List (List ℕ)) CommandError

@@ -1,4 +1,5 @@
-ghost use Rattle.std.specs.Prelude.{◌≡◌, ◌<◌, ◌++◌, [], ◌∷◌, ◌⊎◌, List, ℕ, Err, OnOk, IfOk, IfErr, IsTrue, IsFalse, length};
+ghost use Rattle.std.specs.Prelude.{◌≡◌, ◌<◌, ◌++◌, [], ◌∷◌, ◌⊎◌, List, ℕ, Err, OnOk, IfOk, IfErr};
+ghost use Rattle.std.specs.Prelude.{IsTrue, IsFalse, length};
 ghost use Rattle.text_lines.specs.Text.{all_of};
 ghost use Rattle.command_feed.specs.Accepting.{accepted_in, with_before};
 ghost use Rattle.command_feed.specs.declared.error.CommandError.TheVariants as errors;
@@ -37,7 +38,8 @@ impl Batch {
     // Reads the next commands in place of those that were read before, and answers whether there
     // are any. The answer is an error where a fault comes among them.
     pub(crate) fn read(&mut self, items: &mut Commands<'_>) -> Result<bool, CommandError>
-        ensures read { OnOk result (all_of items.old ≡ with_before self.new.entries.items (all_of items.new)) }
+        ensures read { OnOk result
+            (all_of items.old ≡ with_before self.new.entries.items (all_of items.new)) }
         ensures some { IfOk result (λ some. IsTrue some → length items.new < length items.old) }
         ensures none { IfOk result (λ some. IsFalse some → items.old ≡ []) }
         ensures err { IfErr result (λ error. (error ≡ errors.OutOfMemory)

@@ -1,4 +1,5 @@
-ghost use Rattle.std.specs.Prelude.{◌≡◌, ◌≤◌, ◌++◌, [], ◌⊎◌, List, ℕ, Result, Ok, Err, OnOk, OnErr, IfOk, IfErr, length, take};
+ghost use Rattle.std.specs.Prelude.{◌≡◌, ◌≤◌, ◌++◌, [], ◌⊎◌, List, ℕ, Result, Ok, Err, OnOk, OnErr};
+ghost use Rattle.std.specs.Prelude.{IfOk, IfErr, length, take};
 ghost use Rattle.std.specs.List.{concat};
 ghost use Rattle.std.specs.Result.{result_err};
 ghost use Rattle.pitch_text.specs.declared.command.CommandEntry.{CommandEntry};
@@ -6,7 +7,8 @@ ghost use Rattle.text_lines.specs.Text.{all_of};
 ghost use Rattle.text_lines.specs.declared.fault.TextError.{TextError};
 ghost use Rattle.unit_packets.specs.Packing.{IsPacking, packed, bytes_in};
 ghost use Rattle.venue_core.specs.Stands.{Stands};
-ghost use Rattle.command_feed.specs.Accepting.{IsAccepted, IsRefused, AcceptsAll, IsVenueAfter, TakesSome, accepted_in, with_before};
+ghost use Rattle.command_feed.specs.Accepting.{IsAccepted, IsRefused, AcceptsAll, IsVenueAfter};
+ghost use Rattle.command_feed.specs.Accepting.{TakesSome, accepted_in, with_before};
 ghost use Rattle.command_feed.specs.Faults.{of_venue, cause_before};
 ghost use Rattle.command_feed.specs.Feed.{messages_of, feed_of, AppendsPacking};
 ghost use Rattle.command_feed.specs.declared.error.CommandError.TheVariants as errors;
@@ -72,10 +74,13 @@ fn first_cause(error: CommandError, rest: Commands<'_>) -> CommandError
 // The venue accepts some commands, up to the first that is refused. Whatever follows them is as yet
 // to be read.
 fn accept_entries(venue: &mut Venue, entries: &[CommandEntry]) -> Result<(), CommandError>
-    ensures ok { OnOk result ((accepted : List (List ℕ)) (rest : Result (List CommandEntry) TextError) → Stands venue.old accepted 0
+    ensures ok { OnOk result ((accepted : List (List ℕ))
+        (rest : Result (List CommandEntry) TextError) → Stands venue.old accepted 0
         → TakesSome accepted (with_before entries.now rest) rest venue.new) }
-    ensures err { IfErr result (λ error. (accepted : List (List ℕ)) (rest : Result (List CommandEntry) TextError) → Stands venue.old accepted 0
-        → (error ≡ errors.OutOfMemory) ⊎ (accepted_in accepted (with_before entries.now rest) ≡ Err (cause_before rest error))) }
+    ensures err { IfErr result
+        (λ error. (accepted : List (List ℕ)) (rest : Result (List CommandEntry) TextError)
+        → Stands venue.old accepted 0 → (error ≡ errors.OutOfMemory)
+        ⊎ (accepted_in accepted (with_before entries.now rest) ≡ Err (cause_before rest error))) }
     ensures unit { venue.new.unit ≡ venue.old.unit }
 {
     'entries: for entry in entries {
@@ -89,7 +94,8 @@ fn accept_entries(venue: &mut Venue, entries: &[CommandEntry]) -> Result<(), Com
 // The venue accepts the commands of all items. Else the answer is the text's first fault, or the
 // first command that is refused; from that on no command goes to the venue.
 fn accept_all(alloc: Global, venue: &mut Venue, mut items: Commands<'_>) -> Result<(), CommandError>
-    ensures ok { OnOk result ((accepted : List (List ℕ)) → Stands venue.old accepted 0 → AcceptsAll accepted (all_of items.entry) venue.new) }
+    ensures ok { OnOk result ((accepted : List (List ℕ))
+        → Stands venue.old accepted 0 → AcceptsAll accepted (all_of items.entry) venue.new) }
     ensures err { IfErr result (λ error. (accepted : List (List ℕ)) → Stands venue.old accepted 0
         → (error ≡ errors.OutOfMemory) ⊎ (accepted_in accepted (all_of items.entry) ≡ Err error)) }
     ensures unit { venue.new.unit ≡ venue.old.unit }
@@ -109,7 +115,8 @@ fn venue_after(alloc: Global, unit: u8, text: &[u8]) -> Result<Venue, CommandErr
     requires { length text.now ≤ 67108864 }
     ensures ok { IfOk result (λ venue. IsVenueAfter text.now venue) }
     ensures unit { IfOk result (λ venue. venue.unit ≡ unit) }
-    ensures err { IfErr result (λ error. (error ≡ errors.OutOfMemory) ⊎ (messages_of text.now ≡ Err error)) }
+    ensures err { IfErr result
+        (λ error. (error ≡ errors.OutOfMemory) ⊎ (messages_of text.now ≡ Err error)) }
 {
     let mut venue = Venue::make(alloc, unit);
     match accept_all(alloc, &mut venue, Commands::of_text(text)) {
@@ -160,9 +167,11 @@ pub fn append_feed(
     out: &mut Vec<u8>,
 ) -> Result<(), CommandError>
     requires { length text.now ≤ 67108864 }
-    ensures feed { OnOk result ((feed : List ℕ) × (feed_of unit text.now ≡ Ok feed) × (out.new.items ≡ out.old.items ++ feed)) }
+    ensures feed { OnOk result ((feed : List ℕ)
+        × (feed_of unit text.now ≡ Ok feed) × (out.new.items ≡ out.old.items ++ feed)) }
     ensures packing { OnOk result (AppendsPacking unit text.now out.old.items out.new.items) }
-    ensures cause { IfErr result (λ error. (error ≡ errors.OutOfMemory) ⊎ (feed_of unit text.now ≡ Err error)) }
+    ensures cause { IfErr result
+        (λ error. (error ≡ errors.OutOfMemory) ⊎ (feed_of unit text.now ≡ Err error)) }
     ensures kept { OnErr result (out.new.items ≡ out.old.items) }
 {
     let mut venue = venue_after(alloc, unit, text)?;

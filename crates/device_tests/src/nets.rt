@@ -1,8 +1,9 @@
 use pitch_io::{Line, LinkEnd, MemoryNet, Net, NetCall, NetDone, NetTaken, NetVerb, Put};
 use std::process::Abort;
 
-// Makes calls on line A and from the spin client's end to the server's. Answers what each said: what
-// came and a full stop, a stop alone where nothing came or the call was done, `f` where it failed.
+// Makes calls on line A and from the spin client's end to the server's. Answers what each said:
+// what came and a full stop, a stop alone where nothing came or the call was done, `f` where it
+// failed.
 fn answers_of_calls<R: Abort + AllocGlobal>(
     rt: &R,
     net: &mut MemoryNet,

@@ -40,4 +40,5 @@ pub record IsAtEnd (client : UnitClient) (H : ℕ) (V : List Raw) : Type 0 where
 -- the line of a unit that has all messages: it is current at the last of them, with the number of
 -- orders and the shares that they leave
 abbrev pub whole_line : ℕ → List Raw → List ℕ
-whole_line unit V = unit_line unit (Current (length V)) (len (book_after V).orders) (shares (book_after V))
+whole_line unit V =
+    unit_line unit (Current (length V)) (len (book_after V).orders) (shares (book_after V))

@@ -5,7 +5,8 @@ use Rattle.std.specs.Coded.{Coded, code_by, coded×, coded_ℕ, coded_list}
 use Rattle.pitch_fields.specs.Fields.{AreBytes}
 use Rattle.unit_packets.specs.Cutting.{blocks_of}
 use Rattle.pitch_model.specs.Datagrams.{heard_blocks}
-use Rattle.pitch_model.specs.History.{Entry, Raw, Spinning, NoSpin, Asked, Running, SpinReply, ImageMessages, SpinFinished, spin_of, adds}
+use Rattle.pitch_model.specs.History.{Entry, Raw, Spinning, NoSpin, Asked, Running, SpinReply}
+use Rattle.pitch_model.specs.History.{ImageMessages, SpinFinished, spin_of, adds}
 use Rattle.pitch_model.specs.Honest.{Honest}
 use Rattle.pitch_model.specs.Image.{image}
 use Rattle.client_core.specs.Tracks.{Tracks, Keeps}
@@ -17,8 +18,8 @@ NoImageRuns NoSpin = Unit {0}
 NoImageRuns (Asked sequence) = Unit {0}
 NoImageRuns (Running sequence orders raws) = ⊥
 
--- it heard E, which is honest for the messages V of a venue, and these are bytes; it keeps to V, and
--- no image is under way
+-- it heard E, which is honest for the messages V of a venue, and these are bytes; it keeps to V,
+-- and no image is under way
 pub record Follows (client : UnitClient) (H : ℕ) (V : List Raw) (E : List Entry) : Type 0 where
   pub tracks : Tracks client H E
   pub honest : Honest image V E
@@ -38,11 +39,13 @@ KeepsFollowing old new V = (H : ℕ) → FollowsOn old H V → FollowsOn new H V
 -- datagrams, one after another
 abbrev pub heard_datagrams : List (List ℕ) → List Entry → List Entry
 heard_datagrams [] E = E
-heard_datagrams (datagram ∷ datagrams) E = heard_datagrams datagrams (heard_blocks (blocks_of datagram) E)
+heard_datagrams (datagram ∷ datagrams) E =
+    heard_datagrams datagrams (heard_blocks (blocks_of datagram) E)
 
 -- an image whole: that it comes and how many orders it has, its messages, and its end
 abbrev pub imaged_whole : ℕ → ℕ → List Raw → List Entry → List Entry
-imaged_whole sequence orders raws E = SpinFinished sequence ∷ ImageMessages raws ∷ SpinReply sequence orders true ∷ E
+imaged_whole sequence orders raws E =
+    SpinFinished sequence ∷ ImageMessages raws ∷ SpinReply sequence orders true ∷ E
 
 -- ---- Images
 -- an image through a sequence, with the number of its orders
@@ -59,5 +62,7 @@ pub record IsImageOf (V : List Raw) (parts : ImageParts) : Type 0 where
 
 -- its code: numbers and lists
 abbrev pub image_code : Coded ImageParts
-image_code = code_by (ℕ × (ℕ × List (List ℕ))) (coded× coded_ℕ (coded× coded_ℕ (coded_list (coded_list coded_ℕ))))
-    (λ i. (i.sequence, (i.orders, i.raws))) (λ p. record { sequence = p.0; orders = p.1.0; raws = p.1.1 }) (λ _. refl)
+image_code = code_by (ℕ × (ℕ × List (List ℕ)))
+    (coded× coded_ℕ (coded× coded_ℕ (coded_list (coded_list coded_ℕ))))
+    (λ i. (i.sequence, (i.orders, i.raws)))
+    (λ p. record { sequence = p.0; orders = p.1.0; raws = p.1.1 }) (λ _. refl)

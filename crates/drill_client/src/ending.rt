@@ -25,8 +25,11 @@ fn is_behind(status: Status) -> bool
 // Hears that both connections ended, that the Spin Server is up again, and of so many messages.
 fn hear_of_all(client: &mut UnitClient, count: u32)
     requires { count ≤ last_sequence }
-    ensures tracks { (H : ℕ) (E : List Entry) → Tracks client.old H E → Tracks client.new H (told_all count E) }
-    ensures keeps { (Image : List Raw → ℕ → List Raw) (V : List Raw) → IsImage Image V → (H : ℕ) (E : List Entry) → Tracks client.old H E → Honest Image V (told_all count E) → Keeps client.old V → Keeps client.new V }
+    ensures tracks { (H : ℕ) (E : List Entry)
+        → Tracks client.old H E → Tracks client.new H (told_all count E) }
+    ensures keeps { (Image : List Raw → ℕ → List Raw) (V : List Raw)
+        → IsImage Image V → (H : ℕ) (E : List Entry) → Tracks client.old H E
+        → Honest Image V (told_all count E) → Keeps client.old V → Keeps client.new V }
 {
     hear_sure(client, &Item::GrpDown);
     hear_sure(client, &Item::SpinDown);
@@ -41,7 +44,8 @@ fn hear_of_all(client: &mut UnitClient, count: u32)
 pub fn ask_for_all(client: &mut UnitClient, count: u32) -> bool
     requires { count ≤ last_sequence }
     // Of every venue of so many messages that it followed.
-    ensures { (H : ℕ) (V : List Raw) → length V ≡ count → FollowsOn client.old H V → MatchBool result (AsksForAll client.new H V) (IsAtEnd client.new H V) }
+    ensures { (H : ℕ) (V : List Raw) → length V ≡ count → FollowsOn client.old H V
+        → MatchBool result (AsksForAll client.new H V) (IsAtEnd client.new H V) }
 {
     images_of_bytes_are_images();
     hear_of_all(client, count);
@@ -60,7 +64,8 @@ pub fn hear_all(
     raws: RawList,
 ) -> Result<(), OutOfMemory>
     // Of every venue of so many messages whose image it is.
-    ensures { OnOk result ((H : ℕ) (V : List Raw) → length V ≡ count → IsImageOf V (record { sequence = count; orders = orders; raws = raws.items })
+    ensures { OnOk result ((H : ℕ) (V : List Raw) → length V ≡ count
+        → IsImageOf V (record { sequence = count; orders = orders; raws = raws.items })
         → AsksForAll client.old H V → IsAtEnd client.new H V) }
 {
     images_of_bytes_are_images();
@@ -73,7 +78,8 @@ pub fn hear_all(
 /// shares. `out` is as before after OutOfMemory.
 pub fn append_end(client: &UnitClient, unit: u8, out: &mut Vec<u8>) -> Result<(), OutOfMemory>
     // Of every venue all of whose messages the client has.
-    ensures ok { OnOk result ((H : ℕ) (V : List Raw) → IsAtEnd client.now H V → out.new.items ≡ out.old.items ++ whole_line unit V) }
+    ensures ok { OnOk result ((H : ℕ) (V : List Raw)
+        → IsAtEnd client.now H V → out.new.items ≡ out.old.items ++ whole_line unit V) }
     ensures err { OnErr result (out.new.items ≡ out.old.items) }
 {
     let book = client.book();

@@ -1,4 +1,5 @@
-ghost use Rattle.std.specs.Prelude.{◌≡◌, ◌≤◌, ◌<◌, ◌+◌, ◌==◌, ◌∷◌, [], ℕ, List, length, drop, false, None, OnOk, IfOk};
+ghost use Rattle.std.specs.Prelude.{◌≡◌, ◌≤◌, ◌<◌, ◌+◌, ◌==◌, ◌∷◌, [], ℕ, List, length, drop};
+ghost use Rattle.std.specs.Prelude.{false, None, OnOk, IfOk};
 ghost use Rattle.std.specs.List.{AllByRecursion};
 ghost use Rattle.pitch_fields.specs.Fields.{AreBytes};
 ghost use Rattle.pitch_fields.specs.Limits.{most_held};
@@ -7,8 +8,10 @@ ghost use Rattle.unit_packets.specs.Packing.{bytes_in};
 ghost use Rattle.pitch_model.specs.Asking.{ask_of};
 ghost use Rattle.pitch_model.specs.Datagrams.{IsVenueBlock, IsPiece, heard_blocks};
 ghost use Rattle.pitch_model.specs.Heard.{heard_block};
-ghost use Rattle.pitch_model.specs.History.{Entry, Raw, GrpUp, SpinUp, Advertised, GapReply, SpinReply, Ticked};
-ghost use Rattle.drill_client.specs.Following.{Follows, heard_datagrams, imaged_whole, ImageParts, IsImageOf};
+ghost use Rattle.pitch_model.specs.History.{Entry, Raw, GrpUp, SpinUp, Advertised, GapReply};
+ghost use Rattle.pitch_model.specs.History.{SpinReply, Ticked};
+ghost use Rattle.drill_client.specs.Following.{Follows, heard_datagrams, imaged_whole, ImageParts};
+ghost use Rattle.drill_client.specs.Following.{IsImageOf};
 
 use crate::sure::{hear_sure, hear_whole};
 use client_core::{UnitClient, images_of_bytes_are_images};
@@ -22,7 +25,8 @@ use unit_packets::{BlockView, Header, view_block};
 /// has heard nothing, so it follows every venue.
 pub fn begin(alloc: Global, limit: u32) -> Result<UnitClient, OutOfMemory>
     requires { (1 ≤ limit) × (limit ≤ most_held) }
-    ensures { IfOk result (λ client. (V : List Raw) → AllByRecursion AreBytes V → Follows client limit V (SpinUp ∷ GrpUp ∷ [])) }
+    ensures { IfOk result (λ client. (V : List Raw)
+        → AllByRecursion AreBytes V → Follows client limit V (SpinUp ∷ GrpUp ∷ [])) }
 {
     images_of_bytes_are_images();
     let mut client = UnitClient::make(alloc, limit)?;
@@ -33,7 +37,9 @@ pub fn begin(alloc: Global, limit: u32) -> Result<UnitClient, OutOfMemory>
 
 // Hears a block of the venue's feed.
 fn hear_block(client: &mut UnitClient, block: &BlockView<'_>) -> Result<(), OutOfMemory>
-    ensures { OnOk result ((V : List Raw) (unit : ℕ) → IsVenueBlock V unit block.now → (H : ℕ) (E : List Entry) → Follows client.old H V E → Follows client.new H V (heard_block block.now E)) }
+    ensures { OnOk result ((V : List Raw) (unit : ℕ)
+        → IsVenueBlock V unit block.now → (H : ℕ) (E : List Entry)
+        → Follows client.old H V E → Follows client.new H V (heard_block block.now E)) }
 {
     client.hear_block(block.header().sequence, block.raws())?;
     Ok(())
@@ -50,8 +56,9 @@ fn after_block(bytes: &[u8], header: Header) -> &[u8]
 /// Hears a datagram. After OutOfMemory it has heard the blocks before the one that wanted memory.
 pub fn hear_datagram(client: &mut UnitClient, datagram: &[u8]) -> Result<(), OutOfMemory>
     // Of every venue of whose feed the datagram is a piece: the client goes on following it.
-    ensures { OnOk result ((V : List Raw) (unit : ℕ) → IsPiece V unit datagram.now → (H : ℕ) (E : List Entry)
-        → Follows client.old H V E → Follows client.new H V (heard_blocks (blocks_of datagram.now) E)) }
+    ensures { OnOk result ((V : List Raw) (unit : ℕ)
+        → IsPiece V unit datagram.now → (H : ℕ) (E : List Entry) → Follows client.old H V E
+        → Follows client.new H V (heard_blocks (blocks_of datagram.now) E)) }
 {
     let mut rest = datagram;
     'pieces: while !rest.is_empty() {
@@ -69,8 +76,9 @@ pub fn hear_datagram(client: &mut UnitClient, datagram: &[u8]) -> Result<(), Out
 /// Hears datagrams, one after another.
 pub fn hear_datagrams(client: &mut UnitClient, datagrams: &[ByteList]) -> Result<(), OutOfMemory>
     // Of every venue of whose feed all of them are pieces: the client goes on following it.
-    ensures { OnOk result ((V : List Raw) (unit : ℕ) → AllByRecursion (IsPiece V unit) (bytes_in datagrams.now) → (H : ℕ) (E : List Entry)
-        → Follows client.old H V E → Follows client.new H V (heard_datagrams (bytes_in datagrams.now) E)) }
+    ensures { OnOk result ((V : List Raw) (unit : ℕ) → AllByRecursion (IsPiece V unit)
+        (bytes_in datagrams.now) → (H : ℕ) (E : List Entry) → Follows client.old H V E
+        → Follows client.new H V (heard_datagrams (bytes_in datagrams.now) E)) }
 {
     'sent: for datagram in datagrams {
         hear_datagram(client, datagram.bytes())?;
@@ -98,7 +106,8 @@ fn status_of(accepted: bool) -> u8
 /// Hears whether its gap request was accepted ("Gap Response Message").
 pub fn hear_gap_reply(client: &mut UnitClient, accepted: bool)
     // Of every venue: the client goes on following it.
-    ensures { (V : List Raw) (H : ℕ) (E : List Entry) → Follows client.old H V E → Follows client.new H V (GapReply accepted ∷ E) }
+    ensures { (V : List Raw) (H : ℕ) (E : List Entry)
+        → Follows client.old H V E → Follows client.new H V (GapReply accepted ∷ E) }
 {
     images_of_bytes_are_images();
     let status = status_of(accepted);
@@ -122,8 +131,12 @@ pub fn hear_image(
     raws: RawList,
 ) -> Result<(), OutOfMemory>
     // Of every venue whose image it is: the client goes on following it.
-    ensures { OnOk result ((V : List Raw) → IsImageOf V (record { sequence = sequence; orders = orders; raws = raws.items }) → (H : ℕ) (E : List Entry)
-        → Follows client.old H V E → Follows client.new H V (imaged_whole sequence orders raws.items E)) }
+    ensures { OnOk result ((V : List Raw) → IsImageOf V (record {
+      sequence = sequence;
+      orders = orders;
+      raws = raws.items;
+    }) → (H : ℕ) (E : List Entry) → Follows client.old H V E
+        → Follows client.new H V (imaged_whole sequence orders raws.items E)) }
 {
     images_of_bytes_are_images();
     hear_whole(client, sequence, orders, raws)?;
@@ -133,7 +146,8 @@ pub fn hear_image(
 /// Hears that no image through that sequence comes ("Spin Response Message").
 pub fn hear_no_image(client: &mut UnitClient, sequence: u32)
     // Of every venue: the client goes on following it.
-    ensures { (V : List Raw) (H : ℕ) (E : List Entry) → Follows client.old H V E → Follows client.new H V (SpinReply sequence 0 false ∷ E) }
+    ensures { (V : List Raw) (H : ℕ) (E : List Entry)
+        → Follows client.old H V E → Follows client.new H V (SpinReply sequence 0 false ∷ E) }
 {
     images_of_bytes_are_images();
     hear_sure(
@@ -148,7 +162,8 @@ pub fn hear_no_image(client: &mut UnitClient, sequence: u32)
 
 // A tick of the client.
 fn tick(client: &mut UnitClient) -> Option<Ask>
-    ensures { (V : List Raw) (H : ℕ) (E : List Entry) → Follows client.old H V E → (result ≡ ask_of H E) × Follows client.new H V (Ticked result ∷ E) }
+    ensures { (V : List Raw) (H : ℕ) (E : List Entry) → Follows client.old H V E
+        → (result ≡ ask_of H E) × Follows client.new H V (Ticked result ∷ E) }
 {
     client.tick()
 }
@@ -156,11 +171,12 @@ fn tick(client: &mut UnitClient) -> Option<Ask>
 /// Counts a datagram that was heard. With every tenth comes a tick: what the client asks for then,
 /// if anything, counts as asked.
 pub fn count_datagram(client: &mut UnitClient, count: &mut u8) -> Option<Ask>
-    ensures more { count.old < 9 → (count.new ≡ count.old + 1) × (result ≡ None) × (client.new ≡ client.old) }
+    ensures more { count.old < 9
+        → (count.new ≡ count.old + 1) × (result ≡ None) × (client.new ≡ client.old) }
     ensures tenth { 9 ≤ count.old → count.new ≡ 0 }
     // Of every venue that it follows: at a tick it asks what a client then asks.
-    ensures asks { 9 ≤ count.old → (V : List Raw) (H : ℕ) (E : List Entry) → Follows client.old H V E
-        → (result ≡ ask_of H E) × Follows client.new H V (Ticked result ∷ E) }
+    ensures asks { 9 ≤ count.old → (V : List Raw) (H : ℕ) (E : List Entry) → Follows
+        client.old H V E → (result ≡ ask_of H E) × Follows client.new H V (Ticked result ∷ E) }
 {
     if *count < 9 {
         *count += 1;

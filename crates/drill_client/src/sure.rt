@@ -17,8 +17,11 @@ use pitch_model::Item;
 pub(crate) fn hear_sure(client: &mut UnitClient, item: &Item)
     requires item { IsItem item.now }
     requires memory { NeedsNoMemory item.now (held_number client.old) (spare_of client.old) }
-    ensures tracks { (H : ℕ) (E : List Entry) → Tracks client.old H E → Tracks client.new H (heard item.now E) }
-    ensures keeps { (Image : List Raw → ℕ → List Raw) (V : List Raw) → IsImage Image V → (H : ℕ) (E : List Entry) → Tracks client.old H E → Honest Image V (heard item.now E) → Keeps client.old V → Keeps client.new V }
+    ensures tracks { (H : ℕ) (E : List Entry)
+        → Tracks client.old H E → Tracks client.new H (heard item.now E) }
+    ensures keeps { (Image : List Raw → ℕ → List Raw) (V : List Raw)
+        → IsImage Image V → (H : ℕ) (E : List Entry) → Tracks client.old H E
+        → Honest Image V (heard item.now E) → Keeps client.old V → Keeps client.new V }
 {
     client.hear(item).unwrap();
 }
@@ -30,8 +33,11 @@ pub(crate) fn hear_whole(
     orders: u32,
     raws: RawList,
 ) -> Result<(), OutOfMemory>
-    ensures tracks { OnOk result ((H : ℕ) (E : List Entry) → Tracks client.old H E → Tracks client.new H (imaged_whole sequence orders raws.items E)) }
-    ensures keeps { OnOk result ((Image : List Raw → ℕ → List Raw) (V : List Raw) → IsImage Image V → (H : ℕ) (E : List Entry) → Tracks client.old H E → Honest Image V (imaged_whole sequence orders raws.items E) → Keeps client.old V → Keeps client.new V) }
+    ensures tracks { OnOk result ((H : ℕ) (E : List Entry)
+        → Tracks client.old H E → Tracks client.new H (imaged_whole sequence orders raws.items E)) }
+    ensures keeps { OnOk result ((Image : List Raw → ℕ → List Raw) (V : List Raw)
+        → IsImage Image V → (H : ℕ) (E : List Entry) → Tracks client.old H E → Honest Image V
+        (imaged_whole sequence orders raws.items E) → Keeps client.old V → Keeps client.new V) }
 {
     let reply = Item::SpinReply {
         sequence,

@@ -7,7 +7,8 @@ use Rattle.unit_threads.specs.Played.{command_datagrams, is_round}
 
 -- the copies of a line: line A is 1 and line B is 2
 abbrev pub line_words : {R : Type 0} → ℕ → ℕ → ℕ → ℕ → List (Word R)
-line_words number unit index line = if is_lost number unit index line then [] else map Sent (command_datagrams number unit index)
+line_words number unit index line =
+    if is_lost number unit index line then [] else map Sent (command_datagrams number unit index)
 
 -- the sequence that is advertised where it is time
 abbrev pub round_words : {R : Type 0} → ℕ → ℕ → List (Word R)
@@ -15,9 +16,11 @@ round_words index count = if is_round index count then Advertised index ∷ [] e
 
 -- all that the client is told of a command
 abbrev pub words_for_command : {R : Type 0} → ℕ → ℕ → ℕ → ℕ → List (Word R)
-words_for_command number unit count index = line_words number unit index 1 ++ (line_words number unit index 2 ++ round_words index count)
+words_for_command number unit count index =
+    line_words number unit index 1 ++ (line_words number unit index 2 ++ round_words index count)
 
 -- and of the first commands of a plan of `count`
 unfoldable pub words_through : {R : Type 0} → ℕ → ℕ → ℕ → ℕ → List (Word R)
 words_through number unit count zero = []
-words_through number unit count (suc index) = words_through number unit count index ++ words_for_command number unit count (suc index)
+words_through number unit count (suc index) =
+    words_through number unit count index ++ words_for_command number unit count (suc index)

@@ -7,7 +7,8 @@ ghost use Rattle.drill_client.specs.Following.{Follows, FollowsOn};
 ghost use Rattle.drill_values.specs.Words.{heard_word, heard_reply};
 ghost use Rattle.unit_threads.specs.DrillText.{drill_kept};
 ghost use Rattle.unit_threads.specs.Answered.{heard_with_one, with_tick};
-ghost use Rattle.drill_threads.specs.Listening.{tick_requests, is_sent, is_again, after_heard, heard_after, asks_after};
+ghost use Rattle.drill_threads.specs.Listening.{tick_requests, is_sent, is_again, after_heard};
+ghost use Rattle.drill_threads.specs.Listening.{heard_after, asks_after};
 
 use crate::course::Course;
 use crate::ends::{ClientEnds, Request};
@@ -92,11 +93,12 @@ fn tick<J: Naming, R: DrillRun + Run, W: Wait>(
     asks: &mut Outbox<Request<J, R>>,
 ) -> Result<(), OutOfMemory>
     ensures heard { OnOk result (counts.new.heard ≡ heard_with_one counts.old.heard) }
-    ensures history { OnOk result ((H : ℕ) (E : List Entry) → Follows client.old H (plan R.number R.unit R.count) E
+    ensures history { OnOk result
+        ((H : ℕ) (E : List Entry) → Follows client.old H (plan R.number R.unit R.count) E
         → Follows client.new H (plan R.number R.unit R.count) (with_tick H counts.old.heard E)) }
     // What a client asks for at a tick is sent.
-    ensures asks { OnOk result ((H : ℕ) (E : List Entry) → Follows client.old H (plan R.number R.unit R.count) E
-        → asks.new ≡ asks.old ++ tick_requests H counts.old.heard E) }
+    ensures asks { OnOk result ((H : ℕ) (E : List Entry) → Follows client.old H (plan R.number
+        R.unit R.count) E → asks.new ≡ asks.old ++ tick_requests H counts.old.heard E) }
 {
     if let Some(ask) = count_datagram(client, &mut counts.heard) {
         asks.send(rt, Request::Asked(ask))?;
@@ -129,9 +131,11 @@ fn take_word<J: Naming, R: DrillRun + Run, W: Wait, G: Gate>(
     asks: &mut Outbox<Request<J, R>>,
 ) -> Result<(), OutOfMemory>
     ensures heard { OnOk result (counts.new.heard ≡ heard_after (is_sent word) counts.old.heard) }
-    ensures history { OnOk result ((H : ℕ) (E : List Entry) → Follows client.old H (plan R.number R.unit R.count) E
-        → Follows client.new H (plan R.number R.unit R.count) (after_heard (is_sent word) H counts.old.heard (heard_word word E))) }
-    ensures asks { OnOk result ((H : ℕ) (E : List Entry) → Follows client.old H (plan R.number R.unit R.count) E
+    ensures history { OnOk result ((H : ℕ) (E : List Entry) → Follows client.old H
+        (plan R.number R.unit R.count) E → Follows client.new H (plan R.number R.unit R.count)
+        (after_heard (is_sent word) H counts.old.heard (heard_word word E))) }
+    ensures asks { OnOk result
+        ((H : ℕ) (E : List Entry) → Follows client.old H (plan R.number R.unit R.count) E
         → asks.new ≡ asks.old ++ asks_after (is_sent word) H counts.old.heard (heard_word word E)) }
 {
     if !is_sent(&word) {
@@ -157,10 +161,12 @@ fn take_reply<J: Naming, R: DrillRun + Run, W: Wait, G: Gate>(
     asks: &mut Outbox<Request<J, R>>,
 ) -> Result<(), OutOfMemory>
     ensures heard { OnOk result (counts.new.heard ≡ heard_after (is_again reply) counts.old.heard) }
-    ensures history { OnOk result ((H : ℕ) (E : List Entry) → Follows client.old H (plan R.number R.unit R.count) E
-        → Follows client.new H (plan R.number R.unit R.count) (after_heard (is_again reply) H counts.old.heard (heard_reply reply E))) }
-    ensures asks { OnOk result ((H : ℕ) (E : List Entry) → Follows client.old H (plan R.number R.unit R.count) E
-        → asks.new ≡ asks.old ++ asks_after (is_again reply) H counts.old.heard (heard_reply reply E)) }
+    ensures history { OnOk result ((H : ℕ) (E : List Entry) → Follows client.old H
+        (plan R.number R.unit R.count) E → Follows client.new H (plan R.number R.unit R.count)
+        (after_heard (is_again reply) H counts.old.heard (heard_reply reply E))) }
+    ensures asks { OnOk result
+        ((H : ℕ) (E : List Entry) → Follows client.old H (plan R.number R.unit R.count) E → asks.new
+        ≡ asks.old ++ asks_after (is_again reply) H counts.old.heard (heard_reply reply E)) }
 {
     if !is_again(&reply) {
         hear_reply(client, reply)?;

@@ -24,7 +24,8 @@ fn take_image<R: DrillRun + Run>(
     image: Image<R>,
 ) -> Result<(), OutOfMemory>
     requires { image.sequence ≡ course.now.count }
-    ensures { OnOk result ((H : ℕ) → AsksForAll client.old H (plan R.number R.unit R.count) → IsAtEnd client.new H (plan R.number R.unit R.count)) }
+    ensures { OnOk result ((H : ℕ) → AsksForAll client.old H (plan R.number R.unit R.count)
+        → IsAtEnd client.new H (plan R.number R.unit R.count)) }
 {
     plan_is_in_order();
     let (_sequence, orders, raws) = image.into_parts();
@@ -41,9 +42,11 @@ pub(crate) fn close<J: Naming, R: DrillRun + Run, H: Wait + Drop>(
     server: &mut Server<J, R>,
     client: &mut UnitClient,
 ) -> Result<(), OutOfMemory>
-    requires accepted { HasAccepted writer.old course.now.number course.now.unit course.now.count (2 * course.now.count) }
+    requires accepted { HasAccepted writer.old course.now.number course.now.unit course.now.count
+        (2 * course.now.count) }
     requires advertised { HasAdvertised writer.old course.now.count }
-    ensures { OnOk result ((H : ℕ) → FollowsOn client.old H (plan R.number R.unit R.count) → IsAtEnd client.new H (plan R.number R.unit R.count)) }
+    ensures { OnOk result ((H : ℕ) → FollowsOn client.old H (plan R.number R.unit R.count)
+        → IsAtEnd client.new H (plan R.number R.unit R.count)) }
 {
     plan_is_in_order();
     server.hear_told(writer.tell());

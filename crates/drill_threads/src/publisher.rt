@@ -1,6 +1,7 @@
 //! The publisher.
 
-ghost use Rattle.std.specs.Prelude.{◌≡◌, ◌+◌, ◌-◌, ◌*◌, ◌≤◌, ◌<◌, ◌++◌, ◌∷◌, [], length, map, OnOk, IfOk};
+ghost use Rattle.std.specs.Prelude.{◌≡◌, ◌+◌, ◌-◌, ◌*◌, ◌≤◌, ◌<◌, ◌++◌, ◌∷◌, [], length, map, OnOk};
+ghost use Rattle.std.specs.Prelude.{IfOk};
 ghost use Rattle.std.specs.List.{AllByRecursion};
 ghost use Rattle.unit_packets.specs.Packing.{bytes_in};
 ghost use Rattle.pitch_model.specs.Advertising.{accepted_by};
@@ -9,7 +10,8 @@ ghost use Rattle.venue_core.specs.Plan.{plan};
 ghost use Rattle.drill_values.specs.declared.words.Word.TheVariants.{Sent, Last};
 ghost use Rattle.drill_threads.specs.Publishing.{HasAccepted, HasAdvertised};
 ghost use Rattle.unit_threads.specs.Played.{command_datagrams, is_round};
-ghost use Rattle.drill_threads.specs.Saying.{line_words, round_words, words_for_command, words_through};
+ghost use Rattle.drill_threads.specs.Saying.{line_words, round_words, words_for_command};
+ghost use Rattle.drill_threads.specs.Saying.{words_through};
 ghost use Rattle.drill_threads.specs.Telling.{told_in, told_with};
 
 use crate::course::Course;
@@ -61,8 +63,10 @@ fn accept<J: Naming, R: DrillRun + Run, H: Wait + Drop>(
     index: u32,
 ) -> Result<(), OutOfMemory>
     requires index { (1 ≤ index) × (index ≤ course.now.count) }
-    requires before { HasAccepted writer.old course.now.number course.now.unit (index - 1) (2 * (index - 1)) }
-    ensures { OnOk result (HasAccepted writer.new course.now.number course.now.unit index (2 * index - 1)) }
+    requires before { HasAccepted writer.old course.now.number course.now.unit
+        (index - 1) (2 * (index - 1)) }
+    ensures { OnOk result
+        (HasAccepted writer.new course.now.number course.now.unit index (2 * index - 1)) }
 {
     operations_add_up();
     plan_is_accepted();
@@ -81,9 +85,12 @@ fn packed_last<J: Naming, R: DrillRun + Run, H: Wait + Drop>(
     index: u32,
 ) -> Result<DatagramList, OutOfMemory>
     requires index { (1 ≤ index) × (index ≤ course.now.count) }
-    requires accepted { HasAccepted writer.now course.now.number course.now.unit index (2 * index - 1) }
-    ensures datagrams { IfOk result (λ list. bytes_in list.items ≡ command_datagrams course.now.number course.now.unit index) }
-    ensures pieces { IfOk result (λ list. AllByRecursion (IsPiece (plan R.number R.unit R.count) R.unit) (bytes_in list.items)) }
+    requires accepted { HasAccepted writer.now course.now.number course.now.unit index
+        (2 * index - 1) }
+    ensures datagrams { IfOk result
+        (λ list. bytes_in list.items ≡ command_datagrams course.now.number course.now.unit index) }
+    ensures pieces { IfOk result (λ list.
+        AllByRecursion (IsPiece (plan R.number R.unit R.count) R.unit) (bytes_in list.items)) }
 {
     packed_messages_are_pieces();
     let Some(raw) = writer.last_raw() else {
@@ -101,7 +108,8 @@ fn shared_copies<R: DrillRun>(
     alloc: Global,
     datagrams: &[ByteList],
 ) -> Result<Vec<Datagram<R>>, OutOfMemory>
-    requires { AllByRecursion (IsPiece (plan R.number R.unit R.count) R.unit) (bytes_in datagrams.now) }
+    requires { AllByRecursion
+        (IsPiece (plan R.number R.unit R.count) R.unit) (bytes_in datagrams.now) }
     ensures { IfOk result (λ shared. shared.items ≡ bytes_in datagrams.now) }
 {
     let mut shared = Vec::new(alloc);
@@ -121,8 +129,10 @@ fn shared_last<J: Naming, R: DrillRun + Run, H: Wait + Drop>(
     index: u32,
 ) -> Result<Vec<Datagram<R>>, OutOfMemory>
     requires index { (1 ≤ index) × (index ≤ course.now.count) }
-    requires accepted { HasAccepted writer.now course.now.number course.now.unit index (2 * index - 1) }
-    ensures { IfOk result (λ shared. shared.items ≡ command_datagrams course.now.number course.now.unit index) }
+    requires accepted { HasAccepted writer.now course.now.number course.now.unit index
+        (2 * index - 1) }
+    ensures { IfOk result (λ shared. shared.items
+        ≡ command_datagrams course.now.number course.now.unit index) }
 {
     let packed = packed_last(alloc, writer, course, index)?;
     let shared = shared_copies(alloc, packed.as_slice())?;
@@ -154,7 +164,8 @@ fn send_on<R: DrillRun + Run, W: Wait>(
     words: &mut Outbox<Word<R>>,
 ) -> Result<(), OutOfMemory>
     requires { datagrams.now ≡ command_datagrams course.now.number course.now.unit index }
-    ensures { OnOk result (words.new ≡ words.old ++ line_words course.now.number course.now.unit index line) }
+    ensures { OnOk result
+        (words.new ≡ words.old ++ line_words course.now.number course.now.unit index line) }
 {
     if lost(course.number, course.unit, index, line) {
         return Ok(());
@@ -173,8 +184,10 @@ fn send_last<J: Naming, R: DrillRun + Run, H: Wait + Drop, W: Wait>(
     words: &mut Outbox<Word<R>>,
 ) -> Result<(), OutOfMemory>
     requires index { (1 ≤ index) × (index ≤ course.now.count) }
-    requires accepted { HasAccepted writer.now course.now.number course.now.unit index (2 * index - 1) }
-    ensures { OnOk result (words.new ≡ (words.old ++ line_words course.now.number course.now.unit index 1) ++ line_words course.now.number course.now.unit index 2) }
+    requires accepted { HasAccepted writer.now course.now.number course.now.unit index
+        (2 * index - 1) }
+    ensures { OnOk result (words.new ≡ (words.old ++ line_words course.now.number
+        course.now.unit index 1) ++ line_words course.now.number course.now.unit index 2) }
 {
     let sent = shared_last(alloc, writer, course, index)?;
     send_on(rt, course, index, 1, sent.as_slice(), words)?;
@@ -196,8 +209,10 @@ fn advertise_all<J: Naming, R: DrillRun + Run, H: Wait + Drop>(
     index: u32,
 ) -> Result<Reached<R>, OutOfMemory>
     requires index { (1 ≤ index) × (index ≤ course.now.count) }
-    requires accepted { HasAccepted writer.old course.now.number course.now.unit index (2 * index - 1) }
-    ensures accepted { OnOk result (HasAccepted writer.new course.now.number course.now.unit index (2 * index)) }
+    requires accepted { HasAccepted writer.old course.now.number course.now.unit index
+        (2 * index - 1) }
+    ensures accepted { OnOk result
+        (HasAccepted writer.new course.now.number course.now.unit index (2 * index)) }
     ensures advertised { OnOk result (HasAdvertised writer.new index) }
     ensures sequence { IfOk result (λ reached. reached ≡ index) }
 {
@@ -217,12 +232,16 @@ fn advertise<J: Naming, R: DrillRun + Run, H: Wait + Drop, W: Wait>(
     to: &mut Outgoing<J, R>,
 ) -> Result<(), OutOfMemory>
     requires index { (1 ≤ index) × (index ≤ course.now.count) }
-    requires accepted { HasAccepted writer.old course.now.number course.now.unit index (2 * index - 1) }
-    ensures accepted { OnOk result (HasAccepted writer.new course.now.number course.now.unit index (2 * index)) }
+    requires accepted { HasAccepted writer.old course.now.number course.now.unit index
+        (2 * index - 1) }
+    ensures accepted { OnOk result
+        (HasAccepted writer.new course.now.number course.now.unit index (2 * index)) }
     ensures last { OnOk result (index ≡ course.now.count → HasAdvertised writer.new index) }
-    ensures words { OnOk result (to.new.words ≡ to.old.words ++ round_words index course.now.count) }
+    ensures words { OnOk result
+        (to.new.words ≡ to.old.words ++ round_words index course.now.count) }
     // The service is told of all that the writer did.
-    ensures told { OnOk result (told_in to.new.told ≡ told_in to.old.told ++ told_with writer.new index course.now.count) }
+    ensures told { OnOk result
+        (told_in to.new.told ≡ told_in to.old.told ++ told_with writer.new index course.now.count) }
 {
     if !is_round(index, course.count) {
         return Ok(());
@@ -243,11 +262,15 @@ fn publish_one<J: Naming, R: DrillRun + Run, H: Wait + Drop, W: Wait>(
     to: &mut Outgoing<J, R>,
 ) -> Result<(), OutOfMemory>
     requires index { (1 ≤ index) × (index ≤ course.now.count) }
-    requires before { HasAccepted writer.old course.now.number course.now.unit (index - 1) (2 * (index - 1)) }
-    ensures accepted { OnOk result (HasAccepted writer.new course.now.number course.now.unit index (2 * index)) }
+    requires before { HasAccepted writer.old course.now.number course.now.unit
+        (index - 1) (2 * (index - 1)) }
+    ensures accepted { OnOk result
+        (HasAccepted writer.new course.now.number course.now.unit index (2 * index)) }
     ensures last { OnOk result (index ≡ course.now.count → HasAdvertised writer.new index) }
-    ensures words { OnOk result (to.new.words ≡ to.old.words ++ words_for_command course.now.number course.now.unit course.now.count index) }
-    ensures told { OnOk result (told_in to.new.told ≡ told_in to.old.told ++ told_with writer.new index course.now.count) }
+    ensures words { OnOk result (to.new.words ≡ to.old.words
+        ++ words_for_command course.now.number course.now.unit course.now.count index) }
+    ensures told { OnOk result
+        (told_in to.new.told ≡ told_in to.old.told ++ told_with writer.new index course.now.count) }
 {
     accept(writer, course, index)?;
     send_last(rt, alloc, writer, course, index, &mut to.words)?;
@@ -282,10 +305,12 @@ fn publish_all<J: Naming, R: DrillRun + Run, H: Wait + Drop, W: Wait, G: Gate>(
     requires writer { writer.old ≡ [] }
     requires words { to.old.words ≡ [] }
     // All commands were accepted, and the image of all was advertised.
-    ensures accepted { OnOk result (HasAccepted writer.new course.now.number course.now.unit course.now.count (2 * course.now.count)) }
+    ensures accepted { OnOk result (HasAccepted writer.new
+        course.now.number course.now.unit course.now.count (2 * course.now.count)) }
     ensures advertised { OnOk result (HasAdvertised writer.new course.now.count) }
     // The client was told of each command, and that nothing more comes.
-    ensures words { OnOk result (to.new.words ≡ words_through course.now.number course.now.unit course.now.count course.now.count ++ Last ∷ []) }
+    ensures words { OnOk result (to.new.words ≡ words_through
+        course.now.number course.now.unit course.now.count course.now.count ++ Last ∷ []) }
 {
     let mut yields = MOST_YIELDS;
     'commands: for before in 0..course.count {
@@ -310,7 +335,8 @@ pub(crate) fn publish<J: Naming, R: DrillRun + Run, H: Wait + Drop, W: Wait, G: 
 ) -> Result<Writer<J, R, H>, OutOfMemory>
     requires { writer ≡ [] }
     // All commands were accepted, and the image of all was advertised.
-    ensures accepted { IfOk result (λ writer. HasAccepted writer course.now.number course.now.unit course.now.count (2 * course.now.count)) }
+    ensures accepted { IfOk result (λ writer. HasAccepted
+        writer course.now.number course.now.unit course.now.count (2 * course.now.count)) }
     ensures advertised { IfOk result (λ writer. HasAdvertised writer course.now.count) }
 {
     let mut to = Outgoing::make(alloc, ends);

@@ -41,10 +41,14 @@ fn range<J: Naming, R: DrillRun + Run>(
     count: u16,
 ) -> Result<Option<DatagramList>, OutOfMemory>
     // None is handed out just where not all of the range is kept.
-    ensures none { IfOk result (λ found. IfNone found (keeps_range (kept_at J.kept server.new.history) first count ≡ false)) }
-    ensures kept { IfOk result (λ found. IfSome found (λ _. keeps_range (kept_at J.kept server.new.history) first count ≡ true)) }
-    ensures datagrams { IfOk result (λ found. IfSome found (λ list. bytes_in list.items ≡ packed course.now.unit first (slice_of (kept_at J.kept server.new.history) first count))) }
-    ensures pieces { IfOk result (λ found. IfSome found (λ list. AllByRecursion (IsPiece (plan R.number R.unit R.count) R.unit) (bytes_in list.items))) }
+    ensures none { IfOk result (λ found.
+        IfNone found (keeps_range (kept_at J.kept server.new.history) first count ≡ false)) }
+    ensures kept { IfOk result (λ found.
+        IfSome found (λ _. keeps_range (kept_at J.kept server.new.history) first count ≡ true)) }
+    ensures datagrams { IfOk result (λ found. IfSome found (λ list. bytes_in list.items ≡ packed
+        course.now.unit first (slice_of (kept_at J.kept server.new.history) first count))) }
+    ensures pieces { IfOk result (λ found. IfSome found (λ list.
+        AllByRecursion (IsPiece (plan R.number R.unit R.count) R.unit) (bytes_in list.items))) }
 {
     if first == 0 {
         return Ok(None);
@@ -71,10 +75,14 @@ fn image<J: Naming, R: DrillRun + Run>(
 ) -> Result<Option<Image<R>>, OutOfMemory>
     ensures sequence { IfOk result (λ served. IfSome served (λ image. image.sequence ≡ sequence)) }
     // None is handed out just where the image is not served.
-    ensures none { IfOk result (λ served. IfNone served (is_served (served_at server.new.history) sequence ≡ false)) }
-    ensures served { IfOk result (λ served. IfSome served (λ _. is_served (served_at server.new.history) sequence ≡ true)) }
-    ensures raws { IfOk result (λ served. IfSome served (λ out. out.raws ≡ image (served_at server.new.history).messages sequence)) }
-    ensures orders { IfOk result (λ served. IfSome served (λ out. out.orders ≡ adds (image (served_at server.new.history).messages sequence))) }
+    ensures none { IfOk result
+        (λ served. IfNone served (is_served (served_at server.new.history) sequence ≡ false)) }
+    ensures served { IfOk result
+        (λ served. IfSome served (λ _. is_served (served_at server.new.history) sequence ≡ true)) }
+    ensures raws { IfOk result (λ served.
+        IfSome served (λ out. out.raws ≡ image (served_at server.new.history).messages sequence)) }
+    ensures orders { IfOk result (λ served. IfSome served
+        (λ out. out.orders ≡ adds (image (served_at server.new.history).messages sequence))) }
     ensures later { IsPrefix server.old.history server.new.history }
     ensures run { OnOk result (IsLegal R.fixed R.plan server.new.history) }
 {
@@ -111,7 +119,8 @@ fn send_again<R: DrillRun, W: Wait>(
     datagrams: &[ByteList],
     replies: &mut Outbox<Reply<R>>,
 ) -> Result<(), OutOfMemory>
-    requires { AllByRecursion (IsPiece (plan R.number R.unit R.count) R.unit) (bytes_in datagrams.now) }
+    requires { AllByRecursion
+        (IsPiece (plan R.number R.unit R.count) R.unit) (bytes_in datagrams.now) }
     ensures { OnOk result (replies.new ≡ replies.old ++ map Again (bytes_in datagrams.now)) }
 {
     'copied: for datagram in datagrams {
@@ -131,7 +140,8 @@ fn answer_gap<J: Naming, R: DrillRun + Run, W: Wait>(
     count: u16,
     replies: &mut Outbox<Reply<R>>,
 ) -> Result<(), OutOfMemory>
-    ensures { OnOk result (replies.new ≡ replies.old ++ replies_to_gap (kept_at J.kept server.new.history) course.now.unit first count) }
+    ensures { OnOk result (replies.new ≡ replies.old
+        ++ replies_to_gap (kept_at J.kept server.new.history) course.now.unit first count) }
 {
     match range(alloc, course, server, first, count)? {
         None => {
@@ -155,7 +165,8 @@ fn answer_spin<J: Naming, R: DrillRun + Run, W: Wait>(
     sequence: u32,
     replies: &mut Outbox<Reply<R>>,
 ) -> Result<(), OutOfMemory>
-    ensures { OnOk result (replies.new ≡ replies.old ++ replies_to_spin (served_at server.new.history) sequence) }
+    ensures { OnOk result
+        (replies.new ≡ replies.old ++ replies_to_spin (served_at server.new.history) sequence) }
 {
     match image(alloc, course, server, sequence)? {
         Some(image) => {
@@ -179,7 +190,8 @@ fn answer<J: Naming, R: DrillRun + Run, W: Wait>(
     replies: &mut Outbox<Reply<R>>,
 ) -> Result<(), OutOfMemory>
     // The replies are right at what the server has seen then.
-    ensures { OnOk result (replies.new ≡ replies.old ++ replies_to J.kept course.now.unit server.new.history ask) }
+    ensures { OnOk result
+        (replies.new ≡ replies.old ++ replies_to J.kept course.now.unit server.new.history ask) }
 {
     match ask {
         Ask::Gap { first, count } => {

@@ -64,9 +64,11 @@ fn finish<J: Naming, R: DrillRun + Run, H: Wait + Drop>(
     served: Result<Server<J, R>, OutOfMemory>,
     followed: Result<UnitClient, OutOfMemory>,
 ) -> Result<UnitClient, OutOfMemory>
-    requires accepted { IfOk published (λ writer. HasAccepted writer course.now.number course.now.unit course.now.count (2 * course.now.count)) }
+    requires accepted { IfOk published (λ writer. HasAccepted
+        writer course.now.number course.now.unit course.now.count (2 * course.now.count)) }
     requires advertised { IfOk published (λ writer. HasAdvertised writer course.now.count) }
-    requires follows { IfOk followed (λ client. FollowsOn client drill_kept (plan R.number R.unit R.count)) }
+    requires follows { IfOk followed
+        (λ client. FollowsOn client drill_kept (plan R.number R.unit R.count)) }
     ensures { IfOk result (λ client. IsAtEnd client drill_kept (plan R.number R.unit R.count)) }
 {
     match (published, served, followed) {
@@ -80,8 +82,8 @@ fn finish<J: Naming, R: DrillRun + Run, H: Wait + Drop>(
     }
 }
 
-// The client takes what it lacks. Values are dropped by calls, which are cheaper to prove than a drop
-// at each return.
+// The client takes what it lacks. Values are dropped by calls, which are cheaper to prove than a
+// drop at each return.
 fn finish_well<J: Naming, R: DrillRun + Run, H: Wait + Drop>(
     alloc: Global,
     course: &Course<R>,
@@ -89,7 +91,8 @@ fn finish_well<J: Naming, R: DrillRun + Run, H: Wait + Drop>(
     mut server: Server<J, R>,
     mut client: UnitClient,
 ) -> Result<UnitClient, OutOfMemory>
-    requires accepted { HasAccepted writer course.now.number course.now.unit course.now.count (2 * course.now.count) }
+    requires accepted { HasAccepted writer course.now.number course.now.unit course.now.count
+        (2 * course.now.count) }
     requires advertised { HasAdvertised writer course.now.count }
     requires follows { FollowsOn client drill_kept (plan R.number R.unit R.count) }
     ensures { IfOk result (λ client. IsAtEnd client drill_kept (plan R.number R.unit R.count)) }
@@ -136,7 +139,8 @@ fn run_parties<
             Result<UnitClient, OutOfMemory>,
             Result<Server<J, R>, OutOfMemory>,
         )
-            ensures { IfOk result.0 (λ client. FollowsOn client drill_kept (plan R.number R.unit R.count)) }
+            ensures { IfOk result.0
+                (λ client. FollowsOn client drill_kept (plan R.number R.unit R.count)) }
         { run_receivers(rt, alloc, gate, course, server, client, service) },
         move || publish(rt, alloc, gate, course, writer, publisher),
     );

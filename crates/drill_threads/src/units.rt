@@ -1,8 +1,10 @@
 //! The drill of all units.
 
-ghost use Rattle.std.specs.Prelude.{◌≡◌, ◌+◌, ◌≤◌, ◌<◌, ◌++◌, ℕ, IfOk, IfSome, OnOk, OnErr, slice_get};
+ghost use Rattle.std.specs.Prelude.{◌≡◌, ◌+◌, ◌≤◌, ◌<◌, ◌++◌, ℕ, IfOk, IfSome, OnOk, OnErr};
+ghost use Rattle.std.specs.Prelude.{slice_get};
 ghost use Rattle.std.specs.Option.{option_copied};
-ghost use Rattle.unit_threads.specs.DrillText.{most_drilled, most_drill_units, drill_line, drill_text};
+ghost use Rattle.unit_threads.specs.DrillText.{most_drilled, most_drill_units, drill_line};
+ghost use Rattle.unit_threads.specs.DrillText.{drill_text};
 
 use crate::unit::unit_text;
 use pitch_fields::OutOfMemory;
@@ -24,7 +26,8 @@ fn append_line(
     out: &mut Vec<u8>,
 ) -> Result<(), OutOfMemory>
     requires count { (1 ≤ count) × (count ≤ most_drilled) }
-    requires line { IfSome (option_copied line) (λ line. IfOk line (λ text. text.items ≡ drill_line number unit count)) }
+    requires line { IfSome (option_copied line)
+        (λ line. IfOk line (λ text. text.items ≡ drill_line number unit count)) }
     ensures { OnOk result (out.new.items ≡ out.old.items ++ drill_line number unit count) }
 {
     match line {
@@ -50,7 +53,8 @@ fn join_lines(
 ) -> Result<Vec<u8>, OutOfMemory>
     requires units { units ≤ most_drill_units }
     requires count { (1 ≤ count) × (count ≤ most_drilled) }
-    requires lines { (n : ℕ) → IfSome (slice_get lines.now n) (λ line. IfOk line (λ text. text.items ≡ drill_line number (n + 1) count)) }
+    requires lines { (n : ℕ) → IfSome (slice_get lines.now n)
+        (λ line. IfOk line (λ text. text.items ≡ drill_line number (n + 1) count)) }
     ensures { IfOk result (λ text. text.items ≡ drill_text number units count) }
 {
     let mut out = Vec::new(alloc);
@@ -72,7 +76,8 @@ fn run_units<W: Threads + Wait + Clock + Sync, G: Gate + Sync>(
 ) -> Vec<Result<Vec<u8>, OutOfMemory>>
     requires units { units ≤ most_drill_units }
     requires count { (1 ≤ count) × (count ≤ most_drilled) }
-    ensures { (n : ℕ) → IfSome (slice_get result.items n) (λ line. IfOk line (λ text. text.items ≡ drill_line number (n + 1) count)) }
+    ensures { (n : ℕ) → IfSome (slice_get result.items n)
+        (λ line. IfOk line (λ text. text.items ≡ drill_line number (n + 1) count)) }
 {
     let lines = map_indices(
         rt,
@@ -96,8 +101,8 @@ fn run_units<W: Threads + Wait + Clock + Sync, G: Gate + Sync>(
 ///
 /// The gate is called by each unit's publisher around each command, by its client around each
 /// datagram, and by its service around each ask. Where there is no place for a server a unit is
-/// played in turns, as by `drill_plain`, and the gate is not called. So is a unit whose threads want
-/// for memory, once the threads of all units have ended.
+/// played in turns, as by `drill_plain`, and the gate is not called. So is a unit whose threads
+/// want for memory, once the threads of all units have ended.
 ///
 /// A drill has 1 to 16 units and 1 to 100,000 commands. `out` is as before after OutOfMemory.
 pub fn drill<W: Threads + Wait + Clock + Sync, G: Gate + Sync>(

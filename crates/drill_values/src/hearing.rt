@@ -19,8 +19,9 @@ fn hear_piece<R: DrillRun>(
     client: &mut UnitClient,
     datagram: &Datagram<R>,
 ) -> Result<(), OutOfMemory>
-    ensures { OnOk result ((H : ℕ) (E : List Entry) → Follows client.old H (plan R.number R.unit R.count) E
-        → Follows client.new H (plan R.number R.unit R.count) (heard_blocks (blocks_of datagram.now) E)) }
+    ensures { OnOk result ((H : ℕ) (E : List Entry)
+        → Follows client.old H (plan R.number R.unit R.count) E → Follows client.new H
+        (plan R.number R.unit R.count) (heard_blocks (blocks_of datagram.now) E)) }
 {
     hear_datagram(client, datagram.bytes())?;
     Ok(())
@@ -37,8 +38,9 @@ fn hear_reached<R: DrillRun>(client: &mut UnitClient, reached: &Reached<R>)
 
 // The client hears an image of the run, whole.
 fn hear_whole<R: DrillRun>(client: &mut UnitClient, image: Image<R>) -> Result<(), OutOfMemory>
-    ensures { OnOk result ((H : ℕ) (E : List Entry) → Follows client.old H (plan R.number R.unit R.count) E
-        → Follows client.new H (plan R.number R.unit R.count) (imaged_whole image.sequence image.orders image.raws E)) }
+    ensures { OnOk result ((H : ℕ) (E : List Entry)
+        → Follows client.old H (plan R.number R.unit R.count) E → Follows client.new H
+        (plan R.number R.unit R.count) (imaged_whole image.sequence image.orders image.raws E)) }
 {
     let (sequence, orders, raws) = image.into_parts();
     hear_image(client, sequence, orders, raws)?;
@@ -48,8 +50,8 @@ fn hear_whole<R: DrillRun>(client: &mut UnitClient, image: Image<R>) -> Result<(
 /// The client hears a word of its publisher.
 pub fn hear_word<R: DrillRun>(client: &mut UnitClient, word: &Word<R>) -> Result<(), OutOfMemory>
     // It goes on following the run's messages.
-    ensures { OnOk result ((H : ℕ) (E : List Entry) → Follows client.old H (plan R.number R.unit R.count) E
-        → Follows client.new H (plan R.number R.unit R.count) (heard_word word.now E)) }
+    ensures { OnOk result ((H : ℕ) (E : List Entry) → Follows client.old H (plan R.number R.unit
+        R.count) E → Follows client.new H (plan R.number R.unit R.count) (heard_word word.now E)) }
 {
     match word {
         Word::Sent(datagram) => {
@@ -67,8 +69,8 @@ pub fn hear_word<R: DrillRun>(client: &mut UnitClient, word: &Word<R>) -> Result
 /// The client hears a word of its service.
 pub fn hear_reply<R: DrillRun>(client: &mut UnitClient, reply: Reply<R>) -> Result<(), OutOfMemory>
     // It goes on following the run's messages.
-    ensures { OnOk result ((H : ℕ) (E : List Entry) → Follows client.old H (plan R.number R.unit R.count) E
-        → Follows client.new H (plan R.number R.unit R.count) (heard_reply reply E)) }
+    ensures { OnOk result ((H : ℕ) (E : List Entry) → Follows client.old H (plan R.number R.unit
+        R.count) E → Follows client.new H (plan R.number R.unit R.count) (heard_reply reply E)) }
 {
     match reply {
         Reply::Gap { accepted } => {

@@ -27,7 +27,8 @@ impl<R: DrillRun> Model for Datagram<R> {
 
     ghost view = { λ d. arc_slice_items d.bytes };
 
-    ghost invariant = { λ d. IsPiece (plan R.number R.unit R.count) R.unit (arc_slice_items d.bytes) };
+    ghost invariant = { λ d. IsPiece
+        (plan R.number R.unit R.count) R.unit (arc_slice_items d.bytes) };
 }
 
 impl<R: DrillRun> Datagram<R> {
@@ -80,13 +81,15 @@ impl<R: DrillRun> Model for Image<R> {
 
     ghost view = { λ i. record { sequence = i.sequence; orders = i.orders; raws = i.raws.items } };
 
-    ghost invariant = { λ i. IsImageOf (plan R.number R.unit R.count) (record { sequence = i.sequence; orders = i.orders; raws = i.raws.items }) };
+    ghost invariant = { λ i. IsImageOf (plan R.number R.unit R.count)
+        (record { sequence = i.sequence; orders = i.orders; raws = i.raws.items }) };
 }
 
 impl<R: DrillRun> Image<R> {
     /// The image through a sequence, with the number of its orders.
     pub fn make(sequence: u32, orders: u32, raws: RawList) -> Image<R>
-        requires { IsImageOf (plan R.number R.unit R.count) (record { sequence = sequence; orders = orders; raws = raws.items }) }
+        requires { IsImageOf (plan R.number R.unit R.count)
+            (record { sequence = sequence; orders = orders; raws = raws.items }) }
         ensures { result ≡ record { sequence = sequence; orders = orders; raws = raws.items } }
     {
         Image {

@@ -1,5 +1,6 @@
 -- The printed book.
-use Rattle.std.specs.Prelude.{ℕ, Bool, List, [], ◌∷◌, ◌++◌, codes, decimal, Option, None, Some, if◌then◌else◌}
+use Rattle.std.specs.Prelude.{ℕ, Bool, List, [], ◌∷◌, ◌++◌, codes, decimal, Option, None, Some}
+use Rattle.std.specs.Prelude.{if◌then◌else◌}
 use Rattle.std.specs.List.{flat_map}
 use Rattle.std.specs.FinMap as map
 use Rattle.pitch_fields.specs.Side.{byte_of}
@@ -20,12 +21,14 @@ participant_text name = if is_blank name then [] else codes " mpid=" ++ name_sho
 
 -- the first half of an order's line
 abbrev pub order_head : ℕ → Order → List ℕ
-order_head id order = codes "order " ++ (decimal id ++ (32 ∷ byte_of order.side ∷ 32 ∷ (decimal order.quantity ++ 32 ∷ [])))
+order_head id order = codes "order "
+    ++ (decimal id ++ (32 ∷ byte_of order.side ∷ 32 ∷ (decimal order.quantity ++ 32 ∷ [])))
 
 -- and the second
 abbrev pub order_tail : Order → List ℕ
 order_tail order =
-    name_shown order.symbol ++ (32 ∷ [] ++ (price_digits order.price ++ (hidden_text order.display ++ (participant_text order.participant ++ 10 ∷ []))))
+    name_shown order.symbol ++ (32 ∷ [] ++ (price_digits order.price
+    ++ (hidden_text order.display ++ (participant_text order.participant ++ 10 ∷ []))))
 
 -- the line of an open order
 unfoldable pub order_line : ℕ → Order → List ℕ
@@ -38,20 +41,26 @@ second_text (Some second) = decimal second
 
 -- a unit, how far it reaches, and its second
 abbrev pub book_place : ℕ → ℕ → Option ℕ → List ℕ
-book_place unit n second = codes "book unit " ++ decimal unit ++ codes " at " ++ decimal n ++ codes " second " ++ second_text second
+book_place unit n second =
+    codes "book unit " ++ decimal unit
+    ++ codes " at " ++ decimal n ++ codes " second " ++ second_text second
 
 -- the line of a unit's book where the reach is n, with so many orders
 abbrev pub book_head : ℕ → ℕ → Option ℕ → ℕ → List ℕ
-book_head unit n second count = book_place unit n second ++ codes " orders " ++ decimal count ++ 10 ∷ []
+book_head unit n second count =
+    book_place unit n second ++ codes " orders " ++ decimal count ++ 10 ∷ []
 
 -- the line of a unit's book, and one for each order by rising id
 unfoldable pub book_orders : ℕ → ℕ → Book → List ℕ
-book_orders unit n book = book_head unit n book.second (map.len book.orders) ++ flat_map (λ e. order_line e.0 e.1) (map.entries book.orders)
+book_orders unit n book =
+    book_head unit n book.second (map.len book.orders)
+    ++ flat_map (λ e. order_line e.0 e.1) (map.entries book.orders)
 
 -- the line of a trading status; each of its bytes is shown as a symbol of one byte is
 unfoldable pub status_line : TradingState → List ℕ
 status_line state =
-    codes "status " ++ (name_shown state.symbol ++ (32 ∷ [] ++ (name_shown (state.halt ∷ []) ++ (32 ∷ [] ++ (name_shown (state.sho ∷ []) ++ 10 ∷ [])))))
+    codes "status " ++ (name_shown state.symbol ++ (32 ∷ []
+    ++ (name_shown (state.halt ∷ []) ++ (32 ∷ [] ++ (name_shown (state.sho ∷ []) ++ 10 ∷ [])))))
 
 -- the line of a unit's book, the lines of its orders, and one for each trading status by rising
 -- bytes of its symbol

@@ -9,4 +9,5 @@ texts_after text before (x ∷ xs) = text before x ++ texts_after text (x ∷ be
 -- how the line of block number k begins
 abbrev pub block_head : ℕ → ℕ → ℕ → ℕ → List ℕ
 block_head k unit first count =
-    codes "block " ++ decimal k ++ codes " unit " ++ decimal unit ++ codes " first " ++ decimal first ++ codes " count " ++ decimal count
+    codes "block " ++ decimal k ++ codes " unit "
+    ++ decimal unit ++ codes " first " ++ decimal first ++ codes " count " ++ decimal count

@@ -2,7 +2,8 @@
 
 ghost use Rattle.std.specs.Prelude.{◌≡◌, ◌≤◌, ◌+◌, ◌++◌, [], ◌∷◌, take, drop, length};
 ghost use Rattle.pitch_messages.specs.Raw.{IsRaw};
-ghost use Rattle.feed_lines.specs.Show.{number_field, head_text, price_text, flags_text, side_text, symbol_text, kind_text, extra_text, sequence_text};
+ghost use Rattle.feed_lines.specs.Show.{number_field, head_text, price_text, flags_text, side_text};
+ghost use Rattle.feed_lines.specs.Show.{symbol_text, kind_text, extra_text, sequence_text};
 ghost use Rattle.feed_lines.specs.Terms.{shown};
 
 use crate::terms::Terms;

@@ -2,7 +2,9 @@
 
 ghost use Rattle.std.specs.Prelude.{◌≡◌, ◌≤◌, ◌+◌, ◌++◌, [], ◌∷◌, take, drop, length};
 ghost use Rattle.feed_lines.specs.LineSize.{line_size};
-ghost use Rattle.feed_lines.specs.BookText.{hidden_text, participant_text, second_text, order_head, order_tail, order_line, status_line, book_place, book_head};
+ghost use Rattle.feed_lines.specs.BookText.{hidden_text, participant_text, second_text, order_head};
+ghost use Rattle.feed_lines.specs.BookText.{order_tail, order_line, status_line, book_place};
+ghost use Rattle.feed_lines.specs.BookText.{book_head};
 ghost use Rattle.feed_lines.specs.Follow.{block_line, overflow_text};
 ghost use Rattle.feed_lines.specs.Show.{shown_head};
 ghost use Rattle.feed_lines.specs.StatusText.{status_text};
@@ -20,7 +22,8 @@ pub const LINE: usize = 512;
 fn put_block_head(out: &mut [u8], at: usize, number: u64, header: Header) -> usize
     requires { at + 120 ≤ length out.old }
     ensures end { result ≤ at + 120 }
-    ensures text { take result out.new ≡ take at out.old ++ block_head number header.unit header.sequence header.count }
+    ensures text { take result out.new
+        ≡ take at out.old ++ block_head number header.unit header.sequence header.count }
     ensures rest { drop result out.new ≡ drop result out.old }
     ensures kept { length out.new ≡ length out.old }
 {
@@ -84,7 +87,8 @@ pub fn put_block_line(
 ) -> usize
     requires { at + line_size ≤ length out.old }
     ensures end { result ≤ at + line_size }
-    ensures text { take result out.new ≡ take at out.old ++ block_line number header.unit header.sequence header.count overflow status }
+    ensures text { take result out.new ≡ take at out.old
+        ++ block_line number header.unit header.sequence header.count overflow status }
     ensures rest { drop result out.new ≡ drop result out.old }
     ensures kept { length out.new ≡ length out.old }
 {
@@ -100,7 +104,8 @@ pub fn put_block_line(
 pub fn put_shown_head(out: &mut [u8], at: usize, number: u64, header: Header) -> usize
     requires { at + line_size ≤ length out.old }
     ensures end { result ≤ at + line_size }
-    ensures text { take result out.new ≡ take at out.old ++ shown_head number header.unit header.sequence header.count }
+    ensures text { take result out.new
+        ≡ take at out.old ++ shown_head number header.unit header.sequence header.count }
     ensures rest { drop result out.new ≡ drop result out.old }
     ensures kept { length out.new ≡ length out.old }
 {

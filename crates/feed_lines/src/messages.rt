@@ -1,12 +1,17 @@
 //! Lines of messages, field by field.
 
-ghost use Rattle.std.specs.Prelude.{◌≡◌, ◌≤◌, ◌<◌, ◌+◌, ◌++◌, take, drop, length, codes, Result, Err, IsTrue};
+ghost use Rattle.std.specs.Prelude.{◌≡◌, ◌≤◌, ◌<◌, ◌+◌, ◌++◌, take, drop, length, codes, Result};
+ghost use Rattle.std.specs.Prelude.{Err, IsTrue};
 ghost use Rattle.pitch_fields.specs.Limits.{last_sequence};
 ghost use Rattle.pitch_fields.specs.Name.{name_shown};
 ghost use Rattle.pitch_messages.specs.Raw.{IsRaw, kind_of};
 ghost use Rattle.pitch_messages.specs.Reading.{reads};
 ghost use Rattle.feed_lines.specs.LineSize.{line_size};
-ghost use Rattle.feed_lines.specs.Show.{number_field, kind_text, price_text, flags_text, add_text, trade_text, reduce_text, modify_text, executed_text, symbol_text, named_byte, status_fields, message_text, short_text, bad_side_text, said_text, message_line, next_after};
+ghost use Rattle.feed_lines.specs.Show.{number_field, kind_text, price_text, flags_text, add_text};
+ghost use Rattle.feed_lines.specs.Show.{trade_text, reduce_text, modify_text, executed_text};
+ghost use Rattle.feed_lines.specs.Show.{symbol_text, named_byte, status_fields, message_text};
+ghost use Rattle.feed_lines.specs.Show.{short_text, bad_side_text, said_text, message_line};
+ghost use Rattle.feed_lines.specs.Show.{next_after};
 ghost use Rattle.feed_lines.specs.Terms.{shown, has_terms};
 
 use crate::fields::{
@@ -30,7 +35,8 @@ fn put_add(
 ) -> usize
     requires { at + length name.now + 189 ≤ length out.old }
     ensures end { result ≤ at + length name.now + 189 }
-    ensures text { take result out.new ≡ take at out.old ++ add_text name.now offset id (shown terms) flags }
+    ensures text { take result out.new
+        ≡ take at out.old ++ add_text name.now offset id (shown terms) flags }
     ensures rest { drop result out.new ≡ drop result out.old }
     ensures kept { length out.new ≡ length out.old }
 {
@@ -51,7 +57,8 @@ fn put_trade(
 ) -> usize
     requires { at + length name.now + 211 ≤ length out.old }
     ensures end { result ≤ at + length name.now + 211 }
-    ensures text { take result out.new ≡ take at out.old ++ trade_text name.now offset id (shown terms) execution }
+    ensures text { take result out.new
+        ≡ take at out.old ++ trade_text name.now offset id (shown terms) execution }
     ensures rest { drop result out.new ≡ drop result out.old }
     ensures kept { length out.new ≡ length out.old }
 {
@@ -64,7 +71,8 @@ fn put_trade(
 fn put_reduce(out: &mut [u8], at: usize, name: &[u8], offset: u32, id: u64, quantity: u32) -> usize
     requires { at + length name.now + 90 ≤ length out.old }
     ensures end { result ≤ at + length name.now + 90 }
-    ensures text { take result out.new ≡ take at out.old ++ reduce_text name.now offset id quantity }
+    ensures text { take result out.new
+        ≡ take at out.old ++ reduce_text name.now offset id quantity }
     ensures rest { drop result out.new ≡ drop result out.old }
     ensures kept { length out.new ≡ length out.old }
 {
@@ -96,7 +104,8 @@ fn put_executed(
 ) -> usize
     requires { at + length name.now + 90 ≤ length out.old }
     ensures end { result ≤ at + length name.now + 90 }
-    ensures text { take result out.new ≡ take at out.old ++ executed_text name.now offset id executed }
+    ensures text { take result out.new
+        ≡ take at out.old ++ executed_text name.now offset id executed }
     ensures rest { drop result out.new ≡ drop result out.old }
     ensures kept { length out.new ≡ length out.old }
 {
@@ -109,7 +118,8 @@ fn put_executed(
 fn put_remaining(out: &mut [u8], at: usize, remaining: u32, execution: u64, price: Price) -> usize
     requires { at + 93 ≤ length out.old }
     ensures end { result ≤ at + 93 }
-    ensures text { take result out.new ≡ take at out.old ++ (number_field (codes " remaining=") remaining ++ (number_field (codes " execution=") execution ++ price_text price)) }
+    ensures text { take result out.new ≡ take at out.old ++ (number_field (codes " remaining=")
+        remaining ++ (number_field (codes " execution=") execution ++ price_text price)) }
     ensures rest { drop result out.new ≡ drop result out.old }
     ensures kept { length out.new ≡ length out.old }
 {
@@ -122,7 +132,8 @@ fn put_remaining(out: &mut [u8], at: usize, remaining: u32, execution: u64, pric
 fn put_participant(out: &mut [u8], at: usize, participant: [u8; 4]) -> usize
     requires { at + 45 ≤ length out.old }
     ensures end { result ≤ at + 45 }
-    ensures text { take result out.new ≡ take at out.old ++ (codes " participant=" ++ name_shown participant) }
+    ensures text { take result out.new
+        ≡ take at out.old ++ (codes " participant=" ++ name_shown participant) }
     ensures rest { drop result out.new ≡ drop result out.old }
     ensures kept { length out.new ≡ length out.old }
 {
@@ -134,7 +145,8 @@ fn put_participant(out: &mut [u8], at: usize, participant: [u8; 4]) -> usize
 fn put_trade_break(out: &mut [u8], at: usize, offset: u32, execution: u64) -> usize
     requires { at + 70 ≤ length out.old }
     ensures end { result ≤ at + 70 }
-    ensures text { take result out.new ≡ take at out.old ++ (number_field (codes "trade-break offset=") offset ++ number_field (codes " execution=") execution) }
+    ensures text { take result out.new ≡ take at out.old ++ (number_field
+        (codes "trade-break offset=") offset ++ number_field (codes " execution=") execution) }
     ensures rest { drop result out.new ≡ drop result out.old }
     ensures kept { length out.new ≡ length out.old }
 {
@@ -147,7 +159,8 @@ fn put_other(out: &mut [u8], at: usize, raw: &[u8]) -> usize
     requires place { at + 41 ≤ length out.old }
     requires raw { IsRaw raw.now }
     ensures end { result ≤ at + 41 }
-    ensures text { take result out.new ≡ take at out.old ++ (codes "other" ++ (kind_text raw.now ++ number_field (codes " length=") (length raw.now))) }
+    ensures text { take result out.new ≡ take at out.old ++ (codes "other"
+        ++ (kind_text raw.now ++ number_field (codes " length=") (length raw.now))) }
     ensures rest { drop result out.new ≡ drop result out.old }
     ensures kept { length out.new ≡ length out.old }
 {
@@ -269,7 +282,8 @@ fn put_trading_status(
 ) -> usize
     requires { at + 200 ≤ length out.old }
     ensures end { result ≤ at + 200 }
-    ensures text { take result out.new ≡ take at out.old ++ (number_field (codes "trading-status offset=") offset ++ (symbol_text symbol ++ status_fields halt sho)) }
+    ensures text { take result out.new ≡ take at out.old ++ (number_field
+        (codes "trading-status offset=") offset ++ (symbol_text symbol ++ status_fields halt sho)) }
     ensures rest { drop result out.new ≡ drop result out.old }
     ensures kept { length out.new ≡ length out.old }
 {

@@ -16,7 +16,12 @@ impl Terms {
     /// The terms in a long form.
     #[inline(always)]
     pub fn of_long(side: Side, quantity: u32, symbol: [u8; 6], price: u64) -> Terms
-        ensures { result ≡ record { side = side; quantity = quantity; symbol = long_symbol symbol; price = price } }
+        ensures { result ≡ record {
+          side = side;
+          quantity = quantity;
+          symbol = long_symbol symbol;
+          price = price;
+        } }
     {
         Terms {
             side,
@@ -29,7 +34,12 @@ impl Terms {
     /// The terms in a short form.
     #[inline(always)]
     pub fn of_short(side: Side, quantity: u16, symbol: [u8; 6], price: u16) -> Terms
-        ensures { result ≡ record { side = side; quantity = quantity; symbol = long_symbol symbol; price = long_price price } }
+        ensures { result ≡ record {
+          side = side;
+          quantity = quantity;
+          symbol = long_symbol symbol;
+          price = long_price price;
+        } }
     {
         Terms {
             side,

@@ -35,22 +35,25 @@ pub trait GapLookup {
         requires count { 1 ≤ count }
         // Of every view that it shows before: the answer is right at a view that it shows after,
         // which is no earlier.
-        ensures found { IfOk result (λ found. (v : View) → shows self.old v → LooksAt (shows self.new) v first count found out.old.items out.new.items) }
+        ensures found { IfOk result (λ found. (v : View) → shows self.old v
+            → LooksAt (shows self.new) v first count found out.old.items out.new.items) }
         // A range ends at the last sequence that a message can have.
-        ensures within { OnOk result (first + length out.new.items ≤ (last_sequence + 1) + length out.old.items) }
+        ensures within { OnOk result
+            (first + length out.new.items ≤ (last_sequence + 1) + length out.old.items) }
         ensures err { OnErr result (out.new.items ≡ out.old.items) }
         ensures same { still ≡ true → self.new ≡ self.old }
         // Of every view that it showed before: without memory it shows the same.
         ensures shown { OnErr result ((v : View) → shows self.old v → shows self.new v) };
 
-    /// Looks for `count` messages from the sequence `first` on, and hands out none. Both numbers are
-    /// at least 1. The answer is that of what is to be seen after the call.
+    /// Looks for `count` messages from the sequence `first` on, and hands out none. Both numbers
+    /// are at least 1. The answer is that of what is to be seen after the call.
     fn find(&mut self, first: u32, count: u16) -> Result<Found, OutOfMemory>
         requires first { 1 ≤ first }
         requires count { 1 ≤ count }
         // Of every view that it shows before: the answer is right at a view that it shows after,
         // which is no earlier.
-        ensures found { IfOk result (λ found. (v : View) → shows self.old v → FindsAt (shows self.new) v first count found) }
+        ensures found { IfOk result (λ found. (v : View)
+            → shows self.old v → FindsAt (shows self.new) v first count found) }
         ensures same { still ≡ true → self.new ≡ self.old }
         // Of every view that it showed before: without memory it shows the same.
         ensures shown { OnErr result ((v : View) → shows self.old v → shows self.new v) };
@@ -70,7 +73,8 @@ pub trait GapLookup {
         requires count { 1 ≤ count }
         // Of every view that it shows before: the answer is right at a view that it shows after,
         // which is no earlier, and the packing of the range there was appended.
-        ensures found { IfOk result (λ found. (v : View) → shows self.old v → PacksAt (shows self.new) v unit first count found (bytes_in out.old.items) (bytes_in out.new.items)) }
+        ensures found { IfOk result (λ found. (v : View) → shows self.old v → PacksAt (shows
+            self.new) v unit first count found (bytes_in out.old.items) (bytes_in out.new.items)) }
         ensures err { OnErr result (out.new.items ≡ out.old.items) }
         ensures same { still ≡ true → self.new ≡ self.old }
         // Of every view that it showed before: without memory it shows the same.

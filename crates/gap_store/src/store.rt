@@ -1,10 +1,12 @@
-ghost use Rattle.std.specs.Prelude.{◌≡◌, ℕ, ◌+◌, ◌-◌, ◌≤◌, ◌<◌, List, [], ◌∷◌, ◌++◌, true, OnOk, OnErr, IfOk, length, take, drop};
+ghost use Rattle.std.specs.Prelude.{◌≡◌, ℕ, ◌+◌, ◌-◌, ◌≤◌, ◌<◌, List, [], ◌∷◌, ◌++◌, true, OnOk};
+ghost use Rattle.std.specs.Prelude.{OnErr, IfOk, length, take, drop};
 ghost use Rattle.pitch_fields.specs.Limits.{last_sequence, most_held};
 ghost use Rattle.unit_packets.specs.Blocks.{StaysWithin};
 ghost use Rattle.unit_packets.specs.Packing.{bytes_in};
 ghost use Rattle.unit_packets.specs.Pushing.{unpacked};
 ghost use Rattle.gap_store.specs.declared.found.Found.TheVariants.{Kept};
-ghost use Rattle.gap_store.specs.Look.{View, LooksAt, FindsAt, PacksAt, PacksRange, AnswersLook, AnswersPack, Store, store_of, look, first_kept};
+ghost use Rattle.gap_store.specs.Look.{View, LooksAt, FindsAt, PacksAt, PacksRange, AnswersLook};
+ghost use Rattle.gap_store.specs.Look.{AnswersPack, Store, store_of, look, first_kept};
 
 use crate::found::{Found, GapLookup};
 use circular_buffer::HeapCircularBuffer;
@@ -30,7 +32,8 @@ impl Model for GapStore {
 
     ghost view = { λ s. record { items = s.ring.items; room = s.ring.capacity; pushed = s.pushed } };
 
-    ghost invariant = { λ s. (length s.ring.items ≡ min s.pushed s.ring.capacity) × (1 ≤ s.ring.capacity) × (s.pushed ≤ last_sequence) };
+    ghost invariant = { λ s. (length s.ring.items ≡ min s.pushed s.ring.capacity)
+        × (1 ≤ s.ring.capacity) × (s.pushed ≤ last_sequence) };
 }
 
 // Appends so many messages of the ring from a place on. The list is as before after OutOfMemory.
@@ -74,7 +77,8 @@ fn pack_out(
     requires there { at + count ≤ length ring.now.items }
     requires within { StaysWithin packer.sequence count }
     requires begins { packer ≡ unpacked packer.unit packer.sequence }
-    ensures ok { OnOk result (PacksRange packer.unit packer.sequence (take count (drop at ring.now.items)) (bytes_in out.old.items) (bytes_in out.new.items)) }
+    ensures ok { OnOk result (PacksRange packer.unit packer.sequence
+        (take count (drop at ring.now.items)) (bytes_in out.old.items) (bytes_in out.new.items)) }
     ensures err { OnErr result (out.new.items ≡ out.old.items) }
 {
     let before = out.len();
@@ -124,7 +128,8 @@ impl GapStore {
         requires { self.old.pushed < last_sequence }
         // Of all messages of which the store kept the last: it keeps the last of them with this
         // one.
-        ensures { (v : View) → self.old ≡ store_of v → self.new ≡ store_of (record { messages = v.messages ++ raw.now ∷ []; kept = v.kept }) }
+        ensures { (v : View) → self.old ≡ store_of v → self.new
+            ≡ store_of (record { messages = v.messages ++ raw.now ∷ []; kept = v.kept }) }
     {
         let _ = self.ring.push_back(raw.copy());
         self.pushed += 1;
@@ -144,7 +149,8 @@ impl GapStore {
         requires count { 1 ≤ count }
         // Of all messages of which the store keeps the last.
         ensures found { (v : View) → self.now ≡ store_of v → result ≡ look v first count }
-        ensures kept { result ≡ Kept → (self.now.pushed - length self.now.items + 1 ≤ first) × (first + count - 1 ≤ self.now.pushed) }
+        ensures kept { result ≡ Kept → (self.now.pushed - length self.now.items + 1 ≤ first)
+            × (first + count - 1 ≤ self.now.pushed) }
     {
         let last = first as u64 + count as u64 - 1;
         if last > self.pushed as u64 {
@@ -191,9 +197,11 @@ impl GapStore {
         requires first { 1 ≤ first }
         requires count { 1 ≤ count }
         // Of all messages of which the store keeps the last.
-        ensures found { IfOk result (λ found. (v : View) → self.now ≡ store_of v → AnswersLook v first count found out.old.items out.new.items) }
+        ensures found { IfOk result (λ found. (v : View)
+            → self.now ≡ store_of v → AnswersLook v first count found out.old.items out.new.items) }
         // A range ends at the last sequence that a message can have.
-        ensures within { OnOk result (first + length out.new.items ≤ (last_sequence + 1) + length out.old.items) }
+        ensures within { OnOk result
+            (first + length out.new.items ≤ (last_sequence + 1) + length out.old.items) }
         ensures err { OnErr result (out.new.items ≡ out.old.items) }
     {
         match self.found(first, count) {
@@ -219,7 +227,8 @@ impl GapStore {
         requires first { 1 ≤ first }
         requires count { 1 ≤ count }
         // Of all messages of which the store keeps the last.
-        ensures found { IfOk result (λ found. (v : View) → self.now ≡ store_of v → AnswersPack v unit first count found (bytes_in out.old.items) (bytes_in out.new.items)) }
+        ensures found { IfOk result (λ found. (v : View) → self.now ≡ store_of v → AnswersPack
+            v unit first count found (bytes_in out.old.items) (bytes_in out.new.items)) }
         ensures err { OnErr result (out.new.items ≡ out.old.items) }
     {
         match self.found(first, count) {

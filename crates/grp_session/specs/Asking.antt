@@ -1,6 +1,7 @@
 -- How a gap request is answered ("Gap Response Message"; the order of the statuses and the limits
 -- are this project's own).
-use Rattle.std.specs.Prelude.{◌≡◌, ℕ, Bool, not, ◌||◌, ◌==◌, ◌+◌, ◌-◌, ◌≤◌, nat_lt, List, [], ◌++◌, length, take, drop, unwrap_or, if◌then◌else◌}
+use Rattle.std.specs.Prelude.{◌≡◌, ℕ, Bool, not, ◌||◌, ◌==◌, ◌+◌, ◌-◌, ◌≤◌, nat_lt, List, [], ◌++◌}
+use Rattle.std.specs.Prelude.{length, take, drop, unwrap_or, if◌then◌else◌}
 use Rattle.std.specs.List.{flat_map, AllByRecursion}
 use Rattle.unit_packets.specs.Packing.{IsPacking, packed}
 use Rattle.gap_store.specs.Look.{View, IsLater, look, slice_of}
@@ -26,18 +27,22 @@ status_here there l view spent sequence count =
 
 -- the same of any unit: `I` where it is another
 abbrev pub gap_status : Bool → Bool → Limits → View → Spent → ℕ → ℕ → ℕ
-gap_status mine there l view spent sequence count = if mine then status_here there l view spent sequence count else 73
+gap_status mine there l view spent sequence count =
+    if mine then status_here there l view spent sequence count else 73
 
 -- what goes on the gap line: the range, packed from its first sequence on, where it is accepted
 abbrev pub datagrams_of : ℕ → ℕ → View → ℕ → ℕ → List (List ℕ)
-datagrams_of status unit view sequence count = if status == 65 then packed unit sequence (slice_of view sequence count) else []
+datagrams_of status unit view sequence count =
+    if status == 65 then packed unit sequence (slice_of view sequence count) else []
 
 -- only what is accepted counts
 abbrev pub spent_after : ℕ → Spent → Spent
 spent_after status spent = if status == 65 then spending spent else spent
 
 -- a request of the unit was answered at a view that is not before that of the call
-pub record IsAsked (unit : ℕ) (there : Bool) (l : Limits) (sequence count : ℕ) (spent : Spent) (view : View) (status : ℕ) (counted : Spent → Type 0) (shown : View → Type 0) (before after : List (List ℕ)) : Type 0 where
+pub record IsAsked (unit : ℕ)
+    (there : Bool) (l : Limits) (sequence count : ℕ) (spent : Spent) (view : View) (status : ℕ)
+    (counted : Spent → Type 0) (shown : View → Type 0) (before after : List (List ℕ)) : Type 0 where
   pub now : View
   pub later : IsLater view now
   pub shows : shown now

@@ -1,5 +1,6 @@
 -- How many requests are accepted (all of this is this project's own).
-use Rattle.std.specs.Prelude.{◌≡◌, ℕ, ◌+◌, ◌/◌, ◌%◌, ◌≤◌, ◌==◌, nat_le, List, suc, [], ◌∷◌, length, Bool, Option, None, Some, if◌then◌else◌}
+use Rattle.std.specs.Prelude.{◌≡◌, ℕ, ◌+◌, ◌/◌, ◌%◌, ◌≤◌, ◌==◌, nat_le, List, suc, [], ◌∷◌, length}
+use Rattle.std.specs.Prelude.{Bool, Option, None, Some, if◌then◌else◌}
 use Rattle.std.specs.List.{AllByRecursion}
 
 -- how many pass the test

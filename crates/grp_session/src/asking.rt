@@ -32,10 +32,13 @@ pub(crate) fn ask<L: GapLookup>(
 ) -> Result<u8, OutOfMemory>
     ensures same { L.still ≡ true → lookup.new ≡ lookup.old }
     // Of every view that the source shows before.
-    ensures left { (view : View) → L.shows lookup.old view → ShowsLater IsLater (L.shows lookup.new) view }
+    ensures left { (view : View)
+        → L.shows lookup.old view → ShowsLater IsLater (L.shows lookup.new) view }
     // Of what was spent, and of every view that the source shows before.
-    ensures asked { IfOk result (λ status. (spent : Spent) (view : View) → Counted budget.old spent → L.shows lookup.old view
-        → IsAsked range.unit there budget.old.limits range.first range.count spent view status (Counted budget.new) (L.shows lookup.new) (bytes_in gap_line.old.items) (bytes_in gap_line.new.items)) }
+    ensures asked { IfOk result (λ status. (spent : Spent) (view : View)
+        → Counted budget.old spent → L.shows lookup.old view → IsAsked range.unit
+        there budget.old.limits range.first range.count spent view status (Counted budget.new)
+        (L.shows lookup.new) (bytes_in gap_line.old.items) (bytes_in gap_line.new.items)) }
     ensures limits { budget.new.limits ≡ budget.old.limits }
 {
     if !there {

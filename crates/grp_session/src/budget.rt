@@ -25,7 +25,17 @@ impl Model for GapBudget {
 
     ghost Value = { Counts };
 
-    ghost view = { λ b. record { limits = record { second = b.second_limit; minute = b.minute_limit; day = b.day_limit }; phase = b.phase; second = b.second; minute = b.minute; day = b.day } };
+    ghost view = { λ b. record {
+      limits = record {
+        second = b.second_limit;
+        minute = b.minute_limit;
+        day = b.day_limit;
+      };
+      phase = b.phase;
+      second = b.second;
+      minute = b.minute;
+      day = b.day;
+    } };
 
     ghost invariant = { λ b. b.phase < 60 };
 }
@@ -65,8 +75,10 @@ impl GapBudget {
     // The status that says why no request is accepted now: `D`, `M` or `S`.
     pub(crate) fn limit_reached(&self) -> Option<u8>
         // Of the ticks at which requests were accepted.
-        ensures reached { (s : Spent) → Counted self.now s → result ≡ limit_reached self.now.limits s }
-        ensures room { IsNone result → (self.now.second < self.now.limits.second) × (self.now.minute < self.now.limits.minute) × (self.now.day < self.now.limits.day) }
+        ensures reached { (s : Spent)
+            → Counted self.now s → result ≡ limit_reached self.now.limits s }
+        ensures room { IsNone result → (self.now.second < self.now.limits.second)
+            × (self.now.minute < self.now.limits.minute) × (self.now.day < self.now.limits.day) }
     {
         if self.day >= self.day_limit {
             return Some(b'D');

@@ -1,4 +1,5 @@
-ghost use Rattle.std.specs.Prelude.{◌≡◌, ℕ, ◌||◌, Bool, true, false, List, [], ◌∷◌, ◌++◌, ◌+◌, length, OnOk, OnErr, IsOk, IfOk, IfSome, None, Some, is_some};
+ghost use Rattle.std.specs.Prelude.{◌≡◌, ℕ, ◌||◌, Bool, true, false, List, [], ◌∷◌, ◌++◌, ◌+◌};
+ghost use Rattle.std.specs.Prelude.{length, OnOk, OnErr, IsOk, IfOk, IfSome, None, Some, is_some};
 ghost use Rattle.std.specs.List.{list_any};
 ghost use Rattle.unit_packets.specs.Packing.{bytes_in};
 ghost use Rattle.unit_packets.specs.Causes.{counted};
@@ -15,7 +16,8 @@ ghost use Rattle.session_ends.specs.Sending.{sent_bytes, sent_at_tick};
 ghost use Rattle.session_ends.specs.Showing.{ShowsLater};
 ghost use Rattle.grp_session.specs.Budget.{Spent, Counted};
 ghost use Rattle.grp_session.specs.Lent.{OnLent, OnNone, Left};
-ghost use Rattle.grp_session.specs.Serving.{Source, request_answer, message_answer, said_answer, grp_answer, grp_sends, ProxyStands, ProxyFeeds};
+ghost use Rattle.grp_session.specs.Serving.{Source, request_answer, message_answer, said_answer};
+ghost use Rattle.grp_session.specs.Serving.{grp_answer, grp_sends, ProxyStands, ProxyFeeds};
 
 use crate::asking::{GapRange, ask};
 use crate::budget::GapBudget;
@@ -80,7 +82,8 @@ fn append_said(
     gap_line: &mut DatagramList,
 ) -> Result<(), OutOfMemory>
     ensures reply { OnOk result (reply.new.items ≡ reply.old.items ++ said.now) }
-    ensures lines { OnOk result (bytes_in gap_line.new.items ≡ bytes_in gap_line.old.items ++ bytes_in lines.items) }
+    ensures lines { OnOk result
+        (bytes_in gap_line.new.items ≡ bytes_in gap_line.old.items ++ bytes_in lines.items) }
     ensures same_reply { OnErr result (reply.new.items ≡ reply.old.items) }
     ensures same_lines { OnErr result (gap_line.new.items ≡ gap_line.old.items) }
 {
@@ -101,7 +104,8 @@ impl GrpServer {
     pub fn make(alloc: Global, unit: u8, accounts: Vec<Account>, in_use: bool) -> GrpServer
         // Nothing happened to it.
         ensures stands { ProxyStands result [] }
-        ensures setup { result.setup ≡ record { role = GrpRole; unit = unit; accounts = accounts.items; in_use = in_use } }
+        ensures setup { result.setup
+            ≡ record { role = GrpRole; unit = unit; accounts = accounts.items; in_use = in_use } }
     {
         GrpServer {
             alloc,
@@ -113,7 +117,8 @@ impl GrpServer {
     pub fn closed(&self) -> Option<Closed>
         ensures kept { result ≡ self.now.closed }
         // Of all that happened to it: the first cause that closes it.
-        ensures cause { (es : List (Event Source)) → ProxyStands self.now es → result ≡ closed_of self.now.setup es }
+        ensures cause { (es : List (Event Source))
+            → ProxyStands self.now es → result ≡ closed_of self.now.setup es }
     {
         self.end.closed()
     }
@@ -131,7 +136,8 @@ impl GrpServer {
         status: u8,
         reply: &mut Vec<u8>,
     ) -> Result<(), OutOfMemory>
-        ensures { OnOk result (reply.new.items ≡ reply.old.items ++ sent_bytes self.now.setup (GapReply range.unit range.first range.count status)) }
+        ensures { OnOk result (reply.new.items ≡ reply.old.items
+            ++ sent_bytes self.now.setup (GapReply range.unit range.first range.count status)) }
     {
         self.end.put(
             &SessionMessage::GapReply {
@@ -155,11 +161,14 @@ impl GrpServer {
         gap_line: &mut DatagramList,
     ) -> Result<(), OutOfMemory>
         ensures same { L.still ≡ true → lookup.new ≡ lookup.old }
-        ensures left { (view : View) → L.shows lookup.old view → ShowsLater IsLater (L.shows lookup.new) view }
+        ensures left { (view : View)
+            → L.shows lookup.old view → ShowsLater IsLater (L.shows lookup.new) view }
         ensures limits { budget.new.limits ≡ budget.old.limits }
-        ensures hears { OnOk result ((spent : Spent) (view : View) → Counted budget.old spent → L.shows lookup.old view
-            → Hears (λ v. request_answer self.now.setup there budget.old.limits v spent range.unit range.first range.count) IsLater view (Counted budget.new) (L.shows lookup.new)
-            reply.old.items reply.new.items (bytes_in gap_line.old.items) (bytes_in gap_line.new.items)) }
+        ensures hears { OnOk result ((spent : Spent) (view : View) → Counted budget.old spent
+            → L.shows lookup.old view → Hears (λ v. request_answer self.now.setup
+            there budget.old.limits v spent range.unit range.first range.count) IsLater view
+            (Counted budget.new) (L.shows lookup.new) reply.old.items reply.new.items
+            (bytes_in gap_line.old.items) (bytes_in gap_line.new.items)) }
     {
         if range.unit != self.end.unit() {
             self.put_status(range, b'I', reply)?;
@@ -181,11 +190,14 @@ impl GrpServer {
         gap_line: &mut DatagramList,
     ) -> Result<(), OutOfMemory>
         ensures same { L.still ≡ true → lookup.new ≡ lookup.old }
-        ensures left { (view : View) → L.shows lookup.old view → ShowsLater IsLater (L.shows lookup.new) view }
+        ensures left { (view : View)
+            → L.shows lookup.old view → ShowsLater IsLater (L.shows lookup.new) view }
         ensures limits { budget.new.limits ≡ budget.old.limits }
-        ensures hears { OnOk result ((spent : Spent) (view : View) → Counted budget.old spent → L.shows lookup.old view
-            → Hears (λ v. message_answer self.now.setup there budget.old.limits self.now.logged spent v message.now) IsLater view (Counted budget.new) (L.shows lookup.new)
-            reply.old.items reply.new.items (bytes_in gap_line.old.items) (bytes_in gap_line.new.items)) }
+        ensures hears { OnOk result ((spent : Spent) (view : View)
+            → Counted budget.old spent → L.shows lookup.old view → Hears (λ v. message_answer
+            self.now.setup there budget.old.limits self.now.logged spent v message.now) IsLater view
+            (Counted budget.new) (L.shows lookup.new) reply.old.items reply.new.items
+            (bytes_in gap_line.old.items) (bytes_in gap_line.new.items)) }
     {
         match message {
             SessionMessage::Login {
@@ -232,11 +244,14 @@ impl GrpServer {
         gap_line: &mut DatagramList,
     ) -> Result<(), OutOfMemory>
         ensures same { L.still ≡ true → lookup.new ≡ lookup.old }
-        ensures left { (view : View) → L.shows lookup.old view → ShowsLater IsLater (L.shows lookup.new) view }
+        ensures left { (view : View)
+            → L.shows lookup.old view → ShowsLater IsLater (L.shows lookup.new) view }
         ensures limits { budget.new.limits ≡ budget.old.limits }
-        ensures hears { OnOk result ((spent : Spent) (view : View) → Counted budget.old spent → L.shows lookup.old view
-            → Hears (λ v. said_answer self.now.setup there budget.old.limits self.now.logged spent v said.now) IsLater view (Counted budget.new) (L.shows lookup.new)
-            reply.old.items reply.new.items (bytes_in gap_line.old.items) (bytes_in gap_line.new.items)) }
+        ensures hears { OnOk result
+            ((spent : Spent) (view : View) → Counted budget.old spent → L.shows lookup.old view
+            → Hears (λ v. said_answer self.now.setup there budget.old.limits self.now.logged
+            spent v said.now) IsLater view (Counted budget.new) (L.shows lookup.new) reply.old.items
+            reply.new.items (bytes_in gap_line.old.items) (bytes_in gap_line.new.items)) }
     {
         match said {
             Said::Message(message) => {
@@ -260,14 +275,19 @@ impl GrpServer {
     ) -> Result<(), OutOfMemory>
         requires { self.old.closed ≡ None }
         ensures same { L.still ≡ true → lookup.new ≡ lookup.old }
-        ensures left { (view : View) → L.shows lookup.old view → ShowsLater IsLater (L.shows lookup.new) view }
-        ensures closed { OnOk result (self.new.closed ≡ cause_of self.old.setup self.old.logged item.now) }
-        ensures logged { OnOk result (self.new.logged ≡ (self.old.logged || logs_in self.old.setup.role item.now)) }
+        ensures left { (view : View)
+            → L.shows lookup.old view → ShowsLater IsLater (L.shows lookup.new) view }
+        ensures closed { OnOk result
+            (self.new.closed ≡ cause_of self.old.setup self.old.logged item.now) }
+        ensures logged { OnOk result
+            (self.new.logged ≡ (self.old.logged || logs_in self.old.setup.role item.now)) }
         ensures rest { self.new ≡ record self.old { closed = self.new.closed; logged = self.new.logged } }
         ensures limits { budget.new.limits ≡ budget.old.limits }
-        ensures hears { OnOk result ((spent : Spent) (view : View) → Counted budget.old spent → L.shows lookup.old view
-            → Hears (λ v. grp_answer self.old.setup there budget.old.limits self.old.logged spent v item.now) IsLater view (Counted budget.new) (L.shows lookup.new)
-            reply.old.items reply.new.items (bytes_in gap_line.old.items) (bytes_in gap_line.new.items)) }
+        ensures hears { OnOk result
+            ((spent : Spent) (view : View) → Counted budget.old spent → L.shows lookup.old view
+            → Hears (λ v. grp_answer self.old.setup there budget.old.limits self.old.logged
+            spent v item.now) IsLater view (Counted budget.new) (L.shows lookup.new) reply.old.items
+            reply.new.items (bytes_in gap_line.old.items) (bytes_in gap_line.new.items)) }
     {
         let said = self.end.said(item);
         self.answer(there, &said, budget, lookup, reply, gap_line)?;
@@ -288,15 +308,20 @@ impl GrpServer {
     ) -> Result<usize, OutOfMemory>
         requires { self.old.closed ≡ None }
         ensures same { L.still ≡ true → lookup.new ≡ lookup.old }
-        ensures left { (view : View) → L.shows lookup.old view → ShowsLater IsLater (L.shows lookup.new) view }
+        ensures left { (view : View)
+            → L.shows lookup.old view → ShowsLater IsLater (L.shows lookup.new) view }
         ensures through { IfOk result (λ count. IsThrough reader.now.rest count) }
-        ensures closed { OnOk result (self.new.closed ≡ first_cause self.old.setup self.old.logged (reader_items reader.now)) }
-        ensures logged { OnOk result (self.new.closed ≡ None → self.new.logged ≡ (self.old.logged || list_any (logs_in self.old.setup.role) (reader_items reader.now))) }
+        ensures closed { OnOk result (self.new.closed ≡ first_cause self.old.setup self.old.logged
+            (reader_items reader.now)) }
+        ensures logged { OnOk result (self.new.closed ≡ None → self.new.logged ≡ (self.old.logged
+            || list_any (logs_in self.old.setup.role) (reader_items reader.now))) }
         ensures rest { self.new ≡ record self.old { closed = self.new.closed; logged = self.new.logged } }
         ensures limits { budget.new.limits ≡ budget.old.limits }
-        ensures hears { OnOk result ((spent : Spent) (view : View) → Counted budget.old spent → L.shows lookup.old view
-            → HearsAll self.old.setup (grp_answer self.old.setup there budget.old.limits) IsLater self.old.logged (reader_items reader.now) spent view (Counted budget.new) (L.shows lookup.new)
-            reply.old.items reply.new.items (bytes_in gap_line.old.items) (bytes_in gap_line.new.items)) }
+        ensures hears { OnOk result ((spent : Spent) (view : View) → Counted budget.old spent
+            → L.shows lookup.old view → HearsAll self.old.setup (grp_answer self.old.setup
+            there budget.old.limits) IsLater self.old.logged (reader_items reader.now) spent view
+            (Counted budget.new) (L.shows lookup.new) reply.old.items reply.new.items
+            (bytes_in gap_line.old.items) (bytes_in gap_line.new.items)) }
     {
         let mut items = Sayings::of(reader);
         'items: while let Some(item) = items.next_item() {
@@ -322,9 +347,12 @@ impl GrpServer {
         requires no_said { said.old.items ≡ [] }
         requires no_lines { lines.old.items ≡ [] }
         ensures same { L.still ≡ true → lookup.new ≡ lookup.old }
-        ensures left { (view : View) → L.shows lookup.old view → ShowsLater IsLater (L.shows lookup.new) view }
-        ensures fed { OnOk result ((es : List (Event Source)) (spent : Spent) (view : View) → ProxyStands self.old es → Counted budget.old spent → L.shows lookup.old view
-            → ProxyFeeds es piece.now self.old self.new there budget.old.limits spent view (Counted budget.new) (L.shows lookup.new) [] said.new.items [] (bytes_in lines.new.items)) }
+        ensures left { (view : View)
+            → L.shows lookup.old view → ShowsLater IsLater (L.shows lookup.new) view }
+        ensures fed { OnOk result ((es : List (Event Source)) (spent : Spent) (view : View)
+            → ProxyStands self.old es → Counted budget.old spent → L.shows lookup.old view
+            → ProxyFeeds es piece.now self.old self.new there budget.old.limits spent view (Counted
+            budget.new) (L.shows lookup.new) [] said.new.items [] (bytes_in lines.new.items)) }
         ensures setup { self.new.setup ≡ self.old.setup }
         ensures count { self.new.inbox.fed ≡ counted (self.old.inbox.fed + length piece.now) }
         ensures limits { budget.new.limits ≡ budget.old.limits }
@@ -347,19 +375,24 @@ impl GrpServer {
         gap_line: &mut DatagramList,
     ) -> Result<(), OutOfMemory>
         ensures same { L.still ≡ true → lookup.new ≡ lookup.old }
-        ensures left { (view : View) → L.shows lookup.old view → ShowsLater IsLater (L.shows lookup.new) view }
-        ensures fed { OnOk result ((es : List (Event Source)) (spent : Spent) (view : View) → ProxyStands self.old es → Counted budget.old spent → L.shows lookup.old view
-            → ProxyFeeds es piece.now self.old self.new there budget.old.limits spent view (Counted budget.new) (L.shows lookup.new)
-            reply.old.items reply.new.items (bytes_in gap_line.old.items) (bytes_in gap_line.new.items)) }
+        ensures left { (view : View)
+            → L.shows lookup.old view → ShowsLater IsLater (L.shows lookup.new) view }
+        ensures fed { OnOk result ((es : List (Event Source)) (spent : Spent) (view : View)
+            → ProxyStands self.old es → Counted budget.old spent → L.shows lookup.old view
+            → ProxyFeeds es piece.now self.old self.new there budget.old.limits spent view
+            (Counted budget.new) (L.shows lookup.new) reply.old.items reply.new.items
+            (bytes_in gap_line.old.items) (bytes_in gap_line.new.items)) }
         ensures setup { self.new.setup ≡ self.old.setup }
         ensures limits { budget.new.limits ≡ budget.old.limits }
-        ensures err_closed { OnErr result (self.new.closed ≡ Some (closed_at Memory (counted (self.old.inbox.fed + length piece.now)))) }
+        ensures err_closed { OnErr result (self.new.closed ≡ Some
+            (closed_at Memory (counted (self.old.inbox.fed + length piece.now)))) }
         ensures err_budget { OnErr result (budget.new ≡ budget.old) }
         ensures err_reply { OnErr result (reply.new.items ≡ reply.old.items) }
         ensures err_lines { OnErr result (gap_line.new.items ≡ gap_line.old.items) }
         ensures shut { IfSome self.old.closed (λ c. self.new ≡ self.old) }
         ensures shut_ok { IfSome self.old.closed (λ c. IsOk result × (budget.new ≡ budget.old)) }
-        ensures shut_says { IfSome self.old.closed (λ c. (reply.new.items ≡ reply.old.items) × (gap_line.new.items ≡ gap_line.old.items)) }
+        ensures shut_says { IfSome self.old.closed
+            (λ c. (reply.new.items ≡ reply.old.items) × (gap_line.new.items ≡ gap_line.old.items)) }
     {
         if self.end.is_closed() {
             return Ok(());
@@ -399,29 +432,38 @@ impl GrpServer {
         gap_line: &mut DatagramList,
     ) -> Result<(), OutOfMemory>
         // A source to which nobody else pushes is left as it was.
-        ensures same { OnLent lookup.entry (λ before. L.still ≡ true → Left lookup.exit (λ after. after ≡ before)) }
-        // Of every view of the source that is lent: whatever comes of the call, one that is no earlier
-        // is shown after it.
-        ensures left { OnLent lookup.entry (λ before. (view : View) → L.shows before view → Left lookup.exit (λ after. ShowsLater IsLater (L.shows after) view)) }
+        ensures same { OnLent lookup.entry
+            (λ before. L.still ≡ true → Left lookup.exit (λ after. after ≡ before)) }
+        // Of every view of the source that is lent: whatever comes of the call, one that is no
+        // earlier is shown after it.
+        ensures left { OnLent lookup.entry (λ before. (view : View) → L.shows before view
+            → Left lookup.exit (λ after. ShowsLater IsLater (L.shows after) view)) }
         // Of all that happened to the end, of what was spent, and of every view of the source that
         // is lent: the piece came too, and its messages were answered at views that rise from that
         // one.
-        ensures fed { OnOk result (OnLent lookup.entry (λ before. (es : List (Event Source)) (spent : Spent) (view : View) → ProxyStands self.old es → Counted budget.old spent → L.shows before view
-            → Left lookup.exit (λ after. ProxyFeeds es piece.now self.old self.new true budget.old.limits spent view (Counted budget.new) (L.shows after)
-            reply.old.items reply.new.items (bytes_in gap_line.old.items) (bytes_in gap_line.new.items)))) }
+        ensures fed { OnOk result
+            (OnLent lookup.entry (λ before. (es : List (Event Source)) (spent : Spent) (view : View)
+            → ProxyStands self.old es → Counted budget.old spent → L.shows before view
+            → Left lookup.exit (λ after. ProxyFeeds es piece.now self.old self.new
+            true budget.old.limits spent view (Counted budget.new) (L.shows after) reply.old.items
+            reply.new.items (bytes_in gap_line.old.items) (bytes_in gap_line.new.items)))) }
         // The same of an end to which no source is lent: the views are whatever they may be.
-        ensures without { OnOk result (OnNone lookup.entry ((es : List (Event Source)) (spent : Spent) (view : View) → ProxyStands self.old es → Counted budget.old spent
-            → ProxyFeeds es piece.now self.old self.new false budget.old.limits spent view (Counted budget.new) (λ v. Unit {0})
-            reply.old.items reply.new.items (bytes_in gap_line.old.items) (bytes_in gap_line.new.items))) }
+        ensures without { OnOk result (OnNone lookup.entry
+            ((es : List (Event Source)) (spent : Spent) (view : View) → ProxyStands self.old es
+            → Counted budget.old spent → ProxyFeeds es piece.now self.old self.new
+            false budget.old.limits spent view (Counted budget.new) (λ v. Unit {0}) reply.old.items
+            reply.new.items (bytes_in gap_line.old.items) (bytes_in gap_line.new.items))) }
         ensures setup { self.new.setup ≡ self.old.setup }
         ensures limits { budget.new.limits ≡ budget.old.limits }
-        ensures err_closed { OnErr result (self.new.closed ≡ Some (closed_at Memory (counted (self.old.inbox.fed + length piece.now)))) }
+        ensures err_closed { OnErr result (self.new.closed ≡ Some
+            (closed_at Memory (counted (self.old.inbox.fed + length piece.now)))) }
         ensures err_budget { OnErr result (budget.new ≡ budget.old) }
         ensures err_reply { OnErr result (reply.new.items ≡ reply.old.items) }
         ensures err_lines { OnErr result (gap_line.new.items ≡ gap_line.old.items) }
         ensures shut { IfSome self.old.closed (λ c. self.new ≡ self.old) }
         ensures shut_ok { IfSome self.old.closed (λ c. IsOk result × (budget.new ≡ budget.old)) }
-        ensures shut_says { IfSome self.old.closed (λ c. (reply.new.items ≡ reply.old.items) × (gap_line.new.items ≡ gap_line.old.items)) }
+        ensures shut_says { IfSome self.old.closed
+            (λ c. (reply.new.items ≡ reply.old.items) × (gap_line.new.items ≡ gap_line.old.items)) }
     {
         match lookup {
             Some(lookup) => {
@@ -442,14 +484,19 @@ impl GrpServer {
     /// Standard: "Heartbeat Messages". The number of ticks is this project's own.
     pub fn tick(&mut self, reply: &mut Vec<u8>) -> Result<(), OutOfMemory>
         // Of all that happened to it: the tick happened too.
-        ensures stands { OnOk result ((es : List (Event Source)) → ProxyStands self.old es → ProxyStands self.new (Ticked ∷ es)) }
+        ensures stands { OnOk result ((es : List (Event Source))
+            → ProxyStands self.old es → ProxyStands self.new (Ticked ∷ es)) }
         // Of all that happened to it: what is then sent at a tick was appended.
-        ensures says { OnOk result ((es : List (Event Source)) → ProxyStands self.old es → reply.new.items ≡ reply.old.items ++ sent_at_tick (grp_sends self.old.setup) self.old.setup es) }
+        ensures says { OnOk result
+            ((es : List (Event Source)) → ProxyStands self.old es → reply.new.items
+            ≡ reply.old.items ++ sent_at_tick (grp_sends self.old.setup) self.old.setup es) }
         ensures setup { self.new.setup ≡ self.old.setup }
-        ensures err_closed { OnErr result (self.new.closed ≡ Some (closed_at Memory self.old.inbox.fed)) }
+        ensures err_closed { OnErr result
+            (self.new.closed ≡ Some (closed_at Memory self.old.inbox.fed)) }
         ensures err_reply { OnErr result (reply.new.items ≡ reply.old.items) }
         ensures shut { IfSome self.old.closed (λ c. self.new ≡ self.old) }
-        ensures shut_ok { IfSome self.old.closed (λ c. IsOk result × (reply.new.items ≡ reply.old.items)) }
+        ensures shut_ok { IfSome self.old.closed
+            (λ c. IsOk result × (reply.new.items ≡ reply.old.items)) }
     {
         self.end.tick(reply)?;
         Ok(())

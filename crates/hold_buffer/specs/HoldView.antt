@@ -18,8 +18,10 @@ pub record HoldView : Type 0 where
 -- a hold is stored as its three parts
 abbrev pub coded_hold : Coded HoldView
 coded_hold =
-    code_by (ℕ × (ℕ × Held)) (coded× coded_ℕ (coded× coded_ℕ (map.code coded_ℕ (coded_list coded_ℕ))))
-    (λ h. (h.floor, (h.limit, h.held))) (λ p. record { floor = p.0; limit = p.1.0; held = p.1.1 }) (λ _. refl)
+    code_by
+    (ℕ × (ℕ × Held)) (coded× coded_ℕ (coded× coded_ℕ (map.code coded_ℕ (coded_list coded_ℕ))))
+    (λ h. (h.floor, (h.limit, h.held)))
+    (λ p. record { floor = p.0; limit = p.1.0; held = p.1.1 }) (λ _. refl)
 
 -- What holds of every hold: its limit is 1 to 65,536, it holds at most so many messages, each above
 -- the floor, and sequences end at 4,294,967,294.

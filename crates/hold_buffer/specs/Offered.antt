@@ -10,10 +10,12 @@ abbrev pub Answers : Offer → HoldView → ℕ → List ℕ → HoldView → Ty
 -- at or below the floor
 Answers Old h sequence raw h' = (sequence ≤ h.floor) × (h' ≡ h)
 -- it is held already
-Answers Repeat h sequence raw h' = (h.floor < sequence) × (contains_key h.held sequence ≡ true) × (h' ≡ h)
+Answers Repeat h sequence raw h' =
+    (h.floor < sequence) × (contains_key h.held sequence ≡ true) × (h' ≡ h)
 -- it follows the floor, which rises to it, and nothing is stored, also where the limit is reached
 Answers Next h sequence raw h' =
-    (sequence ≡ h.floor + 1) × (contains_key h.held sequence ≡ false) × (h' ≡ record h { floor = sequence })
+    (sequence ≡ h.floor + 1) × (contains_key h.held sequence ≡ false)
+    × (h' ≡ record h { floor = sequence })
 -- the limit is reached: all that was held goes, and this one is held alone
 Answers Overflowed h sequence raw h' =
     (h.floor + 1 < sequence) × (contains_key h.held sequence ≡ false) × (len h.held ≡ h.limit)

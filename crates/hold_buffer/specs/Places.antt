@@ -13,7 +13,8 @@ IsRising {X} messages = IsStrictlySortedBy nat_cmp (keys_of messages)
 
 -- the message at the place has the sequence
 abbrev pub IsKeyAt : {X : Type 0} → List (ℕ × X) → ℕ → ℕ → Type 0
-IsKeyAt {X} messages at sequence = (message : X) × (slice_get messages at ≡ Some (sequence, message))
+IsKeyAt {X} messages at sequence =
+    (message : X) × (slice_get messages at ≡ Some (sequence, message))
 
 -- the sequences before the place are smaller, and one at the place is greater
 abbrev pub IsGap : {X : Type 0} → List (ℕ × X) → ℕ → ℕ → Type 0
@@ -24,7 +25,8 @@ IsGap {X} messages at sequence =
 
 -- the hold that a floor and a ring stand for, whose limit is the ring's capacity
 abbrev pub hold_of : ℕ → Buffer (ℕ × List ℕ) → HoldView
-hold_of floor ring = record { floor = floor; limit = ring.capacity; held = map.from_entries ring.items }
+hold_of floor ring =
+    record { floor = floor; limit = ring.capacity; held = map.from_entries ring.items }
 
 -- they stand for a hold, and the ring has its messages by rising sequence
 pub record IsHoldRing (floor : ℕ) (ring : Buffer (ℕ × List ℕ)) : Type 0 where

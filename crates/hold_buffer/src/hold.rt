@@ -1,4 +1,5 @@
-ghost use Rattle.std.specs.Prelude.{◌≡◌, ℕ, ◌+◌, ◌<◌, ◌≤◌, ◌↔◌, IfOk, IsTrue, IsSome, MatchOption, None, nat_lt};
+ghost use Rattle.std.specs.Prelude.{◌≡◌, ℕ, ◌+◌, ◌<◌, ◌≤◌, ◌↔◌, IfOk, IsTrue, IsSome, MatchOption};
+ghost use Rattle.std.specs.Prelude.{None, nat_lt};
 ghost use Rattle.std.specs.Option.{option_copied};
 ghost use Rattle.std.specs.FinMap as map;
 ghost use Rattle.pitch_fields.specs.Limits.{last_sequence, most_held};
@@ -152,8 +153,10 @@ impl Hold {
     /// new floor is not below the old one.
     pub fn jump(&mut self, floor: u32)
         requires { self.old.floor ≤ floor }
-        ensures jumped { self.new ≡
-            record self.old { floor = floor; held = map.retain_keys self.old.held (λ k. nat_lt floor k) } }
+        ensures jumped { self.new ≡ record self.old {
+          floor = floor;
+          held = map.retain_keys self.old.held (λ k. nat_lt floor k);
+        } }
         ensures kept { IsHold self.new }
     {
         drop_through(&mut self.ring, floor);
@@ -207,7 +210,8 @@ fn store(ring: &mut Ring, sequence: u32, bytes: &[u8]) -> Offer
     requires rising { IsRising ring.old.items }
     ensures answer { (floor : ℕ) → floor + 1 < sequence → IsHoldRing floor ring.old
         → Answers result (hold_of floor ring.old) sequence bytes.now (hold_of floor ring.new) }
-    ensures kept { (floor : ℕ) → floor + 1 < sequence → IsHoldRing floor ring.old → IsHoldRing floor ring.new }
+    ensures kept { (floor : ℕ)
+        → floor + 1 < sequence → IsHoldRing floor ring.old → IsHoldRing floor ring.new }
 {
     let Err(at) = place(ring, sequence) else {
         return Offer::Repeat;

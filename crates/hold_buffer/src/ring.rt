@@ -1,4 +1,5 @@
-ghost use Rattle.std.specs.Prelude.{◌≡◌, ℕ, ◌<◌, ◌≤◌, ◌+◌, List, length, insert, filter, nat_lt, IfOk, IfErr, slice_get};
+ghost use Rattle.std.specs.Prelude.{◌≡◌, ℕ, ◌<◌, ◌≤◌, ◌+◌, List, length, insert, filter, nat_lt};
+ghost use Rattle.std.specs.Prelude.{IfOk, IfErr, slice_get};
 ghost use Rattle.std.specs.Option.{option_map};
 ghost use Rattle.circular_buffer.specs.Buffer.{buffer, keep_last};
 ghost use Rattle.hold_buffer.specs.Places.{IsRising, IsKeyAt, IsGap};
@@ -34,7 +35,8 @@ pub(crate) fn insert_at(ring: &mut Ring, at: usize, message: (u32, Raw))
 // Drops the messages at or below a sequence.
 pub(crate) fn drop_through(ring: &mut Ring, sequence: u32)
     requires { IsRising ring.old.items }
-    ensures { ring.new ≡ buffer (filter (λ e. nat_lt sequence e.0) ring.old.items) ring.old.capacity }
+    ensures { ring.new ≡ buffer
+        (filter (λ e. nat_lt sequence e.0) ring.old.items) ring.old.capacity }
 {
     let above = count_above(ring, sequence);
     ring.truncate_front(above);

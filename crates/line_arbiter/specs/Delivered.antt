@@ -12,7 +12,8 @@ use Rattle.line_arbiter.specs.declared.heard.DatagramFault.{DatagramFault}
 -- each block gave its item, with its unit, in their order
 abbrev pub AreHeard : List Block → List Heard → Type 0
 AreHeard [] [] = Unit {0}
-AreHeard (block ∷ blocks) (heard ∷ more) = (heard.unit ≡ block.unit) × IsItemOf block heard.item × IsItem heard.item × AreHeard blocks more
+AreHeard (block ∷ blocks) (heard ∷ more) =
+    (heard.unit ≡ block.unit) × IsItemOf block heard.item × IsItem heard.item × AreHeard blocks more
 AreHeard [] (heard ∷ more) = ⊥
 AreHeard (block ∷ blocks) [] = ⊥
 

@@ -1,5 +1,6 @@
 -- What was noted of the lines. Notes stand newest first.
-use Rattle.std.specs.Prelude.{◌≡◌, ℕ, ◌+◌, ◌-◌, ◌<◌, ◌^◌, Bool, true, false, ◌&&◌, ◌==◌, List, [], ◌∷◌, min, Some, slice_get, if◌then◌else◌}
+use Rattle.std.specs.Prelude.{◌≡◌, ℕ, ◌+◌, ◌-◌, ◌<◌, ◌^◌, Bool, true, false, ◌&&◌, ◌==◌, List, []}
+use Rattle.std.specs.Prelude.{◌∷◌, min, Some, slice_get, if◌then◌else◌}
 use Rattle.pitch_io.specs.declared.line.Line.{Line}
 use Rattle.pitch_io.specs.declared.line.Line.TheVariants.{A, B, Gap}
 use Rattle.line_arbiter.specs.declared.arbiter.Arbiter.{Arbiter}
@@ -52,4 +53,5 @@ line_place Gap = 512
 
 -- the arbiter capped just these notes
 abbrev pub HasNoted : Arbiter → List Note → Type 0
-HasNoted arbiter notes = (line : Line) (unit : ℕ) → unit < 256 → slice_get arbiter.counts (line_place line + unit) ≡ Some (line_count line unit notes)
+HasNoted arbiter notes = (line : Line) (unit : ℕ) → unit < 256
+    → slice_get arbiter.counts (line_place line + unit) ≡ Some (line_count line unit notes)

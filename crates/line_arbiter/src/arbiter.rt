@@ -1,4 +1,6 @@
-ghost use Rattle.std.specs.Prelude.{◌≡◌, ◌+◌, ◌<◌, ◌≤◌, ◌^◌, ◌∷◌, [], List, ℕ, length, drop, take, OnOk, OnErr, IfOk, IfErr, IfNone, Err, Some, None, slice_get, nat_lt, ◌==◌, ◌&&◌, if◌then◌else◌};
+ghost use Rattle.std.specs.Prelude.{◌≡◌, ◌+◌, ◌<◌, ◌≤◌, ◌^◌, ◌∷◌, [], List, ℕ, length, drop, take};
+ghost use Rattle.std.specs.Prelude.{OnOk, OnErr, IfOk, IfErr, IfNone, Err, Some, None, slice_get};
+ghost use Rattle.std.specs.Prelude.{nat_lt, ◌==◌, ◌&&◌, if◌then◌else◌};
 ghost use Rattle.unit_packets.specs.Cutting.{blocks_of, rest_of};
 ghost use Rattle.unit_packets.specs.Judging.{judge};
 ghost use Rattle.line_arbiter.specs.Delivered.{Delivers, datagram_fault};
@@ -53,8 +55,8 @@ impl Arbiter {
     /// memory.
     pub fn note(&mut self, line: Line, unit: u8, messages: u32, fresh: u32)
         // Of everything that was noted before: this was noted too.
-        ensures { (notes : List Note) → HasNoted self.old notes
-            → HasNoted self.new ((record { line = line; unit = unit; messages = messages; fresh = fresh }) ∷ notes) }
+        ensures { (notes : List Note) → HasNoted self.old notes → HasNoted self.new
+            ((record { line = line; unit = unit; messages = messages; fresh = fresh }) ∷ notes) }
     {
         let place = place_of(line, unit);
         let count = self.counts[place];
@@ -68,7 +70,8 @@ impl Arbiter {
     /// memory.
     pub fn counts(&self, line: Line, unit: u8) -> LineCount
         // Of everything that was noted: the sums for this line and unit.
-        ensures { (notes : List Note) → HasNoted self.now notes → result ≡ line_count line unit notes }
+        ensures { (notes : List Note)
+            → HasNoted self.now notes → result ≡ line_count line unit notes }
     {
         self.counts[place_of(line, unit)]
     }
@@ -87,7 +90,8 @@ impl Arbiter {
     ) -> Result<Option<DatagramFault>, OutOfMemory>
         requires { length datagram.now < 2 ^ 32 }
         // An item of each block was appended, in their order.
-        ensures heard { OnOk result (Delivers (blocks_of datagram.now) out.old.items out.new.items) }
+        ensures heard { OnOk result
+            (Delivers (blocks_of datagram.now) out.old.items out.new.items) }
         ensures fault { IfOk result (λ fault. fault ≡ datagram_fault datagram.now) }
         ensures err { OnErr result (out.new.items ≡ out.old.items) }
         ensures same { self.new ≡ self.old }
@@ -106,7 +110,8 @@ impl Arbiter {
 // The fault of what follows the blocks; none where nothing follows.
 fn fault_at(length: usize, at: usize, error: BlockError) -> Option<DatagramFault>
     requires { (at ≤ length) × (length < 2 ^ 32) }
-    ensures { result ≡ (if at == length && nat_lt 0 length then None else Some (record { place = at; error = error })) }
+    ensures { result ≡ (if at == length && nat_lt 0 length
+        then None else Some (record { place = at; error = error })) }
 {
     if at == length && length > 0 {
         return None;
@@ -138,7 +143,8 @@ fn hear_blocks(
     out: &mut HeardList,
 ) -> Result<(usize, BlockError), OutOfMemory>
     ensures heard { OnOk result (Delivers (blocks_of bytes.now) out.old.items out.new.items) }
-    ensures stop { IfOk result (λ cut. (cut.0 ≤ length bytes.now) × (rest_of bytes.now ≡ drop cut.0 bytes.now) × (judge (drop cut.0 bytes.now) ≡ Err cut.1)) }
+    ensures stop { IfOk result (λ cut. (cut.0 ≤ length bytes.now)
+        × (rest_of bytes.now ≡ drop cut.0 bytes.now) × (judge (drop cut.0 bytes.now) ≡ Err cut.1)) }
     ensures kept { take (length out.old.items) out.new.items ≡ out.old.items }
 {
     let mut at = 0;

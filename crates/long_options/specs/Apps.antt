@@ -7,7 +7,8 @@ use Rattle.long_options.specs.Words.{Described, Listed, Text}
 
 -- an option `--name`, with one value or none
 abbrev pub option_rule : Listed → Rule
-option_rule o = record (new_rule o.0) { long = Some o.0; action = Some (cond o.2 SetTrue Set); required = o.1 }
+option_rule o =
+    record (new_rule o.0) { long = Some o.0; action = Some (cond o.2 SetTrue Set); required = o.1 }
 
 -- a command with its options, and no help or version
 abbrev pub command_shape : Described → Shape

@@ -1,5 +1,6 @@
 -- The words of a command line: a command's name, and then its options in any order.
-use Rattle.std.specs.Prelude.{◌≡◌, ◌⊎◌, ◌++◌, ◌&&◌, ◌==◌, ℕ, Bool, true, false, not, List, [], ◌∷◌, Option}
+use Rattle.std.specs.Prelude.{◌≡◌, ◌⊎◌, ◌++◌, ◌&&◌, ◌==◌, ℕ, Bool, true, false, not, List, [], ◌∷◌}
+use Rattle.std.specs.Prelude.{Option}
 use Rattle.std.specs.Prelude.{Some, None, find, is_some, option_and_then, ⊤}
 use Rattle.std.specs.List.{list_all, list_any}
 use Rattle.std.specs.Str.{bytes_eq}
@@ -46,7 +47,8 @@ IsApart value = (rest : Text) → value ≡ 45 ∷ rest → rest ≡ []
 -- is `=`
 abbrev pub IsWritten : Text → Option Text → List Text → List Text → Type 0
 IsWritten name (Some value) words rest =
-    ((words ≡ long_flag name ∷ value ∷ rest) × IsApart value) ⊎ (words ≡ (long_flag name ++ 61 ∷ value) ∷ rest)
+    ((words ≡ long_flag name ∷ value ∷ rest) × IsApart value)
+    ⊎ (words ≡ (long_flag name ++ 61 ∷ value) ∷ rest)
 IsWritten name None words rest = words ≡ long_flag name ∷ rest
 
 -- the words write these options in this order
@@ -74,14 +76,17 @@ listed options name = find (λ o. bytes_eq o.0 name) options
 -- each option given is one that the command has, and has a value if that takes one
 abbrev pub AreListed : List Listed → List Given → Type 0
 AreListed options [] = ⊤
-AreListed options (g ∷ more) = ((o : Listed) × (listed options g.0 ≡ Some o) × (o.2 ≡ not (is_some g.1))) × AreListed options more
+AreListed options (g ∷ more) =
+    ((o : Listed) × (listed options g.0 ≡ Some o) × (o.2 ≡ not (is_some g.1)))
+    × AreListed options more
 
 -- an option that must be there was not given
 abbrev pub lacks_one : List Listed → List Given → Bool
 lacks_one options given = list_any (λ o. o.1 && not (has_name o.0 given)) options
 
 -- the words are options of these, each at most once, and all that must be there
-pub record AreOptions (options : List Listed) (words : List Text) (given : List Given) : Type 0 where
+pub record AreOptions (options : List Listed) (words : List Text) (given : List Given) :
+    Type 0 where
   pub writes : Writes given words
   pub once : Once [] given
   pub are_listed : AreListed options given

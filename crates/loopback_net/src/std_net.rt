@@ -89,11 +89,11 @@ fn open<R: net::Net>(rt: &R) -> io::Result<Sockets<R::Stream>> {
 
 /// A net over UDP and TCP of the loopback address. It does not tell its calls.
 ///
-/// Until `begin` has opened its sockets each other call fails. A later `begin` opens others in their
-/// place, and what was on its way is lost; where it fails, those that were open stay. It gives the
-/// system at most a second to make each connection, and no other call waits: a datagram or a piece
-/// for which there is no room now is a failure, as is a datagram longer than UDP carries, which is
-/// 65,507 bytes. A datagram without bytes is not carried.
+/// Until `begin` has opened its sockets each other call fails. A later `begin` opens others in
+/// their place, and what was on its way is lost; where it fails, those that were open stay. It
+/// gives the system at most a second to make each connection, and no other call waits: a datagram
+/// or a piece for which there is no room now is a failure, as is a datagram longer than UDP
+/// carries, which is 65,507 bytes. A datagram without bytes is not carried.
 #[derive(Drop)]
 pub struct StdNet<R: net::Net> {
     rt: R,

@@ -1,12 +1,14 @@
 -- What the steps of a run do.
-use Rattle.std.specs.Prelude.{ℕ, suc, ◌+◌, Bool, true, ◌||◌, ◌&&◌, not, ◌==◌, nat_lt, List, [], ◌∷◌, ◌++◌, length, take, replicate, Option, Some, is_some, if◌then◌else◌}
+use Rattle.std.specs.Prelude.{ℕ, suc, ◌+◌, Bool, true, ◌||◌, ◌&&◌, not, ◌==◌, nat_lt, List, [], ◌∷◌}
+use Rattle.std.specs.Prelude.{◌++◌, length, take, replicate, Option, Some, is_some, if◌then◌else◌}
 use Rattle.std.specs.List.{list_all, filter}
 use Rattle.pitch_io.specs.declared.line.Line.{Line}
 use Rattle.pitch_io.specs.declared.line.Line.TheVariants.{B}
 use Rattle.pitch_io.specs.declared.sink.Put.{Put as PutAnswer}
 use Rattle.pitch_io.specs.declared.sink.Put.TheVariants as puts
 use Rattle.pitch_io.specs.declared.net.LinkEnd.{LinkEnd}
-use Rattle.pitch_io.specs.declared.net.LinkEnd.TheVariants.{GrpClient, GrpServer, SpinClient, SpinServer}
+use Rattle.pitch_io.specs.declared.net.LinkEnd.TheVariants.{GrpClient, GrpServer, SpinClient}
+use Rattle.pitch_io.specs.declared.net.LinkEnd.TheVariants.{SpinServer}
 use Rattle.pitch_io.specs.declared.net.NetTaken.{NetTaken}
 use Rattle.pitch_io.specs.declared.net.NetTaken.TheVariants as taken
 use Rattle.pitch_io.specs.Nets.{Call, Begin, Send, Next, Put, Take}
@@ -18,7 +20,8 @@ use Rattle.pitch_model.specs.Asking.{ask_of}
 use Rattle.pitch_model.specs.Datagrams.{heard_blocks}
 use Rattle.pitch_model.specs.History.{Entry, GrpDown, SpinDown}
 use Rattle.pitch_model.specs.History as entry
-use Rattle.pitch_messages.specs.declared.session.SessionMessage.TheVariants.{GapRequest, SpinRequest}
+use Rattle.pitch_messages.specs.declared.session.SessionMessage.TheVariants.{GapRequest}
+use Rattle.pitch_messages.specs.declared.session.SessionMessage.TheVariants.{SpinRequest}
 use Rattle.session_ends.specs.Closing.{closed_of}
 use Rattle.session_ends.specs.Events.{Fed, Ticked, Asked, Told}
 use Rattle.session_ends.specs.Sending.{new_items}
@@ -30,13 +33,16 @@ use Rattle.client_links.specs.Linking.{NoLookup, link_tells}
 use Rattle.world_model.specs.Ends.{grp_server, gap_link, spin_link}
 use Rattle.world_model.specs.State.{Connection}
 use Rattle.world_model.specs.Verbs.{at_grp_server, at_spin_server, at_link, sent_whole}
-use Rattle.net_edge.specs.Due.{Setting, demo_unit, hold_limit, request_limits, accepted, gap_view, spin_view}
-use Rattle.net_edge.specs.Scene.{Scene, OnLine, AtEnd, line_in, with_line, at_end, with_end, is_got, got_end, first_scene}
+use Rattle.net_edge.specs.Due.{Setting, demo_unit, hold_limit, request_limits, accepted, gap_view}
+use Rattle.net_edge.specs.Due.{spin_view}
+use Rattle.net_edge.specs.Scene.{Scene, OnLine, AtEnd, line_in, with_line, at_end, with_end, is_got}
+use Rattle.net_edge.specs.Scene.{got_end, first_scene}
 use Rattle.net_edge.specs.Steps.{Step, Did, Beat, Turn}
 
 -- ---- Lines
 abbrev pub sent_on : Line → List (List ℕ) → Scene → Scene
-sent_on line datagrams now = with_line line (record (line_in line now) { sent = (line_in line now).sent ++ datagrams }) now
+sent_on line datagrams now =
+    with_line line (record (line_in line now) { sent = (line_in line now).sent ++ datagrams }) now
 
 -- the blocks of the demo's unit; the client passes over others
 abbrev pub ours : List Block → List Block
@@ -53,14 +59,22 @@ blocks_heard (taken.Got count) bytes E = heard_blocks (ours (blocks_of bytes)) E
 blocks_heard answer bytes E = E
 
 abbrev pub answered_on : Line → List ℕ → NetTaken → Scene → OnLine
-answered_on line bytes answer now = record (line_in line now) { came = (line_in line now).came ++ came_by answer bytes; answers = answer ∷ (line_in line now).answers }
+answered_on line bytes answer now =
+    record (line_in line now) {
+      came = (line_in line now).came ++ came_by answer bytes;
+      answers = answer ∷ (line_in line now).answers;
+    }
 
 abbrev pub heard_on : Line → List ℕ → NetTaken → Scene → Scene
-heard_on line bytes answer now = record (with_line line (answered_on line bytes answer now) now) { heard = blocks_heard answer bytes now.heard }
+heard_on line bytes answer now =
+    record (with_line line (answered_on line bytes answer now) now) {
+      heard = blocks_heard answer bytes now.heard;
+    }
 
 -- ---- Ends
 abbrev pub end_puts : LinkEnd → List ℕ → Scene → Scene
-end_puts at bytes now = with_end at (record (at_end at now) { put = (at_end at now).put ++ bytes }) now
+end_puts at bytes now =
+    with_end at (record (at_end at now) { put = (at_end at now).put ++ bytes }) now
 
 -- the bytes that a put has written
 abbrev pub bytes_put : PutAnswer → List ℕ → List ℕ
@@ -73,7 +87,12 @@ bytes_by (taken.Got count) bytes = bytes
 bytes_by answer bytes = []
 
 abbrev pub end_took : List ℕ → NetTaken → AtEnd → AtEnd
-end_took bytes answer end = record end { came = end.came ++ bytes_by answer bytes; answers = answer ∷ end.answers; ended = got_end answer || end.ended }
+end_took bytes answer end =
+    record end {
+      came = end.came ++ bytes_by answer bytes;
+      answers = answer ∷ end.answers;
+      ended = got_end answer || end.ended;
+    }
 
 -- further calls come in this turn: there were fewer than 100, and each got something
 abbrev pub is_group_open : List NetTaken → Bool
@@ -93,60 +112,88 @@ abbrev pub proxy_fed : Setting → List ℕ → Scene → Scene
 proxy_fed s bytes now =
     let source = source_at s bytes now in
     let answer = proxy_answer (grp_server demo_unit) now.grp.server bytes source in
-    record now { grp = at_grp_server demo_unit (Fed bytes source) now.grp; replayed = now.replayed ++ answer.lines; spent = answer.knows }
+    record now {
+      grp = at_grp_server demo_unit (Fed bytes source) now.grp;
+      replayed = now.replayed ++ answer.lines;
+      spent = answer.knows;
+    }
 
 abbrev pub proxy_took : Setting → List ℕ → NetTaken → Scene → Scene
 proxy_took s bytes (taken.Got count) now = proxy_fed s bytes now
 proxy_took s bytes answer now = now
 
 -- bytes come to the Spin Server
-abbrev pub spin_server_fed : Setting → List ℕ → NetTaken → ℕ → Connection (List Served) → Connection (List Served)
-spin_server_fed s bytes (taken.Got count) turn c = at_spin_server demo_unit (Fed bytes (replicate (length (new_items c.server bytes)) (spin_view s turn))) c
+abbrev pub spin_server_fed : Setting
+    → List ℕ → NetTaken → ℕ → Connection (List Served) → Connection (List Served)
+spin_server_fed s bytes (taken.Got count) turn c = at_spin_server demo_unit
+    (Fed bytes (replicate (length (new_items c.server bytes)) (spin_view s turn))) c
 spin_server_fed s bytes answer turn c = c
 
 -- where the turn's calls of `take` are over, it sends a running image to its end
-abbrev pub spin_answered : Setting → List ℕ → NetTaken → ℕ → Bool → Connection (List Served) → Connection (List Served)
+abbrev pub spin_answered : Setting
+    → List ℕ → NetTaken → ℕ → Bool → Connection (List Served) → Connection (List Served)
 spin_answered s bytes answer turn goes_on c =
     let fed = spin_server_fed s bytes answer turn c in
     if goes_on then fed else sent_whole demo_unit fed
 
 abbrev pub spin_took : Setting → List ℕ → NetTaken → Scene → Scene
-spin_took s bytes answer now = record now { spin = spin_answered s bytes answer now.turn (is_group_open now.spin_server.answers) now.spin }
+spin_took s bytes answer now = record now {
+  spin = spin_answered s bytes answer now.turn (is_group_open now.spin_server.answers) now.spin;
+}
 
 -- a connection that stands and of which the client's end closed is cut, and the client hears it
 abbrev pub is_grp_shut : Scene → Bool
 is_grp_shut now = not now.grp_cut && is_some (closed_of gap_link now.grp.link)
 
 abbrev pub grp_cut_if_shut : Scene → Scene
-grp_cut_if_shut now = record now { grp_cut = now.grp_cut || is_grp_shut now; heard = if is_grp_shut now then GrpDown ∷ now.heard else now.heard }
+grp_cut_if_shut now = record now {
+  grp_cut = now.grp_cut || is_grp_shut now;
+  heard = if is_grp_shut now then GrpDown ∷ now.heard else now.heard;
+}
 
 abbrev pub is_spin_shut : Scene → Bool
 is_spin_shut now = not now.spin_cut && is_some (closed_of (spin_link demo_unit) now.spin.link)
 
 abbrev pub spin_cut_if_shut : Scene → Scene
-spin_cut_if_shut now = record now { spin_cut = now.spin_cut || is_spin_shut now; heard = if is_spin_shut now then SpinDown ∷ now.heard else now.heard }
+spin_cut_if_shut now = record now {
+  spin_cut = now.spin_cut || is_spin_shut now;
+  heard = if is_spin_shut now then SpinDown ∷ now.heard else now.heard;
+}
 
 -- bytes come to a link, and the client hears what it tells; End is heard as a cut
 abbrev pub gap_link_took : List ℕ → NetTaken → Scene → Scene
-gap_link_took bytes (taken.Got count) now = grp_cut_if_shut (record now { grp = at_link gap_link (Fed bytes NoLookup) now.grp; heard = heard_all (link_tells gap_link now.grp.link bytes) now.heard })
+gap_link_took bytes (taken.Got count) now =
+    grp_cut_if_shut (record now {
+      grp = at_link gap_link (Fed bytes NoLookup) now.grp;
+      heard = heard_all (link_tells gap_link now.grp.link bytes) now.heard;
+    })
 gap_link_took bytes taken.End now = record now { grp_cut = true; heard = GrpDown ∷ now.heard }
 gap_link_took bytes answer now = now
 
 abbrev pub spin_link_took : List ℕ → NetTaken → Scene → Scene
 spin_link_took bytes (taken.Got count) now =
-    spin_cut_if_shut (record now { spin = at_link (spin_link demo_unit) (Fed bytes NoLookup) now.spin; heard = heard_all (link_tells (spin_link demo_unit) now.spin.link bytes) now.heard })
+    spin_cut_if_shut (record now {
+      spin = at_link (spin_link demo_unit) (Fed bytes NoLookup)
+          now.spin;
+      heard = heard_all (link_tells (spin_link demo_unit) now.spin.link bytes) now.heard;
+    })
 spin_link_took bytes taken.End now = record now { spin_cut = true; heard = SpinDown ∷ now.heard }
 spin_link_took bytes answer now = now
 
 abbrev pub taken_at : Setting → LinkEnd → List ℕ → NetTaken → Scene → Scene
-taken_at s GrpServer bytes answer now = proxy_took s bytes answer (record now { grp_server = end_took bytes answer now.grp_server })
-taken_at s SpinServer bytes answer now = spin_took s bytes answer (record now { spin_server = end_took bytes answer now.spin_server })
-taken_at s GrpClient bytes answer now = gap_link_took bytes answer (record now { grp_client = end_took bytes answer now.grp_client })
-taken_at s SpinClient bytes answer now = spin_link_took bytes answer (record now { spin_client = end_took bytes answer now.spin_client })
+taken_at s GrpServer bytes answer now =
+    proxy_took s bytes answer (record now { grp_server = end_took bytes answer now.grp_server })
+taken_at s SpinServer bytes answer now =
+    spin_took s bytes answer (record now { spin_server = end_took bytes answer now.spin_server })
+taken_at s GrpClient bytes answer now =
+    gap_link_took bytes answer (record now { grp_client = end_took bytes answer now.grp_client })
+taken_at s SpinClient bytes answer now =
+    spin_link_took bytes answer (record now { spin_client = end_took bytes answer now.spin_client })
 
 -- ---- A tick
 -- something happens at an end of a connection, where it stands
-abbrev pub where_stands : {X : Type 0} → Bool → (Connection X → Connection X) → Connection X → Connection X
+abbrev pub where_stands : {X : Type 0}
+    → Bool → (Connection X → Connection X) → Connection X → Connection X
 where_stands cut happens c = if cut then c else happens c
 
 -- the Spin Server is told of what is advertised; then both servers tick, and so does the budget of
@@ -156,7 +203,9 @@ servers_tick s now = record now {
   ticked = now.ticked + 1;
   spent = next_second now.spent;
   grp = where_stands now.grp_cut (λ c. at_grp_server demo_unit Ticked c) now.grp;
-  spin = where_stands now.spin_cut (λ c. at_spin_server demo_unit Ticked c) (where_stands now.spin_cut (λ c. at_spin_server demo_unit (Told (accepted s now.turn)) c) now.spin);
+  spin =
+      where_stands now.spin_cut (λ c. at_spin_server demo_unit Ticked c) (where_stands now.spin_cut
+      (λ c. at_spin_server demo_unit (Told (accepted s now.turn)) c) now.spin);
 }
 
 -- then the links tick; one that closes is cut
@@ -168,11 +217,13 @@ links_tick now = spin_cut_if_shut (grp_cut_if_shut (record now {
 
 -- what is asked goes through its link, where the connection stands
 abbrev pub gap_asked : Option Ask → Connection Source → Connection Source
-gap_asked (Some (asks.Gap first count)) c = at_link gap_link (Asked (GapRequest demo_unit first count)) c
+gap_asked (Some (asks.Gap first count)) c =
+    at_link gap_link (Asked (GapRequest demo_unit first count)) c
 gap_asked ask c = c
 
 abbrev pub image_asked : Option Ask → Connection (List Served) → Connection (List Served)
-image_asked (Some (asks.Spin sequence)) c = at_link (spin_link demo_unit) (Asked (SpinRequest sequence)) c
+image_asked (Some (asks.Spin sequence)) c =
+    at_link (spin_link demo_unit) (Asked (SpinRequest sequence)) c
 image_asked ask c = c
 
 -- then the client ticks, and asks for what it lacks, by what it heard

@@ -31,7 +31,8 @@ ListsAdded base None added = Unit {0}
 ListsAdded base (Some calls) added = calls ≡ added ++ base
 
 -- the net's calls, where it lists them, are those of a run that broke off, and those before it
-pub record Breaks (s : Setting) (base : List Call) (calls : Option (List Call)) (error : DemoError) : Type 0 where
+pub record Breaks (s : Setting)
+    (base : List Call) (calls : Option (List Call)) (error : DemoError) : Type 0 where
   pub run : List Step
   pub steps : AreSteps s run
   pub failed : List Call

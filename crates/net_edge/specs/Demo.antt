@@ -1,5 +1,6 @@
 -- What a demo of both ends does over a net that lists its calls.
-use Rattle.std.specs.Prelude.{◌≡◌, ℕ, ◌+◌, ◌<◌, ◌≤◌, ◌⊎◌, List, ◌∷◌, ◌++◌, Option, Some, length, take, Contains}
+use Rattle.std.specs.Prelude.{◌≡◌, ℕ, ◌+◌, ◌<◌, ◌≤◌, ◌⊎◌, List, ◌∷◌, ◌++◌, Option, Some, length}
+use Rattle.std.specs.Prelude.{take, Contains}
 use Rattle.std.specs.List.{AllByRecursion}
 use Rattle.std.specs.FinMap as map
 use Rattle.pitch_io.specs.declared.line.Line.{Line}
@@ -23,15 +24,18 @@ use Rattle.net_edge.specs.Turns.{AreSteps, IsOver, client_status}
 use Rattle.net_edge.specs.declared.error.DemoError.{DemoError}
 use Rattle.net_edge.specs.declared.error.DemoError.TheVariants as errors
 
--- each datagram that came was sent on its line, and the bytes that came to each end begin those that
--- were put at the other
+-- each datagram that came was sent on its line, and the bytes that came to each end begin those
+-- that were put at the other
 pub record IsCarried (now : Scene) : Type 0 where
-  pub lines : (line : Line) (datagram : List ℕ) → Contains (line_in line now).came datagram → Contains (line_in line now).sent datagram
-  pub ends : (at : LinkEnd) → (later : List ℕ) × ((at_end (other_end at) now).put ≡ (at_end at now).came ++ later)
+  pub lines : (line : Line) (datagram : List ℕ)
+      → Contains (line_in line now).came datagram → Contains (line_in line now).sent datagram
+  pub ends : (at : LinkEnd)
+      → (later : List ℕ) × ((at_end (other_end at) now).put ≡ (at_end at now).came ++ later)
 
 -- no datagram is longer than a packer makes one
 abbrev pub AreShort : List (List ℕ) → Type 0
-AreShort datagrams = AllByRecursion (λ (datagram : List ℕ). length datagram ≤ datagram_size) datagrams
+AreShort datagrams =
+    AllByRecursion (λ (datagram : List ℕ). length datagram ≤ datagram_size) datagrams
 
 -- the last turn is the first one above the count at whose end all is current, or there is none and
 -- it is 200 above the count
@@ -57,7 +61,8 @@ pub record EndsDemo (s : Setting) (now : Scene) (orders quantity : ℕ) : Type 0
   pub over : IsOver s now
   pub last : IsLast s now
   -- each datagram has the venue's messages, at their sequences
-  pub pieces : (line : Line) → AllByRecursion (IsPiece (all_messages s) demo_unit) (line_in line now).sent
+  pub pieces : (line : Line)
+      → AllByRecursion (IsPiece (all_messages s) demo_unit) (line_in line now).sent
   pub short : (line : Line) → AreShort (line_in line now).sent
   -- where the net carried what it was given, the numbers are those of the venue's book
   pub book : IsCarried now → AreTotalsOf (reached_book s now) orders quantity
@@ -74,8 +79,8 @@ abbrev pub IsUnbegun : DemoError → List Call → List Call → Type 0
 IsUnbegun errors.OutOfMemory before after = after ≡ before
 IsUnbegun errors.NetFault before after = after ≡ Begin Failed ∷ before
 
--- a demo ended early. Where the net lists its calls, it had not begun, or `begin` and then the calls
--- of a run that broke off were added
+-- a demo ended early. Where the net lists its calls, it had not begun, or `begin` and then the
+-- calls of a run that broke off were added
 abbrev pub BreaksDemo : Setting → Option (List Call) → Option (List Call) → DemoError → Type 0
 BreaksDemo s (Some before) (Some after) error =
     IsUnbegun error before after ⊎ Breaks s (Begin Done ∷ before) (Some after) error
@@ -86,14 +91,16 @@ abbrev pub SendsPiece : Setting → Call → Type 0
 SendsPiece s (Send line datagram answer) = IsPiece (all_messages s) demo_unit datagram
 SendsPiece s call = Unit {0}
 
--- where the net lists its calls, some were added, and each of them that sends something sends a piece
+-- where the net lists its calls, some were added, and each of them that sends something sends a
+-- piece
 abbrev pub SendsPieces : Setting → Option (List Call) → Option (List Call) → Type 0
 SendsPieces s (Some before) (Some after) =
     (added : List Call) × (after ≡ added ++ before) × AllByRecursion (SendsPiece s) added
 SendsPieces s before after = Unit {0}
 
 -- a demo did such a run, and printed the unit's line
-pub record IsDemo (s : Setting) (before after : Option (List Call)) (text text' : List ℕ) : Type 0 where
+pub record IsDemo (s : Setting) (before after : Option (List Call)) (text text' : List ℕ) :
+    Type 0 where
   pub run : List Step
   pub calls : AddsCalls run before after
   pub steps : AreSteps s run

@@ -1,6 +1,7 @@
 -- What a turn brings: a message that is accepted, datagrams that are sent, a sequence that is
 -- advertised.
-use Rattle.std.specs.Prelude.{ℕ, zero, suc, ◌+◌, ◌-◌, ◌%◌, Bool, ◌==◌, min, List, [], ◌∷◌, ◌++◌, drop, if◌then◌else◌}
+use Rattle.std.specs.Prelude.{ℕ, zero, suc, ◌+◌, ◌-◌, ◌%◌, Bool, ◌==◌, min, List, [], ◌∷◌, ◌++◌}
+use Rattle.std.specs.Prelude.{drop, if◌then◌else◌}
 use Rattle.std.specs.List.{AllByRecursion}
 use Rattle.pitch_io.specs.declared.line.Line.{Line}
 use Rattle.pitch_io.specs.declared.line.Line.TheVariants.{A, B, Gap}
@@ -59,7 +60,8 @@ AreDuePieces s turn datagrams = AllByRecursion (IsDuePiece s turn) datagrams
 
 -- the datagrams of the turn's message; there is none once all were accepted
 abbrev pub new_datagrams : Setting → ℕ → List (List ℕ)
-new_datagrams s turn = packed demo_unit (accepted s (turn - 1) + 1) (drop (accepted s (turn - 1)) (messages s turn))
+new_datagrams s turn =
+    packed demo_unit (accepted s (turn - 1) + 1) (drop (accepted s (turn - 1)) (messages s turn))
 
 -- a turn's copy is lost on a line by the rule of losses; nothing of the venue is sent on the gap
 -- line
@@ -69,7 +71,8 @@ line_number B = 2
 line_number Gap = 3
 
 abbrev pub copies : Setting → Line → ℕ → List (List ℕ)
-copies s line turn = if is_lost s.number demo_unit turn (line_number line) then [] else new_datagrams s turn
+copies s line turn =
+    if is_lost s.number demo_unit turn (line_number line) then [] else new_datagrams s turn
 
 -- every tenth turn has a heartbeat and a tick
 abbrev pub is_tenth : ℕ → Bool
@@ -96,11 +99,14 @@ ticks (suc turn) = if is_tenth (suc turn) then ticks turn + 1 else ticks turn
 -- that of the last message
 abbrev pub advertised_until : Setting → ℕ → List ℕ
 advertised_until s zero = []
-advertised_until s (suc turn) = if is_tenth (suc turn) then with_sequence (advertised_until s turn) (accepted s (suc turn)) else advertised_until s turn
+advertised_until s (suc turn) =
+    if is_tenth (suc turn) then with_sequence (advertised_until s turn) (accepted s (suc turn))
+    else advertised_until s turn
 
 -- in a turn the servers answer from all that was accepted and advertised up to it
 abbrev pub gap_view : Setting → ℕ → View
 gap_view s turn = record { messages = messages s turn; kept = kept_messages }
 
 abbrev pub spin_view : Setting → ℕ → Served
-spin_view s turn = record { messages = messages s turn; advertised = last_ten (advertised_until s turn) }
+spin_view s turn =
+    record { messages = messages s turn; advertised = last_ten (advertised_until s turn) }

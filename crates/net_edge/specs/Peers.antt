@@ -41,12 +41,26 @@ down_of ProxyPeer = GrpDown
 down_of SpinPeer = SpinDown
 
 -- what is asked goes through its link
-abbrev pub asked_of : (peer : Peer) → Option Ask → Connection (LooksIn peer) → Connection (LooksIn peer)
+abbrev pub asked_of : (peer : Peer)
+    → Option Ask → Connection (LooksIn peer) → Connection (LooksIn peer)
 asked_of ProxyPeer = gap_asked
 asked_of SpinPeer = image_asked
 
--- a scene with another end of the client: the end, what it says, what happened at it, and whether it
--- is cut; and with what the client heard
-abbrev pub with_client_end : Peer → AtEnd → Pipe → List (Event Lookups) → Bool → List Entry → Scene → Scene
-with_client_end ProxyPeer end up link cut heard now = record now { grp_client = end; grp = record now.grp { up = up; link = link }; grp_cut = cut; heard = heard }
-with_client_end SpinPeer end up link cut heard now = record now { spin_client = end; spin = record now.spin { up = up; link = link }; spin_cut = cut; heard = heard }
+-- a scene with another end of the client: the end, what it says, what happened at it, and whether
+-- it is cut; and with what the client heard
+abbrev pub with_client_end : Peer
+    → AtEnd → Pipe → List (Event Lookups) → Bool → List Entry → Scene → Scene
+with_client_end ProxyPeer end up link cut heard now =
+    record now {
+      grp_client = end;
+      grp = record now.grp { up = up; link = link };
+      grp_cut = cut;
+      heard = heard;
+    }
+with_client_end SpinPeer end up link cut heard now =
+    record now {
+      spin_client = end;
+      spin = record now.spin { up = up; link = link };
+      spin_cut = cut;
+      heard = heard;
+    }

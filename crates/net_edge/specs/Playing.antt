@@ -1,5 +1,6 @@
 -- What the code knows of a run that is under way. No caller needs it.
-use Rattle.std.specs.Prelude.{◌≡◌, ◌≤◌, ℕ, length, ◌-◌, Bool, true, false, not, ◌||◌, ◌&&◌, List, [], ◌∷◌, ◌++◌, Option, None, Some, is_some, if◌then◌else◌}
+use Rattle.std.specs.Prelude.{◌≡◌, ◌≤◌, ℕ, length, ◌-◌, Bool, true, false, not, ◌||◌, ◌&&◌, List}
+use Rattle.std.specs.Prelude.{[], ◌∷◌, ◌++◌, Option, None, Some, is_some, if◌then◌else◌}
 use Rattle.std.specs.List.{AllByRecursion}
 use Rattle.pitch_fields.specs.Fields.{AreBytes}
 use Rattle.pitch_fields.specs.Limits.{last_sequence}
@@ -32,8 +33,10 @@ use Rattle.client_core.specs.declared.client.UnitClient.{UnitClient}
 use Rattle.world_model.specs.Connections.{KeepsShelf}
 use Rattle.world_model.specs.Ends.{grp_server, spin_server, gap_link, spin_link}
 use Rattle.world_model.specs.State.{Connection, Pipe}
-use Rattle.net_edge.specs.Acting.{scene_of, is_group_open, source_at, sent_on, end_puts, taken_at, all_tick}
-use Rattle.net_edge.specs.Due.{Setting, demo_unit, kept_messages, hold_limit, request_limits, accepted, messages, advertised_until, beat, due, is_tenth, ticks}
+use Rattle.net_edge.specs.Acting.{scene_of, is_group_open, source_at, sent_on, end_puts, taken_at}
+use Rattle.net_edge.specs.Acting.{all_tick}
+use Rattle.net_edge.specs.Due.{Setting, demo_unit, kept_messages, hold_limit, request_limits}
+use Rattle.net_edge.specs.Due.{accepted, messages, advertised_until, beat, due, is_tenth, ticks}
 use Rattle.net_edge.specs.Scene.{Scene, OnLine, AtEnd, line_in, with_line, at_end, said_at, all_put}
 use Rattle.net_edge.specs.Peers.{Peer, LooksIn, end_of, peer_setup, down_of, with_client_end}
 use Rattle.net_edge.specs.Steps.{Step, calls_of}
@@ -60,7 +63,8 @@ calls_before None = []
 calls_before (Some calls) = Begin Done ∷ calls
 
 -- a run that leads to a scene
-pub record LeadsTo (s : Setting) (base : List Call) (calls : Option (List Call)) (now : Scene) (run : List Step) : Type 0 where
+pub record LeadsTo (s : Setting)
+    (base : List Call) (calls : Option (List Call)) (now : Scene) (run : List Step) : Type 0 where
   pub told : ListsCalls base calls run
   pub steps : AreSteps s run
   pub now_is : scene_of s run ≡ now
@@ -85,7 +89,8 @@ BreaksRun before after error =
 
 -- ---- The ends
 -- the venue has these messages and sent so many of them, and proxy and Spin Server look them up
-pub record MarketHas (market : Market) (messages : List Raw) (sent : ℕ) (advertised : List ℕ) : Type 0 where
+pub record MarketHas (market : Market) (messages : List Raw) (sent : ℕ) (advertised : List ℕ) :
+    Type 0 where
   pub unit_is : market.venue.unit ≡ demo_unit
   pub venue : VenueStands market.venue messages sent
   pub store_is : market.store ≡ store_of (record { messages = messages; kept = kept_messages })
@@ -121,7 +126,8 @@ pub record ClientHas (client : UnitClient) (E : List Entry) : Type 0 where
 
 -- ---- Within a turn: what one part of it has done so far; all else is as it was
 -- on a line the client heard what came
-pub record HearsOn (s : Setting) (base : List Call) (calls : Option (List Call)) (client : UnitClient) (line : Line) (answers : List NetTaken) (now : Scene) : Type 0 where
+pub record HearsOn (s : Setting) (base : List Call) (calls : Option (List Call))
+    (client : UnitClient) (line : Line) (answers : List NetTaken) (now : Scene) : Type 0 where
   pub on : OnLine
   pub heard : List Entry
   pub answers_are : on.answers ≡ answers
@@ -132,10 +138,18 @@ pub record HearsOn (s : Setting) (base : List Call) (calls : Option (List Call))
 -- a scene with another end of the proxy: the end, what it says, what happened at it, and what it
 -- accepted; and with the datagrams that it had for the gap line, which were sent
 abbrev pub with_proxy : AtEnd → Pipe → List (Event Source) → Spent → List (List ℕ) → Scene → Scene
-with_proxy end down server spent lines now = record now { grp_server = end; grp = record now.grp { down = down; server = server }; spent = spent; replayed = lines; gap = record now.gap { sent = lines } }
+with_proxy end down server spent lines now =
+    record now {
+      grp_server = end;
+      grp = record now.grp { down = down; server = server };
+      spent = spent;
+      replayed = lines;
+      gap = record now.gap { sent = lines };
+    }
 
 -- the proxy took what came, and what it said was put and sent
-pub record ProxyServes (s : Setting) (base : List Call) (calls : Option (List Call)) (proxy : Proxy) (answers : List NetTaken) (ended : Bool) (now : Scene) : Type 0 where
+pub record ProxyServes (s : Setting) (base : List Call) (calls : Option (List Call))
+    (proxy : Proxy) (answers : List NetTaken) (ended : Bool) (now : Scene) : Type 0 where
   pub end : AtEnd
   pub server : List (Event Source)
   pub down : Pipe
@@ -149,21 +163,28 @@ pub record ProxyServes (s : Setting) (base : List Call) (calls : Option (List Ca
 
 -- what the proxy answers to bytes
 abbrev pub proxy_said : Setting → List ℕ → Scene → Answer Spent
-proxy_said s bytes now = proxy_answer (grp_server demo_unit) now.grp.server bytes (source_at s bytes now)
+proxy_said s bytes now =
+    proxy_answer (grp_server demo_unit) now.grp.server bytes (source_at s bytes now)
 
 -- bytes were fed to the proxy, and this is what it says of them
-pub record ProxyFed (s : Setting) (bytes : List ℕ) (now : Scene) (proxy : Proxy) (said : List ℕ) (lines : List (List ℕ)) : Type 0 where
-  pub has : ProxyHas proxy (Fed bytes (source_at s bytes now) ∷ now.grp.server) (proxy_said s bytes now).knows
+pub record ProxyFed (s : Setting) (bytes : List ℕ)
+    (now : Scene) (proxy : Proxy) (said : List ℕ) (lines : List (List ℕ)) : Type 0 where
+  pub has : ProxyHas proxy (Fed bytes (source_at s bytes now) ∷ now.grp.server)
+      (proxy_said s bytes now).knows
   pub said_is : said ≡ (proxy_said s bytes now).reply
   pub lines_are : lines ≡ (proxy_said s bytes now).lines
 
 -- the proxy was fed what it took from a scene, and what it said was put and sent
-pub record ProxyAnswers (s : Setting) (base : List Call) (calls : Option (List Call)) (proxy : Proxy) (bytes : List ℕ) (count : ℕ) (now : Scene) : Type 0 where
-  pub has : ProxyHas proxy (Fed bytes (source_at s bytes now) ∷ now.grp.server) (proxy_said s bytes now).knows
-  pub plays : Plays s base calls (sent_on Gap (proxy_said s bytes now).lines (end_puts GrpServer (proxy_said s bytes now).reply (taken_at s GrpServer bytes (Got count) now)))
+pub record ProxyAnswers (s : Setting) (base : List Call) (calls : Option (List Call))
+    (proxy : Proxy) (bytes : List ℕ) (count : ℕ) (now : Scene) : Type 0 where
+  pub has : ProxyHas proxy (Fed bytes (source_at s bytes now) ∷ now.grp.server)
+      (proxy_said s bytes now).knows
+  pub plays : Plays s base calls (sent_on Gap (proxy_said s bytes now).lines (end_puts GrpServer
+      (proxy_said s bytes now).reply (taken_at s GrpServer bytes (Got count) now)))
 
 -- the Spin Server took what came, and what it said was put
-pub record SpinServes (s : Setting) (base : List Call) (calls : Option (List Call)) (spin : Serving) (answers : List NetTaken) (ended : Bool) (now : Scene) : Type 0 where
+pub record SpinServes (s : Setting) (base : List Call) (calls : Option (List Call))
+    (spin : Serving) (answers : List NetTaken) (ended : Bool) (now : Scene) : Type 0 where
   pub end : AtEnd
   pub server : List (Event (List Served))
   pub down : Pipe
@@ -171,10 +192,14 @@ pub record SpinServes (s : Setting) (base : List Call) (calls : Option (List Cal
   pub ended_is : end.ended ≡ ended
   pub put_is : end.put ≡ down.put
   pub has : SpinHas spin server
-  pub plays : Plays s base calls (record now { spin_server = end; spin = record { up = now.spin.up; down = down; server = server; link = now.spin.link } })
+  pub plays : Plays s base calls (record now {
+    spin_server = end;
+    spin = record { up = now.spin.up; down = down; server = server; link = now.spin.link };
+  })
 
 -- the Spin Server made a connection of another, and what it said by that is to be put
-pub record SpinSays (spin : Serving) (said : List ℕ) (before after : Connection (List Served)) : Type 0 where
+pub record SpinSays (spin : Serving) (said : List ℕ) (before after : Connection (List Served)) :
+    Type 0 where
   pub has : SpinHas spin after.server
   pub says : after.down.put ≡ before.down.put ++ said
   pub up_is : after.up ≡ before.up
@@ -189,13 +214,17 @@ abbrev pub told_down : Peer → Bool → List Entry → List Entry
 told_down peer shut E = if shut then down_of peer ∷ E else E
 
 -- a link was fed bytes, and the client heard what it told, and that it is down where it closed
-pub record LinkTells (peer : Peer) (link : Ending) (client : UnitClient) (bytes : List ℕ) (events : List (Event Lookups)) (E : List Entry) (shut : Bool) : Type 0 where
+pub record LinkTells (peer : Peer) (link : Ending) (client : UnitClient)
+    (bytes : List ℕ) (events : List (Event Lookups)) (E : List Entry) (shut : Bool) : Type 0 where
   pub link_has : LinkHas (peer_setup peer) link (Fed bytes NoLookup ∷ events)
   pub shut_is : shut ≡ closes peer false (Fed bytes NoLookup ∷ events)
-  pub has : ClientHas client (told_down peer shut (heard_all (link_tells (peer_setup peer) events bytes) E))
+  pub has : ClientHas client
+      (told_down peer shut (heard_all (link_tells (peer_setup peer) events bytes) E))
 
 -- the client heard what one of its links took
-pub record HearsLink (peer : Peer) (s : Setting) (base : List Call) (calls : Option (List Call)) (link : Ending) (client : UnitClient) (answers : List NetTaken) (cut : Bool) (now : Scene) : Type 0 where
+pub record HearsLink (peer : Peer) (s : Setting) (base : List Call) (calls : Option (List Call))
+    (link : Ending) (client : UnitClient) (answers : List NetTaken) (cut : Bool) (now : Scene) :
+    Type 0 where
   pub end : AtEnd
   pub events : List (Event Lookups)
   pub up : Pipe
@@ -209,43 +238,51 @@ pub record HearsLink (peer : Peer) (s : Setting) (base : List Call) (calls : Opt
   pub plays : Plays s base calls (with_client_end peer end up events cut heard now)
 
 -- ---- Ticks: an end made a connection of another, and what it said by that
-pub record ProxySays (proxy : Proxy) (said : List ℕ) (before after : Connection Source) (spent : Spent) : Type 0 where
+pub record ProxySays (proxy : Proxy)
+    (said : List ℕ) (before after : Connection Source) (spent : Spent) : Type 0 where
   pub has : ProxyHas proxy after.server spent
   pub says : after.down.put ≡ before.down.put ++ said
   pub up_is : after.up ≡ before.up
   pub link_is : after.link ≡ before.link
 
-pub record LinkSays {X : Type 0} (setup : Setup) (link : Ending) (said : List ℕ) (before after : Connection X) : Type 0 where
+pub record LinkSays {X : Type 0}
+    (setup : Setup) (link : Ending) (said : List ℕ) (before after : Connection X) : Type 0 where
   pub link_has : LinkHas setup link after.link
   pub says : after.up.put ≡ before.up.put ++ said
   pub down_is : after.down ≡ before.down
   pub server_is : after.server ≡ before.server
 
 -- and it was put
-pub record ProxyActs (s : Setting) (base : List Call) (calls : Option (List Call)) (proxy : Proxy) (before after : Connection Source) (spent : Spent) (now : Scene) : Type 0 where
+pub record ProxyActs (s : Setting) (base : List Call) (calls : Option (List Call))
+    (proxy : Proxy) (before after : Connection Source) (spent : Spent) (now : Scene) : Type 0 where
   pub said : List ℕ
   pub is : ProxySays proxy said before after spent
   pub plays : Plays s base calls (end_puts GrpServer said now)
 
-pub record SpinActs (s : Setting) (base : List Call) (calls : Option (List Call)) (spin : Serving) (before after : Connection (List Served)) (now : Scene) : Type 0 where
+pub record SpinActs (s : Setting) (base : List Call) (calls : Option (List Call))
+    (spin : Serving) (before after : Connection (List Served)) (now : Scene) : Type 0 where
   pub said : List ℕ
   pub is : SpinSays spin said before after
   pub plays : Plays s base calls (end_puts SpinServer said now)
 
-pub record LinkActs (peer : Peer) (s : Setting) (base : List Call) (calls : Option (List Call)) (link : Ending) (before after : Connection (LooksIn peer)) (now : Scene) : Type 0 where
+pub record LinkActs (peer : Peer) (s : Setting) (base : List Call) (calls : Option (List Call))
+    (link : Ending) (before after : Connection (LooksIn peer)) (now : Scene) : Type 0 where
   pub said : List ℕ
   pub is : LinkSays (peer_setup peer) link said before after
   pub plays : Plays s base calls (end_puts (end_of peer) said now)
 
 -- a link ticked where its connection stands; the client heard where it closed then, and it is cut
-pub record LinkTicks (peer : Peer) (s : Setting) (base : List Call) (calls : Option (List Call)) (link : Ending) (client : UnitClient) (before after : Connection (LooksIn peer)) (E : List Entry) (cut cut' : Bool) (now : Scene) : Type 0 where
+pub record LinkTicks (peer : Peer) (s : Setting) (base : List Call) (calls : Option (List Call))
+    (link : Ending) (client : UnitClient) (before after : Connection (LooksIn peer))
+    (E : List Entry) (cut cut' : Bool) (now : Scene) : Type 0 where
   pub acts : LinkActs peer s base calls link before after now
   pub cut_is : cut' ≡ (cut || closes peer cut after.link)
   pub has : ClientHas client (told_down peer (closes peer cut after.link) E)
 
 -- a link in the code is that of a scene: it is cut where its connection is, an end that got End is
 -- cut, and all that it said was put
-pub record LinkAt (setup : Setup) (link : Ending) (cut : Bool) (end : AtEnd) (is_cut : Bool) (events : List (Event Lookups)) (said : List ℕ) : Type 0 where
+pub record LinkAt (setup : Setup) (link : Ending) (cut : Bool)
+    (end : AtEnd) (is_cut : Bool) (events : List (Event Lookups)) (said : List ℕ) : Type 0 where
   pub has : LinkHas setup link events
   pub cut_is : cut ≡ is_cut
   pub ended : end.ended ≡ true → is_cut ≡ true
@@ -261,8 +298,10 @@ pub record EndsHave (ends : Ends) (now : Scene) : Type 0 where
   pub proxy : ProxyHas ends.proxy now.grp.server now.spent
   pub spin : SpinHas ends.spin now.spin.server
   pub client : ClientHas ends.client now.heard
-  pub gap_link : LinkAt gap_link ends.gap_link ends.grp_cut now.grp_client now.grp_cut now.grp.link now.grp.up.put
-  pub spin_link : LinkAt (spin_link demo_unit) ends.spin_link ends.spin_cut now.spin_client now.spin_cut now.spin.link now.spin.up.put
+  pub gap_link : LinkAt gap_link
+      ends.gap_link ends.grp_cut now.grp_client now.grp_cut now.grp.link now.grp.up.put
+  pub spin_link : LinkAt (spin_link demo_unit)
+      ends.spin_link ends.spin_cut now.spin_client now.spin_cut now.spin.link now.spin.up.put
   pub grp_server : ServerAt ends.grp_ended now.grp_server now.grp.down.put
   pub spin_server : ServerAt ends.spin_ended now.spin_server now.spin.down.put
   -- all that the proxy had for the gap line was sent
@@ -271,11 +310,13 @@ pub record EndsHave (ends : Ends) (now : Scene) : Type 0 where
 -- ---- Turns
 -- the market at the end of a turn's step with the venue
 abbrev pub MarketAt : Setting → Market → ℕ → Type 0
-MarketAt s market turn = MarketHas market (messages s turn) (accepted s turn) (advertised_until s turn)
+MarketAt s market turn =
+    MarketHas market (messages s turn) (accepted s turn) (advertised_until s turn)
 
 -- the market in a turn, when what was accepted was sent and nothing was advertised yet
 abbrev pub IsFlushed : Setting → Market → ℕ → Type 0
-IsFlushed s market turn = MarketHas market (messages s turn) (accepted s turn) (advertised_until s (turn - 1))
+IsFlushed s market turn =
+    MarketHas market (messages s turn) (accepted s turn) (advertised_until s (turn - 1))
 
 -- nothing was called in this turn yet
 pub record IsUncalled (now : Scene) : Type 0 where
@@ -294,13 +335,15 @@ pub record IsSentTo (s : Setting) (turn : ℕ) (now : Scene) : Type 0 where
   pub ticked : now.ticked ≡ ticks turn
 
 -- the code's ends and the net's calls are those of a scene
-pub record DemoAt (s : Setting) (base : List Call) (calls : Option (List Call)) (ends : Ends) (now : Scene) : Type 0 where
+pub record DemoAt (s : Setting)
+    (base : List Call) (calls : Option (List Call)) (ends : Ends) (now : Scene) : Type 0 where
   pub has : EndsHave ends now
   pub plays : Plays s base calls now
 
 -- ---- The parts of a turn
 -- the venue has done its part
-pub record VenueDone (s : Setting) (base : List Call) (calls : Option (List Call)) (turn : ℕ) (ends : Ends) (now : Scene) : Type 0 where
+pub record VenueDone (s : Setting) (base : List Call)
+    (calls : Option (List Call)) (turn : ℕ) (ends : Ends) (now : Scene) : Type 0 where
   pub at : DemoAt s base calls ends now
   pub turn_is : now.turn ≡ turn
   pub sent : IsSentTo s turn now
@@ -313,7 +356,8 @@ IsServed end cut =
     → (end.ended || after) ≡ true
 
 -- then the servers are done with their calls, and the client with none
-pub record ServersDone (s : Setting) (base : List Call) (calls : Option (List Call)) (turn : ℕ) (ends : Ends) (now : Scene) : Type 0 where
+pub record ServersDone (s : Setting) (base : List Call)
+    (calls : Option (List Call)) (turn : ℕ) (ends : Ends) (now : Scene) : Type 0 where
   pub at : DemoAt s base calls ends now
   pub turn_is : now.turn ≡ turn
   pub sent : IsSentTo s turn now
@@ -326,7 +370,8 @@ pub record ServersDone (s : Setting) (base : List Call) (calls : Option (List Ca
   pub spin_server : IsServed now.spin_server ends.spin_cut
 
 -- then the client has heard its lines
-pub record LinesDone (s : Setting) (base : List Call) (calls : Option (List Call)) (turn : ℕ) (ends : Ends) (now : Scene) : Type 0 where
+pub record LinesDone (s : Setting) (base : List Call)
+    (calls : Option (List Call)) (turn : ℕ) (ends : Ends) (now : Scene) : Type 0 where
   pub at : DemoAt s base calls ends now
   pub turn_is : now.turn ≡ turn
   pub sent : IsSentTo s turn now
@@ -350,7 +395,8 @@ AreTaken answers over = is_group_open answers ≡ true → over ≡ true
 -- ---- A heartbeat
 -- it was sent on both lines, all ticked, and what they said was put
 abbrev pub after_beat : Setting → Scene → Scene
-after_beat s now = all_put (all_tick s (sent_on B (beat s now.turn ∷ []) (sent_on A (beat s now.turn ∷ []) now)))
+after_beat s now =
+    all_put (all_tick s (sent_on B (beat s now.turn ∷ []) (sent_on A (beat s now.turn ∷ []) now)))
 
 -- the same in every tenth turn
 abbrev pub after_due_beat : Setting → Scene → Scene

@@ -3,7 +3,8 @@ use Rattle.std.specs.Prelude.{ℕ, Bool, false, true, ◌||◌, List, []}
 use Rattle.pitch_io.specs.declared.line.Line.{Line}
 use Rattle.pitch_io.specs.declared.line.Line.TheVariants.{A, B, Gap}
 use Rattle.pitch_io.specs.declared.net.LinkEnd.{LinkEnd}
-use Rattle.pitch_io.specs.declared.net.LinkEnd.TheVariants.{GrpClient, GrpServer, SpinClient, SpinServer}
+use Rattle.pitch_io.specs.declared.net.LinkEnd.TheVariants.{GrpClient, GrpServer, SpinClient}
+use Rattle.pitch_io.specs.declared.net.LinkEnd.TheVariants.{SpinServer}
 use Rattle.pitch_io.specs.declared.net.NetTaken.{NetTaken}
 use Rattle.pitch_io.specs.declared.net.NetTaken.TheVariants.{Got, End}
 use Rattle.pitch_model.specs.History.{Entry}
@@ -48,8 +49,8 @@ pub record Scene : Type 0 where
   pub spin : Connection (List Served)
   pub grp_cut : Bool
   pub spin_cut : Bool
-  -- how many ticks there were; those at which gap requests were accepted; and the datagrams that the
-  -- proxy has for the gap line, in their order
+  -- how many ticks there were; those at which gap requests were accepted; and the datagrams that
+  -- the proxy has for the gap line, in their order
   pub ticked : ℕ
   pub spent : Spent
   pub replayed : List (List ℕ)

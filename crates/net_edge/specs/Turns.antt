@@ -9,7 +9,8 @@ use Rattle.pitch_model.specs.Status.{status_of}
 use Rattle.pitch_model.specs.declared.status.Status.{Status}
 use Rattle.pitch_model.specs.declared.status.Status.TheVariants.{Current}
 use Rattle.net_edge.specs.Acting.{is_group_open, scene_of}
-use Rattle.net_edge.specs.Due.{Setting, IsDuePiece, call_room, hold_limit, beat, due, is_tenth, ticks}
+use Rattle.net_edge.specs.Due.{Setting, IsDuePiece, call_room, hold_limit, beat, due, is_tenth}
+use Rattle.net_edge.specs.Due.{ticks}
 use Rattle.net_edge.specs.Scene.{Scene, line_in, at_end, said_at, is_done}
 use Rattle.net_edge.specs.Steps.{Step, Did, Beat, Turn}
 
@@ -22,8 +23,8 @@ GoesWell (Put at piece answer) = PutFailed answer → ⊥
 GoesWell (Take at room bytes answer) = NetTakeFailed answer → ⊥
 
 -- a datagram that is sent has the venue's messages; a call of `next` or `take` has room for the
--- longest datagram; it comes while the turn's group of them is open, which ends with its first Quiet
--- or End, or with the 100th call; and no end is asked that got End or was cut
+-- longest datagram; it comes while the turn's group of them is open, which ends with its first
+-- Quiet or End, or with the 100th call; and no end is asked that got End or was cut
 abbrev pub MayCall : Setting → Call → Scene → Type 0
 MayCall s (Send line datagram answer) now = IsDuePiece s now.turn datagram
 MayCall s (Next line room bytes answer) now =
@@ -37,8 +38,8 @@ abbrev pub IsEndOver : LinkEnd → Scene → Type 0
 IsEndOver at now = is_group_open (at_end at now).answers ≡ true → is_done at now ≡ true
 
 -- a turn is over: on each line and at each end its group of calls is, what it brings was sent, and
--- its tick came; what was put at an end is what it said, and on the gap line went what the proxy had
--- for it
+-- its tick came; what was put at an end is what it said, and on the gap line went what the proxy
+-- had for it
 pub record IsOver (s : Setting) (now : Scene) : Type 0 where
   pub lines : (line : Line) → is_group_open (line_in line now).answers ≡ false
   pub ends : (at : LinkEnd) → IsEndOver at now

@@ -10,7 +10,8 @@ ghost use Rattle.client_links.specs.Linking.{Lookups, NoLookup, LinkStands, link
 ghost use Rattle.client_links.specs.Telling.{without_spare};
 ghost use Rattle.world_model.specs.State.{Connection};
 ghost use Rattle.net_edge.specs.Playing.{ClientHas, LinkHas, LinkSays};
-ghost use Rattle.net_edge.specs.Peers.{Peer, ProxyPeer, SpinPeer, LooksIn, end_of, peer_setup, down_of, asked_of};
+ghost use Rattle.net_edge.specs.Peers.{Peer, ProxyPeer, SpinPeer, LooksIn, end_of, peer_setup};
+ghost use Rattle.net_edge.specs.Peers.{down_of, asked_of};
 
 use client_core::UnitClient;
 use client_links::{GapLink, ItemList, SpinLink};

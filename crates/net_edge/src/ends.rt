@@ -1,11 +1,14 @@
 //! The four ends and the client, and what a turn does with them.
 
-ghost use Rattle.std.specs.Prelude.{◌≡◌, ◌≤◌, ◌<◌, ◌-◌, ℕ, List, [], ◌∷◌, length, OnOk, IfOk, IfErr, true};
+ghost use Rattle.std.specs.Prelude.{◌≡◌, ◌≤◌, ◌<◌, ◌-◌, ℕ, List, [], ◌∷◌, length, OnOk, IfOk};
+ghost use Rattle.std.specs.Prelude.{IfErr, true};
 ghost use Rattle.pitch_io.specs.Nets.{Call};
 ghost use Rattle.net_edge.specs.Acting.{all_tick};
 ghost use Rattle.net_edge.specs.Breaking.{Breaks};
 ghost use Rattle.net_edge.specs.Due.{Setting, setting, call_room, accepted, is_tenth};
-ghost use Rattle.net_edge.specs.Playing.{RoseAtFault, Plays, BreaksRun, EndsHave, MarketAt, IsFlushed, IsUncalled, IsSentTo, DemoAt, VenueDone, ServersDone, LinesDone, after_beat, after_due_beat};
+ghost use Rattle.net_edge.specs.Playing.{RoseAtFault, Plays, BreaksRun, EndsHave, MarketAt};
+ghost use Rattle.net_edge.specs.Playing.{IsFlushed, IsUncalled, IsSentTo, DemoAt, VenueDone};
+ghost use Rattle.net_edge.specs.Playing.{ServersDone, LinesDone, after_beat, after_due_beat};
 ghost use Rattle.net_edge.specs.Scene.{Scene, all_put};
 ghost use Rattle.net_edge.specs.Turns.{IsOver};
 

@@ -1,6 +1,7 @@
 //! The client's ends of the two connections.
 
-ghost use Rattle.std.specs.Prelude.{◌≡◌, ◌≤◌, ◌<◌, ℕ, Bool, false, true, ◌||◌, List, [], ◌∷◌, length, OnOk, IfOk, IfErr};
+ghost use Rattle.std.specs.Prelude.{◌≡◌, ◌≤◌, ◌<◌, ℕ, Bool, false, true, ◌||◌, List, [], ◌∷◌};
+ghost use Rattle.std.specs.Prelude.{length, OnOk, IfOk, IfErr};
 ghost use Rattle.pitch_io.specs.Nets.{Call};
 ghost use Rattle.pitch_io.specs.declared.net.NetTaken.{NetTaken as TakenSaid};
 ghost use Rattle.pitch_model.specs.History.{Entry};
@@ -11,7 +12,9 @@ ghost use Rattle.world_model.specs.Verbs.{at_link};
 ghost use Rattle.net_edge.specs.Acting.{is_group_open, where_stands};
 ghost use Rattle.net_edge.specs.Breaking.{Breaks};
 ghost use Rattle.net_edge.specs.Due.{Setting, call_room};
-ghost use Rattle.net_edge.specs.Playing.{RoseAtFault, Plays, KeepsRun, BreaksRun, ClientHas, LinkHas, LinkTells, LinkSays, LinkActs, LinkTicks, closes, told_down, HearsLink, AreTaken};
+ghost use Rattle.net_edge.specs.Playing.{RoseAtFault, Plays, KeepsRun, BreaksRun, ClientHas};
+ghost use Rattle.net_edge.specs.Playing.{LinkHas, LinkTells, LinkSays, LinkActs, LinkTicks, closes};
+ghost use Rattle.net_edge.specs.Playing.{told_down, HearsLink, AreTaken};
 ghost use Rattle.net_edge.specs.Scene.{Scene};
 ghost use Rattle.net_edge.specs.Peers.{LooksIn, peer_setup, asked_of};
 
@@ -65,8 +68,8 @@ fn feed_link<L: ClientEnd>(
     Ok(shut)
 }
 
-// One call of `take` at the client's end of a connection; End is heard as a cut. Answers what `take`
-// gave, and whether the connection is cut now.
+// One call of `take` at the client's end of a connection; End is heard as a cut. Answers what
+// `take` gave, and whether the connection is cut now.
 fn hear_link_once<N: Net, L: ClientEnd>(
     alloc: Global,
     net: &mut N,

@@ -1,6 +1,7 @@
 //! The proxy's end of its connection.
 
-ghost use Rattle.std.specs.Prelude.{◌≡◌, ◌≤◌, ◌<◌, ℕ, Bool, false, true, ◌||◌, List, [], ◌∷◌, ◌++◌, length, OnOk, IfOk, IfErr};
+ghost use Rattle.std.specs.Prelude.{◌≡◌, ◌≤◌, ◌<◌, ℕ, Bool, false, true, ◌||◌, List, [], ◌∷◌, ◌++◌};
+ghost use Rattle.std.specs.Prelude.{length, OnOk, IfOk, IfErr};
 ghost use Rattle.pitch_io.specs.Nets.{Call};
 ghost use Rattle.pitch_io.specs.declared.net.LinkEnd.TheVariants.{GrpServer as ServerEnd};
 ghost use Rattle.pitch_io.specs.declared.net.NetTaken.{NetTaken as TakenSaid};
@@ -15,7 +16,9 @@ ghost use Rattle.world_model.specs.Verbs.{at_grp_server};
 ghost use Rattle.net_edge.specs.Acting.{taken_at, where_stands, is_group_open};
 ghost use Rattle.net_edge.specs.Breaking.{Breaks};
 ghost use Rattle.net_edge.specs.Due.{Setting, demo_unit, gap_view, messages};
-ghost use Rattle.net_edge.specs.Playing.{RoseAtFault, Plays, KeepsRun, BreaksRun, KeepsStore, ProxyHas, ProxyFed, ProxyAnswers, ProxyServes, ProxySays, ProxyActs, AreTaken};
+ghost use Rattle.net_edge.specs.Playing.{RoseAtFault, Plays, KeepsRun, BreaksRun, KeepsStore};
+ghost use Rattle.net_edge.specs.Playing.{ProxyHas, ProxyFed, ProxyAnswers, ProxyServes, ProxySays};
+ghost use Rattle.net_edge.specs.Playing.{ProxyActs, AreTaken};
 ghost use Rattle.net_edge.specs.Scene.{Scene, got_end};
 
 use crate::error::DemoError;
@@ -151,7 +154,8 @@ fn serve_piece<N: Net>(
 impl ServerEnd for Proxy {
     type Store = GapStore;
 
-    ghost serves = { λ proxy s base calls answers ended now. ProxyServes s base calls proxy answers ended now };
+    ghost serves = { λ proxy s base calls answers ended now.
+        ProxyServes s base calls proxy answers ended now };
 
     ghost shows = { λ store s now. KeepsStore store (messages s now.turn) };
 

@@ -1,6 +1,7 @@
 //! The demo: turns of both ends until the client is current.
 
-ghost use Rattle.std.specs.Prelude.{◌≡◌, ◌≤◌, ◌<◌, ◌+◌, ◌++◌, ◌⊎◌, List, [], length, OnOk, OnErr, IfOk, IfErr, MatchBool};
+ghost use Rattle.std.specs.Prelude.{◌≡◌, ◌≤◌, ◌<◌, ◌+◌, ◌++◌, ◌⊎◌, List, [], length, OnOk, OnErr};
+ghost use Rattle.std.specs.Prelude.{IfOk, IfErr, MatchBool};
 ghost use Rattle.std.specs.FinMap as map;
 ghost use Rattle.pitch_io.specs.Causes.{Rose};
 ghost use Rattle.pitch_io.specs.Nets.{Call, Begin, ListsCall};
@@ -17,7 +18,8 @@ ghost use Rattle.net_edge.specs.declared.error.DemoError.TheVariants as errors;
 ghost use Rattle.net_edge.specs.Breaking.{Breaks};
 ghost use Rattle.net_edge.specs.Demo.{IsDemo, IsLast, BreaksDemo, SendsPieces};
 ghost use Rattle.net_edge.specs.Due.{Setting, setting, demo_unit, call_room, hold_limit};
-ghost use Rattle.net_edge.specs.Playing.{RoseAtFault, ClientHas, SpinHas, EndsHave, DemoAt, MarketHas, MarketAt, Plays, calls_before};
+ghost use Rattle.net_edge.specs.Playing.{RoseAtFault, ClientHas, SpinHas, EndsHave, DemoAt};
+ghost use Rattle.net_edge.specs.Playing.{MarketHas, MarketAt, Plays, calls_before};
 ghost use Rattle.net_edge.specs.Scene.{Scene, first_scene, all_put, said_at};
 ghost use Rattle.net_edge.specs.Turns.{IsOver};
 
@@ -264,11 +266,11 @@ fn play<N: Net>(
 /// Runs both ends of unit 1 over a net, and appends the unit's line to `out`: the status of its
 /// client, and the orders and the shares of its book. `out` is as before after an error.
 ///
-/// The venue accepts `count` messages of the plan that `number` makes, 1 to 1,000, one in each turn;
-/// their copies are lost on lines A and B by the rule of losses. Every tenth turn has a heartbeat
-/// and a tick. In each turn the servers are fed what comes to them, and the client hears what comes
-/// on its lines and connections. The run ends with the first turn after the last message at whose
-/// end the client is current, and at the latest 200 turns after it.
+/// The venue accepts `count` messages of the plan that `number` makes, 1 to 1,000, one in each
+/// turn; their copies are lost on lines A and B by the rule of losses. Every tenth turn has a
+/// heartbeat and a tick. In each turn the servers are fed what comes to them, and the client hears
+/// what comes on its lines and connections. The run ends with the first turn after the last message
+/// at whose end the client is current, and at the latest 200 turns after it.
 ///
 /// Where the net lists its calls, they are those of such a run, whatever the net does with what it
 /// is given. Where it carries that, in whatever order and with whatever losses, the orders and the

@@ -1,7 +1,8 @@
 //! The servers' two ends as one: a turn's calls of `take` at the proxy's end, and at that of the
 //! Spin Server.
 
-ghost use Rattle.std.specs.Prelude.{◌≡◌, ◌≤◌, ◌<◌, Bool, false, true, ◌||◌, ◌&&◌, not, List, [], ◌∷◌, length, Option, IfOk, IfErr, OnOk};
+ghost use Rattle.std.specs.Prelude.{◌≡◌, ◌≤◌, ◌<◌, Bool, false, true, ◌||◌, ◌&&◌, not, List, []};
+ghost use Rattle.std.specs.Prelude.{◌∷◌, length, Option, IfOk, IfErr, OnOk};
 ghost use Rattle.pitch_io.specs.Nets.{Call};
 ghost use Rattle.pitch_io.specs.declared.net.NetTaken.{NetTaken as TakenSaid};
 ghost use Rattle.net_edge.specs.Acting.{is_group_open};

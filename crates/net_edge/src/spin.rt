@@ -1,6 +1,7 @@
 //! The Spin Server's end of its connection.
 
-ghost use Rattle.std.specs.Prelude.{◌≡◌, ◌≤◌, ◌<◌, ℕ, Bool, false, true, ◌||◌, ◌&&◌, not, List, [], ◌∷◌, ◌++◌, length, OnOk, IfOk, IfErr, if◌then◌else◌};
+ghost use Rattle.std.specs.Prelude.{◌≡◌, ◌≤◌, ◌<◌, ℕ, Bool, false, true, ◌||◌, ◌&&◌, not, List, []};
+ghost use Rattle.std.specs.Prelude.{◌∷◌, ◌++◌, length, OnOk, IfOk, IfErr, if◌then◌else◌};
 ghost use Rattle.pitch_io.specs.Nets.{Call, came, CameWithin};
 ghost use Rattle.pitch_io.specs.declared.net.NetTaken.{NetTaken as TakenSaid};
 ghost use Rattle.pitch_io.specs.declared.net.NetTaken.TheVariants.{Got};
@@ -9,9 +10,11 @@ ghost use Rattle.spin_server.specs.Served.{Served};
 ghost use Rattle.world_model.specs.Connections.{KeepsShelf};
 ghost use Rattle.world_model.specs.State.{Connection};
 ghost use Rattle.world_model.specs.Verbs.{at_spin_server, sent_whole};
-ghost use Rattle.net_edge.specs.Acting.{where_stands, is_group_open, spin_server_fed, spin_answered};
+ghost use Rattle.net_edge.specs.Acting.{where_stands, is_group_open, spin_server_fed};
+ghost use Rattle.net_edge.specs.Acting.{spin_answered};
 ghost use Rattle.net_edge.specs.Due.{Setting, demo_unit, messages, advertised_until};
-ghost use Rattle.net_edge.specs.Playing.{RoseAtFault, Plays, KeepsRun, BreaksRun, SpinHas, SpinSays, SpinActs, SpinServes, AreTaken};
+ghost use Rattle.net_edge.specs.Playing.{RoseAtFault, Plays, KeepsRun, BreaksRun, SpinHas};
+ghost use Rattle.net_edge.specs.Playing.{SpinSays, SpinActs, SpinServes, AreTaken};
 ghost use Rattle.net_edge.specs.Scene.{Scene, is_got, got_end};
 
 use crate::error::DemoError;
@@ -91,9 +94,11 @@ fn answer(
 impl ServerEnd for SpinServer {
     type Store = ImageShelf;
 
-    ghost serves = { λ spin s base calls answers ended now. SpinServes s base calls spin answers ended now };
+    ghost serves = { λ spin s base calls answers ended now.
+        SpinServes s base calls spin answers ended now };
 
-    ghost shows = { λ shelf s now. KeepsShelf shelf (messages s now.turn) (advertised_until s now.turn) };
+    ghost shows = { λ shelf s now.
+        KeepsShelf shelf (messages s now.turn) (advertised_until s now.turn) };
 
     ghost is_cut = { λ now. now.spin_cut };
 

@@ -1,5 +1,6 @@
 -- Messages that name an order, and which orders a message may touch.
-use Rattle.std.specs.Prelude.{ℕ, Bool, false, ◌&&◌, ◌||◌, ◌==◌, nat_le, List, length, Option, Some, None, if◌then◌else◌}
+use Rattle.std.specs.Prelude.{ℕ, Bool, false, ◌&&◌, ◌||◌, ◌==◌, nat_le, List, length, Option, Some}
+use Rattle.std.specs.Prelude.{None, if◌then◌else◌}
 use Rattle.std.specs.FinMap as map
 use Rattle.pitch_fields.specs.Fields.{number_at}
 use Rattle.pitch_messages.specs.Raw.{kind_of}
@@ -13,7 +14,8 @@ names_order kind = nat_le 0x21 kind && nat_le kind 0x29 || kind == 0x2f
 
 -- the id at place 6 of a message of such a type
 abbrev pub named_order : List ℕ → Option ℕ
-named_order raw = if nat_le 14 (length raw) && names_order (kind_of raw) then Some (number_at 8 6 raw) else None
+named_order raw =
+    if nat_le 14 (length raw) && names_order (kind_of raw) then Some (number_at 8 6 raw) else None
 
 -- the order of an id is open
 abbrev pub is_open : Book → Option ℕ → Bool

@@ -22,11 +22,13 @@ pub record Standing : Type 0 where
 
 -- the book of a second, of a list of entries, and of statuses
 abbrev pub book_of : Option ℕ → List (ℕ × Order) → StatusMap → Book
-book_of second entries statuses = record { second = second; orders = map.from_entries entries; statuses = statuses }
+book_of second entries statuses =
+    record { second = second; orders = map.from_entries entries; statuses = statuses }
 
 -- what holds of every book that is kept: its orders stand under their ids and have shares, no id
 -- stands twice, and there are not too many
-pub record IsKept (second : Option ℕ) (entries : List (ℕ × Order)) (statuses : StatusMap) : Type 0 where
+pub record IsKept (second : Option ℕ) (entries : List (ℕ × Order)) (statuses : StatusMap) :
+    Type 0 where
   pub book : IsBook (book_of second entries statuses)
   pub unique : IsDistinct nat_eq (keys_of entries)
   pub few : length entries ≤ most_orders
@@ -51,13 +53,22 @@ abbrev pub Fields : Type 0
 Fields = ℕ × (Side × (ℕ × (List ℕ × (ℕ × (Bool × List ℕ)))))
 
 abbrev pub fields_code : Coded Fields
-fields_code = coded× coded_ℕ (coded× side_code (coded× coded_ℕ (coded× (coded_list coded_ℕ) (coded× coded_ℕ (coded× coded_bool (coded_list coded_ℕ))))))
+fields_code = coded× coded_ℕ (coded× side_code (coded× coded_ℕ
+    (coded× (coded_list coded_ℕ) (coded× coded_ℕ (coded× coded_bool (coded_list coded_ℕ))))))
 
 abbrev pub order_fields : Order → Fields
 order_fields o = (o.id, (o.side, (o.quantity, (o.symbol, (o.price, (o.display, o.participant))))))
 
 abbrev pub order_from : Fields → Order
-order_from p = record { id = p.0; side = p.1.0; quantity = p.1.1.0; symbol = p.1.1.1.0; price = p.1.1.1.1.0; display = p.1.1.1.1.1.0; participant = p.1.1.1.1.1.1 }
+order_from p = record {
+  id = p.0;
+  side = p.1.0;
+  quantity = p.1.1.0;
+  symbol = p.1.1.1.0;
+  price = p.1.1.1.1.0;
+  display = p.1.1.1.1.1.0;
+  participant = p.1.1.1.1.1.1;
+}
 
 abbrev pub order_code : Coded Order
 order_code = code_by Fields fields_code order_fields order_from (λ _. refl)
@@ -69,7 +80,10 @@ abbrev pub book_from : Parts → Book
 book_from p = record { second = p.0; orders = p.1.0; statuses = p.1.1 }
 
 abbrev pub book_code : Coded Book
-book_code = code_by Parts (coded× (coded_option coded_ℕ) (coded× (map.code coded_ℕ order_code) statuses_code)) (λ b. (b.second, (b.orders, b.statuses))) book_from (λ _. refl)
+book_code = code_by Parts
+    (coded× (coded_option coded_ℕ) (coded× (map.code coded_ℕ order_code) statuses_code))
+    (λ b. (b.second, (b.orders, b.statuses))) book_from (λ _. refl)
 
 abbrev pub standing_code : Coded Standing
-standing_code = code_by (Book × ℕ) (coded× book_code coded_ℕ) (λ s. (s.book, s.spare)) (λ p. record { book = p.0; spare = p.1 }) (λ _. refl)
+standing_code = code_by (Book × ℕ) (coded× book_code coded_ℕ)
+    (λ s. (s.book, s.spare)) (λ p. record { book = p.0; spare = p.1 }) (λ _. refl)

@@ -17,4 +17,5 @@ abbrev pub statuses_code : Coded StatusMap
 statuses_code = map.code (coded_list coded_ℕ) (coded× coded_ℕ coded_ℕ)
 
 abbrev pub symbols_code : Coded SymbolsStanding
-symbols_code = code_by (StatusMap × ℕ) (coded× statuses_code coded_ℕ) (λ s. (s.statuses, s.spare)) (λ p. record { statuses = p.0; spare = p.1 }) (λ _. refl)
+symbols_code = code_by (StatusMap × ℕ) (coded× statuses_code coded_ℕ)
+    (λ s. (s.statuses, s.spare)) (λ p. record { statuses = p.0; spare = p.1 }) (λ _. refl)

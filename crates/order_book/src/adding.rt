@@ -1,5 +1,6 @@
 ghost use Rattle.std.specs.Prelude.{◌≡◌};
-ghost use Rattle.pitch_model.specs.Book.{is_displayed, order_of_long, order_of_short, order_of_expanded};
+ghost use Rattle.pitch_model.specs.Book.{is_displayed, order_of_long, order_of_short};
+ghost use Rattle.pitch_model.specs.Book.{order_of_expanded};
 
 use pitch_fields::{Price, Side, Symbol};
 use pitch_messages::Order;

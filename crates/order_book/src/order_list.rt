@@ -15,9 +15,12 @@ pub(crate) fn append_by_id(
     list: &mut OrderList,
     orders: &IndexMap<u64, Order>,
 ) -> Result<(), OutOfMemory>
-    ensures ok { OnOk result (list.new.items ≡ list.old.items ++ drop (length list.old.items) list.new.items) }
-    ensures same { OnOk result (IsPermutation (values orders.now) (drop (length list.old.items) list.new.items)) }
-    ensures sorted { OnOk result (IsSortedByKey (λ order. order.id) nat_cmp (drop (length list.old.items) list.new.items)) }
+    ensures ok { OnOk result
+        (list.new.items ≡ list.old.items ++ drop (length list.old.items) list.new.items) }
+    ensures same { OnOk result
+        (IsPermutation (values orders.now) (drop (length list.old.items) list.new.items)) }
+    ensures sorted { OnOk result
+        (IsSortedByKey (λ order. order.id) nat_cmp (drop (length list.old.items) list.new.items)) }
     ensures err { OnErr result (list.new.items ≡ list.old.items) }
 {
     let mut sorted = all_orders(orders)?;

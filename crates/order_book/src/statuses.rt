@@ -87,7 +87,8 @@ impl Statuses {
     // Appends the statuses by rising bytes of their symbols. The list is as before after
     // OutOfMemory.
     pub(crate) fn append_to(&self, out: &mut StatusList) -> Result<(), OutOfMemory>
-        ensures ok { OnOk result (out.new.items ≡ out.old.items ++ mapped symbol_state (map.entries self.now.statuses)) }
+        ensures ok { OnOk result
+            (out.new.items ≡ out.old.items ++ mapped symbol_state (map.entries self.now.statuses)) }
         ensures err { OnErr result (out.new.items ≡ out.old.items) }
     {
         let mut states = all_states(&self.by_symbol)?;

@@ -43,7 +43,8 @@ pub(crate) fn shares_at(
     price: Price,
 ) -> u64
     requires { index_map_len orders.now ≤ most_orders }
-    ensures { result ≡ quantities (filter (λ order. price == order.price) (filter (is_on symbol side) (values orders.now))) }
+    ensures { result ≡ quantities
+        (filter (λ order. price == order.price) (filter (is_on symbol side) (values orders.now))) }
 {
     let mut total = 0;
     for order in orders.values() {
@@ -67,7 +68,8 @@ fn better(side: Side, price: Price, other: Price) -> Price
 
 // The best price for a symbol on a side.
 pub(crate) fn best_price(orders: &IndexMap<u64, Order>, symbol: Symbol, side: Side) -> Option<Price>
-    ensures { result ≡ best_of side (map (λ order. order.price) (filter (is_on symbol side) (values orders.now))) }
+    ensures { result ≡ best_of side
+        (map (λ order. order.price) (filter (is_on symbol side) (values orders.now))) }
 {
     let mut best = None;
     for order in orders.values() {

@@ -1,8 +1,12 @@
-ghost use Rattle.std.specs.Prelude.{◌≡◌, ◌≤◌, ◌<◌, ◌+◌, ◌++◌, ◌&&◌, [], length, count_by, IfOk, IfSome, IfNone, OnOk, OnErr, IsOk, IsSome, Some, Option};
+ghost use Rattle.std.specs.Prelude.{◌≡◌, ◌≤◌, ◌<◌, ◌+◌, ◌++◌, ◌&&◌, [], length, count_by, IfOk};
+ghost use Rattle.std.specs.Prelude.{IfSome, IfNone, OnOk, OnErr, IsOk, IsSome, Some, Option};
 ghost use Rattle.pitch_messages.specs.Raw.{IsRaw, kind_of};
 ghost use Rattle.std.specs.FinMap as map;
-ghost use Rattle.pitch_model.specs.Book.{IsBook, empty_book, at_second, cleared, without_order, with_order, with_status, added, changed, after_message, after_read, after};
-ghost use Rattle.pitch_model.specs.Levels.{IsBestOf, orders_of, orders_on, prices_on, shares, level, best};
+ghost use Rattle.pitch_model.specs.Book.{IsBook, empty_book, at_second, cleared, without_order};
+ghost use Rattle.pitch_model.specs.Book.{with_order, with_status, added, changed, after_message};
+ghost use Rattle.pitch_model.specs.Book.{after_read, after};
+ghost use Rattle.pitch_model.specs.Levels.{IsBestOf, orders_of, orders_on, prices_on, shares};
+ghost use Rattle.pitch_model.specs.Levels.{level, best};
 ghost use Rattle.pitch_model.specs.Statuses.{statuses_of};
 ghost use Rattle.order_book.specs.Changes.{changed_by};
 ghost use Rattle.order_book.specs.Naming.{names_open};
@@ -38,13 +42,18 @@ pub struct UnitBook {
 impl Model for UnitBook {
     ghost use Rattle.std.specs.Prelude.{◌-◌, min, length};
     ghost use Rattle.indexmap.specs.IndexMap.{spare};
-    ghost use Rattle.order_book.specs.Standing.{Standing, standing_code, book_of, most_orders, IsKept};
+    ghost use Rattle.order_book.specs.Standing.{Standing, standing_code, book_of, most_orders};
+    ghost use Rattle.order_book.specs.Standing.{IsKept};
 
     ghost Value = { Standing };
 
     ghost coded = { standing_code };
 
-    ghost view = { λ b. record { book = book_of b.second b.orders.entries b.statuses.statuses; spare = min (min (spare b.orders) b.statuses.spare) (most_orders - length b.orders.entries) } };
+    ghost view = { λ b. record {
+      book = book_of b.second b.orders.entries b.statuses.statuses;
+      spare = min
+          (min (spare b.orders) b.statuses.spare) (most_orders - length b.orders.entries);
+    } };
 
     ghost invariant = { λ b. IsKept b.second b.orders.entries b.statuses.statuses };
 }
@@ -247,7 +256,8 @@ impl UnitBook {
     /// level. None exactly where that side of the symbol has no order.
     pub fn best(&self, symbol: Symbol, side: Side) -> Option<(Price, u64)>
         ensures best { result ≡ best self.now.book symbol side }
-        ensures price { IfSome result (λ best. IsBestOf side (prices_on self.now.book symbol side) best.0) }
+        ensures price { IfSome result
+            (λ best. IsBestOf side (prices_on self.now.book symbol side) best.0) }
         ensures level { IfSome result (λ best. best.1 ≡ level self.now.book symbol side best.0) }
         ensures none { IfNone result (orders_on self.now.book symbol side ≡ []) }
     {

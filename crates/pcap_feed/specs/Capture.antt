@@ -1,14 +1,17 @@
 -- Classic capture files: a header of 24 bytes, and records.
 -- Standard: "PCAP Capture File Format" (IETF draft-ietf-opsawg-pcap), sections 4 "File Header" and
 -- 5 "Packet Record".
-use Rattle.std.specs.Prelude.{ℕ, ◌+◌, ◌-◌, ◌%◌, Bool, true, false, ◌||◌, ◌==◌, nat_lt, List, [], ◌∷◌, length, take, drop, Option, None, Some, Result, Ok, Err, if◌then◌else◌}
+use Rattle.std.specs.Prelude.{ℕ, ◌+◌, ◌-◌, ◌%◌, Bool, true, false, ◌||◌, ◌==◌, nat_lt, List, []}
+use Rattle.std.specs.Prelude.{◌∷◌, length, take, drop, Option, None, Some, Result, Ok, Err}
+use Rattle.std.specs.Prelude.{if◌then◌else◌}
 use Rattle.byteorder.specs.Endian.{little_number, big_number}
 use Rattle.unit_packets.specs.Causes.{counted}
 use Rattle.pcap_feed.specs.Stream.{Front, items_within, left_over}
 use Rattle.pcap_feed.specs.declared.fault.ByteOrder.{ByteOrder}
 use Rattle.pcap_feed.specs.declared.fault.ByteOrder.TheVariants.{Little, Big}
 use Rattle.pcap_feed.specs.declared.fault.CaptureError.{CaptureError}
-use Rattle.pcap_feed.specs.declared.fault.CaptureError.TheVariants.{Truncated, BadMagic, BadVersion, BadLink, LongRecord}
+use Rattle.pcap_feed.specs.declared.fault.CaptureError.TheVariants.{Truncated, BadMagic, BadVersion}
+use Rattle.pcap_feed.specs.declared.fault.CaptureError.TheVariants.{BadLink, LongRecord}
 use Rattle.pcap_feed.specs.declared.fault.CaptureFault.{CaptureFault}
 
 -- what a record says
@@ -29,7 +32,8 @@ is_magic n = n == 0xa1b2c3d4 || n == 0xa1b23c4d
 
 -- the byte order in which the first four bytes are a magic
 abbrev pub order_named : List ℕ → Option ByteOrder
-order_named bytes = if is_magic (little_number 4 bytes) then Some Little else if is_magic (big_number 4 bytes) then Some Big else None
+order_named bytes = if is_magic (little_number 4 bytes)
+    then Some Little else if is_magic (big_number 4 bytes) then Some Big else None
 
 -- ---- Judgements
 abbrev pub judge_named : List ℕ → Option ByteOrder → Result ByteOrder CaptureError
@@ -37,11 +41,13 @@ judge_named bytes None = Err (BadMagic (take 4 bytes))
 judge_named bytes (Some order) =
     let major = number_in order 2 4 bytes in
     let link = number_in order 4 20 bytes % 65536 in
-    if major == 2 then (if link == 1 then Ok order else Err (BadLink link)) else Err (BadVersion major)
+    if major == 2 then (if link == 1 then Ok order else Err (BadLink link))
+    else Err (BadVersion major)
 
 -- the byte order that the file's header tells, or the first fault
 unfoldable pub judge_head : List ℕ → Result ByteOrder CaptureError
-judge_head bytes = if nat_lt (length bytes) 24 then Err (Truncated (length bytes) 24) else judge_named bytes (order_named bytes)
+judge_head bytes = if nat_lt (length bytes) 24
+    then Err (Truncated (length bytes) 24) else judge_named bytes (order_named bytes)
 
 -- how many bytes the record at the front has captured, or the first fault
 unfoldable pub judge_record : ByteOrder → List ℕ → Result ℕ CaptureError
@@ -49,7 +55,8 @@ judge_record order bytes =
     let captured = number_in order 4 8 bytes in
     if nat_lt (length bytes) 16 then Err (Truncated (length bytes) 16)
     else if nat_lt 262144 captured then Err (LongRecord captured)
-    else if nat_lt (length bytes) (16 + captured) then Err (Truncated (length bytes) (16 + captured))
+    else if nat_lt (length bytes) (16 + captured)
+    then Err (Truncated (length bytes) (16 + captured))
     else Ok captured
 
 -- the packet of a record that has captured so many bytes
@@ -140,12 +147,17 @@ left_error (Some order) (byte ∷ rest) = error_in (judge_record order (byte ∷
 -- bytes that are missing are a fault only where the file has ended
 abbrev pub capture_fault_from : Bool → ℕ → Option CaptureError → Option CaptureFault
 capture_fault_from ended place None = None
-capture_fault_from ended place (Some e) = if is_cut_off e then (if ended then Some (record { place = place; error = e }) else None) else Some (record { place = place; error = e })
+capture_fault_from ended place (Some e) =
+    if is_cut_off e then (if ended then Some (record { place = place; error = e }) else None)
+    else Some (record { place = place; error = e })
 
 -- the fault of the bytes so far, which more bytes do not mend
 abbrev pub capture_fault : List ℕ → Option CaptureFault
-capture_fault bytes = capture_fault_from false (counted (capture_place bytes)) (left_error (order_told bytes) (left_of bytes))
+capture_fault bytes = capture_fault_from false
+    (counted (capture_place bytes)) (left_error (order_told bytes) (left_of bytes))
 
 -- the fault of a file that ends here
 abbrev pub capture_end_fault : List ℕ → Option CaptureFault
-capture_end_fault bytes = capture_fault_from true (counted (capture_place bytes)) (left_error (order_told bytes) (left_of bytes))
+capture_end_fault bytes =
+    capture_fault_from true (counted (capture_place bytes))
+    (left_error (order_told bytes) (left_of bytes))

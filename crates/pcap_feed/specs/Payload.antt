@@ -2,7 +2,8 @@
 -- not checked.
 -- Standard: RFC 894 (Ethernet), IEEE 802.1Q (the tag 0x8100), RFC 791 section 3.1 (IPv4), RFC 768
 -- (UDP).
-use Rattle.std.specs.Prelude.{ℕ, ◌+◌, ◌-◌, ◌*◌, ◌/◌, ◌%◌, Bool, false, not, ◌==◌, nat_lt, List, length, take, drop, slice_index, Option, None, Some, if◌then◌else◌}
+use Rattle.std.specs.Prelude.{ℕ, ◌+◌, ◌-◌, ◌*◌, ◌/◌, ◌%◌, Bool, false, not, ◌==◌, nat_lt, List}
+use Rattle.std.specs.Prelude.{length, take, drop, slice_index, Option, None, Some, if◌then◌else◌}
 use Rattle.byteorder.specs.Endian.{big_number}
 use Rattle.pcap_feed.specs.Capture.{Packet}
 
@@ -55,4 +56,5 @@ in_frame port frame =
 
 -- none where the frame was cut off by the capture
 unfoldable pub payload : Packet → Option ℕ → Option (ℕ × ℕ)
-payload packet port = if nat_lt (length packet.bytes) packet.original then None else in_frame port packet.bytes
+payload packet port =
+    if nat_lt (length packet.bytes) packet.original then None else in_frame port packet.bytes

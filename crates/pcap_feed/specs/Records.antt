@@ -16,9 +16,12 @@ pub record IsRecord (order : ByteOrder) (bytes : List ℕ) (packet : Packet) : T
 
 -- the computed cutting is the longest list of records with its rest
 abbrev pub RecordsAreComputed : Type 0
-RecordsAreComputed = (order : ByteOrder) (bytes : List ℕ) → CutsItems (IsRecord order) bytes (items_within (front_of order) bytes) (left_over (front_of order) bytes)
+RecordsAreComputed = (order : ByteOrder) (bytes : List ℕ) → CutsItems
+    (IsRecord order) bytes (items_within (front_of order) bytes) (left_over (front_of order) bytes)
 
 -- two cuttings of the same bytes are one
 abbrev pub RecordsAreOne : Type 0
-RecordsAreOne = (order : ByteOrder) (bytes : List ℕ) (packets others : List Packet) (rest left : List ℕ)
-    → CutsItems (IsRecord order) bytes packets rest → CutsItems (IsRecord order) bytes others left → (packets ≡ others) × (rest ≡ left)
+RecordsAreOne =
+    (order : ByteOrder) (bytes : List ℕ) (packets others : List Packet) (rest left : List ℕ)
+    → CutsItems (IsRecord order) bytes packets rest
+    → CutsItems (IsRecord order) bytes others left → (packets ≡ others) × (rest ≡ left)

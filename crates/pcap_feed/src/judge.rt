@@ -1,5 +1,6 @@
 ghost use Rattle.std.specs.Prelude.{◌≡◌, ◌+◌, ◌≤◌, length, IfOk, OnOk};
-ghost use Rattle.pcap_feed.specs.Capture.{number_in, order_named, judge_named, judge_head, judge_record};
+ghost use Rattle.pcap_feed.specs.Capture.{number_in, order_named, judge_named, judge_head};
+ghost use Rattle.pcap_feed.specs.Capture.{judge_record};
 ghost use Rattle.pcap_feed.specs.Lent.{Captures};
 
 use crate::fault::{ByteOrder, CaptureError};

@@ -1,6 +1,7 @@
 ghost use Rattle.std.specs.Prelude.{[]};
 ghost use Rattle.pcap_feed.specs.Records.{RecordsAreComputed, RecordsAreOne};
-ghost use Rattle.pcap_feed.specs.Feeding.{HoldsCapture, CapturePiecesAreCut, CapturePiecesDoNotMatter, unfed};
+ghost use Rattle.pcap_feed.specs.Feeding.{HoldsCapture, CapturePiecesAreCut};
+ghost use Rattle.pcap_feed.specs.Feeding.{CapturePiecesDoNotMatter, unfed};
 
 /// The laws of feeding a file in pieces: a new reader stands for no bytes; what a reader put out,
 /// and the fault that it keeps, are those of all bytes in one; so other pieces of the same bytes

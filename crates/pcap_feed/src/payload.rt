@@ -1,5 +1,6 @@
 ghost use Rattle.std.specs.Prelude.{◌≡◌, ◌+◌, ◌≤◌, ◌<◌, ◌^◌, ℕ, length, IfSome};
-ghost use Rattle.pcap_feed.specs.Payload.{big_at, is_other, in_udp, in_ip, in_frame, type_place, payload};
+ghost use Rattle.pcap_feed.specs.Payload.{big_at, is_other, in_udp, in_ip, in_frame, type_place};
+ghost use Rattle.pcap_feed.specs.Payload.{payload};
 ghost use Rattle.pcap_feed.specs.Lent.{packet_of};
 
 use crate::record::Record;
@@ -110,7 +111,8 @@ fn in_frame(port: Option<u16>, frame: &[u8]) -> Option<(usize, usize)>
 /// or another port was wanted.
 #[tactic(auto, unfolding(crate::specs::Payload::payload))]
 pub fn payload_in(original: u32, frame: &[u8], port: Option<u16>) -> Option<(usize, usize)>
-    ensures exact { (seconds fraction : ℕ) → result ≡ payload (packet_of seconds fraction original frame.now) port }
+    ensures exact { (seconds fraction : ℕ)
+        → result ≡ payload (packet_of seconds fraction original frame.now) port }
     ensures within { IfSome result (λ found. found.0 + found.1 ≤ length frame.now) }
 {
     if frame.len() < original as usize {

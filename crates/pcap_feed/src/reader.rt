@@ -1,6 +1,11 @@
-ghost use Rattle.std.specs.Prelude.{◌≡◌, ℕ, ◌≤◌, List, ◌++◌, [], ◌∷◌, length, IfOk, OnOk, OnErr, Ok, Err, Some, None, true};
-ghost use Rattle.pcap_feed.specs.Capture.{judge_head, ordered, capture_fault_from, capture_fault, capture_end_fault, left_error};
-ghost use Rattle.pcap_feed.specs.Feeding.{unfed, more_loaded, put_behind, past_head, HoldsCapture, FeedsCapture, WithRoomFor, IsFaultRepeated, CutsRecords, CutsCapture, capture_answer, capture_end_answer, held_fault, GoesOn};
+ghost use Rattle.std.specs.Prelude.{◌≡◌, ℕ, ◌≤◌, List, ◌++◌, [], ◌∷◌, length, IfOk, OnOk, OnErr};
+ghost use Rattle.std.specs.Prelude.{Ok, Err, Some, None, true};
+ghost use Rattle.pcap_feed.specs.Capture.{judge_head, ordered, capture_fault_from, capture_fault};
+ghost use Rattle.pcap_feed.specs.Capture.{capture_end_fault, left_error};
+ghost use Rattle.pcap_feed.specs.Feeding.{unfed, more_loaded, put_behind, past_head, HoldsCapture};
+ghost use Rattle.pcap_feed.specs.Feeding.{FeedsCapture, WithRoomFor, IsFaultRepeated, CutsRecords};
+ghost use Rattle.pcap_feed.specs.Feeding.{CutsCapture, capture_answer, capture_end_answer};
+ghost use Rattle.pcap_feed.specs.Feeding.{held_fault, GoesOn};
 
 use crate::fault::{ByteOrder, CaptureError, CaptureFault, CaptureFeedError};
 use crate::judge::{HEAD_SIZE, judge_head, judge_record};
@@ -74,7 +79,8 @@ fn cut_records(
     out: &mut RecordList,
 ) -> Result<(usize, CaptureError), OutOfMemory>
     requires { start ≤ length bytes.now }
-    ensures ok { IfOk result (λ cut. CutsRecords order bytes.now start cut.0 cut.1 out.old.items out.new.items) }
+    ensures ok { IfOk result
+        (λ cut. CutsRecords order bytes.now start cut.0 cut.1 out.old.items out.new.items) }
     ensures err { OnErr result (out.new.items ≡ out.old.items) }
 {
     let before = out.len();
@@ -114,7 +120,8 @@ fn cut_told(
     bytes: &[u8],
     out: &mut RecordList,
 ) -> Result<Passed, OutOfMemory>
-    ensures ok { IfOk result (λ cut. CutsCapture (Some order) bytes.now cut.told cut.count cut.error out.old.items out.new.items) }
+    ensures ok { IfOk result (λ cut. CutsCapture
+        (Some order) bytes.now cut.told cut.count cut.error out.old.items out.new.items) }
     ensures err { OnErr result (out.new.items ≡ out.old.items) }
 {
     match cut_records(alloc, order, bytes, 0, out) {
@@ -136,7 +143,8 @@ fn cut_begun(
 ) -> Result<Passed, OutOfMemory>
     requires whole { 24 ≤ length bytes.now }
     requires header { judge_head bytes.now ≡ Ok order }
-    ensures ok { IfOk result (λ cut. CutsCapture None bytes.now cut.told cut.count cut.error out.old.items out.new.items) }
+    ensures ok { IfOk result (λ cut.
+        CutsCapture None bytes.now cut.told cut.count cut.error out.old.items out.new.items) }
     ensures err { OnErr result (out.new.items ≡ out.old.items) }
 {
     match cut_records(alloc, order, bytes, HEAD_SIZE, out) {
@@ -156,7 +164,8 @@ fn cut_piece(
     bytes: &[u8],
     out: &mut RecordList,
 ) -> Result<Passed, OutOfMemory>
-    ensures ok { IfOk result (λ cut. CutsCapture told bytes.now cut.told cut.count cut.error out.old.items out.new.items) }
+    ensures ok { IfOk result (λ cut.
+        CutsCapture told bytes.now cut.told cut.count cut.error out.old.items out.new.items) }
     ensures err { OnErr result (out.new.items ≡ out.old.items) }
 {
     match told {
@@ -185,7 +194,12 @@ impl Model for CaptureReader {
 
     ghost Value = { Capturing };
 
-    ghost view = { λ r. record { told = r.told; place = r.stream.place; rest = r.stream.rest; fault = r.fault } };
+    ghost view = { λ r. record {
+      told = r.told;
+      place = r.stream.place;
+      rest = r.stream.rest;
+      fault = r.fault;
+    } };
 }
 
 impl CaptureReader {
@@ -258,9 +272,12 @@ impl CaptureReader {
     /// list are as before after OutOfMemory.
     pub fn feed(&mut self, piece: &[u8], out: &mut RecordList) -> Result<(), CaptureFeedError>
         // However the bytes were cut into pieces.
-        ensures fed { WithRoomFor result ((fed : List ℕ) → HoldsCapture self.old fed → FeedsCapture fed piece.now self.new out.old.items out.new.items result) }
-        ensures again { IsFaultRepeated self.old.fault result ((self.new ≡ self.old) × (out.new.items ≡ out.old.items)) }
-        ensures memory { result ≡ Err CaptureFeedError.OutOfMemory → (self.new ≡ self.old) × (out.new.items ≡ out.old.items) }
+        ensures fed { WithRoomFor result ((fed : List ℕ) → HoldsCapture self.old fed
+            → FeedsCapture fed piece.now self.new out.old.items out.new.items result) }
+        ensures again { IsFaultRepeated self.old.fault result
+            ((self.new ≡ self.old) × (out.new.items ≡ out.old.items)) }
+        ensures memory { result ≡ Err CaptureFeedError.OutOfMemory
+            → (self.new ≡ self.old) × (out.new.items ≡ out.old.items) }
     {
         match self.fault {
             Some(fault) => return Err(CaptureFeedError::Fault(fault)),
@@ -305,7 +322,8 @@ impl CaptureReader {
     /// no memory.
     pub fn finish(&self) -> Result<(), CaptureFault>
         ensures kept { result ≡ capture_end_answer (held_fault true self.now) }
-        ensures fed { (fed : List ℕ) → HoldsCapture self.now fed → result ≡ capture_end_answer (capture_end_fault fed) }
+        ensures fed { (fed : List ℕ)
+            → HoldsCapture self.now fed → result ≡ capture_end_answer (capture_end_fault fed) }
     {
         match self.fault(true) {
             None => Ok(()),

@@ -1,6 +1,7 @@
 -- Symbols and participants: bytes of a fixed number, with spaces at their end.
 -- Standard: "Cboe US Equities Multicast PITCH specification", "Data Types".
-use Rattle.std.specs.Prelude.{ℕ, ◌+◌, ◌/◌, ◌%◌, Bool, not, ◌==◌, ◌&&◌, ◌||◌, nat_lt, nat_le, List, [], ◌∷◌, take, drop, Option, None, Some, codes, if◌then◌else◌}
+use Rattle.std.specs.Prelude.{ℕ, ◌+◌, ◌/◌, ◌%◌, Bool, not, ◌==◌, ◌&&◌, ◌||◌, nat_lt, nat_le, List}
+use Rattle.std.specs.Prelude.{[], ◌∷◌, take, drop, Option, None, Some, codes, if◌then◌else◌}
 use Rattle.std.specs.List.{flat_map, list_all}
 
 -- the code of a hexadecimal digit, in lower case
@@ -46,4 +47,5 @@ six_of bytes = if is_blank (drop 6 bytes) then Some (take 6 bytes) else None
 
 -- a name as it is shown: without the spaces at its end; one that is all spaces as one of them
 unfoldable pub name_shown : List ℕ → List ℕ
-name_shown bytes = if is_blank bytes then codes "\\x20" else flat_map shown_byte (without_spaces bytes)
+name_shown bytes =
+    if is_blank bytes then codes "\\x20" else flat_map shown_byte (without_spaces bytes)

@@ -1,5 +1,7 @@
 -- A net in memory, of which the maker says which calls fail.
-use Rattle.std.specs.Prelude.{◌≡◌, ℕ, zero, suc, ◌<◌, ◌+◌, ◌-◌, ◌^◌, Bool, true, false, List, [], ◌∷◌, ◌++◌, ◌⊎◌, map, reverse, Contains, Option, None, Some, min, length, take, drop, if◌then◌else◌}
+use Rattle.std.specs.Prelude.{◌≡◌, ℕ, zero, suc, ◌<◌, ◌+◌, ◌-◌, ◌^◌, Bool, true, false, List, []}
+use Rattle.std.specs.Prelude.{◌∷◌, ◌++◌, ◌⊎◌, map, reverse, Contains, Option, None, Some, min}
+use Rattle.std.specs.Prelude.{length, take, drop, if◌then◌else◌}
 use Rattle.std.specs.Global.{Vec}
 use Rattle.pitch_io.specs.declared.line.Line.{Line}
 use Rattle.pitch_io.specs.declared.line.Line.TheVariants as line
@@ -33,7 +35,15 @@ pub record OnItsWay : Type 0 where
   pub spin_server : List ℕ
 
 abbrev pub nothing_coming : OnItsWay
-nothing_coming = record { a = []; b = []; gap = []; grp_client = []; grp_server = []; spin_client = []; spin_server = [] }
+nothing_coming = record {
+  a = [];
+  b = [];
+  gap = [];
+  grp_client = [];
+  grp_server = [];
+  spin_client = [];
+  spin_server = [];
+}
 
 -- a net in memory: what is on its way, its calls where it lists them, the calls that fail, how
 -- often each verb was called, and how many faults there were
@@ -57,16 +67,79 @@ to_end way link.SpinServer = way.spin_server
 
 -- this line's datagrams changed, and nothing else
 abbrev pub line_changed : OnItsWay → Line → (List (List ℕ) → List (List ℕ)) → OnItsWay
-line_changed w line.A f = record { a = f w.a; b = w.b; gap = w.gap; grp_client = w.grp_client; grp_server = w.grp_server; spin_client = w.spin_client; spin_server = w.spin_server }
-line_changed w line.B f = record { a = w.a; b = f w.b; gap = w.gap; grp_client = w.grp_client; grp_server = w.grp_server; spin_client = w.spin_client; spin_server = w.spin_server }
-line_changed w line.Gap f = record { a = w.a; b = w.b; gap = f w.gap; grp_client = w.grp_client; grp_server = w.grp_server; spin_client = w.spin_client; spin_server = w.spin_server }
+line_changed w line.A f =
+    record {
+      a = f w.a;
+      b = w.b;
+      gap = w.gap;
+      grp_client = w.grp_client;
+      grp_server = w.grp_server;
+      spin_client = w.spin_client;
+      spin_server = w.spin_server;
+    }
+line_changed w line.B f =
+    record {
+      a = w.a;
+      b = f w.b;
+      gap = w.gap;
+      grp_client = w.grp_client;
+      grp_server = w.grp_server;
+      spin_client = w.spin_client;
+      spin_server = w.spin_server;
+    }
+line_changed w line.Gap f =
+    record {
+      a = w.a;
+      b = w.b;
+      gap = f w.gap;
+      grp_client = w.grp_client;
+      grp_server = w.grp_server;
+      spin_client = w.spin_client;
+      spin_server = w.spin_server;
+    }
 
 -- the bytes to this end changed, and nothing else
 abbrev pub end_changed : OnItsWay → LinkEnd → (List ℕ → List ℕ) → OnItsWay
-end_changed w link.GrpClient f = record { a = w.a; b = w.b; gap = w.gap; grp_client = f w.grp_client; grp_server = w.grp_server; spin_client = w.spin_client; spin_server = w.spin_server }
-end_changed w link.GrpServer f = record { a = w.a; b = w.b; gap = w.gap; grp_client = w.grp_client; grp_server = f w.grp_server; spin_client = w.spin_client; spin_server = w.spin_server }
-end_changed w link.SpinClient f = record { a = w.a; b = w.b; gap = w.gap; grp_client = w.grp_client; grp_server = w.grp_server; spin_client = f w.spin_client; spin_server = w.spin_server }
-end_changed w link.SpinServer f = record { a = w.a; b = w.b; gap = w.gap; grp_client = w.grp_client; grp_server = w.grp_server; spin_client = w.spin_client; spin_server = f w.spin_server }
+end_changed w link.GrpClient f =
+    record {
+      a = w.a;
+      b = w.b;
+      gap = w.gap;
+      grp_client = f w.grp_client;
+      grp_server = w.grp_server;
+      spin_client = w.spin_client;
+      spin_server = w.spin_server;
+    }
+end_changed w link.GrpServer f =
+    record {
+      a = w.a;
+      b = w.b;
+      gap = w.gap;
+      grp_client = w.grp_client;
+      grp_server = f w.grp_server;
+      spin_client = w.spin_client;
+      spin_server = w.spin_server;
+    }
+end_changed w link.SpinClient f =
+    record {
+      a = w.a;
+      b = w.b;
+      gap = w.gap;
+      grp_client = w.grp_client;
+      grp_server = w.grp_server;
+      spin_client = f w.spin_client;
+      spin_server = w.spin_server;
+    }
+end_changed w link.SpinServer f =
+    record {
+      a = w.a;
+      b = w.b;
+      gap = w.gap;
+      grp_client = w.grp_client;
+      grp_server = w.grp_server;
+      spin_client = w.spin_client;
+      spin_server = f w.spin_server;
+    }
 
 -- a datagram as a line carries it: one without bytes is not carried
 abbrev pub as_carried : List ℕ → List (List ℕ)
@@ -76,7 +149,8 @@ as_carried (byte ∷ bytes) = (byte ∷ bytes) ∷ []
 -- the first datagram came, as much of it as there was room for; no byte came where there is none
 abbrev pub ComesFirst : List (List ℕ) → ℕ → List ℕ → Type 0
 ComesFirst [] count into = count ≡ 0
-ComesFirst (datagram ∷ datagrams) count into = (count ≡ min (length datagram) (length into)) × (take count into ≡ take count datagram)
+ComesFirst (datagram ∷ datagrams) count into =
+    (count ≡ min (length datagram) (length into)) × (take count into ≡ take count datagram)
 
 -- how often a verb was called
 abbrev pub times_called : VerbCounts → NetVerb → ℕ
@@ -92,15 +166,51 @@ one_more count = min (count + 1) (2 ^ 64 - 1)
 
 -- one call more of a verb
 abbrev pub call_counted : VerbCounts → NetVerb → VerbCounts
-call_counted c verb.Begin = record { begins = one_more c.begins; sends = c.sends; nexts = c.nexts; puts = c.puts; takes = c.takes }
-call_counted c verb.Send = record { begins = c.begins; sends = one_more c.sends; nexts = c.nexts; puts = c.puts; takes = c.takes }
-call_counted c verb.Next = record { begins = c.begins; sends = c.sends; nexts = one_more c.nexts; puts = c.puts; takes = c.takes }
-call_counted c verb.Put = record { begins = c.begins; sends = c.sends; nexts = c.nexts; puts = one_more c.puts; takes = c.takes }
-call_counted c verb.Take = record { begins = c.begins; sends = c.sends; nexts = c.nexts; puts = c.puts; takes = one_more c.takes }
+call_counted c verb.Begin =
+    record {
+      begins = one_more c.begins;
+      sends = c.sends;
+      nexts = c.nexts;
+      puts = c.puts;
+      takes = c.takes;
+    }
+call_counted c verb.Send =
+    record {
+      begins = c.begins;
+      sends = one_more c.sends;
+      nexts = c.nexts;
+      puts = c.puts;
+      takes = c.takes;
+    }
+call_counted c verb.Next =
+    record {
+      begins = c.begins;
+      sends = c.sends;
+      nexts = one_more c.nexts;
+      puts = c.puts;
+      takes = c.takes;
+    }
+call_counted c verb.Put =
+    record {
+      begins = c.begins;
+      sends = c.sends;
+      nexts = c.nexts;
+      puts = one_more c.puts;
+      takes = c.takes;
+    }
+call_counted c verb.Take =
+    record {
+      begins = c.begins;
+      sends = c.sends;
+      nexts = c.nexts;
+      puts = c.puts;
+      takes = one_more c.takes;
+    }
 
 -- the last call of a verb is listed as one that fails
 abbrev pub IsListed : List NetCall → VerbCounts → NetVerb → Type 0
-IsListed failing counts verb = Contains failing (record { verb = verb; number = times_called counts verb })
+IsListed failing counts verb =
+    Contains failing (record { verb = verb; number = times_called counts verb })
 
 -- a call of a verb under the same script: it is counted; it fails where it is listed, and where
 -- memory was refused; then the net lists no more
@@ -185,22 +295,29 @@ coming_items items = record { items = items; ended = false }
 abbrev pub way_after : List Call → OnItsWay
 way_after [] = nothing_coming
 way_after (call.Begin done.Done ∷ calls) = nothing_coming
-way_after (call.Send line datagram done.Done ∷ calls) = line_changed (way_after calls) line (λ datagrams. datagrams ++ as_carried datagram)
-way_after (call.Next line room bytes (taken.Got n) ∷ calls) = line_changed (way_after calls) line (drop 1)
-way_after (call.Put at piece (put.Wrote n) ∷ calls) = end_changed (way_after calls) (other_end at) (λ bytes. bytes ++ take n piece)
-way_after (call.Take at room bytes (taken.Got n) ∷ calls) = end_changed (way_after calls) at (drop n)
+way_after (call.Send line datagram done.Done ∷ calls) =
+    line_changed (way_after calls) line (λ datagrams. datagrams ++ as_carried datagram)
+way_after (call.Next line room bytes (taken.Got n) ∷ calls) =
+    line_changed (way_after calls) line (drop 1)
+way_after (call.Put at piece (put.Wrote n) ∷ calls) =
+    end_changed (way_after calls) (other_end at) (λ bytes. bytes ++ take n piece)
+way_after (call.Take at room bytes (taken.Got n) ∷ calls) =
+    end_changed (way_after calls) at (drop n)
 way_after (call ∷ calls) = way_after calls
 
 -- so many bytes of the first datagram came, as many as there was room for
 abbrev pub FirstCame : List (List ℕ) → ℕ → ℕ → List ℕ → Type 0
 FirstCame [] room count bytes = ⊥
-FirstCame (datagram ∷ datagrams) room count bytes = (count ≡ min (length datagram) room) × (bytes ≡ take count datagram)
+FirstCame (datagram ∷ datagrams) room count bytes =
+    (count ≡ min (length datagram) room) × (bytes ≡ take count datagram)
 
 -- what came by each call was the first that was on its way
 abbrev pub CameInOrder : List Call → Type 0
 CameInOrder [] = Unit {0}
-CameInOrder (call.Next line room bytes (taken.Got n) ∷ calls) = FirstCame (on_line (way_after calls) line) room n bytes × CameInOrder calls
-CameInOrder (call.Take at room bytes (taken.Got n) ∷ calls) = (bytes ≡ take n (to_end (way_after calls) at)) × CameInOrder calls
+CameInOrder (call.Next line room bytes (taken.Got n) ∷ calls) =
+    FirstCame (on_line (way_after calls) line) room n bytes × CameInOrder calls
+CameInOrder (call.Take at room bytes (taken.Got n) ∷ calls) =
+    (bytes ≡ take n (to_end (way_after calls) at)) × CameInOrder calls
 CameInOrder (call ∷ calls) = CameInOrder calls
 
 -- where a net lists its calls, these were carried: what is on its way is what they leave, and what

@@ -1,5 +1,6 @@
 -- The calls of a net, and what is on its way.
-use Rattle.std.specs.Prelude.{◌≡◌, ℕ, ◌<◌, ◌≤◌, List, [], ◌∷◌, length, take, Bool, true, false, Option, None, Some}
+use Rattle.std.specs.Prelude.{◌≡◌, ℕ, ◌<◌, ◌≤◌, List, [], ◌∷◌, length, take, Bool, true, false}
+use Rattle.std.specs.Prelude.{Option, None, Some}
 use Rattle.pitch_io.specs.declared.line.Line.{Line}
 use Rattle.pitch_io.specs.declared.sink.Put.{Put as PutAnswer}
 use Rattle.pitch_io.specs.declared.net.LinkEnd.{LinkEnd}

@@ -1,5 +1,6 @@
 -- Sources and sinks in memory that never fail.
-use Rattle.std.specs.Prelude.{◌≡◌, ℕ, ◌+◌, ◌<◌, ◌≤◌, List, ◌++◌, length, Option, None, Some, Bool, false, if◌then◌else◌}
+use Rattle.std.specs.Prelude.{◌≡◌, ℕ, ◌+◌, ◌<◌, ◌≤◌, List, ◌++◌, length, Option, None, Some, Bool}
+use Rattle.std.specs.Prelude.{false, if◌then◌else◌}
 
 -- such a source: the bytes that are left, and the most of one take
 pub record SteadyLeft : Type 0 where
@@ -19,5 +20,7 @@ told_bytes sink = if sink.told then Some sink.bytes else None
 -- a piece that fits into the room is added to the bytes; one that does not is dropped, and nothing
 -- is told again
 pub record KeepsWhatFits (old new : SteadyKept) (piece : List ℕ) : Type 0 where
-  pub fits : length old.bytes + length piece ≤ old.room → (new.bytes ≡ old.bytes ++ piece) × (new.told ≡ old.told)
-  pub drops : old.room < length old.bytes + length piece → (new.bytes ≡ old.bytes) × (new.told ≡ false)
+  pub fits : length old.bytes + length piece ≤ old.room
+      → (new.bytes ≡ old.bytes ++ piece) × (new.told ≡ old.told)
+  pub drops : old.room < length old.bytes + length piece
+      → (new.bytes ≡ old.bytes) × (new.told ≡ false)

@@ -1,9 +1,17 @@
-ghost use Rattle.std.specs.Prelude.{◌≡◌, ◌↔◌, ◌<◌, [], Some, None, true, length, drop, take, ◌++◌, Contains};
+ghost use Rattle.std.specs.Prelude.{◌≡◌, ◌↔◌, ◌<◌, [], Some, None, true, length, drop, take, ◌++◌};
+ghost use Rattle.std.specs.Prelude.{Contains};
 ghost use Rattle.pitch_io.specs.declared.memory_net.NetVerb.TheVariants as verb;
 ghost use Rattle.pitch_io.specs.Causes.{HasCause};
 ghost use Rattle.pitch_io.specs.Putting.{PutFailed, PutsWithin};
-ghost use Rattle.pitch_io.specs.Nets.{AnswersWhereListed, Begin, CameWithin, ListsCall, NetDoneFailed, NetTakeFailed, Next, Put as PutCall, Send, Take, came, other_end};
-ghost use Rattle.pitch_io.specs.MemoryNets.{CarriesAll, ComesFirst, FollowsScript, IsListed, IsRest, IsSameButFaults, LeavesDone, LeavesPut, LeavesTaken, as_carried, end_changed, line_changed, size_of, taken_of, coming_items, call_counted, listed_calls, nothing_coming, on_line, one_more, times_called, to_end};
+ghost use Rattle.pitch_io.specs.Nets.{AnswersWhereListed, Begin, CameWithin, ListsCall};
+ghost use Rattle.pitch_io.specs.Nets.{NetDoneFailed, NetTakeFailed, Next, Put as PutCall, Send};
+ghost use Rattle.pitch_io.specs.Nets.{Take, came, other_end};
+ghost use Rattle.pitch_io.specs.MemoryNets.{CarriesAll, ComesFirst, FollowsScript, IsListed};
+ghost use Rattle.pitch_io.specs.MemoryNets.{IsRest, IsSameButFaults, LeavesDone, LeavesPut};
+ghost use Rattle.pitch_io.specs.MemoryNets.{LeavesTaken, as_carried, end_changed, line_changed};
+ghost use Rattle.pitch_io.specs.MemoryNets.{size_of, taken_of, coming_items, call_counted};
+ghost use Rattle.pitch_io.specs.MemoryNets.{listed_calls, nothing_coming, on_line, one_more};
+ghost use Rattle.pitch_io.specs.MemoryNets.{times_called, to_end};
 
 use crate::call_log::CallLog;
 use crate::line::Line;
@@ -83,7 +91,13 @@ impl Model for MemoryNet {
 
     ghost Value = { Carried };
 
-    ghost view = { λ n. record { coming = n.wires; calls = listed_calls n.log; failing = n.failing.items; counts = n.counts; faults = n.faults } };
+    ghost view = { λ n. record {
+      coming = n.wires;
+      calls = listed_calls n.log;
+      failing = n.failing.items;
+      counts = n.counts;
+      faults = n.faults;
+    } };
 
     ghost invariant = { λ n. CarriesAll (listed_calls n.log) n.wires };
 }
@@ -94,7 +108,8 @@ impl MemoryNet {
         ensures coming { result.coming ≡ nothing_coming }
         ensures calls { result.calls ≡ Some [] }
         ensures failing { result.failing ≡ failing.items }
-        ensures counts { result.counts ≡ record { begins = 0; sends = 0; nexts = 0; puts = 0; takes = 0 } }
+        ensures counts { result.counts
+            ≡ record { begins = 0; sends = 0; nexts = 0; puts = 0; takes = 0 } }
         ensures faults { result.faults ≡ 0 }
     {
         MemoryNet {
@@ -181,7 +196,8 @@ impl Net for MemoryNet {
         ensures cause { HasCause self.old.faults self.new.faults (NetDoneFailed result) }
         ensures still { ¬ NetDoneFailed result → self.new.faults ≡ self.old.faults }
         ensures script { FollowsScript self.old self.new verb.Send (NetDoneFailed result) }
-        ensures coming { LeavesDone self.old self.new (line_changed self.old.coming line (λ datagrams. datagrams ++ as_carried datagram.now)) result }
+        ensures coming { LeavesDone self.old self.new (line_changed self.old.coming line
+            (λ datagrams. datagrams ++ as_carried datagram.now)) result }
     {
         if self.is_listed(NetVerb::Send) {
             self.log.keep_send(line, datagram, NetDone::Failed);
@@ -198,13 +214,17 @@ impl Net for MemoryNet {
     fn next(&mut self, line: Line, into: &mut [u8]) -> NetTaken
         requires { 0 < length into.old }
         ensures count { CameWithin result into.new }
-        ensures calls { ListsCall self.old.calls self.new.calls (Next line (length into.old) (came result into.new) result) }
-        ensures coming { AnswersWhereListed self.new.calls (coming_items (on_line self.old.coming line)) result }
+        ensures calls { ListsCall self.old.calls self.new.calls
+            (Next line (length into.old) (came result into.new) result) }
+        ensures coming { AnswersWhereListed self.new.calls
+            (coming_items (on_line self.old.coming line)) result }
         ensures cause { HasCause self.old.faults self.new.faults (NetTakeFailed result) }
         ensures still { ¬ NetTakeFailed result → self.new.faults ≡ self.old.faults }
         ensures script { FollowsScript self.old self.new verb.Next (NetTakeFailed result) }
-        ensures first { ¬ NetTakeFailed result → ComesFirst (on_line self.old.coming line) (size_of result) into.new }
-        ensures rest { LeavesTaken self.old self.new (line_changed self.old.coming line (drop 1)) result }
+        ensures first { ¬ NetTakeFailed result
+            → ComesFirst (on_line self.old.coming line) (size_of result) into.new }
+        ensures rest { LeavesTaken self.old self.new
+            (line_changed self.old.coming line (drop 1)) result }
     {
         if self.is_listed(NetVerb::Next) {
             self.log.keep_next(line, into.len(), &[], NetTaken::Failed);
@@ -227,7 +247,8 @@ impl Net for MemoryNet {
         ensures cause { HasCause self.old.faults self.new.faults (PutFailed result) }
         ensures still { ¬ PutFailed result → self.new.faults ≡ self.old.faults }
         ensures script { FollowsScript self.old self.new verb.Put (PutFailed result) }
-        ensures coming { LeavesPut self.old self.new (end_changed self.old.coming (other_end end) (λ bytes. bytes ++ piece.now)) result }
+        ensures coming { LeavesPut self.old self.new
+            (end_changed self.old.coming (other_end end) (λ bytes. bytes ++ piece.now)) result }
     {
         if self.is_listed(NetVerb::Put) {
             self.log.keep_put(end, piece, Put::Failed);
@@ -245,13 +266,17 @@ impl Net for MemoryNet {
     fn take(&mut self, end: LinkEnd, into: &mut [u8]) -> NetTaken
         requires { 0 < length into.old }
         ensures count { CameWithin result into.new }
-        ensures calls { ListsCall self.old.calls self.new.calls (Take end (length into.old) (came result into.new) result) }
-        ensures coming { AnswersWhereListed self.new.calls (coming_items (to_end self.old.coming end)) result }
+        ensures calls { ListsCall self.old.calls self.new.calls
+            (Take end (length into.old) (came result into.new) result) }
+        ensures coming { AnswersWhereListed self.new.calls
+            (coming_items (to_end self.old.coming end)) result }
         ensures cause { HasCause self.old.faults self.new.faults (NetTakeFailed result) }
         ensures still { ¬ NetTakeFailed result → self.new.faults ≡ self.old.faults }
         ensures script { FollowsScript self.old self.new verb.Take (NetTakeFailed result) }
-        ensures bytes { ¬ NetTakeFailed result → came result into.new ≡ take (length into.new) (to_end self.old.coming end) }
-        ensures rest { LeavesTaken self.old self.new (end_changed self.old.coming end (drop (size_of result))) result }
+        ensures bytes { ¬ NetTakeFailed result
+            → came result into.new ≡ take (length into.new) (to_end self.old.coming end) }
+        ensures rest { LeavesTaken self.old self.new
+            (end_changed self.old.coming end (drop (size_of result))) result }
     {
         if self.is_listed(NetVerb::Take) {
             self.log.keep_take(end, into.len(), &[], NetTaken::Failed);

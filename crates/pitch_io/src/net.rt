@@ -3,7 +3,9 @@ ghost use Rattle.pitch_io.specs.declared.net.LinkEnd.{LinkEnd as EndOf};
 ghost use Rattle.std.specs.Prelude.{◌≡◌, ℕ, ◌<◌, List, length, Option};
 ghost use Rattle.pitch_io.specs.Causes.{HasCause};
 ghost use Rattle.pitch_io.specs.Putting.{PutsWithin, PutFailed};
-ghost use Rattle.pitch_io.specs.Nets.{Call, Coming, Begin, Send, Next, Put as PutCall, Take, ListsCall, came, CameWithin, NetTakeFailed, NetDoneFailed, AnswersWhereListed};
+ghost use Rattle.pitch_io.specs.Nets.{Call, Coming, Begin, Send, Next, Put as PutCall, Take};
+ghost use Rattle.pitch_io.specs.Nets.{ListsCall, came, CameWithin, NetTakeFailed, NetDoneFailed};
+ghost use Rattle.pitch_io.specs.Nets.{AnswersWhereListed};
 
 use crate::line::Line;
 use crate::sink::Put;
@@ -63,7 +65,8 @@ pub trait Net {
 
     /// Sends a datagram on a line.
     fn send(&mut self, line: Line, datagram: &[u8]) -> NetDone
-        ensures calls { ListsCall (calls self.old) (calls self.new) (Send line datagram.now result) }
+        ensures calls { ListsCall
+            (calls self.old) (calls self.new) (Send line datagram.now result) }
         ensures cause { HasCause (faults self.old) (faults self.new) (NetDoneFailed result) }
         ensures still { ¬ NetDoneFailed result → faults self.new ≡ faults self.old };
 
@@ -71,7 +74,8 @@ pub trait Net {
     fn next(&mut self, line: Line, into: &mut [u8]) -> NetTaken
         requires { 0 < length into.old }
         ensures count { CameWithin result into.new }
-        ensures calls { ListsCall (calls self.old) (calls self.new) (Next line (length into.old) (came result into.new) result) }
+        ensures calls { ListsCall (calls self.old)
+            (calls self.new) (Next line (length into.old) (came result into.new) result) }
         ensures coming { AnswersWhereListed (calls self.new) (lines self.old line) result }
         ensures cause { HasCause (faults self.old) (faults self.new) (NetTakeFailed result) }
         ensures still { ¬ NetTakeFailed result → faults self.new ≡ faults self.old };
@@ -88,7 +92,8 @@ pub trait Net {
     fn take(&mut self, end: LinkEnd, into: &mut [u8]) -> NetTaken
         requires { 0 < length into.old }
         ensures count { CameWithin result into.new }
-        ensures calls { ListsCall (calls self.old) (calls self.new) (Take end (length into.old) (came result into.new) result) }
+        ensures calls { ListsCall (calls self.old)
+            (calls self.new) (Take end (length into.old) (came result into.new) result) }
         ensures coming { AnswersWhereListed (calls self.new) (ends self.old end) result }
         ensures cause { HasCause (faults self.old) (faults self.new) (NetTakeFailed result) }
         ensures still { ¬ NetTakeFailed result → faults self.new ≡ faults self.old };

@@ -1,5 +1,7 @@
 ghost use Rattle.std.specs.Prelude.{◌≡◌, ◌<◌, ◌++◌, [], length, take, drop, min, true};
-ghost use Rattle.pitch_io.specs.MemoryNets.{AreFull, ComesFirst, as_carried, datagram_items, end_changed, line_changed, nothing_coming, on_line, to_end};
+ghost use Rattle.pitch_io.specs.MemoryNets.{AreFull, ComesFirst, as_carried, datagram_items};
+ghost use Rattle.pitch_io.specs.MemoryNets.{end_changed, line_changed, nothing_coming, on_line};
+ghost use Rattle.pitch_io.specs.MemoryNets.{to_end};
 ghost use Rattle.pitch_io.specs.Nets.{other_end};
 
 use crate::line::Line;
@@ -26,9 +28,18 @@ impl Model for Wires {
 
     ghost Value = { OnItsWay };
 
-    ghost view = { λ w. record { a = datagram_items w.a.items; b = datagram_items w.b.items; gap = datagram_items w.gap.items; grp_client = w.grp_client.items; grp_server = w.grp_server.items; spin_client = w.spin_client.items; spin_server = w.spin_server.items } };
+    ghost view = { λ w. record {
+      a = datagram_items w.a.items;
+      b = datagram_items w.b.items;
+      gap = datagram_items w.gap.items;
+      grp_client = w.grp_client.items;
+      grp_server = w.grp_server.items;
+      spin_client = w.spin_client.items;
+      spin_server = w.spin_server.items;
+    } };
 
-    ghost invariant = { λ w. AreFull (datagram_items w.a.items) × AreFull (datagram_items w.b.items) × AreFull (datagram_items w.gap.items) };
+    ghost invariant = { λ w. AreFull (datagram_items w.a.items)
+        × AreFull (datagram_items w.b.items) × AreFull (datagram_items w.gap.items) };
 }
 
 impl Wires {
@@ -62,7 +73,8 @@ impl Wires {
 
     // A datagram goes on a line. Answers whether there was memory for it.
     pub(crate) fn send(&mut self, line: Line, datagram: &[u8]) -> bool
-        ensures { result ≡ true → self.new ≡ line_changed self.old line (λ datagrams. datagrams ++ as_carried datagram.now) }
+        ensures { result ≡ true → self.new
+            ≡ line_changed self.old line (λ datagrams. datagrams ++ as_carried datagram.now) }
     {
         match line {
             Line::A => append(&mut self.a, self.alloc, datagram),
@@ -88,7 +100,8 @@ impl Wires {
 
     // A piece goes to the other end. Answers whether there was memory for it.
     pub(crate) fn put(&mut self, end: LinkEnd, piece: &[u8]) -> bool
-        ensures { result ≡ true → self.new ≡ end_changed self.old (other_end end) (λ bytes. bytes ++ piece.now) }
+        ensures { result ≡ true → self.new
+            ≡ end_changed self.old (other_end end) (λ bytes. bytes ++ piece.now) }
     {
         match end {
             LinkEnd::GrpClient => self.grp_server.extend_from_slice(piece).is_ok(),
@@ -117,7 +130,8 @@ impl Wires {
 // One more datagram at the end; one without bytes is not carried.
 fn append(datagrams: &mut VecDeque<Vec<u8>>, alloc: Global, datagram: &[u8]) -> bool
     requires { AreFull (datagram_items datagrams.old.items) }
-    ensures added { result ≡ true → datagram_items datagrams.new.items ≡ datagram_items datagrams.old.items ++ as_carried datagram.now }
+    ensures added { result ≡ true → datagram_items datagrams.new.items
+        ≡ datagram_items datagrams.old.items ++ as_carried datagram.now }
     ensures full { AreFull (datagram_items datagrams.new.items) }
 {
     if datagram.is_empty() {

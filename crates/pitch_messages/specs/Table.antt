@@ -1,5 +1,6 @@
 -- Tables of messages by their type, and how a raw is read by one.
-use Rattle.std.specs.Prelude.{ℕ, nat_lt, List, length, take, drop, Option, None, Some, if◌then◌else◌}
+use Rattle.std.specs.Prelude.{ℕ, nat_lt, List, length, take, drop, Option, None, Some}
+use Rattle.std.specs.Prelude.{if◌then◌else◌}
 
 -- the n bytes from a place
 abbrev pub bytes_at : ℕ → ℕ → List ℕ → List ℕ
@@ -18,4 +19,5 @@ needs_by (Some row) = row.needs
 -- what a raw says by its row; what it has past the row's bytes is ignored
 abbrev pub reads_by : {A : Type 0} → (List ℕ → A) → (ℕ → ℕ → A) → Option (Row A) → List ℕ → A
 reads_by unknown short None raw = unknown raw
-reads_by unknown short (Some row) raw = if nat_lt (length raw) row.needs then short row.needs (length raw) else row.says raw
+reads_by unknown short (Some row) raw =
+    if nat_lt (length raw) row.needs then short row.needs (length raw) else row.says raw

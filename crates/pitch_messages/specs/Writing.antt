@@ -5,7 +5,15 @@ use Rattle.pitch_fields.specs.Side.{byte_of}
 use Rattle.pitch_messages.specs.Raw.{kind_of}
 use Rattle.pitch_messages.specs.Reading.{row_of}
 use Rattle.pitch_messages.specs.declared.message.Message.{Message}
-use Rattle.pitch_messages.specs.declared.message.Message.TheVariants.{Time, AddLong, AddShort, Executed, ExecutedAt, ReduceLong, ReduceShort, ModifyLong, ModifyShort, Delete, TradeLong, TradeShort, TradeBreak, EndOfSession, AddExpanded, TradeExpanded, TradingStatus, UnitClear, Other}
+use Rattle.pitch_messages.specs.declared.message.Message.TheVariants.{Time, AddLong, AddShort}
+use Rattle.pitch_messages.specs.declared.message.Message.TheVariants.{Executed, ExecutedAt}
+use Rattle.pitch_messages.specs.declared.message.Message.TheVariants.{ReduceLong, ReduceShort}
+use Rattle.pitch_messages.specs.declared.message.Message.TheVariants.{ModifyLong, ModifyShort}
+use Rattle.pitch_messages.specs.declared.message.Message.TheVariants.{Delete, TradeLong, TradeShort}
+use Rattle.pitch_messages.specs.declared.message.Message.TheVariants.{TradeBreak, EndOfSession}
+use Rattle.pitch_messages.specs.declared.message.Message.TheVariants.{AddExpanded, TradeExpanded}
+use Rattle.pitch_messages.specs.declared.message.Message.TheVariants.{TradingStatus, UnitClear}
+use Rattle.pitch_messages.specs.declared.message.Message.TheVariants.{Other}
 
 -- each field in the table's order, a number in little-endian bytes
 unfoldable pub written : Message → List ℕ
@@ -17,7 +25,8 @@ written (AddShort offset id side quantity symbol price flags) =
     26 ∷ 0x22 ∷ little_bytes 4 offset ++ little_bytes 8 id ++ byte_of side ∷ little_bytes 2 quantity
     ++ (symbol ++ (little_bytes 2 price ++ flags ∷ []))
 written (Executed offset id executed execution) =
-    26 ∷ 0x23 ∷ little_bytes 4 offset ++ little_bytes 8 id ++ little_bytes 4 executed ++ little_bytes 8 execution
+    26 ∷ 0x23 ∷ little_bytes 4 offset
+    ++ little_bytes 8 id ++ little_bytes 4 executed ++ little_bytes 8 execution
 written (ExecutedAt offset id executed remaining execution price) =
     38 ∷ 0x24 ∷ little_bytes 4 offset ++ little_bytes 8 id ++ little_bytes 4 executed
     ++ little_bytes 4 remaining ++ little_bytes 8 execution ++ little_bytes 8 price
@@ -26,9 +35,11 @@ written (ReduceLong offset id quantity) =
 written (ReduceShort offset id quantity) =
     16 ∷ 0x26 ∷ little_bytes 4 offset ++ little_bytes 8 id ++ little_bytes 2 quantity
 written (ModifyLong offset id quantity price flags) =
-    27 ∷ 0x27 ∷ little_bytes 4 offset ++ little_bytes 8 id ++ little_bytes 4 quantity ++ little_bytes 8 price ++ flags ∷ []
+    27 ∷ 0x27 ∷ little_bytes 4 offset
+    ++ little_bytes 8 id ++ little_bytes 4 quantity ++ little_bytes 8 price ++ flags ∷ []
 written (ModifyShort offset id quantity price flags) =
-    19 ∷ 0x28 ∷ little_bytes 4 offset ++ little_bytes 8 id ++ little_bytes 2 quantity ++ little_bytes 2 price ++ flags ∷ []
+    19 ∷ 0x28 ∷ little_bytes 4 offset
+    ++ little_bytes 8 id ++ little_bytes 2 quantity ++ little_bytes 2 price ++ flags ∷ []
 written (Delete offset id) = 14 ∷ 0x29 ∷ little_bytes 4 offset ++ little_bytes 8 id
 written (TradeLong offset id side quantity symbol price execution) =
     41 ∷ 0x2a ∷ little_bytes 4 offset ++ little_bytes 8 id ++ byte_of side ∷ little_bytes 4 quantity
@@ -36,7 +47,8 @@ written (TradeLong offset id side quantity symbol price execution) =
 written (TradeShort offset id side quantity symbol price execution) =
     33 ∷ 0x2b ∷ little_bytes 4 offset ++ little_bytes 8 id ++ byte_of side ∷ little_bytes 2 quantity
     ++ (symbol ++ (little_bytes 2 price ++ little_bytes 8 execution))
-written (TradeBreak offset execution) = 14 ∷ 0x2c ∷ little_bytes 4 offset ++ little_bytes 8 execution
+written (TradeBreak offset execution) =
+    14 ∷ 0x2c ∷ little_bytes 4 offset ++ little_bytes 8 execution
 written (EndOfSession offset) = 6 ∷ 0x2d ∷ little_bytes 4 offset
 written (AddExpanded offset id side quantity symbol price flags participant) =
     40 ∷ 0x2f ∷ little_bytes 4 offset ++ little_bytes 8 id ++ byte_of side ∷ little_bytes 4 quantity

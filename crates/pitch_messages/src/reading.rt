@@ -5,7 +5,14 @@ ghost use Rattle.pitch_messages.specs.Raw.{IsRaw, kind_of};
 ghost use Rattle.pitch_messages.specs.declared.message.ReadError.TheVariants.{BadSide};
 ghost use Rattle.pitch_messages.specs.Table.{bytes_at};
 ghost use Rattle.pitch_messages.specs.Writing.{written, with_reserved_blank};
-ghost use Rattle.pitch_messages.specs.Reading.{needs_of, extra_of, reads, row_of, time_row, add_long_row, add_short_row, executed_row, executed_at_row, reduce_long_row, reduce_short_row, modify_long_row, modify_short_row, delete_row, trade_long_row, trade_short_row, trade_break_row, end_of_session_row, add_expanded_row, trade_expanded_row, trading_status_row, unit_clear_row};
+ghost use Rattle.pitch_messages.specs.Reading.{needs_of, extra_of, reads, row_of, time_row};
+ghost use Rattle.pitch_messages.specs.Reading.{add_long_row, add_short_row, executed_row};
+ghost use Rattle.pitch_messages.specs.Reading.{executed_at_row, reduce_long_row, reduce_short_row};
+ghost use Rattle.pitch_messages.specs.Reading.{modify_long_row, modify_short_row, delete_row};
+ghost use Rattle.pitch_messages.specs.Reading.{trade_long_row, trade_short_row, trade_break_row};
+ghost use Rattle.pitch_messages.specs.Reading.{end_of_session_row, add_expanded_row};
+ghost use Rattle.pitch_messages.specs.Reading.{trade_expanded_row, trading_status_row};
+ghost use Rattle.pitch_messages.specs.Reading.{unit_clear_row};
 
 use crate::message::{Message, ReadError};
 use crate::raw::Raw;

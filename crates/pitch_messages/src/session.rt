@@ -1,10 +1,14 @@
 //! Messages of the sessions with the Gap Request Proxy and the Spin Server.
 
-ghost use Rattle.std.specs.Prelude.{◌≡◌, ℕ, ◌+◌, ◌≤◌, ◌<◌, Ok, length, take, drop, slice_index, OnOk, IfErr};
+ghost use Rattle.std.specs.Prelude.{◌≡◌, ℕ, ◌+◌, ◌≤◌, ◌<◌, Ok, length, take, drop, slice_index};
+ghost use Rattle.std.specs.Prelude.{OnOk, IfErr};
 ghost use Rattle.std.specs.Option.{option_map};
 ghost use Rattle.pitch_messages.specs.Raw.{IsRaw, kind_of};
 ghost use Rattle.pitch_messages.specs.Table.{bytes_at, needs_by};
-ghost use Rattle.pitch_messages.specs.Session.{session_row_of, session_reads, session_written, login_row, login_reply_row, gap_request_row, gap_reply_row, spin_available_row, spin_request_row, spin_reply_row, spin_finished_row};
+ghost use Rattle.pitch_messages.specs.Session.{session_row_of, session_reads, session_written};
+ghost use Rattle.pitch_messages.specs.Session.{login_row, login_reply_row, gap_request_row};
+ghost use Rattle.pitch_messages.specs.Session.{gap_reply_row, spin_available_row, spin_request_row};
+ghost use Rattle.pitch_messages.specs.Session.{spin_reply_row, spin_finished_row};
 ghost use Rattle.pitch_messages.specs.declared.session.SessionMessage.TheVariants.{Login};
 
 use crate::raw::Raw;

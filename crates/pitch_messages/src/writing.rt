@@ -1,7 +1,19 @@
 ghost use Rattle.std.specs.Prelude.{◌≡◌, length};
 ghost use Rattle.pitch_messages.specs.Reading.{reads};
 ghost use Rattle.pitch_messages.specs.Writing.{written, HasItsVariant};
-ghost use Rattle.pitch_messages.specs.declared.message.Message.TheVariants.{Time, AddLong, AddShort, Executed, ExecutedAt, ReduceLong, ReduceShort, ModifyLong, ModifyShort, Delete, TradeLong, TradeShort, TradeBreak, EndOfSession, AddExpanded, TradeExpanded, TradingStatus, UnitClear};
+ghost use Rattle.pitch_messages.specs.declared.message.Message.TheVariants.{Time, AddLong};
+ghost use Rattle.pitch_messages.specs.declared.message.Message.TheVariants.{AddShort, Executed};
+ghost use Rattle.pitch_messages.specs.declared.message.Message.TheVariants.{ExecutedAt, ReduceLong};
+ghost use Rattle.pitch_messages.specs.declared.message.Message.TheVariants.{ReduceShort};
+ghost use Rattle.pitch_messages.specs.declared.message.Message.TheVariants.{ModifyLong};
+ghost use Rattle.pitch_messages.specs.declared.message.Message.TheVariants.{ModifyShort, Delete};
+ghost use Rattle.pitch_messages.specs.declared.message.Message.TheVariants.{TradeLong, TradeShort};
+ghost use Rattle.pitch_messages.specs.declared.message.Message.TheVariants.{TradeBreak};
+ghost use Rattle.pitch_messages.specs.declared.message.Message.TheVariants.{EndOfSession};
+ghost use Rattle.pitch_messages.specs.declared.message.Message.TheVariants.{AddExpanded};
+ghost use Rattle.pitch_messages.specs.declared.message.Message.TheVariants.{TradeExpanded};
+ghost use Rattle.pitch_messages.specs.declared.message.Message.TheVariants.{TradingStatus};
+ghost use Rattle.pitch_messages.specs.declared.message.Message.TheVariants.{UnitClear};
 
 use crate::message::Message;
 use crate::raw::Raw;
@@ -253,7 +265,8 @@ fn add_expanded_raw(
     flags: u8,
     participant: [u8; 4],
 ) -> Raw
-    ensures written { result ≡ written (AddExpanded offset id side quantity symbol price flags participant) }
+    ensures written { result ≡ written
+        (AddExpanded offset id side quantity symbol price flags participant) }
     ensures symbol { length symbol ≡ 8 }
     ensures participant { length participant ≡ 4 }
 {
@@ -282,7 +295,8 @@ fn trade_expanded_raw(
     price: u64,
     execution: u64,
 ) -> Raw
-    ensures written { result ≡ written (TradeExpanded offset id side quantity symbol price execution) }
+    ensures written { result ≡ written
+        (TradeExpanded offset id side quantity symbol price execution) }
     ensures symbol { length symbol ≡ 8 }
 {
     Raw::of_fields(

@@ -1,7 +1,9 @@
 -- What a client makes of its history: which ends are up, what is owed, and what it asks for.
-use Rattle.std.specs.Prelude.{ℕ, ◌+◌, ◌-◌, Bool, true, false, ◌&&◌, ◌||◌, not, cond, List, [], ◌∷◌, Option, Some, None, nat_lt, ◌==◌, min, option_map, unwrap_or}
+use Rattle.std.specs.Prelude.{ℕ, ◌+◌, ◌-◌, Bool, true, false, ◌&&◌, ◌||◌, not, cond, List, [], ◌∷◌}
+use Rattle.std.specs.Prelude.{Option, Some, None, nat_lt, ◌==◌, min, option_map, unwrap_or}
 use Rattle.std.specs.Option.{option_map_or}
-use Rattle.pitch_model.specs.History.{Entry, GrpUp, GrpDown, GapReply, SpinUp, SpinDown, Advertised, Ticked, Spinning, NoSpin, spin_of}
+use Rattle.pitch_model.specs.History.{Entry, GrpUp, GrpDown, GapReply, SpinUp, SpinDown, Advertised}
+use Rattle.pitch_model.specs.History.{Ticked, Spinning, NoSpin, spin_of}
 use Rattle.pitch_model.specs.Reach.{reach, is_overflow, part_of, held_of}
 use Rattle.pitch_model.specs.Status.{raised, top_of}
 use Rattle.pitch_model.specs.declared.ask.Ask.{Ask}
@@ -63,7 +65,9 @@ is_refusal entry = false
 -- an overflow or a refusal came since the reach last rose
 abbrev pub is_troubled : ℕ → List Entry → Bool
 is_troubled H [] = false
-is_troubled H (entry ∷ E) = cond (nat_lt (reach H E) (reach H (entry ∷ E))) false ((is_overflow H E entry || is_refusal entry) || is_troubled H E)
+is_troubled H (entry ∷ E) =
+    cond (nat_lt (reach H E) (reach H (entry ∷ E))) false
+    ((is_overflow H E entry || is_refusal entry) || is_troubled H E)
 
 -- an image is wanted: more than 1,000 messages are missing up to the top, or there is trouble
 abbrev pub wants : ℕ → List Entry → ℕ → Bool
@@ -92,15 +96,19 @@ gap_ask n first top = Gap (n + 1) (min 100 (unwrap_or (option_map (λ k. k - 1) 
 -- an image through the advertised sequence is asked for: one is wanted or the Gap Request Proxy is
 -- not up, the Spin Server is up and no spin is under way, and the image is above the reach
 abbrev pub asks_spin : ℕ → List Entry → ℕ → ℕ → Bool
-asks_spin H E top advertised = (wants H E top || not (is_grp_up E)) && (is_spin_up E && (is_idle (spin_of E) && nat_lt (reach H E) advertised))
+asks_spin H E top advertised =
+    (wants H E top || not (is_grp_up E))
+    && (is_spin_up E && (is_idle (spin_of E) && nat_lt (reach H E) advertised))
 
 -- a gap is asked for where the Gap Request Proxy is up and owes no reply
 abbrev pub gap_or_none : ℕ → List Entry → ℕ → Option Ask
-gap_or_none H E top = cond (is_grp_up E && not (owes E)) (Some (gap_ask (reach H E) (least_held H E) top)) None
+gap_or_none H E top =
+    cond (is_grp_up E && not (owes E)) (Some (gap_ask (reach H E) (least_held H E) top)) None
 
 abbrev pub spin_or_gap : ℕ → List Entry → ℕ → Option ℕ → Option Ask
 spin_or_gap H E top None = gap_or_none H E top
-spin_or_gap H E top (Some advertised) = cond (asks_spin H E top advertised) (Some (Spin advertised)) (gap_or_none H E top)
+spin_or_gap H E top (Some advertised) =
+    cond (asks_spin H E top advertised) (Some (Spin advertised)) (gap_or_none H E top)
 
 -- nothing is asked for where the client is silent or current
 abbrev pub ask_with : ℕ → List Entry → Option ℕ → Option Ask

@@ -1,5 +1,6 @@
 -- The book of one unit, its orders and trading statuses, and what each message does to it.
-use Rattle.std.specs.Prelude.{◌≡◌, ℕ, ◌-◌, ◌<◌, Bool, ◌==◌, List, [], ◌∷◌, ◌++◌, fold, ◌*◌, Option, None, Some, Result, Ok, Err, if◌then◌else◌, bit_and, option_map}
+use Rattle.std.specs.Prelude.{◌≡◌, ℕ, ◌-◌, ◌<◌, Bool, ◌==◌, List, [], ◌∷◌, ◌++◌, fold, ◌*◌, Option}
+use Rattle.std.specs.Prelude.{None, Some, Result, Ok, Err, if◌then◌else◌, bit_and, option_map}
 use Rattle.std.specs.Ordering.{nat_cmp}
 use Rattle.std.specs.Cmp.Lexicographic.{slice_cmp}
 use Rattle.std.specs.declared.cmp.Ordering.{Ordering}
@@ -8,7 +9,15 @@ use Rattle.pitch_fields.specs.Name.{no_participant}
 use Rattle.pitch_fields.specs.declared.side.Side.{Side}
 use Rattle.pitch_messages.specs.declared.order.Order.{Order}
 use Rattle.pitch_messages.specs.declared.message.Message.{Message}
-use Rattle.pitch_messages.specs.declared.message.Message.TheVariants.{Time, AddLong, AddShort, Executed, ExecutedAt, ReduceLong, ReduceShort, ModifyLong, ModifyShort, Delete, TradeLong, TradeShort, TradeBreak, EndOfSession, AddExpanded, TradeExpanded, TradingStatus, UnitClear, Other}
+use Rattle.pitch_messages.specs.declared.message.Message.TheVariants.{Time, AddLong, AddShort}
+use Rattle.pitch_messages.specs.declared.message.Message.TheVariants.{Executed, ExecutedAt}
+use Rattle.pitch_messages.specs.declared.message.Message.TheVariants.{ReduceLong, ReduceShort}
+use Rattle.pitch_messages.specs.declared.message.Message.TheVariants.{ModifyLong, ModifyShort}
+use Rattle.pitch_messages.specs.declared.message.Message.TheVariants.{Delete, TradeLong, TradeShort}
+use Rattle.pitch_messages.specs.declared.message.Message.TheVariants.{TradeBreak, EndOfSession}
+use Rattle.pitch_messages.specs.declared.message.Message.TheVariants.{AddExpanded, TradeExpanded}
+use Rattle.pitch_messages.specs.declared.message.Message.TheVariants.{TradingStatus, UnitClear}
+use Rattle.pitch_messages.specs.declared.message.Message.TheVariants.{Other}
 use Rattle.pitch_messages.specs.declared.message.ReadError.{ReadError}
 use Rattle.pitch_messages.specs.Reading.{reads}
 
@@ -60,7 +69,8 @@ added book order = if order.quantity == 0 then book else with_order book order.i
 -- an open order takes another form, and goes where it has no shares left
 abbrev pub reformed : Book → ℕ → Option Order → Book
 reformed book id None = book
-reformed book id (Some order) = if order.quantity == 0 then without_order book id else with_order book id order
+reformed book id (Some order) =
+    if order.quantity == 0 then without_order book id else with_order book id order
 
 -- the order of an id is changed; where none is open, nothing is
 abbrev pub changed : Book → ℕ → (Order → Order) → Book
@@ -77,7 +87,8 @@ left_with quantity order = record order { quantity = quantity }
 
 -- quantity, price and display are replaced; side, symbol and participant stay
 abbrev pub modified : ℕ → ℕ → Bool → Order → Order
-modified quantity price display order = record order { quantity = quantity; price = price; display = display }
+modified quantity price display order =
+    record order { quantity = quantity; price = price; display = display }
 
 -- ---- What messages do
 -- bit 0 of the flags says that an order is displayed
@@ -95,14 +106,31 @@ long_price price = 100 * price
 -- the orders of the three forms of an add
 abbrev pub order_of_long : ℕ → Side → ℕ → List ℕ → ℕ → ℕ → Order
 order_of_long id side quantity symbol price flags =
-    record { id = id; side = side; quantity = quantity; symbol = long_symbol symbol; price = price; display = is_displayed flags; participant = no_participant }
+    record {
+      id = id;
+      side = side;
+      quantity = quantity;
+      symbol = long_symbol symbol;
+      price = price;
+      display = is_displayed flags;
+      participant = no_participant;
+    }
 
 abbrev pub order_of_short : ℕ → Side → ℕ → List ℕ → ℕ → ℕ → Order
-order_of_short id side quantity symbol price flags = order_of_long id side quantity symbol (long_price price) flags
+order_of_short id side quantity symbol price flags =
+    order_of_long id side quantity symbol (long_price price) flags
 
 abbrev pub order_of_expanded : ℕ → Side → ℕ → List ℕ → ℕ → ℕ → List ℕ → Order
 order_of_expanded id side quantity symbol price flags participant =
-    record { id = id; side = side; quantity = quantity; symbol = symbol; price = price; display = is_displayed flags; participant = participant }
+    record {
+      id = id;
+      side = side;
+      quantity = quantity;
+      symbol = symbol;
+      price = price;
+      display = is_displayed flags;
+      participant = participant;
+    }
 
 -- what a message does to a book
 abbrev pub after_message : Book → Message → Book
@@ -113,19 +141,25 @@ after_message book (UnitClear offset) = cleared book
 -- "Trading Status Message"
 after_message book (TradingStatus offset symbol halt sho) = with_status book symbol (halt, sho)
 -- "Add Order Message", long, short and expanded form
-after_message book (AddLong offset id side quantity symbol price flags) = added book (order_of_long id side quantity symbol price flags)
-after_message book (AddShort offset id side quantity symbol price flags) = added book (order_of_short id side quantity symbol price flags)
-after_message book (AddExpanded offset id side quantity symbol price flags participant) = added book (order_of_expanded id side quantity symbol price flags participant)
+after_message book (AddLong offset id side quantity symbol price flags) =
+    added book (order_of_long id side quantity symbol price flags)
+after_message book (AddShort offset id side quantity symbol price flags) =
+    added book (order_of_short id side quantity symbol price flags)
+after_message book (AddExpanded offset id side quantity symbol price flags participant) =
+    added book (order_of_expanded id side quantity symbol price flags participant)
 -- "Order Executed Message"
 after_message book (Executed offset id executed execution) = changed book id (reduced_by executed)
 -- "Order Executed at Price/Size Message"
-after_message book (ExecutedAt offset id executed remaining execution price) = changed book id (left_with remaining)
+after_message book (ExecutedAt offset id executed remaining execution price) =
+    changed book id (left_with remaining)
 -- "Reduce Size Message", long and short form
 after_message book (ReduceLong offset id quantity) = changed book id (reduced_by quantity)
 after_message book (ReduceShort offset id quantity) = changed book id (reduced_by quantity)
 -- "Modify Order Message", long and short form
-after_message book (ModifyLong offset id quantity price flags) = changed book id (modified quantity price (is_displayed flags))
-after_message book (ModifyShort offset id quantity price flags) = changed book id (modified quantity (long_price price) (is_displayed flags))
+after_message book (ModifyLong offset id quantity price flags) =
+    changed book id (modified quantity price (is_displayed flags))
+after_message book (ModifyShort offset id quantity price flags) =
+    changed book id (modified quantity (long_price price) (is_displayed flags))
 -- "Delete Order Message"
 after_message book (Delete offset id) = without_order book id
 -- trades, trade breaks, the end of the session and other types do nothing

@@ -31,7 +31,8 @@ fresh_in H E (block ∷ blocks) = block_fresh H E block + fresh_in H (heard_bloc
 -- with how many of them the hold overflows
 abbrev pub overflows_in : ℕ → List Entry → List Block → ℕ
 overflows_in H E [] = 0
-overflows_in H E (block ∷ blocks) = block_overflows H E block + overflows_in H (heard_block block E) blocks
+overflows_in H E (block ∷ blocks) =
+    block_overflows H E block + overflows_in H (heard_block block E) blocks
 
 -- what each block changes
 abbrev pub changes_in : ℕ → List Entry → List Block → List Change

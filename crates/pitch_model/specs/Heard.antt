@@ -1,10 +1,12 @@
 -- What an item adds to a history, and what it changes.
-use Rattle.std.specs.Prelude.{◌≡◌, ℕ, ◌+◌, ◌≤◌, ◌<◌, Bool, ◌&&◌, not, cond, List, [], ◌∷◌, length, ◌==◌, nat_lt, min, ◌^◌, ◌-◌}
+use Rattle.std.specs.Prelude.{◌≡◌, ℕ, ◌+◌, ◌≤◌, ◌<◌, Bool, ◌&&◌, not, cond, List, [], ◌∷◌, length}
+use Rattle.std.specs.Prelude.{◌==◌, nat_lt, min, ◌^◌, ◌-◌}
 use Rattle.pitch_fields.specs.Limits.{last_sequence}
 use Rattle.unit_packets.specs.Blocks.{Block}
 use Rattle.pitch_model.specs.History.{Entry, Raw, image_finished, bad_image, spin_of, adds}
 use Rattle.pitch_model.specs.History as entry
-pub use Rattle.pitch_model.specs.HeardBlocks.{heard_messages, heard_sequenced, heard_block, overflowed_messages, block_overflows}
+pub use Rattle.pitch_model.specs.HeardBlocks.{heard_messages, heard_sequenced, heard_block}
+pub use Rattle.pitch_model.specs.HeardBlocks.{overflowed_messages, block_overflows}
 use Rattle.pitch_model.specs.Reach.{reach, is_seen, part_of}
 use Rattle.pitch_model.specs.Status.{status_of}
 use Rattle.pitch_model.specs.declared.change.Change.{Change}
@@ -17,7 +19,9 @@ use Rattle.pitch_model.specs.declared.item.Item.TheVariants as item
 -- the item of a block: its messages, or what a heartbeat tells ("Heartbeat Messages"); sequence 0
 -- means unsequenced ("Sequenced Unit Header")
 abbrev pub IsItemOf : Block → Item → Type 0
-IsItemOf block (item.Messages first raws) = (0 < block.sequence) × (0 < length block.raws) × (first ≡ block.sequence) × (raws.items ≡ block.raws)
+IsItemOf block (item.Messages first raws) =
+    (0 < block.sequence) × (0 < length block.raws)
+    × (first ≡ block.sequence) × (raws.items ≡ block.raws)
 IsItemOf block (item.Next next) = (0 < block.sequence) × (block.raws ≡ []) × (next ≡ block.sequence)
 IsItemOf block item.Nothing = block.sequence ≡ 0
 IsItemOf block item.GrpUp = ⊥
@@ -61,7 +65,8 @@ heard (item.GapReply sequence count status) E = entry.GapReply (is_accepted stat
 heard item.SpinUp E = entry.SpinUp ∷ E
 heard item.SpinDown E = entry.SpinDown ∷ E
 heard (item.Advertised sequence) E = entry.Advertised sequence ∷ E
-heard (item.SpinReply sequence orders status) E = entry.SpinReply sequence orders (is_accepted status) ∷ E
+heard (item.SpinReply sequence orders status) E =
+    entry.SpinReply sequence orders (is_accepted status) ∷ E
 heard (item.ImageMessages raws) E = entry.ImageMessages raws.items ∷ E
 heard (item.SpinFinished sequence) E = entry.SpinFinished sequence ∷ E
 
@@ -73,7 +78,8 @@ is_fresh H E sequence = nat_lt (reach H E) sequence && not (is_seen (part_of H E
 -- how many of messages with rising sequence are fresh, each after those before it
 abbrev pub fresh_messages : ℕ → ℕ → List Raw → List Entry → ℕ
 fresh_messages H first [] E = 0
-fresh_messages H first (raw ∷ raws) E = cond (is_fresh H E first) 1 0 + fresh_messages H (first + 1) raws (entry.Message first raw ∷ E)
+fresh_messages H first (raw ∷ raws) E =
+    cond (is_fresh H E first) 1 0 + fresh_messages H (first + 1) raws (entry.Message first raw ∷ E)
 
 -- how many messages of a block are fresh; an unsequenced one has none
 abbrev pub block_fresh : ℕ → List Entry → Block → ℕ
@@ -95,7 +101,8 @@ image_end_at n [] (image ∷ bad) = end.Bad image.0 (min (adds image.1) (2 ^ 64 
 image_end_at n [] [] = end.NoImage
 
 abbrev pub image_end : ℕ → List Entry → Item → ImageEnd
-image_end H E (item.SpinFinished sequence) = image_end_at (reach H E) (image_finished (spin_of E) sequence) (bad_image (spin_of E) sequence)
+image_end H E (item.SpinFinished sequence) =
+    image_end_at (reach H E) (image_finished (spin_of E) sequence) (bad_image (spin_of E) sequence)
 image_end H E item = end.NoImage
 
 -- what an item changes that is heard after a history

@@ -23,8 +23,11 @@ heard_block block E = cond (block.sequence == 0) E (heard_sequenced block.sequen
 -- before it
 abbrev pub overflowed_messages : ℕ → ℕ → List Raw → List Entry → ℕ
 overflowed_messages H first [] E = 0
-overflowed_messages H first (raw ∷ raws) E = cond (is_overflow H E (entry.Message first raw)) 1 0 + overflowed_messages H (first + 1) raws (entry.Message first raw ∷ E)
+overflowed_messages H first (raw ∷ raws) E =
+    cond (is_overflow H E (entry.Message first raw)) 1 0
+    + overflowed_messages H (first + 1) raws (entry.Message first raw ∷ E)
 
 -- with how many messages of a block it overflows; an unsequenced one has none
 abbrev pub block_overflows : ℕ → List Entry → Block → ℕ
-block_overflows H E block = cond (block.sequence == 0) 0 (overflowed_messages H block.sequence block.raws E)
+block_overflows H E block =
+    cond (block.sequence == 0) 0 (overflowed_messages H block.sequence block.raws E)

@@ -1,5 +1,6 @@
 -- What one unit's client heard and did. A history is a list of entries, the newest first.
-use Rattle.std.specs.Prelude.{ℕ, Bool, ◌&&◌, ◌||◌, cond, not, List, [], ◌∷◌, ◌++◌, Option, Some, nat_le, ◌==◌, sum_by}
+use Rattle.std.specs.Prelude.{ℕ, Bool, ◌&&◌, ◌||◌, cond, not, List, [], ◌∷◌, ◌++◌, Option, Some}
+use Rattle.std.specs.Prelude.{nat_le, ◌==◌, sum_by}
 use Rattle.pitch_fields.specs.Limits.{last_sequence}
 use Rattle.pitch_messages.specs.Raw.{kind_of}
 use Rattle.pitch_model.specs.declared.ask.Ask.{Ask}
@@ -62,7 +63,8 @@ can_promise sequence orders = nat_le orders sequence && nat_le orders last_seque
 -- the reply to what was asked makes the spin run where it is accepted, and ends it where not
 abbrev pub spin_replied : Spinning → ℕ → ℕ → Bool → Spinning
 spin_replied (Asked asked) sequence orders accepted =
-    cond (asked == sequence) (cond (accepted && can_promise sequence orders) (Running sequence orders []) NoSpin) (Asked asked)
+    cond (asked == sequence) (cond (accepted && can_promise sequence orders)
+    (Running sequence orders []) NoSpin) (Asked asked)
 spin_replied spin sequence orders accepted = spin
 
 -- messages of an image come to the running spin
@@ -72,7 +74,8 @@ spin_more spin more = spin
 
 -- the running spin ends
 abbrev pub spin_finished : Spinning → ℕ → Spinning
-spin_finished (Running running orders raws) sequence = cond (running == sequence) NoSpin (Running running orders raws)
+spin_finished (Running running orders raws) sequence =
+    cond (running == sequence) NoSpin (Running running orders raws)
 spin_finished spin sequence = spin
 
 -- the spin after an entry
@@ -92,12 +95,14 @@ spin_of (entry ∷ E) = spin_step entry (spin_of E)
 -- ---- Images and messages, as lists of one or none
 -- the image that Spin Finished finishes, with its sequence: it has as many adds as were promised
 abbrev pub image_finished : Spinning → ℕ → List (ℕ × List Raw)
-image_finished (Running running orders raws) sequence = cond (running == sequence && adds raws == orders) ((running, raws) ∷ []) []
+image_finished (Running running orders raws) sequence =
+    cond (running == sequence && adds raws == orders) ((running, raws) ∷ []) []
 image_finished spin sequence = []
 
 -- the image that is bad then, with the number that was promised
 abbrev pub bad_image : Spinning → ℕ → List (ℕ × List Raw)
-bad_image (Running running orders raws) sequence = cond (running == sequence && not (adds raws == orders)) ((orders, raws) ∷ []) []
+bad_image (Running running orders raws) sequence =
+    cond (running == sequence && not (adds raws == orders)) ((orders, raws) ∷ []) []
 bad_image spin sequence = []
 
 -- the image that an entry finishes

@@ -1,5 +1,6 @@
 -- Histories that speak of one venue's messages alone.
-use Rattle.std.specs.Prelude.{◌≡◌, ℕ, zero, suc, ◌+◌, ◌≤◌, List, [], ◌∷◌, length, Option, Some, None, slice_get}
+use Rattle.std.specs.Prelude.{◌≡◌, ℕ, zero, suc, ◌+◌, ◌≤◌, List, [], ◌∷◌, length, Option, Some}
+use Rattle.std.specs.Prelude.{None, slice_get}
 use Rattle.pitch_model.specs.History.{Entry, Raw, Message, Next, Advertised, images_at, spin_of}
 
 -- the venue's message of a sequence, which counts from 1
@@ -9,7 +10,8 @@ message_at V (suc k) = slice_get V k
 
 -- each raw, with rising sequence, is the venue's
 abbrev pub AreVenues : List Raw → ℕ → List Raw → Type 0
-AreVenues V first raws = (i : ℕ) (raw : Raw) → slice_get raws i ≡ Some raw → message_at V (first + i) ≡ Some raw
+AreVenues V first raws =
+    (i : ℕ) (raw : Raw) → slice_get raws i ≡ Some raw → message_at V (first + i) ≡ Some raw
 
 -- `Image V s` are the raws of the image through s, and V are the messages that the venue has
 -- accepted

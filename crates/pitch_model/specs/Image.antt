@@ -1,5 +1,6 @@
 -- The image of a book: messages that make it anew from the empty book ("Spin Server").
-use Rattle.std.specs.Prelude.{◌≡◌, ℕ, true, ◌||◌, ◌==◌, List, [], ◌∷◌, ◌++◌, Option, None, Some, map, take}
+use Rattle.std.specs.Prelude.{◌≡◌, ℕ, true, ◌||◌, ◌==◌, List, [], ◌∷◌, ◌++◌, Option, None, Some}
+use Rattle.std.specs.Prelude.{map, take}
 use Rattle.pitch_messages.specs.Raw.{kind_of}
 use Rattle.pitch_messages.specs.declared.message.Message.{Message}
 use Rattle.pitch_messages.specs.declared.message.Message.TheVariants.{Time}
@@ -18,7 +19,8 @@ clock_of (Some second) = Time second ∷ []
 -- the clock, then the add of each open order by rising id, and then each trading status by rising
 -- bytes of its symbol, all with offset 0
 abbrev pub image_messages : Book → List Message
-image_messages book = clock_of book.second ++ (map (λ order. add_message order 0) (orders_of book) ++ map (λ state. status_message state 0) (statuses_of book))
+image_messages book = clock_of book.second ++ (map (λ order. add_message order 0) (orders_of book)
+    ++ map (λ state. status_message state 0) (statuses_of book))
 
 -- the image of a book: the bytes of these messages
 unfoldable pub image_of : Book → List (List ℕ)

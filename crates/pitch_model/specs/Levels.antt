@@ -1,5 +1,6 @@
 -- Prices and shares of a book.
-use Rattle.std.specs.Prelude.{◌≡◌, ℕ, nat_eq, Bool, true, false, ◌==◌, ◌&&◌, List, [], ◌∷◌, Option, None, Some, map, filter, sum_by, max, min, option_map, bytes_eq}
+use Rattle.std.specs.Prelude.{◌≡◌, ℕ, nat_eq, Bool, true, false, ◌==◌, ◌&&◌, List, [], ◌∷◌, Option}
+use Rattle.std.specs.Prelude.{None, Some, map, filter, sum_by, max, min, option_map, bytes_eq}
 use Rattle.std.specs.Option.{option_map_or}
 use Rattle.std.specs.Set.{is_member}
 use Rattle.std.specs.FinMap as finite
@@ -20,11 +21,14 @@ same_side Sell Buy = false
 
 -- the open orders of a symbol on a side
 abbrev pub orders_on : Book → List ℕ → Side → List Order
-orders_on book symbol side = filter (λ order. bytes_eq symbol order.symbol && same_side side order.side) (orders_of book)
+orders_on book symbol side =
+    filter (λ order. bytes_eq symbol order.symbol && same_side side order.side) (orders_of book)
 
 -- the shares that are open for a symbol on a side at a price
 unfoldable pub level : Book → List ℕ → Side → ℕ → ℕ
-level book symbol side price = sum_by (λ order. order.quantity) (filter (λ order. price == order.price) (orders_on book symbol side))
+level book symbol side price =
+    sum_by (λ order. order.quantity)
+    (filter (λ order. price == order.price) (orders_on book symbol side))
 
 -- the prices of these orders
 abbrev pub prices_on : Book → List ℕ → Side → List ℕ
@@ -50,7 +54,8 @@ with_level book symbol side price = (price, level book symbol side price)
 
 -- the best price of a symbol on a side, with its shares; none where the side has no order
 unfoldable pub best : Book → List ℕ → Side → Option (ℕ × ℕ)
-best book symbol side = option_map (with_level book symbol side) (best_of side (prices_on book symbol side))
+best book symbol side =
+    option_map (with_level book symbol side) (best_of side (prices_on book symbol side))
 
 -- the shares of all open orders
 unfoldable pub shares : Book → ℕ

@@ -1,5 +1,6 @@
 -- How far what was heard reaches, and what is held beyond.
-use Rattle.std.specs.Prelude.{◌≡◌, ℕ, zero, suc, ◌≤◌, ◌<◌, Bool, true, false, ◌&&◌, ◌||◌, cond, List, [], ◌∷◌, ◌++◌, map, filter, nat_eq, nat_lt, ◌==◌, max}
+use Rattle.std.specs.Prelude.{◌≡◌, ℕ, zero, suc, ◌≤◌, ◌<◌, Bool, true, false, ◌&&◌, ◌||◌, cond}
+use Rattle.std.specs.Prelude.{List, [], ◌∷◌, ◌++◌, map, filter, nat_eq, nat_lt, ◌==◌, max}
 use Rattle.std.specs.Set.{is_member, distinct_count}
 use Rattle.pitch_model.specs.History.{Entry, images_at, messages_at, spin_of}
 
@@ -66,7 +67,8 @@ held_count P = distinct_count nat_eq (held_of P)
 -- ---- Along a history
 -- the part with one more entry's image and message
 abbrev pub grown : Part → List ℕ → List ℕ → Part
-grown P images messages = record { base = P.base; images = images ++ P.images; seen = messages ++ P.seen }
+grown P images messages =
+    record { base = P.base; images = images ++ P.images; seen = messages ++ P.seen }
 
 -- an overflow: a message with which more than H are held
 abbrev pub overflows : ℕ → Part → List ℕ → Bool
@@ -75,14 +77,16 @@ overflows H P (k ∷ ks) = nat_lt H (held_count P)
 
 -- at an overflow the reach becomes the base, and the message is all that came
 abbrev pub settled : ℕ → Part → List ℕ → Part
-settled H P messages = cond (overflows H P messages) (record { base = reach_of P; images = []; seen = messages }) P
+settled H P messages =
+    cond (overflows H P messages) (record { base = reach_of P; images = []; seen = messages }) P
 
 abbrev pub sequences : {X : Type 0} → List (ℕ × X) → List ℕ
 sequences xs = map (λ x. x.0) xs
 
 -- the part with an entry that comes after a history
 abbrev pub grown_at : Part → List Entry → Entry → Part
-grown_at P E entry = grown P (sequences (images_at entry (spin_of E))) (sequences (messages_at entry))
+grown_at P E entry =
+    grown P (sequences (images_at entry (spin_of E))) (sequences (messages_at entry))
 
 -- the part after a history, where the hold has H places
 abbrev pub part_of : ℕ → List Entry → Part

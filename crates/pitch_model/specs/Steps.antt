@@ -9,7 +9,8 @@ pub record SameReach (H : ℕ) (E E' : List Entry) : Type 0 where
   pub held_are : (k : ℕ) → is_held H E' k ≡ is_held H E k
 
 -- the hold overflows with the entry or does not, the reach is n then, and these sequences are held
-pub record Leaves (H : ℕ) (E : List Entry) (entry : Entry) (overflow : Bool) (n : ℕ) (held : ℕ → Bool) : Type 0 where
+pub record Leaves (H : ℕ)
+    (E : List Entry) (entry : Entry) (overflow : Bool) (n : ℕ) (held : ℕ → Bool) : Type 0 where
   pub overflow_is : is_overflow H E entry ≡ overflow
   pub reach_is : reach H (entry ∷ E) ≡ n
   pub held_are : (k : ℕ) → is_held H (entry ∷ E) k ≡ held k

@@ -10,12 +10,14 @@ use Rattle.pitch_model.specs.Honest.{Honest}
 abbrev pub unit_history : ℕ → List Block → List Entry
 unit_history unit [] = []
 unit_history unit (block ∷ before) =
-    if block.unit == unit then heard_block block (unit_history unit before) else unit_history unit before
+    if block.unit == unit then heard_block block (unit_history unit before)
+    else unit_history unit before
 
 -- a number put into its place among rising ones, where it does not stand there
 abbrev pub with_number : ℕ → List ℕ → List ℕ
 with_number n [] = n ∷ []
-with_number n (m ∷ ms) = if n == m then m ∷ ms else if nat_lt n m then n ∷ m ∷ ms else m ∷ with_number n ms
+with_number n (m ∷ ms) =
+    if n == m then m ∷ ms else if nat_lt n m then n ∷ m ∷ ms else m ∷ with_number n ms
 
 -- the units that the blocks name, by rising number
 abbrev pub units_of : List Block → List ℕ

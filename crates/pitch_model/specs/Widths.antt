@@ -27,4 +27,5 @@ pub record FitsStatus (key : List ℕ) (status : ℕ × ℕ) : Type 0 where
 pub record IsWireBook (book : Book) : Type 0 where
   pub clock : (second : ℕ) → book.second ≡ Some second → second < 256 ^ 4
   pub orders : (id : ℕ) (order : Order) → map.get book.orders id ≡ Some order → FitsWire order
-  pub statuses : (symbol : List ℕ) (status : ℕ × ℕ) → map.get book.statuses symbol ≡ Some status → FitsStatus symbol status
+  pub statuses : (symbol : List ℕ) (status : ℕ × ℕ)
+      → map.get book.statuses symbol ≡ Some status → FitsStatus symbol status

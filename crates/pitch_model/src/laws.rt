@@ -1,7 +1,9 @@
 //! Laws of the definitions. These functions do nothing: what they ensure is proved of the
 //! definitions alone.
 
-ghost use Rattle.std.specs.Prelude.{◌≡◌, ℕ, ◌+◌, ◌<◌, ◌≤◌, Bool, true, false, ◌||◌, ◌==◌, List, [], ◌∷◌, ◌++◌, length, reverse, filter, take, drop, nat_eq, unwrap_or};
+ghost use Rattle.std.specs.Prelude.{◌≡◌, ℕ, ◌+◌, ◌<◌, ◌≤◌, Bool, true, false, ◌||◌, ◌==◌, List, []};
+ghost use Rattle.std.specs.Prelude.{◌∷◌, ◌++◌, length, reverse, filter, take, drop, nat_eq};
+ghost use Rattle.std.specs.Prelude.{unwrap_or};
 ghost use Rattle.std.specs.List.{list_any, sum_by, AllByRecursion};
 ghost use Rattle.std.specs.List.Sorted.{IsStrictlyIncreasing};
 ghost use Rattle.std.specs.Set.{is_member};
@@ -16,16 +18,22 @@ ghost use Rattle.unit_packets.specs.Packing.{IsPacking};
 ghost use Rattle.pitch_model.specs.declared.item.Item.{Item};
 ghost use Rattle.pitch_model.specs.Book.{Book, IsBook, book_after};
 ghost use Rattle.pitch_model.specs.Image.{IsOfImage, image_of, image};
-ghost use Rattle.pitch_model.specs.Datagrams.{heard_blocks, messages_in, fresh_in, overflows_in, changes_in, IsPiece};
-ghost use Rattle.pitch_model.specs.Advertising.{Operation, Accept, Advertise, accepted_at, accepted_by, with_sequence, advertised_by, last_ten, newest_of};
+ghost use Rattle.pitch_model.specs.Datagrams.{heard_blocks, messages_in, fresh_in, overflows_in};
+ghost use Rattle.pitch_model.specs.Datagrams.{changes_in, IsPiece};
+ghost use Rattle.pitch_model.specs.Advertising.{Operation, Accept, Advertise, accepted_at};
+ghost use Rattle.pitch_model.specs.Advertising.{accepted_by, with_sequence, advertised_by};
+ghost use Rattle.pitch_model.specs.Advertising.{last_ten, newest_of};
 ghost use Rattle.pitch_model.specs.Widths.{IsWireBook};
 ghost use Rattle.pitch_fields.specs.Fields.{AreBytes};
 ghost use Rattle.pitch_model.specs.Levels.{IsBestOf, best, level, orders_on, prices_on};
-ghost use Rattle.pitch_model.specs.History.{Entry, Raw, Message, SpinFinished, spin_of, images_at, image_finished, messages_at, adds, can_promise};
-ghost use Rattle.pitch_model.specs.Heard.{IsItem, IsItemOf, heard, heard_block, change_of, block_change};
+ghost use Rattle.pitch_model.specs.History.{Entry, Raw, Message, SpinFinished, spin_of, images_at};
+ghost use Rattle.pitch_model.specs.History.{image_finished, messages_at, adds, can_promise};
+ghost use Rattle.pitch_model.specs.Heard.{IsItem, IsItemOf, heard, heard_block, change_of};
+ghost use Rattle.pitch_model.specs.Heard.{block_change};
 ghost use Rattle.pitch_model.specs.Honest.{AreVenues, Honest};
 ghost use Rattle.pitch_model.specs.Units.{unit_history, units_of};
-ghost use Rattle.pitch_model.specs.Reach.{Part, IsReach, is_anchor, is_seen, reach_of, held_count, part_of, reach, is_held};
+ghost use Rattle.pitch_model.specs.Reach.{Part, IsReach, is_anchor, is_seen, reach_of, held_count};
+ghost use Rattle.pitch_model.specs.Reach.{part_of, reach, is_held};
 ghost use Rattle.pitch_model.specs.Status.{top_of};
 ghost use Rattle.pitch_model.specs.Steps.{SameReach, Leaves, Drains};
 
@@ -59,32 +67,44 @@ pub fn held_is_within_the_limit()
 
 /// An old message and one that is held change nothing.
 pub fn known_messages_change_nothing()
-    ensures old { (H : ℕ) (E : List Entry) (k : ℕ) (raw : Raw) → 1 ≤ H → k ≤ reach H E → Leaves H E (Message k raw) false (reach H E) (is_held H E) }
-    ensures repeat { (H : ℕ) (E : List Entry) (k : ℕ) (raw : Raw) → 1 ≤ H → is_held H E k ≡ true → Leaves H E (Message k raw) false (reach H E) (is_held H E) }
+    ensures old { (H : ℕ) (E : List Entry) (k : ℕ) (raw : Raw)
+        → 1 ≤ H → k ≤ reach H E → Leaves H E (Message k raw) false (reach H E) (is_held H E) }
+    ensures repeat { (H : ℕ) (E : List Entry) (k : ℕ) (raw : Raw) → 1 ≤ H
+        → is_held H E k ≡ true → Leaves H E (Message k raw) false (reach H E) (is_held H E) }
 {}
 
 /// The next message is applied, with those held messages that follow it.
 pub fn next_message_is_applied()
-    ensures { (H : ℕ) (E : List Entry) (k : ℕ) (raw : Raw) → 1 ≤ H → k ≡ reach H E + 1 → Drains H E (Message k raw) k }
+    ensures { (H : ℕ) (E : List Entry) (k : ℕ) (raw : Raw)
+        → 1 ≤ H → k ≡ reach H E + 1 → Drains H E (Message k raw) k }
 {}
 
 /// Any other fresh message is held where there is a place. Else the hold overflows: all that was
 /// held goes, it alone is held, and the reach stays.
 pub fn later_messages_are_held()
-    ensures kept { (H : ℕ) (E : List Entry) (k : ℕ) (raw : Raw) → reach H E + 1 < k → is_held H E k ≡ false → held_count (part_of H E) < H → Leaves H E (Message k raw) false (reach H E) (λ j. j == k || is_held H E j) }
-    ensures overflow { (H : ℕ) (E : List Entry) (k : ℕ) (raw : Raw) → reach H E + 1 < k → is_held H E k ≡ false → held_count (part_of H E) ≡ H → Leaves H E (Message k raw) true (reach H E) (λ j. j == k) }
+    ensures kept { (H : ℕ) (E : List Entry) (k : ℕ) (raw : Raw)
+        → reach H E + 1 < k → is_held H E k ≡ false → held_count (part_of H E) < H
+        → Leaves H E (Message k raw) false (reach H E) (λ j. j == k || is_held H E j) }
+    ensures overflow { (H : ℕ) (E : List Entry) (k : ℕ) (raw : Raw)
+        → reach H E + 1 < k → is_held H E k ≡ false
+        → held_count (part_of H E) ≡ H → Leaves H E (Message k raw) true (reach H E) (λ j. j == k) }
 {}
 
 /// A finished image above the reach takes its place, with the held messages that follow it; another
 /// changes nothing.
 pub fn images_are_taken_above_the_reach()
-    ensures taken { (H : ℕ) (E : List Entry) (sequence s : ℕ) (raws : List Raw) → image_finished (spin_of E) sequence ≡ (s, raws) ∷ [] → reach H E < s → Drains H E (SpinFinished sequence) s }
-    ensures stale { (H : ℕ) (E : List Entry) (sequence s : ℕ) (raws : List Raw) → image_finished (spin_of E) sequence ≡ (s, raws) ∷ [] → s ≤ reach H E → SameReach H E (SpinFinished sequence ∷ E) }
+    ensures taken { (H : ℕ) (E : List Entry) (sequence s : ℕ) (raws : List Raw)
+        → image_finished (spin_of E) sequence ≡ (s, raws) ∷ []
+        → reach H E < s → Drains H E (SpinFinished sequence) s }
+    ensures stale { (H : ℕ) (E : List Entry) (sequence s : ℕ) (raws : List Raw)
+        → image_finished (spin_of E) sequence ≡ (s, raws) ∷ []
+        → s ≤ reach H E → SameReach H E (SpinFinished sequence ∷ E) }
 {}
 
 /// What is neither a message nor a finished image changes nothing, as a heartbeat.
 pub fn other_entries_change_nothing()
-    ensures { (H : ℕ) (E : List Entry) (entry : Entry) → messages_at entry ≡ [] → images_at entry (spin_of E) ≡ [] → part_of H (entry ∷ E) ≡ part_of H E }
+    ensures { (H : ℕ) (E : List Entry) (entry : Entry) → messages_at entry ≡ []
+        → images_at entry (spin_of E) ≡ [] → part_of H (entry ∷ E) ≡ part_of H E }
 {}
 
 /// In the book that messages leave, each order stands under its id and has shares, and there are no
@@ -98,27 +118,35 @@ pub fn books_have_open_orders()
 
 /// An honest history tells of no message that the venue has not.
 pub fn honest_histories_stay_within_the_venue()
-    ensures { (Image : List Raw → ℕ → List Raw) (V : List Raw) (E : List Entry) → Honest Image V E → unwrap_or (top_of E) 0 ≤ length V }
+    ensures { (Image : List Raw → ℕ → List Raw) (V : List Raw) (E : List Entry)
+        → Honest Image V E → unwrap_or (top_of E) 0 ≤ length V }
 {}
 
 /// The item of a block says what the block says.
 pub fn items_say_what_their_blocks_say()
-    ensures heard { (block : Block) (item : Item) (E : List Entry) → IsItemOf block item → heard item E ≡ heard_block block E }
-    ensures change { (H : ℕ) (block : Block) (item : Item) (E : List Entry) → IsItemOf block item → change_of H E item ≡ block_change H E block }
-    ensures fits { (block : Block) (item : Item) → StaysWithin block.sequence (length block.raws) → IsItemOf block item → IsItem item }
+    ensures heard { (block : Block) (item : Item) (E : List Entry)
+        → IsItemOf block item → heard item E ≡ heard_block block E }
+    ensures change { (H : ℕ) (block : Block) (item : Item) (E : List Entry)
+        → IsItemOf block item → change_of H E item ≡ block_change H E block }
+    ensures fits { (block : Block) (item : Item)
+        → StaysWithin block.sequence (length block.raws) → IsItemOf block item → IsItem item }
 {}
 
 /// Each unit that a block names is listed once, by rising number, and no other unit is.
 pub fn units_are_those_named()
     ensures rise { (before : List Block) → IsStrictlyIncreasing (units_of before) }
-    ensures named { (before : List Block) (unit : ℕ) → is_member nat_eq (units_of before) unit ≡ list_any (λ block. unit == block.unit) before }
+    ensures named { (before : List Block) (unit : ℕ)
+        → is_member nat_eq (units_of before) unit ≡ list_any (λ block. unit == block.unit) before }
 {}
 
 /// The best price of a side is one of its orders' prices, and none of theirs is better; there is
 /// none exactly where the side has no order.
 pub fn best_price_is_the_best()
-    ensures some { (book : Book) (symbol : List ℕ) (side : Side) (price shares : ℕ) → best book symbol side ≡ Some (price, shares) → IsBestOf side (prices_on book symbol side) price × (shares ≡ level book symbol side price) }
-    ensures none { (book : Book) (symbol : List ℕ) (side : Side) → best book symbol side ≡ None → orders_on book symbol side ≡ [] }
+    ensures some { (book : Book) (symbol : List ℕ) (side : Side) (price shares : ℕ)
+        → best book symbol side ≡ Some (price, shares) → IsBestOf side
+        (prices_on book symbol side) price × (shares ≡ level book symbol side price) }
+    ensures none { (book : Book) (symbol : List ℕ) (side : Side)
+        → best book symbol side ≡ None → orders_on book symbol side ≡ [] }
 {}
 
 /// The image of a book is adds, one for each open order, and else Time and Trading Status messages.
@@ -128,35 +156,46 @@ pub fn images_make_their_books_anew()
     ensures bytes { (book : Book) → IsWireBook book → AllByRecursion AreBytes (image_of book) }
     ensures kinds { (book : Book) → AllByRecursion IsOfImage (image_of book) }
     ensures adds { (book : Book) → adds (image_of book) ≡ map.len book.orders }
-    ensures leaves { (book : Book) → IsBook book → IsWireBook book → book_after (image_of book) ≡ book }
+    ensures leaves { (book : Book)
+        → IsBook book → IsWireBook book → book_after (image_of book) ≡ book }
 {}
 
 /// The image through a sequence is that of the book which the messages up to it leave. Where these
 /// are bytes, it leaves that book; and its number of orders can be promised.
 pub fn images_leave_their_books()
     ensures of_book { (V : List Raw) (s : ℕ) → image V s ≡ image_of (book_after (take s V)) }
-    ensures leaves { (V : List Raw) (s : ℕ) → AllByRecursion AreBytes V → book_after (image V s) ≡ book_after (take s V) }
-    ensures promise { (V : List Raw) (s : ℕ) → s ≤ last_sequence → can_promise s (adds (image V s)) ≡ true }
+    ensures leaves { (V : List Raw) (s : ℕ)
+        → AllByRecursion AreBytes V → book_after (image V s) ≡ book_after (take s V) }
+    ensures promise { (V : List Raw) (s : ℕ)
+        → s ≤ last_sequence → can_promise s (adds (image V s)) ≡ true }
 {}
 
 /// Where a venue accepts more messages, the books and images of those before stay as they are, and
 /// an honest history stays honest.
 pub fn venues_only_grow()
-    ensures book { (V more : List Raw) (n : ℕ) → n ≤ length V → book_after (take n (V ++ more)) ≡ book_after (take n V) }
+    ensures book { (V more : List Raw) (n : ℕ)
+        → n ≤ length V → book_after (take n (V ++ more)) ≡ book_after (take n V) }
     ensures image { (V more : List Raw) (s : ℕ) → s ≤ length V → image (V ++ more) s ≡ image V s }
-    ensures honest { (V more : List Raw) (E : List Entry) → Honest image V E → Honest image (V ++ more) E }
+    ensures honest { (V more : List Raw) (E : List Entry)
+        → Honest image V E → Honest image (V ++ more) E }
 {}
 
 /// The sums over blocks that are heard one after another are the sums of what each block changes,
 /// and none is above the number of messages. What a unit's client heard of a stream is what it
 /// hears of the unit's blocks, one after another.
 pub fn blocks_add_up()
-    ensures heard { (E : List Entry) (xs ys : List Block) → heard_blocks (xs ++ ys) E ≡ heard_blocks ys (heard_blocks xs E) }
-    ensures fresh { (H : ℕ) (E : List Entry) (blocks : List Block) → fresh_in H E blocks ≡ sum_by (λ change. change.fresh) (changes_in H E blocks) }
-    ensures overflows { (H : ℕ) (E : List Entry) (blocks : List Block) → overflows_in H E blocks ≡ sum_by (λ change. change.overflows) (changes_in H E blocks) }
-    ensures fresh_few { (H : ℕ) (E : List Entry) (blocks : List Block) → fresh_in H E blocks ≤ messages_in blocks }
-    ensures overflows_few { (H : ℕ) (E : List Entry) (blocks : List Block) → overflows_in H E blocks ≤ messages_in blocks }
-    ensures unit { (unit : ℕ) (blocks : List Block) → unit_history unit (reverse blocks) ≡ heard_blocks (filter (λ block. block.unit == unit) blocks) [] }
+    ensures heard { (E : List Entry) (xs ys : List Block)
+        → heard_blocks (xs ++ ys) E ≡ heard_blocks ys (heard_blocks xs E) }
+    ensures fresh { (H : ℕ) (E : List Entry) (blocks : List Block)
+        → fresh_in H E blocks ≡ sum_by (λ change. change.fresh) (changes_in H E blocks) }
+    ensures overflows { (H : ℕ) (E : List Entry) (blocks : List Block)
+        → overflows_in H E blocks ≡ sum_by (λ change. change.overflows) (changes_in H E blocks) }
+    ensures fresh_few { (H : ℕ) (E : List Entry) (blocks : List Block)
+        → fresh_in H E blocks ≤ messages_in blocks }
+    ensures overflows_few { (H : ℕ) (E : List Entry) (blocks : List Block)
+        → overflows_in H E blocks ≤ messages_in blocks }
+    ensures unit { (unit : ℕ) (blocks : List Block) → unit_history unit (reverse blocks)
+        ≡ heard_blocks (filter (λ block. block.unit == unit) blocks) [] }
 {}
 
 /// The messages after the first n of a venue's, and some of the first of these, are its messages
@@ -169,31 +208,44 @@ pub fn slices_are_the_venues()
 /// What is heard of a piece of a venue's feed after an honest history leaves it honest; and a piece
 /// stays one where the venue accepts more.
 pub fn pieces_are_honest()
-    ensures honest { (Image : List Raw → ℕ → List Raw) (V : List Raw) (unit : ℕ) (datagram : List ℕ) (E : List Entry) → IsPiece V unit datagram → Honest Image V E → Honest Image V (heard_blocks (blocks_of datagram) E) }
-    ensures more { (V more : List Raw) (unit : ℕ) (datagram : List ℕ) → IsPiece V unit datagram → IsPiece (V ++ more) unit datagram }
+    ensures honest { (Image : List Raw → ℕ → List Raw)
+        (V : List Raw) (unit : ℕ) (datagram : List ℕ) (E : List Entry) → IsPiece V unit datagram
+        → Honest Image V E → Honest Image V (heard_blocks (blocks_of datagram) E) }
+    ensures more { (V more : List Raw) (unit : ℕ) (datagram : List ℕ)
+        → IsPiece V unit datagram → IsPiece (V ++ more) unit datagram }
 {}
 
 /// The datagrams into which some of a venue's messages are packed are pieces of its feed, and so is
 /// a heartbeat.
 pub fn packed_messages_are_pieces()
-    ensures packed { (V : List Raw) (unit first : ℕ) (raws : List Raw) (datagrams : List (List ℕ)) → 0 < first → first + length raws ≤ length V + 1 → AreVenues V first raws → IsPacking unit first raws datagrams → AllByRecursion (IsPiece V unit) datagrams }
-    ensures heartbeat { (V : List Raw) (unit next : ℕ) → unit < 256 → 0 < next → next ≤ length V + 1 → next ≤ last_sequence + 1 → IsPiece V unit (block_bytes (heartbeat_block unit next)) }
+    ensures packed { (V : List Raw) (unit first : ℕ) (raws : List Raw) (datagrams : List (List ℕ))
+        → 0 < first → first + length raws ≤ length V + 1 → AreVenues V first raws
+        → IsPacking unit first raws datagrams → AllByRecursion (IsPiece V unit) datagrams }
+    ensures heartbeat { (V : List Raw) (unit next : ℕ) → unit < 256 → 0 < next → next ≤ length V + 1
+        → next ≤ last_sequence + 1 → IsPiece V unit (block_bytes (heartbeat_block unit next)) }
 {}
 
 /// An accept adds its message and advertises nothing. An advertise stands for all that was accepted
 /// before it, and a repeat adds nothing.
 pub fn operations_add_up()
-    ensures accepted { (operations : List Operation) (operation : Operation) → accepted_by (operations ++ operation ∷ []) ≡ accepted_by operations ++ accepted_at operation }
-    ensures accept { (operations : List Operation) (raw : Raw) → advertised_by (operations ++ Accept raw ∷ []) ≡ advertised_by operations }
-    ensures advertise { (operations : List Operation) → advertised_by (operations ++ Advertise ∷ []) ≡ with_sequence (advertised_by operations) (length (accepted_by operations)) }
+    ensures accepted { (operations : List Operation) (operation : Operation) → accepted_by
+        (operations ++ operation ∷ []) ≡ accepted_by operations ++ accepted_at operation }
+    ensures accept { (operations : List Operation) (raw : Raw)
+        → advertised_by (operations ++ Accept raw ∷ []) ≡ advertised_by operations }
+    ensures advertise { (operations : List Operation) → advertised_by (operations ++ Advertise ∷ [])
+        ≡ with_sequence (advertised_by operations) (length (accepted_by operations)) }
 {}
 
 /// The sequences that are advertised rise, and each is the number of messages that were accepted at
 /// some time. So a repeat is always one of the newest. At most ten are served.
 pub fn advertised_sequences_rise()
     ensures rise { (operations : List Operation) → IsStrictlyIncreasing (advertised_by operations) }
-    ensures within { (operations : List Operation) → AllByRecursion (λ sequence. sequence ≤ length (accepted_by operations)) (advertised_by operations) }
-    ensures repeat { (operations : List Operation) → is_member nat_eq (advertised_by operations) (length (accepted_by operations)) ≡ true → newest_of (advertised_by operations) ≡ Some (length (accepted_by operations)) }
-    ensures newest { (advertised : List ℕ) (sequence : ℕ) → newest_of advertised ≡ Some sequence → is_member nat_eq advertised sequence ≡ true }
+    ensures within { (operations : List Operation) → AllByRecursion
+        (λ sequence. sequence ≤ length (accepted_by operations)) (advertised_by operations) }
+    ensures repeat { (operations : List Operation)
+        → is_member nat_eq (advertised_by operations) (length (accepted_by operations)) ≡ true
+        → newest_of (advertised_by operations) ≡ Some (length (accepted_by operations)) }
+    ensures newest { (advertised : List ℕ) (sequence : ℕ)
+        → newest_of advertised ≡ Some sequence → is_member nat_eq advertised sequence ≡ true }
     ensures ten { (advertised : List ℕ) → length (last_ten advertised) ≤ 10 }
 {}

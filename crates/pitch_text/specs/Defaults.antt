@@ -1,5 +1,5 @@
--- The default limits: what holds of a unit where no `open` line says otherwise, and wherever else no
--- other limit is said.
+-- The default limits: what holds of a unit where no `open` line says otherwise, and wherever else
+-- no other limit is said.
 use Rattle.std.specs.Prelude.{ℕ}
 
 -- how many messages a client holds of those that came too early

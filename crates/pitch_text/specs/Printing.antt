@@ -1,6 +1,7 @@
 -- The canonical line of an entry: one space between fields, no field that has its default, no space
 -- at either end.
-use Rattle.std.specs.Prelude.{ℕ, ◌==◌, Bool, nat_eq, List, [], ◌∷◌, ◌++◌, decimal, Option, Some, None, codes, if◌then◌else◌}
+use Rattle.std.specs.Prelude.{ℕ, ◌==◌, Bool, nat_eq, List, [], ◌∷◌, ◌++◌, decimal, Option, Some}
+use Rattle.std.specs.Prelude.{None, codes, if◌then◌else◌}
 use Rattle.std.specs.List.{flat_map, before_first}
 use Rattle.std.specs.Cmp.Lexicographic.{pointwise}
 use Rattle.pitch_fields.specs.Price.{price_digits}
@@ -14,7 +15,8 @@ use Rattle.pitch_text.specs.declared.verb.Session.{Session}
 use Rattle.pitch_text.specs.declared.verb.Session.TheVariants.{Grp, Spin}
 use Rattle.pitch_text.specs.declared.verb.Verb.{Verb}
 use Rattle.pitch_text.specs.declared.verb.Verb.TheVariants as verbs
-use Rattle.pitch_text.specs.Defaults.{default_hold, default_kept, default_second, default_minute, default_day}
+use Rattle.pitch_text.specs.Defaults.{default_hold, default_kept, default_second, default_minute}
+use Rattle.pitch_text.specs.Defaults.{default_day}
 use Rattle.pitch_fields.specs.Name.{no_participant}
 
 -- ---- the words of a line
@@ -29,7 +31,8 @@ hidden_words display = if display then [] else codes "hidden" ∷ []
 
 -- `mpid=`, where a participant is named
 abbrev pub mpid_words : List ℕ → List (List ℕ)
-mpid_words participant = if pointwise nat_eq participant no_participant then [] else (codes "mpid=" ++ name_of participant) ∷ []
+mpid_words participant = if pointwise nat_eq participant no_participant
+    then [] else (codes "mpid=" ++ name_of participant) ∷ []
 
 -- `name=` and a number, where it is not the default
 abbrev pub number_words : List ℕ → ℕ → ℕ → List (List ℕ)
@@ -50,17 +53,28 @@ order_words word o = word ∷ decimal o.id ∷ (byte_of o.side ∷ []) ∷ terms
 -- the words of a command
 abbrev pub command_words : Command → List (List ℕ)
 command_words (commands.Time second) = codes "time" ∷ decimal second ∷ []
-command_words (commands.Add o offset) = order_words (codes "add") o ++ (hidden_words o.display ++ (mpid_words o.participant ++ at_words offset))
-command_words (commands.Exec id quantity execution offset) = codes "exec" ∷ decimal id ∷ decimal quantity ∷ decimal execution ∷ at_words offset
-command_words (commands.ExecAt id quantity remaining execution price offset) = codes "execat" ∷ decimal id ∷ decimal quantity ∷ decimal remaining ∷ decimal execution ∷ price_digits price ∷ at_words offset
-command_words (commands.Reduce id quantity offset) = codes "reduce" ∷ decimal id ∷ decimal quantity ∷ at_words offset
-command_words (commands.Modify id quantity price display offset) = codes "modify" ∷ decimal id ∷ decimal quantity ∷ price_digits price ∷ (hidden_words display ++ at_words offset)
+command_words (commands.Add o offset) =
+    order_words (codes "add") o
+    ++ (hidden_words o.display ++ (mpid_words o.participant ++ at_words offset))
+command_words (commands.Exec id quantity execution offset) =
+    codes "exec" ∷ decimal id ∷ decimal quantity ∷ decimal execution ∷ at_words offset
+command_words (commands.ExecAt id quantity remaining execution price offset) =
+    codes "execat" ∷ decimal id ∷ decimal quantity
+    ∷ decimal remaining ∷ decimal execution ∷ price_digits price ∷ at_words offset
+command_words (commands.Reduce id quantity offset) =
+    codes "reduce" ∷ decimal id ∷ decimal quantity ∷ at_words offset
+command_words (commands.Modify id quantity price display offset) =
+    codes "modify" ∷ decimal id
+    ∷ decimal quantity ∷ price_digits price ∷ (hidden_words display ++ at_words offset)
 command_words (commands.Delete id offset) = codes "delete" ∷ decimal id ∷ at_words offset
-command_words (commands.Trade o execution offset) = order_words (codes "trade") o ++ (decimal execution ∷ at_words offset)
-command_words (commands.Break execution offset) = codes "break" ∷ decimal execution ∷ at_words offset
+command_words (commands.Trade o execution offset) =
+    order_words (codes "trade") o ++ (decimal execution ∷ at_words offset)
+command_words (commands.Break execution offset) =
+    codes "break" ∷ decimal execution ∷ at_words offset
 command_words (commands.Clear offset) = codes "clear" ∷ at_words offset
 command_words (commands.EndSession offset) = codes "end" ∷ at_words offset
-command_words (commands.Status symbol halt sho offset) = codes "status" ∷ name_of symbol ∷ (halt ∷ []) ∷ (sho ∷ []) ∷ at_words offset
+command_words (commands.Status symbol halt sho offset) =
+    codes "status" ∷ name_of symbol ∷ (halt ∷ []) ∷ (sho ∷ []) ∷ at_words offset
 
 -- the word of a line of the feed
 abbrev pub line_word : Line → List ℕ
@@ -83,20 +97,24 @@ abbrev pub setup_words : ℕ → ℕ → ℕ → ℕ → ℕ → List (List ℕ)
 setup_words hold kept second minute day = number_words (codes "hold=") default_hold hold
     ++ (number_words (codes "kept=") default_kept kept
     ++ (number_words (codes "second=") default_second second
-    ++ (number_words (codes "minute=") default_minute minute ++ number_words (codes "day=") default_day day)))
+    ++ (number_words (codes "minute=") default_minute minute
+    ++ number_words (codes "day=") default_day day)))
 
 -- the words of a verb
 abbrev pub verb_words : Verb → List (List ℕ)
 verb_words (verbs.Command c) = command_words c
-verb_words (verbs.Setup hold kept second minute day) = codes "open" ∷ setup_words hold kept second minute day
+verb_words (verbs.Setup hold kept second minute day) =
+    codes "open" ∷ setup_words hold kept second minute day
 verb_words verbs.Flush = codes "flush" ∷ []
 verb_words verbs.Beat = codes "beat" ∷ []
 verb_words (verbs.Deliver line number) = line_word line ∷ decimal number ∷ []
 verb_words (verbs.Rest line) = line_word line ∷ codes "rest" ∷ []
 verb_words (verbs.Connect session) = session_word session ∷ codes "open" ∷ []
 verb_words (verbs.Cut session) = session_word session ∷ codes "cut" ∷ []
-verb_words (verbs.Up session bytes) = session_word session ∷ codes "up" ∷ count_word (codes "all") bytes ∷ []
-verb_words (verbs.Down session bytes) = session_word session ∷ codes "down" ∷ count_word (codes "all") bytes ∷ []
+verb_words (verbs.Up session bytes) =
+    session_word session ∷ codes "up" ∷ count_word (codes "all") bytes ∷ []
+verb_words (verbs.Down session bytes) =
+    session_word session ∷ codes "down" ∷ count_word (codes "all") bytes ∷ []
 verb_words verbs.Advertise = codes "advertise" ∷ []
 verb_words verbs.Tick = codes "tick" ∷ []
 verb_words verbs.Show = codes "show" ∷ []

@@ -19,9 +19,10 @@ pub fn schedules_are_well_formed()
 #[tactic(auto, using(crate::proofs::ManyLines::lines_again, crate::proofs::ManyLines::items_again))]
 pub fn canonical_lines_say_their_entries()
     // Read as a whole, the text has no fault and gives just these entries.
-    ensures entries { (entries : List (ℕ × Verb)) → AllByRecursion (λ e. IsWellFormed e.0 e.1) entries
-        → entries_of entry (lines_text entries) ≡ Ok (enumerate_from 1 entries) }
+    ensures entries { (entries : List (ℕ × Verb)) → AllByRecursion (λ e. IsWellFormed e.0 e.1)
+        entries → entries_of entry (lines_text entries) ≡ Ok (enumerate_from 1 entries) }
     // So it does where it is gone over one entry at a time.
     ensures items { (entries : List (ℕ × Verb)) → AllByRecursion (λ e. IsWellFormed e.0 e.1) entries
-        → items_of entry schedule_entry (lines_text entries) ≡ map (λ e. Ok (schedule_entry e)) (enumerate_from 1 entries) }
+        → items_of entry schedule_entry (lines_text entries)
+        ≡ map (λ e. Ok (schedule_entry e)) (enumerate_from 1 entries) }
 {}

@@ -1,6 +1,9 @@
 ghost use Rattle.std.specs.Prelude.{◌≡◌, ◌++◌, ◌∷◌, [], OnOk, OnErr, Ok, decimal, map};
 ghost use Rattle.pitch_fields.specs.Price.{price_digits};
-ghost use Rattle.pitch_text.specs.Printing.{spaced, hidden_words, mpid_words, number_words, order_words, terms_words, setup_words, command_words, verb_words, entry_text, at_words, line_word, session_word, count_word, name_of};
+ghost use Rattle.pitch_text.specs.Printing.{spaced, hidden_words, mpid_words, number_words};
+ghost use Rattle.pitch_text.specs.Printing.{order_words, terms_words, setup_words, command_words};
+ghost use Rattle.pitch_text.specs.Printing.{verb_words, entry_text, at_words, line_word};
+ghost use Rattle.pitch_text.specs.Printing.{session_word, count_word, name_of};
 ghost use Rattle.pitch_text.specs.ScheduleGrammar.{entry as entry_grammar};
 ghost use Rattle.text_lines.specs.Text.{entries_of};
 ghost use Rattle.pitch_text.specs.WellFormed.{IsWellFormed};
@@ -18,7 +21,8 @@ use text_lines::{LONGEST_LINE, length_before};
 #[tactic(auto, using(crate::proofs::LineLemmas::text_again))]
 pub fn print_entry(entry: &ScheduleEntry, out: &mut Vec<u8>) -> Result<(), OutOfMemory>
     requires { IsWellFormed entry.now.unit entry.now.verb }
-    ensures line { OnOk result (out.new.items ≡ out.old.items ++ entry_text entry.now.unit entry.now.verb) }
+    ensures line { OnOk result
+        (out.new.items ≡ out.old.items ++ entry_text entry.now.unit entry.now.verb) }
     // That line, read as a text, says the unit and the verb again.
     ensures reads_back { entries_of entry_grammar (entry_text entry.now.unit entry.now.verb)
         ≡ Ok ((1, (entry.now.unit, entry.now.verb)) ∷ []) }
@@ -29,7 +33,8 @@ pub fn print_entry(entry: &ScheduleEntry, out: &mut Vec<u8>) -> Result<(), OutOf
 
 #[tactic(auto, unfolding(crate::specs::Printing::entry_text))]
 fn push_line(entry: &ScheduleEntry, out: &mut Vec<u8>) -> Result<(), OutOfMemory>
-    ensures line { OnOk result (out.new.items ≡ out.old.items ++ entry_text entry.now.unit entry.now.verb) }
+    ensures line { OnOk result
+        (out.new.items ≡ out.old.items ++ entry_text entry.now.unit entry.now.verb) }
     ensures kept { OnErr result (out.new.items ≡ out.old.items) }
 {
     let mut line = Vec::with_capacity(*out.allocator(), LONGEST_LINE)?;
@@ -163,7 +168,8 @@ fn push_command(line: &mut Vec<u8>, command: &Command) -> Result<(), OutOfMemory
 
 #[tactic(auto, using(crate::proofs::WordLemmas::add_words))]
 fn push_add(line: &mut Vec<u8>, order: &Order, offset: u32) -> Result<(), OutOfMemory>
-    ensures { OnOk result (line.new.items ≡ line.old.items ++ spaced (command_words (Command.Add order.now offset))) }
+    ensures { OnOk result
+        (line.new.items ≡ line.old.items ++ spaced (command_words (Command.Add order.now offset))) }
 {
     push_order(line, b"add", order)?;
     push_hidden(line, order.display)?;
@@ -179,7 +185,8 @@ fn push_plain(
     numbers: &[u64],
     offset: u32,
 ) -> Result<(), OutOfMemory>
-    ensures { OnOk result (line.new.items ≡ line.old.items ++ spaced (word.now ∷ (map decimal numbers.now ++ at_words offset))) }
+    ensures { OnOk result (line.new.items ≡ line.old.items
+        ++ spaced (word.now ∷ (map decimal numbers.now ++ at_words offset))) }
 {
     push_numbers(line, word, numbers)?;
     push_offset(line, offset)
@@ -247,7 +254,8 @@ fn push_limits(
     minute: u32,
     day: u32,
 ) -> Result<(), OutOfMemory>
-    ensures { OnOk result (line.new.items ≡ line.old.items ++ spaced (setup_words hold kept second minute day)) }
+    ensures { OnOk result
+        (line.new.items ≡ line.old.items ++ spaced (setup_words hold kept second minute day)) }
 {
     push_named(line, b"hold=", DEFAULT_HOLD, hold)?;
     push_named(line, b"kept=", DEFAULT_KEPT, kept)?;
@@ -258,7 +266,8 @@ fn push_limits(
 
 // `name=` and a number, where it is not the default.
 fn push_named(line: &mut Vec<u8>, name: &[u8], default: u32, number: u32) -> Result<(), OutOfMemory>
-    ensures { OnOk result (line.new.items ≡ line.old.items ++ spaced (number_words name.now default number)) }
+    ensures { OnOk result
+        (line.new.items ≡ line.old.items ++ spaced (number_words name.now default number)) }
 {
     if number == default {
         return Ok(());
@@ -281,7 +290,8 @@ fn push_line_word(line: &mut Vec<u8>, source: Line) -> Result<(), OutOfMemory>
 
 // A session's word and the one after it.
 fn push_session(line: &mut Vec<u8>, session: Session, word: &[u8]) -> Result<(), OutOfMemory>
-    ensures { OnOk result (line.new.items ≡ line.old.items ++ spaced (session_word session ∷ word.now ∷ [])) }
+    ensures { OnOk result
+        (line.new.items ≡ line.old.items ++ spaced (session_word session ∷ word.now ∷ [])) }
 {
     match session {
         Session::Grp => push_word(line, b"grp")?,
@@ -302,7 +312,8 @@ fn push_count(line: &mut Vec<u8>, word: &[u8], count: Option<u32>) -> Result<(),
 
 // A word and numbers.
 fn push_numbers(line: &mut Vec<u8>, word: &[u8], numbers: &[u64]) -> Result<(), OutOfMemory>
-    ensures { OnOk result (line.new.items ≡ line.old.items ++ spaced (word.now ∷ map decimal numbers.now)) }
+    ensures { OnOk result
+        (line.new.items ≡ line.old.items ++ spaced (word.now ∷ map decimal numbers.now)) }
 {
     push_word(line, word)?;
     for number in numbers {

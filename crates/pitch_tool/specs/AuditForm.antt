@@ -1,5 +1,6 @@
 -- An audit: what is written of its input, and how it ends.
-use Rattle.std.specs.Prelude.{◌≡◌, ℕ, ◌≤◌, ◌<◌, List, length, nat_lt, cond, Option, None, Some, Result, Ok, Err}
+use Rattle.std.specs.Prelude.{◌≡◌, ℕ, ◌≤◌, ◌<◌, List, length, nat_lt, cond, Option, None, Some}
+use Rattle.std.specs.Prelude.{Result, Ok, Err}
 use Rattle.std.specs.Option.{option_map}
 use Rattle.std.specs.Io.KnownBytes.{Consumes}
 use Rattle.pitch_io.specs.Putting.{Grows}
@@ -13,7 +14,8 @@ use Rattle.stream_print.specs.Putting.{PutsSome}
 use Rattle.stream_print.specs.Told.{Told, IsUntouched}
 use Rattle.stream_print.specs.declared.failure.StreamTrouble.TheVariants.{TooLong}
 use Rattle.pitch_tool.specs.declared.failure.Failure.{Failure}
-use Rattle.pitch_tool.specs.declared.failure.Failure.TheVariants.{Usage, BadInput, Read, Write, Net, OutOfMemory}
+use Rattle.pitch_tool.specs.declared.failure.Failure.TheVariants.{Usage, BadInput, Read, Write, Net}
+use Rattle.pitch_tool.specs.declared.failure.Failure.TheVariants.{OutOfMemory}
 use Rattle.pitch_tool.specs.declared.failure.Trouble.{Trouble}
 use Rattle.pitch_tool.specs.declared.failure.Trouble.TheVariants.{Audit, Blocks}
 
@@ -22,10 +24,11 @@ abbrev pub of_audit : InputError → Failure
 of_audit (errors.Fault fault) = BadInput (Audit fault)
 of_audit errors.OutOfMemory = OutOfMemory
 
--- what is wrong with an input of which at most `most` bytes are read: that it has more, or else what
--- the audit finds
+-- what is wrong with an input of which at most `most` bytes are read: that it has more, or else
+-- what the audit finds
 abbrev pub audit_trouble : ℕ → List ℕ → Option Trouble
-audit_trouble most bytes = cond (nat_lt most (length bytes)) (Some (Blocks TooLong)) (option_map Audit (input_fault bytes))
+audit_trouble most bytes =
+    cond (nat_lt most (length bytes)) (Some (Blocks TooLong)) (option_map Audit (input_fault bytes))
 
 -- the whole input was read, and this is the verdict on it
 pub record ReadsAudit (most : ℕ) (input : Told) (verdict : Verdict) : Type 0 where
@@ -44,10 +47,15 @@ pub record RefusesAudit (most : ℕ) (trouble : Trouble) (input out : Told) : Ty
 -- How an audit ends: the line of its verdict was written; or a prefix of it, where the sink failed;
 -- or nothing, where the input has a fault, the source failed or memory ran out.
 abbrev pub AuditEnds : ℕ → Result (Unit {0}) Failure → (input out : Told) → Type 0
-AuditEnds most (Ok done) input out = (verdict : Verdict) × ReadsAudit most input verdict × Grows out.old out.new (verdict_line verdict)
+AuditEnds most (Ok done) input out =
+    (verdict : Verdict) × ReadsAudit most input verdict
+    × Grows out.old out.new (verdict_line verdict)
 AuditEnds most (Err (BadInput trouble)) input out = RefusesAudit most trouble input out
-AuditEnds most (Err Write) input out = (verdict : Verdict) × ReadsAudit most input verdict × PutsSome out.old out.new (verdict_line verdict)
-AuditEnds most (Err Read) input out = ((bytes : List ℕ) × Consumes input.old input.new bytes) × IsUntouched out
+AuditEnds most (Err Write) input out =
+    (verdict : Verdict) × ReadsAudit most input verdict
+    × PutsSome out.old out.new (verdict_line verdict)
+AuditEnds most (Err Read) input out =
+    ((bytes : List ℕ) × Consumes input.old input.new bytes) × IsUntouched out
 AuditEnds most (Err OutOfMemory) input out = IsUntouched out
 AuditEnds most (Err Usage) input out = ⊥
 AuditEnds most (Err Net) input out = ⊥

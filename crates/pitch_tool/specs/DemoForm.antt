@@ -28,8 +28,8 @@ RanDemo number count net line = IsDemo (setting number count) net.calls net.call
 abbrev pub BrokeDemo : (number count : ℕ) → Wires → DemoError → Type 0
 BrokeDemo number count net error = BreaksDemo (setting number count) net.calls net.calls' error
 
--- How a demo ends: its line was written; or a prefix of it, where the sink failed; or nothing, where
--- it broke off, as the net failed or memory ran out.
+-- How a demo ends: its line was written; or a prefix of it, where the sink failed; or nothing,
+-- where it broke off, as the net failed or memory ran out.
 abbrev pub DemoEnds :
     (number count : ℕ) → Result (Unit {0}) Failure → (out : Told) → Wires → Type 0
 DemoEnds number count (Ok done) out net =

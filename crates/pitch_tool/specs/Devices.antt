@@ -14,7 +14,8 @@ pub record Device : Type 0 where
 
 -- an object before and after, by what it tells and its count of faults
 abbrev pub device : {T : Type 0} → (T → Option (List ℕ)) → (T → ℕ) → T → T → Device
-device tells counts before after = record { bytes = told tells before after; faults = counts before; faults' = counts after }
+device tells counts before after =
+    record { bytes = told tells before after; faults = counts before; faults' = counts after }
 
 -- a net before and after a run: the calls that it lists, where it does, and its count of faults
 pub record Wires : Type 0 where
@@ -25,7 +26,13 @@ pub record Wires : Type 0 where
 
 -- a net before and after, by what it lists and its count of faults
 abbrev pub wires : {T : Type 0} → (T → Option (List Call)) → (T → ℕ) → T → T → Wires
-wires lists counts before after = record { calls = lists before; calls' = lists after; faults = counts before; faults' = counts after }
+wires lists counts before after =
+    record {
+      calls = lists before;
+      calls' = lists after;
+      faults = counts before;
+      faults' = counts after;
+    }
 
 -- none of the net's calls came, where it lists them
 abbrev pub IsUncalled : Wires → Type 0

@@ -15,6 +15,7 @@ IsDrill units count = (1 ≤ units × units ≤ most_drill_units) × (1 ≤ coun
 -- nothing, where memory ran out.
 abbrev pub DrillEnds : (number units count : ℕ) → Result (Unit {0}) Failure → (out : Told) → Type 0
 DrillEnds number units count (Ok done) out = Grows out.old out.new (drill_text number units count)
-DrillEnds number units count (Err Write) out = PutsSome out.old out.new (drill_text number units count)
+DrillEnds number units count (Err Write) out =
+    PutsSome out.old out.new (drill_text number units count)
 DrillEnds number units count (Err OutOfMemory) out = IsUntouched out
 DrillEnds number units count (Err _) out = ⊥

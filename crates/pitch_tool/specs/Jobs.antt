@@ -1,5 +1,6 @@
 -- The job of a form, what is wrong with its input, and how it ends.
-use Rattle.std.specs.Prelude.{Bool, true, false, ◌≡◌, ◌+◌, ℕ, List, Option, None, Some, Result, Ok, Err}
+use Rattle.std.specs.Prelude.{Bool, true, false, ◌≡◌, ◌+◌, ℕ, List, Option, None, Some, Result, Ok}
+use Rattle.std.specs.Prelude.{Err}
 use Rattle.pitch_words.specs.declared.form.Form.{Form}
 use Rattle.pitch_words.specs.declared.form.Form.TheVariants as form
 use Rattle.stream_print.specs.Inputs.{stream_limit, trouble_of, StopsSoon, StreamEnds}
@@ -9,7 +10,8 @@ use Rattle.stream_print.specs.declared.carrier.Carrier.TheVariants.{Bare, Captur
 use Rattle.stream_print.specs.declared.failure.StreamFailure.{StreamFailure}
 use Rattle.stream_print.specs.declared.failure.StreamFailure.TheVariants as stream
 use Rattle.stream_print.specs.declared.failure.StreamTrouble.{StreamTrouble}
-use Rattle.stream_print.specs.declared.stream_form.StreamForm.TheVariants.{Follow, Show, Relay, Quotes}
+use Rattle.stream_print.specs.declared.stream_form.StreamForm.TheVariants.{Follow, Show, Relay}
+use Rattle.stream_print.specs.declared.stream_form.StreamForm.TheVariants.{Quotes}
 use Rattle.pitch_tool.specs.AuditForm.{audit_trouble, AuditEnds}
 use Rattle.pitch_tool.specs.DemoForm.{IsDemoCount, DemoEnds}
 use Rattle.pitch_tool.specs.Devices.{Wires}
@@ -17,7 +19,8 @@ use Rattle.pitch_tool.specs.DrillForm.{IsDrill, DrillEnds}
 use Rattle.pitch_tool.specs.StormForm.{IsStorm, StormEnds}
 use Rattle.pitch_tool.specs.TextForms.{text_limit, text_trouble, AreWorkers, CanMake, TextEnds}
 use Rattle.pitch_tool.specs.declared.failure.Failure.{Failure}
-use Rattle.pitch_tool.specs.declared.failure.Failure.TheVariants.{BadInput, Read, Write, OutOfMemory}
+use Rattle.pitch_tool.specs.declared.failure.Failure.TheVariants.{BadInput, Read, Write}
+use Rattle.pitch_tool.specs.declared.failure.Failure.TheVariants.{OutOfMemory}
 use Rattle.pitch_tool.specs.declared.failure.Trouble.{Trouble}
 use Rattle.pitch_tool.specs.declared.failure.Trouble.TheVariants.{Blocks, SequencesSpent}
 use Rattle.pitch_tool.specs.declared.job.Job.{Job}
@@ -79,12 +82,15 @@ trouble_in Audit bytes = audit_trouble stream_limit bytes
 -- a source tells its bytes, and a job has this to say of them; a job that reads nothing finds
 -- nothing wrong, whatever the source tells
 abbrev pub Judges : Job → Option (List ℕ) → Option Trouble → Type 0
-Judges (Stream carrier form) left trouble = (bytes : List ℕ) × (left ≡ Some bytes) × (trouble_in (Stream carrier form) bytes ≡ trouble)
-Judges (Text form) left trouble = (bytes : List ℕ) × (left ≡ Some bytes) × (trouble_in (Text form) bytes ≡ trouble)
+Judges (Stream carrier form) left trouble =
+    (bytes : List ℕ) × (left ≡ Some bytes) × (trouble_in (Stream carrier form) bytes ≡ trouble)
+Judges (Text form) left trouble =
+    (bytes : List ℕ) × (left ≡ Some bytes) × (trouble_in (Text form) bytes ≡ trouble)
 Judges (Storm number units steps workers) left trouble = trouble ≡ None
 Judges (Drill number units count) left trouble = trouble ≡ None
 Judges (Demo number count) left trouble = trouble ≡ None
-Judges Audit left trouble = (bytes : List ℕ) × (left ≡ Some bytes) × (trouble_in Audit bytes ≡ trouble)
+Judges Audit left trouble =
+    (bytes : List ℕ) × (left ≡ Some bytes) × (trouble_in Audit bytes ≡ trouble)
 
 -- why a stream ended, as why the program ends
 abbrev pub of_stream : StreamFailure → Failure
@@ -110,9 +116,12 @@ JobEnds (Stream carrier form) (Err OutOfMemory) input out net =
     StreamEnds carrier form stream_limit (Err stream.OutOfMemory) input out
 JobEnds (Stream carrier form) (Err _) input out net = ⊥
 JobEnds (Text form) result input out net = TextEnds form text_limit result input out
-JobEnds (Storm number units steps workers) result input out net = IsUntouched input × StormEnds number units steps result out
-JobEnds (Drill number units count) result input out net = IsUntouched input × DrillEnds number units count result out
-JobEnds (Demo number count) result input out net = IsUntouched input × DemoEnds number count result out net
+JobEnds (Storm number units steps workers) result input out net =
+    IsUntouched input × StormEnds number units steps result out
+JobEnds (Drill number units count) result input out net =
+    IsUntouched input × DrillEnds number units count result out
+JobEnds (Demo number count) result input out net =
+    IsUntouched input × DemoEnds number count result out net
 JobEnds Audit result input out net = AuditEnds stream_limit result input out
 
 -- whether a job uses the net

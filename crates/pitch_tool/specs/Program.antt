@@ -9,23 +9,30 @@ use Rattle.command_feed.specs.Causes.{command_error_text}
 use Rattle.run_audit.specs.Causes.{audit_fault_text}
 use Rattle.schedule_replay.specs.Causes.{replay_error_text}
 use Rattle.stream_print.specs.Told.{Told, IsUntouched}
-use Rattle.stream_print.specs.declared.failure.StreamTrouble.TheVariants.{Faulty, BadCapture, TooLong}
+use Rattle.stream_print.specs.declared.failure.StreamTrouble.TheVariants.{Faulty, BadCapture}
+use Rattle.stream_print.specs.declared.failure.StreamTrouble.TheVariants.{TooLong}
 use Rattle.pitch_tool.specs.Devices.{Run, Says, Wires, IsUncalled}
 use Rattle.pitch_tool.specs.Jobs.{job_of, uses_net, JobEnds, StopsInTime}
 use Rattle.pitch_tool.specs.declared.failure.Failure.{Failure}
 use Rattle.pitch_tool.specs.declared.failure.Failure.TheVariants as ending
 use Rattle.pitch_tool.specs.declared.failure.Trouble.{Trouble}
-use Rattle.pitch_tool.specs.declared.failure.Trouble.TheVariants.{Blocks, LongText, Commands, Schedule, SequencesSpent, Audit}
+use Rattle.pitch_tool.specs.declared.failure.Trouble.TheVariants.{Blocks, LongText, Commands}
+use Rattle.pitch_tool.specs.declared.failure.Trouble.TheVariants.{Schedule, SequencesSpent, Audit}
 use Rattle.pitch_tool.specs.declared.status.ExitStatus.{ExitStatus}
-use Rattle.pitch_tool.specs.declared.status.ExitStatus.TheVariants.{Done, Usage, BadInput, ReadFault, WriteFault, OutOfMemory, NetFault}
+use Rattle.pitch_tool.specs.declared.status.ExitStatus.TheVariants.{Done, Usage, BadInput}
+use Rattle.pitch_tool.specs.declared.status.ExitStatus.TheVariants.{ReadFault, WriteFault}
+use Rattle.pitch_tool.specs.declared.status.ExitStatus.TheVariants.{OutOfMemory, NetFault}
 
 -- ---- What is said on the error line
 abbrev pub usage_text : List ℕ
-usage_text = codes "pitch: usage: follow | show | pack | replay | storm | drill | demo | relay | quotes | audit\n"
+usage_text = codes
+    "pitch: usage: follow | show | pack | replay | storm | drill | demo | relay | quotes | audit\n"
 
 abbrev pub trouble_text : Trouble → List ℕ
-trouble_text (Blocks (Faulty fault)) = codes "pitch: bad input at " ++ (fault_text fault ++ codes "\n")
-trouble_text (Blocks (BadCapture fault)) = codes "pitch: bad input at " ++ (capture_fault_text fault ++ codes "\n")
+trouble_text (Blocks (Faulty fault)) =
+    codes "pitch: bad input at " ++ (fault_text fault ++ codes "\n")
+trouble_text (Blocks (BadCapture fault)) =
+    codes "pitch: bad input at " ++ (capture_fault_text fault ++ codes "\n")
 trouble_text (Blocks TooLong) = codes "pitch: input is longer than 1073741824 bytes\n"
 trouble_text LongText = codes "pitch: input is longer than 67108864 bytes\n"
 trouble_text (Commands error) = codes "pitch: " ++ (command_error_text error ++ codes "\n")
@@ -61,23 +68,32 @@ StopsAtTrouble words input = (form : Form) → IsForm words form → StopsInTime
 
 -- the words are a form, and its job ended so
 abbrev pub Does : List (List ℕ) → Result (Unit {0}) Failure → (input out : Told) → Wires → Type 0
-Does words result input out net = (form : Form) × IsForm words form × JobEnds (job_of form) result input out net
+Does words result input out net =
+    (form : Form) × IsForm words form × JobEnds (job_of form) result input out net
 
 -- memory ran out: before anything was read or the net was called, during the job, or where an input
 -- was refused and the line that says so was made
 abbrev pub RunsOut : List (List ℕ) → (input out : Told) → Wires → Type 0
 RunsOut words input out net = (IsUntouched input × IsUntouched out × IsUncalled net)
-    ⊎ (Does words (Err ending.OutOfMemory) input out net ⊎ ((trouble : Trouble) × Does words (Err (ending.BadInput trouble)) input out net))
+    ⊎ (Does words (Err ending.OutOfMemory) input out net
+    ⊎ ((trouble : Trouble) × Does words (Err (ending.BadInput trouble)) input out net))
 
 -- how the program ends: what the words are, what was read and written, and what was said
 abbrev pub Closes : List (List ℕ) → ExitStatus → Run → Type 0
 Closes words Done run = Does words (Ok tt) run.input.bytes run.out.bytes run.net
-Closes words Usage run = IsNoForm words × IsUntouched run.input.bytes × IsUntouched run.out.bytes × Says run.err usage_text
-Closes words BadInput run = (trouble : Trouble) × Does words (Err (ending.BadInput trouble)) run.input.bytes run.out.bytes run.net × Says run.err (trouble_text trouble)
-Closes words ReadFault run = Does words (Err ending.Read) run.input.bytes run.out.bytes run.net × Says run.err read_text
-Closes words WriteFault run = Does words (Err ending.Write) run.input.bytes run.out.bytes run.net × Says run.err write_text
-Closes words NetFault run = Does words (Err ending.Net) run.input.bytes run.out.bytes run.net × Says run.err net_text
-Closes words OutOfMemory run = RunsOut words run.input.bytes run.out.bytes run.net × Says run.err memory_text
+Closes words Usage run = IsNoForm words
+    × IsUntouched run.input.bytes × IsUntouched run.out.bytes × Says run.err usage_text
+Closes words BadInput run =
+    (trouble : Trouble) × Does words (Err (ending.BadInput trouble))
+    run.input.bytes run.out.bytes run.net × Says run.err (trouble_text trouble)
+Closes words ReadFault run =
+    Does words (Err ending.Read) run.input.bytes run.out.bytes run.net × Says run.err read_text
+Closes words WriteFault run =
+    Does words (Err ending.Write) run.input.bytes run.out.bytes run.net × Says run.err write_text
+Closes words NetFault run =
+    Does words (Err ending.Net) run.input.bytes run.out.bytes run.net × Says run.err net_text
+Closes words OutOfMemory run =
+    RunsOut words run.input.bytes run.out.bytes run.net × Says run.err memory_text
 
 -- a status that tells of a device's failure has its cause in that device's count, and no count
 -- falls; that of the net stays, unless the status tells of its failure or memory ran out
@@ -89,7 +105,8 @@ pub record HasCauses (status : ExitStatus) (run : Run) : Type 0 where
 
 -- how it ends before anything is said
 abbrev pub RunEnds : List (List ℕ) → Result (Unit {0}) Failure → (input out : Told) → Wires → Type 0
-RunEnds words (Err ending.Usage) input out net = IsNoForm words × IsUntouched input × IsUntouched out
+RunEnds words (Err ending.Usage) input out net =
+    IsNoForm words × IsUntouched input × IsUntouched out
 RunEnds words (Err ending.OutOfMemory) input out net =
     (IsUntouched input × IsUntouched out × IsUncalled net)
     ⊎ Does words (Err ending.OutOfMemory) input out net

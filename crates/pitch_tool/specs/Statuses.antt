@@ -1,7 +1,9 @@
 -- The exit statuses.
 use Rattle.std.specs.Prelude.{ℕ}
 use Rattle.pitch_tool.specs.declared.status.ExitStatus.{ExitStatus}
-use Rattle.pitch_tool.specs.declared.status.ExitStatus.TheVariants.{Done, Usage, BadInput, ReadFault, WriteFault, OutOfMemory, NetFault}
+use Rattle.pitch_tool.specs.declared.status.ExitStatus.TheVariants.{Done, Usage, BadInput}
+use Rattle.pitch_tool.specs.declared.status.ExitStatus.TheVariants.{ReadFault, WriteFault}
+use Rattle.pitch_tool.specs.declared.status.ExitStatus.TheVariants.{OutOfMemory, NetFault}
 
 abbrev pub status_number : ExitStatus → ℕ
 status_number Done = 0

@@ -16,12 +16,15 @@ IsStorm units steps = (1 ≤ units × units ≤ most_units) × (1 ≤ steps × s
 
 -- the worlds of a storm's units were run through all lines of its schedule
 abbrev pub IsRun : (number units steps : ℕ) → Type 0
-IsRun number units steps = (worlds : List World) × AreRunThrough (storm_schedule number units steps) worlds
+IsRun number units steps =
+    (worlds : List World) × AreRunThrough (storm_schedule number units steps) worlds
 
 -- How a storm ends: its summary was written; or a prefix of it, where the sink failed; or nothing,
 -- where memory ran out.
 abbrev pub StormEnds : (number units steps : ℕ) → Result (Unit {0}) Failure → (out : Told) → Type 0
-StormEnds number units steps (Ok done) out = IsRun number units steps × Grows out.old out.new (storm_text number units steps)
-StormEnds number units steps (Err Write) out = IsRun number units steps × PutsSome out.old out.new (storm_text number units steps)
+StormEnds number units steps (Ok done) out =
+    IsRun number units steps × Grows out.old out.new (storm_text number units steps)
+StormEnds number units steps (Err Write) out =
+    IsRun number units steps × PutsSome out.old out.new (storm_text number units steps)
 StormEnds number units steps (Err OutOfMemory) out = IsUntouched out
 StormEnds number units steps (Err _) out = ⊥

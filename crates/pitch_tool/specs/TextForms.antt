@@ -1,5 +1,6 @@
 -- A text form: what it makes of a whole text, and how it ends.
-use Rattle.std.specs.Prelude.{◌≡◌, ℕ, ◌≤◌, ◌<◌, List, [], length, nat_lt, cond, Option, Some, Result, Ok, Err}
+use Rattle.std.specs.Prelude.{◌≡◌, ℕ, ◌≤◌, ◌<◌, List, [], length, nat_lt, cond, Option, Some}
+use Rattle.std.specs.Prelude.{Result, Ok, Err}
 use Rattle.std.specs.Result.{result_err}
 use Rattle.std.specs.Io.KnownBytes.{Consumes}
 use Rattle.pitch_io.specs.Putting.{Grows}
@@ -16,7 +17,8 @@ use Rattle.stream_print.specs.Inputs.{ReadsAll, Has}
 use Rattle.stream_print.specs.Putting.{PutsSome}
 use Rattle.stream_print.specs.Told.{Told, IsUntouched}
 use Rattle.pitch_tool.specs.declared.failure.Failure.{Failure}
-use Rattle.pitch_tool.specs.declared.failure.Failure.TheVariants.{Usage, BadInput, Read, Write, Net, OutOfMemory}
+use Rattle.pitch_tool.specs.declared.failure.Failure.TheVariants.{Usage, BadInput, Read, Write, Net}
+use Rattle.pitch_tool.specs.declared.failure.Failure.TheVariants.{OutOfMemory}
 use Rattle.pitch_tool.specs.declared.failure.Trouble.{Trouble}
 use Rattle.pitch_tool.specs.declared.failure.Trouble.TheVariants.{LongText, Commands, Schedule}
 use Rattle.pitch_tool.specs.declared.job.TextForm.{TextForm}
@@ -69,7 +71,8 @@ IsMadeOf (Replay workers) text bytes = (worlds : List World) × AreRunThrough te
 -- what is wrong with a text of which at most `most` bytes are read: that it has more, or else what
 -- the form finds
 abbrev pub text_trouble : TextForm → ℕ → List ℕ → Option Trouble
-text_trouble form most text = cond (nat_lt most (length text)) (Some LongText) (result_err (made form text))
+text_trouble form most text =
+    cond (nat_lt most (length text)) (Some LongText) (result_err (made form text))
 
 -- ---- How a text form ends
 -- the whole text was read
@@ -93,7 +96,8 @@ pub record WritesMadeSome (form : TextForm) (most : ℕ) (input out : Told) : Ty
   pub wrote : PutsSome out.old out.new bytes
 
 -- the text has this trouble, and nothing was written
-pub record RefusesText (form : TextForm) (most : ℕ) (trouble : Trouble) (input out : Told) : Type 0 where
+pub record RefusesText (form : TextForm) (most : ℕ) (trouble : Trouble) (input out : Told) :
+    Type 0 where
   pub text : List ℕ
   pub has : Has input.old text
   pub trouble_is : text_trouble form most text ≡ Some trouble

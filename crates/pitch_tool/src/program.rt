@@ -1,12 +1,15 @@
-ghost use Rattle.std.specs.Prelude.{◌≡◌, ◌≢◌, ◌⊎◌, List, ℕ, false, IfOk, Some, None, Err, map, string_bytes};
+ghost use Rattle.std.specs.Prelude.{◌≡◌, ◌≢◌, ◌⊎◌, List, ℕ, false, IfOk, Some, None, Err, map};
+ghost use Rattle.std.specs.Prelude.{string_bytes};
 ghost use Rattle.pitch_io.specs.Causes.{HasCause, Rose};
 ghost use Rattle.pitch_io.specs.Putting.{Grows};
 ghost use Rattle.pitch_words.specs.Forms.{IsForm};
 ghost use Rattle.pitch_words.specs.declared.form.Form.{Form};
 ghost use Rattle.stream_print.specs.Told.{told, TakesAtMost};
 ghost use Rattle.pitch_tool.specs.Devices.{device, wires};
-ghost use Rattle.pitch_tool.specs.Jobs.{CanDo, JobEnds, Judges, StopsInTime, most_taken, uses_net, job_of as the_job};
-ghost use Rattle.pitch_tool.specs.Program.{memory_text, trouble_text, IsNoForm, IsNoDemo, RunEnds, Closes, HasCauses, StopsAtTrouble, IsWhole, IsRefusal};
+ghost use Rattle.pitch_tool.specs.Jobs.{CanDo, JobEnds, Judges, StopsInTime, most_taken, uses_net};
+ghost use Rattle.pitch_tool.specs.Jobs.{job_of as the_job};
+ghost use Rattle.pitch_tool.specs.Program.{memory_text, trouble_text, IsNoForm, IsNoDemo, RunEnds};
+ghost use Rattle.pitch_tool.specs.Program.{Closes, HasCauses, StopsAtTrouble, IsWhole, IsRefusal};
 
 use crate::commands::audit::print_audit;
 use crate::commands::demo::print_demo;
@@ -37,13 +40,17 @@ fn do_job<R: Threads + Wait + Clock + Sync, I: Source, O: Sink, N: Net, G: Gate 
     gate: &G,
 ) -> Result<(), Failure>
     requires { CanDo job }
-    ensures ends { JobEnds job result (told I.left input.old input.new) (told O.written out.old out.new) (wires N.calls N.faults net.old net.new) }
+    ensures ends { JobEnds job result (told I.left input.old input.new)
+        (told O.written out.old out.new) (wires N.calls N.faults net.old net.new) }
     ensures reads { TakesAtMost (most_taken job) (told I.left input.old input.new) }
     ensures stops { StopsInTime job (told I.left input.old input.new) }
-    ensures read_cause { HasCause (I.faults input.old) (I.faults input.new) (result ≡ Err Failure.Read) }
-    ensures write_cause { HasCause (O.faults out.old) (O.faults out.new) (result ≡ Err Failure.Write) }
+    ensures read_cause { HasCause
+        (I.faults input.old) (I.faults input.new) (result ≡ Err Failure.Read) }
+    ensures write_cause { HasCause
+        (O.faults out.old) (O.faults out.new) (result ≡ Err Failure.Write) }
     ensures net_cause { HasCause (N.faults net.old) (N.faults net.new) (result ≡ Err Failure.Net) }
-    ensures net_still { result ≢ Err Failure.Net → result ≢ Err Failure.OutOfMemory → N.faults net.new ≡ N.faults net.old }
+    ensures net_still { result ≢ Err Failure.Net
+        → result ≢ Err Failure.OutOfMemory → N.faults net.new ≡ N.faults net.old }
     ensures unused { uses_net job ≡ false → net.new ≡ net.old }
 {
     match job {
@@ -78,13 +85,18 @@ fn run<R: Threads + Wait + Clock + Sync, I: Source, O: Sink, N: Net, G: Gate + S
     net: &mut N,
     gate: &G,
 ) -> Result<(), Failure>
-    ensures runs { RunEnds (map string_bytes words.now) result (told I.left input.old input.new) (told O.written out.old out.new) (wires N.calls N.faults net.old net.new) }
-    ensures reads { (form : Form) → IsForm (map string_bytes words.now) form → TakesAtMost (most_taken (the_job form)) (told I.left input.old input.new) }
+    ensures runs { RunEnds (map string_bytes words.now) result (told I.left input.old input.new)
+        (told O.written out.old out.new) (wires N.calls N.faults net.old net.new) }
+    ensures reads { (form : Form) → IsForm (map string_bytes words.now) form
+        → TakesAtMost (most_taken (the_job form)) (told I.left input.old input.new) }
     ensures stops { StopsAtTrouble (map string_bytes words.now) (told I.left input.old input.new) }
-    ensures read_cause { HasCause (I.faults input.old) (I.faults input.new) (result ≡ Err Failure.Read) }
-    ensures write_cause { HasCause (O.faults out.old) (O.faults out.new) (result ≡ Err Failure.Write) }
+    ensures read_cause { HasCause
+        (I.faults input.old) (I.faults input.new) (result ≡ Err Failure.Read) }
+    ensures write_cause { HasCause
+        (O.faults out.old) (O.faults out.new) (result ≡ Err Failure.Write) }
     ensures net_cause { HasCause (N.faults net.old) (N.faults net.new) (result ≡ Err Failure.Net) }
-    ensures net_still { result ≢ Err Failure.Net → result ≢ Err Failure.OutOfMemory → N.faults net.new ≡ N.faults net.old }
+    ensures net_still { result ≢ Err Failure.Net
+        → result ≢ Err Failure.OutOfMemory → N.faults net.new ≡ N.faults net.old }
     ensures unused { IsNoDemo (map string_bytes words.now) → net.new ≡ net.old }
 {
     match read(alloc, words)? {
@@ -95,14 +107,16 @@ fn run<R: Threads + Wait + Clock + Sync, I: Source, O: Sink, N: Net, G: Gate + S
 
 // Says why the program ends, unless the sink fails.
 fn say<E: Sink>(err: &mut E, text: &[u8])
-    ensures { Rose (E.faults err.old) (E.faults err.new) ⊎ Grows (E.written err.old) (E.written err.new) text.now }
+    ensures { Rose (E.faults err.old) (E.faults err.new)
+        ⊎ Grows (E.written err.old) (E.written err.new) text.now }
 {
     let _said = put_all(err, text);
 }
 
 /// Says that memory ran out, unless the sink fails.
 pub fn say_out_of_memory<E: Sink>(err: &mut E)
-    ensures { Rose (E.faults err.old) (E.faults err.new) ⊎ Grows (E.written err.old) (E.written err.new) memory_text }
+    ensures { Rose (E.faults err.old) (E.faults err.new)
+        ⊎ Grows (E.written err.old) (E.written err.new) memory_text }
 {
     say(err, b"pitch: out of memory\n");
 }
@@ -147,15 +161,26 @@ fn close<R: Threads + Wait + Clock + Sync, I: Source, O: Sink, E: Sink, N: Net, 
     net: &mut N,
     gate: &G,
 ) -> ExitStatus
-    ensures ends { Closes (map string_bytes words.now) result
-        (record { input = device I.left I.faults input.old input.new; out = device O.written O.faults out.old out.new; err = device E.written E.faults err.old err.new; net = wires N.calls N.faults net.old net.new }) }
+    ensures ends { Closes (map string_bytes words.now) result (record {
+      input = device
+          I.left I.faults input.old input.new;
+      out = device O.written O.faults out.old out.new;
+      err =
+          device E.written E.faults err.old err.new;
+      net = wires N.calls N.faults net.old net.new;
+    }) }
     ensures quiet { result ≡ ExitStatus.Done → E.written err.new ≡ E.written err.old }
-    ensures reads { (form : Form) → IsForm (map string_bytes words.now) form → TakesAtMost (most_taken (the_job form)) (told I.left input.old input.new) }
+    ensures reads { (form : Form) → IsForm (map string_bytes words.now) form
+        → TakesAtMost (most_taken (the_job form)) (told I.left input.old input.new) }
     ensures stops { StopsAtTrouble (map string_bytes words.now) (told I.left input.old input.new) }
-    ensures read_cause { HasCause (I.faults input.old) (I.faults input.new) (result ≡ ExitStatus.ReadFault) }
-    ensures write_cause { HasCause (O.faults out.old) (O.faults out.new) (result ≡ ExitStatus.WriteFault) }
-    ensures net_cause { HasCause (N.faults net.old) (N.faults net.new) (result ≡ ExitStatus.NetFault) }
-    ensures net_still { result ≢ ExitStatus.NetFault → result ≢ ExitStatus.OutOfMemory → N.faults net.new ≡ N.faults net.old }
+    ensures read_cause { HasCause
+        (I.faults input.old) (I.faults input.new) (result ≡ ExitStatus.ReadFault) }
+    ensures write_cause { HasCause
+        (O.faults out.old) (O.faults out.new) (result ≡ ExitStatus.WriteFault) }
+    ensures net_cause { HasCause
+        (N.faults net.old) (N.faults net.new) (result ≡ ExitStatus.NetFault) }
+    ensures net_still { result ≢ ExitStatus.NetFault
+        → result ≢ ExitStatus.OutOfMemory → N.faults net.new ≡ N.faults net.old }
     ensures unused { IsNoDemo (map string_bytes words.now) → net.new ≡ net.old }
 {
     match run(rt, alloc, words, input, out, net, gate) {
@@ -210,7 +235,8 @@ fn close<R: Threads + Wait + Clock + Sync, I: Source, O: Sink, E: Sink, N: Net, 
 ///   read whole. `pack` reads venue commands, and writes their datagrams, back to back, once the
 ///   venue has accepted all. `replay` reads a schedule, and writes what each of its lines does in
 ///   the world of its unit: venue, lines, servers and client.
-/// - `audit` reads at most 1,073,741,824 bytes, a log with a printed report, and writes nothing before
+/// - `audit` reads at most 1,073,741,824 bytes, a log with a printed report, and writes nothing
+/// before
 ///   it has read them all: then the line that says whether each printed book is what the log's
 ///   messages leave, or which line of the report is the first that is wrong.
 /// - `storm` reads nothing: it makes a schedule, does all its lines in the worlds of its units, and
@@ -230,10 +256,10 @@ fn close<R: Threads + Wait + Clock + Sync, I: Source, O: Sink, E: Sink, N: Net, 
 /// At `Done` the whole text was written and nothing was said. At `Usage` nothing was read or
 /// written, and the net was left as it was. At `BadInput` the texts of the whole blocks before the
 /// trouble were written, and no book; by `pack`, `replay` and `audit` nothing was, and `storm`,
-/// `drill` and `demo` never end so. At `ReadFault` the source had failed, at `WriteFault` the sink, and at
-/// `NetFault` the net; where memory did not run out, a net that failed ends the demo so. At
-/// `OutOfMemory` memory ran out: `follow`, `show`, `relay` and `quotes` may have written a prefix of
-/// the text, the others wrote nothing. Whatever the status, these four take less than a piece of
+/// `drill` and `demo` never end so. At `ReadFault` the source had failed, at `WriteFault` the sink,
+/// and at `NetFault` the net; where memory did not run out, a net that failed ends the demo so. At
+/// `OutOfMemory` memory ran out: `follow`, `show`, `relay` and `quotes` may have written a prefix
+/// of the text, the others wrote nothing. Whatever the status, these four take less than a piece of
 /// 65,536 bytes behind the byte that shows a fault.
 pub fn pitch<R: Threads + Wait + Clock + Sync, I: Source, O: Sink, E: Sink, N: Net, G: Gate + Sync>(
     rt: &R,
@@ -246,30 +272,47 @@ pub fn pitch<R: Threads + Wait + Clock + Sync, I: Source, O: Sink, E: Sink, N: N
     gate: &G,
 ) -> ExitStatus
     // What each status says of the words, of what was read and written, and of what was said.
-    ensures ends { Closes (map string_bytes words.now) result
-        (record { input = device I.left I.faults input.old input.new; out = device O.written O.faults out.old out.new; err = device E.written E.faults err.old err.new; net = wires N.calls N.faults net.old net.new }) }
+    ensures ends { Closes (map string_bytes words.now) result (record {
+      input = device
+          I.left I.faults input.old input.new;
+      out = device O.written O.faults out.old out.new;
+      err =
+          device E.written E.faults err.old err.new;
+      net = wires N.calls N.faults net.old net.new;
+    }) }
     // Where all was done, nothing is said.
     ensures quiet { result ≡ ExitStatus.Done → E.written err.new ≡ E.written err.old }
     // A read, a write or a net fault was counted by its device. Unless the net failed or memory ran
     // out, the net counted none.
-    ensures causes { HasCauses result
-        (record { input = device I.left I.faults input.old input.new; out = device O.written O.faults out.old out.new; err = device E.written E.faults err.old err.new; net = wires N.calls N.faults net.old net.new }) }
+    ensures causes { HasCauses result (record {
+      input = device I.left I.faults input.old input.new;
+      out = device O.written O.faults out.old out.new;
+      err =
+          device E.written E.faults err.old err.new;
+      net = wires N.calls N.faults net.old net.new;
+    }) }
     // Whatever the status, the source gave no more than one byte past the limit of the form.
-    ensures reads { (form : Form) → IsForm (map string_bytes words.now) form → TakesAtMost (most_taken (the_job form)) (told I.left input.old input.new) }
+    ensures reads { (form : Form) → IsForm (map string_bytes words.now) form
+        → TakesAtMost (most_taken (the_job form)) (told I.left input.old input.new) }
     // Of a stream, less than a piece of 65,536 bytes is taken behind the byte that shows a trouble.
     ensures stops { StopsAtTrouble (map string_bytes words.now) (told I.left input.old input.new) }
     // Only a demo uses the net, and words that are no form do not.
     ensures unused { IsNoDemo (map string_bytes words.now) → net.new ≡ net.old }
     // Where the words are no form, that is the answer, or memory ran out.
-    ensures unknown { IsNoForm (map string_bytes words.now) → (result ≡ ExitStatus.Usage) ⊎ (result ≡ ExitStatus.OutOfMemory) }
+    ensures unknown { IsNoForm (map string_bytes words.now)
+        → (result ≡ ExitStatus.Usage) ⊎ (result ≡ ExitStatus.OutOfMemory) }
     // Where nothing is wrong with the words and the input and no device failed, the job was done
     // whole, or memory ran out.
-    ensures complete { (form : Form) → IsForm (map string_bytes words.now) form → Judges (the_job form) (I.left input.old) None
-        → Rose (I.faults input.old) (I.faults input.new) ⊎ (Rose (O.faults out.old) (O.faults out.new) ⊎ (Rose (N.faults net.old) (N.faults net.new) ⊎ IsWhole result)) }
+    ensures complete { (form : Form)
+        → IsForm (map string_bytes words.now) form → Judges (the_job form) (I.left input.old) None
+        → Rose (I.faults input.old) (I.faults input.new) ⊎ (Rose (O.faults out.old)
+        (O.faults out.new) ⊎ (Rose (N.faults net.old) (N.faults net.new) ⊎ IsWhole result)) }
     // Where something is wrong with the input and no device failed, the input was refused, or
     // memory ran out.
-    ensures refused { (form : Form) (trouble : Trouble) → IsForm (map string_bytes words.now) form → Judges (the_job form) (I.left input.old) (Some trouble)
-        → Rose (I.faults input.old) (I.faults input.new) ⊎ (Rose (O.faults out.old) (O.faults out.new) ⊎ (Rose (N.faults net.old) (N.faults net.new) ⊎ IsRefusal result)) }
+    ensures refused { (form : Form) (trouble : Trouble) → IsForm (map string_bytes words.now) form
+        → Judges (the_job form) (I.left input.old) (Some trouble)
+        → Rose (I.faults input.old) (I.faults input.new) ⊎ (Rose (O.faults out.old)
+        (O.faults out.new) ⊎ (Rose (N.faults net.old) (N.faults net.new) ⊎ IsRefusal result)) }
 {
     close(rt, alloc, words, input, out, err, net, gate)
 }

@@ -1,7 +1,8 @@
 ghost use Rattle.std.specs.Prelude.{◌≡◌, ◌≤◌, ◌+◌, IfOk, IfErr, Err, Ok, length};
 ghost use Rattle.pitch_io.specs.Causes.{HasCause};
 ghost use Rattle.stream_print.specs.Told.{told, TakesAtMost};
-ghost use Rattle.pitch_tool.specs.TextForms.{text_limit, CanMake, made, IsMadeOf, IsUnmade, TextEnds};
+ghost use Rattle.pitch_tool.specs.TextForms.{text_limit, CanMake, made, IsMadeOf, IsUnmade};
+ghost use Rattle.pitch_tool.specs.TextForms.{TextEnds};
 
 use crate::commands::pack::pack;
 use crate::commands::replay::replay;
@@ -48,11 +49,14 @@ pub fn print_text<R: Threads + Sync, I: Source, O: Sink, G: Gate + Sync>(
     gate: &G,
 ) -> Result<(), Failure>
     requires { CanMake form }
-    ensures ends { TextEnds form text_limit result (told I.left input.old input.new) (told O.written out.old out.new) }
+    ensures ends { TextEnds form text_limit result
+        (told I.left input.old input.new) (told O.written out.old out.new) }
     // However it ended, at most one byte was taken past the limit.
     ensures reads { TakesAtMost (text_limit + 1) (told I.left input.old input.new) }
-    ensures read_cause { HasCause (I.faults input.old) (I.faults input.new) (result ≡ Err Failure.Read) }
-    ensures write_cause { HasCause (O.faults out.old) (O.faults out.new) (result ≡ Err Failure.Write) }
+    ensures read_cause { HasCause
+        (I.faults input.old) (I.faults input.new) (result ≡ Err Failure.Read) }
+    ensures write_cause { HasCause
+        (O.faults out.old) (O.faults out.new) (result ≡ Err Failure.Write) }
 {
     let text = read_whole(alloc, input, TEXT_LIMIT, Trouble::LongText)?;
     let bytes = make(rt, alloc, form, &text, gate)?;

@@ -1,5 +1,6 @@
 -- The forms of the program's words.
-use Rattle.std.specs.Prelude.{◌≡◌, ℕ, ◌-◌, ◌^◌, ◌≤◌, Bool, true, false, List, [], ◌∷◌, Option, Some, None, codes}
+use Rattle.std.specs.Prelude.{◌≡◌, ℕ, ◌-◌, ◌^◌, ◌≤◌, Bool, true, false, List, [], ◌∷◌, Option, Some}
+use Rattle.std.specs.Prelude.{None, codes}
 use Rattle.pitch_fields.specs.Limits.{most_held}
 use Rattle.pitch_text.specs.Defaults.{default_hold}
 use Rattle.clap.specs.Simple.{App}
@@ -9,11 +10,17 @@ use Rattle.long_options.specs.Apps.{program}
 use Rattle.long_options.specs.Found.{Options, found_options, given_options}
 use Rattle.pitch_words.specs.Numbers.{IsGivenNumber, IsGivenOr, IsGivenMaybe}
 use Rattle.pitch_words.specs.declared.form.Form.{Form}
-use Rattle.pitch_words.specs.declared.form.Form.TheVariants.{Follow, FollowCapture, Show, Pack, Replay, Storm, Drill, Demo, Relay, Quotes, Audit}
+use Rattle.pitch_words.specs.declared.form.Form.TheVariants.{Follow, FollowCapture, Show, Pack}
+use Rattle.pitch_words.specs.declared.form.Form.TheVariants.{Replay, Storm, Drill, Demo, Relay}
+use Rattle.pitch_words.specs.declared.form.Form.TheVariants.{Quotes, Audit}
 
 -- `follow [--hold H]`, and `follow --pcap [--port P] [--hold H]`
 abbrev pub follow : Described
-follow = (codes "follow", may_have (codes "hold") ∷ may_set (codes "pcap") ∷ may_have (codes "port") ∷ [])
+follow = (
+  codes "follow",
+  may_have (codes "hold")
+      ∷ may_set (codes "pcap") ∷ may_have (codes "port") ∷ [],
+)
 
 -- `show`
 abbrev pub show : Described
@@ -29,11 +36,19 @@ replay = (codes "replay", may_have (codes "workers") ∷ [])
 
 -- `storm --number S --units N --steps M [--workers K]`
 abbrev pub storm : Described
-storm = (codes "storm", must_have (codes "number") ∷ must_have (codes "units") ∷ must_have (codes "steps") ∷ may_have (codes "workers") ∷ [])
+storm = (
+  codes "storm",
+  must_have (codes "number")
+      ∷ must_have (codes "units") ∷ must_have (codes "steps") ∷ may_have (codes "workers") ∷ [],
+)
 
 -- `drill --number S --units N --count C`
 abbrev pub drill : Described
-drill = (codes "drill", must_have (codes "number") ∷ must_have (codes "units") ∷ must_have (codes "count") ∷ [])
+drill = (
+  codes "drill",
+  must_have (codes "number")
+      ∷ must_have (codes "units") ∷ must_have (codes "count") ∷ [],
+)
 
 -- `demo --number S --count C`
 abbrev pub demo : Described
@@ -75,21 +90,30 @@ command_of Audit = audit
 -- of a demo 1 to 1,000; `show` and `audit` have none
 abbrev pub HasNumbers : Options → Form → Type 0
 HasNumbers options (Follow hold) =
-    (options.has (codes "pcap") ≡ false) × IsGivenMaybe 0 65535 (options.value (codes "port")) None × IsGivenOr default_hold 1 most_held (options.value (codes "hold")) hold
+    (options.has (codes "pcap") ≡ false) × IsGivenMaybe 0 65535 (options.value (codes "port")) None
+    × IsGivenOr default_hold 1 most_held (options.value (codes "hold")) hold
 HasNumbers options (FollowCapture port hold) =
-    (options.has (codes "pcap") ≡ true) × IsGivenMaybe 0 65535 (options.value (codes "port")) port × IsGivenOr default_hold 1 most_held (options.value (codes "hold")) hold
+    (options.has (codes "pcap") ≡ true) × IsGivenMaybe 0 65535 (options.value (codes "port")) port
+    × IsGivenOr default_hold 1 most_held (options.value (codes "hold")) hold
 HasNumbers options Show = Unit {0}
 HasNumbers options (Pack unit) = IsGivenNumber 1 255 (options.value (codes "unit")) unit
 HasNumbers options (Replay workers) = IsGivenOr 1 1 64 (options.value (codes "workers")) workers
 HasNumbers options (Storm number units steps workers) =
-    IsGivenNumber 0 (2 ^ 64 - 1) (options.value (codes "number")) number × IsGivenNumber 1 16 (options.value (codes "units")) units
-    × IsGivenNumber 1 10000 (options.value (codes "steps")) steps × IsGivenOr 1 1 64 (options.value (codes "workers")) workers
+    IsGivenNumber 0 (2 ^ 64 - 1) (options.value (codes "number")) number
+    × IsGivenNumber 1 16 (options.value (codes "units")) units
+    × IsGivenNumber 1 10000 (options.value (codes "steps")) steps
+    × IsGivenOr 1 1 64 (options.value (codes "workers")) workers
 HasNumbers options (Drill number units count) =
-    IsGivenNumber 0 (2 ^ 64 - 1) (options.value (codes "number")) number × IsGivenNumber 1 16 (options.value (codes "units")) units
+    IsGivenNumber 0 (2 ^ 64 - 1) (options.value (codes "number")) number
+    × IsGivenNumber 1 16 (options.value (codes "units")) units
     × IsGivenNumber 1 100000 (options.value (codes "count")) count
-HasNumbers options (Demo number count) = IsGivenNumber 0 (2 ^ 64 - 1) (options.value (codes "number")) number × IsGivenNumber 1 1000 (options.value (codes "count")) count
-HasNumbers options (Relay hold) = IsGivenOr default_hold 1 most_held (options.value (codes "hold")) hold
-HasNumbers options (Quotes hold) = IsGivenOr default_hold 1 most_held (options.value (codes "hold")) hold
+HasNumbers options (Demo number count) =
+    IsGivenNumber 0 (2 ^ 64 - 1) (options.value (codes "number")) number
+    × IsGivenNumber 1 1000 (options.value (codes "count")) count
+HasNumbers options (Relay hold) =
+    IsGivenOr default_hold 1 most_held (options.value (codes "hold")) hold
+HasNumbers options (Quotes hold) =
+    IsGivenOr default_hold 1 most_held (options.value (codes "hold")) hold
 HasNumbers options Audit = Unit {0}
 
 -- the form of `follow` with this switch and these numbers, if they are one
@@ -100,7 +124,8 @@ follow_form false (Some port) hold = None
 
 -- the words are this form: its command, then that command's options, with its numbers
 abbrev pub IsForm : List Text → Form → Type 0
-IsForm words form = (given : List Given) × IsCall (command_of form) words given × HasNumbers (given_options given) form
+IsForm words form = (given : List Given)
+    × IsCall (command_of form) words given × HasNumbers (given_options given) form
 
 -- a form's numbers lie within their ranges
 abbrev pub IsInRange : Form → Type 0
@@ -109,7 +134,8 @@ IsInRange (FollowCapture port hold) = (1 ≤ hold) × (hold ≤ most_held)
 IsInRange Show = Unit {0}
 IsInRange (Pack unit) = (1 ≤ unit) × (unit ≤ 255)
 IsInRange (Replay workers) = (1 ≤ workers) × (workers ≤ 64)
-IsInRange (Storm number units steps workers) = (1 ≤ units × units ≤ 16) × (1 ≤ steps × steps ≤ 10000) × (1 ≤ workers × workers ≤ 64)
+IsInRange (Storm number units steps workers) =
+    (1 ≤ units × units ≤ 16) × (1 ≤ steps × steps ≤ 10000) × (1 ≤ workers × workers ≤ 64)
 IsInRange (Drill number units count) = (1 ≤ units × units ≤ 16) × (1 ≤ count × count ≤ 100000)
 IsInRange (Demo number count) = (1 ≤ count) × (count ≤ 1000)
 IsInRange (Relay hold) = (1 ≤ hold) × (hold ≤ most_held)
@@ -123,4 +149,5 @@ pitch = program (codes "pitch") commands
 -- what clap found is this form: its command's name, and its numbers
 abbrev pub HasForm : Option (Text × List Row) → Form → Type 0
 HasForm None form = ⊥
-HasForm (Some found) form = (found.0 ≡ (command_of form).0) × HasNumbers (found_options (command_of form).1 found.1) form
+HasForm (Some found) form =
+    (found.0 ≡ (command_of form).0) × HasNumbers (found_options (command_of form).1 found.1) form

@@ -5,7 +5,8 @@ use Rattle.long_options.specs.Words.{Text}
 
 -- 1 to 20 decimal digits that write n, which lies within the range
 abbrev pub IsNumber : ℕ → ℕ → Text → ℕ → Type 0
-IsNumber least most text n = IsNumeral 10 text × (length text ≤ 20) × (digits_value 10 text ≡ n) × (least ≤ n) × (n ≤ most)
+IsNumber least most text n =
+    IsNumeral 10 text × (length text ≤ 20) × (digits_value 10 text ≡ n) × (least ≤ n) × (n ≤ most)
 
 -- an option was given with this number
 abbrev pub IsGivenNumber : ℕ → ℕ → Option Text → ℕ → Type 0

@@ -5,7 +5,11 @@ ghost use Rattle.clap.specs.Simple.{app_of, with_rule};
 ghost use Rattle.clap.specs.declared.builder.command.Command.TheViews.{out-Command as fields_of};
 ghost use Rattle.long_options.specs.Apps.{command_app, empty_program, option_rule, program};
 ghost use Rattle.long_options.specs.Words.{must_have};
-ghost use Rattle.pitch_words.specs.Forms.{follow as follow_words, show as show_words, pack as pack_words, replay as replay_words, storm as storm_words, drill as drill_words, demo as demo_words, relay as relay_words, quotes as quotes_words, pitch, audit as audit_words};
+ghost use Rattle.pitch_words.specs.Forms.{follow as follow_words, show as show_words};
+ghost use Rattle.pitch_words.specs.Forms.{pack as pack_words, replay as replay_words};
+ghost use Rattle.pitch_words.specs.Forms.{storm as storm_words, drill as drill_words};
+ghost use Rattle.pitch_words.specs.Forms.{demo as demo_words, relay as relay_words};
+ghost use Rattle.pitch_words.specs.Forms.{quotes as quotes_words, pitch, audit as audit_words};
 
 use clap::{Arg, ArgAction, Command};
 use std::alloc::{AllocError, Global};
@@ -36,8 +40,10 @@ fn with_option<'a>(
     name: &'a str,
     required: bool,
 ) -> Result<Command<'a>, AllocError>
-    ensures app { IfOk result (λ r. app_of r ≡ with_rule (app_of command.entry) (option_rule (name.now, required, false))) }
-    ensures local { IfOk result (λ r. (fields_of command.entry).has_globals ≡ false → (fields_of r).has_globals ≡ false) }
+    ensures app { IfOk result (λ r. app_of r
+        ≡ with_rule (app_of command.entry) (option_rule (name.now, required, false))) }
+    ensures local { IfOk result
+        (λ r. (fields_of command.entry).has_globals ≡ false → (fields_of r).has_globals ≡ false) }
 {
     command.arg(option(alloc, name, required))
 }
@@ -48,8 +54,10 @@ fn with_switch<'a>(
     command: Command<'a>,
     name: &'a str,
 ) -> Result<Command<'a>, AllocError>
-    ensures app { IfOk result (λ r. app_of r ≡ with_rule (app_of command.entry) (option_rule (name.now, false, true))) }
-    ensures local { IfOk result (λ r. (fields_of command.entry).has_globals ≡ false → (fields_of r).has_globals ≡ false) }
+    ensures app { IfOk result
+        (λ r. app_of r ≡ with_rule (app_of command.entry) (option_rule (name.now, false, true))) }
+    ensures local { IfOk result
+        (λ r. (fields_of command.entry).has_globals ≡ false → (fields_of r).has_globals ≡ false) }
 {
     command.arg(switch(alloc, name))
 }
@@ -92,7 +100,8 @@ fn replay<'a>(alloc: Global) -> Result<Command<'a>, AllocError>
 
 // `NAME --number S`
 fn numbered<'a>(alloc: Global, name: &'a str) -> Result<Command<'a>, AllocError>
-    ensures app { IfOk result (λ r. app_of r ≡ command_app (name.now, must_have (codes "number") ∷ [])) }
+    ensures app { IfOk result
+        (λ r. app_of r ≡ command_app (name.now, must_have (codes "number") ∷ [])) }
     ensures local { IfOk result (λ r. (fields_of r).has_globals ≡ false) }
 {
     with_option(alloc, command(alloc, name), "number", true)
@@ -100,7 +109,8 @@ fn numbered<'a>(alloc: Global, name: &'a str) -> Result<Command<'a>, AllocError>
 
 // `NAME --number S --units N`
 fn of_units<'a>(alloc: Global, name: &'a str) -> Result<Command<'a>, AllocError>
-    ensures app { IfOk result (λ r. app_of r ≡ command_app (name.now, must_have (codes "number") ∷ must_have (codes "units") ∷ [])) }
+    ensures app { IfOk result (λ r. app_of r
+        ≡ command_app (name.now, must_have (codes "number") ∷ must_have (codes "units") ∷ [])) }
     ensures local { IfOk result (λ r. (fields_of r).has_globals ≡ false) }
 {
     with_option(alloc, numbered(alloc, name)?, "units", true)
@@ -162,7 +172,8 @@ fn top<'a>(alloc: Global) -> Command<'a>
 
 // The program with its commands up to `pack`.
 fn app_to_pack<'a>(alloc: Global) -> Result<Command<'a>, AllocError>
-    ensures app { IfOk result (λ r. app_of r ≡ program (codes "pitch") (follow_words ∷ show_words ∷ pack_words ∷ [])) }
+    ensures app { IfOk result
+        (λ r. app_of r ≡ program (codes "pitch") (follow_words ∷ show_words ∷ pack_words ∷ [])) }
 {
     let with_follow = top(alloc).subcommand(follow(alloc)?)?;
     let with_show = with_follow.subcommand(command(alloc, "show"))?;
@@ -171,7 +182,8 @@ fn app_to_pack<'a>(alloc: Global) -> Result<Command<'a>, AllocError>
 
 // The program with its commands up to `storm`.
 fn app_to_storm<'a>(alloc: Global) -> Result<Command<'a>, AllocError>
-    ensures app { IfOk result (λ r. app_of r ≡ program (codes "pitch") (follow_words ∷ show_words ∷ pack_words ∷ replay_words ∷ storm_words ∷ [])) }
+    ensures app { IfOk result (λ r. app_of r ≡ program (codes "pitch")
+        (follow_words ∷ show_words ∷ pack_words ∷ replay_words ∷ storm_words ∷ [])) }
 {
     let with_replay = app_to_pack(alloc)?.subcommand(replay(alloc)?)?;
     with_replay.subcommand(storm(alloc)?)
@@ -179,7 +191,8 @@ fn app_to_storm<'a>(alloc: Global) -> Result<Command<'a>, AllocError>
 
 // The program with its commands up to `demo`.
 fn app_to_demo<'a>(alloc: Global) -> Result<Command<'a>, AllocError>
-    ensures app { IfOk result (λ r. app_of r ≡ program (codes "pitch") (follow_words ∷ show_words ∷ pack_words ∷ replay_words ∷ storm_words ∷ drill_words ∷ demo_words ∷ [])) }
+    ensures app { IfOk result (λ r. app_of r ≡ program (codes "pitch") (follow_words ∷ show_words
+        ∷ pack_words ∷ replay_words ∷ storm_words ∷ drill_words ∷ demo_words ∷ [])) }
 {
     let with_drill = app_to_storm(alloc)?.subcommand(drill(alloc)?)?;
     with_drill.subcommand(demo(alloc)?)

@@ -61,8 +61,8 @@ pub enum Form {
         /// How many messages a unit's hold has room for: 1 to 65,536.
         hold: u32,
     },
-    /// `quotes [--hold H]`: read a block stream as `follow` does, and write a line wherever the best
-    /// price of a symbol on a side, or its shares, became another.
+    /// `quotes [--hold H]`: read a block stream as `follow` does, and write a line wherever the
+    /// best price of a symbol on a side, or its shares, became another.
     Quotes {
         /// How many messages a unit's hold has room for: 1 to 65,536.
         hold: u32,

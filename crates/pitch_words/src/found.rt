@@ -1,5 +1,6 @@
 //! The form in what `clap` found.
-ghost use Rattle.std.specs.Prelude.{◌≡◌, ℕ, ◌≤◌, IfNone, IfSome, MatchOption, Option, Some, codes, option_map};
+ghost use Rattle.std.specs.Prelude.{◌≡◌, ℕ, ◌≤◌, IfNone, IfSome, MatchOption, Option, Some, codes};
+ghost use Rattle.std.specs.Prelude.{option_map};
 ghost use Rattle.clap.specs.Matches.{found_of};
 ghost use Rattle.clap.specs.Simple.{subcommand_rows_of};
 ghost use Rattle.long_options.specs.Found.{is_set};
@@ -37,8 +38,10 @@ fn text_of<'a>(matches: &ArgMatches<'a>, name: &str) -> Option<&'a str>
 
 // The number of an option that must be given.
 fn given(matches: &ArgMatches, name: &str, least: u64, most: u64) -> Option<u64>
-    ensures some { IfSome result (λ n. IsGivenNumber least most (first_of name.now (rows_of (found_of matches.now))) n) }
-    ensures none { IfNone result ((n : ℕ) → ¬ IsGivenNumber least most (first_of name.now (rows_of (found_of matches.now))) n) }
+    ensures some { IfSome result
+        (λ n. IsGivenNumber least most (first_of name.now (rows_of (found_of matches.now))) n) }
+    ensures none { IfNone result ((n : ℕ)
+        → ¬ IsGivenNumber least most (first_of name.now (rows_of (found_of matches.now))) n) }
     ensures range { IfSome result (λ n. (least ≤ n) × (n ≤ most)) }
 {
     number(text_of(matches, name)?, least, most)
@@ -47,8 +50,10 @@ fn given(matches: &ArgMatches, name: &str, least: u64, most: u64) -> Option<u64>
 // The number of an option that may be left out, and has a default then.
 fn given_or(matches: &ArgMatches, name: &str, default: u64, least: u64, most: u64) -> Option<u64>
     requires default_in_range { least ≤ default × default ≤ most }
-    ensures some { IfSome result (λ n. IsGivenOr default least most (first_of name.now (rows_of (found_of matches.now))) n) }
-    ensures none { IfNone result ((n : ℕ) → ¬ IsGivenOr default least most (first_of name.now (rows_of (found_of matches.now))) n) }
+    ensures some { IfSome result
+        (λ n. IsGivenOr default least most (first_of name.now (rows_of (found_of matches.now))) n) }
+    ensures none { IfNone result ((n : ℕ)
+        → ¬ IsGivenOr default least most (first_of name.now (rows_of (found_of matches.now))) n) }
     ensures range { IfSome result (λ n. (least ≤ n) × (n ≤ most)) }
 {
     match text_of(matches, name) {
@@ -57,11 +62,13 @@ fn given_or(matches: &ArgMatches, name: &str, default: u64, least: u64, most: u6
     }
 }
 
-// The number of an option that may be left out: `Some(None)` where it was, None where its value is no
-// number of the range.
+// The number of an option that may be left out: `Some(None)` where it was, None where its value is
+// no number of the range.
 fn given_maybe(matches: &ArgMatches, name: &str, least: u64, most: u64) -> Option<Option<u64>>
-    ensures some { IfSome result (λ n. IsGivenMaybe least most (first_of name.now (rows_of (found_of matches.now))) n) }
-    ensures none { IfNone result ((n : Option ℕ) → ¬ IsGivenMaybe least most (first_of name.now (rows_of (found_of matches.now))) n) }
+    ensures some { IfSome result
+        (λ n. IsGivenMaybe least most (first_of name.now (rows_of (found_of matches.now))) n) }
+    ensures none { IfNone result ((n : Option ℕ)
+        → ¬ IsGivenMaybe least most (first_of name.now (rows_of (found_of matches.now))) n) }
     ensures range { IfSome result (λ n. IfSome n (λ m. m ≤ most)) }
 {
     match text_of(matches, name) {
@@ -111,7 +118,8 @@ fn as_port(port: Option<u64>) -> Option<u16>
 
 // `follow [--hold H]`, and `follow --pcap [--port P] [--hold H]`
 fn follow(matches: &ArgMatches) -> Option<Form>
-    ensures form { MatchOption result ((form : Form) → ¬ HasForm (Some (codes "follow", rows_of (found_of matches.now))) form)
+    ensures form { MatchOption result
+        ((form : Form) → ¬ HasForm (Some (codes "follow", rows_of (found_of matches.now))) form)
         (HasForm (Some (codes "follow", rows_of (found_of matches.now)))) }
     ensures range { IfSome result IsInRange }
 {
@@ -122,7 +130,8 @@ fn follow(matches: &ArgMatches) -> Option<Form>
 
 // `pack --unit U`
 fn pack(matches: &ArgMatches) -> Option<Form>
-    ensures form { MatchOption result ((form : Form) → ¬ HasForm (Some (codes "pack", rows_of (found_of matches.now))) form)
+    ensures form { MatchOption result
+        ((form : Form) → ¬ HasForm (Some (codes "pack", rows_of (found_of matches.now))) form)
         (HasForm (Some (codes "pack", rows_of (found_of matches.now)))) }
     ensures range { IfSome result IsInRange }
 {
@@ -132,7 +141,8 @@ fn pack(matches: &ArgMatches) -> Option<Form>
 
 // `replay [--workers K]`
 fn replay(matches: &ArgMatches) -> Option<Form>
-    ensures form { MatchOption result ((form : Form) → ¬ HasForm (Some (codes "replay", rows_of (found_of matches.now))) form)
+    ensures form { MatchOption result
+        ((form : Form) → ¬ HasForm (Some (codes "replay", rows_of (found_of matches.now))) form)
         (HasForm (Some (codes "replay", rows_of (found_of matches.now)))) }
     ensures range { IfSome result IsInRange }
 {
@@ -144,7 +154,8 @@ fn replay(matches: &ArgMatches) -> Option<Form>
 
 // `storm --number S --units N --steps M [--workers K]`
 fn storm(matches: &ArgMatches) -> Option<Form>
-    ensures form { MatchOption result ((form : Form) → ¬ HasForm (Some (codes "storm", rows_of (found_of matches.now))) form)
+    ensures form { MatchOption result
+        ((form : Form) → ¬ HasForm (Some (codes "storm", rows_of (found_of matches.now))) form)
         (HasForm (Some (codes "storm", rows_of (found_of matches.now)))) }
     ensures range { IfSome result IsInRange }
 {
@@ -162,7 +173,8 @@ fn storm(matches: &ArgMatches) -> Option<Form>
 
 // `drill --number S --units N --count C`
 fn drill(matches: &ArgMatches) -> Option<Form>
-    ensures form { MatchOption result ((form : Form) → ¬ HasForm (Some (codes "drill", rows_of (found_of matches.now))) form)
+    ensures form { MatchOption result
+        ((form : Form) → ¬ HasForm (Some (codes "drill", rows_of (found_of matches.now))) form)
         (HasForm (Some (codes "drill", rows_of (found_of matches.now)))) }
     ensures range { IfSome result IsInRange }
 {
@@ -178,7 +190,8 @@ fn drill(matches: &ArgMatches) -> Option<Form>
 
 // `demo --number S --count C`
 fn demo(matches: &ArgMatches) -> Option<Form>
-    ensures form { MatchOption result ((form : Form) → ¬ HasForm (Some (codes "demo", rows_of (found_of matches.now))) form)
+    ensures form { MatchOption result
+        ((form : Form) → ¬ HasForm (Some (codes "demo", rows_of (found_of matches.now))) form)
         (HasForm (Some (codes "demo", rows_of (found_of matches.now)))) }
     ensures range { IfSome result IsInRange }
 {
@@ -192,7 +205,8 @@ fn demo(matches: &ArgMatches) -> Option<Form>
 
 // `relay [--hold H]`
 fn relay(matches: &ArgMatches) -> Option<Form>
-    ensures form { MatchOption result ((form : Form) → ¬ HasForm (Some (codes "relay", rows_of (found_of matches.now))) form)
+    ensures form { MatchOption result
+        ((form : Form) → ¬ HasForm (Some (codes "relay", rows_of (found_of matches.now))) form)
         (HasForm (Some (codes "relay", rows_of (found_of matches.now)))) }
     ensures range { IfSome result IsInRange }
 {
@@ -204,7 +218,8 @@ fn relay(matches: &ArgMatches) -> Option<Form>
 
 // `quotes [--hold H]`
 fn quotes(matches: &ArgMatches) -> Option<Form>
-    ensures form { MatchOption result ((form : Form) → ¬ HasForm (Some (codes "quotes", rows_of (found_of matches.now))) form)
+    ensures form { MatchOption result
+        ((form : Form) → ¬ HasForm (Some (codes "quotes", rows_of (found_of matches.now))) form)
         (HasForm (Some (codes "quotes", rows_of (found_of matches.now)))) }
     ensures range { IfSome result IsInRange }
 {
@@ -216,8 +231,11 @@ fn quotes(matches: &ArgMatches) -> Option<Form>
 
 // The form of the command of this name.
 fn form_in(name: &str, matches: &ArgMatches) -> Option<Form>
-    ensures form { MatchOption result ((form : Form) → ¬ HasForm (Some (name.now, rows_of (found_of matches.now))) form)
-        (HasForm (Some (name.now, rows_of (found_of matches.now)))) }
+    ensures form { MatchOption result ((form : Form) → ¬ HasForm (Some (
+      name.now,
+      rows_of
+          (found_of matches.now),
+    )) form) (HasForm (Some (name.now, rows_of (found_of matches.now)))) }
     ensures range { IfSome result IsInRange }
 {
     match name {
@@ -237,8 +255,8 @@ fn form_in(name: &str, matches: &ArgMatches) -> Option<Form>
 
 // The form that `clap`'s matches have, if they have one.
 pub(crate) fn form_of(matches: &ArgMatches) -> Option<Form>
-    ensures form { MatchOption result ((form : Form) → ¬ HasForm (subcommand_rows_of matches.now) form)
-        (HasForm (subcommand_rows_of matches.now)) }
+    ensures form { MatchOption result ((form : Form) → ¬ HasForm
+        (subcommand_rows_of matches.now) form) (HasForm (subcommand_rows_of matches.now)) }
     ensures range { IfSome result IsInRange }
 {
     let (name, inner) = matches.subcommand()?;

@@ -16,8 +16,8 @@ fn matches_of<'a>(
     words: &'a [String],
 ) -> Result<Option<ArgMatches<'a>>, OutOfMemory>
     requires { is_simple_and_free (app_of app) ≡ true }
-    ensures { IfOk result (λ read. MatchOption read (fault_of (app_of app.entry) (map string_bytes words.now) ≢ [])
-        (λ m. (fault_of (app_of app.entry) (map string_bytes words.now) ≡ [])
+    ensures { IfOk result (λ read. MatchOption read (fault_of (app_of app.entry) (map string_bytes
+        words.now) ≢ []) (λ m. (fault_of (app_of app.entry) (map string_bytes words.now) ≡ [])
         × (subcommand_rows_of m ≡ subcommand_of (app_of app.entry) (map string_bytes words.now)))) }
 {
     match app.try_get_matches_from(words) {
@@ -34,8 +34,8 @@ pub(crate) fn parse<'a>(
     alloc: Global,
     words: &'a [String],
 ) -> Result<Option<ArgMatches<'a>>, OutOfMemory>
-    ensures { IfOk result (λ read. MatchOption read (fault_of pitch (map string_bytes words.now) ≢ [])
-        (λ m. (fault_of pitch (map string_bytes words.now) ≡ [])
+    ensures { IfOk result (λ read. MatchOption read (fault_of pitch (map string_bytes words.now)
+        ≢ []) (λ m. (fault_of pitch (map string_bytes words.now) ≡ [])
         × (subcommand_rows_of m ≡ subcommand_of pitch (map string_bytes words.now)))) }
 {
     let Ok(app) = app(alloc) else {

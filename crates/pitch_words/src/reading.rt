@@ -22,8 +22,8 @@ fn has_dashes(words: &[String]) -> bool
 /// `words` are the words after the program's own name. The numbers of a form lie within their
 /// ranges. The one error is want of memory.
 pub fn read(alloc: Global, words: &[String]) -> Result<Option<Form>, OutOfMemory>
-    ensures form { IfOk result (λ answer. MatchOption answer ((form : Form) → ¬ IsForm (map string_bytes words.now) form)
-        (IsForm (map string_bytes words.now))) }
+    ensures form { IfOk result (λ answer. MatchOption answer ((form : Form)
+        → ¬ IsForm (map string_bytes words.now) form) (IsForm (map string_bytes words.now))) }
     ensures range { IfOk result (λ answer. IfSome answer IsInRange) }
 {
     if has_dashes(words) {

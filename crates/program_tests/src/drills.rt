@@ -111,8 +111,8 @@ fn step_after_ask() -> u32 {
     (heard / 10 * 10).saturating_add(11)
 }
 
-// A client that is owed a reply asks for no other gap. So it asks again, for message 590, only if it
-// heard what the service replied to its ask for message 206.
+// A client that is owed a reply asks for no other gap. So it asks again, for message 590, only if
+// it heard what the service replied to its ask for message 206.
 #[test]
 fn a_client_hears_its_service(rt: HostRuntime) -> Result<(), Fail> {
     let gate = AnswerGate {

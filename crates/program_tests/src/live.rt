@@ -15,8 +15,8 @@ use std::thread::Threads;
 use std::time::Clock;
 
 // Words, a stream, and how many bytes had been put before each take of it. At most 20 bytes come at
-// once. The blocks end behind the bytes 14, 56 and 64, the packets behind 100 and 176. A relay sends
-// the two blocks as they came, and only the second changes a best price.
+// once. The blocks end behind the bytes 14, 56 and 64, the packets behind 100 and 176. A relay
+// sends the two blocks as they came, and only the second changes a best price.
 static RUNS: [(&str, &[&[u8]], &[usize]); 5] = [
     ("follow", &[TIME, ADD, BEAT], &[0, 42, 42, 84, 130]),
     ("show", &[TIME, ADD, BEAT], &[0, 51, 51, 161, 192]),

@@ -43,8 +43,8 @@ pub(crate) enum Trouble {
     Nothing,
     /// What is sent on the gap line is lost.
     GapLine,
-    /// What is sent on lines A and B in turns 1, 3, 5 and so on is lost, and the connection with the
-    /// proxy ends in turn 20.
+    /// What is sent on lines A and B in turns 1, 3, 5 and so on is lost, and the connection with
+    /// the proxy ends in turn 20.
     Proxy,
 }
 

@@ -79,9 +79,11 @@ fn pitch_steadily<R: Threads + Wait + Clock + Sync>(
     err: &mut SteadySink,
 ) -> ExitStatus
     // Where nothing is wrong with the input, the job was done whole, or memory ran out.
-    ensures complete { (form : Form) → IsForm (map string_bytes words.now) form → Judges (job_of form) (Some input.old.bytes) None → IsWhole result }
+    ensures complete { (form : Form) → IsForm (map string_bytes words.now) form
+        → Judges (job_of form) (Some input.old.bytes) None → IsWhole result }
     // Where something is wrong with the input, it was refused, or memory ran out.
-    ensures refused { (form : Form) (trouble : Trouble) → IsForm (map string_bytes words.now) form → Judges (job_of form) (Some input.old.bytes) (Some trouble) → IsRefusal result }
+    ensures refused { (form : Form) (trouble : Trouble) → IsForm (map string_bytes words.now) form
+        → Judges (job_of form) (Some input.old.bytes) (Some trouble) → IsRefusal result }
 {
     pitch(rt, alloc, words, input, out, err, &mut NoNet, &FreeGate)
 }

@@ -45,7 +45,8 @@ const LATE_JOIN: (&[u8], &str) = (
     lines a 1/1 b 0/0 g 0/0\n",
 );
 
-// Messages of a session are cut, both ways; heartbeats stand before a request; a reply is cut short.
+// Messages of a session are cut, both ways; heartbeats stand before a request; a reply is cut
+// short.
 const CUT_IN_A_MESSAGE: (&[u8], &str) = (
     b"1 add 1 B 10 IBM 10.00\n\
     1 add 2 B 10 IBM 10.01\n\

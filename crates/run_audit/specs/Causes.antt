@@ -9,12 +9,14 @@ use Rattle.run_audit.specs.declared.verdict.Verdict.TheVariants.{Yes, No}
 
 -- the sequence that stands there, and the next one
 abbrev pub gap_text : FoundGap → List ℕ
-gap_text gap = codes "sequence " ++ (decimal gap.sequence ++ (codes " where " ++ (decimal gap.next ++ codes " is next")))
+gap_text gap = codes "sequence "
+    ++ (decimal gap.sequence ++ (codes " where " ++ (decimal gap.next ++ codes " is next")))
 
 -- what is wrong with an input, and where
 abbrev pub audit_fault_text : AuditFault → List ℕ
 audit_fault_text (NoSize has) = codes "byte 0: truncated, has " ++ (decimal has ++ codes " of 8")
-audit_fault_text (CutLog has needs) = codes "byte 8: truncated, has " ++ (decimal has ++ (codes " of " ++ decimal needs))
+audit_fault_text (CutLog has needs) =
+    codes "byte 8: truncated, has " ++ (decimal has ++ (codes " of " ++ decimal needs))
 audit_fault_text (Faulty fault) = fault_text fault
 audit_fault_text (Gap place gap) = codes "byte " ++ (decimal place ++ (codes ": " ++ gap_text gap))
 

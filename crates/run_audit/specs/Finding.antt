@@ -18,16 +18,19 @@ pub record Names (Vs : ℕ → List Raw) (line : List ℕ) (lines : List (List �
   pub n : ℕ
   pub part : IsPart Vs (Printed unit n)
   pub lines_are : lines ≡ book_lines Vs unit n
-  pub only : (other m : ℕ) (more : List ℕ) → IsPart Vs (Printed other m) → line ≡ book_front other m ++ more → (other ≡ unit) × (m ≡ n)
+  pub only : (other m : ℕ) (more : List ℕ)
+      → IsPart Vs (Printed other m) → line ≡ book_front other m ++ more → (other ≡ unit) × (m ≡ n)
 
 -- the text of the book of a unit after n messages, or none where it has fewer
 abbrev pub IsBookAt : (ℕ → List Raw) → ℕ → ℕ → Option (Roomy ℕ) → Type 0
 IsBookAt Vs unit n None = length (Vs unit) < n
-IsBookAt Vs unit n (Some text) = IsPart Vs (Printed unit n) × (text.items ≡ book_text unit n (book_after (take n (Vs unit))))
+IsBookAt Vs unit n (Some text) =
+    IsPart Vs (Printed unit n) × (text.items ≡ book_text unit n (book_after (take n (Vs unit))))
 
 -- the text of the book that a line names, or none where it can be the first line of no book
 abbrev pub Finds : (ℕ → List Raw) → List ℕ → Option (Roomy ℕ) → Type 0
-Finds Vs line None = (unit n : ℕ) (more : List ℕ) → IsPart Vs (Printed unit n) → line ≡ book_front unit n ++ more → ⊥
+Finds Vs line None =
+    (unit n : ℕ) (more : List ℕ) → IsPart Vs (Printed unit n) → line ≡ book_front unit n ++ more → ⊥
 Finds Vs line (Some text) = Names Vs line (lines_of text.items)
 
 -- the lines before these agree, and have so many books; the first of these has this number

@@ -11,7 +11,8 @@ use Rattle.run_audit.specs.declared.error.AuditError.TheVariants.{Gap, OutOfMemo
 -- a gap is answered where messages do not follow the one before the next, with their sequence and
 -- the next one
 abbrev pub IsGapAt : List Raw → ℕ → ℕ → AuditError → Type 0
-IsGapAt raws first next (Gap sequence wanted) = ((raws ≡ []) ⊎ (first ≡ next) → ⊥) × (sequence ≡ first) × (wanted ≡ next)
+IsGapAt raws first next (Gap sequence wanted) =
+    ((raws ≡ []) ⊎ (first ≡ next) → ⊥) × (sequence ≡ first) × (wanted ≡ next)
 IsGapAt raws first next OutOfMemory = Unit {0}
 
 -- so is a block's: it may not follow
@@ -24,7 +25,9 @@ AreShort = AllByRecursion (λ l. length l.items ≤ 4294967294)
 
 -- a unit has some messages besides, and no other unit has more
 abbrev pub HasMore : (old new : List (Roomy Raw)) → ℕ → List Raw → Type 0
-HasMore old new unit raws = (of : ℕ) → messages_of new of ≡ (if unit == of then messages_of old of ++ raws else messages_of old of)
+HasMore old new unit raws =
+    (of : ℕ) → messages_of new of
+    ≡ (if unit == of then messages_of old of ++ raws else messages_of old of)
 
 -- each unit has the messages that it had
 abbrev pub HasSame : (old new : List (Roomy Raw)) → Type 0

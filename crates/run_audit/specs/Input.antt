@@ -1,5 +1,6 @@
 -- The input of an audit: eight bytes with the number of the log's bytes, the log, and a report.
-use Rattle.std.specs.Prelude.{◌≡◌, ℕ, ◌+◌, ◌==◌, Bool, ◌||◌, List, [], ◌∷◌, length, take, drop, reverse, nat_lt, Option, None, Some, if◌then◌else◌}
+use Rattle.std.specs.Prelude.{◌≡◌, ℕ, ◌+◌, ◌==◌, Bool, ◌||◌, List, [], ◌∷◌, length, take, drop}
+use Rattle.std.specs.Prelude.{reverse, nat_lt, Option, None, Some, if◌then◌else◌}
 use Rattle.std.specs.List.{concat}
 use Rattle.std.specs.Option.{option_map}
 use Rattle.pitch_fields.specs.Fields.{number_at}
@@ -41,14 +42,16 @@ may_follow Vs block = (length block.raws == 0) || (block.sequence == length (Vs 
 abbrev pub fault_behind : Option AuditFault → ℕ → List Block → List Block → Option AuditFault
 fault_behind end place before [] = end
 fault_behind end place before (block ∷ blocks) =
-    if may_follow (logged before) block then fault_behind end (place + (8 + length (concat block.raws))) (block ∷ before) blocks
+    if may_follow (logged before) block
+    then fault_behind end (place + (8 + length (concat block.raws))) (block ∷ before) blocks
     else Some (gap_at place block.sequence (length (logged before block.unit) + 1))
 
 -- a fault of the log, by its place in the input
 abbrev pub in_log : BlockFault → AuditFault
 in_log fault = Faulty (record fault { place = 8 + fault.place })
 
--- what is wrong with a log: the first block that may not follow, or the fault behind the whole blocks
+-- what is wrong with a log: the first block that may not follow, or the fault behind the whole
+-- blocks
 unfoldable pub fault_in_log : List ℕ → Option AuditFault
 fault_in_log log = fault_behind (option_map in_log (fault_at_end log)) 8 [] (blocks_of log)
 
@@ -56,11 +59,13 @@ fault_in_log log = fault_behind (option_map in_log (fault_at_end log)) 8 [] (blo
 unfoldable pub input_fault : List ℕ → Option AuditFault
 input_fault bytes =
     if nat_lt (length bytes) 8 then Some (NoSize (length bytes))
-    else (if nat_lt (length (drop 8 bytes)) (log_size bytes) then Some (CutLog (length (drop 8 bytes)) (log_size bytes)) else fault_in_log (log_in bytes))
+    else (if nat_lt (length (drop 8 bytes)) (log_size bytes) then Some
+    (CutLog (length (drop 8 bytes)) (log_size bytes)) else fault_in_log (log_in bytes))
 
 -- nothing is wrong with the input, and this is said of its report
 abbrev pub Audits : List ℕ → Verdict → Type 0
-Audits bytes verdict = (input_fault bytes ≡ None) × Judges (messages_in bytes) (lines_of (report_in bytes)) verdict
+Audits bytes verdict =
+    (input_fault bytes ≡ None) × Judges (messages_in bytes) (lines_of (report_in bytes)) verdict
 
 -- this is wrong with the input
 abbrev pub IsRefused : List ℕ → InputError → Type 0

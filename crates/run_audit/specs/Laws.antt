@@ -16,22 +16,26 @@ abbrev pub AreFoundPartByPart : (ℕ → List Raw) → Type 0
 AreFoundPartByPart Vs =
     (done rest : List (List ℕ)) (books k : ℕ) → Agrees Vs done books
     → (begun : List (List ℕ)) (all : ℕ) → Agrees Vs (done ++ begun) all → SameThrough k begun rest
-    → ((other : List (List ℕ)) (left : ℕ) → Agrees Vs other left → SameThrough (k + 1) other rest → ⊥)
+    → ((other : List (List ℕ)) (left : ℕ)
+    → Agrees Vs other left → SameThrough (k + 1) other rest → ⊥)
     → IsFirstWrong Vs (done ++ rest) (length done + k + 1)
 
 -- there a line that only a book has is wrong where it can be the first of none
 abbrev pub AreWrongFirst : (ℕ → List Raw) → Type 0
 AreWrongFirst Vs =
-    (all lines rest : List (List ℕ)) (line : List ℕ) (books number : ℕ) → Reads Vs all lines books number
+    (all lines rest : List (List ℕ)) (line : List ℕ) (books number : ℕ)
+    → Reads Vs all lines books number
     → lines ≡ line ∷ rest → is_of_book line ≡ true → NamesNone Vs line → IsFirstWrong Vs all number
 
 -- and where it is the first of a book, the first line that is not the book's is wrong
 abbrev pub AreWrongWithin : (ℕ → List Raw) → Type 0
 AreWrongWithin Vs =
-    (all lines rest book : List (List ℕ)) (line : List ℕ) (books number count : ℕ) → Reads Vs all lines books number
+    (all lines rest book : List (List ℕ)) (line : List ℕ) (books number count : ℕ)
+    → Reads Vs all lines books number
     → lines ≡ line ∷ rest → is_of_book line ≡ true → Names Vs line book → Parts book lines count
     → IsFirstWrong Vs all (number + count)
 
 -- a report gets one verdict at most
 abbrev pub VerdictIsOne : (ℕ → List Raw) → Type 0
-VerdictIsOne Vs = (lines : List (List ℕ)) (v w : Verdict) → Judges Vs lines v → Judges Vs lines w → v ≡ w
+VerdictIsOne Vs =
+    (lines : List (List ℕ)) (v w : Verdict) → Judges Vs lines v → Judges Vs lines w → v ≡ w

@@ -5,7 +5,8 @@ use Rattle.run_audit.specs.declared.lines.Compared.TheVariants.{Same, Differs}
 
 -- how the first line of a book begins
 abbrev pub book_front : ℕ → ℕ → List ℕ
-book_front unit n = codes "book unit " ++ (decimal unit ++ (codes " at " ++ (decimal n ++ codes " second ")))
+book_front unit n =
+    codes "book unit " ++ (decimal unit ++ (codes " at " ++ (decimal n ++ codes " second ")))
 
 -- so many lines are the same, and are passed
 pub record Passes (wanted lines left rest : List (List ℕ)) (count : ℕ) : Type 0 where

@@ -1,5 +1,7 @@
 -- A printed report, and whether its books are those that the messages of the units leave.
-use Rattle.std.specs.Prelude.{◌≡◌, ℕ, ◌-◌, ◌<◌, ◌≤◌, ◌==◌, Bool, true, false, ◌||◌, nat_eq, List, [], ◌∷◌, ◌++◌, length, take, map, codes, Option, None, Some, count_by, if◌then◌else◌}
+use Rattle.std.specs.Prelude.{◌≡◌, ℕ, ◌-◌, ◌<◌, ◌≤◌, ◌==◌, Bool, true, false, ◌||◌, nat_eq, List}
+use Rattle.std.specs.Prelude.{[], ◌∷◌, ◌++◌, length, take, map, codes, Option, None, Some, count_by}
+use Rattle.std.specs.Prelude.{if◌then◌else◌}
 use Rattle.std.specs.List.{flat_map, starts_with, AllByRecursion}
 use Rattle.pitch_model.specs.Book.{book_after}
 use Rattle.feed_lines.specs.BookText.{book_text}
@@ -21,7 +23,8 @@ lines_of (byte ∷ text) = if byte == 10 then [] ∷ lines_of text else in_front
 -- ---- Reports that agree
 -- a line of a book that is not its first begins with one of these words
 abbrev pub is_inner : List ℕ → Bool
-is_inner line = starts_with nat_eq line (codes "order ") || starts_with nat_eq line (codes "status ")
+is_inner line =
+    starts_with nat_eq line (codes "order ") || starts_with nat_eq line (codes "status ")
 
 -- the lines of a book begin so, and no other line does
 abbrev pub is_of_book : List ℕ → Bool
@@ -31,7 +34,8 @@ is_of_book line = starts_with nat_eq line (codes "book ") || is_inner line
 abbrev pub book_lines : (ℕ → List Raw) → ℕ → ℕ → List (List ℕ)
 book_lines Vs unit n = lines_of (book_text unit n (book_after (take n (Vs unit))))
 
--- a report is made of parts: a line that is passed over, or the book of a unit after its first n messages
+-- a report is made of parts: a line that is passed over, or the book of a unit after its first n
+-- messages
 pub data Part : Type 0 where
   Passed : (line : List ℕ) → Part
   Printed : (unit : ℕ) → (n : ℕ) → Part
@@ -44,7 +48,8 @@ abbrev pub part_lines : (ℕ → List Raw) → Part → List (List ℕ)
 part_lines Vs (Passed line) = line ∷ []
 part_lines Vs (Printed unit n) = book_lines Vs unit n
 
--- no line of a book is passed over; a header can name the unit of a book, and the unit has so many messages
+-- no line of a book is passed over; a header can name the unit of a book, and the unit has so many
+-- messages
 abbrev pub IsPart : (ℕ → List Raw) → Part → Type 0
 IsPart Vs (Passed line) = is_of_book line ≡ false
 IsPart Vs (Printed unit n) = (unit < 256) × (n ≤ length (Vs unit))
@@ -61,17 +66,20 @@ pub record Agrees (Vs : ℕ → List Raw) (lines : List (List ℕ)) (books : ℕ
 abbrev pub with_end : List (List ℕ) → List (Option (List ℕ))
 with_end lines = map Some lines ++ None ∷ []
 
--- two reports are the same up to and with line k; the end of a report counts as the line behind its last one
+-- two reports are the same up to and with line k; the end of a report counts as the line behind its
+-- last one
 abbrev pub SameThrough : ℕ → List (List ℕ) → List (List ℕ) → Type 0
 SameThrough k lines others = take k (with_end lines) ≡ take k (with_end others)
 
--- the lines before this one are those of some report that agrees, and with this one they are those of none
+-- the lines before this one are those of some report that agrees, and with this one they are those
+-- of none
 pub record IsFirstWrong (Vs : ℕ → List Raw) (lines : List (List ℕ)) (k : ℕ) : Type 0 where
   pub other : List (List ℕ)
   pub books : ℕ
   pub agrees : Agrees Vs other books
   pub before : SameThrough (k - 1) other lines
-  pub wrong : (others : List (List ℕ)) (books : ℕ) → Agrees Vs others books → SameThrough k others lines → ⊥
+  pub wrong : (others : List (List ℕ)) (books : ℕ)
+      → Agrees Vs others books → SameThrough k others lines → ⊥
 
 -- what is said of a report
 unfoldable pub Judges : (ℕ → List Raw) → List (List ℕ) → Verdict → Type 0

@@ -1,7 +1,8 @@
 ghost use Rattle.std.specs.Prelude.{◌≡◌, ◌++◌, OnOk, IfOk};
 ghost use Rattle.std.specs.FinMap as fin;
 ghost use Rattle.std.specs.List.{flat_map};
-ghost use Rattle.feed_lines.specs.BookText.{book_head, book_orders, book_text, order_line, status_line};
+ghost use Rattle.feed_lines.specs.BookText.{book_head, book_orders, book_text, order_line};
+ghost use Rattle.feed_lines.specs.BookText.{status_line};
 
 use feed_lines::{LINE, put_book_head, put_order_line, put_status_line};
 use order_book::{OrderList, StatusList, UnitBook};

@@ -1,7 +1,8 @@
 -- What a schedule writes. Entries that came before stand newest first, as the verbs of a world do.
 use Rattle.std.specs.Prelude.{ℕ, List, [], ◌∷◌, ◌==◌, map, None, Result, Ok, Err, if◌then◌else◌}
 use Rattle.feed_lines.specs.Texts.{texts_after}
-use Rattle.pitch_text.specs.Defaults.{default_hold, default_kept, default_second, default_minute, default_day}
+use Rattle.pitch_text.specs.Defaults.{default_hold, default_kept, default_second, default_minute}
+use Rattle.pitch_text.specs.Defaults.{default_day}
 use Rattle.pitch_text.specs.ScheduleGrammar.{entry, schedule_entry, setup_of}
 use Rattle.pitch_text.specs.declared.verb.ScheduleEntry.{ScheduleEntry}
 use Rattle.pitch_text.specs.declared.verb.Verb.{Verb}
@@ -18,7 +19,8 @@ use Rattle.schedule_replay.specs.declared.error.ReplayError.TheVariants.{Text}
 -- the verbs of a unit's lines
 abbrev pub verbs_of : ℕ → List ScheduleEntry → List Verb
 verbs_of unit [] = []
-verbs_of unit (entry ∷ before) = if entry.unit == unit then entry.verb ∷ verbs_of unit before else verbs_of unit before
+verbs_of unit (entry ∷ before) =
+    if entry.unit == unit then entry.verb ∷ verbs_of unit before else verbs_of unit before
 
 -- the limits of a unit that does not begin with an `open` line
 abbrev pub default_limits : Limits
@@ -32,7 +34,8 @@ default_limits = record {
 
 -- the limits of a unit that begins with this verb
 abbrev pub limits_at : Verb → Limits
-limits_at (verbs.Setup hold kept second minute day) = record { hold = hold; kept = kept; second = second; minute = minute; day = day }
+limits_at (verbs.Setup hold kept second minute day) =
+    record { hold = hold; kept = kept; second = second; minute = minute; day = day }
 limits_at _ = default_limits
 
 -- the limits of a unit with these verbs: the first of them sets them
@@ -43,7 +46,8 @@ limits_of (verb ∷ earlier ∷ before) = limits_of (earlier ∷ before)
 
 -- no `open` says what an `open` without fields does
 abbrev pub open_alone : Verb
-open_alone = setup_of (record { hold = None; kept = None; second = None; minute = None; day = None })
+open_alone =
+    setup_of (record { hold = None; kept = None; second = None; minute = None; day = None })
 
 -- ---- The text
 
@@ -62,7 +66,8 @@ replay_text entries = texts_after replay_line [] entries
 -- ---- A schedule's text
 
 -- the entries that the lines of a text gave, or its first fault
-abbrev pub schedule_on : Result (List (ℕ × (ℕ × Verb))) TextFault → Result (List ScheduleEntry) ReplayError
+abbrev pub schedule_on : Result (List (ℕ × (ℕ × Verb))) TextFault
+    → Result (List ScheduleEntry) ReplayError
 schedule_on (Ok entries) = Ok (map schedule_entry entries)
 schedule_on (Err at) = Err (Text at.line at.fault.column at.fault.cause)
 

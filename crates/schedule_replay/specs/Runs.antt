@@ -1,5 +1,7 @@
 -- The units of a text run apart, and what they write put together again.
-use Rattle.std.specs.Prelude.{◌≡◌, ℕ, ◌+◌, ◌<◌, ◌==◌, Bool, true, false, List, [], ◌∷◌, ◌++◌, length, take, drop, reverse, Option, None, Some, Result, Ok, Err, slice_get, if◌then◌else◌}
+use Rattle.std.specs.Prelude.{◌≡◌, ℕ, ◌+◌, ◌<◌, ◌==◌, Bool, true, false, List, [], ◌∷◌, ◌++◌}
+use Rattle.std.specs.Prelude.{length, take, drop, reverse, Option, None, Some, Result, Ok, Err}
+use Rattle.std.specs.Prelude.{slice_get, if◌then◌else◌}
 use Rattle.std.specs.Global.{Vec}
 use Rattle.std.specs.List.{AllByRecursion}
 use Rattle.feed_lines.specs.Texts.{texts_after}
@@ -44,20 +46,24 @@ ArePartsOf unit (p ∷ parts) = (p.unit ≡ unit → AreOf unit p.items) × AreP
 -- the entries of the parts of a unit
 abbrev pub part_entries : ℕ → List StretchPart → List ScheduleEntry
 part_entries unit [] = []
-part_entries unit (p ∷ parts) = if p.unit == unit then entries_among p.items ++ part_entries unit parts else part_entries unit parts
+part_entries unit (p ∷ parts) =
+    if p.unit == unit then entries_among p.items ++ part_entries unit parts
+    else part_entries unit parts
 
 -- what each part of a unit writes, after other lines of the unit
 abbrev pub part_texts : ℕ → List ScheduleEntry → List StretchPart → List (List ℕ)
 part_texts unit before [] = []
 part_texts unit before (p ∷ parts) =
-    if p.unit == unit then texts_after replay_line before (entries_among p.items) ∷ part_texts unit (reverse (entries_among p.items) ++ before) parts
+    if p.unit == unit then texts_after replay_line before (entries_among p.items)
+    ∷ part_texts unit (reverse (entries_among p.items) ++ before) parts
     else part_texts unit before parts
 
 -- ---- A unit's run
 
 -- the lines of some bytes have no fault and are all of this unit; they were done, and what they
 -- write was put at the end of a text
-pub record RunsLines (unit : ℕ) (items : List (Result ScheduleEntry TextError)) (before : List ScheduleEntry) (place : Option World) (old new : List ℕ) : Type 0 where
+pub record RunsLines (unit : ℕ) (items : List (Result ScheduleEntry TextError))
+    (before : List ScheduleEntry) (place : Option World) (old new : List ℕ) : Type 0 where
   pub are : AreOf unit items
   pub done : IsPlace (reverse (entries_among items) ++ before) unit place
   pub written : new ≡ old ++ texts_after replay_line before (entries_among items)
@@ -81,7 +87,8 @@ pub record Ran (parts : List StretchPart) (run : Run) : Type 0 where
 
 -- runs of units by their lists: whatever the stretches of the text are, the runs are of its parts
 abbrev pub AreRun : List ℕ → List (Vec Stretch) → List Run → Type 0
-AreRun text lists runs = (all : List Owned) → AreListed all lists → AllByRecursion (Ran (parts_of text all)) runs
+AreRun text lists runs =
+    (all : List Owned) → AreListed all lists → AllByRecursion (Ran (parts_of text all)) runs
 
 -- ---- Put together
 
@@ -101,18 +108,23 @@ pieces_at lefts unit = pieces_on (slice_get lefts unit)
 -- the next text of its unit
 abbrev pub put_together : (ℕ → List (List ℕ)) → List ℕ → List ℕ
 put_together pieces [] = []
-put_together pieces (whose ∷ order) = first_piece (pieces whose) ++ put_together (λ unit. if whose == unit then drop 1 (pieces unit) else pieces unit) order
+put_together pieces (whose ∷ order) =
+    first_piece (pieces whose)
+    ++ put_together (λ unit. if whose == unit then drop 1 (pieces unit) else pieces unit) order
 
 -- the run of a unit stands at its place: where a world does, all that was said of the run is so
-pub record IsRunAt (parts : List StretchPart) (unit : ℕ) (world : World) (pieces : List (List ℕ)) : Type 0 where
+pub record IsRunAt (parts : List StretchPart) (unit : ℕ) (world : World) (pieces : List (List ℕ)) :
+    Type 0 where
   pub are : ArePartsOf unit parts
   pub done : IsPlace (reverse (part_entries unit parts)) unit (Some world)
   pub texts : pieces ≡ part_texts unit [] parts
 
-pub record AreRunsAt (parts : List StretchPart) (places : List (Option World)) (lefts : List Left) : Type 0 where
+pub record AreRunsAt (parts : List StretchPart) (places : List (Option World)) (lefts : List Left) :
+    Type 0 where
   pub many : length places ≡ 65
   pub texts : length lefts ≡ 65
-  pub each : (unit : ℕ) (world : World) → slice_get places unit ≡ Some (Some world) → IsRunAt parts unit world (pieces_at lefts unit)
+  pub each : (unit : ℕ) (world : World)
+      → slice_get places unit ≡ Some (Some world) → IsRunAt parts unit world (pieces_at lefts unit)
 
 -- whether a world stands at a unit's place
 abbrev pub is_filled : Option (Option World) → Bool

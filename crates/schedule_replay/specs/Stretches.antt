@@ -1,5 +1,6 @@
 -- The lines of a text in stretches, and what they say.
-use Rattle.std.specs.Prelude.{◌≡◌, ℕ, ◌+◌, ◌==◌, List, [], ◌∷◌, ◌++◌, take, drop, map, Option, None, Some, Result, slice_get, if◌then◌else◌}
+use Rattle.std.specs.Prelude.{◌≡◌, ℕ, ◌+◌, ◌==◌, List, [], ◌∷◌, ◌++◌, take, drop, map, Option, None}
+use Rattle.std.specs.Prelude.{Some, Result, slice_get, if◌then◌else◌}
 use Rattle.std.specs.Global.{Vec}
 use Rattle.pitch_text.specs.ScheduleGrammar.{entry, schedule_entry}
 use Rattle.pitch_text.specs.declared.verb.ScheduleEntry.{ScheduleEntry}
@@ -13,11 +14,14 @@ items_at n bytes = items_from entry schedule_entry n bytes
 
 -- so many whole lines: what comes after them says the same as if it stood alone
 abbrev pub AreWholeLines : ℕ → List ℕ → Type 0
-AreWholeLines lines bytes = (n : ℕ) (after : List ℕ) → items_at n (bytes ++ after) ≡ items_at n bytes ++ items_at (n + lines) after
+AreWholeLines lines bytes =
+    (n : ℕ) (after : List ℕ) → items_at n (bytes ++ after)
+    ≡ items_at n bytes ++ items_at (n + lines) after
 
 -- a text's first bytes are so many lines: the rest says the same as if it stood alone
 abbrev pub Splits : ℕ → ℕ → List ℕ → Type 0
-Splits lines size text = (n : ℕ) → items_at n text ≡ items_at n (take size text) ++ items_at (n + lines) (drop size text)
+Splits lines size text =
+    (n : ℕ) → items_at n text ≡ items_at n (take size text) ++ items_at (n + lines) (drop size text)
 
 -- what the lines of a stretch say, and whose they are taken to be
 pub record StretchPart : Type 0 where
@@ -31,7 +35,8 @@ pub record Owned : Type 0 where
 
 -- the part of a text that a unit's stretch is
 abbrev pub part_at : List ℕ → ℕ → Stretch → StretchPart
-part_at text unit s = record { unit = unit; items = items_at (s.before + 1) (take s.size (drop s.at text)) }
+part_at text unit s =
+    record { unit = unit; items = items_at (s.before + 1) (take s.size (drop s.at text)) }
 
 -- the parts of a text that a unit's stretches are
 abbrev pub unit_parts : List ℕ → ℕ → List Stretch → List StretchPart
@@ -51,7 +56,8 @@ items_in (p ∷ parts) = p.items ++ items_in parts
 -- the stretches of a unit
 abbrev pub stretches_of : ℕ → List Owned → List Stretch
 stretches_of unit [] = []
-stretches_of unit (o ∷ all) = if o.unit == unit then o.stretch ∷ stretches_of unit all else stretches_of unit all
+stretches_of unit (o ∷ all) =
+    if o.unit == unit then o.stretch ∷ stretches_of unit all else stretches_of unit all
 
 abbrev pub list_on : Option (Vec Stretch) → List Stretch
 list_on None = []

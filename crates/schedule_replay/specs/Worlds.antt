@@ -1,5 +1,6 @@
 -- The worlds of the units that a schedule names. Entries stand newest first.
-use Rattle.std.specs.Prelude.{◌≡◌, ℕ, ◌<◌, true, nat_eq, List, [], ◌∷◌, ◌++◌, length, reverse, Option, None, Some, Ok, slice_get}
+use Rattle.std.specs.Prelude.{◌≡◌, ℕ, ◌<◌, true, nat_eq, List, [], ◌∷◌, ◌++◌, length, reverse}
+use Rattle.std.specs.Prelude.{Option, None, Some, Ok, slice_get}
 use Rattle.std.specs.List.Sorted.{IsStrictlyIncreasing}
 use Rattle.std.specs.Set.{is_member}
 use Rattle.pitch_text.specs.declared.verb.ScheduleEntry.{ScheduleEntry}
@@ -16,12 +17,14 @@ IsNamed before unit = 0 < length (verbs_of unit before)
 -- the world of a unit that the lines name: all that they do with the unit was done in it, by the
 -- unit's limits
 abbrev pub IsWorldOf : List ScheduleEntry → ℕ → World → Type 0
-IsWorldOf before unit world = IsNamed before unit × WorldStands world unit (limits_of (verbs_of unit before)) (verbs_of unit before)
+IsWorldOf before unit world = IsNamed before unit
+    × WorldStands world unit (limits_of (verbs_of unit before)) (verbs_of unit before)
 
 -- the worlds of these units, one each
 abbrev pub AreWorldsOf : List ScheduleEntry → List ℕ → List World → Type 0
 AreWorldsOf before [] [] = Unit {0}
-AreWorldsOf before (unit ∷ units) (world ∷ worlds) = IsWorldOf before unit world × AreWorldsOf before units worlds
+AreWorldsOf before (unit ∷ units) (world ∷ worlds) =
+    IsWorldOf before unit world × AreWorldsOf before units worlds
 AreWorldsOf before _ _ = ⊥
 
 -- the worlds of all units that the lines name, by rising unit
@@ -59,7 +62,8 @@ IsReady unit limits done (Some world) = WorldStands world unit limits done
 pub record ArePlaces (before : List ScheduleEntry) (places : List (Option World)) : Type 0 where
   pub many : length places ≡ 65
   pub low : (unit : ℕ) → IsNamed before unit → unit < 65
-  pub each : (unit : ℕ) (place : Option World) → slice_get places unit ≡ Some place → IsPlace before unit place
+  pub each : (unit : ℕ) (place : Option World)
+      → slice_get places unit ≡ Some place → IsPlace before unit place
 
 -- the worlds that stand in some places
 abbrev pub worlds_in : List (Option World) → List World

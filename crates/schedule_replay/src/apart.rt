@@ -42,7 +42,8 @@ fn run_lists<R: Threads + Sync, G: Gate + Sync>(
     lefts: &mut Vec<Left>,
 ) -> Result<(), Unrun>
     requires { 0 < workers }
-    ensures runs { OnOk result ((all : List Owned) → AreListed all lists.now → AreRunsAt (parts_of text.now all) places.old.items lefts.old.items
+    ensures runs { OnOk result ((all : List Owned) → AreListed all lists.now
+        → AreRunsAt (parts_of text.now all) places.old.items lefts.old.items
         → AreRunsAt (parts_of text.now all) places.new.items lefts.new.items) }
     ensures filled { OnOk result (AreFilled lists.now places.new.items) }
 {
@@ -69,7 +70,8 @@ pub(crate) fn replay_apart<R: Threads + Sync, G: Gate + Sync>(
 ) -> Result<(), Unrun>
     requires size { length text.now ≤ 67108864 }
     requires workers { 0 < workers }
-    ensures written { OnOk result ((written : List ℕ) × (replay_of text.now ≡ Ok written) × (out.new.items ≡ out.old.items ++ written)) }
+    ensures written { OnOk result ((written : List ℕ)
+        × (replay_of text.now ≡ Ok written) × (out.new.items ≡ out.old.items ++ written)) }
     ensures worlds { OnOk result (AddsWorlds text.now worlds.old.items worlds.new.items) }
     ensures kept { OnErr result (worlds.new.items ≡ worlds.old.items) }
     ensures behind { take (length out.old.items) out.new.items ≡ out.old.items }

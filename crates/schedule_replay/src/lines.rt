@@ -1,11 +1,13 @@
 //! The printed line of a verb.
 
-ghost use Rattle.std.specs.Prelude.{◌≡◌, ◌≤◌, ◌+◌, ◌++◌, ◌∷◌, [], length, take, OnOk, OnErr, codes, decimal};
+ghost use Rattle.std.specs.Prelude.{◌≡◌, ◌≤◌, ◌+◌, ◌++◌, ◌∷◌, [], length, take, OnOk, OnErr, codes};
+ghost use Rattle.std.specs.Prelude.{decimal};
 ghost use Rattle.feed_lines.specs.Follow.{overflow_text};
 ghost use Rattle.feed_lines.specs.LineSize.{line_size};
 ghost use Rattle.feed_lines.specs.StatusText.{status_text};
 ghost use Rattle.venue_core.specs.Causes.{refusal_text};
-ghost use Rattle.world_model.specs.Printed.{ask_text, best_text, outcome_text, printed_line, quoted_symbol};
+ghost use Rattle.world_model.specs.Printed.{ask_text, best_text, outcome_text, printed_line};
+ghost use Rattle.world_model.specs.Printed.{quoted_symbol};
 
 use feed_lines::{LINE, put_overflow, put_status};
 use pitch_fields::{OutOfMemory, Price, put_byte, put_name, put_number, put_price, put_text};
@@ -29,7 +31,8 @@ fn put_counted(out: &mut [u8], at: usize, word: &[u8], value: u64) -> usize
 fn put_pair(out: &mut [u8], at: usize, word: &[u8], first: u64, second: u64) -> usize
     requires { at + length word.now + 41 ≤ length out.old }
     ensures end { result ≤ at + length word.now + 41 }
-    ensures text { take result out.new ≡ take at out.old ++ (word.now ++ (decimal first ++ 32 ∷ decimal second)) }
+    ensures text { take result out.new
+        ≡ take at out.old ++ (word.now ++ (decimal first ++ 32 ∷ decimal second)) }
     ensures kept { length out.new ≡ length out.old }
 {
     let named = put_text(out, at, word);
@@ -119,7 +122,8 @@ fn put_quote(
 ) -> usize
     requires { at + 200 ≤ length out.old }
     ensures end { result ≤ at + 200 }
-    ensures text { take result out.new ≡ take at out.old ++ (codes "quote " ++ (quoted_symbol verb.now ++ (best_text bid ++ best_text offer))) }
+    ensures text { take result out.new ≡ take at out.old
+        ++ (codes "quote " ++ (quoted_symbol verb.now ++ (best_text bid ++ best_text offer))) }
     ensures kept { length out.new ≡ length out.old }
 {
     let quote = put_text(out, at, b"quote ");
@@ -204,7 +208,8 @@ fn put_unit(out: &mut [u8], at: usize, unit: u8) -> usize
 fn put_place(out: &mut [u8], at: usize, line: u32, unit: u8) -> usize
     requires { at + 60 ≤ length out.old }
     ensures end { result ≤ at + 60 }
-    ensures text { take result out.new ≡ take at out.old ++ (decimal line ++ (32 ∷ [] ++ (decimal unit ++ 32 ∷ []))) }
+    ensures text { take result out.new
+        ≡ take at out.old ++ (decimal line ++ (32 ∷ [] ++ (decimal unit ++ 32 ∷ []))) }
     ensures kept { length out.new ≡ length out.old }
 {
     let numbered = put_line_number(out, at, line);
@@ -217,7 +222,9 @@ fn put_place(out: &mut [u8], at: usize, line: u32, unit: u8) -> usize
 fn put_answer(out: &mut [u8], at: usize, verb: &Verb, printed: &Printed) -> usize
     requires { at + 400 ≤ length out.old }
     ensures end { result ≤ at + 400 }
-    ensures text { take result out.new ≡ take at out.old ++ (outcome_text verb.now printed.now.outcome ++ (overflow_text printed.now.overflow ++ (codes "; " ++ (status_text printed.now.status ++ 10 ∷ [])))) }
+    ensures text { take result out.new ≡ take at out.old
+        ++ (outcome_text verb.now printed.now.outcome ++ (overflow_text printed.now.overflow
+        ++ (codes "; " ++ (status_text printed.now.status ++ 10 ∷ [])))) }
     ensures kept { length out.new ≡ length out.old }
 {
     let done = put_outcome(out, at, verb, printed.outcome);
@@ -238,7 +245,8 @@ fn put_printed(
 ) -> usize
     requires { at + line_size ≤ length out.old }
     ensures end { result ≤ at + line_size }
-    ensures text { take result out.new ≡ take at out.old ++ printed_line line unit verb.now printed.now }
+    ensures text { take result out.new
+        ≡ take at out.old ++ printed_line line unit verb.now printed.now }
     ensures kept { length out.new ≡ length out.old }
 {
     let placed = put_place(out, at, line, unit);

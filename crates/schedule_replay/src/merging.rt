@@ -1,9 +1,11 @@
 //! What units wrote, put together again in the order of the text.
 
-ghost use Rattle.std.specs.Prelude.{◌≡◌, ◌<◌, ◌++◌, ℕ, List, [], drop, length, take, OnOk, IfOk, IfSome, IsTrue, slice_get};
+ghost use Rattle.std.specs.Prelude.{◌≡◌, ◌<◌, ◌++◌, ℕ, List, [], drop, length, take, OnOk, IfOk};
+ghost use Rattle.std.specs.Prelude.{IfSome, IsTrue, slice_get};
 ghost use Rattle.std.specs.List.{AllByRecursion};
 ghost use Rattle.schedule_replay.specs.Apart.{first_piece};
-ghost use Rattle.schedule_replay.specs.Runs.{put_together, left_pieces, pieces_at, has_world, AreFilled, AreRunsAt, Ran};
+ghost use Rattle.schedule_replay.specs.Runs.{put_together, left_pieces, pieces_at, has_world};
+ghost use Rattle.schedule_replay.specs.Runs.{AreFilled, AreRunsAt, Ran};
 ghost use Rattle.schedule_replay.specs.Stretches.{StretchPart};
 ghost use Rattle.schedule_replay.specs.Worlds.{ArePlaces};
 
@@ -27,8 +29,8 @@ pub(crate) struct Left {
 
 // Puts a run at the place of its unit.
 fn put_run(places: &mut Vec<Option<World>>, lefts: &mut Vec<Left>, run: Run)
-    ensures { (parts : List StretchPart) → AreRunsAt parts places.old.items lefts.old.items → Ran parts run
-        → AreRunsAt parts places.new.items lefts.new.items }
+    ensures { (parts : List StretchPart) → AreRunsAt parts places.old.items lefts.old.items
+        → Ran parts run → AreRunsAt parts places.new.items lefts.new.items }
 {
     let place = usize::from(run.unit);
     if place < places.len() && place < lefts.len() {
@@ -47,8 +49,8 @@ fn put_run(places: &mut Vec<Option<World>>, lefts: &mut Vec<Left>, run: Run)
 
 // Puts the runs of a piece at the places of their units.
 fn put_piece(places: &mut Vec<Option<World>>, lefts: &mut Vec<Left>, mut runs: Vec<Run>)
-    ensures { (parts : List StretchPart) → AreRunsAt parts places.old.items lefts.old.items → AllByRecursion (Ran parts) runs.items
-        → AreRunsAt parts places.new.items lefts.new.items }
+    ensures { (parts : List StretchPart) → AreRunsAt parts places.old.items lefts.old.items
+        → AllByRecursion (Ran parts) runs.items → AreRunsAt parts places.new.items lefts.new.items }
 {
     'turns: while let Some(run) = runs.pop() {
         put_run(places, lefts, run);
@@ -61,8 +63,9 @@ pub(crate) fn put_pieces(
     lefts: &mut Vec<Left>,
     mut pieces: Vec<Result<Vec<Run>, Unrun>>,
 ) -> Result<(), Unrun>
-    ensures { OnOk result ((parts : List StretchPart) → AreRunsAt parts places.old.items lefts.old.items
-        → ((n : ℕ) → IfSome (slice_get pieces.items n) (λ piece. IfOk piece (λ runs. AllByRecursion (Ran parts) runs.items)))
+    ensures { OnOk result ((parts : List StretchPart) → AreRunsAt
+        parts places.old.items lefts.old.items → ((n : ℕ) → IfSome (slice_get pieces.items n)
+        (λ piece. IfOk piece (λ runs. AllByRecursion (Ran parts) runs.items)))
         → AreRunsAt parts places.new.items lefts.new.items) }
 {
     'turns: while let Some(piece) = pieces.pop() {
@@ -127,7 +130,8 @@ fn reserve_all(lefts: &[Left], out: &mut Vec<u8>) -> Result<(), Unrun>
 
 // Appends the next text. After an error the text is as before.
 fn take_piece(left: &mut Left, out: &mut Vec<u8>) -> Result<(), Unrun>
-    ensures text { OnOk result (out.new.items ≡ out.old.items ++ first_piece (left_pieces left.old)) }
+    ensures text { OnOk result
+        (out.new.items ≡ out.old.items ++ first_piece (left_pieces left.old)) }
     ensures left { OnOk result (left_pieces left.new ≡ drop 1 (left_pieces left.old)) }
     ensures behind { take (length out.old.items) out.new.items ≡ out.old.items }
 {
@@ -148,7 +152,8 @@ fn take_piece(left: &mut Left, out: &mut Vec<u8>) -> Result<(), Unrun>
 
 /// Appends at each stretch the next text of its unit. After an error some may have been appended.
 pub(crate) fn merge(order: &[u8], lefts: &mut Vec<Left>, out: &mut Vec<u8>) -> Result<(), Unrun>
-    ensures text { OnOk result (out.new.items ≡ out.old.items ++ put_together (pieces_at lefts.old.items) order.now) }
+    ensures text { OnOk result
+        (out.new.items ≡ out.old.items ++ put_together (pieces_at lefts.old.items) order.now) }
     ensures behind { take (length out.old.items) out.new.items ≡ out.old.items }
 {
     reserve_all(lefts, out)?;

@@ -1,6 +1,7 @@
 //! A schedule, on one thread or on several.
 
-ghost use Rattle.std.specs.Prelude.{◌≡◌, ◌≤◌, ◌++◌, ◌⊎◌, List, ℕ, length, take, OnOk, OnErr, IfErr, Ok, Err};
+ghost use Rattle.std.specs.Prelude.{◌≡◌, ◌≤◌, ◌++◌, ◌⊎◌, List, ℕ, length, take, OnOk, OnErr, IfErr};
+ghost use Rattle.std.specs.Prelude.{Ok, Err};
 ghost use Rattle.schedule_replay.specs.Apart.{most_workers};
 ghost use Rattle.schedule_replay.specs.Replay.{replay_of};
 ghost use Rattle.schedule_replay.specs.Worlds.{AddsWorlds};
@@ -27,9 +28,11 @@ fn replay_lines<R: Threads + Sync, G: Gate + Sync>(
 ) -> Result<(), ReplayError>
     requires size { length text.now ≤ 67108864 }
     requires workers { (1 ≤ workers) × (workers ≤ most_workers) }
-    ensures written { OnOk result ((written : List ℕ) × (replay_of text.now ≡ Ok written) × (out.new.items ≡ out.old.items ++ written)) }
+    ensures written { OnOk result ((written : List ℕ)
+        × (replay_of text.now ≡ Ok written) × (out.new.items ≡ out.old.items ++ written)) }
     ensures worlds { OnOk result (AddsWorlds text.now worlds.old.items worlds.new.items) }
-    ensures cause { IfErr result (λ error. (error ≡ errors.OutOfMemory) ⊎ (replay_of text.now ≡ Err error)) }
+    ensures cause { IfErr result
+        (λ error. (error ≡ errors.OutOfMemory) ⊎ (replay_of text.now ≡ Err error)) }
     ensures kept { OnErr result (worlds.new.items ≡ worlds.old.items) }
     ensures behind { take (length out.old.items) out.new.items ≡ out.old.items }
 {
@@ -70,9 +73,11 @@ pub fn replay<R: Threads + Sync, G: Gate + Sync>(
 ) -> Result<(), ReplayError>
     requires size { length text.now ≤ 67108864 }
     requires workers { (1 ≤ workers) × (workers ≤ most_workers) }
-    ensures written { OnOk result ((written : List ℕ) × (replay_of text.now ≡ Ok written) × (out.new.items ≡ out.old.items ++ written)) }
+    ensures written { OnOk result ((written : List ℕ)
+        × (replay_of text.now ≡ Ok written) × (out.new.items ≡ out.old.items ++ written)) }
     ensures worlds { OnOk result (AddsWorlds text.now worlds.old.items worlds.new.items) }
-    ensures cause { IfErr result (λ error. (error ≡ errors.OutOfMemory) ⊎ (replay_of text.now ≡ Err error)) }
+    ensures cause { IfErr result
+        (λ error. (error ≡ errors.OutOfMemory) ⊎ (replay_of text.now ≡ Err error)) }
     ensures kept_text { OnErr result (out.new.items ≡ out.old.items) }
     ensures kept_worlds { OnErr result (worlds.new.items ≡ worlds.old.items) }
 {

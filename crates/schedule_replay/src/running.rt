@@ -1,6 +1,7 @@
 //! A schedule, line by line.
 
-ghost use Rattle.std.specs.Prelude.{◌≡◌, ◌≤◌, ◌++◌, ◌⊎◌, [], ◌∷◌, List, ℕ, length, take, OnOk, OnErr, IfOk, IfErr, IfSome, IfNone, IsSome, Ok, Err};
+ghost use Rattle.std.specs.Prelude.{◌≡◌, ◌≤◌, ◌++◌, ◌⊎◌, [], ◌∷◌, List, ℕ, length, take, OnOk};
+ghost use Rattle.std.specs.Prelude.{OnErr, IfOk, IfErr, IfSome, IfNone, IsSome, Ok, Err};
 ghost use Rattle.pitch_text.specs.WellFormed.{IsVerb, IsWellFormed};
 ghost use Rattle.pitch_text.specs.declared.verb.ScheduleEntry.{ScheduleEntry as EntrySaid};
 ghost use Rattle.pitch_text.specs.declared.verb.Verb.{Verb as VerbSaid};
@@ -9,8 +10,10 @@ ghost use Rattle.world_model.specs.Stands.{WorldStands, AreLimits};
 ghost use Rattle.world_model.specs.Verbs.{state_of};
 ghost use Rattle.world_model.specs.declared.limits.Limits.{Limits as LimitsSaid};
 ghost use Rattle.schedule_replay.specs.Causes.{replay_error};
-ghost use Rattle.schedule_replay.specs.Replay.{verbs_of, default_limits, limits_at, limits_of, replay_line, replay_of, schedule_of};
-ghost use Rattle.schedule_replay.specs.Worlds.{AddsWorlds, ArePlaces, IsPlace, IsReady, RunsText, worlds_in};
+ghost use Rattle.schedule_replay.specs.Replay.{verbs_of, default_limits, limits_at, limits_of};
+ghost use Rattle.schedule_replay.specs.Replay.{replay_line, replay_of, schedule_of};
+ghost use Rattle.schedule_replay.specs.Worlds.{AddsWorlds, ArePlaces, IsPlace, IsReady, RunsText};
+ghost use Rattle.schedule_replay.specs.Worlds.{worlds_in};
 ghost use Rattle.schedule_replay.specs.declared.error.ReplayError.TheVariants as errors;
 
 use crate::error::ReplayError;
@@ -119,8 +122,8 @@ fn make_if_missing(
 ) -> Result<(), OutOfMemory>
     requires { IsVerb verb.now }
     // Whatever lines came before, the place then has a world for all that they did with the unit.
-    ensures ready { OnOk result ((before : List EntrySaid) → IsPlace before unit place.old
-        → IsReady unit (limits_of (verb.now ∷ verbs_of unit before)) (verbs_of unit before) place.new) }
+    ensures ready { OnOk result ((before : List EntrySaid) → IsPlace before unit place.old → IsReady
+        unit (limits_of (verb.now ∷ verbs_of unit before)) (verbs_of unit before) place.new) }
     ensures some { OnOk result (IsSome place.new) }
 {
     match place {
@@ -131,8 +134,9 @@ fn make_if_missing(
 
 // Appends what `show` prints after its line. The text is as before after OutOfMemory.
 fn append_shown(world: &World, verb: &Verb, out: &mut Vec<u8>) -> Result<(), OutOfMemory>
-    ensures shown { OnOk result ((unit : ℕ) (limits : LimitsSaid) (done : List VerbSaid) → WorldStands world.now unit limits (verb.now ∷ done)
-        → out.new.items ≡ out.old.items ++ shown_at unit limits verb.now (state_of unit limits (verb.now ∷ done))) }
+    ensures shown { OnOk result ((unit : ℕ) (limits : LimitsSaid) (done : List VerbSaid)
+        → WorldStands world.now unit limits (verb.now ∷ done) → out.new.items
+        ≡ out.old.items ++ shown_at unit limits verb.now (state_of unit limits (verb.now ∷ done))) }
     ensures behind { take (length out.old.items) out.new.items ≡ out.old.items }
 {
     match verb {
@@ -158,10 +162,12 @@ fn append_shown(world: &World, verb: &Verb, out: &mut Vec<u8>) -> Result<(), Out
 fn step_in(world: &mut World, entry: &ScheduleEntry, out: &mut Vec<u8>) -> Result<(), OutOfMemory>
     requires { IsVerb entry.now.verb }
     // Whatever verbs were done in the world, it then stands for these and this one.
-    ensures stands { OnOk result ((limits : LimitsSaid) (done : List VerbSaid) → WorldStands world.old entry.now.unit limits done
+    ensures stands { OnOk result ((limits : LimitsSaid) (done : List VerbSaid)
+        → WorldStands world.old entry.now.unit limits done
         → WorldStands world.new entry.now.unit limits (entry.now.verb ∷ done)) }
-    ensures text { OnOk result ((limits : LimitsSaid) (done : List VerbSaid) → WorldStands world.old entry.now.unit limits done
-        → out.new.items ≡ out.old.items ++ verb_text entry.now.line entry.now.unit limits entry.now.verb (state_of entry.now.unit limits done)) }
+    ensures text { OnOk result ((limits : LimitsSaid) (done : List VerbSaid) → WorldStands
+        world.old entry.now.unit limits done → out.new.items ≡ out.old.items ++ verb_text
+        entry.now.line entry.now.unit limits entry.now.verb (state_of entry.now.unit limits done)) }
     ensures behind { take (length out.old.items) out.new.items ≡ out.old.items }
 {
     match world.step(&entry.verb) {
@@ -256,7 +262,8 @@ fn run_text<G: Gate>(
     requires size { length text.now ≤ 67108864 }
     requires none { ArePlaces [] places.old.items }
     ensures runs { OnOk result (RunsText text.now places.new.items out.old.items out.new.items) }
-    ensures cause { IfErr result (λ error. (error ≡ errors.OutOfMemory) ⊎ (replay_of text.now ≡ Err error)) }
+    ensures cause { IfErr result
+        (λ error. (error ≡ errors.OutOfMemory) ⊎ (replay_of text.now ≡ Err error)) }
     ensures behind { take (length out.old.items) out.new.items ≡ out.old.items }
 {
     schedules_are_well_formed();
@@ -306,9 +313,11 @@ pub(crate) fn replay_together<G: Gate>(
     out: &mut Vec<u8>,
 ) -> Result<(), ReplayError>
     requires { length text.now ≤ 67108864 }
-    ensures written { OnOk result ((written : List ℕ) × (replay_of text.now ≡ Ok written) × (out.new.items ≡ out.old.items ++ written)) }
+    ensures written { OnOk result ((written : List ℕ)
+        × (replay_of text.now ≡ Ok written) × (out.new.items ≡ out.old.items ++ written)) }
     ensures worlds { OnOk result (AddsWorlds text.now worlds.old.items worlds.new.items) }
-    ensures cause { IfErr result (λ error. (error ≡ errors.OutOfMemory) ⊎ (replay_of text.now ≡ Err error)) }
+    ensures cause { IfErr result
+        (λ error. (error ≡ errors.OutOfMemory) ⊎ (replay_of text.now ≡ Err error)) }
     ensures kept { OnErr result (worlds.new.items ≡ worlds.old.items) }
     ensures behind { take (length out.old.items) out.new.items ≡ out.old.items }
 {

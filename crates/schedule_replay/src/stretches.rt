@@ -1,6 +1,7 @@
 //! The lines of a text in stretches, each of one unit's lines.
 
-ghost use Rattle.std.specs.Prelude.{◌≡◌, ◌≤◌, ◌<◌, ◌++◌, ◌∷◌, ◌==◌, [], ℕ, length, take, OnOk, IfOk, if◌then◌else◌};
+ghost use Rattle.std.specs.Prelude.{◌≡◌, ◌≤◌, ◌<◌, ◌++◌, ◌∷◌, ◌==◌, [], ℕ, length, take, OnOk};
+ghost use Rattle.std.specs.Prelude.{IfOk, if◌then◌else◌};
 ghost use Rattle.schedule_replay.specs.Stretches.{AreWholeLines, Splits, IsCut, list_at};
 
 use crate::running::PLACES;
@@ -115,8 +116,8 @@ fn no_lists(alloc: Global) -> Result<Vec<Vec<Stretch>>, OutOfMemory>
 // Puts a stretch at the end of its unit's list; NotApart where the unit is not one of a schedule, 1
 // to 64.
 fn add_stretch(lists: &mut Vec<Vec<Stretch>>, unit: u8, stretch: Stretch) -> Result<(), Unrun>
-    ensures { OnOk result ((other : ℕ) → list_at lists.new.items other
-        ≡ if unit == other then list_at lists.old.items other ++ stretch ∷ [] else list_at lists.old.items other) }
+    ensures { OnOk result ((other : ℕ) → list_at lists.new.items other ≡ if unit == other
+        then list_at lists.old.items other ++ stretch ∷ [] else list_at lists.old.items other) }
 {
     let place = usize::from(unit);
     if place == 0 || place >= lists.len() {

@@ -1,11 +1,13 @@
 //! The units of a text, each run apart from the others.
 
-ghost use Rattle.std.specs.Prelude.{◌≡◌, ◌<◌, ◌+◌, ◌++◌, ◌∷◌, [], List, ℕ, OnOk, IfOk, IfSome, slice_get};
+ghost use Rattle.std.specs.Prelude.{◌≡◌, ◌<◌, ◌+◌, ◌++◌, ◌∷◌, [], List, ℕ, OnOk, IfOk, IfSome};
+ghost use Rattle.std.specs.Prelude.{slice_get};
 ghost use Rattle.pitch_text.specs.WellFormed.{IsWellFormed};
 ghost use Rattle.pitch_text.specs.declared.verb.ScheduleEntry.{ScheduleEntry as EntrySaid};
 ghost use Rattle.schedule_replay.specs.Replay.{replay_line};
 ghost use Rattle.schedule_replay.specs.Runs.{later, RunsLines, Ran, AreRun};
-ghost use Rattle.schedule_replay.specs.Stretches.{AreListed, Owned, StretchPart, items_at, parts_of, unit_parts};
+ghost use Rattle.schedule_replay.specs.Stretches.{AreListed, Owned, StretchPart, items_at};
+ghost use Rattle.schedule_replay.specs.Stretches.{parts_of, unit_parts};
 ghost use Rattle.schedule_replay.specs.Worlds.{IsPlace};
 
 use crate::running::run_in;
@@ -33,8 +35,8 @@ pub(crate) struct Run {
     pub lengths: Vec<u32>,
 }
 
-// Does an entry of this unit. Its line is counted within its stretch, before which there are so many
-// lines.
+// Does an entry of this unit. Its line is counted within its stretch, before which there are so
+// many lines.
 fn run_later(
     alloc: Global,
     unit: u8,
@@ -76,8 +78,8 @@ fn run_lines(
     place: &mut Option<World>,
     out: &mut Vec<u8>,
 ) -> Result<(), Unrun>
-    ensures { OnOk result ((before : List EntrySaid) → IsPlace before unit place.old
-        → RunsLines unit (items_at (lines + 1) bytes.now) before place.new out.old.items out.new.items) }
+    ensures { OnOk result ((before : List EntrySaid) → IsPlace before unit place.old → RunsLines
+        unit (items_at (lines + 1) bytes.now) before place.new out.old.items out.new.items) }
 {
     if bytes.len() > LARGEST_TEXT {
         return Err(Unrun::NotApart);
@@ -95,8 +97,8 @@ fn run_lines(
 // Does the lines of a stretch of the run's unit, before which so many lines stand.
 fn run_stretch(alloc: Global, before: u32, bytes: &[u8], run: &mut Run) -> Result<(), Unrun>
     ensures unit { run.new.unit ≡ run.old.unit }
-    ensures ran { OnOk result ((parts : List StretchPart) → Ran parts run.old
-        → Ran (parts ++ record { unit = run.old.unit; items = items_at (before + 1) bytes.now } ∷ []) run.new) }
+    ensures ran { OnOk result ((parts : List StretchPart) → Ran parts run.old → Ran (parts
+        ++ record { unit = run.old.unit; items = items_at (before + 1) bytes.now } ∷ []) run.new) }
 {
     let start = run.text.len();
     run_lines(
@@ -119,7 +121,8 @@ fn run_stretch(alloc: Global, before: u32, bytes: &[u8], run: &mut Run) -> Resul
 // Does the stretches of a text that are the run's unit's.
 fn run_list(alloc: Global, text: &[u8], list: &[Stretch], run: &mut Run) -> Result<(), Unrun>
     ensures unit { run.new.unit ≡ run.old.unit }
-    ensures ran { OnOk result (Ran [] run.old → Ran (unit_parts text.now run.old.unit list.now) run.new) }
+    ensures ran { OnOk result
+        (Ran [] run.old → Ran (unit_parts text.now run.old.unit list.now) run.new) }
 {
     'stretches: for stretch in list {
         let at = stretch.at as usize;
@@ -163,7 +166,8 @@ fn run_stretches(alloc: Global, text: &[u8], list: &[Stretch], unit: u8) -> Resu
 
 // Does the stretches that a unit has in the lists of a text.
 fn run_listed(alloc: Global, text: &[u8], lists: &[Vec<Stretch>], unit: u8) -> Result<Run, Unrun>
-    ensures { IfOk result (λ run. (all : List Owned) → AreListed all lists.now → Ran (parts_of text.now all) run) }
+    ensures { IfOk result (λ run. (all : List Owned)
+        → AreListed all lists.now → Ran (parts_of text.now all) run) }
 {
     match lists.get(usize::from(unit)) {
         Some(list) => run_stretches(alloc, text, list, unit),
@@ -179,7 +183,8 @@ fn run_unit<G: Gate>(
     lists: &[Vec<Stretch>],
     unit: u8,
 ) -> Result<Run, Unrun>
-    ensures { IfOk result (λ run. (all : List Owned) → AreListed all lists.now → Ran (parts_of text.now all) run) }
+    ensures { IfOk result (λ run. (all : List Owned)
+        → AreListed all lists.now → Ran (parts_of text.now all) run) }
 {
     let work = replay_work(unit);
     gate.before(work);

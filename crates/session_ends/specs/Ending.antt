@@ -1,5 +1,6 @@
 -- What an end keeps of what happened to it.
-use Rattle.std.specs.Prelude.{◌≡◌, ℕ, ◌+◌, Bool, true, false, not, ◌||◌, nat_le, List, [], length, Option, None, Some, is_some, if◌then◌else◌}
+use Rattle.std.specs.Prelude.{◌≡◌, ℕ, ◌+◌, Bool, true, false, not, ◌||◌, nat_le, List, [], length}
+use Rattle.std.specs.Prelude.{Option, None, Some, is_some, if◌then◌else◌}
 use Rattle.unit_packets.specs.Causes.{counted}
 use Rattle.session_ends.specs.declared.closed.Closed.{Closed}
 use Rattle.session_ends.specs.declared.closed.CloseCause.TheVariants.{Silent}
@@ -8,7 +9,8 @@ use Rattle.session_ends.specs.Closing.{Setup, or_else, closed_of, logged_in}
 use Rattle.session_ends.specs.Events.{Event, fed_of, is_quiet, silence}
 use Rattle.session_ends.specs.Inboxes.{Inboxed, HasTaken}
 use Rattle.session_ends.specs.Items.{closed_at}
-use Rattle.session_ends.specs.Sending.{sent_since, some_bytes, heartbeat_bytes, header_unit, begins_with_login}
+use Rattle.session_ends.specs.Sending.{sent_since, some_bytes, heartbeat_bytes, header_unit}
+use Rattle.session_ends.specs.Sending.{begins_with_login}
 
 -- what it is made with; its inbox; whether a login was accepted; why it closed; whether bytes came
 -- since the last tick; how many silent ticks came last; whether something was sent since the last
@@ -31,7 +33,8 @@ pub record Known : Type 0 where
   pub silence : ℕ
   pub sent : Bool
 
-abbrev pub known_of : {X : Type 0} → (Event X → List (Event X) → List ℕ) → Setup → List (Event X) → Known
+abbrev pub known_of : {X : Type 0}
+    → (Event X → List (Event X) → List ℕ) → Setup → List (Event X) → Known
 known_of sends s es = record {
   fed = fed_of es;
   logged = logged_in s.role es;
@@ -43,7 +46,14 @@ known_of sends s es = record {
 
 -- nothing happened yet
 abbrev pub nothing_known : Role → Known
-nothing_known role = record { fed = []; logged = false; closed = None; quiet = true; silence = 0; sent = begins_with_login role }
+nothing_known role = record {
+  fed = [];
+  logged = false;
+  closed = None;
+  quiet = true;
+  silence = 0;
+  sent = begins_with_login role;
+}
 
 -- while an end is open it keeps all of this
 pub record Open (v : Ending) (k : Known) : Type 0 where
@@ -63,7 +73,8 @@ abbrev pub silence_then : Known → ℕ
 silence_then k = if k.quiet then k.silence + 1 else 0
 
 abbrev pub closes_at_tick : Known → Option Closed
-closes_at_tick k = if nat_le 5 (silence_then k) then Some (closed_at Silent (counted (length k.fed))) else None
+closes_at_tick k =
+    if nat_le 5 (silence_then k) then Some (closed_at Silent (counted (length k.fed))) else None
 
 abbrev pub known_ticked : Known → Known
 known_ticked k = record {

@@ -1,5 +1,6 @@
 -- What happens at an end of a session. A list of events has the newest first.
-use Rattle.std.specs.Prelude.{ℕ, ◌+◌, Bool, true, ◌&&◌, ◌==◌, List, [], ◌∷◌, ◌++◌, length, if◌then◌else◌}
+use Rattle.std.specs.Prelude.{ℕ, ◌+◌, Bool, true, ◌&&◌, ◌==◌, List, [], ◌∷◌, ◌++◌, length}
+use Rattle.std.specs.Prelude.{if◌then◌else◌}
 use Rattle.pitch_messages.specs.declared.session.SessionMessage.{SessionMessage}
 
 pub data Event (X : Type 0) : Type 0 where

@@ -1,5 +1,6 @@
 -- What the bytes that a reader has say to an end.
-use Rattle.std.specs.Prelude.{◌≡◌, ℕ, ◌+◌, ◌≤◌, Bool, false, List, [], ◌++◌, length, drop, Option, None, Some, IfSome, Err, if◌then◌else◌}
+use Rattle.std.specs.Prelude.{◌≡◌, ℕ, ◌+◌, ◌≤◌, Bool, false, List, [], ◌++◌, length, drop, Option}
+use Rattle.std.specs.Prelude.{None, Some, IfSome, Err, if◌then◌else◌}
 use Rattle.unit_packets.specs.Causes.{counted}
 use Rattle.unit_packets.specs.Cutting.{blocks_of, rest_of, place_of, fault_from}
 use Rattle.unit_packets.specs.Judging.{judge}
@@ -10,7 +11,8 @@ use Rattle.session_ends.specs.Items.{messages_from, stream_items_from, trouble}
 
 -- what bytes say that begin at a place: their blocks, and what breaks the stream behind them
 unfoldable pub rest_items : ℕ → List ℕ → List Heard
-rest_items place rest = stream_items_from place (blocks_of rest) ++ trouble (fault_from false (counted (place + place_of rest)) (judge (rest_of rest)))
+rest_items place rest = stream_items_from place (blocks_of rest)
+    ++ trouble (fault_from false (counted (place + place_of rest)) (judge (rest_of rest)))
 
 -- what the bytes say that a reader has
 abbrev pub reader_items : Reading → List Heard

@@ -21,7 +21,8 @@ pub record HasTaken (inbox : Inboxed) (bytes : List ℕ) : Type 0 where
   pub count : inbox.fed ≡ counted (length bytes)
 
 -- what taking a piece in does: it is fed all, and what the stream says more was appended
-pub record TakesPiece (fed piece : List ℕ) (new : Inboxed) (before after : List Heard) : Type 0 where
+pub record TakesPiece (fed piece : List ℕ) (new : Inboxed) (before after : List Heard) :
+    Type 0 where
   pub stands : HasTaken new (fed ++ piece)
   pub added : List Heard
   pub are : stream_items (fed ++ piece) ≡ stream_items fed ++ added

@@ -1,5 +1,6 @@
 -- What a stream says to an end.
-use Rattle.std.specs.Prelude.{ℕ, ◌+◌, ◌==◌, List, [], ◌∷◌, ◌++◌, length, Option, None, Some, if◌then◌else◌}
+use Rattle.std.specs.Prelude.{ℕ, ◌+◌, ◌==◌, List, [], ◌∷◌, ◌++◌, length, Option, None, Some}
+use Rattle.std.specs.Prelude.{if◌then◌else◌}
 use Rattle.std.specs.List.{concat}
 use Rattle.unit_packets.specs.Blocks.{Block}
 use Rattle.unit_packets.specs.Causes.{counted}
@@ -8,7 +9,8 @@ use Rattle.unit_packets.specs.Feeding.{fed_fault}
 use Rattle.unit_packets.specs.declared.header.BlockFault.{BlockFault}
 use Rattle.session_ends.specs.declared.closed.Closed.{Closed}
 use Rattle.session_ends.specs.declared.closed.CloseCause.{CloseCause}
-use Rattle.session_ends.specs.declared.closed.CloseCause.TheVariants.{Block as FaultyBlock, Sequenced}
+use Rattle.session_ends.specs.declared.closed.CloseCause.TheVariants.{Block as FaultyBlock}
+use Rattle.session_ends.specs.declared.closed.CloseCause.TheVariants.{Sequenced}
 use Rattle.session_ends.specs.declared.inbox.Heard.{Heard}
 use Rattle.session_ends.specs.declared.inbox.Heard.TheVariants.{Message, BlockEnd, Broken}
 
@@ -22,7 +24,8 @@ onward place size = counted (place + size)
 -- the messages of a block from a place on, and the block's end
 abbrev pub messages_from : ℕ → List (List ℕ) → List Heard
 messages_from place [] = BlockEnd ∷ []
-messages_from place (raw ∷ raws) = Message place raw ∷ messages_from (onward place (length raw)) raws
+messages_from place (raw ∷ raws) =
+    Message place raw ∷ messages_from (onward place (length raw)) raws
 
 -- how many bytes a block has ("Sequenced Unit Header")
 abbrev pub block_size : Block → ℕ
@@ -30,11 +33,14 @@ block_size block = 8 + length (concat block.raws)
 
 -- all traffic of a session is unsequenced: a block with a sequence breaks the stream
 abbrev pub block_items : ℕ → Block → List Heard
-block_items place block = if block.sequence == 0 then messages_from (onward place 8) block.raws else Broken (closed_at Sequenced place) ∷ []
+block_items place block =
+    if block.sequence == 0 then messages_from (onward place 8) block.raws
+    else Broken (closed_at Sequenced place) ∷ []
 
 abbrev pub stream_items_from : ℕ → List Block → List Heard
 stream_items_from place [] = []
-stream_items_from place (block ∷ blocks) = block_items place block ++ stream_items_from (onward place (block_size block)) blocks
+stream_items_from place (block ∷ blocks) =
+    block_items place block ++ stream_items_from (onward place (block_size block)) blocks
 
 -- a fault that more bytes do not mend breaks it too
 abbrev pub trouble : Option BlockFault → List Heard

@@ -1,12 +1,14 @@
 -- What a message says to an end.
-use Rattle.std.specs.Prelude.{ℕ, Bool, true, false, ◌||◌, ◌==◌, List, Result, Ok, Err, if◌then◌else◌}
+use Rattle.std.specs.Prelude.{ℕ, Bool, true, false, ◌||◌, ◌==◌, List, Result, Ok, Err}
+use Rattle.std.specs.Prelude.{if◌then◌else◌}
 use Rattle.pitch_messages.specs.Raw.{kind_of}
 use Rattle.pitch_messages.specs.Session.{session_reads}
 use Rattle.pitch_messages.specs.declared.session.SessionMessage.{SessionMessage}
 use Rattle.pitch_messages.specs.declared.session.SessionMessage.TheVariants.{Login}
 use Rattle.pitch_messages.specs.declared.session.SessionError.{SessionError}
 use Rattle.session_ends.specs.declared.role.Role.{Role}
-use Rattle.session_ends.specs.declared.role.Role.TheVariants.{GrpServer, SpinServer, GapLink, SpinLink}
+use Rattle.session_ends.specs.declared.role.Role.TheVariants.{GrpServer, SpinServer, GapLink}
+use Rattle.session_ends.specs.declared.role.Role.TheVariants.{SpinLink}
 use Rattle.session_ends.specs.declared.role.Said.{Said}
 use Rattle.session_ends.specs.declared.role.Said.TheVariants.{Skipped, TooShort, Message}
 use Rattle.session_ends.specs.declared.inbox.Heard.{Heard}

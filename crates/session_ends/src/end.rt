@@ -1,4 +1,5 @@
-ghost use Rattle.std.specs.Prelude.{◌≡◌, ℕ, ◌+◌, ◌≤◌, ◌||◌, Bool, List, ◌++◌, OnOk, OnErr, IsOk, IfOk, length, IfSome, None, Some, is_some, if◌then◌else◌};
+ghost use Rattle.std.specs.Prelude.{◌≡◌, ℕ, ◌+◌, ◌≤◌, ◌||◌, Bool, List, ◌++◌, OnOk, OnErr, IsOk};
+ghost use Rattle.std.specs.Prelude.{IfOk, length, IfSome, None, Some, is_some, if◌then◌else◌};
 ghost use Rattle.std.specs.List.{list_any};
 ghost use Rattle.unit_packets.specs.Causes.{counted};
 ghost use Rattle.unit_packets.specs.Reading.{loaded, passed};
@@ -6,8 +7,10 @@ ghost use Rattle.session_ends.specs.declared.inbox.Heard.TheVariants.{Message};
 ghost use Rattle.std.specs.Option.{option_map};
 ghost use Rattle.pitch_messages.specs.declared.session.SessionMessage.{SessionMessage};
 ghost use Rattle.session_ends.specs.declared.closed.CloseCause.TheVariants.{Memory};
-ghost use Rattle.session_ends.specs.Closing.{has_sub, is_theirs, login_status, cause_of, cause_of_said, logs_in, refused, too_early};
-ghost use Rattle.session_ends.specs.Ending.{EndKnows, Known, known_ticked, tick_bytes, nothing_known};
+ghost use Rattle.session_ends.specs.Closing.{has_sub, is_theirs, login_status, cause_of};
+ghost use Rattle.session_ends.specs.Closing.{cause_of_said, logs_in, refused, too_early};
+ghost use Rattle.session_ends.specs.Ending.{EndKnows, Known, known_ticked, tick_bytes};
+ghost use Rattle.session_ends.specs.Ending.{nothing_known};
 ghost use Rattle.session_ends.specs.Items.{closed_at};
 ghost use Rattle.session_ends.specs.Saying.{heard_by};
 ghost use Rattle.session_ends.specs.Sending.{header_unit, sent_bytes, heartbeat_bytes, some_bytes};
@@ -49,7 +52,12 @@ impl Model for End {
     ghost Value = { Ending };
 
     ghost view = { λ e. record {
-      setup = record { role = e.role; unit = e.unit; accounts = e.accounts.items; in_use = e.in_use };
+      setup = record {
+        role = e.role;
+        unit = e.unit;
+        accounts = e.accounts.items;
+        in_use = e.in_use;
+      };
       inbox = e.inbox;
       logged = e.logged;
       closed = e.closed;
@@ -137,7 +145,8 @@ impl End {
     pub fn make(alloc: Global, role: Role, unit: u8, accounts: Vec<Account>, in_use: bool) -> End
         // Of an end to which nothing happened.
         ensures stands { EndKnows result (nothing_known role) }
-        ensures setup { result.setup ≡ record { role = role; unit = unit; accounts = accounts.items; in_use = in_use } }
+        ensures setup { result.setup
+            ≡ record { role = role; unit = unit; accounts = accounts.items; in_use = in_use } }
         ensures open { result.closed ≡ None }
     {
         End {
@@ -249,8 +258,10 @@ impl End {
     #[inline(always)]
     fn judge_message(&mut self, place: u64, raw: &LentRaw<'_>)
         requires { self.old.closed ≡ None }
-        ensures closed { self.new.closed ≡ cause_of self.old.setup self.old.logged (Message place raw.now) }
-        ensures logged { self.new.logged ≡ (self.old.logged || logs_in self.old.setup.role (Message place raw.now)) }
+        ensures closed { self.new.closed
+            ≡ cause_of self.old.setup self.old.logged (Message place raw.now) }
+        ensures logged { self.new.logged
+            ≡ (self.old.logged || logs_in self.old.setup.role (Message place raw.now)) }
         ensures rest { self.new ≡ record self.old { closed = self.new.closed; logged = self.new.logged } }
     {
         let said = self.role.said(raw);
@@ -264,7 +275,8 @@ impl End {
     pub fn judge(&mut self, item: &Heard<'_>)
         requires { self.old.closed ≡ None }
         ensures closed { self.new.closed ≡ cause_of self.old.setup self.old.logged item.now }
-        ensures logged { self.new.logged ≡ (self.old.logged || logs_in self.old.setup.role item.now) }
+        ensures logged { self.new.logged
+            ≡ (self.old.logged || logs_in self.old.setup.role item.now) }
         ensures rest { self.new ≡ record self.old { closed = self.new.closed; logged = self.new.logged } }
     {
         match item {
@@ -292,7 +304,9 @@ impl End {
     #[inline(always)]
     pub fn put_back(&mut self, reader: BlockReader, count: usize)
         requires { count ≤ length reader.rest }
-        ensures { self.new ≡ record self.old { inbox = record { reading = passed reader count; fed = self.old.inbox.fed } } }
+        ensures { self.new ≡ record self.old {
+          inbox = record { reading = passed reader count; fed = self.old.inbox.fed };
+        } }
     {
         self.inbox.put_back(reader, count);
     }
@@ -325,7 +339,8 @@ impl End {
 
     // Appends a heartbeat. The bytes are as before after OutOfMemory.
     fn put_heartbeat(&self, out: &mut Vec<u8>) -> Result<(), OutOfMemory>
-        ensures ok { OnOk result (out.new.items ≡ out.old.items ++ heartbeat_bytes (header_unit self.now.setup.role self.now.setup.unit)) }
+        ensures ok { OnOk result (out.new.items ≡ out.old.items
+            ++ heartbeat_bytes (header_unit self.now.setup.role self.now.setup.unit)) }
         ensures err { OnErr result (out.new.items ≡ out.old.items) }
     {
         out.extend_from_slice(&heartbeat(self.header_unit(), 0))?;
@@ -337,14 +352,18 @@ impl End {
     /// does nothing. After OutOfMemory it is closed with Memory, and the bytes are as before.
     pub fn tick(&mut self, out: &mut Vec<u8>) -> Result<(), OutOfMemory>
         // Of all that was known of its events: the tick is known too.
-        ensures stands { OnOk result ((k : Known) → EndKnows self.old k → EndKnows self.new (known_ticked k)) }
+        ensures stands { OnOk result
+            ((k : Known) → EndKnows self.old k → EndKnows self.new (known_ticked k)) }
         // Of all that was known of its events: what a tick then sends was appended.
-        ensures says { OnOk result ((k : Known) → EndKnows self.old k → out.new.items ≡ out.old.items ++ tick_bytes self.old.setup k) }
+        ensures says { OnOk result ((k : Known)
+            → EndKnows self.old k → out.new.items ≡ out.old.items ++ tick_bytes self.old.setup k) }
         ensures setup { self.new.setup ≡ self.old.setup }
-        ensures err_closed { OnErr result (self.new.closed ≡ Some (closed_at Memory self.old.inbox.fed)) }
+        ensures err_closed { OnErr result
+            (self.new.closed ≡ Some (closed_at Memory self.old.inbox.fed)) }
         ensures err_out { OnErr result (out.new.items ≡ out.old.items) }
         ensures shut { IfSome self.old.closed (λ c. self.new ≡ self.old) }
-        ensures shut_ok { IfSome self.old.closed (λ c. IsOk result × (out.new.items ≡ out.old.items)) }
+        ensures shut_ok { IfSome self.old.closed
+            (λ c. IsOk result × (out.new.items ≡ out.old.items)) }
     {
         if self.closed.is_some() {
             return Ok(());

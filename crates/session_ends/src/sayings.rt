@@ -1,4 +1,5 @@
-ghost use Rattle.std.specs.Prelude.{◌≡◌, ◌∷◌, [], true, false, None, Some, Err, is_some, drop, MatchOption};
+ghost use Rattle.std.specs.Prelude.{◌≡◌, ◌∷◌, [], true, false, None, Some, Err, is_some, drop};
+ghost use Rattle.std.specs.Prelude.{MatchOption};
 ghost use Rattle.unit_packets.specs.Cutting.{fault_from};
 ghost use Rattle.unit_packets.specs.Judging.{judge};
 ghost use Rattle.unit_packets.specs.Lending.{StandsFirst};
@@ -22,7 +23,8 @@ fn onward(place: u64, size: usize) -> u64
 // What a fault says that more bytes do not mend.
 #[inline(always)]
 fn trouble<'a>(place: u64, error: BlockError) -> Option<Heard<'a>>
-    ensures { MatchOption result (trouble (fault_from false place (Err error)) ≡ []) (λ item. trouble (fault_from false place (Err error)) ≡ item ∷ []) }
+    ensures { MatchOption result (trouble (fault_from false place (Err error)) ≡ [])
+        (λ item. trouble (fault_from false place (Err error)) ≡ item ∷ []) }
 {
     if error.is_truncated() {
         return None;
@@ -154,7 +156,8 @@ impl<'a> Sayings<'a> {
     #[inline(always)]
     fn next_block(&mut self) -> Option<Heard<'a>>
         requires { self.old.inside ≡ false }
-        ensures says { MatchOption result ((says self.old ≡ []) × (is_some self.new.stop ≡ true)) (λ item. says self.old ≡ item ∷ says self.new) }
+        ensures says { MatchOption result ((says self.old ≡ []) × (is_some self.new.stop ≡ true))
+            (λ item. says self.old ≡ item ∷ says self.new) }
         ensures bytes { self.new.bytes ≡ self.old.bytes }
     {
         if self.stop.is_some() {
@@ -169,7 +172,8 @@ impl<'a> Sayings<'a> {
     /// What is said next, or None where nothing more is.
     #[inline(always)]
     pub fn next_item(&mut self) -> Option<Heard<'a>>
-        ensures says { MatchOption result ((says self.old ≡ []) × (is_some self.new.stop ≡ true)) (λ item. says self.old ≡ item ∷ says self.new) }
+        ensures says { MatchOption result ((says self.old ≡ []) × (is_some self.new.stop ≡ true))
+            (λ item. says self.old ≡ item ∷ says self.new) }
         ensures bytes { self.new.bytes ≡ self.old.bytes }
     {
         if self.inside {

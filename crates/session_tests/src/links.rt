@@ -147,8 +147,8 @@ fn told_and_hostile(rt: HostRuntime) {
     all_are_told(&rt, rt.alloc(), &CASES);
 }
 
-// How many bytes a link has sent after each of five silent ticks. The login counts as sent since the
-// making, and a request, made after the second, as sent after its tick.
+// How many bytes a link has sent after each of five silent ticks. The login counts as sent since
+// the making, and a request, made after the second, as sent after its tick.
 const LENGTHS: [usize; 5] = [30, 55, 55, 63, 63];
 
 fn tick_five(rt: &impl Abort, link: &mut GapLink, sent: &mut Vec<u8>, lengths: &[usize; 5]) {

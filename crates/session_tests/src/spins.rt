@@ -89,8 +89,8 @@ fn image_of_twelve(rt: &impl Abort, alloc: Global) -> Vec<u8> {
     image
 }
 
-// What follows the image: that it has finished, the sequence that was told of while it was sent, and
-// at the second tick a heartbeat.
+// What follows the image: that it has finished, the sequence that was told of while it was sent,
+// and at the second tick a heartbeat.
 const AFTER_IMAGE: &[u8] = b"\x0e\0\x01\x01\0\0\0\0\x06\x83\x0c\0\0\0\
     \x0e\0\x01\x01\0\0\0\0\x06\x80\x0c\0\0\0\x08\0\0\x01\0\0\0\0";
 

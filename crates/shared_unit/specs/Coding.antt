@@ -14,12 +14,14 @@ abbrev pub operation_raw : Operation → Option (List ℕ)
 operation_raw (Accept raw) = Some raw
 operation_raw Advertise = None
 
-abbrev pub operation_back : (operation : Operation) → operation_from (operation_raw operation) ≡ operation
+abbrev pub operation_back : (operation : Operation)
+    → operation_from (operation_raw operation) ≡ operation
 operation_back (Accept raw) = refl
 operation_back Advertise = refl
 
 abbrev pub operation_code : Coded Operation
-operation_code = code_by (Option (List ℕ)) (coded_option (coded_list coded_ℕ)) operation_raw operation_from operation_back
+operation_code = code_by (Option (List ℕ))
+    (coded_option (coded_list coded_ℕ)) operation_raw operation_from operation_back
 
 abbrev pub history_code : Coded (List Operation)
 history_code = coded_list operation_code
@@ -36,21 +38,29 @@ moment_parts (Doing operation) = (Some (operation_raw operation), None)
 moment_parts Publishing = (None, None)
 moment_parts (Answering server) = (None, Some server)
 
-abbrev pub moment_back : (moment : Moment) → moment_from (moment_parts moment).0 (moment_parts moment).1 ≡ moment
+abbrev pub moment_back : (moment : Moment)
+    → moment_from (moment_parts moment).0 (moment_parts moment).1 ≡ moment
 moment_back (Doing (Accept raw)) = refl
 moment_back (Doing Advertise) = refl
 moment_back Publishing = refl
 moment_back (Answering server) = refl
 
 abbrev pub moment_code : Coded Moment
-moment_code = code_by (Option (Option (List ℕ)) × Option ℕ) (coded× (coded_option (coded_option (coded_list coded_ℕ))) (coded_option coded_ℕ)) moment_parts (λ (p : Option (Option (List ℕ)) × Option ℕ). moment_from p.0 p.1) moment_back
+moment_code = code_by (Option (Option (List ℕ)) × Option ℕ)
+    (coded× (coded_option (coded_option (coded_list coded_ℕ))) (coded_option coded_ℕ)) moment_parts
+    (λ (p : Option (Option (List ℕ)) × Option ℕ). moment_from p.0 p.1) moment_back
 
 abbrev pub moments_code : Coded (List Moment)
 moments_code = coded_list moment_code
 
 abbrev pub account_code : Coded Account
-account_code = code_by (List Operation × List Moment) (coded× history_code moments_code) (λ (a : Account). (a.history, a.moments)) (λ (p : List Operation × List Moment). record { history = p.0; moments = p.1 }) (λ _. refl)
+account_code = code_by (List Operation × List Moment)
+    (coded× history_code moments_code) (λ (a : Account). (a.history, a.moments))
+    (λ (p : List Operation × List Moment). record { history = p.0; moments = p.1 }) (λ _. refl)
 
 abbrev pub sight_code : Coded Sight
-sight_code = code_by ((ℕ × Bool) × (List Operation × List Moment)) (coded× (coded× coded_ℕ coded_bool) (coded× history_code moments_code)) (λ (s : Sight). ((s.number, s.cut_off), (s.history, s.moments)))
-    (λ (p : (ℕ × Bool) × (List Operation × List Moment)). record { number = p.0.0; cut_off = p.0.1; history = p.1.0; moments = p.1.1 }) (λ _. refl)
+sight_code = code_by ((ℕ × Bool) × (List Operation × List Moment))
+    (coded× (coded× coded_ℕ coded_bool) (coded× history_code moments_code))
+    (λ (s : Sight). ((s.number, s.cut_off), (s.history, s.moments)))
+    (λ (p : (ℕ × Bool) × (List Operation × List Moment)).
+    record { number = p.0.0; cut_off = p.0.1; history = p.1.0; moments = p.1.1 }) (λ _. refl)

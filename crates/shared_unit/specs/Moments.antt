@@ -1,10 +1,11 @@
 -- All that happens to a shared unit, in one order, and what each end knows of it.
-use Rattle.std.specs.Prelude.{◌≡◌, ℕ, ◌≤◌, Bool, false, List, [], ◌∷◌, ◌++◌, length, flat_map, sum_by, slice_get, IfSome}
+use Rattle.std.specs.Prelude.{◌≡◌, ℕ, ◌≤◌, Bool, false, List, [], ◌∷◌, ◌++◌, length, flat_map}
+use Rattle.std.specs.Prelude.{sum_by, slice_get, IfSome}
 use mathlib.Core.List.{IsPrefix}
 use Rattle.pitch_model.specs.Advertising.{Operation}
 
--- the writer does an operation; it publishes the oldest that it has not published yet; or the server
--- with this number begins an answer
+-- the writer does an operation; it publishes the oldest that it has not published yet; or the
+-- server with this number begins an answer
 pub data Moment : Type 0 where
   Doing : (operation : Operation) → Moment
   Publishing : Moment
@@ -62,7 +63,8 @@ pub record IsNew (server : Sight) : Type 0 where
 
 -- the number of each is its place, from 0
 abbrev pub AreNumbered : List Sight → Type 0
-AreNumbered servers = (place : ℕ) → IfSome (slice_get servers place) (λ server. server.number ≡ place)
+AreNumbered servers =
+    (place : ℕ) → IfSome (slice_get servers place) (λ server. server.number ≡ place)
 
 -- the server with this number began an answer after all that it had seen and something. The history
 -- which it answers from has at least what was published by then, and is the beginning of what was

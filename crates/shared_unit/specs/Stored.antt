@@ -1,5 +1,7 @@
--- What is published: the last messages, and the images of the last ten sequences that were advertised.
-use Rattle.std.specs.Prelude.{◌≡◌, ℕ, ◌+◌, ◌==◌, ◌<◌, ◌≤◌, false, true, List, [], ◌∷◌, ◌++◌, length, map, Option, None, Some, IfSome, nat_eq, if◌then◌else◌}
+-- What is published: the last messages, and the images of the last ten sequences that were
+-- advertised.
+use Rattle.std.specs.Prelude.{◌≡◌, ℕ, ◌+◌, ◌==◌, ◌<◌, ◌≤◌, false, true, List, [], ◌∷◌, ◌++◌, length}
+use Rattle.std.specs.Prelude.{map, Option, None, Some, IfSome, nat_eq, if◌then◌else◌}
 use Rattle.std.specs.List.{AllByRecursion}
 use Rattle.std.specs.Option.{option_map}
 use Rattle.std.specs.Set.{is_member}
@@ -7,7 +9,8 @@ use Rattle.std.specs.Arc.{arc_value}
 use Rattle.circular_buffer.specs.Buffer.{buffer, keep_last}
 use Rattle.gap_store.specs.Look.{View, store_of}
 use Rattle.pitch_fields.specs.Limits.{last_sequence}
-use Rattle.pitch_model.specs.Advertising.{Operation, Accept, Advertise, accepted_by, advertised_by, last_ten}
+use Rattle.pitch_model.specs.Advertising.{Operation, Accept, Advertise, accepted_by, advertised_by}
+use Rattle.pitch_model.specs.Advertising.{last_ten}
 use Rattle.pitch_model.specs.History.{adds}
 use Rattle.pitch_model.specs.Image.{image}
 use Rattle.pitch_messages.specs.Room.{Roomy}
@@ -54,9 +57,11 @@ served_with served what.Again = served
 -- advertised before; or that sequence again, where it was
 abbrev pub ComesAfter : What → List Operation → Type 0
 ComesAfter (what.Message raw) before = Unit {0}
-ComesAfter (what.Image picture) before = IsPicture (accepted_by before) picture × (picture.sequence ≡ length (accepted_by before))
+ComesAfter (what.Image picture) before =
+    IsPicture (accepted_by before) picture × (picture.sequence ≡ length (accepted_by before))
     × (is_member nat_eq (advertised_by before) picture.sequence ≡ false)
-ComesAfter what.Again before = is_member nat_eq (advertised_by before) (length (accepted_by before)) ≡ true
+ComesAfter what.Again before =
+    is_member nat_eq (advertised_by before) (length (accepted_by before)) ≡ true
 
 -- there are sequences for all messages
 abbrev pub HasSequences : List Operation → Type 0
@@ -77,7 +82,8 @@ EndsOrIsNothing (Some published) history = EndsWith published history
 -- ---- What a copy keeps
 -- nothing was accepted or advertised
 abbrev pub AreBlank : ℕ → Shelves → Type 0
-AreBlank kept shelves = (shelves.gaps ≡ store_of (kept_at kept [])) × (shelves.pictures ≡ buffer [] 10)
+AreBlank kept shelves =
+    (shelves.gaps ≡ store_of (kept_at kept [])) × (shelves.pictures ≡ buffer [] 10)
 
 -- what is kept stands for a history: the last messages, and the images of the last ten sequences
 pub record StandFor (kept : ℕ) (shelves : Shelves) (history : List Operation) : Type 0 where
@@ -95,12 +101,14 @@ HasRoomFor what.Again shelves = Unit {0}
 -- what is published was taken in
 abbrev pub IsTakenIn : What → Shelves → Shelves → Type 0
 IsTakenIn (what.Message raw) old new =
-    ((v : View) → old.gaps ≡ store_of v → new.gaps ≡ store_of (record { messages = v.messages ++ raw ∷ []; kept = v.kept })) × (new.pictures ≡ old.pictures)
+    ((v : View) → old.gaps ≡ store_of v → new.gaps ≡ store_of
+    (record { messages = v.messages ++ raw ∷ []; kept = v.kept })) × (new.pictures ≡ old.pictures)
 IsTakenIn (what.Image picture) old new =
-    (new.gaps ≡ old.gaps) × ((q : Picture) × SamePicture picture q × (new.pictures ≡ buffer (keep_last old.pictures.capacity (old.pictures.items ++ q ∷ [])) old.pictures.capacity))
+    (new.gaps ≡ old.gaps) × ((q : Picture) × SamePicture picture q × (new.pictures ≡ buffer
+    (keep_last old.pictures.capacity (old.pictures.items ++ q ∷ [])) old.pictures.capacity))
 IsTakenIn what.Again old new = new ≡ old
 
--- what a published operation makes of the history of a copy: the history that it ends, where that is
--- the copy's with one operation more
+-- what a published operation makes of the history of a copy: the history that it ends, where that
+-- is the copy's with one operation more
 abbrev pub grown_by : List Operation → List Operation → List Operation
 grown_by history published = if length published == length history + 1 then published else history

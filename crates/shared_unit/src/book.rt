@@ -1,6 +1,7 @@
-//! All that happens, which is known to proofs alone: what threads share of it is how many operations
-//! were done, and how many of them were published.
-ghost use Rattle.std.specs.Prelude.{◌≡◌, ◌+◌, ◌==◌, ◌<◌, ◌≤◌, ◌^◌, ◌++◌, ◌∷◌, ◌⊎◌, [], length, MatchBool, IfOk, IfSome};
+//! All that happens, which is known to proofs alone: what threads share of it is how many
+//! operations were done, and how many of them were published.
+ghost use Rattle.std.specs.Prelude.{◌≡◌, ◌+◌, ◌==◌, ◌<◌, ◌≤◌, ◌^◌, ◌++◌, ◌∷◌, ◌⊎◌, [], length};
+ghost use Rattle.std.specs.Prelude.{MatchBool, IfOk, IfSome};
 ghost use mathlib.Core.List.{IsPrefix};
 ghost use Rattle.pitch_fields.specs.Limits.{most_held};
 ghost use Rattle.shared_unit.specs.Histories.{IsLegal, then_done};
@@ -34,8 +35,8 @@ impl Model for Entry {
     ghost view = { λ e. moment_from e.operation e.server };
 }
 
-/// The rule of what happens: the history is as long as the first shared word says, and legal for its
-/// run; so many of its operations were published as the second says.
+/// The rule of what happens: the history is as long as the first shared word says, and legal for
+/// its run; so many of its operations were published as the second says.
 pub struct Law<R: Run> {
     of: PhantomData<R>,
 }
@@ -156,7 +157,8 @@ impl<R: Run> Opened<R> {
         requires most { kept ≤ most_held }
         requires some { 1 ≤ servers }
         requires few { servers ≤ 8 }
-        ensures as_asked { IfOk result (λ opened. (opened.unit ≡ unit) × (opened.kept ≡ kept) × (opened.servers ≡ servers)) }
+        ensures as_asked { IfOk result
+            (λ opened. (opened.unit ≡ unit) × (opened.kept ≡ kept) × (opened.servers ≡ servers)) }
     {
         let first = Shelves::make(alloc, kept)?;
         let second = Shelves::make(alloc, kept)?;
@@ -256,7 +258,8 @@ impl<J: Naming, R: Run> Model for Front<J, R> {
 
     ghost view = { λ f. history_in f.seen.log };
 
-    ghost invariant = { λ f. (f.count ≡ length (history_in f.seen.log)) × (f.seen.book ≡ J.book) × IsLegal R.fixed R.plan (history_in f.seen.log) };
+    ghost invariant = { λ f. (f.count ≡ length (history_in f.seen.log))
+        × (f.seen.book ≡ J.book) × IsLegal R.fixed R.plan (history_in f.seen.log) };
 }
 
 impl<J: Naming, R: Run> Front<J, R> {
@@ -281,7 +284,8 @@ impl<J: Naming, R: Run> Front<J, R> {
 
     // Whether this front is the longer one. Of two fronts the shorter begins the other.
     pub(crate) fn covers(&self, other: &Front<J, R>) -> bool
-        ensures { MatchBool result (IsPrefix other.now self.now) (IsPrefix self.now other.now × (length self.now < length other.now)) }
+        ensures { MatchBool result (IsPrefix other.now self.now)
+            (IsPrefix self.now other.now × (length self.now < length other.now)) }
     {
         let mut both = self.seen.again();
         both.learn(&other.seen);

@@ -18,7 +18,8 @@ use std::alloc::Global;
 use std::marker::Model;
 use std::sync::{Arc, Wait};
 
-// The pair of copies, the words that are shared and what is known of them. Contracts see the history.
+// The pair of copies, the words that are shared and what is known of them. Contracts see the
+// history.
 #[derive(Drop)]
 pub(crate) struct Desk<J: Naming, R: Run, W: Wait + Drop> {
     holder: Holder<Store<J, R>, Published<J, R>, W>,
@@ -42,7 +43,8 @@ impl<J: Naming, R: Run, W: Wait + Drop> Model for Desk<J, R, W> {
 
     ghost view = { λ d. d.past };
 
-    ghost invariant = { λ d. (d.holder.0 ≡ d.past) × (d.holder.1 ≡ []) × (d.none ≡ []) × (d.shut ≡ []) × (length d.past ≤ published_in d.eye) };
+    ghost invariant = { λ d. (d.holder.0 ≡ d.past) × (d.holder.1 ≡ [])
+        × (d.none ≡ []) × (d.shut ≡ []) × (length d.past ≤ published_in d.eye) };
 }
 
 impl<J: Naming, R: Run, W: Wait + Drop> Desk<J, R, W> {
@@ -100,7 +102,8 @@ impl<J: Naming, R: Run, W: Wait + Drop> Desk<J, R, W> {
         requires legal { IsLegal R.fixed R.plan (then_done self.old (operation_of what)) }
         requires follows { ComesAfter what self.old }
         requires few { HasSequences (then_done self.old (operation_of what)) }
-        ensures { MatchResult result (λ _. self.new ≡ then_done self.old (operation_of what)) (λ _. self.new ≡ self.old) }
+        ensures { MatchResult result
+            (λ _. self.new ≡ then_done self.old (operation_of what)) (λ _. self.new ≡ self.old) }
     {
         let Some(past) = self.past.extended(&*self.book, &what) else {
             return Err(OutOfMemory);

@@ -44,7 +44,8 @@ impl<T: Absorb<O> + Drop, O: Drop, W: Wait + Drop> Holder<T, O, W> {
     pub(crate) fn push(&mut self, operation: O) -> Result<(), AllocError>
         requires idle { self.old.1 ≡ [] }
         requires sure { T.never_fails }
-        ensures { MatchResult result (λ _. (T.state self.new.0 ≡ T.applied (T.state self.old.0) operation) × (self.new.1 ≡ [])) (λ _. self.new ≡ self.old) }
+        ensures { MatchResult result (λ _. (T.state self.new.0 ≡ T.applied
+            (T.state self.old.0) operation) × (self.new.1 ≡ [])) (λ _. self.new ≡ self.old) }
     {
         if self.inner.append(operation).is_err() {
             return Err(AllocError);

@@ -5,9 +5,9 @@
 //!
 //! A history is a list of operations: a message was accepted, or the newest sequence was
 //! advertised. It is part of the list of all that happens: an operation is done, it is published, a
-//! server begins an answer. [`make`] gives the [`Writer`] and the [`Server`]s, with the empty history. A
-//! [`Told`], which [`Writer::tell`] gives and which may go to another thread, lets a server answer
-//! from no earlier than it was told.
+//! server begins an answer. [`make`] gives the [`Writer`] and the [`Server`]s, with the empty
+//! history. A [`Told`], which [`Writer::tell`] gives and which may go to another thread, lets a
+//! server answer from no earlier than it was told.
 #![tactic(auto)]
 
 mod book;

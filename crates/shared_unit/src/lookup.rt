@@ -24,9 +24,12 @@ impl<J: Naming, R: Run> GapLookup for Server<J, R> {
     fn look(&mut self, first: u32, count: u16, out: &mut RawList) -> Result<Found, OutOfMemory>
         requires first { 1 ≤ first }
         requires count { 1 ≤ count }
-        ensures found { IfOk result (λ found. (v : View) → v ≡ kept_at J.kept self.old.history → LooksAt (λ w. w ≡ kept_at J.kept self.new.history) v first count found out.old.items out.new.items) }
+        ensures found { IfOk result
+            (λ found. (v : View) → v ≡ kept_at J.kept self.old.history → LooksAt (λ w. w
+            ≡ kept_at J.kept self.new.history) v first count found out.old.items out.new.items) }
         ensures newest { OnOk result (AnswersNewest self.old self.new) }
-        ensures within { OnOk result (first + length out.new.items ≤ (last_sequence + 1) + length out.old.items) }
+        ensures within { OnOk result
+            (first + length out.new.items ≤ (last_sequence + 1) + length out.old.items) }
         ensures err { OnErr result (out.new.items ≡ out.old.items) }
         ensures same { OnErr result (self.new ≡ self.old) }
     {
@@ -36,7 +39,8 @@ impl<J: Naming, R: Run> GapLookup for Server<J, R> {
     fn find(&mut self, first: u32, count: u16) -> Result<Found, OutOfMemory>
         requires first { 1 ≤ first }
         requires count { 1 ≤ count }
-        ensures found { IfOk result (λ found. (v : View) → v ≡ kept_at J.kept self.old.history → FindsAt (λ w. w ≡ kept_at J.kept self.new.history) v first count found) }
+        ensures found { IfOk result (λ found. (v : View) → v ≡ kept_at J.kept self.old.history
+            → FindsAt (λ w. w ≡ kept_at J.kept self.new.history) v first count found) }
         ensures newest { OnOk result (AnswersNewest self.old self.new) }
         ensures same { OnErr result (self.new ≡ self.old) }
     {
@@ -53,7 +57,9 @@ impl<J: Naming, R: Run> GapLookup for Server<J, R> {
     ) -> Result<Found, OutOfMemory>
         requires first { 1 ≤ first }
         requires count { 1 ≤ count }
-        ensures found { IfOk result (λ found. (v : View) → v ≡ kept_at J.kept self.old.history → PacksAt (λ w. w ≡ kept_at J.kept self.new.history) v unit first count found (bytes_in out.old.items) (bytes_in out.new.items)) }
+        ensures found { IfOk result (λ found. (v : View) → v ≡ kept_at J.kept self.old.history
+            → PacksAt (λ w. w ≡ kept_at J.kept self.new.history) v unit first count found
+            (bytes_in out.old.items) (bytes_in out.new.items)) }
         ensures newest { OnOk result (AnswersNewest self.old self.new) }
         ensures err { OnErr result (out.new.items ≡ out.old.items) }
         ensures same { OnErr result (self.new ≡ self.old) }
@@ -68,21 +74,25 @@ impl<J: Naming, R: Run> ImageLookup for Server<J, R> {
     ghost still = { false };
 
     fn newest(&mut self) -> Option<u32>
-        ensures sees { (v : Served) → v ≡ served_at self.old.history → SeesNewest (λ w. w ≡ served_at self.new.history) v result }
+        ensures sees { (v : Served) → v ≡ served_at self.old.history
+            → SeesNewest (λ w. w ≡ served_at self.new.history) v result }
         ensures newest { self.new.cut_off ≡ false → AnswersNewest self.old self.new }
     {
         self.available()
     }
 
     fn has_image(&mut self, sequence: u32) -> bool
-        ensures sees { (v : Served) → v ≡ served_at self.old.history → SeesServed (λ w. w ≡ served_at self.new.history) v sequence result }
+        ensures sees { (v : Served) → v ≡ served_at self.old.history
+            → SeesServed (λ w. w ≡ served_at self.new.history) v sequence result }
         ensures newest { self.new.cut_off ≡ false → AnswersNewest self.old self.new }
     {
         self.serves(sequence)
     }
 
     fn image(&mut self, sequence: u32, out: &mut RawList) -> Result<Imaged, OutOfMemory>
-        ensures found { IfOk result (λ imaged. (v : Served) → v ≡ served_at self.old.history → LooksUpImage (λ w. w ≡ served_at self.new.history) v sequence imaged out.old.items out.new.items) }
+        ensures found { IfOk result
+            (λ imaged. (v : Served) → v ≡ served_at self.old.history → LooksUpImage
+            (λ w. w ≡ served_at self.new.history) v sequence imaged out.old.items out.new.items) }
         ensures newest { OnOk result (AnswersNewest self.old self.new) }
         ensures err { OnErr result (out.new.items ≡ out.old.items) }
         ensures same { OnErr result (self.new ≡ self.old) }

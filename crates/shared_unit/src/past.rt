@@ -73,7 +73,8 @@ impl<J: Naming, R: Run> Past<J, R> {
 
     // Whether the other begins this one, which then is the longer one. Else this one begins it.
     pub(crate) fn covers(&self, other: &Past<J, R>) -> bool
-        ensures { MatchBool result (IsPrefix other.now self.now) (IsPrefix self.now other.now × (length self.now < length other.now)) }
+        ensures { MatchBool result (IsPrefix other.now self.now)
+            (IsPrefix self.now other.now × (length self.now < length other.now)) }
     {
         self.front.covers(&other.front)
     }
@@ -99,7 +100,8 @@ impl<J: Naming, R: Run> Past<J, R> {
 
     // Whether it is the newest sequence that was advertised.
     pub(crate) fn has_newest(&self, sequence: u32) -> bool
-        ensures { MatchBool result (newest_of (advertised_by self.now) ≡ Some sequence) (¬ (newest_of (advertised_by self.now) ≡ Some sequence)) }
+        ensures { MatchBool result (newest_of (advertised_by self.now) ≡ Some sequence)
+            (¬ (newest_of (advertised_by self.now) ≡ Some sequence)) }
     {
         match self.newest() {
             Some(newest) => newest == sequence,

@@ -63,14 +63,15 @@ impl From<AllocError> for MakeError {
 pub trait Places<J: Naming, R: Run, W: Wait + Drop> {
     ghost refusals: { Self → ℕ };
 
-    /// One more server of that writer, which has seen nothing. There is no place for more servers at
-    /// a time than the pair was opened for.
+    /// One more server of that writer, which has seen nothing. There is no place for more servers
+    /// at a time than the pair was opened for.
     fn place(&mut self, writer: &mut Writer<J, R, W>) -> Result<Server<J, R>, MakeError>
         ensures nothing { IfOk result IsNew }
         ensures same { writer.new ≡ writer.old }
         ensures later { refusals self.old ≤ refusals self.new }
         // No place comes only where the count rose in this call.
-        ensures cause { IfErr result (λ error. error ≡ NoPlace → Rose (refusals self.old) (refusals self.new)) };
+        ensures cause { IfErr result
+            (λ error. error ≡ NoPlace → Rose (refusals self.old) (refusals self.new)) };
 }
 
 /// The places of `left_right`. Each refusal counts, whatever it was for; the count ends at
@@ -128,7 +129,8 @@ fn place_all<J: Naming, R: Run, W: Wait + Drop, P: Places<J, R, W>>(
     ensures numbers { OnOk result (AreNumbered servers.new.items) }
     ensures count { OnOk result (length servers.new.items ≡ count) }
     ensures later { P.refusals places.old ≤ P.refusals places.new }
-    ensures cause { IfErr result (λ error. error ≡ NoPlace → Rose (P.refusals places.old) (P.refusals places.new)) }
+    ensures cause { IfErr result
+        (λ error. error ≡ NoPlace → Rose (P.refusals places.old) (P.refusals places.new)) }
 {
     'servers: for number in 0..count {
         let server = places.place(writer)?;
@@ -158,7 +160,8 @@ pub fn make<J: Naming, R: Run, W: Wait + Drop, P: Places<J, R, W>>(
     ensures count { IfOk result (λ made. length made.1.items ≡ opened.servers) }
     ensures later { P.refusals places.old ≤ P.refusals places.new }
     // No place comes only where the count of the places rose in this call.
-    ensures cause { IfErr result (λ error. error ≡ NoPlace → Rose (P.refusals places.old) (P.refusals places.new)) }
+    ensures cause { IfErr result
+        (λ error. error ≡ NoPlace → Rose (P.refusals places.old) (P.refusals places.new)) }
 {
     let (unit, count) = (opened.unit, opened.servers);
     let mut servers = Vec::new(alloc);

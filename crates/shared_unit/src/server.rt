@@ -8,7 +8,8 @@ ghost use Rattle.unit_packets.specs.Packing.{bytes_in};
 ghost use Rattle.gap_store.specs.Look.{look, AnswersLook, AnswersPack};
 ghost use Rattle.shared_unit.specs.Answers.{AnswersImage};
 ghost use Rattle.shared_unit.specs.Histories.{IsLegal, kept_at, served_at};
-ghost use Rattle.shared_unit.specs.Moments.{Answering, AnswersNewest, HappensAfter, IsNew, IsNewest};
+ghost use Rattle.shared_unit.specs.Moments.{Answering, AnswersNewest, HappensAfter, IsNew};
+ghost use Rattle.shared_unit.specs.Moments.{IsNewest};
 
 use crate::book::{Book, Eye};
 use crate::past::Past;
@@ -116,8 +117,10 @@ fn look_in<J: Naming, R: Run>(
 ) -> Result<Found, OutOfMemory>
     requires first { 1 ≤ first }
     requires count { 1 ≤ count }
-    ensures answer { IfOk result (λ found. AnswersLook (kept_at J.kept past.new) first count found out.old.items out.new.items) }
-    ensures within { OnOk result (first + length out.new.items ≤ (last_sequence + 1) + length out.old.items) }
+    ensures answer { IfOk result (λ found.
+        AnswersLook (kept_at J.kept past.new) first count found out.old.items out.new.items) }
+    ensures within { OnOk result
+        (first + length out.new.items ≤ (last_sequence + 1) + length out.old.items) }
     ensures later { IsPrefix past.old past.new }
     ensures enough { OnOk result (published ≤ length past.new) }
     ensures same { OnErr result (past.new ≡ past.old) }
@@ -161,7 +164,8 @@ fn pack_in<J: Naming, R: Run>(
 ) -> Result<Found, OutOfMemory>
     requires first { 1 ≤ first }
     requires count { 1 ≤ count }
-    ensures answer { IfOk result (λ found. AnswersPack (kept_at J.kept past.new) unit first count found (bytes_in out.old.items) (bytes_in out.new.items)) }
+    ensures answer { IfOk result (λ found. AnswersPack (kept_at J.kept past.new)
+        unit first count found (bytes_in out.old.items) (bytes_in out.new.items)) }
     ensures later { IsPrefix past.old past.new }
     ensures enough { OnOk result (published ≤ length past.new) }
     ensures same { OnErr result (past.new ≡ past.old) }
@@ -181,7 +185,8 @@ fn image_in<J: Naming, R: Run>(
     sequence: u32,
     out: &mut RawList,
 ) -> Result<Imaged, OutOfMemory>
-    ensures answer { IfOk result (λ imaged. AnswersImage (served_at past.new) sequence imaged out.old.items out.new.items) }
+    ensures answer { IfOk result
+        (λ imaged. AnswersImage (served_at past.new) sequence imaged out.old.items out.new.items) }
     ensures later { IsPrefix past.old past.new }
     ensures enough { OnOk result (published ≤ length past.new) }
     ensures same { OnErr result (past.new ≡ past.old) }
@@ -255,14 +260,16 @@ impl<J: Naming, R: Run> Server<J, R> {
         requires first { 1 ≤ first }
         requires count { 1 ≤ count }
         // The answer is right at one point of the history, and that is seen then.
-        ensures answer { IfOk result (λ found. AnswersLook (kept_at J.kept self.new.history) first count found out.old.items out.new.items) }
+        ensures answer { IfOk result (λ found. AnswersLook
+            (kept_at J.kept self.new.history) first count found out.old.items out.new.items) }
         // It is no earlier than what was published when the answer began.
         ensures newest { OnOk result (AnswersNewest self.old self.new) }
         // It is no earlier than all that was seen before.
         ensures later { IsPrefix self.old.history self.new.history }
         // Where the run fixes its messages, those accepted then are the first of them.
         ensures run { OnOk result (IsLegal R.fixed R.plan self.new.history) }
-        ensures within { OnOk result (first + length out.new.items ≤ (last_sequence + 1) + length out.old.items) }
+        ensures within { OnOk result
+            (first + length out.new.items ≤ (last_sequence + 1) + length out.old.items) }
         ensures same { OnErr result (self.new ≡ self.old) }
         ensures err { OnErr result (out.new.items ≡ out.old.items) }
     {
@@ -284,7 +291,8 @@ impl<J: Naming, R: Run> Server<J, R> {
     pub(crate) fn found(&mut self, first: u32, count: u16) -> Result<Found, OutOfMemory>
         requires first { 1 ≤ first }
         requires count { 1 ≤ count }
-        ensures answer { IfOk result (λ found. found ≡ look (kept_at J.kept self.new.history) first count) }
+        ensures answer { IfOk result
+            (λ found. found ≡ look (kept_at J.kept self.new.history) first count) }
         ensures newest { OnOk result (AnswersNewest self.old self.new) }
         ensures later { IsPrefix self.old.history self.new.history }
         ensures same { OnErr result (self.new ≡ self.old) }
@@ -312,7 +320,8 @@ impl<J: Naming, R: Run> Server<J, R> {
     ) -> Result<Found, OutOfMemory>
         requires first { 1 ≤ first }
         requires count { 1 ≤ count }
-        ensures answer { IfOk result (λ found. AnswersPack (kept_at J.kept self.new.history) unit first count found (bytes_in out.old.items) (bytes_in out.new.items)) }
+        ensures answer { IfOk result (λ found. AnswersPack (kept_at J.kept self.new.history)
+            unit first count found (bytes_in out.old.items) (bytes_in out.new.items)) }
         ensures newest { OnOk result (AnswersNewest self.old self.new) }
         ensures later { IsPrefix self.old.history self.new.history }
         ensures same { OnErr result (self.new ≡ self.old) }
@@ -344,7 +353,8 @@ impl<J: Naming, R: Run> Server<J, R> {
     /// were advertised. Server and `out` are as before after OutOfMemory.
     pub fn image(&mut self, sequence: u32, out: &mut RawList) -> Result<Imaged, OutOfMemory>
         // The answer is right at one point of the history, and that is seen then.
-        ensures answer { IfOk result (λ imaged. AnswersImage (served_at self.new.history) sequence imaged out.old.items out.new.items) }
+        ensures answer { IfOk result (λ imaged.
+            AnswersImage (served_at self.new.history) sequence imaged out.old.items out.new.items) }
         // It is no earlier than what was published when the answer began.
         ensures newest { OnOk result (AnswersNewest self.old self.new) }
         // It is no earlier than all that was seen before.
@@ -389,7 +399,8 @@ impl<J: Naming, R: Run> Server<J, R> {
 
     // Whether the image through a sequence is served.
     pub(crate) fn serves(&mut self, sequence: u32) -> bool
-        ensures answer { result ≡ list_any (λ n. n == sequence) (last_ten (advertised_by self.new.history)) }
+        ensures answer { result ≡ list_any
+            (λ n. n == sequence) (last_ten (advertised_by self.new.history)) }
         ensures newest { self.new.cut_off ≡ false → AnswersNewest self.old self.new }
         ensures later { IsPrefix self.old.history self.new.history }
     {

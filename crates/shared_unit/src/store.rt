@@ -1,5 +1,6 @@
 //! The value that is published. It knows the history that it stands for.
-ghost use Rattle.std.specs.Prelude.{◌≡◌, ◌+◌, ◌==◌, ◌<◌, ◌≤◌, ◌++◌, [], false, length, map, slice_get, IfOk, OnOk, OnErr, IfSome, IfNone, IsSomeAnd};
+ghost use Rattle.std.specs.Prelude.{◌≡◌, ◌+◌, ◌==◌, ◌<◌, ◌≤◌, ◌++◌, [], false, length, map};
+ghost use Rattle.std.specs.Prelude.{slice_get, IfOk, OnOk, OnErr, IfSome, IfNone, IsSomeAnd};
 ghost use Rattle.std.specs.List.{list_any};
 ghost use Rattle.pitch_fields.specs.Limits.{last_sequence};
 ghost use Rattle.unit_packets.specs.Packing.{bytes_in};
@@ -110,8 +111,10 @@ fn append_raws(raws: Raws<'_>, out: &mut RawList) -> Result<(), OutOfMemory>
 
 // The place of the image through a sequence.
 fn place_of(pictures: &HeapCircularBuffer<Picture>, sequence: u32) -> Option<usize>
-    ensures some { IfSome result (λ i. IsSomeAnd (slice_get pictures.now.items i) (λ p. p.sequence ≡ sequence)) }
-    ensures none { IfNone result (list_any (λ n. n == sequence) (map sequence_of pictures.now.items) ≡ false) }
+    ensures some { IfSome result
+        (λ i. IsSomeAnd (slice_get pictures.now.items i) (λ p. p.sequence ≡ sequence)) }
+    ensures none { IfNone result
+        (list_any (λ n. n == sequence) (map sequence_of pictures.now.items) ≡ false) }
 {
     'places: for i in 0..pictures.len() {
         let Some(picture) = pictures.get(i) else {
@@ -150,8 +153,10 @@ impl<J: Naming, R: Run> Store<J, R> {
     ) -> Result<Found, OutOfMemory>
         requires first { 1 ≤ first }
         requires count { 1 ≤ count }
-        ensures answer { IfOk result (λ found. AnswersLook (kept_at J.kept self.now) first count found out.old.items out.new.items) }
-        ensures within { OnOk result (first + length out.new.items ≤ (last_sequence + 1) + length out.old.items) }
+        ensures answer { IfOk result (λ found.
+            AnswersLook (kept_at J.kept self.now) first count found out.old.items out.new.items) }
+        ensures within { OnOk result
+            (first + length out.new.items ≤ (last_sequence + 1) + length out.old.items) }
         ensures err { OnErr result (out.new.items ≡ out.old.items) }
     {
         self.shelves.gaps.copy_range(first, count, out)
@@ -177,7 +182,8 @@ impl<J: Naming, R: Run> Store<J, R> {
     ) -> Result<Found, OutOfMemory>
         requires first { 1 ≤ first }
         requires count { 1 ≤ count }
-        ensures answer { IfOk result (λ found. AnswersPack (kept_at J.kept self.now) unit first count found (bytes_in out.old.items) (bytes_in out.new.items)) }
+        ensures answer { IfOk result (λ found. AnswersPack (kept_at J.kept self.now)
+            unit first count found (bytes_in out.old.items) (bytes_in out.new.items)) }
         ensures err { OnErr result (out.new.items ≡ out.old.items) }
     {
         self.shelves.gaps.pack_range(alloc, unit, first, count, out)
@@ -185,7 +191,8 @@ impl<J: Naming, R: Run> Store<J, R> {
 
     // Looks an image up. There is no memory for it where this copy could not take its share.
     pub(crate) fn image(&self, sequence: u32, out: &mut RawList) -> Result<Imaged, OutOfMemory>
-        ensures answer { IfOk result (λ imaged. AnswersImage (served_at self.now) sequence imaged out.old.items out.new.items) }
+        ensures answer { IfOk result (λ imaged.
+            AnswersImage (served_at self.now) sequence imaged out.old.items out.new.items) }
         ensures err { OnErr result (out.new.items ≡ out.old.items) }
     {
         let Some(place) = place_of(&self.shelves.pictures, sequence) else {

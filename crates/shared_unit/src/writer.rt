@@ -1,5 +1,6 @@
 //! The writer.
-ghost use Rattle.std.specs.Prelude.{◌≡◌, ◌+◌, ◌<◌, ◌^◌, [], length, Some, IfOk, MatchBool, MatchResult};
+ghost use Rattle.std.specs.Prelude.{◌≡◌, ◌+◌, ◌<◌, ◌^◌, [], length, Some, IfOk, MatchBool};
+ghost use Rattle.std.specs.Prelude.{MatchResult};
 ghost use mathlib.Core.List.{IsPrefix};
 ghost use Rattle.std.specs.Option.{option_copied};
 ghost use Rattle.pitch_model.specs.Advertising.{Accept, Advertise, accepted_by};
@@ -119,9 +120,11 @@ impl<J: Naming, R: Run, W: Wait + Drop> Writer<J, R, W> {
         requires few { length self.old < 2 ^ 63 }
         requires run { IsLegal R.fixed R.plan (then_done self.old (Accept (raw_of command.now))) }
         // The first refusal that holds after all messages of the history, or the next sequence.
-        ensures answer { IsAnswer (refusal (accepted_by self.old) command.now) (length (accepted_by self.old) + 1) result }
+        ensures answer { IsAnswer (refusal (accepted_by self.old) command.now)
+            (length (accepted_by self.old) + 1) result }
         // Just this operation is added to the history, where it is Ok.
-        ensures history { MatchResult result (λ _. self.new ≡ then_done self.old (Accept (raw_of command.now))) (λ _. self.new ≡ self.old) }
+        ensures history { MatchResult result (λ _. self.new
+            ≡ then_done self.old (Accept (raw_of command.now))) (λ _. self.new ≡ self.old) }
     {
         let raw = match self.venue.prepare(command) {
             Ok(raw) => raw,
@@ -141,7 +144,8 @@ impl<J: Naming, R: Run, W: Wait + Drop> Writer<J, R, W> {
         requires few { length self.old < 2 ^ 63 }
         ensures sequence { IfOk result (λ sequence. sequence ≡ length (accepted_by self.old)) }
         // Just this operation is added to the history, where it is Ok.
-        ensures history { MatchResult result (λ _. self.new ≡ then_done self.old Advertise) (λ _. self.new ≡ self.old) }
+        ensures history { MatchResult result
+            (λ _. self.new ≡ then_done self.old Advertise) (λ _. self.new ≡ self.old) }
     {
         // What was done is legal, and advertising accepts nothing.
         let _done = self.desk.past().len();
@@ -171,7 +175,8 @@ impl<J: Naming, R: Run, W: Wait + Drop> Writer<J, R, W> {
     /// Whether what a server has seen begins this history. It always does; but that nobody else
     /// writes is not a clause, so who rests on it asks.
     pub fn covers(&self, server: &Server<J, R>) -> bool
-        ensures { MatchBool result (IsPrefix server.now.history self.now) (IsPrefix self.now server.now.history × (length self.now < length server.now.history)) }
+        ensures { MatchBool result (IsPrefix server.now.history self.now)
+            (IsPrefix self.now server.now.history × (length self.now < length server.now.history)) }
     {
         self.desk.past().covers(&server.past)
     }

@@ -1,12 +1,14 @@
 -- A client's history over its connections to spin servers, one after another, whose bytes are only
 -- delayed or cut.
-use Rattle.std.specs.Prelude.{◌≡◌, Bool, ℕ, ◌+◌, ◌≤◌, ◌<◌, List, [], ◌∷◌, ◌++◌, length, map, replicate, Some}
+use Rattle.std.specs.Prelude.{◌≡◌, Bool, ℕ, ◌+◌, ◌≤◌, ◌<◌, List, [], ◌∷◌, ◌++◌, length, map}
+use Rattle.std.specs.Prelude.{replicate, Some}
 use Rattle.pitch_fields.specs.Limits.{last_sequence}
 use Rattle.std.specs.List.{AllByRecursion}
 use Rattle.pitch_model.specs.declared.item.Item.{Item}
 use Rattle.pitch_model.specs.declared.change.ImageEnd.TheVariants as end
 use Rattle.pitch_model.specs.Heard.{heard, image_end}
-use Rattle.pitch_model.specs.History.{Entry, Raw, Message, Next, SpinDown, Advertised, SpinReply, ImageMessages, SpinFinished, bad_image, spin_of}
+use Rattle.pitch_model.specs.History.{Entry, Raw, Message, Next, SpinDown, Advertised, SpinReply}
+use Rattle.pitch_model.specs.History.{ImageMessages, SpinFinished, bad_image, spin_of}
 use Rattle.pitch_model.specs.Honest.{Honest, message_at}
 use Rattle.pitch_model.specs.Image.{image}
 use Rattle.pitch_fields.specs.Fields.{AreBytes}
@@ -75,7 +77,10 @@ taken p (item ∷ items) = record p { told = items; history = heard item p.histo
 
 abbrev pub moved : Move → Path → Path
 moved (Serves event) p = record p { served = event ∷ p.served }
-moved (Links event) p = record p { linked = event ∷ p.linked; told = p.told ++ link_told_at p.setup.unit event p.linked }
+moved (Links event) p = record p {
+  linked = event ∷ p.linked;
+  told = p.told ++ link_told_at p.setup.unit event p.linked;
+}
 moved Takes p = taken p p.told
 moved (Cuts setup) p = begun setup (SpinDown ∷ p.history)
 moved (Hears entry) p = record p { history = entry ∷ p.history }
@@ -102,7 +107,8 @@ MayServe V event = Unit {0}
 
 -- the link is fed what the server sent, in order, in any pieces, up to any place
 abbrev pub MayLink : Path → Event Lookups → Type 0
-MayLink p (Fed bytes seen) = (later : List ℕ) × (all_said p.setup p.served ≡ (fed_of p.linked ++ bytes) ++ later)
+MayLink p (Fed bytes seen) =
+    (later : List ℕ) × (all_said p.setup p.served ≡ (fed_of p.linked ++ bytes) ++ later)
 MayLink p event = Unit {0}
 
 -- anything but what a spin server tells; the messages and heartbeats are the venue's
@@ -145,16 +151,19 @@ pub record HasWholeImages (V : List Raw) (E : List Entry) : Type 0 where
   pub never : NoneBad E
 
 abbrev pub ImagesAreWhole : Type 0
-ImagesAreWhole = (V : List Raw) (setup : Setup) (moves : List Move) → IsFeed V → AreMoves V setup moves → HasWholeImages V (path_of setup moves).history
+ImagesAreWhole = (V : List Raw) (setup : Setup) (moves : List Move)
+    → IsFeed V → AreMoves V setup moves → HasWholeImages V (path_of setup moves).history
 
 -- ---- What a caller needs besides
 -- so no change says that an image was bad
 abbrev pub NeverAnswered : Type 0
-NeverAnswered = (H : ℕ) (E : List Entry) (item : Item) (promised got : ℕ) → NoneBad (heard item E) → image_end H E item ≡ end.Bad promised got → ⊥
+NeverAnswered = (H : ℕ) (E : List Entry) (item : Item) (promised got : ℕ)
+    → NoneBad (heard item E) → image_end H E item ≡ end.Bad promised got → ⊥
 
 -- more messages take nothing away
 abbrev pub MovesStay : Type 0
-MovesStay = (V more : List Raw) (setup : Setup) (moves : List Move) → AreMoves V setup moves → AreMoves (V ++ more) setup moves
+MovesStay = (V more : List Raw) (setup : Setup) (moves : List Move)
+    → AreMoves V setup moves → AreMoves (V ++ more) setup moves
 
 -- the client may hear all that was told at once
 abbrev pub takes_all : Setup → List Move → List Move
@@ -163,23 +172,32 @@ takes_all setup moves = replicate (length (path_of setup moves).told) Takes ++ m
 abbrev pub AllAreTaken : Type 0
 AllAreTaken = (V : List Raw) (setup : Setup) (moves : List Move) → AreMoves V setup moves
     → AreMoves V setup (takes_all setup moves)
-    × (path_of setup (takes_all setup moves) ≡ record (path_of setup moves) { told = []; history = heard_all (path_of setup moves).told (path_of setup moves).history })
+    × (path_of setup (takes_all setup moves) ≡ record (path_of setup moves) {
+      told = [];
+      history = heard_all (path_of setup moves).told (path_of setup moves).history;
+    })
 
 -- a list's room for more is not heard
 abbrev pub SpareIsUnheard : Type 0
-SpareIsUnheard = (items : List Item) (E : List Entry) → heard_all (map without_spare items) E ≡ heard_all items E
+SpareIsUnheard =
+    (items : List Item) (E : List Entry) → heard_all (map without_spare items) E ≡ heard_all items E
 
 -- ---- What the two ends do
 -- it was fed a piece, and then asked for the next block: these are moves, it stands for them, what
 -- it says by them was appended, and there is more to come where a spin still runs
-pub record ServesOn (V : List Raw) (setup : Setup) (moves : List Move) (piece : List ℕ) (new : Serving) (before after : List ℕ) (more : Bool) : Type 0 where
+pub record ServesOn (V : List Raw) (setup : Setup) (moves : List Move)
+    (piece : List ℕ) (new : Serving) (before after : List ℕ) (more : Bool) : Type 0 where
   pub views : List Served
   pub are : AreMoves V setup (Serves Pumped ∷ Serves (Fed piece views) ∷ moves)
-  pub stands : SpinStands new (path_of setup (Serves Pumped ∷ Serves (Fed piece views) ∷ moves)).served
+  pub stands : SpinStands new
+      (path_of setup (Serves Pumped ∷ Serves (Fed piece views) ∷ moves)).served
   pub said : List ℕ
   pub appended : after ≡ before ++ said
-  pub says : all_said (path_of setup moves).setup (path_of setup (Serves Pumped ∷ Serves (Fed piece views) ∷ moves)).served ≡ all_said (path_of setup moves).setup (path_of setup moves).served ++ said
-  pub goes_on : more ≡ runs (path_of setup moves).setup (path_of setup (Serves Pumped ∷ Serves (Fed piece views) ∷ moves)).served
+  pub says : all_said (path_of setup moves).setup
+      (path_of setup (Serves Pumped ∷ Serves (Fed piece views) ∷ moves)).served
+      ≡ all_said (path_of setup moves).setup (path_of setup moves).served ++ said
+  pub goes_on : more ≡ runs (path_of setup moves).setup
+      (path_of setup (Serves Pumped ∷ Serves (Fed piece views) ∷ moves)).served
 
 -- a link was fed a piece, and the client heard all that it told
 abbrev pub carries : Setup → List Move → List ℕ → List Move
@@ -187,9 +205,11 @@ carries setup moves piece = takes_all setup (Links (Fed piece NoLookup) ∷ move
 
 -- these are moves, the link stands for them, and the client has heard these items, and so no bad
 -- image
-pub record CarriesOn (V : List Raw) (setup : Setup) (moves : List Move) (piece : List ℕ) (new : Ending) (items : List Item) : Type 0 where
+pub record CarriesOn (V : List Raw) (setup : Setup)
+    (moves : List Move) (piece : List ℕ) (new : Ending) (items : List Item) : Type 0 where
   pub are : AreMoves V setup (carries setup moves piece)
   pub stands : LinkStands new (path_of setup (carries setup moves piece)).linked
   pub told : (path_of setup (carries setup moves piece)).told ≡ []
-  pub heard : (path_of setup (carries setup moves piece)).history ≡ heard_all items (path_of setup moves).history
+  pub heard : (path_of setup (carries setup moves piece)).history
+      ≡ heard_all items (path_of setup moves).history
   pub whole : HasWholeImages V (heard_all items (path_of setup moves).history)

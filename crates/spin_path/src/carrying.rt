@@ -17,9 +17,11 @@ pub fn carry(link: &mut SpinLink, piece: &[u8], items: &mut ItemList) -> Result<
     // Of every feed and all moves so far, where the link stands for those at its end, the client
     // has heard all that was told, and the piece comes next of what the server said: what the link
     // did are moves too, and the client's images are whole.
-    ensures carries { OnOk result ((V : List Raw) (setup : Setup) (moves : List Move) (later : List ℕ) → IsFeed V → AreMoves V setup moves
-        → link.old.setup ≡ link_setup LinkRole (path_of setup moves).setup.unit → LinkStands link.old (path_of setup moves).linked → (path_of setup moves).told ≡ []
-        → all_said (path_of setup moves).setup (path_of setup moves).served ≡ (fed_of (path_of setup moves).linked ++ piece.now) ++ later
+    ensures carries { OnOk result ((V : List Raw) (setup : Setup) (moves : List Move)
+        (later : List ℕ) → IsFeed V → AreMoves V setup moves → link.old.setup ≡ link_setup LinkRole
+        (path_of setup moves).setup.unit → LinkStands link.old (path_of setup moves).linked
+        → (path_of setup moves).told ≡ [] → all_said (path_of setup moves).setup
+        (path_of setup moves).served ≡ (fed_of (path_of setup moves).linked ++ piece.now) ++ later
         → CarriesOn V setup moves piece.now link.new items.new.items) }
     ensures setup { link.new.setup ≡ link.old.setup }
 {

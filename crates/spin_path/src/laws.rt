@@ -1,4 +1,5 @@
-ghost use Rattle.spin_path.specs.Paths.{ImagesAreWhole, NeverAnswered, MovesStay, AllAreTaken, SpareIsUnheard};
+ghost use Rattle.spin_path.specs.Paths.{ImagesAreWhole, NeverAnswered, MovesStay, AllAreTaken};
+ghost use Rattle.spin_path.specs.Paths.{SpareIsUnheard};
 
 /// The law of images over bytes: whatever a client asks for, and wherever its connections are cut,
 /// of a spin server's bytes no image is bad, each that is finished is the image of the unit's

@@ -2,8 +2,8 @@
 //! for, however the bytes of a server are delayed and wherever they are cut, no image is bad, and
 //! each image that is finished is that of the unit's messages.
 //!
-//! Whoever runs both ends keeps the moves of a connection as a witness: [`serve`] and [`carry`] show
-//! how the clauses of the two ends add to them.
+//! Whoever runs both ends keeps the moves of a connection as a witness: [`serve`] and [`carry`]
+//! show how the clauses of the two ends add to them.
 #![tactic(auto)]
 
 mod carrying;

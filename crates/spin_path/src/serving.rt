@@ -19,9 +19,11 @@ pub fn serve(
     // Of everything that was pushed and advertised, and all moves so far, where the server stands
     // for those at its end: what it did are moves too, what it says by them was appended, and true
     // is answered exactly where a spin runs after them.
-    ensures serves { IfOk result (λ more. (operations : List Operation) (setup : Setup) (moves : List Move) → ShelfStands shelf.old operations → AreMoves (accepted_by operations) setup moves
-        → server.old.end.setup ≡ (path_of setup moves).setup → SpinStands server.old (path_of setup moves).served
-        → ServesOn (accepted_by operations) setup moves piece.now server.new down.old.items down.new.items more) }
+    ensures serves { IfOk result (λ more. (operations : List Operation)
+        (setup : Setup) (moves : List Move) → ShelfStands shelf.old operations → AreMoves
+        (accepted_by operations) setup moves → server.old.end.setup ≡ (path_of setup moves).setup
+        → SpinStands server.old (path_of setup moves).served → ServesOn (accepted_by operations)
+        setup moves piece.now server.new down.old.items down.new.items more) }
     ensures setup { OnOk result (server.new.end.setup ≡ server.old.end.setup) }
     ensures shelf { shelf.new ≡ shelf.old }
 {

@@ -18,7 +18,8 @@ is_served v sequence = list_any (λ n. n == sequence) (last_ten v.advertised)
 
 -- what looking up an image answers: the number of adds in it
 abbrev pub imaged : Served → ℕ → Imaged
-imaged v sequence = if is_served v sequence then Image (adds (image v.messages sequence)) else NotAdvertised
+imaged v sequence =
+    if is_served v sequence then Image (adds (image v.messages sequence)) else NotAdvertised
 
 -- and what it hands out
 abbrev pub image_given : Served → ℕ → List (List ℕ)
@@ -40,14 +41,16 @@ pub record SeesNewest (shown : Served → Type 0) (old : Served) (newest : Optio
   pub answer : newest ≡ newest_of now.advertised
 
 -- whether an image can be had is said of a view after the call, which is no earlier
-pub record SeesServed (shown : Served → Type 0) (old : Served) (sequence : ℕ) (served : Bool) : Type 0 where
+pub record SeesServed (shown : Served → Type 0) (old : Served) (sequence : ℕ) (served : Bool) :
+    Type 0 where
   pub now : Served
   pub later : ServedLater old now
   pub shows : shown now
   pub answer : served ≡ is_served now sequence
 
 -- an image is looked up in a view after the call, which is no earlier than that before it
-pub record LooksUpImage (shown : Served → Type 0) (old : Served) (sequence : ℕ) (answer : Imaged) (before after : List (List ℕ)) : Type 0 where
+pub record LooksUpImage (shown : Served → Type 0)
+    (old : Served) (sequence : ℕ) (answer : Imaged) (before after : List (List ℕ)) : Type 0 where
   pub now : Served
   pub later : ServedLater old now
   pub shows : shown now

@@ -1,7 +1,11 @@
 -- What the Spin Server's end of a session says.
-use Rattle.std.specs.Prelude.{◌≡◌, ℕ, Bool, ◌&&◌, ◌==◌, List, [], ◌∷◌, ◌++◌, length, Option, None, Some, is_some, is_none, if◌then◌else◌}
+use Rattle.std.specs.Prelude.{◌≡◌, ℕ, Bool, ◌&&◌, ◌==◌, List, [], ◌∷◌, ◌++◌, length, Option, None}
+use Rattle.std.specs.Prelude.{Some, is_some, is_none, if◌then◌else◌}
 use Rattle.pitch_messages.specs.declared.session.SessionMessage.{SessionMessage}
-use Rattle.pitch_messages.specs.declared.session.SessionMessage.TheVariants.{Login, LoginReply, SpinAvailable, SpinRequest, SpinReply, SpinFinished}
+use Rattle.pitch_messages.specs.declared.session.SessionMessage.TheVariants.{Login, LoginReply}
+use Rattle.pitch_messages.specs.declared.session.SessionMessage.TheVariants.{SpinAvailable}
+use Rattle.pitch_messages.specs.declared.session.SessionMessage.TheVariants.{SpinRequest, SpinReply}
+use Rattle.pitch_messages.specs.declared.session.SessionMessage.TheVariants.{SpinFinished}
 use Rattle.pitch_model.specs.History.{adds}
 use Rattle.pitch_model.specs.Image.{image}
 use Rattle.unit_packets.specs.Packing.{packed}
@@ -58,11 +62,18 @@ abbrev pub after_login : Setup → ℕ → Option ℕ → List ℕ
 after_login s status newest = if status == 65 then available_bytes s newest else []
 
 abbrev pub spin_login_answer : Setup → ℕ → Served → Option Spin → Answer (Option Spin)
-spin_login_answer s status view spin = record { reply = sent_bytes s (LoginReply status) ++ after_login s status (newest_of view.advertised); lines = []; knows = spin }
+spin_login_answer s status view spin =
+    record {
+      reply = sent_bytes s (LoginReply status)
+          ++ after_login s status (newest_of view.advertised);
+      lines = [];
+      knows = spin;
+    }
 
 -- a refused request gets its status, and no order
 abbrev pub refusal_answer : Setup → ℕ → ℕ → Option Spin → Answer (Option Spin)
-refusal_answer s sequence status spin = record { reply = sent_bytes s (SpinReply sequence 0 status); lines = []; knows = spin }
+refusal_answer s sequence status spin =
+    record { reply = sent_bytes s (SpinReply sequence 0 status); lines = []; knows = spin }
 
 -- an accepted one gets `A` with the number of adds; its image is left to be sent, packed into
 -- blocks without sequences
@@ -81,17 +92,23 @@ served_answer s view sequence None = image_answer s sequence (image view.message
 -- a request gets `O` where its sequence is not served, else `S` where a spin runs, else `A`
 -- ("Spin Response Message")
 abbrev pub spin_request_answer : Setup → Served → ℕ → Option Spin → Answer (Option Spin)
-spin_request_answer s view sequence spin = if is_served view sequence then served_answer s view sequence spin else refusal_answer s sequence 79 spin
+spin_request_answer s view sequence spin =
+    if is_served view sequence
+    then served_answer s view sequence spin else refusal_answer s sequence 79 spin
 
 -- what is answered to a message that the end reads, where a login was accepted before or not
-abbrev pub spin_message_answer : Setup → Bool → Option Spin → Served → SessionMessage → Answer (Option Spin)
-spin_message_answer s logged spin view (Login sub user password) = spin_login_answer s (login_status s logged sub user password) view spin
-spin_message_answer s logged spin view (SpinRequest sequence) = if logged then spin_request_answer s view sequence spin else no_answer spin
+abbrev pub spin_message_answer : Setup
+    → Bool → Option Spin → Served → SessionMessage → Answer (Option Spin)
+spin_message_answer s logged spin view (Login sub user password) =
+    spin_login_answer s (login_status s logged sub user password) view spin
+spin_message_answer s logged spin view (SpinRequest sequence) =
+    if logged then spin_request_answer s view sequence spin else no_answer spin
 spin_message_answer s logged spin view message = no_answer spin
 
 -- nothing is answered to what is skipped or too short
 abbrev pub spin_said_answer : Setup → Bool → Option Spin → Served → Said → Answer (Option Spin)
-spin_said_answer s logged spin view (Message message) = spin_message_answer s logged spin view message
+spin_said_answer s logged spin view (Message message) =
+    spin_message_answer s logged spin view message
 spin_said_answer s logged spin view said = no_answer spin
 
 abbrev pub spin_answer : Setup → Answerer (Option Spin) Served
@@ -99,7 +116,8 @@ spin_answer s logged spin view item = spin_said_answer s logged spin view (heard
 
 -- ---- Over events
 -- what is answered when bytes come in, each message at its view: nothing where the end was closed
-abbrev pub spin_fed_answer : Setup → List (Event (List Served)) → List ℕ → List Served → Option Spin → Answer (Option Spin)
+abbrev pub spin_fed_answer : Setup
+    → List (Event (List Served)) → List ℕ → List Served → Option Spin → Answer (Option Spin)
 spin_fed_answer s before bytes views spin =
     if is_some (closed_of s before) then no_answer spin
     else answers s (spin_answer s) (logged_in s.role before) spin views (new_items before bytes)
@@ -107,7 +125,8 @@ spin_fed_answer s before bytes views spin =
 -- the spin that was accepted and is not yet sent whole; it runs while the end is open
 abbrev pub running_spin : Setup → List (Event (List Served)) → Option Spin
 running_spin s [] = None
-running_spin s (Fed bytes views ∷ before) = (spin_fed_answer s before bytes views (running_spin s before)).knows
+running_spin s (Fed bytes views ∷ before) =
+    (spin_fed_answer s before bytes views (running_spin s before)).knows
 running_spin s (Pumped ∷ before) = pumped (running_spin s before)
 running_spin s (event ∷ before) = running_spin s before
 
@@ -123,9 +142,13 @@ tell_bytes s logged None sequence = if logged then sent_bytes s (SpinAvailable s
 
 -- what is sent at an event that is no tick
 abbrev pub spin_sends : Setup → Event (List Served) → List (Event (List Served)) → List ℕ
-spin_sends s (Fed bytes views) before = (spin_fed_answer s before bytes views (running_spin s before)).reply
-spin_sends s Pumped before = if is_some (closed_of s before) then [] else pump_bytes s (running_spin s before)
-spin_sends s (Told sequence) before = if is_some (closed_of s before) then [] else tell_bytes s (logged_in s.role before) (running_spin s before) sequence
+spin_sends s (Fed bytes views) before =
+    (spin_fed_answer s before bytes views (running_spin s before)).reply
+spin_sends s Pumped before =
+    if is_some (closed_of s before) then [] else pump_bytes s (running_spin s before)
+spin_sends s (Told sequence) before =
+    if is_some (closed_of s before)
+    then [] else tell_bytes s (logged_in s.role before) (running_spin s before) sequence
 spin_sends s event before = []
 
 -- ---- What the server keeps
@@ -141,7 +164,8 @@ pub record SpinStands (v : Serving) (es : List (Event (List Served))) : Type 0 w
 -- what feeding does: it stands for one event more, and what it answers was appended; the messages
 -- were answered at views that rise from that of the call to that after it, one for each message and
 -- each end of a block
-pub record SpinFeeds (es : List (Event (List Served))) (bytes : List ℕ) (old new : Serving) (view : Served) (shown : Served → Type 0) (reply reply' : List ℕ) : Type 0 where
+pub record SpinFeeds (es : List (Event (List Served))) (bytes : List ℕ) (old new : Serving)
+    (view : Served) (shown : Served → Type 0) (reply reply' : List ℕ) : Type 0 where
   pub views : List Served
   pub each : length views ≡ length (new_items es bytes)
   pub now : Served
@@ -154,6 +178,8 @@ pub record SpinFeeds (es : List (Event (List Served))) (bytes : List ℕ) (old n
 -- however the bytes are cut: what is answered to two pieces at once is what is answered to the one,
 -- then to the other
 abbrev pub SpinAnswersOnce : Type 0
-SpinAnswersOnce = (s : Setup) (es : List (Event (List Served))) (a b : List ℕ) (views more : List Served) (spin : Option Spin) → length views ≡ length (new_items es a)
+SpinAnswersOnce = (s : Setup) (es : List (Event (List Served))) (a b : List ℕ)
+    (views more : List Served) (spin : Option Spin) → length views ≡ length (new_items es a)
     → spin_fed_answer s es (a ++ b) (views ++ more) spin
-    ≡ followed (spin_fed_answer s es a views spin) (spin_fed_answer s (Fed a views ∷ es) b more (spin_fed_answer s es a views spin).knows)
+    ≡ followed (spin_fed_answer s es a views spin)
+    (spin_fed_answer s (Fed a views ∷ es) b more (spin_fed_answer s es a views spin).knows)

@@ -1,5 +1,6 @@
 -- What an image shelf keeps.
-use Rattle.std.specs.Prelude.{◌≡◌, ℕ, ◌+◌, ◌≤◌, Bool, false, ◌==◌, List, [], ◌∷◌, length, take, drop, Option, None, Some, refl}
+use Rattle.std.specs.Prelude.{◌≡◌, ℕ, ◌+◌, ◌≤◌, Bool, false, ◌==◌, List, [], ◌∷◌, length, take}
+use Rattle.std.specs.Prelude.{drop, Option, None, Some, refl}
 use Rattle.pitch_fields.specs.Limits.{last_sequence}
 use Rattle.std.specs.FinMap as map
 use Rattle.std.specs.Coded.{Coded, code_by, coded×, coded_ℕ, coded_list}
@@ -56,5 +57,6 @@ abbrev pub shelf_from : ShelfParts → Shelf
 shelf_from p = record { base = p.0; after = p.1.0; pushed = p.1.1.0; served = p.1.1.1 }
 
 abbrev pub shelf_code : Coded Shelf
-shelf_code = code_by ShelfParts (coded× book_code (coded× (coded_list (coded_list coded_ℕ)) (coded× coded_ℕ (coded_list coded_ℕ))))
+shelf_code = code_by ShelfParts (coded× book_code
+    (coded× (coded_list (coded_list coded_ℕ)) (coded× coded_ℕ (coded_list coded_ℕ))))
     (λ s. (s.base, (s.after, (s.pushed, s.served)))) shelf_from (λ _. refl)

@@ -5,7 +5,8 @@ ghost use Rattle.session_ends.specs.Laws.{ClosesOnce, RisesNowhere};
 ghost use Rattle.spin_server.specs.Served.{Served, ServedLater, is_served};
 ghost use Rattle.spin_server.specs.Serving.{SpinAnswersOnce};
 ghost use Rattle.spin_server.specs.Shelves.{Shelf};
-ghost use Rattle.spin_server.specs.Stands.{ShelfStands, ShelfShows, OneServed, ShelfHasOneView, seen_of};
+ghost use Rattle.spin_server.specs.Stands.{ShelfStands, ShelfShows, OneServed, ShelfHasOneView};
+ghost use Rattle.spin_server.specs.Stands.{seen_of};
 
 /// The laws of cutting a session's bytes into pieces: two pieces close the end exactly where both
 /// at once do, and what is answered to both at once is what is answered to the one, then to the
@@ -28,8 +29,11 @@ pub fn image_look_laws()
 /// advertised the last ten, which are those that are served; the newest of them is the newest of
 /// all, and there is none only where nothing was advertised.
 pub fn shelves_show_what_was_pushed()
-    ensures shows { (shelf : Shelf) (operations : List Operation) → ShelfStands shelf operations → ShelfShows shelf (seen_of operations) }
-    ensures served { (operations : List Operation) (sequence : ℕ) → is_served (seen_of operations) sequence ≡ list_any (λ n. n == sequence) (last_ten (advertised_by operations)) }
+    ensures shows { (shelf : Shelf) (operations : List Operation)
+        → ShelfStands shelf operations → ShelfShows shelf (seen_of operations) }
+    ensures served { (operations : List Operation) (sequence : ℕ) → is_served (seen_of operations)
+        sequence ≡ list_any (λ n. n == sequence) (last_ten (advertised_by operations)) }
     ensures none { (advertised : List ℕ) → newest_of advertised ≡ None → advertised ≡ [] }
-    ensures newest { (operations : List Operation) → newest_of (seen_of operations).advertised ≡ newest_of (advertised_by operations) }
+    ensures newest { (operations : List Operation)
+        → newest_of (seen_of operations).advertised ≡ newest_of (advertised_by operations) }
 {}

@@ -1,6 +1,6 @@
-//! The Spin Server: the shelf of a unit's images, and the server's end of a session. What the server
-//! answers to bytes, in whatever pieces they come, is what its definition says of all that happened
-//! to it and of the images that could be looked up meanwhile.
+//! The Spin Server: the shelf of a unit's images, and the server's end of a session. What the
+//! server answers to bytes, in whatever pieces they come, is what its definition says of all that
+//! happened to it and of the images that could be looked up meanwhile.
 //!
 //! The venue's side pushes each message to an [`ImageShelf`], and advertises now and then. It feeds
 //! what a client sent to [`SpinServer::feed`], calls [`SpinServer::pump`] while that answers true,

@@ -35,7 +35,8 @@ pub trait ImageLookup {
     fn has_image(&mut self, sequence: u32) -> bool
         // Of every view that it shows before: the answer is right at a view that it shows after,
         // which is no earlier.
-        ensures sees { (v : Served) → shows self.old v → SeesServed (shows self.new) v sequence result }
+        ensures sees { (v : Served)
+            → shows self.old v → SeesServed (shows self.new) v sequence result }
         ensures same { still ≡ true → self.new ≡ self.old };
 
     /// Looks up the image through a sequence, and appends it where it is among the last ten that
@@ -44,7 +45,8 @@ pub trait ImageLookup {
     fn image(&mut self, sequence: u32, out: &mut RawList) -> Result<Imaged, OutOfMemory>
         // Of every view that it shows before: the answer is right at a view that it shows after,
         // which is no earlier.
-        ensures found { IfOk result (λ imaged. (v : Served) → shows self.old v → LooksUpImage (shows self.new) v sequence imaged out.old.items out.new.items) }
+        ensures found { IfOk result (λ imaged. (v : Served) → shows self.old v
+            → LooksUpImage (shows self.new) v sequence imaged out.old.items out.new.items) }
         ensures err { OnErr result (out.new.items ≡ out.old.items) }
         ensures same { still ≡ true → self.new ≡ self.old }
         // Of every view that it showed before: without memory it shows the same.

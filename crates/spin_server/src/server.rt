@@ -1,10 +1,13 @@
-ghost use Rattle.std.specs.Prelude.{◌≡◌, ◌<◌, ℕ, ◌||◌, Bool, true, false, List, [], ◌∷◌, ◌++◌, ◌+◌, length, OnOk, OnErr, IsOk, IfOk, IfSome, None, Some, is_some, is_none, if◌then◌else◌};
+ghost use Rattle.std.specs.Prelude.{◌≡◌, ◌<◌, ℕ, ◌||◌, Bool, true, false, List, [], ◌∷◌, ◌++◌, ◌+◌};
+ghost use Rattle.std.specs.Prelude.{length, OnOk, OnErr, IsOk, IfOk, IfSome, None, Some, is_some};
+ghost use Rattle.std.specs.Prelude.{is_none, if◌then◌else◌};
 ghost use Rattle.std.specs.List.{list_any};
 ghost use Rattle.pitch_messages.specs.declared.session.SessionMessage.TheVariants.{SpinReply};
 ghost use Rattle.session_ends.specs.declared.closed.CloseCause.TheVariants.{Memory};
 ghost use Rattle.session_ends.specs.declared.role.Role.TheVariants.{SpinServer as SpinRole};
 ghost use Rattle.session_ends.specs.Answering.{Hears, HearsAll};
-ghost use Rattle.session_ends.specs.Closing.{cause_of, closed_of, first_cause, logs_in, login_status};
+ghost use Rattle.session_ends.specs.Closing.{cause_of, closed_of, first_cause, logs_in};
+ghost use Rattle.session_ends.specs.Closing.{login_status};
 ghost use Rattle.session_ends.specs.Events.{Event, Ticked, Pumped, Told};
 ghost use Rattle.session_ends.specs.Hearing.{reader_items, IsThrough};
 ghost use Rattle.session_ends.specs.Items.{closed_at};
@@ -12,7 +15,10 @@ ghost use Rattle.session_ends.specs.Sending.{sent_bytes, sent_at_tick};
 ghost use Rattle.session_ends.specs.Showing.{ShowsLater};
 ghost use Rattle.spin_server.specs.Served.{Served, ServedLater};
 ghost use Rattle.unit_packets.specs.Causes.{counted};
-ghost use Rattle.spin_server.specs.Serving.{pump_bytes, pumped, blocks_left, available_bytes, spin_login_answer, spin_request_answer, spin_message_answer, spin_said_answer, spin_answer, spin_sends, runs, SpinStands, SpinFeeds};
+ghost use Rattle.spin_server.specs.Serving.{pump_bytes, pumped, blocks_left, available_bytes};
+ghost use Rattle.spin_server.specs.Serving.{spin_login_answer, spin_request_answer};
+ghost use Rattle.spin_server.specs.Serving.{spin_message_answer, spin_said_answer, spin_answer};
+ghost use Rattle.spin_server.specs.Serving.{spin_sends, runs, SpinStands, SpinFeeds};
 
 use crate::lookup::{ImageLookup, Imaged};
 use crate::spin::Spin;
@@ -42,7 +48,8 @@ impl Model for SpinServer {
 
 // Sends the next block of an image, or Spin Finished, and answers whether it was a block.
 fn put_next(end: &End, spin: &Spin, reply: &mut Vec<u8>) -> Result<bool, OutOfMemory>
-    ensures ok { OnOk result (reply.new.items ≡ reply.old.items ++ pump_bytes end.now.setup (Some spin.now)) }
+    ensures ok { OnOk result
+        (reply.new.items ≡ reply.old.items ++ pump_bytes end.now.setup (Some spin.now)) }
     ensures more { IfOk result (λ more. more ≡ is_some (pumped (Some spin.now))) }
     ensures err { OnErr result (reply.new.items ≡ reply.old.items) }
 {
@@ -76,7 +83,8 @@ impl SpinServer {
     pub fn make(alloc: Global, unit: u8, accounts: Vec<Account>, in_use: bool) -> SpinServer
         // Of an end to which nothing happened.
         ensures stands { SpinStands result [] }
-        ensures setup { result.end.setup ≡ record { role = SpinRole; unit = unit; accounts = accounts.items; in_use = in_use } }
+        ensures setup { result.end.setup
+            ≡ record { role = SpinRole; unit = unit; accounts = accounts.items; in_use = in_use } }
     {
         SpinServer {
             alloc,
@@ -89,7 +97,8 @@ impl SpinServer {
     pub fn closed(&self) -> Option<Closed>
         ensures kept { result ≡ self.now.end.closed }
         // Of everything that happened to it: the first cause that closes it.
-        ensures cause { (es : List (Event (List Served))) → SpinStands self.now es → result ≡ closed_of self.now.end.setup es }
+        ensures cause { (es : List (Event (List Served)))
+            → SpinStands self.now es → result ≡ closed_of self.now.end.setup es }
     {
         self.end.closed()
     }
@@ -102,7 +111,8 @@ impl SpinServer {
 
     // Appends the newest sequence that is advertised, where there is one.
     fn put_available(&self, newest: Option<u32>, reply: &mut Vec<u8>) -> Result<(), OutOfMemory>
-        ensures { OnOk result (reply.new.items ≡ reply.old.items ++ available_bytes self.now.end.setup newest) }
+        ensures { OnOk result
+            (reply.new.items ≡ reply.old.items ++ available_bytes self.now.end.setup newest) }
     {
         match newest {
             None => Ok(()),
@@ -122,12 +132,15 @@ impl SpinServer {
         reply: &mut Vec<u8>,
     ) -> Result<(), OutOfMemory>
         ensures same { L.still ≡ true → lookup.new ≡ lookup.old }
-        ensures left { (view : Served) → L.shows lookup.old view → ShowsLater ServedLater (L.shows lookup.new) view }
+        ensures left { (view : Served)
+            → L.shows lookup.old view → ShowsLater ServedLater (L.shows lookup.new) view }
         // Of every view that the look-up shows before: it is answered right at a view that it shows
         // after, which is no earlier.
-        ensures hears { OnOk result ((view : Served) → L.shows lookup.old view
-            → Hears (λ v. spin_login_answer self.now.end.setup (login_status self.now.end.setup self.now.end.logged sub.now user.now password.now) v self.now.spin) ServedLater view (λ spin. spin ≡ self.now.spin) (L.shows lookup.new)
-            reply.old.items reply.new.items [] []) }
+        ensures hears { OnOk result ((view : Served)
+            → L.shows lookup.old view → Hears (λ v. spin_login_answer self.now.end.setup
+            (login_status self.now.end.setup self.now.end.logged sub.now user.now password.now)
+            v self.now.spin) ServedLater view (λ spin. spin ≡ self.now.spin)
+            (L.shows lookup.new) reply.old.items reply.new.items [] []) }
     {
         let status = self.end.login_status(sub, user, password);
         self.end.put(&SessionMessage::LoginReply { status }, reply)?;
@@ -147,7 +160,8 @@ impl SpinServer {
         status: u8,
         reply: &mut Vec<u8>,
     ) -> Result<(), OutOfMemory>
-        ensures { OnOk result (reply.new.items ≡ reply.old.items ++ sent_bytes self.now.end.setup (SpinReply sequence orders status)) }
+        ensures { OnOk result (reply.new.items ≡ reply.old.items
+            ++ sent_bytes self.now.end.setup (SpinReply sequence orders status)) }
     {
         self.end.put(
             &SessionMessage::SpinReply {
@@ -167,13 +181,15 @@ impl SpinServer {
         reply: &mut Vec<u8>,
     ) -> Result<(), OutOfMemory>
         ensures same { L.still ≡ true → lookup.new ≡ lookup.old }
-        ensures left { (view : Served) → L.shows lookup.old view → ShowsLater ServedLater (L.shows lookup.new) view }
+        ensures left { (view : Served)
+            → L.shows lookup.old view → ShowsLater ServedLater (L.shows lookup.new) view }
         ensures end { self.new.end ≡ self.old.end }
         // Of every view that the look-up shows before: it is answered right at a view that it shows
         // after, which is no earlier.
         ensures hears { OnOk result ((view : Served) → L.shows lookup.old view
-            → Hears (λ v. spin_request_answer self.old.end.setup v sequence self.old.spin) ServedLater view (λ spin. spin ≡ self.new.spin) (L.shows lookup.new)
-            reply.old.items reply.new.items [] []) }
+            → Hears (λ v. spin_request_answer self.old.end.setup v sequence self.old.spin)
+            ServedLater view (λ spin. spin ≡ self.new.spin)
+            (L.shows lookup.new) reply.old.items reply.new.items [] []) }
     {
         if self.spin.is_some() {
             let status = running_status(lookup.has_image(sequence));
@@ -203,13 +219,15 @@ impl SpinServer {
         reply: &mut Vec<u8>,
     ) -> Result<(), OutOfMemory>
         ensures same { L.still ≡ true → lookup.new ≡ lookup.old }
-        ensures left { (view : Served) → L.shows lookup.old view → ShowsLater ServedLater (L.shows lookup.new) view }
+        ensures left { (view : Served)
+            → L.shows lookup.old view → ShowsLater ServedLater (L.shows lookup.new) view }
         ensures end { self.new.end ≡ self.old.end }
         // Of every view that the look-up shows before: it is answered right at a view that it shows
         // after, which is no earlier.
         ensures hears { OnOk result ((view : Served) → L.shows lookup.old view
-            → Hears (λ v. spin_message_answer self.old.end.setup self.old.end.logged self.old.spin v message.now) ServedLater view (λ spin. spin ≡ self.new.spin) (L.shows lookup.new)
-            reply.old.items reply.new.items [] []) }
+            → Hears (λ v. spin_message_answer self.old.end.setup self.old.end.logged
+            self.old.spin v message.now) ServedLater view (λ spin. spin ≡ self.new.spin)
+            (L.shows lookup.new) reply.old.items reply.new.items [] []) }
     {
         match message {
             SessionMessage::Login {
@@ -244,13 +262,15 @@ impl SpinServer {
         reply: &mut Vec<u8>,
     ) -> Result<(), OutOfMemory>
         ensures same { L.still ≡ true → lookup.new ≡ lookup.old }
-        ensures left { (view : Served) → L.shows lookup.old view → ShowsLater ServedLater (L.shows lookup.new) view }
+        ensures left { (view : Served)
+            → L.shows lookup.old view → ShowsLater ServedLater (L.shows lookup.new) view }
         ensures end { self.new.end ≡ self.old.end }
         // Of every view that the look-up shows before: it is answered right at a view that it shows
         // after, which is no earlier.
-        ensures hears { OnOk result ((view : Served) → L.shows lookup.old view
-            → Hears (λ v. spin_said_answer self.old.end.setup self.old.end.logged self.old.spin v said.now) ServedLater view (λ spin. spin ≡ self.new.spin) (L.shows lookup.new)
-            reply.old.items reply.new.items [] []) }
+        ensures hears { OnOk result ((view : Served) → L.shows lookup.old view → Hears
+            (λ v. spin_said_answer self.old.end.setup self.old.end.logged self.old.spin v said.now)
+            ServedLater view (λ spin. spin ≡ self.new.spin)
+            (L.shows lookup.new) reply.old.items reply.new.items [] []) }
     {
         match said {
             Said::Message(message) => {
@@ -271,15 +291,20 @@ impl SpinServer {
     ) -> Result<(), OutOfMemory>
         requires { self.old.end.closed ≡ None }
         ensures same { L.still ≡ true → lookup.new ≡ lookup.old }
-        ensures left { (view : Served) → L.shows lookup.old view → ShowsLater ServedLater (L.shows lookup.new) view }
-        ensures closed { OnOk result (self.new.end.closed ≡ cause_of self.old.end.setup self.old.end.logged item.now) }
-        ensures logged { OnOk result (self.new.end.logged ≡ (self.old.end.logged || logs_in self.old.end.setup.role item.now)) }
-        ensures rest { self.new.end ≡ record self.old.end { closed = self.new.end.closed; logged = self.new.end.logged } }
+        ensures left { (view : Served)
+            → L.shows lookup.old view → ShowsLater ServedLater (L.shows lookup.new) view }
+        ensures closed { OnOk result
+            (self.new.end.closed ≡ cause_of self.old.end.setup self.old.end.logged item.now) }
+        ensures logged { OnOk result (self.new.end.logged
+            ≡ (self.old.end.logged || logs_in self.old.end.setup.role item.now)) }
+        ensures rest { self.new.end
+            ≡ record self.old.end { closed = self.new.end.closed; logged = self.new.end.logged } }
         // Of every view that the look-up shows before: it is answered right at a view that it shows
         // after, which is no earlier.
-        ensures hears { OnOk result ((view : Served) → L.shows lookup.old view
-            → Hears (λ v. spin_answer self.old.end.setup self.old.end.logged self.old.spin v item.now) ServedLater view (λ spin. spin ≡ self.new.spin) (L.shows lookup.new)
-            reply.old.items reply.new.items [] []) }
+        ensures hears { OnOk result ((view : Served) → L.shows lookup.old view → Hears
+            (λ v. spin_answer self.old.end.setup self.old.end.logged self.old.spin v item.now)
+            ServedLater view (λ spin. spin ≡ self.new.spin)
+            (L.shows lookup.new) reply.old.items reply.new.items [] []) }
     {
         let said = self.end.said(item);
         self.answer(&said, lookup, reply)?;
@@ -297,16 +322,22 @@ impl SpinServer {
     ) -> Result<usize, OutOfMemory>
         requires { self.old.end.closed ≡ None }
         ensures same { L.still ≡ true → lookup.new ≡ lookup.old }
-        ensures left { (view : Served) → L.shows lookup.old view → ShowsLater ServedLater (L.shows lookup.new) view }
+        ensures left { (view : Served)
+            → L.shows lookup.old view → ShowsLater ServedLater (L.shows lookup.new) view }
         ensures through { IfOk result (λ count. IsThrough reader.now.rest count) }
-        ensures closed { OnOk result (self.new.end.closed ≡ first_cause self.old.end.setup self.old.end.logged (reader_items reader.now)) }
-        ensures logged { OnOk result (self.new.end.closed ≡ None → self.new.end.logged ≡ (self.old.end.logged || list_any (logs_in self.old.end.setup.role) (reader_items reader.now))) }
-        ensures rest { self.new.end ≡ record self.old.end { closed = self.new.end.closed; logged = self.new.end.logged } }
+        ensures closed { OnOk result (self.new.end.closed ≡ first_cause
+            self.old.end.setup self.old.end.logged (reader_items reader.now)) }
+        ensures logged { OnOk result
+            (self.new.end.closed ≡ None → self.new.end.logged ≡ (self.old.end.logged || list_any
+            (logs_in self.old.end.setup.role) (reader_items reader.now))) }
+        ensures rest { self.new.end
+            ≡ record self.old.end { closed = self.new.end.closed; logged = self.new.end.logged } }
         // Of every view that the look-up shows before: each message is answered right at its view,
         // and these rise from that before to one that it shows after.
         ensures hears { OnOk result ((view : Served) → L.shows lookup.old view
-            → HearsAll self.old.end.setup (spin_answer self.old.end.setup) ServedLater self.old.end.logged (reader_items reader.now) self.old.spin view (λ spin. spin ≡ self.new.spin) (L.shows lookup.new)
-            reply.old.items reply.new.items [] []) }
+            → HearsAll self.old.end.setup (spin_answer self.old.end.setup) ServedLater
+            self.old.end.logged (reader_items reader.now) self.old.spin view (λ spin. spin
+            ≡ self.new.spin) (L.shows lookup.new) reply.old.items reply.new.items [] []) }
     {
         let mut items = Sayings::of(reader);
         'items: while let Some(item) = items.next_item() {
@@ -328,14 +359,17 @@ impl SpinServer {
         requires open { self.old.end.closed ≡ None }
         requires no_said { said.old.items ≡ [] }
         ensures same { L.still ≡ true → lookup.new ≡ lookup.old }
-        ensures left { (view : Served) → L.shows lookup.old view → ShowsLater ServedLater (L.shows lookup.new) view }
+        ensures left { (view : Served)
+            → L.shows lookup.old view → ShowsLater ServedLater (L.shows lookup.new) view }
         // Of everything that happened before, and of every view that the look-up shows before: the
         // piece was fed too, each message was answered at its view, and these rise to one that the
         // look-up shows after.
-        ensures fed { OnOk result ((es : List (Event (List Served))) (view : Served) → SpinStands self.old es → L.shows lookup.old view
-            → SpinFeeds es piece.now self.old self.new view (L.shows lookup.new) [] said.new.items) }
+        ensures fed { OnOk result ((es : List (Event (List Served))) (view : Served)
+            → SpinStands self.old es → L.shows lookup.old view → SpinFeeds
+            es piece.now self.old self.new view (L.shows lookup.new) [] said.new.items) }
         ensures setup { self.new.end.setup ≡ self.old.end.setup }
-        ensures count { self.new.end.inbox.fed ≡ counted (self.old.end.inbox.fed + length piece.now) }
+        ensures count { self.new.end.inbox.fed
+            ≡ counted (self.old.end.inbox.fed + length piece.now) }
     {
         let reader = self.end.take(piece)?;
         let count = self.hear_all(&reader, lookup, said)?;
@@ -357,19 +391,23 @@ impl SpinServer {
         reply: &mut Vec<u8>,
     ) -> Result<(), OutOfMemory>
         ensures same { L.still ≡ true → lookup.new ≡ lookup.old }
-        // Of every view that the look-up shows before: whatever comes of the call, it shows one after it
-        // that is no earlier.
-        ensures left { (view : Served) → L.shows lookup.old view → ShowsLater ServedLater (L.shows lookup.new) view }
+        // Of every view that the look-up shows before: whatever comes of the call, it shows one
+        // after it that is no earlier.
+        ensures left { (view : Served)
+            → L.shows lookup.old view → ShowsLater ServedLater (L.shows lookup.new) view }
         // Of everything that happened before, and of every view that the look-up shows before: the
         // piece was fed too, each message was answered at its view, and these rise to one that the
         // look-up shows after.
-        ensures fed { OnOk result ((es : List (Event (List Served))) (view : Served) → SpinStands self.old es → L.shows lookup.old view
-            → SpinFeeds es piece.now self.old self.new view (L.shows lookup.new) reply.old.items reply.new.items) }
+        ensures fed { OnOk result ((es : List (Event (List Served))) (view : Served)
+            → SpinStands self.old es → L.shows lookup.old view → SpinFeeds es
+            piece.now self.old self.new view (L.shows lookup.new) reply.old.items reply.new.items) }
         ensures setup { self.new.end.setup ≡ self.old.end.setup }
-        ensures err_closed { OnErr result (self.new.end.closed ≡ Some (closed_at Memory (counted (self.old.end.inbox.fed + length piece.now)))) }
+        ensures err_closed { OnErr result (self.new.end.closed ≡ Some
+            (closed_at Memory (counted (self.old.end.inbox.fed + length piece.now)))) }
         ensures err_reply { OnErr result (reply.new.items ≡ reply.old.items) }
         ensures shut { IfSome self.old.end.closed (λ c. self.new ≡ self.old) }
-        ensures shut_ok { IfSome self.old.end.closed (λ c. IsOk result × (reply.new.items ≡ reply.old.items)) }
+        ensures shut_ok { IfSome self.old.end.closed
+            (λ c. IsOk result × (reply.new.items ≡ reply.old.items)) }
     {
         if self.is_closed() {
             return Ok(());
@@ -391,16 +429,21 @@ impl SpinServer {
     /// is as before after OutOfMemory.
     pub fn pump(&mut self, reply: &mut Vec<u8>) -> Result<bool, OutOfMemory>
         // Of everything that happened before: it was asked for the next block too.
-        ensures stands { OnOk result ((es : List (Event (List Served))) → SpinStands self.old es → SpinStands self.new (Pumped ∷ es)) }
+        ensures stands { OnOk result ((es : List (Event (List Served)))
+            → SpinStands self.old es → SpinStands self.new (Pumped ∷ es)) }
         // Of everything that happened before: what is sent then was appended.
-        ensures says { OnOk result ((es : List (Event (List Served))) → SpinStands self.old es → reply.new.items ≡ reply.old.items ++ spin_sends self.old.end.setup Pumped es) }
+        ensures says { OnOk result ((es : List (Event (List Served))) → SpinStands self.old es
+            → reply.new.items ≡ reply.old.items ++ spin_sends self.old.end.setup Pumped es) }
         // Of everything that happened before: true exactly where a spin runs after the call.
-        ensures more { IfOk result (λ more. (es : List (Event (List Served))) → SpinStands self.old es → more ≡ runs self.old.end.setup (Pumped ∷ es)) }
+        ensures more { IfOk result (λ more. (es : List (Event (List Served)))
+            → SpinStands self.old es → more ≡ runs self.old.end.setup (Pumped ∷ es)) }
         // A spin that still runs has fewer blocks left, so calls in a row end it.
-        ensures fewer { IfOk result (λ more. more ≡ true → blocks_left self.new.spin < blocks_left self.old.spin) }
+        ensures fewer { IfOk result
+            (λ more. more ≡ true → blocks_left self.new.spin < blocks_left self.old.spin) }
         ensures setup { self.new.end.setup ≡ self.old.end.setup }
         ensures err { OnErr result ((self.new ≡ self.old) × (reply.new.items ≡ reply.old.items)) }
-        ensures shut { IfSome self.old.end.closed (λ c. IsOk result × ((self.new ≡ self.old) × (reply.new.items ≡ reply.old.items))) }
+        ensures shut { IfSome self.old.end.closed
+            (λ c. IsOk result × ((self.new ≡ self.old) × (reply.new.items ≡ reply.old.items))) }
     {
         if self.is_closed() {
             return Ok(false);
@@ -424,12 +467,16 @@ impl SpinServer {
     /// OutOfMemory.
     pub fn tell(&mut self, sequence: u32, reply: &mut Vec<u8>) -> Result<(), OutOfMemory>
         // Of everything that happened before: it was told of the sequence too.
-        ensures stands { OnOk result ((es : List (Event (List Served))) → SpinStands self.old es → SpinStands self.new (Told sequence ∷ es)) }
+        ensures stands { OnOk result ((es : List (Event (List Served)))
+            → SpinStands self.old es → SpinStands self.new (Told sequence ∷ es)) }
         // Of everything that happened before: what is sent then was appended.
-        ensures says { OnOk result ((es : List (Event (List Served))) → SpinStands self.old es → reply.new.items ≡ reply.old.items ++ spin_sends self.old.end.setup (Told sequence) es) }
+        ensures says { OnOk result
+            ((es : List (Event (List Served))) → SpinStands self.old es → reply.new.items
+            ≡ reply.old.items ++ spin_sends self.old.end.setup (Told sequence) es) }
         ensures setup { self.new.end.setup ≡ self.old.end.setup }
         ensures err { OnErr result ((self.new ≡ self.old) × (reply.new.items ≡ reply.old.items)) }
-        ensures shut { IfSome self.old.end.closed (λ c. IsOk result × ((self.new ≡ self.old) × (reply.new.items ≡ reply.old.items))) }
+        ensures shut { IfSome self.old.end.closed
+            (λ c. IsOk result × ((self.new ≡ self.old) × (reply.new.items ≡ reply.old.items))) }
     {
         if self.is_closed() {
             return Ok(());
@@ -453,14 +500,19 @@ impl SpinServer {
     /// before.
     pub fn tick(&mut self, reply: &mut Vec<u8>) -> Result<(), OutOfMemory>
         // Of everything that happened before: the tick happened too.
-        ensures stands { OnOk result ((es : List (Event (List Served))) → SpinStands self.old es → SpinStands self.new (Ticked ∷ es)) }
+        ensures stands { OnOk result ((es : List (Event (List Served)))
+            → SpinStands self.old es → SpinStands self.new (Ticked ∷ es)) }
         // Of everything that happened before: what a tick then sends was appended.
-        ensures says { OnOk result ((es : List (Event (List Served))) → SpinStands self.old es → reply.new.items ≡ reply.old.items ++ sent_at_tick (spin_sends self.old.end.setup) self.old.end.setup es) }
+        ensures says { OnOk result ((es : List (Event (List Served)))
+            → SpinStands self.old es → reply.new.items ≡ reply.old.items
+            ++ sent_at_tick (spin_sends self.old.end.setup) self.old.end.setup es) }
         ensures setup { self.new.end.setup ≡ self.old.end.setup }
-        ensures err_closed { OnErr result (self.new.end.closed ≡ Some (closed_at Memory self.old.end.inbox.fed)) }
+        ensures err_closed { OnErr result
+            (self.new.end.closed ≡ Some (closed_at Memory self.old.end.inbox.fed)) }
         ensures err_reply { OnErr result (reply.new.items ≡ reply.old.items) }
         ensures shut { IfSome self.old.end.closed (λ c. self.new ≡ self.old) }
-        ensures shut_ok { IfSome self.old.end.closed (λ c. IsOk result × (reply.new.items ≡ reply.old.items)) }
+        ensures shut_ok { IfSome self.old.end.closed
+            (λ c. IsOk result × (reply.new.items ≡ reply.old.items)) }
     {
         self.end.tick(reply)?;
         Ok(())

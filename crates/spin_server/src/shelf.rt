@@ -1,10 +1,12 @@
-ghost use Rattle.std.specs.Prelude.{◌≡◌, ℕ, ◌+◌, ◌-◌, ◌<◌, ◌≤◌, ◌++◌, List, [], ◌∷◌, Some, true, length, take, drop, OnOk, OnErr, IfOk, ◌==◌, nat_eq};
+ghost use Rattle.std.specs.Prelude.{◌≡◌, ℕ, ◌+◌, ◌-◌, ◌<◌, ◌≤◌, ◌++◌, List, [], ◌∷◌, Some, true};
+ghost use Rattle.std.specs.Prelude.{length, take, drop, OnOk, OnErr, IfOk, ◌==◌, nat_eq};
 ghost use Rattle.pitch_fields.specs.Limits.{last_sequence};
 ghost use Rattle.order_book.specs.Standing.{most_orders};
 ghost use Rattle.std.specs.List.{fold, list_any};
 ghost use Rattle.std.specs.FinMap as map;
 ghost use Rattle.pitch_model.specs.Book.{after, book_after};
-ghost use Rattle.pitch_model.specs.Advertising.{Operation, Accept, Advertise, accepted_by, newest_of};
+ghost use Rattle.pitch_model.specs.Advertising.{Operation, Accept, Advertise, accepted_by};
+ghost use Rattle.pitch_model.specs.Advertising.{newest_of};
 ghost use Rattle.spin_server.specs.Shelves.{ShelfKeeps, base_at, is_number};
 ghost use Rattle.spin_server.specs.Stands.{ShelfStands, retained};
 
@@ -37,9 +39,19 @@ impl Model for ImageShelf {
 
     ghost coded = { shelf_code };
 
-    ghost view = { λ s. record { base = s.base.book; after = s.after.items; pushed = s.pushed; served = s.served.items } };
+    ghost view = { λ s. record {
+      base = s.base.book;
+      after = s.after.items;
+      pushed = s.pushed;
+      served = s.served.items;
+    } };
 
-    ghost invariant = { λ s. IsShelf (record { base = s.base.book; after = s.after.items; pushed = s.pushed; served = s.served.items }) };
+    ghost invariant = { λ s. IsShelf (record {
+      base = s.base.book;
+      after = s.after.items;
+      pushed = s.pushed;
+      served = s.served.items;
+    }) };
 }
 
 // Applies the first messages to a book that has room for them.
@@ -64,7 +76,8 @@ fn advance(book: &mut UnitBook, raws: Raws<'_>, count: u32) -> Result<(), OutOfM
     requires few { map.len book.old.book.orders + count ≤ most_orders }
     requires there { count ≤ length raws }
     ensures ok { OnOk result (book.new.book ≡ fold after book.old.book (take count raws.entry)) }
-    ensures few { OnOk result (map.len book.new.book.orders ≤ map.len book.old.book.orders + count) }
+    ensures few { OnOk result
+        (map.len book.new.book.orders ≤ map.len book.old.book.orders + count) }
     ensures err { OnErr result (book.new.book ≡ book.old.book) }
 {
     book.reserve(count)?;
@@ -95,7 +108,8 @@ impl ImageShelf {
     pub fn push(&mut self, raw: &Raw) -> Result<(), OutOfMemory>
         requires { self.old.pushed < last_sequence }
         // Of everything that was pushed and advertised before: the message was pushed too.
-        ensures ok { OnOk result ((operations : List Operation) → ShelfStands self.old operations → ShelfStands self.new (operations ++ Accept raw.now ∷ [])) }
+        ensures ok { OnOk result ((operations : List Operation) → ShelfStands self.old operations
+            → ShelfStands self.new (operations ++ Accept raw.now ∷ [])) }
         ensures pushed { OnOk result (self.new.pushed ≡ self.old.pushed + 1) }
         ensures err { OnErr result (self.new ≡ self.old) }
     {
@@ -113,7 +127,8 @@ impl ImageShelf {
     pub fn pushed(&self) -> u32
         ensures pushed { result ≡ self.now.pushed }
         // Of everything that was pushed and advertised: the number of messages.
-        ensures messages { (operations : List Operation) → ShelfStands self.now operations → result ≡ length (accepted_by operations) }
+        ensures messages { (operations : List Operation)
+            → ShelfStands self.now operations → result ≡ length (accepted_by operations) }
         ensures within { result ≤ last_sequence }
     {
         self.pushed
@@ -128,7 +143,8 @@ impl ImageShelf {
         ensures newest { IfOk result (λ sequence. newest_of self.new.served ≡ Some sequence) }
         // Of everything that was pushed and advertised before: the number of messages was
         // advertised too.
-        ensures ok { OnOk result ((operations : List Operation) → ShelfStands self.old operations → ShelfStands self.new (operations ++ Advertise ∷ [])) }
+        ensures ok { OnOk result ((operations : List Operation) → ShelfStands self.old operations
+            → ShelfStands self.new (operations ++ Advertise ∷ [])) }
         ensures pushed { self.new.pushed ≡ self.old.pushed }
         ensures err { OnErr result (self.new ≡ self.old) }
     {
@@ -149,7 +165,8 @@ impl ImageShelf {
     /// served, and none where none is. It takes no memory.
     pub fn retained(&self) -> u32
         // Of everything that was pushed and advertised.
-        ensures stands { (operations : List Operation) → ShelfStands self.now operations → result ≡ retained operations }
+        ensures stands { (operations : List Operation)
+            → ShelfStands self.now operations → result ≡ retained operations }
         ensures kept { result ≡ length self.now.after }
     {
         self.pushed - self.oldest()
@@ -195,7 +212,8 @@ impl ImageShelf {
     fn serve_newest(&mut self)
         requires { length self.old.served < 10 }
         ensures served { self.new.served ≡ self.old.served ++ self.old.pushed ∷ [] }
-        ensures keeps { (messages : List (List ℕ)) → ShelfKeeps self.old messages → ShelfKeeps self.new messages }
+        ensures keeps { (messages : List (List ℕ))
+            → ShelfKeeps self.old messages → ShelfKeeps self.new messages }
         ensures pushed { self.new.pushed ≡ self.old.pushed }
     {
         self.served.push(self.pushed);
@@ -206,7 +224,8 @@ impl ImageShelf {
     fn forget_oldest(&mut self) -> Result<(), OutOfMemory>
         requires { length self.old.served ≡ 10 }
         ensures served { OnOk result (self.new.served ≡ drop 1 self.old.served) }
-        ensures keeps { OnOk result ((messages : List (List ℕ)) → ShelfKeeps self.old messages → ShelfKeeps self.new messages) }
+        ensures keeps { OnOk result ((messages : List (List ℕ))
+            → ShelfKeeps self.old messages → ShelfKeeps self.new messages) }
         ensures pushed { self.new.pushed ≡ self.old.pushed }
         ensures err { OnErr result (self.new ≡ self.old) }
     {
@@ -222,7 +241,8 @@ impl ImageShelf {
     // The book at a sequence that is served.
     fn book_at(&self, sequence: u32) -> Result<UnitBook, OutOfMemory>
         requires { list_any (λ n. n == sequence) self.now.served ≡ true }
-        ensures { IfOk result (λ book. (messages : List (List ℕ)) → ShelfKeeps self.now messages → book.book ≡ book_after (take sequence messages)) }
+        ensures { IfOk result (λ book. (messages : List (List ℕ))
+            → ShelfKeeps self.now messages → book.book ≡ book_after (take sequence messages)) }
     {
         let oldest = self.oldest();
         let mut book = self.base.copy()?;

@@ -36,7 +36,8 @@ impl Spin {
         sequence: u32,
         raws: Raws<'_>,
     ) -> Result<Spin, OutOfMemory>
-        ensures { IfOk result (λ spin. spin ≡ record { sequence = sequence; left = packed unit 0 raws.entry }) }
+        ensures { IfOk result (λ spin. spin
+            ≡ record { sequence = sequence; left = packed unit 0 raws.entry }) }
     {
         let mut datagrams = DatagramList::make(alloc);
         pack(alloc, unit, 0, raws, &mut datagrams)?;
@@ -55,7 +56,8 @@ impl Spin {
 
     /// The next block, or None where all were sent.
     pub(crate) fn next(&self) -> Option<&[u8]>
-        ensures { MatchOption result (self.now.left ≡ []) (λ block. (rest : List (List ℕ)) × (self.now.left ≡ block.now ∷ rest)) }
+        ensures { MatchOption result (self.now.left ≡ [])
+            (λ block. (rest : List (List ℕ)) × (self.now.left ≡ block.now ∷ rest)) }
     {
         match self.datagrams.get(self.sent) {
             Some(datagram) => Some(datagram.bytes()),

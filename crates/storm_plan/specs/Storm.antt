@@ -1,6 +1,7 @@
 -- The schedule of a storm: some units that get the plan, lose copies of their datagrams, and end
 -- with an image. It is this project's own.
-use Rattle.std.specs.Prelude.{ℕ, zero, suc, ◌+◌, ◌-◌, ◌%◌, Bool, ◌==◌, ◌&&◌, not, nat_le, List, [], ◌∷◌, ◌++◌, map, None, if◌then◌else◌}
+use Rattle.std.specs.Prelude.{ℕ, zero, suc, ◌+◌, ◌-◌, ◌%◌, Bool, ◌==◌, ◌&&◌, not, nat_le, List, []}
+use Rattle.std.specs.Prelude.{◌∷◌, ◌++◌, map, None, if◌then◌else◌}
 use Rattle.pitch_io.specs.declared.line.Line.{Line}
 use Rattle.pitch_io.specs.declared.line.Line.TheVariants as lines
 use Rattle.pitch_text.specs.declared.verb.Session.TheVariants.{Grp, Spin}
@@ -38,7 +39,8 @@ arrives_late number unit index = nat_le 4 index && not (is_lost number unit (ind
 -- at every tenth step the client asks for what it lacks, and gets what is replayed
 abbrev pub tenth_verbs : ℕ → List Verb
 tenth_verbs index =
-    if index % 10 == 0 then verbs.Tick ∷ verbs.Up Grp None ∷ verbs.Down Grp None ∷ verbs.Rest lines.Gap ∷ []
+    if index % 10 == 0
+    then verbs.Tick ∷ verbs.Up Grp None ∷ verbs.Down Grp None ∷ verbs.Rest lines.Gap ∷ []
     else []
 
 -- at a step: a command of the plan makes a message, whose datagram is sent on both lines
@@ -53,7 +55,8 @@ step_verbs number unit index =
 -- Spin Server gives an image through that message to a client that still lacks some
 abbrev pub end_verbs : ℕ → List Verb
 end_verbs steps =
-    verbs.Beat ∷ verbs.Deliver lines.A (steps + 1) ∷ verbs.Cut Grp ∷ verbs.Connect Spin ∷ verbs.Up Spin None ∷ verbs.Advertise
+    verbs.Beat ∷ verbs.Deliver lines.A (steps + 1)
+    ∷ verbs.Cut Grp ∷ verbs.Connect Spin ∷ verbs.Up Spin None ∷ verbs.Advertise
     ∷ verbs.Down Spin None ∷ verbs.Tick ∷ verbs.Up Spin None ∷ verbs.Down Spin None ∷ []
 
 -- ---- What all units do
@@ -75,7 +78,8 @@ storm_steps number units (suc index) =
 -- the entries of the schedule
 abbrev pub storm_entries : ℕ → ℕ → ℕ → List (ℕ × Verb)
 storm_entries number units steps =
-    by_each (λ unit. start_verbs) units ++ (storm_steps number units steps ++ by_each (λ unit. end_verbs steps) units)
+    by_each (λ unit. start_verbs) units
+    ++ (storm_steps number units steps ++ by_each (λ unit. end_verbs steps) units)
 
 -- its text
 abbrev pub storm_schedule : ℕ → ℕ → ℕ → List ℕ

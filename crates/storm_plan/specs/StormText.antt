@@ -17,4 +17,5 @@ storm_line number units steps =
 unfoldable pub unit_line : ℕ → Status → ℕ → ℕ → List ℕ
 unit_line unit status orders shares =
     number_after (codes "unit ") unit ++ (codes " " ++ (status_text status
-    ++ (number_after (codes " orders ") orders ++ (number_after (codes " shares ") shares ++ 10 ∷ []))))
+    ++ (number_after (codes " orders ") orders
+    ++ (number_after (codes " shares ") shares ++ 10 ∷ []))))

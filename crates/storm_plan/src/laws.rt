@@ -8,12 +8,14 @@ ghost use Rattle.storm_plan.specs.Storm.{most_units, most_steps, storm_entries, 
 /// read. The call does nothing.
 pub fn storms_are_read()
     // Whatever the number, the lines say just what the units do, in order.
-    ensures reads { (number units steps : ℕ) → units ≤ most_units → steps ≤ most_steps
-        → entries_of entry_grammar (storm_schedule number units steps) ≡ Ok (enumerate_from 1 (storm_entries number units steps)) }
+    ensures reads { (number units steps : ℕ) → units ≤ most_units
+        → steps ≤ most_steps → entries_of entry_grammar (storm_schedule number units steps)
+        ≡ Ok (enumerate_from 1 (storm_entries number units steps)) }
     // So they do where the text is gone over one entry at a time.
     ensures items { (number units steps : ℕ) → units ≤ most_units → steps ≤ most_steps
         → items_of entry_grammar schedule_entry (storm_schedule number units steps)
         ≡ map (λ e. Ok (schedule_entry e)) (enumerate_from 1 (storm_entries number units steps)) }
     // Whatever the number, it is no longer than the longest text that is read.
-    ensures size { (number units steps : ℕ) → units ≤ most_units → steps ≤ most_steps → length (storm_schedule number units steps) ≤ 67108864 }
+    ensures size { (number units steps : ℕ) → units ≤ most_units
+        → steps ≤ most_steps → length (storm_schedule number units steps) ≤ 67108864 }
 {}

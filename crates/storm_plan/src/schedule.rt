@@ -3,7 +3,9 @@ ghost use Rattle.std.specs.List.{AllByRecursion};
 ghost use Rattle.pitch_text.specs.Printing.{entry_text, lines_text};
 ghost use Rattle.pitch_text.specs.WellFormed.{IsWellFormed};
 ghost use Rattle.storm_plan.specs.Parts.{IsPart, part_verbs, part_by_each};
-ghost use Rattle.storm_plan.specs.Storm.{most_units, most_steps, start_verbs, arrival, arrives_at_once, arrives_late, tenth_verbs, step_verbs, end_verbs, entries_for, storm_steps, storm_schedule};
+ghost use Rattle.storm_plan.specs.Storm.{most_units, most_steps, start_verbs, arrival};
+ghost use Rattle.storm_plan.specs.Storm.{arrives_at_once, arrives_late, tenth_verbs, step_verbs};
+ghost use Rattle.storm_plan.specs.Storm.{end_verbs, entries_for, storm_steps, storm_schedule};
 
 use crate::verbs::{Part, append_part};
 use pitch_fields::OutOfMemory;
@@ -39,7 +41,8 @@ fn push_lines(text: &mut Vec<u8>, unit: u8, verbs: &[Verb]) -> Result<(), OutOfM
 fn push_part(text: &mut Vec<u8>, number: u64, unit: u8, part: Part) -> Result<(), OutOfMemory>
     requires unit { (1 ≤ unit) × (unit ≤ most_units) }
     requires part { IsPart part }
-    ensures { OnOk result (text.new.items ≡ text.old.items ++ lines_text (entries_for unit (part_verbs number part unit))) }
+    ensures { OnOk result (text.new.items ≡ text.old.items
+        ++ lines_text (entries_for unit (part_verbs number part unit))) }
 {
     let mut verbs = Vec::new(*text.allocator());
     append_part(number, unit, part, &mut verbs)?;
@@ -50,7 +53,8 @@ fn push_part(text: &mut Vec<u8>, number: u64, unit: u8, part: Part) -> Result<()
 fn push_units(text: &mut Vec<u8>, number: u64, units: u8, part: Part) -> Result<(), OutOfMemory>
     requires units { units ≤ most_units }
     requires part { IsPart part }
-    ensures { OnOk result (text.new.items ≡ text.old.items ++ lines_text (part_by_each number units part)) }
+    ensures { OnOk result
+        (text.new.items ≡ text.old.items ++ lines_text (part_by_each number units part)) }
 {
     'units: for index in 0..units {
         push_part(text, number, index + 1, part)?;
@@ -62,7 +66,8 @@ fn push_units(text: &mut Vec<u8>, number: u64, units: u8, part: Part) -> Result<
 fn push_steps(text: &mut Vec<u8>, number: u64, units: u8, steps: u32) -> Result<(), OutOfMemory>
     requires units { units ≤ most_units }
     requires steps { steps ≤ most_steps }
-    ensures { OnOk result (text.new.items ≡ text.old.items ++ lines_text (storm_steps number units steps)) }
+    ensures { OnOk result
+        (text.new.items ≡ text.old.items ++ lines_text (storm_steps number units steps)) }
 {
     'steps: for index in 0..steps {
         push_units(text, number, units, Part::Step { index: index + 1 })?;

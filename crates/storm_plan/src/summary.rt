@@ -1,5 +1,5 @@
-//! The lines of a storm's summary. Those that are written into a lent buffer at an index answer where
-//! they end.
+//! The lines of a storm's summary. Those that are written into a lent buffer at an index answer
+//! where they end.
 
 ghost use Rattle.std.specs.Prelude.{◌≡◌, ◌≤◌, ◌+◌, ◌++◌, [], ◌∷◌, take, length, OnOk, OnErr};
 ghost use Rattle.feed_lines.specs.LineSize.{line_size};

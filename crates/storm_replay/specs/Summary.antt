@@ -1,6 +1,7 @@
 -- What became of the units of a storm. Entries that came before stand newest first, as the verbs of
 -- a world do.
-use Rattle.std.specs.Prelude.{◌≡◌, ℕ, zero, suc, ◌+◌, List, [], ◌++◌, length, map, reverse, Some, slice_get}
+use Rattle.std.specs.Prelude.{◌≡◌, ℕ, zero, suc, ◌+◌, List, [], ◌++◌, length, map, reverse, Some}
+use Rattle.std.specs.Prelude.{slice_get}
 use Rattle.std.specs.List.{enumerate_from}
 use Rattle.std.specs.FinMap.{len}
 use Rattle.pitch_model.specs.Levels.{shares}
@@ -18,13 +19,15 @@ use Rattle.world_model.specs.declared.world.World.{World}
 
 -- the lines of a storm's schedule, numbered from 1
 abbrev pub storm_lines : ℕ → ℕ → ℕ → List ScheduleEntry
-storm_lines number units steps = map schedule_entry (enumerate_from 1 (storm_entries number units steps))
+storm_lines number units steps =
+    map schedule_entry (enumerate_from 1 (storm_entries number units steps))
 
 -- the line of a unit whose client is in this state: its status, and the orders and the shares of
 -- its book
 unfoldable pub state_line : ℕ → Limits → State → List ℕ
 state_line unit limits s =
-    unit_line unit (status_of limits.hold s.heard) (len (client_book limits s).orders) (shares (client_book limits s))
+    unit_line unit (status_of limits.hold s.heard)
+    (len (client_book limits s).orders) (shares (client_book limits s))
 
 -- the line of a unit after some lines of a schedule: what it says is so in the unit's world
 abbrev pub ended_line : List ScheduleEntry → ℕ → List ℕ
@@ -39,12 +42,15 @@ ended_lines before (suc unit) = ended_lines before unit ++ ended_line before (su
 
 -- the summary of a storm: what it was made of, and each unit after all lines of the schedule
 abbrev pub storm_text : ℕ → ℕ → ℕ → List ℕ
-storm_text number units steps = storm_line number units steps ++ ended_lines (reverse (storm_lines number units steps)) units
+storm_text number units steps =
+    storm_line number units steps ++ ended_lines (reverse (storm_lines number units steps)) units
 
 -- ---- Its worlds
 -- each world is that of its unit after some lines: they stand by rising unit, from 1 on
 abbrev pub AreInTurn : List ScheduleEntry → List World → Type 0
-AreInTurn before worlds = (index : ℕ) (world : World) → slice_get worlds index ≡ Some world → IsWorldOf before (index + 1) world
+AreInTurn before worlds =
+    (index : ℕ) (world : World)
+    → slice_get worlds index ≡ Some world → IsWorldOf before (index + 1) world
 
 -- the worlds of a storm's units after all lines of its schedule
 pub record AreStormWorlds (number units steps : ℕ) (worlds : List World) : Type 0 where

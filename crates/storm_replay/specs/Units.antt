@@ -10,7 +10,8 @@ use Rattle.world_model.specs.declared.world.World.{World}
 -- what a unit does in the first steps
 unfoldable pub unit_steps : ℕ → ℕ → ℕ → List Verb
 unit_steps number unit zero = []
-unit_steps number unit (suc index) = unit_steps number unit index ++ step_verbs number unit (suc index)
+unit_steps number unit (suc index) =
+    unit_steps number unit index ++ step_verbs number unit (suc index)
 
 -- what it does in the whole storm
 abbrev pub unit_course : ℕ → ℕ → ℕ → List Verb
@@ -23,12 +24,14 @@ counting n (suc k) = n ∷ counting (n + 1) k
 
 -- all that a unit does in a storm was done in its world
 abbrev pub IsUnitDone : ℕ → ℕ → ℕ → World → Type 0
-IsUnitDone number steps unit world = WorldStands world unit default_limits (reverse (unit_course number unit steps))
+IsUnitDone number steps unit world =
+    WorldStands world unit default_limits (reverse (unit_course number unit steps))
 
 -- so it is of each of some units, in their order
 abbrev pub AreUnitsDone : ℕ → ℕ → List ℕ → List World → Type 0
 AreUnitsDone number steps [] [] = Unit {0}
-AreUnitsDone number steps (unit ∷ units) (world ∷ worlds) = IsUnitDone number steps unit world × AreUnitsDone number steps units worlds
+AreUnitsDone number steps (unit ∷ units) (world ∷ worlds) =
+    IsUnitDone number steps unit world × AreUnitsDone number steps units worlds
 AreUnitsDone number steps _ _ = ⊥
 
 -- ---- Pieces of work
@@ -45,6 +48,7 @@ AreWhole (Ok piece ∷ pieces) = AreWhole pieces
 AreWhole (Err error ∷ pieces) = ⊥
 
 -- no piece failed, and these are the worlds of all
-pub record AreGathered {E : Type 0} (pieces : List (Result (Roomy World) E)) (worlds : List World) : Type 0 where
+pub record AreGathered {E : Type 0} (pieces : List (Result (Roomy World) E)) (worlds : List World) :
+    Type 0 where
   pub whole : AreWhole pieces
   pub are : worlds ≡ gathered pieces

@@ -6,7 +6,8 @@ ghost use Rattle.schedule_replay.specs.Apart.{most_workers};
 ghost use Rattle.schedule_replay.specs.Worlds.{AddsWorlds, AreRunThrough, IsWorldOf};
 ghost use Rattle.storm_plan.specs.Storm.{most_units, most_steps, storm_schedule};
 ghost use Rattle.storm_plan.specs.StormText.{storm_line};
-ghost use Rattle.storm_replay.specs.Summary.{AreInTurn, AreStormWorlds, ended_line, ended_lines, storm_text};
+ghost use Rattle.storm_replay.specs.Summary.{AreInTurn, AreStormWorlds, ended_line, ended_lines};
+ghost use Rattle.storm_replay.specs.Summary.{storm_text};
 
 use crate::units::run_units;
 use feed_lines::LINE;
@@ -31,7 +32,8 @@ fn append_made(number: u64, units: u8, steps: u32, out: &mut Vec<u8>) -> Result<
 // Appends the line of a unit by its world.
 fn append_world(world: &World, unit: u8, out: &mut Vec<u8>) -> Result<(), OutOfMemory>
     // Whatever lines were done in the world, it is the unit's line after them.
-    ensures { OnOk result ((before : List EntrySaid) → IsWorldOf before unit world.now → out.new.items ≡ out.old.items ++ ended_line before unit) }
+    ensures { OnOk result ((before : List EntrySaid) → IsWorldOf before unit world.now
+        → out.new.items ≡ out.old.items ++ ended_line before unit) }
 {
     let client = world.client();
     let book = client.book();
@@ -42,7 +44,8 @@ fn append_world(world: &World, unit: u8, out: &mut Vec<u8>) -> Result<(), OutOfM
 fn append_worlds(worlds: &[World], units: u8, out: &mut Vec<u8>) -> Result<(), OutOfMemory>
     requires { length worlds.now ≡ units }
     // Whatever lines were done in the worlds, they are the units' lines after them.
-    ensures { OnOk result ((before : List EntrySaid) → AreInTurn before worlds.now → out.new.items ≡ out.old.items ++ ended_lines before units) }
+    ensures { OnOk result ((before : List EntrySaid)
+        → AreInTurn before worlds.now → out.new.items ≡ out.old.items ++ ended_lines before units) }
 {
     'units: for index in 0..units {
         append_world(&worlds[usize::from(index)], index + 1, out)?;
@@ -67,8 +70,8 @@ fn summary_of(
     Ok(text)
 }
 
-// The worlds of a storm's units, in which all lines of its schedule were done. No text is made: each
-// unit does its verbs, and what the schedule's lines say is known by a law.
+// The worlds of a storm's units, in which all lines of its schedule were done. No text is made:
+// each unit does its verbs, and what the schedule's lines say is known by a law.
 fn worlds_of<R: Threads + Sync, G: Gate + Sync>(
     rt: &R,
     alloc: Global,
@@ -81,7 +84,8 @@ fn worlds_of<R: Threads + Sync, G: Gate + Sync>(
     requires units { (1 ≤ units) × (units ≤ most_units) }
     requires steps { (1 ≤ steps) × (steps ≤ most_steps) }
     requires workers { (1 ≤ workers) × (workers ≤ most_workers) }
-    ensures run { IfOk result (λ worlds. AreRunThrough (storm_schedule number units steps) worlds.items) }
+    ensures run { IfOk result
+        (λ worlds. AreRunThrough (storm_schedule number units steps) worlds.items) }
     ensures each { IfOk result (λ worlds. AreStormWorlds number units steps worlds.items) }
 {
     storms_are_read();
@@ -91,13 +95,14 @@ fn worlds_of<R: Threads + Sync, G: Gate + Sync>(
     }
 }
 
-/// Does all lines of a storm's schedule in the worlds of its units. Appends the storm's summary to `out`: a line that says what it was made of, and by rising unit a line with
-/// the status of the unit's client and the orders and shares of its book. Appends the worlds to
-/// `worlds`, as `replay` does for the same schedule.
+/// Does all lines of a storm's schedule in the worlds of its units. Appends the storm's summary to
+/// `out`: a line that says what it was made of, and by rising unit a line with the status of the
+/// unit's client and the orders and shares of its book. Appends the worlds to `worlds`, as `replay`
+/// does for the same schedule.
 ///
-/// A storm has 1 to 16 units and 1 to 10,000 steps, and its summary is the same at each run. As with
-/// `replay`, its units run in up to 64 pieces of work, and the gate is told of each unit. After
-/// OutOfMemory `out` and `worlds` are as before.
+/// A storm has 1 to 16 units and 1 to 10,000 steps, and its summary is the same at each run. As
+/// with `replay`, its units run in up to 64 pieces of work, and the gate is told of each unit.
+/// After OutOfMemory `out` and `worlds` are as before.
 pub fn storm<R: Threads + Sync, G: Gate + Sync>(
     rt: &R,
     alloc: Global,
@@ -113,7 +118,8 @@ pub fn storm<R: Threads + Sync, G: Gate + Sync>(
     requires steps { (1 ≤ steps) × (steps ≤ most_steps) }
     requires workers { (1 ≤ workers) × (workers ≤ most_workers) }
     ensures written { OnOk result (out.new.items ≡ out.old.items ++ storm_text number units steps) }
-    ensures worlds { OnOk result (AddsWorlds (storm_schedule number units steps) worlds.old.items worlds.new.items) }
+    ensures worlds { OnOk result
+        (AddsWorlds (storm_schedule number units steps) worlds.old.items worlds.new.items) }
     ensures kept_text { OnErr result (out.new.items ≡ out.old.items) }
     ensures kept_worlds { OnErr result (worlds.new.items ≡ worlds.old.items) }
 {

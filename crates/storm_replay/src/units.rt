@@ -1,13 +1,15 @@
 //! The units of a storm, each done in a world of its own.
 
-ghost use Rattle.std.specs.Prelude.{◌≡◌, ◌≤◌, ◌<◌, ◌*◌, ◌++◌, length, ◌∷◌, [], List, ℕ, reverse, OnOk, IfOk, IfSome, slice_get};
+ghost use Rattle.std.specs.Prelude.{◌≡◌, ◌≤◌, ◌<◌, ◌*◌, ◌++◌, length, ◌∷◌, [], List, ℕ, reverse};
+ghost use Rattle.std.specs.Prelude.{OnOk, IfOk, IfSome, slice_get};
 ghost use Rattle.std.specs.Fork.{slice_chunk};
 ghost use Rattle.std.specs.List.{AllByRecursion};
 ghost use Rattle.pitch_text.specs.WellFormed.{IsVerb};
 ghost use Rattle.pitch_text.specs.declared.verb.Verb.{Verb as VerbSaid};
 ghost use Rattle.storm_plan.specs.Parts.{IsPart, part_verbs};
 ghost use Rattle.storm_plan.specs.Storm.{most_steps};
-ghost use Rattle.storm_replay.specs.Units.{unit_steps, unit_course, counting, IsUnitDone, AreUnitsDone, AreGathered};
+ghost use Rattle.storm_replay.specs.Units.{unit_steps, unit_course, counting, IsUnitDone};
+ghost use Rattle.storm_replay.specs.Units.{AreUnitsDone, AreGathered};
 ghost use Rattle.world_model.specs.Stands.{WorldStands};
 ghost use Rattle.world_model.specs.declared.limits.Limits.{Limits as LimitsSaid};
 
@@ -24,8 +26,8 @@ use world_model::World;
 // Does a verb in a world.
 fn do_verb(world: &mut World, verb: &Verb) -> Result<(), OutOfMemory>
     requires { IsVerb verb.now }
-    ensures { OnOk result ((unit : ℕ) (limits : LimitsSaid) (done : List VerbSaid) → WorldStands world.old unit limits done
-        → WorldStands world.new unit limits (verb.now ∷ done)) }
+    ensures { OnOk result ((unit : ℕ) (limits : LimitsSaid) (done : List VerbSaid) → WorldStands
+        world.old unit limits done → WorldStands world.new unit limits (verb.now ∷ done)) }
 {
     match world.step(verb) {
         Ok(_) => Ok(()),
@@ -37,7 +39,8 @@ fn do_verb(world: &mut World, verb: &Verb) -> Result<(), OutOfMemory>
 fn do_verbs(world: &mut World, verbs: &[Verb]) -> Result<(), OutOfMemory>
     requires { AllByRecursion IsVerb verbs.now }
     // Whatever verbs were done before, the world then stands for those and these.
-    ensures { OnOk result ((unit : ℕ) (limits : LimitsSaid) (done : List VerbSaid) → WorldStands world.old unit limits done
+    ensures { OnOk result ((unit : ℕ) (limits : LimitsSaid) (done : List VerbSaid)
+        → WorldStands world.old unit limits done
         → WorldStands world.new unit limits (reverse verbs.now ++ done)) }
 {
     'verbs: for verb in verbs {
@@ -55,7 +58,8 @@ fn do_part(
     verbs: &mut Vec<Verb>,
 ) -> Result<(), OutOfMemory>
     requires { IsPart part }
-    ensures { OnOk result ((limits : LimitsSaid) (done : List VerbSaid) → WorldStands world.old unit limits done
+    ensures { OnOk result ((limits : LimitsSaid) (done : List VerbSaid)
+        → WorldStands world.old unit limits done
         → WorldStands world.new unit limits (reverse (part_verbs number part unit) ++ done)) }
 {
     verbs.clear();
@@ -72,7 +76,8 @@ fn do_steps(
     verbs: &mut Vec<Verb>,
 ) -> Result<(), OutOfMemory>
     requires { steps ≤ most_steps }
-    ensures { OnOk result ((limits : LimitsSaid) (done : List VerbSaid) → WorldStands world.old unit limits done
+    ensures { OnOk result ((limits : LimitsSaid) (done : List VerbSaid)
+        → WorldStands world.old unit limits done
         → WorldStands world.new unit limits (reverse (unit_steps number unit steps) ++ done)) }
 {
     'steps: for index in 0..steps {
@@ -193,8 +198,8 @@ fn run_pieces<R: Threads + Sync, G: Gate + Sync>(
     requires steps { steps ≤ most_steps }
     requires size { 0 < size }
     ensures many { IfOk result (λ pieces. length units.now ≤ length pieces.items * size) }
-    ensures each { IfOk result (λ pieces. (n : ℕ) → IfSome (slice_get pieces.items n)
-        (λ piece. IfOk piece (λ worlds. AreUnitsDone number steps (slice_chunk units.now size n) worlds.items))) }
+    ensures each { IfOk result (λ pieces. (n : ℕ) → IfSome (slice_get pieces.items n) (λ piece. IfOk
+        piece (λ worlds. AreUnitsDone number steps (slice_chunk units.now size n) worlds.items))) }
 {
     let pieces = thread::map_chunks(
         rt,

@@ -1,5 +1,6 @@
 -- What is known of the bytes of a stream that were fed so far.
-use Rattle.std.specs.Prelude.{◌≡◌, ℕ, ◌+◌, ◌*◌, ◌≤◌, List, [], length, reverse, Option, None, Result, Ok, Err}
+use Rattle.std.specs.Prelude.{◌≡◌, ℕ, ◌+◌, ◌*◌, ◌≤◌, List, [], length, reverse, Option, None}
+use Rattle.std.specs.Prelude.{Result, Ok, Err}
 use Rattle.stream_print.specs.Carriers.{carried_blocks}
 use Rattle.stream_print.specs.Holding.{Suits}
 use Rattle.stream_print.specs.Inputs.{lasting_trouble, StreamEnds, WritesTexts}

@@ -1,5 +1,6 @@
 -- A stream of blocks: what is wrong with it, and what is written for it.
-use Rattle.std.specs.Prelude.{◌≡◌, ◌≤◌, ℕ, List, ◌++◌, [], length, take, nat_lt, cond, option_map, Option, Some, None, Result, Ok, Err, ◌⊎◌}
+use Rattle.std.specs.Prelude.{◌≡◌, ◌≤◌, ℕ, List, ◌++◌, [], length, take, nat_lt, cond, option_map}
+use Rattle.std.specs.Prelude.{Option, Some, None, Result, Ok, Err, ◌⊎◌}
 use Rattle.std.specs.Io.KnownBytes.{Consumes}
 use Rattle.pitch_io.specs.Putting.{Grows}
 use Rattle.unit_packets.specs.Blocks.{Block}
@@ -13,9 +14,11 @@ use Rattle.stream_print.specs.Putting.{PutsSome}
 use Rattle.stream_print.specs.Texts.{AreTexts, BeginTexts, IsText, IsPrefixOfText}
 use Rattle.stream_print.specs.Told.{Told}
 use Rattle.stream_print.specs.declared.failure.StreamFailure.{StreamFailure}
-use Rattle.stream_print.specs.declared.failure.StreamFailure.TheVariants.{BadInput, SequencesSpent, Read, Write, OutOfMemory}
+use Rattle.stream_print.specs.declared.failure.StreamFailure.TheVariants.{BadInput, SequencesSpent}
+use Rattle.stream_print.specs.declared.failure.StreamFailure.TheVariants.{Read, Write, OutOfMemory}
 use Rattle.stream_print.specs.declared.failure.StreamTrouble.{StreamTrouble}
-use Rattle.stream_print.specs.declared.failure.StreamTrouble.TheVariants.{Faulty, BadCapture, TooLong}
+use Rattle.stream_print.specs.declared.failure.StreamTrouble.TheVariants.{Faulty, BadCapture}
+use Rattle.stream_print.specs.declared.failure.StreamTrouble.TheVariants.{TooLong}
 
 -- how many bytes of a stream of blocks are read at most: 2^30
 abbrev pub stream_limit : ℕ

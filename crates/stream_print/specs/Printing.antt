@@ -1,5 +1,6 @@
 -- What printing the blocks of some bytes does.
-use Rattle.std.specs.Prelude.{◌≡◌, ℕ, ◌≤◌, ◌+◌, ◌*◌, List, [], ◌∷◌, ◌++◌, length, drop, reverse, Option}
+use Rattle.std.specs.Prelude.{◌≡◌, ℕ, ◌≤◌, ◌+◌, ◌*◌, List, [], ◌∷◌, ◌++◌, length, drop, reverse}
+use Rattle.std.specs.Prelude.{Option}
 use Rattle.std.specs.List.{flat_map}
 use Rattle.unit_packets.specs.Blocks.{Block}
 use Rattle.unit_packets.specs.Cutting.{blocks_of, rest_of}
@@ -21,7 +22,8 @@ use Rattle.stream_print.specs.declared.counts.PacketCounts.{PacketCounts}
 use Rattle.stream_print.specs.declared.counts.PacketUse.{PacketUse}
 use Rattle.stream_print.specs.declared.packets.PacketReader.{PacketReader}
 use Rattle.stream_print.specs.declared.failure.PrintError.{PrintError}
-use Rattle.stream_print.specs.declared.failure.PrintError.TheVariants.{SequencesSpent, Write, OutOfMemory}
+use Rattle.stream_print.specs.declared.failure.PrintError.TheVariants.{SequencesSpent, Write}
+use Rattle.stream_print.specs.declared.failure.PrintError.TheVariants.{OutOfMemory}
 use Rattle.stream_print.specs.declared.printer.Printer.{Printer}
 use Rattle.stream_print.specs.declared.stream_form.StreamForm.{StreamForm}
 use Rattle.stream_print.specs.declared.task.Task.{Task}

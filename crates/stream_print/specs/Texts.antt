@@ -15,7 +15,8 @@ use Rattle.relay_unit.specs.Sparing.{messages_heard}
 use Rattle.stream_print.specs.Carriers.{carried_blocks, with_counts}
 use Rattle.stream_print.specs.declared.carrier.Carrier.{Carrier}
 use Rattle.stream_print.specs.declared.stream_form.StreamForm.{StreamForm}
-use Rattle.stream_print.specs.declared.stream_form.StreamForm.TheVariants.{Follow, Show, Relay, Quotes}
+use Rattle.stream_print.specs.declared.stream_form.StreamForm.TheVariants.{Follow, Show, Relay}
+use Rattle.stream_print.specs.declared.stream_form.StreamForm.TheVariants.{Quotes}
 
 -- ---- The texts of blocks
 -- `Vs` gives the messages of each unit's venue, and the blocks speak of no others; the texts of

@@ -3,7 +3,8 @@ ghost use Rattle.unit_packets.specs.Blocks.{Block};
 ghost use Rattle.unit_clients.specs.Clients.{AreUnits, IsClient, Clients};
 ghost use Rattle.stream_print.specs.Books.{IsUnitText, AreBooksBelow, AreFirstBooks};
 ghost use Rattle.std.specs.List.{flat_map};
-ghost use Rattle.stream_print.specs.Sinks.{PagePrints, PagePrintsSuch, PutsPrefix, PutsPrefixSuch, CountsFault};
+ghost use Rattle.stream_print.specs.Sinks.{PagePrints, PagePrintsSuch, PutsPrefix, PutsPrefixSuch};
+ghost use Rattle.stream_print.specs.Sinks.{CountsFault};
 ghost use Rattle.feed_lines.specs.BookText.{order_line, status_line, book_orders, book_text};
 
 use crate::failure::PrintError;

@@ -1,4 +1,5 @@
-ghost use Rattle.std.specs.Prelude.{◌≡◌, ◌≤◌, ◌+◌, ◌*◌, ◌++◌, [], ◌∷◌, List, ℕ, length, OnOk, IfErr, IfOk, IfSome, Err, Some};
+ghost use Rattle.std.specs.Prelude.{◌≡◌, ◌≤◌, ◌+◌, ◌*◌, ◌++◌, [], ◌∷◌, List, ℕ, length, OnOk};
+ghost use Rattle.std.specs.Prelude.{IfErr, IfOk, IfSome, Err, Some};
 ghost use Rattle.std.specs.List.{flat_map};
 ghost use Rattle.unit_packets.specs.Cutting.{blocks_of};
 ghost use Rattle.pcap_feed.specs.Capture.{packets_from, front_of};
@@ -6,7 +7,8 @@ ghost use Rattle.pcap_feed.specs.Datagrams.{span_bytes, payloads_in};
 ghost use Rattle.pcap_feed.specs.Stream.{items_within};
 ghost use Rattle.stream_print.specs.Sinks.{CountsFault};
 ghost use Rattle.stream_print.specs.Carriers.{blocks_in};
-ghost use Rattle.stream_print.specs.Printing.{PrintsDatagrams, PrintsPackets, PrintsLoaded, FailsBlocks};
+ghost use Rattle.stream_print.specs.Printing.{PrintsDatagrams, PrintsPackets, PrintsLoaded};
+ghost use Rattle.stream_print.specs.Printing.{FailsBlocks};
 
 use crate::blocks::print_blocks;
 use crate::counts::{NO_COUNTS, PacketCounts, PacketUse, counts_with};

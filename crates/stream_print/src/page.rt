@@ -1,4 +1,5 @@
-ghost use Rattle.std.specs.Prelude.{◌≡◌, ◌≤◌, ◌<◌, ◌+◌, ◌++◌, [], ◌∷◌, length, OnOk, OnErr, IfOk, IsErr};
+ghost use Rattle.std.specs.Prelude.{◌≡◌, ◌≤◌, ◌<◌, ◌+◌, ◌++◌, [], ◌∷◌, length, OnOk, OnErr, IfOk};
+ghost use Rattle.std.specs.Prelude.{IsErr};
 ghost use Rattle.pitch_io.specs.Putting.{Grows};
 ghost use Rattle.feed_lines.specs.LineSize.{line_size};
 ghost use Rattle.feed_lines.specs.BookText.{book_head, order_line, status_line};

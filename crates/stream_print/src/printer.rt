@@ -19,7 +19,8 @@ pub struct Printer {
 }
 
 impl Printer {
-    ghost use Rattle.std.specs.Prelude.{◌≡◌, ◌≢◌, ◌<◌, ◌+◌, ◌^◌, [], ◌∷◌, List, OnOk, OnErr, IfOk, IfErr, Err};
+    ghost use Rattle.std.specs.Prelude.{◌≡◌, ◌≢◌, ◌<◌, ◌+◌, ◌^◌, [], ◌∷◌, List, OnOk, OnErr, IfOk};
+    ghost use Rattle.std.specs.Prelude.{IfErr, Err};
     ghost use Rattle.unit_packets.specs.Blocks.{Block};
     ghost use Rattle.stream_print.specs.Sinks.{PagePrintsSuch, PutsPrefixSuch, CountsFault};
     ghost use Rattle.stream_print.specs.Holding.{CanHold};

@@ -1,4 +1,5 @@
-ghost use Rattle.std.specs.Prelude.{◌≡◌, ◌≤◌, ◌+◌, ◌*◌, ◌++◌, length, OnOk, OnErr, IfErr, Err, option_map};
+ghost use Rattle.std.specs.Prelude.{◌≡◌, ◌≤◌, ◌+◌, ◌*◌, ◌++◌, length, OnOk, OnErr, IfErr, Err};
+ghost use Rattle.std.specs.Prelude.{option_map};
 ghost use Rattle.unit_packets.specs.Cutting.{blocks_of, fault_in};
 ghost use Rattle.unit_packets.specs.Reading.{loaded};
 ghost use Rattle.stream_print.specs.Sinks.{CountsFault};
@@ -92,7 +93,8 @@ pub enum StreamReader {
 }
 
 impl StreamReader {
-    ghost use Rattle.std.specs.Prelude.{◌≡◌, ◌≤◌, ◌+◌, ◌*◌, ◌++◌, [], List, ℕ, length, OnOk, OnErr, IfErr, Err, IsErr};
+    ghost use Rattle.std.specs.Prelude.{◌≡◌, ◌≤◌, ◌+◌, ◌*◌, ◌++◌, [], List, ℕ, length, OnOk, OnErr};
+    ghost use Rattle.std.specs.Prelude.{IfErr, Err, IsErr};
     ghost use Rattle.stream_print.specs.Sinks.{PagePrints, PutsPrefix, CountsFault};
     ghost use Rattle.stream_print.specs.Carriers.{with_counts};
     ghost use Rattle.stream_print.specs.Inputs.{stream_limit, lasting_trouble, end_trouble};

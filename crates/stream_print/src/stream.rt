@@ -1,4 +1,5 @@
-ghost use Rattle.std.specs.Prelude.{◌≡◌, ◌≢◌, Option, None, ◌≤◌, ◌+◌, ◌*◌, ◌++◌, ℕ, List, length, Err};
+ghost use Rattle.std.specs.Prelude.{◌≡◌, ◌≢◌, Option, None, ◌≤◌, ◌+◌, ◌*◌, ◌++◌, ℕ, List, length};
+ghost use Rattle.std.specs.Prelude.{Err};
 ghost use Rattle.std.specs.Io.KnownBytes.{Consumes, Keeps, IsAtEnd};
 ghost use Rattle.stream_print.specs.Sinks.{CountsFault};
 ghost use Rattle.stream_print.specs.Feeding.{Fed, StreamFeeds};

@@ -1,11 +1,13 @@
-ghost use Rattle.std.specs.Prelude.{◌≡◌, ◌≢◌, ◌+◌, [], ◌∷◌, List, length, OnOk, OnErr, IfOk, IfErr, Err};
+ghost use Rattle.std.specs.Prelude.{◌≡◌, ◌≢◌, ◌+◌, [], ◌∷◌, List, length, OnOk, OnErr, IfOk, IfErr};
+ghost use Rattle.std.specs.Prelude.{Err};
 ghost use Rattle.unit_packets.specs.Blocks.{Block};
 ghost use Rattle.feed_lines.specs.Follow.{line_after};
 ghost use Rattle.unit_clients.specs.Clients.{HaveHeard};
 ghost use Rattle.stream_print.specs.Holding.{CanHold};
 ghost use Rattle.stream_print.specs.Knowing.{task_form, Knows};
 ghost use Rattle.stream_print.specs.Printing.{PrintsBlock, FailsBlock};
-ghost use Rattle.stream_print.specs.Sinks.{PagePrints, PagePrintsSuch, PutsPrefix, PutsPrefixSuch, CountsFault};
+ghost use Rattle.stream_print.specs.Sinks.{PagePrints, PagePrintsSuch, PutsPrefix, PutsPrefixSuch};
+ghost use Rattle.stream_print.specs.Sinks.{CountsFault};
 ghost use Rattle.stream_print.specs.Texts.{IsEnd, IsPrefixOfEnd};
 
 use crate::books::print_books;

@@ -11,11 +11,13 @@ pub record Field : Type 0 where
 -- the parts of a line between its spaces, each at its column; one space stands between two parts
 abbrev pub placed : ℕ → List (List ℕ) → List Field
 placed column [] = []
-placed column (part ∷ parts) = record { column = column; bytes = part } ∷ placed (column + length part + 1) parts
+placed column (part ∷ parts) =
+    record { column = column; bytes = part } ∷ placed (column + length part + 1) parts
 
 -- the fields of the bytes from a column on: the parts that are not empty
 abbrev pub fields_from : ℕ → List ℕ → List Field
-fields_from column line = filter (λ f. not (length f.bytes == 0)) (placed column (slice_split (λ b. b == 32) line))
+fields_from column line =
+    filter (λ f. not (length f.bytes == 0)) (placed column (slice_split (λ b. b == 32) line))
 
 -- the fields of a line
 abbrev pub fields_of : List ℕ → List Field
@@ -29,11 +31,13 @@ pub record Rest : Type 0 where
 
 -- a field as a value that a type of the code can stand for
 abbrev pub field_code : Coded Field
-field_code = code_by (ℕ × List ℕ) (coded× coded_ℕ (coded_list coded_ℕ)) (λ f. (f.column, f.bytes)) (λ p. record { column = p.0; bytes = p.1 }) (λ _. refl)
+field_code = code_by (ℕ × List ℕ) (coded× coded_ℕ (coded_list coded_ℕ))
+    (λ f. (f.column, f.bytes)) (λ p. record { column = p.0; bytes = p.1 }) (λ _. refl)
 
 -- likewise for what is left of a line
 abbrev pub rest_code : Coded Rest
-rest_code = code_by (ℕ × List Field) (coded× coded_ℕ (coded_list field_code)) (λ r. (r.past, r.fields)) (λ p. record { past = p.0; fields = p.1 }) (λ _. refl)
+rest_code = code_by (ℕ × List Field) (coded× coded_ℕ (coded_list field_code))
+    (λ r. (r.past, r.fields)) (λ p. record { past = p.0; fields = p.1 }) (λ _. refl)
 
 -- what is left after a field
 abbrev pub rest_after : Field → List Field → Rest

@@ -1,5 +1,7 @@
 -- What the bytes of a field say.
-use Rattle.std.specs.Prelude.{ℕ, ◌+◌, ◌*◌, ◌-◌, ◌^◌, ◌==◌, ◌&&◌, Bool, false, nat_eq, nat_lt, nat_le, List, [], ◌∷◌, ◌++◌, length, replicate, Option, Some, None, if◌then◌else◌}
+use Rattle.std.specs.Prelude.{ℕ, ◌+◌, ◌*◌, ◌-◌, ◌^◌, ◌==◌, ◌&&◌, Bool, false, nat_eq, nat_lt}
+use Rattle.std.specs.Prelude.{nat_le, List, [], ◌∷◌, ◌++◌, length, replicate, Option, Some, None}
+use Rattle.std.specs.Prelude.{if◌then◌else◌}
 use Rattle.std.specs.List.{list_all, before_first, after_first, position_or_len}
 use Rattle.std.specs.Cmp.Lexicographic.{pointwise}
 use Rattle.std.specs.Char.{is_ascii_digit}
@@ -13,7 +15,9 @@ use Rattle.pitch_fields.specs.Side.{side_of}
 
 -- the number that 1 to so many digits write
 abbrev pub digits_of : ℕ → List ℕ → Option ℕ
-digits_of most bytes = if nat_lt 0 (length bytes) && nat_le (length bytes) most && list_all is_ascii_digit bytes then Some (digits_value 10 bytes) else None
+digits_of most bytes =
+    if nat_lt 0 (length bytes) && nat_le (length bytes) most && list_all is_ascii_digit bytes
+    then Some (digits_value 10 bytes) else None
 
 -- a number, where it lies in a range
 abbrev pub within : ℕ → ℕ → ℕ → Option ℕ
@@ -29,7 +33,9 @@ offset_of = number_of 0 999999999
 
 -- a number of a range, or nothing where the word in its place stands
 abbrev pub number_or : List ℕ → ℕ → ℕ → List ℕ → Option (Option ℕ)
-number_or word low high bytes = if pointwise nat_eq bytes word then Some None else option_map (λ n. Some n) (number_of low high bytes)
+number_or word low high bytes =
+    if pointwise nat_eq bytes word
+    then Some None else option_map (λ n. Some n) (number_of low high bytes)
 
 -- whether a field is meant as a number
 abbrev pub begins_with_digit : List ℕ → Bool
@@ -54,7 +60,9 @@ byte_in _ = None
 
 -- 1 to so many printing bytes, and spaces after them up to that width
 abbrev pub padded_of : ℕ → List ℕ → Option (List ℕ)
-padded_of width bytes = if nat_lt 0 (length bytes) && nat_le (length bytes) width && list_all is_printing bytes then Some (bytes ++ replicate (width - length bytes) 32) else None
+padded_of width bytes =
+    if nat_lt 0 (length bytes) && nat_le (length bytes) width && list_all is_printing bytes
+    then Some (bytes ++ replicate (width - length bytes) 32) else None
 
 -- the eight bytes of a symbol
 abbrev pub symbol_of : List ℕ → Option (List ℕ)
@@ -82,5 +90,6 @@ price_sum whole fraction = option_and_then (λ n. option_map (λ m. n * 10000 + 
 abbrev pub price_in : List ℕ → Option ℕ
 price_in bytes =
     let whole = digits_of 16 (before_first is_point bytes) in
-    let fraction = if nat_lt (position_or_len is_point bytes) (length bytes) then fraction_of (after_first is_point bytes) else Some 0 in
+    let fraction = if nat_lt (position_or_len is_point bytes) (length bytes)
+    then fraction_of (after_first is_point bytes) else Some 0 in
     option_and_then (within 0 (2 ^ 64 - 1)) (price_sum whole fraction)

@@ -1,10 +1,13 @@
 -- Reading a line's fields from the left, up to the first fault.
-use Rattle.std.specs.Prelude.{◌≡◌, ℕ, ◌-◌, ◌^◌, List, [], ◌∷◌, Option, Some, None, Result, Ok, Err, if◌then◌else◌}
+use Rattle.std.specs.Prelude.{◌≡◌, ℕ, ◌-◌, ◌^◌, List, [], ◌∷◌, Option, Some, None, Result, Ok, Err}
+use Rattle.std.specs.Prelude.{if◌then◌else◌}
 use Rattle.text_lines.specs.declared.fault.TextCause.{TextCause}
-use Rattle.text_lines.specs.declared.fault.TextCause.TheVariants.{MissingField, BadWord, BadNumber, BadPrice, BadSymbol}
+use Rattle.text_lines.specs.declared.fault.TextCause.TheVariants.{MissingField, BadWord, BadNumber}
+use Rattle.text_lines.specs.declared.fault.TextCause.TheVariants.{BadPrice, BadSymbol}
 use Rattle.text_lines.specs.declared.fault.Fault.{Fault}
 use Rattle.pitch_fields.specs.declared.side.Side.{Side}
-use Rattle.text_lines.specs.Kinds.{number_of, number_or, begins_with_digit, byte_in, side_in, symbol_of, price_in}
+use Rattle.text_lines.specs.Kinds.{number_of, number_or, begins_with_digit, byte_in, side_in}
+use Rattle.text_lines.specs.Kinds.{symbol_of, price_in}
 use Rattle.text_lines.specs.Fields.{Field, Rest, rest_after}
 
 -- a value and what is left of the line, or the first fault
@@ -12,7 +15,8 @@ abbrev pub LineReading : Type 0 → Type 0
 LineReading A = Rest → Result (A × Rest) Fault
 
 -- what was read, and then what the value makes of the rest
-abbrev pub then_read : {A B : Type 0} → Result (A × Rest) Fault → (A → LineReading B) → Result (B × Rest) Fault
+abbrev pub then_read : {A B : Type 0}
+    → Result (A × Rest) Fault → (A → LineReading B) → Result (B × Rest) Fault
 then_read (Ok x) next = next x.0 x.1
 then_read (Err f) next = Err f
 
@@ -36,9 +40,11 @@ or_fault (Some x) column cause rest = Ok (x, rest)
 
 -- a required field, where bytes without a meaning have a cause that they choose. A missing field is
 -- missed one past what was read.
-abbrev pub choice_on : {A : Type 0} → (List ℕ → Option A) → (List ℕ → TextCause) → ℕ → List Field → Result (A × Rest) Fault
+abbrev pub choice_on : {A : Type 0}
+    → (List ℕ → Option A) → (List ℕ → TextCause) → ℕ → List Field → Result (A × Rest) Fault
 choice_on meaning cause past [] = Err (fault_in_column past MissingField)
-choice_on meaning cause past (f ∷ fields) = or_fault (meaning f.bytes) f.column (cause f.bytes) (rest_after f fields)
+choice_on meaning cause past (f ∷ fields) =
+    or_fault (meaning f.bytes) f.column (cause f.bytes) (rest_after f fields)
 
 -- the same of what is left of a line
 abbrev pub choice : {A : Type 0} → (List ℕ → Option A) → (List ℕ → TextCause) → LineReading A
@@ -57,7 +63,8 @@ number low high = field (number_of low high) BadNumber
 -- A number of 32 bits, or the word in its place. A field that begins with a digit is meant as a
 -- number.
 abbrev pub count_or : List ℕ → ℕ → LineReading (Option ℕ)
-count_or word low = choice (number_or word low (2 ^ 32 - 1)) (λ bytes. if begins_with_digit bytes then BadNumber else BadWord)
+count_or word low = choice (number_or word low (2 ^ 32 - 1))
+    (λ bytes. if begins_with_digit bytes then BadNumber else BadWord)
 
 -- a side
 abbrev pub side_field : LineReading Side

@@ -20,4 +20,5 @@ IsNext fields (Some f) = (more : List Field) × (fields ≡ field_of f ∷ more)
 -- the first field was taken
 abbrev pub TakesField : Rest → Option FoundField → Rest → Type 0
 TakesField old None new = (old.fields ≡ []) × (new ≡ old)
-TakesField old (Some f) new = (more : List Field) × (old.fields ≡ field_of f ∷ more) × (new ≡ rest_after (field_of f) more)
+TakesField old (Some f) new =
+    (more : List Field) × (old.fields ≡ field_of f ∷ more) × (new ≡ rest_after (field_of f) more)

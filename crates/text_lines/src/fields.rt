@@ -31,7 +31,8 @@ impl<'a> Model for LineFields<'a> {
 
     ghost view = { λ l. record { past = l.past; fields = seen l.next l.rest.now } };
 
-    ghost invariant = { λ l. ForSome l.next (λ f. f.column + length f.bytes.now + length l.rest.now < 2 ^ 32) };
+    ghost invariant = { λ l. ForSome l.next
+        (λ f. f.column + length f.bytes.now + length l.rest.now < 2 ^ 32) };
 }
 
 impl<'a> LineFields<'a> {
@@ -86,7 +87,8 @@ impl<'a> LineFields<'a> {
 fn scan<'a>(line: &'a [u8], column: u32) -> (Option<FoundField<'a>>, &'a [u8])
     requires { column + length line.now < 2 ^ 32 }
     ensures fields { seen result.0 result.1.now ≡ fields_from column line.now }
-    ensures room { ForSome result.0 (λ f. f.column + length f.bytes.now + length result.1.now < 2 ^ 32) }
+    ensures room { ForSome result.0
+        (λ f. f.column + length f.bytes.now + length result.1.now < 2 ^ 32) }
 {
     let mut rest = line;
     let mut column = column;

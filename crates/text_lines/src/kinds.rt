@@ -1,9 +1,11 @@
-ghost use Rattle.std.specs.Prelude.{◌≡◌, ◌+◌, ◌*◌, ◌≤◌, ◌<◌, ◌^◌, ◌&&◌, IfSome, Some, None, if◌then◌else◌, length, nat_lt, nat_le};
+ghost use Rattle.std.specs.Prelude.{◌≡◌, ◌+◌, ◌*◌, ◌≤◌, ◌<◌, ◌^◌, ◌&&◌, IfSome, Some, None};
+ghost use Rattle.std.specs.Prelude.{if◌then◌else◌, length, nat_lt, nat_le};
 ghost use Rattle.std.specs.List.{list_all};
 ghost use Rattle.std.specs.Char.{is_ascii_digit, digit_value};
 ghost use Rattle.std.specs.Str.Parse.{digits_value};
 ghost use Rattle.pitch_fields.specs.Name.{is_printing};
-ghost use Rattle.text_lines.specs.Kinds.{number_of, digits_of, fraction_of, price_in, byte_in, side_in, symbol_of, participant_of};
+ghost use Rattle.text_lines.specs.Kinds.{number_of, digits_of, fraction_of, price_in, byte_in};
+ghost use Rattle.text_lines.specs.Kinds.{side_in, symbol_of, participant_of};
 
 use crate::fields::length_before;
 use pitch_fields::{Price, Side, Symbol, are_printing, is_printing};
@@ -56,7 +58,8 @@ fn with_digit(value: u128, byte: u8) -> Option<u128>
 #[inline]
 fn short_digits(bytes: &[u8]) -> Option<u64>
     requires { length bytes.now ≤ 19 }
-    ensures value { result ≡ (if list_all is_ascii_digit bytes.now then Some (digits_value 10 bytes.now) else None) }
+    ensures value { result
+        ≡ (if list_all is_ascii_digit bytes.now then Some (digits_value 10 bytes.now) else None) }
     ensures small { IfSome result (λ n. n < 10 ^ 19) }
 {
     let mut value: u64 = 0;
@@ -160,7 +163,8 @@ pub fn participant(bytes: &[u8]) -> Option<[u8; 4]>
 // backslash.
 #[inline]
 fn is_name(bytes: &[u8], width: usize) -> bool
-    ensures { result ≡ nat_lt 0 (length bytes.now) && nat_le (length bytes.now) width && list_all is_printing bytes.now }
+    ensures { result ≡ nat_lt 0 (length bytes.now)
+        && nat_le (length bytes.now) width && list_all is_printing bytes.now }
 {
     !bytes.is_empty() && bytes.len() <= width && are_printing(bytes)
 }

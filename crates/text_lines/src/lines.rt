@@ -1,9 +1,11 @@
-ghost use Rattle.std.specs.Prelude.{◌≡◌, ◌≤◌, ◌<◌, ◌^◌, OnOk, OnErr, IfErr, length, take, option_map};
+ghost use Rattle.std.specs.Prelude.{◌≡◌, ◌≤◌, ◌<◌, ◌^◌, OnOk, OnErr, IfErr, length, take};
+ghost use Rattle.std.specs.Prelude.{option_map};
 ghost use Rattle.std.specs.Iterator.{YieldsFirst, item_count};
 ghost use Rattle.std.specs.Str.Lines.{strip_carriage_return};
 ghost use Rattle.text_lines.specs.Fields.{Rest};
 ghost use Rattle.text_lines.specs.Reading.{Reads};
-ghost use Rattle.text_lines.specs.Text.{line_of, is_skipped, too_long, said_on, item_of, items_of, entries_of, IsFirstLine, AppendsEntries, IsFirstFault};
+ghost use Rattle.text_lines.specs.Text.{line_of, is_skipped, too_long, said_on, item_of, items_of};
+ghost use Rattle.text_lines.specs.Text.{entries_of, IsFirstLine, AppendsEntries, IsFirstFault};
 
 use crate::fault::{Fault, TextCause, TextError};
 use crate::fields::{LineFields, length_before};
@@ -106,7 +108,8 @@ impl<'a, G: Grammar> Iterator for Lines<'a, G> {
 /// first fault. After an error, want of memory among them, the list is as before.
 pub fn read_text<G: Grammar>(text: &[u8], out: &mut List<G::Entry>) -> Result<(), TextError>
     requires { length text.now ≤ 67108864 }
-    ensures entries { OnOk result (AppendsEntries G.entry_of (entries_of G.reading text.now) out.old.items out.new.items) }
+    ensures entries { OnOk result
+        (AppendsEntries G.entry_of (entries_of G.reading text.now) out.old.items out.new.items) }
     ensures bad { IfErr result (IsFirstFault (entries_of G.reading text.now)) }
     ensures kept { OnErr result (out.new.items ≡ out.old.items) }
 {
@@ -123,7 +126,8 @@ pub fn read_text<G: Grammar>(text: &[u8], out: &mut List<G::Entry>) -> Result<()
 // Appends the entries of the lines up to the first fault.
 fn take_lines<G: Grammar>(text: &[u8], out: &mut List<G::Entry>) -> Result<(), TextError>
     requires { length text.now ≤ 67108864 }
-    ensures entries { OnOk result (AppendsEntries G.entry_of (entries_of G.reading text.now) out.old.items out.new.items) }
+    ensures entries { OnOk result
+        (AppendsEntries G.entry_of (entries_of G.reading text.now) out.old.items out.new.items) }
     ensures bad { IfErr result (IsFirstFault (entries_of G.reading text.now)) }
     ensures kept { take (length out.old.items) out.new.items ≡ out.old.items }
 {
@@ -140,7 +144,8 @@ fn take_lines<G: Grammar>(text: &[u8], out: &mut List<G::Entry>) -> Result<(), T
 #[inline]
 fn line_item<G: Grammar>(line: &[u8], number: u32) -> Option<Result<G::Entry, TextError>>
     requires { length line.now < 2 ^ 31 }
-    ensures { result ≡ option_map (item_of G.entry_of) (said_on number (line_of G.reading line.now)) }
+    ensures { result ≡ option_map
+        (item_of G.entry_of) (said_on number (line_of G.reading line.now)) }
 {
     match read_line::<G>(line) {
         Ok(None) => None,

@@ -32,7 +32,8 @@ pub fn next_value(
     low: u32,
     high: u32,
 ) -> Result<Option<u32>, Fault>
-    ensures { Reads (value_next name.now (number_of low high) TextCause.BadNumber fields.old) result fields.new }
+    ensures { Reads (value_next name.now (number_of low high) TextCause.BadNumber fields.old)
+        result fields.new }
 {
     let Some(field) = fields.peek() else {
         return Ok(None);

@@ -1,7 +1,8 @@
 ghost use Rattle.std.specs.Prelude.{◌≡◌, if◌then◌else◌};
 ghost use Rattle.text_lines.specs.Kinds.{begins_with_digit};
 ghost use Rattle.text_lines.specs.Options.{ends};
-ghost use Rattle.text_lines.specs.Reading.{Reads, number, count_or, byte_field, side_field, symbol_field, price_field};
+ghost use Rattle.text_lines.specs.Reading.{Reads, number, count_or, byte_field, side_field};
+ghost use Rattle.text_lines.specs.Reading.{symbol_field, price_field};
 
 use crate::fault::{Fault, TextCause};
 use crate::fields::LineFields;

@@ -1,5 +1,6 @@
 -- What the clients of all units stand for, once some blocks were heard. Blocks stand newest first.
-use Rattle.std.specs.Prelude.{◌≡◌, ℕ, ◌<◌, Bool, true, false, ◌==◌, List, length, Option, Some, None, slice_get}
+use Rattle.std.specs.Prelude.{◌≡◌, ℕ, ◌<◌, Bool, true, false, ◌==◌, List, length, Option, Some}
+use Rattle.std.specs.Prelude.{None, slice_get}
 use Rattle.std.specs.List.{list_any}
 use Rattle.unit_packets.specs.Blocks.{Block}
 use Rattle.pitch_model.specs.History.{Raw, Entry}
@@ -24,7 +25,8 @@ AreUnits before = (unit : ℕ) → is_named before unit ≡ true → unit < 256
 -- bring it
 abbrev pub IsClient : ℕ → List Block → ℕ → Option UnitClient → Type 0
 IsClient H before unit None = is_named before unit ≡ false
-IsClient H before unit (Some client) = (is_named before unit ≡ true) × Tracks client H (unit_history unit before)
+IsClient H before unit (Some client) =
+    (is_named before unit ≡ true) × Tracks client H (unit_history unit before)
 
 -- there is a client, and it stands for this history
 abbrev pub TracksAt : ℕ → List Entry → Option UnitClient → Type 0
@@ -40,7 +42,8 @@ IsSlotAsBefore (Some client) (Some client') = IsAsBefore client client'
 -- each of the 256 units has its place
 pub record Clients (H : ℕ) (clients : List (Option UnitClient)) (before : List Block) : Type 0 where
   pub many : length clients ≡ 256
-  pub each : (unit : ℕ) (client : Option UnitClient) → slice_get clients unit ≡ Some client → IsClient H before unit client
+  pub each : (unit : ℕ) (client : Option UnitClient)
+      → slice_get clients unit ≡ Some client → IsClient H before unit client
 
 -- a unit's client, where it has one, keeps to its venue's messages
 abbrev pub KeepsTo : List Raw → Option UnitClient → Type 0
@@ -48,11 +51,13 @@ KeepsTo V None = Unit {0}
 KeepsTo V (Some client) = Keeps client V
 
 abbrev pub AllKeep : (ℕ → List Raw) → List (Option UnitClient) → Type 0
-AllKeep Vs clients = (unit : ℕ) (client : Option UnitClient) → slice_get clients unit ≡ Some client → KeepsTo (Vs unit) client
+AllKeep Vs clients = (unit : ℕ) (client : Option UnitClient)
+    → slice_get clients unit ≡ Some client → KeepsTo (Vs unit) client
 
 -- each unit's client heard its blocks, and keeps to its venue's messages wherever the blocks speak
 -- of no others
 pub record HaveHeard (units : Units) (before : List Block) : Type 0 where
   pub clients : Clients units.limit units.clients before
   pub named : AreUnits before
-  pub keep : (Image : List Raw → ℕ → List Raw) (Vs : ℕ → List Raw) → AllHonest Image Vs before → AllKeep Vs units.clients
+  pub keep : (Image : List Raw → ℕ → List Raw) (Vs : ℕ → List Raw)
+      → AllHonest Image Vs before → AllKeep Vs units.clients

@@ -6,7 +6,8 @@ ghost use Rattle.pitch_model.specs.Units.{unit_history};
 ghost use Rattle.pitch_model.specs.Heard.{heard_block, block_change};
 ghost use Rattle.pitch_model.specs.Honest.{Honest};
 ghost use Rattle.client_core.specs.Tracks.{Tracks, Keeps, IsAsBefore};
-ghost use Rattle.unit_clients.specs.Clients.{IsClient, TracksAt, IsSlotAsBefore, KeepsTo, HaveHeard};
+ghost use Rattle.unit_clients.specs.Clients.{IsClient, TracksAt, IsSlotAsBefore, KeepsTo};
+ghost use Rattle.unit_clients.specs.Clients.{HaveHeard};
 
 use crate::places::empty_places;
 use client_core::{Change, UnitClient};
@@ -36,16 +37,20 @@ impl Model for Units {
 
     ghost coded = { Prim.hlevel (codes, client.the_row.coded) };
 
-    ghost invariant = { λ u. (1 ≤ u.limit) × (u.limit ≤ most_held) × (length u.clients.items ≡ 256) };
+    ghost invariant = { λ u. (1 ≤ u.limit)
+        × (u.limit ≤ most_held) × (length u.clients.items ≡ 256) };
 }
 
 // Hands a block to a client.
 #[inline]
 fn hear(client: &mut UnitClient, block: &BlockView<'_>) -> Result<Change, OutOfMemory>
     // A client that stood for a history then stands for it with the block after it.
-    ensures tracks { OnOk result ((H : ℕ) (E : List Entry) → Tracks client.old H E → Tracks client.new H (heard_block block.now E)) }
-    ensures keeps { OnOk result ((Image : List Raw → ℕ → List Raw) (V : List Raw) (E : List Entry) → Honest Image V (heard_block block.now E) → Keeps client.old V → Keeps client.new V) }
-    ensures change { IfOk result (λ change. (H : ℕ) (E : List Entry) → Tracks client.old H E → change ≡ block_change H E block.now) }
+    ensures tracks { OnOk result ((H : ℕ) (E : List Entry)
+        → Tracks client.old H E → Tracks client.new H (heard_block block.now E)) }
+    ensures keeps { OnOk result ((Image : List Raw → ℕ → List Raw) (V : List Raw) (E : List Entry)
+        → Honest Image V (heard_block block.now E) → Keeps client.old V → Keeps client.new V) }
+    ensures change { IfOk result (λ change. (H : ℕ) (E : List Entry)
+        → Tracks client.old H E → change ≡ block_change H E block.now) }
     ensures err { OnErr result (IsAsBefore client.old client.new) }
 {
     client.hear_block(block.header().sequence, block.raws())
@@ -63,11 +68,14 @@ fn hear_at(
     requires { (1 ≤ limit) × (limit ≤ most_held) }
     // Where the place was right for some blocks of a unit, the client there then stands for the
     // unit's history by them with this block after it.
-    ensures tracks { OnOk result ((before : List Block) (unit : ℕ) → IsClient limit before unit slot.old → TracksAt limit (heard_block block.now (unit_history unit before)) slot.new) }
+    ensures tracks { OnOk result ((before : List Block) (unit : ℕ) → IsClient limit before unit
+        slot.old → TracksAt limit (heard_block block.now (unit_history unit before)) slot.new) }
     // Where a history with this block speaks of one venue's messages alone, the client keeps to
     // them.
-    ensures keeps { OnOk result ((Image : List Raw → ℕ → List Raw) (V : List Raw) (E : List Entry) → Honest Image V (heard_block block.now E) → KeepsTo V slot.old → KeepsTo V slot.new) }
-    ensures change { IfOk result (λ change. (before : List Block) (unit : ℕ) → IsClient limit before unit slot.old → change ≡ block_change limit (unit_history unit before) block.now) }
+    ensures keeps { OnOk result ((Image : List Raw → ℕ → List Raw) (V : List Raw) (E : List Entry)
+        → Honest Image V (heard_block block.now E) → KeepsTo V slot.old → KeepsTo V slot.new) }
+    ensures change { IfOk result (λ change. (before : List Block) (unit : ℕ) → IsClient limit
+        before unit slot.old → change ≡ block_change limit (unit_history unit before) block.now) }
     ensures err { OnErr result (IsSlotAsBefore slot.old slot.new) }
 {
     match slot {
@@ -103,13 +111,15 @@ impl Units {
     ) -> Result<Change, OutOfMemory>
         ensures limit { self.new.limit ≡ self.old.limit }
         // Whatever blocks came before, the clients then stand for these with the block after them.
-        ensures heard { OnOk result ((before : List Block) → HaveHeard self.old before → HaveHeard self.new (block.now ∷ before)) }
+        ensures heard { OnOk result ((before : List Block)
+            → HaveHeard self.old before → HaveHeard self.new (block.now ∷ before)) }
         // The answer is what the block changes for a client that has heard the unit's blocks
         // before.
         ensures change { IfOk result (λ change. (before : List Block) → HaveHeard self.old before
             → change ≡ block_change self.old.limit (unit_history block.now.unit before) block.now) }
         // After an error they stand for the blocks for which they stood before.
-        ensures err { OnErr result ((before : List Block) → HaveHeard self.old before → HaveHeard self.new before) }
+        ensures err { OnErr result
+            ((before : List Block) → HaveHeard self.old before → HaveHeard self.new before) }
     {
         let unit = block.header().unit as usize;
         let change = hear_at(alloc, self.limit, &mut self.clients[unit], block)?;

@@ -1,10 +1,13 @@
 -- How a stream is cut into blocks, computed.
-use Rattle.std.specs.Prelude.{ℕ, zero, suc, ◌-◌, Bool, true, false, List, [], ◌∷◌, length, drop, Option, None, Some, Result, Ok, Err, if◌then◌else◌}
+use Rattle.std.specs.Prelude.{ℕ, zero, suc, ◌-◌, Bool, true, false, List, [], ◌∷◌, length, drop}
+use Rattle.std.specs.Prelude.{Option, None, Some, Result, Ok, Err, if◌then◌else◌}
 use Rattle.unit_packets.specs.Blocks.{Block}
 use Rattle.unit_packets.specs.Judging.{judge, block_at}
 use Rattle.unit_packets.specs.declared.header.Header.{Header}
 use Rattle.unit_packets.specs.declared.header.BlockError.{BlockError}
-use Rattle.unit_packets.specs.declared.header.BlockError.TheVariants.{Truncated, LengthBelowHeader, SequencePast, TinyMessage, MessageOverrun, Spare}
+use Rattle.unit_packets.specs.declared.header.BlockError.TheVariants.{Truncated, LengthBelowHeader}
+use Rattle.unit_packets.specs.declared.header.BlockError.TheVariants.{SequencePast, TinyMessage}
+use Rattle.unit_packets.specs.declared.header.BlockError.TheVariants.{MessageOverrun, Spare}
 use Rattle.unit_packets.specs.declared.header.BlockFault.{BlockFault}
 
 abbrev pub blocks_on : (List ℕ → List Block) → List ℕ → Result Header BlockError → List Block
@@ -47,7 +50,9 @@ is_truncated (Spare place) = false
 -- stream has ended
 abbrev pub fault_from : Bool → ℕ → Result Header BlockError → Option BlockFault
 fault_from ended place (Ok h) = None
-fault_from ended place (Err e) = if is_truncated e then (if ended then Some (record { place = place; error = e }) else None) else Some (record { place = place; error = e })
+fault_from ended place (Err e) =
+    if is_truncated e then (if ended then Some (record { place = place; error = e }) else None)
+    else Some (record { place = place; error = e })
 
 abbrev pub fault_in : Bool → ℕ → List ℕ → Option BlockFault
 fault_in ended place [] = None

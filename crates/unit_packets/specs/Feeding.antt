@@ -1,5 +1,6 @@
 -- A stream that is fed in pieces.
-use Rattle.std.specs.Prelude.{◌≡◌, ℕ, ◌≤◌, ◌⊎◌, true, false, List, [], ◌∷◌, ◌++◌, length, drop, Option, None, Some, Result, Ok, Err}
+use Rattle.std.specs.Prelude.{◌≡◌, ℕ, ◌≤◌, ◌⊎◌, true, false, List, [], ◌∷◌, ◌++◌, length, drop}
+use Rattle.std.specs.Prelude.{Option, None, Some, Result, Ok, Err}
 use Rattle.std.specs.Option.{IsSome}
 use Rattle.std.specs.List.{concat}
 use Rattle.unit_packets.specs.Blocks.{Block}
@@ -43,7 +44,8 @@ ended_answer (Some fault) = Err fault
 
 -- one piece more was fed: the reader stands for all bytes, the blocks that became whole were put
 -- out, and the answer is the fault of all bytes
-pub record Feeds (fed piece : List ℕ) (new : Reading) (before after : List Block) (answer : Result (Unit {0}) FeedError) : Type 0 where
+pub record Feeds (fed piece : List ℕ) (new : Reading)
+    (before after : List Block) (answer : Result (Unit {0}) FeedError) : Type 0 where
   pub stands : StandsFor new (fed ++ piece)
   pub added : List Block
   pub given : after ≡ before ++ added
@@ -62,7 +64,8 @@ IsRepeated None answer P = Unit {0}
 IsRepeated (Some fault) answer P = (answer ≡ Err (Fault fault)) × P
 
 -- the bytes of a piece, cut into blocks, and what stands where no further block does
-pub record CutsTo (bytes : List ℕ) (passed : ℕ) (error : BlockError) (before after : List Block) : Type 0 where
+pub record CutsTo (bytes : List ℕ) (passed : ℕ) (error : BlockError) (before after : List Block) :
+    Type 0 where
   pub within : passed ≤ length bytes
   pub rest : rest_of bytes ≡ drop passed bytes
   pub blocks : after ≡ before ++ blocks_of bytes
@@ -74,14 +77,20 @@ abbrev pub FeedsAll : List (List ℕ) → Reading → Reading → List Block →
 FeedsAll [] old new before after = (new ≡ old) × (after ≡ before)
 FeedsAll (piece ∷ pieces) old new before after =
     (next : Reading) × (middle : List Block) × (answer : Result (Unit {0}) FeedError)
-    × ((fed : List ℕ) → StandsFor old fed → Feeds fed piece next before middle answer) × FeedsAll pieces next new middle after
+    × ((fed : List ℕ) → StandsFor old fed → Feeds fed piece next before middle answer)
+    × FeedsAll pieces next new middle after
 
 -- what was fed in pieces is cut as all bytes in one are
 abbrev pub PiecesAreCut : Type 0
-PiecesAreCut = (pieces : List (List ℕ)) (reading : Reading) (blocks : List Block) → FeedsAll pieces unread reading [] blocks
-    → (blocks ≡ blocks_of (concat pieces)) × (kept_fault reading ≡ fed_fault (concat pieces)) × StandsFor reading (concat pieces)
+PiecesAreCut = (pieces : List (List ℕ)) (reading : Reading) (blocks : List Block)
+    → FeedsAll pieces unread reading [] blocks
+    → (blocks ≡ blocks_of (concat pieces))
+    × (kept_fault reading ≡ fed_fault (concat pieces)) × StandsFor reading (concat pieces)
 
 -- so other pieces of the same bytes give the same blocks and the same fault
 abbrev pub PiecesDoNotMatter : Type 0
-PiecesDoNotMatter = (pieces others : List (List ℕ)) (reading left : Reading) (blocks some : List Block) → concat pieces ≡ concat others
-    → FeedsAll pieces unread reading [] blocks → FeedsAll others unread left [] some → (blocks ≡ some) × (kept_fault reading ≡ kept_fault left)
+PiecesDoNotMatter =
+    (pieces others : List (List ℕ)) (reading left : Reading) (blocks some : List Block)
+    → concat pieces ≡ concat others
+    → FeedsAll pieces unread reading [] blocks → FeedsAll others unread left [] some
+    → (blocks ≡ some) × (kept_fault reading ≡ kept_fault left)

@@ -7,7 +7,12 @@ use Rattle.unit_packets.specs.declared.header.Header.{Header}
 
 -- the header of a block
 abbrev pub header_for : Block → Header
-header_for block = record { length = 8 + length (concat block.raws); count = length block.raws; unit = block.unit; sequence = block.sequence }
+header_for block = record {
+  length = 8 + length (concat block.raws);
+  count = length block.raws;
+  unit = block.unit;
+  sequence = block.sequence;
+}
 
 -- the block stands at the start of the bytes
 pub record StandsFirst (bytes : List ℕ) (block : Block) : Type 0 where

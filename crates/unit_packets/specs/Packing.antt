@@ -1,5 +1,6 @@
 -- How messages are packed into datagrams.
-use Rattle.std.specs.Prelude.{◌≡◌, ℕ, ◌+◌, ◌≤◌, ◌<◌, Bool, ◌&&◌, nat_le, nat_eq, List, [], ◌∷◌, ◌++◌, length, map, if◌then◌else◌}
+use Rattle.std.specs.Prelude.{◌≡◌, ℕ, ◌+◌, ◌≤◌, ◌<◌, Bool, ◌&&◌, nat_le, nat_eq, List, [], ◌∷◌}
+use Rattle.std.specs.Prelude.{◌++◌, length, map, if◌then◌else◌}
 use Rattle.std.specs.List.{concat}
 use Rattle.pitch_messages.specs.Room.{Roomy}
 use Rattle.unit_packets.specs.Blocks.{most_messages, IsBlock}
@@ -34,24 +35,28 @@ IsFull raws (raw ∷ following) = FitsDatagram (raws ++ raw ∷ []) → ⊥
 abbrev pub IsPacking : ℕ → ℕ → List (List ℕ) → List (List ℕ) → Type 0
 IsPacking unit first raws [] = raws ≡ []
 IsPacking unit first raws (datagram ∷ datagrams) =
-    (prefix suffix : List (List ℕ)) × (raws ≡ prefix ++ suffix) × IsDatagram unit first prefix datagram × IsFull prefix suffix
+    (prefix suffix : List (List ℕ))
+    × (raws ≡ prefix ++ suffix) × IsDatagram unit first prefix datagram × IsFull prefix suffix
     × IsPacking unit (sequence_after first (length prefix)) suffix datagrams
 
 -- ---- The same, computed
 unfoldable pub fits_datagram : List (List ℕ) → Bool
-fits_datagram raws = nat_le (8 + length (concat raws)) datagram_size && nat_le (length raws) most_messages
+fits_datagram raws =
+    nat_le (8 + length (concat raws)) datagram_size && nat_le (length raws) most_messages
 
 -- the datagram of a block that was begun, if any
 abbrev pub begun_datagrams : ℕ → ℕ → List (List ℕ) → List (List ℕ)
 begun_datagrams unit sequence [] = []
-begun_datagrams unit sequence (raw ∷ raws) = block_bytes (record { unit = unit; sequence = sequence; raws = raw ∷ raws }) ∷ []
+begun_datagrams unit sequence (raw ∷ raws) =
+    block_bytes (record { unit = unit; sequence = sequence; raws = raw ∷ raws }) ∷ []
 
 -- the datagrams of a block that was begun and of the messages that follow
 unfoldable pub packed_on : ℕ → ℕ → List (List ℕ) → List (List ℕ) → List (List ℕ)
 packed_on unit sequence begun [] = begun_datagrams unit sequence begun
 packed_on unit sequence begun (raw ∷ raws) =
     if fits_datagram (begun ++ raw ∷ []) then packed_on unit sequence (begun ++ raw ∷ []) raws
-    else (begun_datagrams unit sequence begun ++ packed_on unit (sequence_after sequence (length begun)) (raw ∷ []) raws)
+    else (begun_datagrams unit sequence begun
+    ++ packed_on unit (sequence_after sequence (length begun)) (raw ∷ []) raws)
 
 -- the datagrams of messages from a sequence on
 abbrev pub packed : ℕ → ℕ → List (List ℕ) → List (List ℕ)

@@ -1,10 +1,12 @@
-ghost use Rattle.std.specs.Prelude.{◌≡◌, ◌+◌, ◌≤◌, ◌<◌, ◌++◌, [], ◌∷◌, length, drop, IfOk, OnOk, OnErr, IsTrue, ◌↔◌};
+ghost use Rattle.std.specs.Prelude.{◌≡◌, ◌+◌, ◌≤◌, ◌<◌, ◌++◌, [], ◌∷◌, length, drop, IfOk, OnOk};
+ghost use Rattle.std.specs.Prelude.{OnErr, IsTrue, ◌↔◌};
 ghost use Rattle.pitch_fields.specs.Limits.{last_sequence};
 ghost use Rattle.pitch_messages.specs.Raw.{IsRaw};
 ghost use Rattle.unit_packets.specs.BlockBytes.{header_bytes, block_bytes};
 ghost use Rattle.unit_packets.specs.Blocks.{most_messages, StaysWithin};
 ghost use Rattle.unit_packets.specs.Packing.{datagram_size, sequence_after, fits_datagram};
-ghost use Rattle.unit_packets.specs.Pushing.{unpacked, next_sequence, HasPacked, Pushes, Finishes, GivesPacking};
+ghost use Rattle.unit_packets.specs.Pushing.{unpacked, next_sequence, HasPacked, Pushes, Finishes};
+ghost use Rattle.unit_packets.specs.Pushing.{GivesPacking};
 
 use crate::header::Header;
 use crate::writing::header_bytes;
@@ -41,7 +43,11 @@ impl Model for Packer {
 
     ghost Value = { Packing };
 
-    ghost view = { λ p. record { unit = p.unit; sequence = p.sequence; begun = raws_of p.count (drop 8 p.bytes.items) } };
+    ghost view = { λ p. record {
+      unit = p.unit;
+      sequence = p.sequence;
+      begun = raws_of p.count (drop 8 p.bytes.items);
+    } };
 
     ghost invariant = { λ p. IsBegun p.sequence p.count p.bytes.items };
 }
@@ -109,7 +115,8 @@ impl Packer {
     // The block that was begun has room for the message.
     #[inline]
     fn takes(&self, raw: &[u8]) -> bool
-        ensures { IsTrue result ↔ (0 < length self.now.begun) × IsTrue (fits_datagram (self.now.begun ++ raw.now ∷ [])) }
+        ensures { IsTrue result ↔ (0 < length self.now.begun)
+            × IsTrue (fits_datagram (self.now.begun ++ raw.now ∷ [])) }
     {
         is_taken(self.count, self.bytes.len() + raw.len())
     }
@@ -164,7 +171,8 @@ impl Packer {
     // Takes the block that was begun, with its header; none is begun then.
     fn close(&mut self) -> Vec<u8>
         requires { 0 < length self.old.begun }
-        ensures bytes { result.items ≡ block_bytes (record { unit = self.old.unit; sequence = self.old.sequence; raws = self.old.begun }) }
+        ensures bytes { result.items ≡ block_bytes
+            (record { unit = self.old.unit; sequence = self.old.sequence; raws = self.old.begun }) }
         ensures after { self.new ≡ unpacked self.old.unit (next_sequence self.old) }
     {
         let header = Header {

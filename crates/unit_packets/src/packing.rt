@@ -17,7 +17,8 @@ pub fn pack(
     out: &mut DatagramList,
 ) -> Result<(), OutOfMemory>
     requires { StaysWithin first (length raws) }
-    ensures ok { OnOk result (bytes_in out.new.items ≡ bytes_in out.old.items ++ packed unit first raws.entry) }
+    ensures ok { OnOk result (bytes_in out.new.items
+        ≡ bytes_in out.old.items ++ packed unit first raws.entry) }
     // It is the one packing of them.
     ensures packing { OnOk result (IsPacking unit first raws.entry (packed unit first raws.entry)) }
     ensures err { OnErr result (out.new.items ≡ out.old.items) }

@@ -1,6 +1,8 @@
-ghost use Rattle.std.specs.Prelude.{◌≡◌, ℕ, ◌≤◌, List, ◌++◌, [], ◌∷◌, length, take, drop, vec_len, IfOk, OnOk, OnErr, Err, true};
+ghost use Rattle.std.specs.Prelude.{◌≡◌, ℕ, ◌≤◌, List, ◌++◌, [], ◌∷◌, length, take, drop, vec_len};
+ghost use Rattle.std.specs.Prelude.{IfOk, OnOk, OnErr, Err, true};
 ghost use Rattle.unit_packets.specs.Cutting.{fault_in, fault_from};
-ghost use Rattle.unit_packets.specs.Feeding.{StandsFor, Feeds, WithMemory, IsRepeated, CutsTo, kept_fault, fed_answer, ended_answer, ended_fault};
+ghost use Rattle.unit_packets.specs.Feeding.{StandsFor, Feeds, WithMemory, IsRepeated, CutsTo};
+ghost use Rattle.unit_packets.specs.Feeding.{kept_fault, fed_answer, ended_answer, ended_fault};
 ghost use Rattle.unit_packets.specs.Reading.{unread, loaded, passed, kept};
 
 use crate::block::{BlockList, FeedError};
@@ -84,8 +86,8 @@ fn cut_blocks(
     unreachable!()
 }
 
-/// Cuts a stream that comes in pieces into blocks. What is loaded and not yet passed is the stream's
-/// rest, and has its place in the stream.
+/// Cuts a stream that comes in pieces into blocks. What is loaded and not yet passed is the
+/// stream's rest, and has its place in the stream.
 #[derive(Drop)]
 pub struct BlockReader {
     stream: StreamRest,
@@ -146,9 +148,12 @@ impl BlockReader {
     /// nothing of its piece. Reader and list are as before after OutOfMemory.
     pub fn feed(&mut self, piece: &[u8], out: &mut BlockList) -> Result<(), FeedError>
         // However the bytes were cut into pieces.
-        ensures fed { WithMemory result ((fed : List ℕ) → StandsFor self.old fed → Feeds fed piece.now self.new out.old.items out.new.items result) }
-        ensures again { IsRepeated (kept_fault self.old) result ((self.new ≡ self.old) × (out.new.items ≡ out.old.items)) }
-        ensures memory { result ≡ Err FeedError.OutOfMemory → (self.new ≡ self.old) × (out.new.items ≡ out.old.items) }
+        ensures fed { WithMemory result ((fed : List ℕ) → StandsFor self.old fed
+            → Feeds fed piece.now self.new out.old.items out.new.items result) }
+        ensures again { IsRepeated
+            (kept_fault self.old) result ((self.new ≡ self.old) × (out.new.items ≡ out.old.items)) }
+        ensures memory { result ≡ Err FeedError.OutOfMemory
+            → (self.new ≡ self.old) × (out.new.items ≡ out.old.items) }
     {
         match fault_in(false, self.place(), self.rest()) {
             Some(fault) => return Err(FeedError::Fault(fault)),
@@ -173,7 +178,8 @@ impl BlockReader {
     /// fault: the one that was kept, or that the block is cut off.
     pub fn finish(&self) -> Result<(), BlockFault>
         ensures kept { result ≡ ended_answer (fault_in true self.now.place self.now.rest) }
-        ensures fed { (fed : List ℕ) → StandsFor self.now fed → result ≡ ended_answer (ended_fault fed) }
+        ensures fed { (fed : List ℕ)
+            → StandsFor self.now fed → result ≡ ended_answer (ended_fault fed) }
     {
         match fault_in(true, self.place(), self.rest()) {
             None => Ok(()),

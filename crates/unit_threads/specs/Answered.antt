@@ -1,5 +1,6 @@
 -- What a client hears of what it asked for. No caller needs this file.
-use Rattle.std.specs.Prelude.{ℕ, ◌+◌, Bool, false, true, ◌&&◌, nat_lt, List, ◌∷◌, Option, None, Some, if◌then◌else◌}
+use Rattle.std.specs.Prelude.{ℕ, ◌+◌, Bool, false, true, ◌&&◌, nat_lt, List, ◌∷◌, Option, None}
+use Rattle.std.specs.Prelude.{Some, if◌then◌else◌}
 use Rattle.unit_packets.specs.Packing.{packed}
 use Rattle.gap_store.specs.Look.{View, look, slice_of}
 use Rattle.gap_store.specs.declared.found.Found.{Found}
@@ -47,13 +48,15 @@ keeps_range v first count = (nat_lt 0 first && nat_lt 0 count) && is_found (look
 -- to a gap ask: that it is accepted and its datagrams, just where all of the range is kept
 abbrev pub heard_of_gap : View → ℕ → ℕ → ℕ → List Entry → List Entry
 heard_of_gap v unit first count E =
-    if keeps_range v first count then heard_datagrams (packed unit first (slice_of v first count)) (GapReply true ∷ E)
+    if keeps_range v first count
+    then heard_datagrams (packed unit first (slice_of v first count)) (GapReply true ∷ E)
     else GapReply false ∷ E
 
 -- to a spin ask: the image, just where it is served
 abbrev pub heard_of_spin : Served → ℕ → List Entry → List Entry
 heard_of_spin v sequence E =
-    if is_served v sequence then imaged_whole sequence (adds (image v.messages sequence)) (image v.messages sequence) E
+    if is_served v sequence
+    then imaged_whole sequence (adds (image v.messages sequence)) (image v.messages sequence) E
     else SpinReply sequence 0 false ∷ E
 
 -- to what was asked, if anything
@@ -64,10 +67,12 @@ heard_of_ask gaps images unit (Some (Spin sequence)) E = heard_of_spin images se
 
 -- ---- Copies
 -- a copy of datagrams comes, unless it is lost, and what it leads the client to ask is answered
-abbrev pub heard_of_copy : View → Served → ℕ → ℕ → ℕ → Bool → List (List ℕ) → List Entry → List Entry
+abbrev pub heard_of_copy : View
+    → Served → ℕ → ℕ → ℕ → Bool → List (List ℕ) → List Entry → List Entry
 heard_of_copy gaps images unit H heard lost datagrams E =
     if lost then E
-    else heard_of_ask gaps images unit (tick_ask H heard (heard_datagrams datagrams E)) (with_tick H heard (heard_datagrams datagrams E))
+    else heard_of_ask gaps images unit (tick_ask H heard (heard_datagrams datagrams E))
+    (with_tick H heard (heard_datagrams datagrams E))
 
 -- how many datagrams came then since the last tick
 abbrev pub heard_after_copy : Bool → ℕ → ℕ

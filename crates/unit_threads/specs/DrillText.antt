@@ -22,9 +22,11 @@ drill_kept = 4096
 -- the line of a unit: it has all messages of the plan, and the orders and shares that they leave
 unfoldable pub drill_line : ℕ → ℕ → ℕ → List ℕ
 drill_line number unit count =
-    unit_line unit (Current count) (len (book_after (plan number unit count)).orders) (shares (book_after (plan number unit count)))
+    unit_line unit (Current count) (len (book_after (plan number unit count)).orders)
+    (shares (book_after (plan number unit count)))
 
 -- the lines of the units from 1 on
 unfoldable pub drill_text : ℕ → ℕ → ℕ → List ℕ
 drill_text number zero count = []
-drill_text number (suc unit) count = drill_text number unit count ++ drill_line number (suc unit) count
+drill_text number (suc unit) count =
+    drill_text number unit count ++ drill_line number (suc unit) count

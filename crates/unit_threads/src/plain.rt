@@ -1,7 +1,8 @@
 //! One unit's drill on one thread: a venue, a gap store and an image shelf serve the client in
 //! turns.
 
-ghost use Rattle.std.specs.Prelude.{◌≡◌, ◌-◌, ◌≤◌, ◌++◌, ℕ, List, [], length, Some, OnOk, OnErr, IfOk};
+ghost use Rattle.std.specs.Prelude.{◌≡◌, ◌-◌, ◌≤◌, ◌++◌, ℕ, List, [], length, Some, OnOk, OnErr};
+ghost use Rattle.std.specs.Prelude.{IfOk};
 ghost use Rattle.std.specs.List.{AllByRecursion};
 ghost use Rattle.pitch_model.specs.Advertising.{Operation};
 ghost use Rattle.pitch_model.specs.Datagrams.{IsPiece};
@@ -13,8 +14,11 @@ ghost use Rattle.drill_client.specs.Ending.{IsAtEnd};
 ghost use Rattle.spin_server.specs.Stands.{seen_of};
 ghost use Rattle.drill_client.specs.Following.{Follows, ImageParts, IsImageOf};
 ghost use Rattle.unit_threads.specs.DrillText.{most_drilled, drill_kept, drill_line};
-ghost use Rattle.unit_threads.specs.Answered.{last_kept, heard_of_gap, heard_of_spin, heard_of_ask, heard_of_copy, heard_after_copy};
-ghost use Rattle.unit_threads.specs.Played.{command_datagrams, is_round, round_operations, plain_operations, operations_to, heard_of_round, heard_of_command, counted_with, plain_history};
+ghost use Rattle.unit_threads.specs.Answered.{last_kept, heard_of_gap, heard_of_spin, heard_of_ask};
+ghost use Rattle.unit_threads.specs.Answered.{heard_of_copy, heard_after_copy};
+ghost use Rattle.unit_threads.specs.Played.{command_datagrams, is_round, round_operations};
+ghost use Rattle.unit_threads.specs.Played.{plain_operations, operations_to, heard_of_round};
+ghost use Rattle.unit_threads.specs.Played.{heard_of_command, counted_with, plain_history};
 ghost use Rattle.unit_threads.specs.Turns.{KeepsLast, HasImages, Serves, HasPlayed, IsPlaying};
 
 use client_core::UnitClient;
@@ -73,7 +77,8 @@ impl Side {
     fn accept(&mut self, course: Course, index: u32) -> Result<(), OutOfMemory>
         requires index { (1 ≤ index) × (index ≤ most_planned) }
         requires serves { HasPlayed self.old course.number course.unit course.count (index - 1) }
-        ensures { OnOk result (IsPlaying self.new course.number course.unit course.count index (index - 1)) }
+        ensures { OnOk result
+            (IsPlaying self.new course.number course.unit course.count index (index - 1)) }
     {
         accept_command(&mut self.venue, course.number, course.unit, index)?;
         keep_last(&self.venue, &mut self.store, &mut self.shelf, course, index)?;
@@ -88,10 +93,14 @@ impl Side {
         index: u32,
     ) -> Result<DatagramList, OutOfMemory>
         requires index { 1 ≤ index }
-        requires serves { IsPlaying self.old course.number course.unit course.count index (index - 1) }
-        ensures serves { OnOk result (IsPlaying self.new course.number course.unit course.count index index) }
-        ensures datagrams { IfOk result (λ list. bytes_in list.items ≡ command_datagrams course.number course.unit index) }
-        ensures pieces { IfOk result (λ list. AllByRecursion (IsPiece (plan course.number course.unit index) course.unit) (bytes_in list.items)) }
+        requires serves { IsPlaying self.old course.number course.unit course.count index
+            (index - 1) }
+        ensures serves { OnOk result
+            (IsPlaying self.new course.number course.unit course.count index index) }
+        ensures datagrams { IfOk result
+            (λ list. bytes_in list.items ≡ command_datagrams course.number course.unit index) }
+        ensures pieces { IfOk result (λ list. AllByRecursion
+            (IsPiece (plan course.number course.unit index) course.unit) (bytes_in list.items)) }
     {
         plan_is_in_order();
         let mut out = DatagramList::make(alloc);
@@ -126,9 +135,11 @@ fn keep_last(
     requires index { (1 ≤ index) × (index ≤ most_planned) }
     requires venue { Stands venue.now (plan course.number course.unit index) (index - 1) }
     requires store { KeepsLast store.old (plan course.number course.unit (index - 1)) }
-    requires shelf { HasImages shelf.old (plain_operations course.number course.unit course.count (index - 1)) (plan course.number course.unit (index - 1)) }
+    requires shelf { HasImages shelf.old (plain_operations course.number course.unit course.count
+        (index - 1)) (plan course.number course.unit (index - 1)) }
     ensures store { OnOk result (KeepsLast store.new (plan course.number course.unit index)) }
-    ensures shelf { OnOk result (HasImages shelf.new (operations_to course.number course.unit course.count index) (plan course.number course.unit index)) }
+    ensures shelf { OnOk result (HasImages shelf.new (operations_to course.number
+        course.unit course.count index) (plan course.number course.unit index)) }
 {
     operations_add_up();
     let Some(raw) = venue.last_raw() else {
@@ -150,8 +161,9 @@ fn answer_gap(
 ) -> Result<(), OutOfMemory>
     ensures same { store.new ≡ store.old }
     // Of every venue that begins with the messages of the store.
-    ensures heard { OnOk result ((messages more : List RawSaid) → KeepsLast store.old messages → (H : ℕ) (E : List Entry) → Follows client.old H (messages ++ more) E
-        → Follows client.new H (messages ++ more) (heard_of_gap (last_kept messages) unit first count E)) }
+    ensures heard { OnOk result ((messages more : List RawSaid) → KeepsLast store.old messages
+        → (H : ℕ) (E : List Entry) → Follows client.old H (messages ++ more) E → Follows
+        client.new H (messages ++ more) (heard_of_gap (last_kept messages) unit first count E)) }
 {
     look_laws();
     slices_are_the_venues();
@@ -191,8 +203,10 @@ fn answer_spin(
 ) -> Result<(), OutOfMemory>
     ensures same { shelf.new ≡ shelf.old }
     // Of every venue that begins with the messages of the shelf.
-    ensures heard { OnOk result ((operations : List Operation) (messages more : List RawSaid) → HasImages shelf.old operations messages
-        → (H : ℕ) (E : List Entry) → Follows client.old H (messages ++ more) E → Follows client.new H (messages ++ more) (heard_of_spin (seen_of operations) sequence E)) }
+    ensures heard { OnOk result ((operations : List Operation) (messages more : List RawSaid)
+        → HasImages shelf.old operations messages
+        → (H : ℕ) (E : List Entry) → Follows client.old H (messages ++ more) E
+        → Follows client.new H (messages ++ more) (heard_of_spin (seen_of operations) sequence E)) }
 {
     shelves_show_what_was_pushed();
     image_look_laws();
@@ -213,10 +227,12 @@ fn answer_spin(
 
 // Appends the image through the last message of a shelf, and answers how many orders it has.
 fn append_last(shelf: &mut ImageShelf, out: &mut RawList) -> Result<u32, OutOfMemory>
-    requires { (operations : List Operation) × (messages : List RawSaid) × HasImages shelf.old operations messages }
+    requires { (operations : List Operation)
+        × (messages : List RawSaid) × HasImages shelf.old operations messages }
     // Of the messages of the shelf.
-    ensures { IfOk result (λ orders. (operations : List Operation) (messages : List RawSaid) → HasImages shelf.old operations messages → out.old.items ≡ []
-        → IsImageOf messages (record { sequence = length messages; orders = orders; raws = out.new.items })) }
+    ensures { IfOk result (λ orders. (operations : List Operation) (messages : List RawSaid)
+        → HasImages shelf.old operations messages → out.old.items ≡ [] → IsImageOf messages
+        (record { sequence = length messages; orders = orders; raws = out.new.items })) }
 {
     shelves_show_what_was_pushed();
     image_look_laws();
@@ -243,12 +259,15 @@ fn advertise(
     index: u32,
     count: u32,
 ) -> Result<(), OutOfMemory>
-    ensures shelf { OnOk result ((operations : List Operation) (messages : List RawSaid) → HasImages shelf.old operations messages
+    ensures shelf { OnOk result ((operations : List Operation) (messages : List RawSaid)
+        → HasImages shelf.old operations messages
         → HasImages shelf.new (operations ++ round_operations index count) messages) }
     // Of every venue that begins with the messages of the shelf, where these are those of `index`
     // commands.
-    ensures heard { OnOk result ((operations : List Operation) (messages more : List RawSaid) → HasImages shelf.old operations messages → length messages ≡ index
-        → (H : ℕ) (E : List Entry) → Follows client.old H (messages ++ more) E → Follows client.new H (messages ++ more) (heard_of_round index count E)) }
+    ensures heard { OnOk result ((operations : List Operation) (messages more : List RawSaid)
+        → HasImages shelf.old operations messages → length messages ≡ index
+        → (H : ℕ) (E : List Entry) → Follows client.old H (messages ++ more) E
+        → Follows client.new H (messages ++ more) (heard_of_round index count E)) }
 {
     operations_add_up();
     if !is_round(index, count) {
@@ -269,9 +288,10 @@ fn answer_ask(
 ) -> Result<(), OutOfMemory>
     ensures same { side.new ≡ side.old }
     // Of every venue that begins with the messages of the side.
-    ensures heard { OnOk result ((operations : List Operation) (messages more : List RawSaid) (sent : ℕ) → Serves side.old unit operations messages sent
-        → (H : ℕ) (E : List Entry) → Follows client.old H (messages ++ more) E
-        → Follows client.new H (messages ++ more) (heard_of_ask (last_kept messages) (seen_of operations) unit (Some ask) E)) }
+    ensures heard { OnOk result ((operations : List Operation) (messages more : List RawSaid)
+        (sent : ℕ) → Serves side.old unit operations messages sent → (H : ℕ) (E : List Entry)
+        → Follows client.old H (messages ++ more) E → Follows client.new H (messages ++ more)
+        (heard_of_ask (last_kept messages) (seen_of operations) unit (Some ask) E)) }
 {
     match ask {
         Ask::Gap { first, count } => {
@@ -295,9 +315,10 @@ fn answer(
 ) -> Result<(), OutOfMemory>
     ensures same { side.new ≡ side.old }
     // Of every venue that begins with the messages of the side.
-    ensures heard { OnOk result ((operations : List Operation) (messages more : List RawSaid) (sent : ℕ) → Serves side.old unit operations messages sent
-        → (H : ℕ) (E : List Entry) → Follows client.old H (messages ++ more) E
-        → Follows client.new H (messages ++ more) (heard_of_ask (last_kept messages) (seen_of operations) unit ask E)) }
+    ensures heard { OnOk result ((operations : List Operation) (messages more : List RawSaid)
+        (sent : ℕ) → Serves side.old unit operations messages sent → (H : ℕ) (E : List Entry)
+        → Follows client.old H (messages ++ more) E → Follows client.new H
+        (messages ++ more) (heard_of_ask (last_kept messages) (seen_of operations) unit ask E)) }
 {
     match ask {
         None => Ok(()),
@@ -320,9 +341,12 @@ fn hear_copy(
 ) -> Result<(), OutOfMemory>
     ensures same { side.new ≡ side.old }
     // Of every venue that begins with the messages of the side.
-    ensures heard { OnOk result ((operations : List Operation) (messages more : List RawSaid) (sent : ℕ) → Serves side.old unit operations messages sent
-        → AllByRecursion (IsPiece messages unit) (bytes_in datagrams.now) → (H : ℕ) (E : List Entry) → Follows client.old H (messages ++ more) E
-        → Follows client.new H (messages ++ more) (heard_of_copy (last_kept messages) (seen_of operations) unit H heard.old is_lost (bytes_in datagrams.now) E)) }
+    ensures heard { OnOk result ((operations : List Operation)
+        (messages more : List RawSaid) (sent : ℕ) → Serves side.old unit operations messages sent
+        → AllByRecursion (IsPiece messages unit) (bytes_in datagrams.now)
+        → (H : ℕ) (E : List Entry) → Follows client.old H (messages ++ more) E
+        → Follows client.new H (messages ++ more) (heard_of_copy (last_kept messages)
+        (seen_of operations) unit H heard.old is_lost (bytes_in datagrams.now) E)) }
     ensures count { OnOk result (heard.new ≡ heard_after_copy is_lost heard.old) }
 {
     if is_lost {
@@ -348,9 +372,12 @@ fn play(
     requires count { course.count ≤ most_drilled }
     requires serves { HasPlayed side.old course.number course.unit course.count (index - 1) }
     ensures serves { OnOk result (HasPlayed side.new course.number course.unit course.count index) }
-    ensures count { OnOk result (heard.new ≡ counted_with course.number course.unit index heard.old) }
-    ensures heard { OnOk result ((E : List Entry) → Follows client.old drill_kept (plan course.number course.unit course.count) E
-        → Follows client.new drill_kept (plan course.number course.unit course.count) (heard_of_command course.number course.unit course.count index heard.old E)) }
+    ensures count { OnOk result
+        (heard.new ≡ counted_with course.number course.unit index heard.old) }
+    ensures heard { OnOk result ((E : List Entry)
+        → Follows client.old drill_kept (plan course.number course.unit course.count) E
+        → Follows client.new drill_kept (plan course.number course.unit course.count)
+        (heard_of_command course.number course.unit course.count index heard.old E)) }
 {
     let Course {
         number,
@@ -391,7 +418,8 @@ fn end(
 ) -> Result<(), OutOfMemory>
     requires count { course.count ≤ most_drilled }
     requires serves { HasPlayed side.old course.number course.unit course.count course.count }
-    requires heard { Follows client.old drill_kept (plan course.number course.unit course.count) (plain_history course.number course.unit course.count course.count) }
+    requires heard { Follows client.old drill_kept (plan course.number course.unit course.count)
+        (plain_history course.number course.unit course.count course.count) }
     ensures { OnOk result (IsAtEnd client.new drill_kept (plan course.number course.unit course.count)) }
 {
     plan_is_in_order();
@@ -408,9 +436,11 @@ fn end(
 fn play_all(alloc: Global, side: &mut Side, course: Course) -> Result<UnitClient, OutOfMemory>
     requires count { (1 ≤ course.count) × (course.count ≤ most_drilled) }
     requires serves { Serves side.old course.unit [] [] 0 }
-    ensures serves { OnOk result (HasPlayed side.new course.number course.unit course.count course.count) }
+    ensures serves { OnOk result
+        (HasPlayed side.new course.number course.unit course.count course.count) }
     // It has heard just what the commands bring, and what it was answered.
-    ensures heard { IfOk result (λ client. Follows client drill_kept (plan course.number course.unit course.count) (plain_history course.number course.unit course.count course.count)) }
+    ensures heard { IfOk result (λ client. Follows client drill_kept (plan course.number course.unit
+        course.count) (plain_history course.number course.unit course.count course.count)) }
 {
     plan_is_in_order();
     let mut client = begin(alloc, KEPT)?;
@@ -422,9 +452,9 @@ fn play_all(alloc: Global, side: &mut Side, course: Course) -> Result<UnitClient
 }
 
 /// Plays a unit's drill on one thread: a venue accepts the first `count` commands of the plan, and
-/// a client hears what is not lost of the datagrams on two lines, and asks for the rest. Appends the
-/// unit's line: its client is current at the last message, with the number of open orders and their
-/// shares.
+/// a client hears what is not lost of the datagrams on two lines, and asks for the rest. Appends
+/// the unit's line: its client is current at the last message, with the number of open orders and
+/// their shares.
 ///
 /// A drill has 1 to 100,000 commands. `out` is as before after OutOfMemory.
 pub fn drill_plain(

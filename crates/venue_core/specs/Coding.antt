@@ -9,10 +9,14 @@ use Rattle.venue_core.specs.Waiting.{Waiting}
 
 -- ---- Messages that wait
 abbrev pub WaitingParts : Type 0
-WaitingParts = ℕ × (ℕ × (ℕ × (ℕ × (List (List ℕ) × (List (List ℕ) × (Option (List ℕ) × List (List ℕ)))))))
+WaitingParts =
+    ℕ × (ℕ × (ℕ × (ℕ × (List (List ℕ) × (List (List ℕ) × (Option (List ℕ) × List (List ℕ)))))))
 
 abbrev pub waiting_parts : Waiting → WaitingParts
-waiting_parts w = (w.first, (w.next, (w.packing.unit, (w.packing.sequence, (w.packing.begun, (w.full, (w.last, w.late)))))))
+waiting_parts w = (
+  w.first,
+  (w.next, (w.packing.unit, (w.packing.sequence, (w.packing.begun, (w.full, (w.last, w.late)))))),
+)
 
 abbrev pub waiting_from : WaitingParts → Waiting
 waiting_from p = record {
@@ -26,7 +30,9 @@ waiting_from p = record {
 
 abbrev pub waiting_code : Coded Waiting
 waiting_code =
-    code_by WaitingParts (coded× coded_ℕ (coded× coded_ℕ (coded× coded_ℕ (coded× coded_ℕ (coded× (coded_list (coded_list coded_ℕ)) (coded× (coded_list (coded_list coded_ℕ)) (coded× (coded_option (coded_list coded_ℕ)) (coded_list (coded_list coded_ℕ)))))))))
+    code_by WaitingParts (coded× coded_ℕ (coded× coded_ℕ (coded× coded_ℕ (coded× coded_ℕ
+    (coded× (coded_list (coded_list coded_ℕ)) (coded× (coded_list (coded_list coded_ℕ))
+    (coded× (coded_option (coded_list coded_ℕ)) (coded_list (coded_list coded_ℕ)))))))))
     waiting_parts waiting_from (λ _. refl)
 
 -- ---- A venue
@@ -48,5 +54,6 @@ venue_from p = record {
 
 abbrev pub venue_code : Coded VenueState
 venue_code =
-    code_by VenueParts (coded× book_code (coded× coded_ℕ (coded× coded_bool (coded× (coded_option (coded_list coded_ℕ)) (coded× (coded_option (coded_list coded_ℕ)) waiting_code)))))
+    code_by VenueParts (coded× book_code (coded× coded_ℕ (coded× coded_bool (coded× (coded_option
+    (coded_list coded_ℕ)) (coded× (coded_option (coded_list coded_ℕ)) waiting_code)))))
     venue_parts venue_from (λ _. refl)

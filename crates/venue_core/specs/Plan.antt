@@ -1,6 +1,7 @@
 -- The plan: commands that are made of a number, a unit and an index, in rounds of eight. It is this
 -- project's own, and gives a venue's day of any length.
-use Rattle.std.specs.Prelude.{ℕ, zero, suc, ◌+◌, ◌*◌, ◌-◌, ◌/◌, ◌%◌, true, ◌==◌, List, [], ◌∷◌, ◌++◌, codes, if◌then◌else◌}
+use Rattle.std.specs.Prelude.{ℕ, zero, suc, ◌+◌, ◌*◌, ◌-◌, ◌/◌, ◌%◌, true, ◌==◌, List, [], ◌∷◌}
+use Rattle.std.specs.Prelude.{◌++◌, codes, if◌then◌else◌}
 use Rattle.pitch_fields.specs.declared.side.Side.{Side}
 use Rattle.pitch_fields.specs.declared.side.Side.TheVariants.{Buy, Sell}
 use Rattle.pitch_messages.specs.declared.order.Order.{Order}
@@ -51,7 +52,8 @@ plan_at number unit i j k =
     else if k == 2 then commands.Add (plan_order number unit i Sell (plan_price number i + 10000)) 0
     else if k == 3 then commands.Exec (i - 2) 50 i 0
     else if k == 4 then commands.Reduce (i - 2) 20 0
-    else if k == 5 then commands.Modify (i - 4) (plan_quantity number unit i) (plan_price number i) true 0
+    else if k == 5
+    then commands.Modify (i - 4) (plan_quantity number unit i) (plan_price number i) true 0
     else if k == 6 then commands.Add (plan_order number unit i Buy (plan_price number i + 1)) 0
     else if j % 2 == 0 then commands.Delete (i - 1) 0
     else commands.Trade (plan_order number unit i Buy (plan_price number i)) i 0
@@ -64,7 +66,8 @@ plan_command number unit i = plan_at number unit i ((i - 1) / 8) ((i - 1) % 8)
 -- the messages of the first `count` commands
 unfoldable pub plan : ℕ → ℕ → ℕ → List (List ℕ)
 plan number unit zero = []
-plan number unit (suc count) = plan number unit count ++ raw_of (plan_command number unit (suc count)) ∷ []
+plan number unit (suc count) =
+    plan number unit count ++ raw_of (plan_command number unit (suc count)) ∷ []
 
 -- ---- What it leaves
 -- what is left of the buy of round j: it was executed in part, and then modified
@@ -75,11 +78,13 @@ buy_left number unit j =
 
 -- what is left of the sell of round j: it was reduced
 abbrev pub sell_left : ℕ → ℕ → ℕ → Order
-sell_left number unit j = reduced_by 20 (plan_order number unit (8 * j + 3) Sell (plan_price number (8 * j + 3) + 10000))
+sell_left number unit j =
+    reduced_by 20 (plan_order number unit (8 * j + 3) Sell (plan_price number (8 * j + 3) + 10000))
 
 -- the second buy of round j
 abbrev pub second_buy : ℕ → ℕ → ℕ → Order
-second_buy number unit j = plan_order number unit (8 * j + 7) Buy (plan_price number (8 * j + 7) + 1)
+second_buy number unit j =
+    plan_order number unit (8 * j + 7) Buy (plan_price number (8 * j + 7) + 1)
 
 -- what is left of the second buy of round j: an even round deletes it
 abbrev pub second_buy_left : ℕ → ℕ → ℕ → List Order
@@ -88,4 +93,6 @@ second_buy_left number unit j = if j % 2 == 0 then [] else second_buy number uni
 -- the orders that the first j rounds leave, by rising id
 unfoldable pub orders_left : ℕ → ℕ → ℕ → List Order
 orders_left number unit zero = []
-orders_left number unit (suc j) = orders_left number unit j ++ buy_left number unit j ∷ sell_left number unit j ∷ second_buy_left number unit j
+orders_left number unit (suc j) =
+    orders_left number unit j
+    ++ buy_left number unit j ∷ sell_left number unit j ∷ second_buy_left number unit j

@@ -1,4 +1,5 @@
-ghost use Rattle.std.specs.Prelude.{◌≡◌, ℕ, ◌≤◌, ◌+◌, ◌-◌, ◌*◌, ◌/◌, ◌<◌, None, Some, Ok, length, take, slice_get, sum_by};
+ghost use Rattle.std.specs.Prelude.{◌≡◌, ℕ, ◌≤◌, ◌+◌, ◌-◌, ◌*◌, ◌/◌, ◌<◌, None, Some, Ok, length};
+ghost use Rattle.std.specs.Prelude.{take, slice_get, sum_by};
 ghost use Rattle.std.specs.List.{AllByRecursion};
 ghost use Rattle.std.specs.FinMap as finite;
 ghost use Rattle.pitch_messages.specs.Reading.{reads};
@@ -6,7 +7,8 @@ ghost use Rattle.pitch_model.specs.Book.{book_after};
 ghost use Rattle.pitch_model.specs.Levels.{shares};
 ghost use Rattle.pitch_fields.specs.Fields.{AreBytes};
 ghost use Rattle.venue_core.specs.Commands.{message_of, raw_of};
-ghost use Rattle.venue_core.specs.Plan.{plan_quantity, plan_price, most_planned, plan_symbol, plan_order, plan_at, plan_command, plan, orders_left};
+ghost use Rattle.venue_core.specs.Plan.{plan_quantity, plan_price, most_planned, plan_symbol};
+ghost use Rattle.venue_core.specs.Plan.{plan_order, plan_at, plan_command, plan, orders_left};
 ghost use Rattle.venue_core.specs.Refusals.{refusal};
 
 use pitch_fields::{Price, Side, Symbol};
@@ -130,22 +132,24 @@ pub fn plan_is_accepted()
     ensures accepted { (number unit index : ℕ) → 1 ≤ index → index ≤ most_planned
         → refusal (plan number unit (index - 1)) (plan_command number unit index) ≡ None }
     // Whatever the number and the unit, a command's message reads as what it says.
-    ensures known { (number unit index : ℕ) → 1 ≤ index → index ≤ most_planned
-        → reads (raw_of (plan_command number unit index)) ≡ Ok (message_of (plan_command number unit index)) }
+    ensures known { (number unit index : ℕ)
+        → 1 ≤ index → index ≤ most_planned → reads (raw_of (plan_command number unit index))
+        ≡ Ok (message_of (plan_command number unit index)) }
 {}
 
 /// Whole rounds of the plan leave two orders each, and every other one a third. The call does
 /// nothing.
 pub fn plan_leaves_its_orders()
     // The orders that are open after so many rounds, by rising id, are just these.
-    ensures orders { (number unit rounds : ℕ) → 8 * rounds ≤ most_planned
-        → finite.values (book_after (plan number unit (8 * rounds))).orders ≡ orders_left number unit rounds }
+    ensures orders { (number unit rounds : ℕ) → 8 * rounds ≤ most_planned → finite.values
+        (book_after (plan number unit (8 * rounds))).orders ≡ orders_left number unit rounds }
     // So many they are.
     ensures count { (number unit rounds : ℕ) → 8 * rounds ≤ most_planned
         → finite.len (book_after (plan number unit (8 * rounds))).orders ≡ 2 * rounds + rounds / 2 }
     // The shares of the book are their quantities together.
-    ensures shares { (number unit rounds : ℕ) → 8 * rounds ≤ most_planned
-        → shares (book_after (plan number unit (8 * rounds))) ≡ sum_by (λ order. order.quantity) (orders_left number unit rounds) }
+    ensures shares { (number unit rounds : ℕ)
+        → 8 * rounds ≤ most_planned → shares (book_after (plan number unit (8 * rounds)))
+        ≡ sum_by (λ order. order.quantity) (orders_left number unit rounds) }
 {}
 
 /// The plan has as many messages as commands, each at its place; they are bytes, and a shorter plan
@@ -153,9 +157,11 @@ pub fn plan_leaves_its_orders()
 pub fn plan_is_in_order()
     ensures count { (number unit count : ℕ) → length (plan number unit count) ≡ count }
     // The message at a place is that of the command with the next index.
-    ensures each { (number unit count index : ℕ) → index < count
-        → slice_get (plan number unit count) index ≡ Some (raw_of (plan_command number unit (index + 1))) }
+    ensures each { (number unit count index : ℕ) → index < count → slice_get
+        (plan number unit count) index ≡ Some (raw_of (plan_command number unit (index + 1))) }
     // More commands leave the messages of the first ones as they are.
-    ensures prefix { (number unit count more : ℕ) → take count (plan number unit (count + more)) ≡ plan number unit count }
-    ensures bytes { (number unit count : ℕ) → count ≤ most_planned → AllByRecursion AreBytes (plan number unit count) }
+    ensures prefix { (number unit count more : ℕ)
+        → take count (plan number unit (count + more)) ≡ plan number unit count }
+    ensures bytes { (number unit count : ℕ)
+        → count ≤ most_planned → AllByRecursion AreBytes (plan number unit count) }
 {}

@@ -41,14 +41,19 @@ HasGrp (Some c) unit None = ⊥
 HasGrp (Some c) unit (Some k) = IsGrpConnection c unit k
 
 -- n bytes were carried to the proxy's server, over the venue's messages and the requests that it
--- accepted before: the connection stands for that, store and limits are as before, the budget counts
--- what was accepted, and its datagrams are on the gap line
-pub record CarriedUp (unit : ℕ) (limits : Limits) (s : State) (n : ℕ) (k : Connection Source) (new : GrpConnection) (store store' : Store) (counter counter' : Counts) (lines lines' : List (List ℕ)) : Type 0 where
-  pub stands : IsGrpConnection new unit (at_grp_server unit (Fed (take n (waiting k.up)) (source_of limits s k.server (take n (waiting k.up)))) (with_up (took n k.up) k))
+-- accepted before: the connection stands for that, store and limits are as before, the budget
+-- counts what was accepted, and its datagrams are on the gap line
+pub record CarriedUp (unit : ℕ)
+    (limits : Limits) (s : State) (n : ℕ) (k : Connection Source) (new : GrpConnection)
+    (store store' : Store) (counter counter' : Counts) (lines lines' : List (List ℕ)) : Type 0 where
+  pub stands : IsGrpConnection new unit (at_grp_server unit (Fed (take n (waiting k.up))
+      (source_of limits s k.server (take n (waiting k.up)))) (with_up (took n k.up) k))
   pub store_is : store' ≡ store
   pub limits_are : counter'.limits ≡ counter.limits
-  pub counted : Counted counter' (proxy_answer (grp_server unit) k.server (take n (waiting k.up)) (source_of limits s k.server (take n (waiting k.up)))).knows
-  pub lined : lines' ≡ lines ++ (proxy_answer (grp_server unit) k.server (take n (waiting k.up)) (source_of limits s k.server (take n (waiting k.up)))).lines
+  pub counted : Counted counter' (proxy_answer (grp_server unit) k.server
+      (take n (waiting k.up)) (source_of limits s k.server (take n (waiting k.up)))).knows
+  pub lined : lines' ≡ lines ++ (proxy_answer (grp_server unit) k.server
+      (take n (waiting k.up)) (source_of limits s k.server (take n (waiting k.up)))).lines
 
 -- a shelf has these messages, and these sequences were advertised
 pub record KeepsShelf (shelf : Shelf) (accepted : List Raw) (advertised : List ℕ) : Type 0 where
@@ -58,13 +63,15 @@ pub record KeepsShelf (shelf : Shelf) (accepted : List Raw) (advertised : List �
   pub stands : ShelfStands shelf operations
 
 -- a spin server, and the bytes that wait for the client
-pub record IsServed (server : Serving) (bytes : List ℕ) (unit : ℕ) (k : Connection (List Served)) : Type 0 where
+pub record IsServed (server : Serving) (bytes : List ℕ) (unit : ℕ) (k : Connection (List Served)) :
+    Type 0 where
   pub made : server.end.setup ≡ spin_server unit
   pub stands : SpinStands server k.server
   pub down : IsPipe bytes k.down
 
 -- a connection with the spin server, as one with the proxy
-pub record IsSpinConnection (c : SpinConnection) (unit : ℕ) (k : Connection (List Served)) : Type 0 where
+pub record IsSpinConnection (c : SpinConnection) (unit : ℕ) (k : Connection (List Served)) :
+    Type 0 where
   pub server_made : c.server.end.setup ≡ spin_server unit
   pub server : SpinStands c.server k.server
   pub link_made : c.link.setup ≡ spin_link unit

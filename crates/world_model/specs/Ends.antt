@@ -17,10 +17,12 @@ abbrev pub the_account : Account
 the_account = record { sub = codes "0001"; user = codes "FEED"; password = codes "PITCH     " }
 
 abbrev pub grp_server : ℕ → Setup
-grp_server unit = record { role = roles.GrpServer; unit = unit; accounts = the_account ∷ []; in_use = false }
+grp_server unit =
+    record { role = roles.GrpServer; unit = unit; accounts = the_account ∷ []; in_use = false }
 
 abbrev pub spin_server : ℕ → Setup
-spin_server unit = record { role = roles.SpinServer; unit = unit; accounts = the_account ∷ []; in_use = false }
+spin_server unit =
+    record { role = roles.SpinServer; unit = unit; accounts = the_account ∷ []; in_use = false }
 
 abbrev pub gap_link : Setup
 gap_link = link_setup roles.GapLink 0

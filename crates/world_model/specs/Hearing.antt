@@ -22,10 +22,14 @@ abbrev pub overflow_in : ℕ → List Block → List Entry → Bool
 overflow_in H blocks E = nat_lt 0 (overflows_in H E blocks)
 
 -- a client heard blocks of a unit that came on a line, and an arbiter noted them
-pub record HearsBlocks (unit : ℕ) (line : Line) (client client' : UnitClient) (arbiter arbiter' : Arbiter) (blocks : List Block) (overflow : Bool) : Type 0 where
-  pub tracks : (H : ℕ) (E : List Entry) → Tracks client H E → Tracks client' H (heard_blocks blocks E)
-  pub keeps : (V : List Raw) (E : List Entry) → Honest image V (heard_blocks blocks E) → Keeps client V → Keeps client' V
-  pub noted : (H : ℕ) (E : List Entry) (notes : List Note) → Tracks client H E → HasNoted arbiter notes → HasNoted arbiter' (noted_blocks unit H line blocks E notes)
+pub record HearsBlocks (unit : ℕ) (line : Line) (client client' : UnitClient)
+    (arbiter arbiter' : Arbiter) (blocks : List Block) (overflow : Bool) : Type 0 where
+  pub tracks : (H : ℕ) (E : List Entry)
+      → Tracks client H E → Tracks client' H (heard_blocks blocks E)
+  pub keeps : (V : List Raw) (E : List Entry)
+      → Honest image V (heard_blocks blocks E) → Keeps client V → Keeps client' V
+  pub noted : (H : ℕ) (E : List Entry) (notes : List Note) → Tracks client H E
+      → HasNoted arbiter notes → HasNoted arbiter' (noted_blocks unit H line blocks E notes)
   pub overflow_is : (H : ℕ) (E : List Entry) → Tracks client H E → overflow ≡ overflow_in H blocks E
 
 -- an item that a link can tell: messages with sequences, and heartbeats, come on lines alone
@@ -42,5 +46,8 @@ IsGapTold other = ⊥
 
 -- a client heard items that a link told
 pub record HearsItems (client client' : UnitClient) (items : List Item) : Type 0 where
-  pub tracks : AllByRecursion IsTold items → (H : ℕ) (E : List Entry) → Tracks client H E → Tracks client' H (heard_all items E)
-  pub keeps : AllByRecursion IsTold items → (V : List Raw) → AllByRecursion AreBytes V → (H : ℕ) (E : List Entry) → Tracks client H E → Honest image V (heard_all items E) → Keeps client V → Keeps client' V
+  pub tracks : AllByRecursion IsTold items
+      → (H : ℕ) (E : List Entry) → Tracks client H E → Tracks client' H (heard_all items E)
+  pub keeps : AllByRecursion IsTold items
+      → (V : List Raw) → AllByRecursion AreBytes V → (H : ℕ) (E : List Entry)
+      → Tracks client H E → Honest image V (heard_all items E) → Keeps client V → Keeps client' V

@@ -1,5 +1,6 @@
 -- What is printed for a line of a schedule.
-use Rattle.std.specs.Prelude.{ℕ, zero, suc, ◌-◌, Bool, false, ◌||◌, List, [], ◌∷◌, ◌++◌, length, codes, decimal, Option, None, Some}
+use Rattle.std.specs.Prelude.{ℕ, zero, suc, ◌-◌, Bool, false, ◌||◌, List, [], ◌∷◌, ◌++◌, length}
+use Rattle.std.specs.Prelude.{codes, decimal, Option, None, Some}
 use Rattle.pitch_fields.specs.Price.{price_digits}
 use Rattle.pitch_fields.specs.Name.{name_shown}
 use Rattle.pitch_io.specs.declared.line.Line.TheVariants.{A, B, Gap}
@@ -74,12 +75,14 @@ outcome_text verb (outcome.Advertised sequence) = codes "advertised " ++ decimal
 outcome_text verb (outcome.Asked ask) = ask_text ask
 outcome_text verb outcome.Ticked = codes "ticked"
 outcome_text verb outcome.Shown = codes "shown"
-outcome_text verb (outcome.Quoted bid offer) = codes "quote " ++ quoted_symbol verb ++ best_text bid ++ best_text offer
+outcome_text verb (outcome.Quoted bid offer) =
+    codes "quote " ++ quoted_symbol verb ++ best_text bid ++ best_text offer
 
 -- the line of a verb: the number of its line in the schedule, the unit, the outcome and the status
 unfoldable pub printed_line : ℕ → ℕ → Verb → Printed → List ℕ
 printed_line line unit verb p =
-    decimal line ++ 32 ∷ (decimal unit ++ 32 ∷ (outcome_text verb p.outcome ++ (overflow_text p.overflow ++ (codes "; " ++ (status_text p.status ++ 10 ∷ [])))))
+    decimal line ++ 32 ∷ (decimal unit ++ 32 ∷ (outcome_text verb p.outcome
+    ++ (overflow_text p.overflow ++ (codes "; " ++ (status_text p.status ++ 10 ∷ [])))))
 
 -- ---- What `show` prints besides
 -- the fresh messages of all that a line brought
@@ -88,12 +91,14 @@ fresh_text count = decimal count.fresh ++ 47 ∷ decimal count.messages
 
 -- the same of each line
 abbrev pub counts_text : LineCount → LineCount → LineCount → List ℕ
-counts_text a b gap = codes "lines a " ++ fresh_text a ++ codes " b " ++ fresh_text b ++ codes " g " ++ fresh_text gap ++ 10 ∷ []
+counts_text a b gap = codes "lines a "
+    ++ fresh_text a ++ codes " b " ++ fresh_text b ++ codes " g " ++ fresh_text gap ++ 10 ∷ []
 
 -- the client's book, and the counts of the lines
 unfoldable pub shown_state : ℕ → Limits → State → List ℕ
 shown_state unit limits s =
-    book_text unit (reach limits.hold s.heard) (client_book limits s) ++ counts_text (line_count A unit s.notes) (line_count B unit s.notes) (line_count Gap unit s.notes)
+    book_text unit (reach limits.hold s.heard) (client_book limits s) ++ counts_text
+    (line_count A unit s.notes) (line_count B unit s.notes) (line_count Gap unit s.notes)
 
 -- a verb prints its line, and `show` the book besides
 abbrev pub shown_at : ℕ → Limits → Verb → State → List ℕ
@@ -102,4 +107,5 @@ shown_at unit limits _ s = []
 
 -- the text of a verb that stands on a line of the schedule
 abbrev pub verb_text : ℕ → ℕ → Limits → Verb → State → List ℕ
-verb_text line unit limits verb s = printed_line line unit verb (printed unit limits verb s) ++ shown_at unit limits verb s
+verb_text line unit limits verb s =
+    printed_line line unit verb (printed unit limits verb s) ++ shown_at unit limits verb s

@@ -28,9 +28,11 @@ AreLimits l = IsVerb (verbs.Setup l.hold l.kept l.second l.minute l.day)
 
 -- what the proxy and the spin server look up: the messages, of which the proxy keeps so many; the
 -- requests that it accepted; and the images that were advertised
-pub record Keeping (store : Store) (budget : Counts) (shelf : Shelf) (limits : Limits) (accepted : List Raw) (spent : Spent) (advertised : List ℕ) : Type 0 where
+pub record Keeping (store : Store) (budget : Counts) (shelf : Shelf)
+    (limits : Limits) (accepted : List Raw) (spent : Spent) (advertised : List ℕ) : Type 0 where
   pub store_is : store ≡ store_of (record { messages = accepted; kept = limits.kept })
-  pub limits_are : budget.limits ≡ record { second = limits.second; minute = limits.minute; day = limits.day }
+  pub limits_are : budget.limits
+      ≡ record { second = limits.second; minute = limits.minute; day = limits.day }
   pub counted : Counted budget spent
   pub shelf_is : KeepsShelf shelf accepted advertised
 
@@ -66,7 +68,8 @@ pub record Acts (old new : World) (acted : Acted) (s : State) (d : Done) : Type 
   pub unit_is : new.unit ≡ old.unit
   pub limits_are : new.limits ≡ old.limits
   pub outcome_is : acted.outcome ≡ d.outcome
-  pub overflow_is : acted.overflow ≡ overflowed old.limits.hold (length d.state.heard - length s.heard) d.state.heard
+  pub overflow_is : acted.overflow
+      ≡ overflowed old.limits.hold (length d.state.heard - length s.heard) d.state.heard
   pub has : WorldHas new d.state
 
 -- the history E grew to F, and the hold overflowed with one of the new entries or with one of m
@@ -86,4 +89,5 @@ pub record Passes (old new : World) (s s' : State) : Type 0 where
 -- the client ticked: it asks for what it lacks, and what it asks for is sent
 pub record ClientTicks (old new : World) (ask : Option Ask) (s : State) : Type 0 where
   pub ask_is : ask ≡ ask_of old.limits.hold s.heard
-  pub passes : Passes old new s (asked_through old.unit ask (record s { heard = Ticked ask ∷ s.heard }))
+  pub passes : Passes old new s
+      (asked_through old.unit ask (record s { heard = Ticked ask ∷ s.heard }))

@@ -31,8 +31,15 @@ HasDownPipe s (Some c) = IsDownPipe s c
 
 -- there are moves, of a venue with these messages, that lead to this connection and this history,
 -- and all that was told was heard
-pub record Witnessed (unit : ℕ) (accepted : List Raw) (spin : Option (Connection (List Served))) (heard : List Entry) : Type 0 where
+pub record Witnessed (unit : ℕ) (accepted : List Raw)
+    (spin : Option (Connection (List Served))) (heard : List Entry) : Type 0 where
   pub moves : List Move
   pub are : AreMoves accepted (spin_server unit) moves
-  pub path_is : path_of (spin_server unit) moves ≡ record { setup = spin_server unit; served = served_of spin; linked = linked_of spin; told = []; history = heard }
+  pub path_is : path_of (spin_server unit) moves ≡ record {
+    setup = spin_server unit;
+    served = served_of spin;
+    linked = linked_of spin;
+    told = [];
+    history = heard;
+  }
   pub down : HasDownPipe (spin_server unit) spin

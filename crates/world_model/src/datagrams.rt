@@ -31,8 +31,8 @@ pub(crate) fn datagrams_on<'a>(
     replayed: &'a DatagramList,
     line: Line,
 ) -> &'a [ByteList]
-    ensures { (s : State) → bytes_in sent.now.items ≡ s.sent → bytes_in replayed.now.items ≡ s.replayed
-        → bytes_in result.now ≡ datagrams_on s line }
+    ensures { (s : State) → bytes_in sent.now.items ≡ s.sent
+        → bytes_in replayed.now.items ≡ s.replayed → bytes_in result.now ≡ datagrams_on s line }
 {
     match line {
         Line::A => sent.as_slice(),

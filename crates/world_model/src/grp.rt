@@ -1,6 +1,7 @@
 //! A connection with the Gap Request Proxy.
 
-ghost use Rattle.std.specs.Prelude.{◌≡◌, ◌≤◌, ◌++◌, ℕ, List, [], Option, length, take, drop, is_some, OnOk, IfOk};
+ghost use Rattle.std.specs.Prelude.{◌≡◌, ◌≤◌, ◌++◌, ℕ, List, [], Option, length, take, drop};
+ghost use Rattle.std.specs.Prelude.{is_some, OnOk, IfOk};
 ghost use Rattle.session_ends.specs.Closing.{closed_of};
 ghost use Rattle.std.specs.Option.{option_map};
 ghost use Rattle.pitch_messages.specs.declared.session.SessionMessage.TheVariants.{GapRequest};
@@ -63,7 +64,8 @@ impl GrpConnection {
 
     /// A new connection, whose login waits.
     pub(crate) fn make(alloc: Global, unit: u8) -> Result<GrpConnection, OutOfMemory>
-        ensures { IfOk result (λ c. IsGrpConnection c unit (connection (login_bytes roles.GapLink 0 the_account))) }
+        ensures { IfOk result
+            (λ c. IsGrpConnection c unit (connection (login_bytes roles.GapLink 0 the_account))) }
     {
         let mut login = Vec::new(alloc);
         let link = GapLink::make(alloc, &account(), &mut login)?;
@@ -81,7 +83,8 @@ impl GrpConnection {
     /// How many bytes wait for the proxy.
     pub(crate) fn up_count(&self) -> usize
         ensures count { result ≡ length self.now.up }
-        ensures waits { (unit : ℕ) (k : Connection Source) → IsGrpConnection self.now unit k → result ≡ length (waiting k.up) }
+        ensures waits { (unit : ℕ) (k : Connection Source)
+            → IsGrpConnection self.now unit k → result ≡ length (waiting k.up) }
     {
         self.up.len()
     }
@@ -89,21 +92,24 @@ impl GrpConnection {
     /// How many bytes wait for the client.
     pub(crate) fn down_count(&self) -> usize
         ensures count { result ≡ length self.now.down }
-        ensures waits { (unit : ℕ) (k : Connection Source) → IsGrpConnection self.now unit k → result ≡ length (waiting k.down) }
+        ensures waits { (unit : ℕ) (k : Connection Source)
+            → IsGrpConnection self.now unit k → result ≡ length (waiting k.down) }
     {
         self.down.len()
     }
 
     /// Whether the client's end is closed.
     pub(crate) fn is_closed(&self) -> bool
-        ensures { (unit : ℕ) (k : Connection Source) → IsGrpConnection self.now unit k → result ≡ is_some (closed_of gap_link k.link) }
+        ensures { (unit : ℕ) (k : Connection Source)
+            → IsGrpConnection self.now unit k → result ≡ is_some (closed_of gap_link k.link) }
     {
         self.link.closed().is_some()
     }
 
     /// A second passes at the proxy's end.
     pub(crate) fn tick_server(&mut self) -> Result<(), OutOfMemory>
-        ensures { OnOk result ((unit : ℕ) (k : Connection Source) → IsGrpConnection self.old unit k → IsGrpConnection self.new unit (at_grp_server unit Ticked k)) }
+        ensures { OnOk result ((unit : ℕ) (k : Connection Source) → IsGrpConnection self.old unit k
+            → IsGrpConnection self.new unit (at_grp_server unit Ticked k)) }
     {
         let mut said = Vec::new(self.alloc);
         self.server.tick(&mut said)?;
@@ -112,7 +118,8 @@ impl GrpConnection {
 
     /// A second passes at the client's end.
     pub(crate) fn tick_link(&mut self) -> Result<(), OutOfMemory>
-        ensures { OnOk result ((unit : ℕ) (k : Connection Source) → IsGrpConnection self.old unit k → IsGrpConnection self.new unit (at_link gap_link Ticked k)) }
+        ensures { OnOk result ((unit : ℕ) (k : Connection Source) → IsGrpConnection self.old unit k
+            → IsGrpConnection self.new unit (at_link gap_link Ticked k)) }
     {
         let mut said = Vec::new(self.alloc);
         self.link.tick(&mut said)?;
@@ -121,7 +128,9 @@ impl GrpConnection {
 
     /// The client asks for messages.
     pub(crate) fn ask(&mut self, unit: u8, first: u32, count: u16) -> Result<(), OutOfMemory>
-        ensures { OnOk result ((of : ℕ) (k : Connection Source) → IsGrpConnection self.old of k → IsGrpConnection self.new of (at_link gap_link (Asked (GapRequest unit first count)) k)) }
+        ensures { OnOk result ((of : ℕ) (k : Connection Source)
+            → IsGrpConnection self.old of k → IsGrpConnection self.new of
+            (at_link gap_link (Asked (GapRequest unit first count)) k)) }
     {
         let mut said = Vec::new(self.alloc);
         self.link.ask(unit, first, count, &mut said)?;
@@ -137,9 +146,12 @@ impl GrpConnection {
         gap_line: &mut DatagramList,
     ) -> Result<(), OutOfMemory>
         requires { count ≤ length self.old.up }
-        ensures { OnOk result ((unit : ℕ) (limits : LimitsSaid) (s : State) (k : Connection Source) → IsGrpConnection self.old unit k
-            → store.old ≡ store_of (record { messages = s.accepted; kept = limits.kept }) → budget.old.limits ≡ record { second = limits.second; minute = limits.minute; day = limits.day } → Counted budget.old s.spent
-            → CarriedUp unit limits s count k self.new store.old store.new budget.old budget.new (bytes_in gap_line.old.items) (bytes_in gap_line.new.items)) }
+        ensures { OnOk result ((unit : ℕ) (limits : LimitsSaid) (s : State) (k : Connection Source)
+            → IsGrpConnection self.old unit k → store.old
+            ≡ store_of (record { messages = s.accepted; kept = limits.kept }) → budget.old.limits
+            ≡ record { second = limits.second; minute = limits.minute; day = limits.day } → Counted
+            budget.old s.spent → CarriedUp unit limits s count k self.new store.old store.new
+            budget.old budget.new (bytes_in gap_line.old.items) (bytes_in gap_line.new.items)) }
     {
         look_laws();
         let mut said = Vec::new(self.alloc);
@@ -160,10 +172,12 @@ impl GrpConnection {
         items: &mut ItemList,
     ) -> Result<(), OutOfMemory>
         requires { count ≤ length self.old.down }
-        ensures stands { OnOk result ((unit : ℕ) (k : Connection Source) → IsGrpConnection self.old unit k
-            → IsGrpConnection self.new unit (at_link gap_link (Fed (take count (waiting k.down)) NoLookup) (with_down (took count k.down) k))) }
-        ensures tells { OnOk result ((unit : ℕ) (k : Connection Source) → IsGrpConnection self.old unit k
-            → map without_spare items.new.items ≡ map without_spare items.old.items ++ link_tells gap_link k.link (take count (waiting k.down))) }
+        ensures stands { OnOk result ((unit : ℕ) (k : Connection Source)
+            → IsGrpConnection self.old unit k → IsGrpConnection self.new unit (at_link gap_link
+            (Fed (take count (waiting k.down)) NoLookup) (with_down (took count k.down) k))) }
+        ensures tells { OnOk result ((unit : ℕ) (k : Connection Source) → IsGrpConnection
+            self.old unit k → map without_spare items.new.items ≡ map without_spare items.old.items
+            ++ link_tells gap_link k.link (take count (waiting k.down))) }
     {
         self.link.feed(self.down.first(count), items)?;
         self.down.take(count);
@@ -174,7 +188,8 @@ impl GrpConnection {
 /// A second passes at the proxy's end, where a connection stands.
 #[tactic(auto, using(crate::proofs::Carrying::on_none))]
 pub(crate) fn tick_server(grp: &mut Option<GrpConnection>) -> Result<(), OutOfMemory>
-    ensures { OnOk result ((unit : ℕ) (g : Option (Connection Source)) → HasGrp grp.old unit g → HasGrp grp.new unit (option_map (λ k. at_grp_server unit Ticked k) g)) }
+    ensures { OnOk result ((unit : ℕ) (g : Option (Connection Source)) → HasGrp grp.old unit g
+        → HasGrp grp.new unit (option_map (λ k. at_grp_server unit Ticked k) g)) }
 {
     match grp {
         None => Ok(()),
@@ -188,7 +203,8 @@ pub(crate) fn tick_server(grp: &mut Option<GrpConnection>) -> Result<(), OutOfMe
 /// A second passes at the client's end, where a connection stands.
 #[tactic(auto, using(crate::proofs::Carrying::on_none))]
 pub(crate) fn tick_link(grp: &mut Option<GrpConnection>) -> Result<(), OutOfMemory>
-    ensures { OnOk result ((unit : ℕ) (g : Option (Connection Source)) → HasGrp grp.old unit g → HasGrp grp.new unit (option_map (λ k. at_link gap_link Ticked k) g)) }
+    ensures { OnOk result ((unit : ℕ) (g : Option (Connection Source)) → HasGrp grp.old unit g
+        → HasGrp grp.new unit (option_map (λ k. at_link gap_link Ticked k) g)) }
 {
     match grp {
         None => Ok(()),
@@ -202,7 +218,8 @@ pub(crate) fn tick_link(grp: &mut Option<GrpConnection>) -> Result<(), OutOfMemo
 /// Whether a connection stands of which the client's end is closed.
 #[tactic(auto, using(crate::proofs::Carrying::shut_none))]
 pub(crate) fn is_shut(grp: &Option<GrpConnection>) -> bool
-    ensures { (unit : ℕ) (g : Option (Connection Source)) → HasGrp grp.now unit g → result ≡ shut gap_link g }
+    ensures { (unit : ℕ) (g : Option (Connection Source))
+        → HasGrp grp.now unit g → result ≡ shut gap_link g }
 {
     match grp {
         None => false,
@@ -217,7 +234,8 @@ pub(crate) fn ask_through(
     unit: u8,
     ask: Option<Ask>,
 ) -> Result<(), OutOfMemory>
-    ensures { OnOk result ((of : ℕ) (g : Option (Connection Source)) → HasGrp grp.old of g → HasGrp grp.new of (asked_grp unit ask g)) }
+    ensures { OnOk result ((of : ℕ) (g : Option (Connection Source))
+        → HasGrp grp.old of g → HasGrp grp.new of (asked_grp unit ask g)) }
 {
     match ask {
         None => Ok(()),
@@ -238,7 +256,8 @@ fn ask_gap(
     first: u32,
     count: u16,
 ) -> Result<(), OutOfMemory>
-    ensures { OnOk result ((of : ℕ) (g : Option (Connection Source)) → HasGrp grp.old of g → HasGrp grp.new of (option_map (λ k. at_link gap_link (Asked (GapRequest unit first count)) k) g)) }
+    ensures { OnOk result ((of : ℕ) (g : Option (Connection Source)) → HasGrp grp.old of g → HasGrp
+        grp.new of (option_map (λ k. at_link gap_link (Asked (GapRequest unit first count)) k) g)) }
 {
     match grp {
         None => Ok(()),

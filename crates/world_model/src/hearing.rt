@@ -36,7 +36,8 @@ fn hear_block(
     arbiter: &mut Arbiter,
     block: &BlockView<'_>,
 ) -> Result<bool, OutOfMemory>
-    ensures { IfOk result (λ overflow. HearsBlocks unit line client.old client.new arbiter.old arbiter.new (block.now ∷ []) overflow) }
+    ensures { IfOk result (λ overflow. HearsBlocks
+        unit line client.old client.new arbiter.old arbiter.new (block.now ∷ []) overflow) }
 {
     let change = client.hear_block(block.header().sequence, block.raws())?;
     arbiter.note(line, unit, messages_of(block), change.fresh);
@@ -52,7 +53,8 @@ pub(crate) fn hear_datagram(
     arbiter: &mut Arbiter,
     datagram: &[u8],
 ) -> Result<bool, OutOfMemory>
-    ensures { IfOk result (λ overflow. HearsBlocks unit line client.old client.new arbiter.old arbiter.new (blocks_of datagram.now) overflow) }
+    ensures { IfOk result (λ overflow. HearsBlocks
+        unit line client.old client.new arbiter.old arbiter.new (blocks_of datagram.now) overflow) }
 {
     let mut at = 0;
     let mut overflow = false;
@@ -78,7 +80,8 @@ pub(crate) fn hear_all(
     arbiter: &mut Arbiter,
     datagrams: &[ByteList],
 ) -> Result<bool, OutOfMemory>
-    ensures { IfOk result (λ overflow. HearsBlocks unit line client.old client.new arbiter.old arbiter.new (flat_map blocks_of (bytes_in datagrams.now)) overflow) }
+    ensures { IfOk result (λ overflow. HearsBlocks unit line client.old
+        client.new arbiter.old arbiter.new (flat_map blocks_of (bytes_in datagrams.now)) overflow) }
 {
     let mut overflow = false;
     'lines: for datagram in datagrams {
@@ -117,8 +120,8 @@ fn hear_item(client: &mut UnitClient, item: &Item) -> Result<(), OutOfMemory>
     Ok(())
 }
 
-/// The client hears what a link told, one item after another. After OutOfMemory it has heard some of
-/// the items.
+/// The client hears what a link told, one item after another. After OutOfMemory it has heard some
+/// of the items.
 pub fn hear_told(client: &mut UnitClient, items: &[Item]) -> Result<(), OutOfMemory>
     ensures { OnOk result (HearsItems client.old client.new items.now) }
 {

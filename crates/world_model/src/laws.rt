@@ -11,5 +11,6 @@ ghost use Rattle.world_model.specs.declared.limits.Limits.{Limits};
 /// minute of 60 and in all than its limits allow.
 #[tactic(auto, using(crate::proofs::Spending::spends_within))]
 pub fn requests_stay_within_their_limits()
-    ensures { (unit : ℕ) (limits : Limits) (done : List Verb) → SpendsWithin limits (ticks_in done) (state_of unit limits done).spent }
+    ensures { (unit : ℕ) (limits : Limits) (done : List Verb)
+        → SpendsWithin limits (ticks_in done) (state_of unit limits done).spent }
 {}

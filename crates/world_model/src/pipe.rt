@@ -1,6 +1,7 @@
 //! The pipes of a connection.
 
-ghost use Rattle.std.specs.Prelude.{◌≡◌, ◌≤◌, ◌<◌, length, take, drop, unwrap_or, IfOk, IfErr, OnOk};
+ghost use Rattle.std.specs.Prelude.{◌≡◌, ◌≤◌, ◌<◌, length, take, drop, unwrap_or, IfOk, IfErr};
+ghost use Rattle.std.specs.Prelude.{OnOk};
 
 use pitch_fields::OutOfMemory;
 use std::marker::Model;

@@ -51,7 +51,8 @@ fn append_order(order: &Order, out: &mut Vec<u8>) -> Result<(), OutOfMemory>
 
 // Appends the lines of orders. After OutOfMemory some may have been appended.
 fn append_orders(orders: &[Order], out: &mut Vec<u8>) -> Result<(), OutOfMemory>
-    ensures ok { OnOk result (out.new.items ≡ out.old.items ++ flat_map (λ o. order_line o.id o) orders.now) }
+    ensures ok { OnOk result
+        (out.new.items ≡ out.old.items ++ flat_map (λ o. order_line o.id o) orders.now) }
     ensures behind { take (length out.old.items) out.new.items ≡ out.old.items }
 {
     'lines: for order in orders {

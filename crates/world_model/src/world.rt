@@ -1,4 +1,5 @@
-ghost use Rattle.std.specs.Prelude.{◌≡◌, ◌≤◌, ℕ, List, [], ◌∷◌, false, drop, Some, IsTrue, ◌↔◌, ◌++◌, OnOk};
+ghost use Rattle.std.specs.Prelude.{◌≡◌, ◌≤◌, ℕ, List, [], ◌∷◌, false, drop, Some, IsTrue, ◌↔◌};
+ghost use Rattle.std.specs.Prelude.{◌++◌, OnOk};
 ghost use Rattle.pitch_model.specs.Advertising.{Operation, Accept};
 ghost use Rattle.unit_packets.specs.Packing.{bytes_in};
 ghost use Rattle.venue_core.specs.Stands.{Stands as VenueStands, last_of};
@@ -39,8 +40,8 @@ use venue_core::{Venue, VenueError};
 /// One unit's world: a venue with its Gap Request Proxy and Spin Server, every datagram that they
 /// sent, and one client, whose connections carry bytes only as verbs say.
 ///
-/// Standard: "Gap Request Proxy", "Spin Servers". Verbs, limits and printed lines are this project's
-/// own.
+/// Standard: "Gap Request Proxy", "Spin Servers". Verbs, limits and printed lines are this
+/// project's own.
 #[derive(Drop)]
 pub struct World {
     alloc: Global,
@@ -67,7 +68,8 @@ pub struct World {
 }
 
 impl World {
-    ghost use Rattle.std.specs.Prelude.{◌≡◌, ◌≤◌, ◌++◌, ℕ, List, [], ◌∷◌, true, false, length, take, OnOk, OnErr, IfOk, IsErr};
+    ghost use Rattle.std.specs.Prelude.{◌≡◌, ◌≤◌, ◌++◌, ℕ, List, [], ◌∷◌, true, false, length};
+    ghost use Rattle.std.specs.Prelude.{take, OnOk, OnErr, IfOk, IsErr};
     ghost use Rattle.client_core.specs.Tracks.{Tracks, Keeps};
     ghost use Rattle.pitch_text.specs.WellFormed.{IsVerb};
     ghost use Rattle.pitch_text.specs.declared.verb.Verb.{Verb as VerbSaid};
@@ -77,10 +79,17 @@ impl World {
     ghost use Rattle.pitch_model.specs.Datagrams.{IsPiece};
     ghost use Rattle.world_model.specs.State.{State, datagrams_on};
     ghost use Rattle.spin_path.specs.Paths.{HasWholeImages};
-    ghost use Rattle.world_model.specs.Stands.{WorldHas, WorldStands, AreLimits, Acts, Passes, ClientTicks, has_failed};
+    ghost use Rattle.world_model.specs.Stands.{WorldHas, WorldStands, AreLimits, Acts, Passes};
+    ghost use Rattle.world_model.specs.Stands.{ClientTicks, has_failed};
     ghost use Rattle.session_ends.specs.Events.{Ticked};
     ghost use Rattle.world_model.specs.declared.limits.Limits.{Limits as LimitsSaid};
-    ghost use Rattle.world_model.specs.Verbs.{state_of, does, set_up, commanded, flushed, beaten, delivered, rest_delivered, ticked, quoted, grp_connected, grp_cut, cut_on, grp_settled, grp_up_on, grp_down_on, spin_connected, spin_cut, spin_settled, spin_up_on, spin_down_on, advertised, budget_ticks, grp_server_ticks, spin_server_has, gap_link_ticks, spin_link_ticks};
+    ghost use Rattle.world_model.specs.Verbs.{state_of, does, set_up, commanded, flushed, beaten};
+    ghost use Rattle.world_model.specs.Verbs.{delivered, rest_delivered, ticked, quoted};
+    ghost use Rattle.world_model.specs.Verbs.{grp_connected, grp_cut, cut_on, grp_settled};
+    ghost use Rattle.world_model.specs.Verbs.{grp_up_on, grp_down_on, spin_connected, spin_cut};
+    ghost use Rattle.world_model.specs.Verbs.{spin_settled, spin_up_on, spin_down_on, advertised};
+    ghost use Rattle.world_model.specs.Verbs.{budget_ticks, grp_server_ticks, spin_server_has};
+    ghost use Rattle.world_model.specs.Verbs.{gap_link_ticks, spin_link_ticks};
 
     /// The world of a unit with which nothing was done. Its limits are ones that an `open` line can
     /// set.
@@ -116,10 +125,12 @@ impl World {
     pub fn step(&mut self, verb: &Verb) -> Result<Printed, OutOfMemory>
         requires { IsVerb verb.now }
         // Whatever verbs were done before, the world then stands for these and this one.
-        ensures stands { OnOk result ((unit : ℕ) (limits : LimitsSaid) (done : List VerbSaid) → WorldStands self.old unit limits done
+        ensures stands { OnOk result ((unit : ℕ) (limits : LimitsSaid) (done : List VerbSaid)
+            → WorldStands self.old unit limits done
             → WorldStands self.new unit limits (verb.now ∷ done)) }
         // Whatever verbs were done before, the answer is what the definition prints of this one.
-        ensures printed { IfOk result (λ p. (unit : ℕ) (limits : LimitsSaid) (done : List VerbSaid) → WorldStands self.old unit limits done
+        ensures printed { IfOk result (λ p. (unit : ℕ) (limits : LimitsSaid) (done : List VerbSaid)
+            → WorldStands self.old unit limits done
             → p ≡ printed unit limits verb.now (state_of unit limits done)) }
         ensures failed { OnErr result (has_failed self.new ≡ true) }
         ensures failed_before { has_failed self.old ≡ true → IsErr result }
@@ -148,8 +159,9 @@ impl World {
     /// as before after OutOfMemory.
     pub fn show(&self, out: &mut Vec<u8>) -> Result<(), OutOfMemory>
         // Whatever verbs were done, it is what the definition shows of their state.
-        ensures shown { OnOk result ((unit : ℕ) (limits : LimitsSaid) (done : List VerbSaid) → WorldStands self.now unit limits done
-            → out.new.items ≡ out.old.items ++ shown_state unit limits (state_of unit limits done)) }
+        ensures shown { OnOk result ((unit : ℕ) (limits : LimitsSaid) (done : List VerbSaid)
+            → WorldStands self.now unit limits done → out.new.items
+            ≡ out.old.items ++ shown_state unit limits (state_of unit limits done)) }
         ensures err { OnErr result (out.new.items ≡ out.old.items) }
         ensures behind { take (length out.old.items) out.new.items ≡ out.old.items }
     {
@@ -166,34 +178,40 @@ impl World {
     /// The unit's client.
     pub fn client(&self) -> &UnitClient
         // Whatever verbs were done, the client is where what it heard brings it.
-        ensures tracks { (unit : ℕ) (limits : LimitsSaid) (done : List VerbSaid) → WorldStands self.now unit limits done
+        ensures tracks { (unit : ℕ) (limits : LimitsSaid) (done : List VerbSaid)
+            → WorldStands self.now unit limits done
             → Tracks result.now limits.hold (state_of unit limits done).heard }
         // Its book and what it holds are the venue's messages.
-        ensures keeps { (unit : ℕ) (limits : LimitsSaid) (done : List VerbSaid) → WorldStands self.now unit limits done
-            → Keeps result.now (state_of unit limits done).accepted }
-        // Each image that it heard to its end is the image of the venue's messages, and none is bad.
-        ensures whole { (unit : ℕ) (limits : LimitsSaid) (done : List VerbSaid) → WorldStands self.now unit limits done
-            → HasWholeImages (state_of unit limits done).accepted (state_of unit limits done).heard }
+        ensures keeps { (unit : ℕ) (limits : LimitsSaid) (done : List VerbSaid) → WorldStands
+            self.now unit limits done → Keeps result.now (state_of unit limits done).accepted }
+        // Each image that it heard to its end is the image of the venue's messages, and none is
+        // bad.
+        ensures whole { (unit : ℕ) (limits : LimitsSaid) (done : List VerbSaid)
+            → WorldStands self.now unit limits done → HasWholeImages
+            (state_of unit limits done).accepted (state_of unit limits done).heard }
     {
         &self.client
     }
 
-    /// The datagrams that were sent on a line, in their order: by the venue on lines A and B, by the
-    /// proxy on the gap line.
+    /// The datagrams that were sent on a line, in their order: by the venue on lines A and B, by
+    /// the proxy on the gap line.
     pub fn datagrams(&self, line: Line) -> &[ByteList]
         // Whatever verbs were done, they are those of their state.
-        ensures datagrams { (unit : ℕ) (limits : LimitsSaid) (done : List VerbSaid) → WorldStands self.now unit limits done
+        ensures datagrams { (unit : ℕ) (limits : LimitsSaid) (done : List VerbSaid)
+            → WorldStands self.now unit limits done
             → bytes_in result.now ≡ datagrams_on (state_of unit limits done) line }
         // Each has the venue's messages, at their sequences.
-        ensures pieces { (unit : ℕ) (limits : LimitsSaid) (done : List VerbSaid) → WorldStands self.now unit limits done
-            → AllByRecursion (IsPiece (state_of unit limits done).accepted unit) (bytes_in result.now) }
+        ensures pieces { (unit : ℕ) (limits : LimitsSaid) (done : List VerbSaid)
+            → WorldStands self.now unit limits done → AllByRecursion
+            (IsPiece (state_of unit limits done).accepted unit) (bytes_in result.now) }
     {
         datagrams_on(&self.sent, &self.replayed, line)
     }
 
     // Appends what `show` prints. After OutOfMemory some may have been appended.
     fn append_shown(&self, out: &mut Vec<u8>) -> Result<(), OutOfMemory>
-        ensures shown { OnOk result ((s : State) → WorldHas self.now s → out.new.items ≡ out.old.items ++ shown_state self.now.unit self.now.limits s) }
+        ensures shown { OnOk result ((s : State) → WorldHas self.now s
+            → out.new.items ≡ out.old.items ++ shown_state self.now.unit self.now.limits s) }
         ensures behind { take (length out.old.items) out.new.items ≡ out.old.items }
     {
         let client = &self.client;
@@ -207,7 +225,8 @@ impl World {
     // Does a verb.
     fn act(&mut self, verb: &Verb) -> Result<Acted, OutOfMemory>
         requires verb { IsVerb verb.now }
-        ensures { IfOk result (λ acted. (s : State) → WorldHas self.old s → Acts self.old self.new acted s (does self.old.unit self.old.limits verb.now s)) }
+        ensures { IfOk result (λ acted. (s : State) → WorldHas self.old s
+            → Acts self.old self.new acted s (does self.old.unit self.old.limits verb.now s)) }
     {
         match verb {
             Verb::Command(command) => {
@@ -297,7 +316,8 @@ impl World {
 
     // The venue is given a command.
     fn command(&mut self, command: &Command) -> Result<Acted, OutOfMemory>
-        ensures { IfOk result (λ acted. (s : State) → WorldHas self.old s → Acts self.old self.new acted s (commanded command.now s)) }
+        ensures { IfOk result (λ acted. (s : State)
+            → WorldHas self.old s → Acts self.old self.new acted s (commanded command.now s)) }
     {
         match self.venue.accept(command) {
             Ok(sequence) => {
@@ -317,7 +337,8 @@ impl World {
 
     // What is pending goes out on both lines.
     fn flush(&mut self) -> Result<Acted, OutOfMemory>
-        ensures { IfOk result (λ acted. (s : State) → WorldHas self.old s → Acts self.old self.new acted s (flushed self.old.unit s)) }
+        ensures { IfOk result (λ acted. (s : State)
+            → WorldHas self.old s → Acts self.old self.new acted s (flushed self.old.unit s)) }
     {
         let mut datagrams = DatagramList::make(self.alloc);
         let count = self.venue.flush(&mut datagrams)?;
@@ -327,7 +348,8 @@ impl World {
 
     // A heartbeat goes out on both lines.
     fn beat(&mut self) -> Result<Acted, OutOfMemory>
-        ensures { IfOk result (λ acted. (s : State) → WorldHas self.old s → Acts self.old self.new acted s (beaten self.old.unit s)) }
+        ensures { IfOk result (λ acted. (s : State)
+            → WorldHas self.old s → Acts self.old self.new acted s (beaten self.old.unit s)) }
     {
         let beat = self.venue.beat();
         self.sent.push(ByteList::of_bytes(self.alloc, &beat)?)?;
@@ -337,7 +359,8 @@ impl World {
     // The client hears a datagram of a line.
     fn deliver(&mut self, line: Line, number: u32) -> Result<Acted, OutOfMemory>
         requires { 1 ≤ number }
-        ensures { IfOk result (λ acted. (s : State) → WorldHas self.old s → Acts self.old self.new acted s (delivered self.old.unit self.old.limits line number s)) }
+        ensures { IfOk result (λ acted. (s : State) → WorldHas self.old s → Acts
+            self.old self.new acted s (delivered self.old.unit self.old.limits line number s)) }
     {
         let datagrams = datagrams_on(&self.sent, &self.replayed, line);
         let Some(datagram) = datagrams.get(number as usize - 1) else {
@@ -359,7 +382,8 @@ impl World {
 
     // The client hears the datagrams of a line after the last of them that it got.
     fn rest(&mut self, line: Line) -> Result<Acted, OutOfMemory>
-        ensures { IfOk result (λ acted. (s : State) → WorldHas self.old s → Acts self.old self.new acted s (rest_delivered self.old.unit self.old.limits line s)) }
+        ensures { IfOk result (λ acted. (s : State) → WorldHas self.old s → Acts
+            self.old self.new acted s (rest_delivered self.old.unit self.old.limits line s)) }
     {
         let datagrams = datagrams_on(&self.sent, &self.replayed, line);
         let all = datagrams.len();
@@ -375,7 +399,8 @@ impl World {
 
     // A new connection with the proxy.
     fn connect_grp(&mut self) -> Result<Acted, OutOfMemory>
-        ensures { IfOk result (λ acted. (s : State) → WorldHas self.old s → Acts self.old self.new acted s (grp_connected s.grp s)) }
+        ensures { IfOk result (λ acted. (s : State)
+            → WorldHas self.old s → Acts self.old self.new acted s (grp_connected s.grp s)) }
     {
         match self.grp {
             Some(_) => Ok(calm(Outcome::AlreadyOpen)),
@@ -389,7 +414,8 @@ impl World {
 
     // The connection with the proxy ends, and the client hears it.
     fn drop_grp(&mut self) -> Result<(), OutOfMemory>
-        ensures { OnOk result ((s : State) → WorldHas self.old s → Passes self.old self.new s (grp_cut s)) }
+        ensures { OnOk result ((s : State)
+            → WorldHas self.old s → Passes self.old self.new s (grp_cut s)) }
     {
         let _change = self.client.hear(&Item::GrpDown)?;
         self.grp = None;
@@ -398,7 +424,8 @@ impl World {
 
     // The connection with the proxy is cut.
     fn cut_grp(&mut self) -> Result<Acted, OutOfMemory>
-        ensures { IfOk result (λ acted. (s : State) → WorldHas self.old s → Acts self.old self.new acted s (cut_on s.grp (grp_cut s) s)) }
+        ensures { IfOk result (λ acted. (s : State)
+            → WorldHas self.old s → Acts self.old self.new acted s (cut_on s.grp (grp_cut s) s)) }
     {
         match self.grp {
             None => Ok(calm(Outcome::NotOpen)),
@@ -412,7 +439,8 @@ impl World {
     // The connection with the proxy ends where the client's end of it is closed.
     #[tactic(auto, using(crate::proofs::Acting::passes_where, crate::proofs::Acting::passes_still))]
     fn drop_shut_grp(&mut self) -> Result<(), OutOfMemory>
-        ensures { OnOk result ((s : State) → WorldHas self.old s → Passes self.old self.new s (grp_settled s)) }
+        ensures { OnOk result ((s : State)
+            → WorldHas self.old s → Passes self.old self.new s (grp_settled s)) }
     {
         if is_shut(&self.grp) {
             self.drop_grp()?;
@@ -422,7 +450,8 @@ impl World {
 
     // Bytes are carried to the proxy.
     fn up_grp(&mut self, bytes: Option<u32>) -> Result<Acted, OutOfMemory>
-        ensures { IfOk result (λ acted. (s : State) → WorldHas self.old s → Acts self.old self.new acted s (grp_up_on self.old.unit self.old.limits bytes s.grp s)) }
+        ensures { IfOk result (λ acted. (s : State) → WorldHas self.old s → Acts
+            self.old self.new acted s (grp_up_on self.old.unit self.old.limits bytes s.grp s)) }
     {
         match &mut self.grp {
             None => Ok(calm(Outcome::NotOpen)),
@@ -446,7 +475,8 @@ impl World {
 
     // Bytes are carried to the client from the proxy.
     fn down_grp(&mut self, bytes: Option<u32>) -> Result<Acted, OutOfMemory>
-        ensures { IfOk result (λ acted. (s : State) → WorldHas self.old s → Acts self.old self.new acted s (grp_down_on bytes s.grp s)) }
+        ensures { IfOk result (λ acted. (s : State)
+            → WorldHas self.old s → Acts self.old self.new acted s (grp_down_on bytes s.grp s)) }
     {
         match &mut self.grp {
             None => Ok(calm(Outcome::NotOpen)),
@@ -473,7 +503,8 @@ impl World {
 
     // A new connection with the spin server.
     fn connect_spin(&mut self) -> Result<Acted, OutOfMemory>
-        ensures { IfOk result (λ acted. (s : State) → WorldHas self.old s → Acts self.old self.new acted s (spin_connected self.old.unit s.spin s)) }
+        ensures { IfOk result (λ acted. (s : State) → WorldHas self.old s
+            → Acts self.old self.new acted s (spin_connected self.old.unit s.spin s)) }
     {
         match self.spin {
             Some(_) => Ok(calm(Outcome::AlreadyOpen)),
@@ -487,7 +518,8 @@ impl World {
 
     // The connection with the spin server ends, and the client hears it.
     fn drop_spin(&mut self) -> Result<(), OutOfMemory>
-        ensures { OnOk result ((s : State) → WorldHas self.old s → Passes self.old self.new s (spin_cut s)) }
+        ensures { OnOk result ((s : State)
+            → WorldHas self.old s → Passes self.old self.new s (spin_cut s)) }
     {
         let _change = self.client.hear(&Item::SpinDown)?;
         self.spin = None;
@@ -496,7 +528,8 @@ impl World {
 
     // The connection with the spin server is cut.
     fn cut_spin(&mut self) -> Result<Acted, OutOfMemory>
-        ensures { IfOk result (λ acted. (s : State) → WorldHas self.old s → Acts self.old self.new acted s (cut_on s.spin (spin_cut s) s)) }
+        ensures { IfOk result (λ acted. (s : State)
+            → WorldHas self.old s → Acts self.old self.new acted s (cut_on s.spin (spin_cut s) s)) }
     {
         match self.spin {
             None => Ok(calm(Outcome::NotOpen)),
@@ -510,7 +543,8 @@ impl World {
     // The connection with the spin server ends where the client's end of it is closed.
     #[tactic(auto, using(crate::proofs::SpinActing::passes_spin_where, crate::proofs::SpinActing::passes_spin_still))]
     fn drop_shut_spin(&mut self) -> Result<(), OutOfMemory>
-        ensures { OnOk result ((s : State) → WorldHas self.old s → Passes self.old self.new s (spin_settled self.old.unit s)) }
+        ensures { OnOk result ((s : State)
+            → WorldHas self.old s → Passes self.old self.new s (spin_settled self.old.unit s)) }
     {
         if is_spin_shut(&self.spin) {
             self.drop_spin()?;
@@ -520,7 +554,8 @@ impl World {
 
     // Bytes are carried to the spin server.
     fn up_spin(&mut self, bytes: Option<u32>) -> Result<Acted, OutOfMemory>
-        ensures { IfOk result (λ acted. (s : State) → WorldHas self.old s → Acts self.old self.new acted s (spin_up_on self.old.unit bytes s.spin s)) }
+        ensures { IfOk result (λ acted. (s : State) → WorldHas self.old s
+            → Acts self.old self.new acted s (spin_up_on self.old.unit bytes s.spin s)) }
     {
         match &mut self.spin {
             None => Ok(calm(Outcome::NotOpen)),
@@ -544,7 +579,8 @@ impl World {
 
     // Bytes are carried to the client from the spin server.
     fn down_spin(&mut self, bytes: Option<u32>) -> Result<Acted, OutOfMemory>
-        ensures { IfOk result (λ acted. (s : State) → WorldHas self.old s → Acts self.old self.new acted s (spin_down_on self.old.unit bytes s.spin s)) }
+        ensures { IfOk result (λ acted. (s : State) → WorldHas self.old s
+            → Acts self.old self.new acted s (spin_down_on self.old.unit bytes s.spin s)) }
     {
         match &mut self.spin {
             None => Ok(calm(Outcome::NotOpen)),
@@ -571,7 +607,8 @@ impl World {
 
     // The image of all messages is advertised, and the spin server is told.
     fn advertise(&mut self) -> Result<Acted, OutOfMemory>
-        ensures { IfOk result (λ acted. (s : State) → WorldHas self.old s → Acts self.old self.new acted s (advertised self.old.unit s)) }
+        ensures { IfOk result (λ acted. (s : State)
+            → WorldHas self.old s → Acts self.old self.new acted s (advertised self.old.unit s)) }
     {
         let sequence = self.shelf.advertise()?;
         tell_spin_server(&mut self.spin, sequence)?;
@@ -580,7 +617,9 @@ impl World {
 
     // A second passes for the proxy and the spin server.
     fn tick_servers(&mut self) -> Result<(), OutOfMemory>
-        ensures { OnOk result ((s : State) → WorldHas self.old s → Passes self.old self.new s (spin_server_has self.old.unit Ticked (grp_server_ticks self.old.unit (budget_ticks s)))) }
+        ensures { OnOk result ((s : State)
+            → WorldHas self.old s → Passes self.old self.new s (spin_server_has self.old.unit Ticked
+            (grp_server_ticks self.old.unit (budget_ticks s)))) }
     {
         self.budget.tick();
         tick_server(&mut self.grp)?;
@@ -590,7 +629,8 @@ impl World {
 
     // A second passes at the client's end of the connection with the proxy.
     fn tick_gap_link(&mut self) -> Result<(), OutOfMemory>
-        ensures { OnOk result ((s : State) → WorldHas self.old s → Passes self.old self.new s (gap_link_ticks s)) }
+        ensures { OnOk result ((s : State)
+            → WorldHas self.old s → Passes self.old self.new s (gap_link_ticks s)) }
     {
         tick_link(&mut self.grp)?;
         self.drop_shut_grp()?;
@@ -599,7 +639,8 @@ impl World {
 
     // A second passes at the client's end of the connection with the spin server.
     fn tick_spin_end(&mut self) -> Result<(), OutOfMemory>
-        ensures { OnOk result ((s : State) → WorldHas self.old s → Passes self.old self.new s (spin_link_ticks self.old.unit s)) }
+        ensures { OnOk result ((s : State)
+            → WorldHas self.old s → Passes self.old self.new s (spin_link_ticks self.old.unit s)) }
     {
         tick_spin_link(&mut self.spin)?;
         self.drop_shut_spin()?;
@@ -608,7 +649,8 @@ impl World {
 
     // A second passes for the client, and what it asks for is sent.
     fn tick_client(&mut self) -> Result<Option<Ask>, OutOfMemory>
-        ensures { IfOk result (λ ask. (s : State) → WorldHas self.old s → ClientTicks self.old self.new ask s) }
+        ensures { IfOk result (λ ask. (s : State)
+            → WorldHas self.old s → ClientTicks self.old self.new ask s) }
     {
         let ask = self.client.tick();
         ask_through(&mut self.grp, self.unit, ask)?;
@@ -618,7 +660,8 @@ impl World {
 
     // A second passes.
     fn tick(&mut self) -> Result<Acted, OutOfMemory>
-        ensures { IfOk result (λ acted. (s : State) → WorldHas self.old s → Acts self.old self.new acted s (ticked self.old.unit self.old.limits s)) }
+        ensures { IfOk result (λ acted. (s : State) → WorldHas self.old s
+            → Acts self.old self.new acted s (ticked self.old.unit self.old.limits s)) }
     {
         self.tick_servers()?;
         self.tick_gap_link()?;
@@ -629,7 +672,8 @@ impl World {
 
     // The best prices of a symbol in the client's book.
     fn quote(&self, symbol: Symbol) -> Outcome
-        ensures { (s : State) → WorldHas self.now s → result ≡ (quoted self.now.limits symbol s).outcome }
+        ensures { (s : State) → WorldHas self.now s
+            → result ≡ (quoted self.now.limits symbol s).outcome }
     {
         let book = self.client.book();
         Outcome::Quoted {
@@ -676,10 +720,13 @@ fn tick_outcome(ask: Option<Ask>) -> Outcome
 // The proxy's store and the shelf get the message that the venue accepted last. After OutOfMemory
 // one of them may have it.
 fn keep_last(venue: &Venue, store: &mut GapStore, shelf: &mut ImageShelf) -> Result<(), OutOfMemory>
-    ensures store { OnOk result ((accepted : List (List ℕ)) (sent : ℕ) (raw : List ℕ) (v : View) → VenueStands venue.now accepted sent → last_of accepted ≡ Some raw
-        → store.old ≡ store_of v → store.new ≡ store_of (record { messages = v.messages ++ raw ∷ []; kept = v.kept })) }
-    ensures shelf { OnOk result ((accepted : List (List ℕ)) (sent : ℕ) (raw : List ℕ) (operations : List Operation) → VenueStands venue.now accepted sent → last_of accepted ≡ Some raw
-        → ShelfStands shelf.old operations → ShelfStands shelf.new (operations ++ Accept raw ∷ [])) }
+    ensures store { OnOk result ((accepted : List (List ℕ)) (sent : ℕ) (raw : List ℕ) (v : View)
+        → VenueStands venue.now accepted sent → last_of accepted ≡ Some raw → store.old ≡ store_of v
+        → store.new ≡ store_of (record { messages = v.messages ++ raw ∷ []; kept = v.kept })) }
+    ensures shelf { OnOk result ((accepted : List (List ℕ)) (sent : ℕ)
+        (raw : List ℕ) (operations : List Operation) → VenueStands venue.now accepted sent
+        → last_of accepted ≡ Some raw → ShelfStands shelf.old operations
+        → ShelfStands shelf.new (operations ++ Accept raw ∷ [])) }
 {
     let Some(raw) = venue.last_raw() else {
         return Err(OutOfMemory);

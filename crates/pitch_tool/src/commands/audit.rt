@@ -31,11 +31,14 @@ pub fn print_audit<I: Source, O: Sink>(
     input: &mut I,
     out: &mut O,
 ) -> Result<(), Failure>
-    ensures ends { AuditEnds stream_limit result (told I.left input.old input.new) (told O.written out.old out.new) }
+    ensures ends { AuditEnds stream_limit result
+        (told I.left input.old input.new) (told O.written out.old out.new) }
     // However it ended, at most one byte was taken past the limit.
     ensures reads { TakesAtMost (stream_limit + 1) (told I.left input.old input.new) }
-    ensures read_cause { HasCause (I.faults input.old) (I.faults input.new) (result ≡ Err Failure.Read) }
-    ensures write_cause { HasCause (O.faults out.old) (O.faults out.new) (result ≡ Err Failure.Write) }
+    ensures read_cause { HasCause
+        (I.faults input.old) (I.faults input.new) (result ≡ Err Failure.Read) }
+    ensures write_cause { HasCause
+        (O.faults out.old) (O.faults out.new) (result ≡ Err Failure.Write) }
 {
     let too_long = Trouble::Blocks(StreamTrouble::TooLong);
     let bytes = read_whole(alloc, input, INPUT_LIMIT, too_long)?;

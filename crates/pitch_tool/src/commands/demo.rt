@@ -19,11 +19,14 @@ pub fn print_demo<O: Sink, N: Net>(
     net: &mut N,
 ) -> Result<(), Failure>
     requires { IsDemoCount count }
-    ensures ends { DemoEnds number count result (told O.written out.old out.new) (wires N.calls N.faults net.old net.new) }
+    ensures ends { DemoEnds number count result
+        (told O.written out.old out.new) (wires N.calls N.faults net.old net.new) }
     ensures unread { result ≢ Err Failure.Read }
-    ensures write_cause { HasCause (O.faults out.old) (O.faults out.new) (result ≡ Err Failure.Write) }
+    ensures write_cause { HasCause
+        (O.faults out.old) (O.faults out.new) (result ≡ Err Failure.Write) }
     ensures net_cause { HasCause (N.faults net.old) (N.faults net.new) (result ≡ Err Failure.Net) }
-    ensures net_still { result ≢ Err Failure.Net → result ≢ Err Failure.OutOfMemory → N.faults net.new ≡ N.faults net.old }
+    ensures net_still { result ≢ Err Failure.Net
+        → result ≢ Err Failure.OutOfMemory → N.faults net.new ≡ N.faults net.old }
 {
     let mut line = Vec::new(alloc);
     demo(alloc, net, number, count, &mut line)?;

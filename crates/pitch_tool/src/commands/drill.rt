@@ -26,7 +26,8 @@ pub fn print_drill<R: Threads + Wait + Clock + Sync, O: Sink, G: Gate + Sync>(
     requires { IsDrill units count }
     ensures ends { DrillEnds number units count result (told O.written out.old out.new) }
     ensures unread { result ≢ Err Failure.Read }
-    ensures write_cause { HasCause (O.faults out.old) (O.faults out.new) (result ≡ Err Failure.Write) }
+    ensures write_cause { HasCause
+        (O.faults out.old) (O.faults out.new) (result ≡ Err Failure.Write) }
 {
     let mut lines = Vec::new(alloc);
     drill(rt, alloc, number, units, count, gate, &mut lines)?;

@@ -28,7 +28,8 @@ pub fn print_storm<R: Threads + Sync, O: Sink, G: Gate + Sync>(
     requires workers { AreWorkers workers }
     ensures ends { StormEnds number units steps result (told O.written out.old out.new) }
     ensures unread { result ≢ Err Failure.Read }
-    ensures write_cause { HasCause (O.faults out.old) (O.faults out.new) (result ≡ Err Failure.Write) }
+    ensures write_cause { HasCause
+        (O.faults out.old) (O.faults out.new) (result ≡ Err Failure.Write) }
 {
     let mut worlds = WorldList::make(alloc);
     let mut summary = Vec::new(alloc);
