@@ -1,4 +1,4 @@
-ghost use Rattle.std.specs.Prelude.{◌≡◌, Some, None, OnOk, IfOk, unwrap_or};
+ghost use Rattle.std.specs.Prelude.{◌≡◌, ◌+◌, ◌-◌, Some, None, OnOk, IfOk, unwrap_or};
 ghost use Rattle.std.specs.Ordering.{nat_cmp};
 ghost use Rattle.std.specs.BTreeMap.{get};
 ghost use Rattle.pitch_fields.specs.declared.side.Side.TheVariants.{Buy, Sell};
@@ -46,25 +46,26 @@ pub(crate) fn best_of(prices: &Prices, side: Side) -> Best
     }
 }
 
-// The shares at a price.
-fn shares_at(prices: &Prices, price: Price) -> u64
-    ensures { result ≡ unwrap_or (get nat_cmp prices.now price) 0 }
-{
-    match prices.get(&price.ten_thousandths()) {
-        Some(shares) => *shares,
-        None => 0,
-    }
-}
-
-// Has so many shares at a price from now on.
-fn set(prices: &mut Prices, price: Price, shares: u64) -> Result<(), OutOfMemory>
-    ensures { OnOk result (SetsPrice prices.old price shares prices.new) }
+// Takes shares away at a price and puts others there. Their sum never passes the end of its type in
+// a book of at most 4,294,967,295 orders.
+fn change(prices: &mut Prices, price: Price, gone: u32, come: u32) -> Result<(), OutOfMemory>
+    ensures { OnOk result (SetsPrice prices.old price
+        ((unwrap_or (get nat_cmp prices.old price) 0 - gone) + come) prices.new) }
 {
     let price = price.ten_thousandths();
-    if shares == 0 {
+    let Some(shares) = prices.get_mut(&price) else {
+        if come > 0 {
+            prices.insert(price, u64::from(come))?;
+        }
+        return Ok(());
+    };
+    let left = shares.saturating_sub(u64::from(gone));
+    let Some(sum) = left.checked_add(u64::from(come)) else {
+        return Err(OutOfMemory);
+    };
+    *shares = sum;
+    if sum == 0 {
         prices.remove(&price);
-    } else {
-        prices.insert(price, shares)?;
     }
     Ok(())
 }
@@ -73,20 +74,15 @@ fn set(prices: &mut Prices, price: Price, shares: u64) -> Result<(), OutOfMemory
 fn take(prices: &mut Prices, order: &Order) -> Result<(), OutOfMemory>
     ensures { OnOk result (MovesPrices (Some order.now) None prices.old prices.new) }
 {
-    let left = shares_at(prices, order.price).saturating_sub(u64::from(order.quantity));
-    set(prices, order.price, left)?;
+    change(prices, order.price, order.quantity, 0)?;
     Ok(())
 }
 
-// Puts the shares of an order. They never pass the end of their type in a book of at most
-// 4,294,967,295 orders.
+// Puts the shares of an order.
 fn put(prices: &mut Prices, order: &Order) -> Result<(), OutOfMemory>
     ensures { OnOk result (MovesPrices None (Some order.now) prices.old prices.new) }
 {
-    let Some(more) = shares_at(prices, order.price).checked_add(u64::from(order.quantity)) else {
-        return Err(OutOfMemory);
-    };
-    set(prices, order.price, more)?;
+    change(prices, order.price, 0, order.quantity)?;
     Ok(())
 }
 
@@ -95,11 +91,7 @@ fn exchange(prices: &mut Prices, before: &Order, now: &Order) -> Result<(), OutO
     requires { before.now.price ≡ now.now.price }
     ensures { OnOk result (MovesPrices (Some before.now) (Some now.now) prices.old prices.new) }
 {
-    let left = shares_at(prices, before.price).saturating_sub(u64::from(before.quantity));
-    let Some(more) = left.checked_add(u64::from(now.quantity)) else {
-        return Err(OutOfMemory);
-    };
-    set(prices, before.price, more)?;
+    change(prices, before.price, before.quantity, now.quantity)?;
     Ok(())
 }
 
