@@ -7,6 +7,7 @@ mod Spinning
 mod Linking
 mod Saying
 mod Markets
+mod Sharing
 mod Ticking
 mod Turning
 mod Parts

@@ -1,46 +1,61 @@
 -- What the venue's side does in a turn.
-use Rattle.std.proofs.Common.{◌≡◌, ℕ, suc, ◌-◌, ◌≤◌, ◌<◌, List, [], ◌∷◌, ◌++◌, length, Option, None, Some, Ok, refl, sym, ap, ◌∙◌, subst, arith}
-use Rattle.std.proofs.lemmas.List.{append-nil}
-use Rattle.pitch_model.specs.Advertising.{Operation, Accept, Advertise, accepted_by, advertised_by, accepted_at, with_sequence}
+use Rattle.std.proofs.Common.{◌≡◌, ℕ, zero, suc, ◌+◌, ◌-◌, ◌≤◌, ◌<◌, true, List, [], ◌∷◌, ◌++◌, length, drop, replicate, Option, None, Some, Ok, refl, sym, ap, ◌∙◌, subst, arith}
+use Rattle.std.specs.List.{AllByRecursion, slice_get}
+use Rattle.std.proofs.lemmas.List.{drop_all, drop_at}
+use Rattle.pitch_messages.specs.Raw.{IsRaw}
+use Rattle.unit_packets.specs.Packing.{IsPacking, packed, packed_on}
+use Rattle.pitch_model.specs.Advertising.{Operation, Accept, accepted_by, advertised_by, accepted_at}
+use Rattle.pitch_model.specs.Datagrams.{IsPiece}
 use Rattle.pitch_model.specs.History.{Raw}
+use Rattle.pitch_model.specs.Honest.{AreVenues, message_at}
 use Rattle.pitch_text.specs.declared.command.Command.{Command}
 use Rattle.venue_core.specs.Commands.{raw_of}
 use Rattle.venue_core.specs.Plan.{plan, plan_command}
 use Rattle.venue_core.specs.Refusals.{IsAnswer}
-use Rattle.venue_core.specs.Standing.{VenueState}
 use Rattle.venue_core.specs.Stands.{Stands}
 use Rattle.venue_core.specs.declared.error.VenueError.{VenueError}
-use Rattle.gap_store.specs.Look.{View, store_of}
-use Rattle.spin_server.specs.Stands.{ShelfStands}
-use Rattle.net_edge.specs.Due.{Setting, demo_unit, accepted, messages}
-use Rattle.net_edge.specs.Playing.{MarketHas}
-use Rattle.net_edge.specs.declared.market.Market.{Market}
+use Rattle.venue_core.proofs.Accepting.{all_more}
+use Rattle.venue_core.proofs.PlanBooks.{plan_length, plan_next}
+use Rattle.venue_core.proofs.PlanBytes.{plan_at_place}
+use Rattle.gap_store.specs.Look.{View, Store, store_of}
+use Rattle.session_ends.specs.Events.{Event, Fed}
+use Rattle.session_ends.specs.Sending.{new_items}
+use Rattle.grp_session.specs.Budget.{Limits, Spent}
+use Rattle.grp_session.specs.Serving.{Source, Answered, ProxyFeeds, StoreHasOneView}
+use Rattle.session_ends.specs.Ending.{Ending}
+use Rattle.spin_server.specs.Served.{Served}
+use Rattle.spin_server.specs.Serving.{Serving, SpinStands, SpinFeeds, spin_sends}
+use Rattle.spin_server.specs.Shelves.{Shelf}
+use Rattle.spin_server.specs.Stands.{ShelfStands, ShelfShows, ShelfHasOneView}
+use Rattle.world_model.specs.Connections.{KeepsShelf}
+use Rattle.world_model.proofs.SpinCarrying.{shows_view}
+use Rattle.net_edge.specs.Due.{Setting, AreDuePieces, demo_unit, kept_messages, accepted, messages, new_datagrams, advertised_until}
+use Rattle.net_edge.specs.Markets.{StillHas, MarketHas, MarketAt, HasAccepted, PlainHas, SpinFed, gap_source, image_view}
+use Rattle.net_edge.specs.Scene.{Scene}
+use Rattle.net_edge.specs.declared.plain.PlainMarket.{PlainMarket}
+use Rattle.net_edge.proofs.Feeding.{messages_many}
 
 -- the plan's messages of one command more
-pub plan_more : (number unit k : ℕ) → plan number unit (suc k) ≡ plan number unit k ++ raw_of (plan_command number unit (suc k)) ∷ []
-unfolding plan
-plan_more number unit k = refl
+pub plan_step : (number unit index : ℕ) → 1 ≤ index → plan number unit index ≡ plan number unit (index - 1) ++ raw_of (plan_command number unit index) ∷ []
+plan_step number unit index some =
+    let e : index ≡ suc (index - 1) = omega (arith, some) in
+    plan_next number unit (index - 1) index e
 
-pub plan_next : (number unit index : ℕ) → 1 ≤ index → plan number unit index ≡ plan number unit (index - 1) ++ raw_of (plan_command number unit index) ∷ []
-plan_next number unit index some =
-    let e : suc (index - 1) ≡ index = omega (arith, some) in
-    subst (λ (k : ℕ). plan number unit k ≡ plan number unit (index - 1) ++ raw_of (plan_command number unit k) ∷ []) e (plan_more number unit (index - 1))
-
-same_answer : (o : Option VenueError) (wanted given : Raw) → IsAnswer o wanted (Ok given) → given ≡ wanted
+pub same_answer : (o : Option VenueError) (wanted given : Raw) → IsAnswer o wanted (Ok given) → given ≡ wanted
 same_answer None wanted given is = is
 same_answer (Some error) wanted given is = absurd cc
 
--- a message was accepted, and proxy and spin server can look it up
-pub accepts : (old new : Market) (command : Command) (raw : Raw) (refused : Option VenueError) (before : List Raw) (sent : ℕ) (advertised : List ℕ) → MarketHas old before sent advertised
-    → new.venue.unit ≡ old.venue.unit → IsAnswer refused (raw_of command) (Ok raw) → Stands new.venue (before ++ raw ∷ []) sent
+-- ---- The plain side
+-- a message was accepted, and proxy and Spin Server can look it up
+pub accepts : (old new : PlainMarket) (command : Command) (raw : Raw) (refused : Option VenueError) (before : List Raw) (advertised : List ℕ) → PlainHas old before advertised
+    → IsAnswer refused (raw_of command) (Ok raw) → Stands new.venue (before ++ raw ∷ []) 0
     → ((v : View) → old.store ≡ store_of v → new.store ≡ store_of (record { messages = v.messages ++ raw ∷ []; kept = v.kept }))
     → ((operations : List Operation) → ShelfStands old.shelf operations → ShelfStands new.shelf (operations ++ Accept raw ∷ []))
     → ((operations : List Operation) (operation : Operation) → accepted_by (operations ++ operation ∷ []) ≡ accepted_by operations ++ accepted_at operation)
     → ((operations : List Operation) (raw : Raw) → advertised_by (operations ++ Accept raw ∷ []) ≡ advertised_by operations)
-    → MarketHas new (before ++ raw_of command ∷ []) sent advertised
-accepts old new command raw refused before sent advertised has unit answer stands stores shelves adds still =
-    subst (λ (r : Raw). MarketHas new (before ++ r ∷ []) sent advertised) (same_answer refused (raw_of command) raw answer) (record {
-      unit_is = unit ∙ has.unit_is;
+    → PlainHas new (before ++ raw_of command ∷ []) advertised
+accepts old new command raw refused before advertised has answer stands stores shelves adds still =
+    subst (λ (r : Raw). PlainHas new (before ++ r ∷ []) advertised) (same_answer refused (raw_of command) raw answer) (record {
       venue = stands;
       store_is = stores _ has.store_is;
       shelf = record {
@@ -51,41 +66,126 @@ accepts old new command raw refused before sent advertised has unit answer stand
       };
     })
 
--- ---- The next of the plan
--- in a turn up to the count a message is accepted
-pub accepted_more : (s : Setting) (turn : ℕ) (old new : Market) (advertised : List ℕ) → 1 ≤ turn → turn ≤ s.count → MarketHas old (messages s (turn - 1)) (accepted s (turn - 1)) advertised
-    → ((sent : ℕ) (advertised : List ℕ) → MarketHas old (plan s.number demo_unit (turn - 1)) sent advertised → MarketHas new (plan s.number demo_unit turn) sent advertised)
-    → MarketHas new (messages s turn) (accepted s (turn - 1)) advertised
-accepted_more s turn old new advertised some few has accepting =
-    let before : accepted s (turn - 1) ≡ turn - 1 = omega (arith, some, few) in
-    let now : accepted s turn ≡ turn = omega (arith, few) in
-    subst (λ (k : ℕ). MarketHas new (plan s.number demo_unit k) (accepted s (turn - 1)) advertised) (sym now)
-    (accepting (accepted s (turn - 1)) advertised (subst (λ (k : ℕ). MarketHas old (plan s.number demo_unit k) (accepted s (turn - 1)) advertised) before has))
+-- its store is seen at one view by all messages of a piece
+pub plain_answered : (messages : List Raw) (store store' : Store) (limits : Limits) (spent : Spent) (es : List (Event Source)) (piece : List ℕ) (old new : Ending) (counted : Spent → Type 0) (said said' : List ℕ) (lines lines' : List (List ℕ))
+    → StoreHasOneView → store ≡ store_of (record { messages = messages; kept = kept_messages }) → store' ≡ store
+    → ProxyFeeds es piece old new true limits spent (record { messages = messages; kept = kept_messages }) counted (λ v. store' ≡ store_of v) said said' lines lines'
+    → Answered es piece (gap_source messages limits spent es piece) old new counted said said' lines lines'
+plain_answered messages store store' limits spent es piece old new counted said said' lines lines' one stored still feeds =
+    let view : View = record { messages = messages; kept = kept_messages } in
+    let views_are : feeds.views ≡ replicate (length (new_items es piece)) view =
+    (one view feeds.now feeds.views feeds.rises (sym feeds.shows ∙ still ∙ stored)).1 ∙ ap (λ (n : ℕ). replicate n view) feeds.each in
+    subst (λ (vs : List View). Answered es piece (record { there = true; views = vs; limits = limits; spent = spent }) old new counted said said' lines lines') views_are feeds.answered
+
+-- and so is its shelf
+pub plain_fed : (messages : List Raw) (advertised : List ℕ) (shelf shelf' : Shelf) (es : List (Event (List Served))) (piece : List ℕ) (old new : Serving) (said said' : List ℕ)
+    → ShelfHasOneView → KeepsShelf shelf messages advertised → shelf' ≡ shelf
+    → ((view : Served) → ShelfShows shelf view → SpinFeeds es piece old new view (λ v. ShelfShows shelf' v) said said')
+    → SpinFed es piece (image_view messages advertised) old new said said'
+plain_fed messages advertised shelf shelf' es piece old new said said' one keeps still feeding =
+    let view : Served = image_view messages advertised in
+    let shows : ShelfShows shelf view = shows_view shelf messages advertised keeps in
+    let feeds = feeding view shows in
+    let both = one shelf view feeds.now feeds.views shows (subst (λ (x : Shelf). ShelfShows x feeds.now) still feeds.shows) feeds.rises in
+    let views_are : feeds.views ≡ replicate (length (new_items es piece)) view = both.1 ∙ ap (λ (n : ℕ). replicate n view) feeds.each in
+    record {
+      stands = subst (λ (vs : List Served). SpinStands new (Fed piece vs ∷ es)) views_are feeds.stands;
+      replied = subst (λ (vs : List Served). said' ≡ said ++ spin_sends old.end.setup (Fed piece vs) es) views_are feeds.replied;
+    }
+
+-- ---- Any venue's side in a turn
+-- what it had, in whatever way, it still has
+pub still_at : {M : Type 0} (has : M → List Raw → List ℕ → Type 0) (s : Setting) (turn : ℕ) (old new : M) → StillHas has old new → MarketAt has s old turn → MarketAt has s new turn
+still_at has s turn old new still at = record { is = still (messages s turn) (advertised_until s turn) at.is; raws = at.raws; few = at.few }
+
+-- as a scene of the turn has it
+pub at_turn : {M : Type 0} (has : M → List Raw → List ℕ → Type 0) (s : Setting) (turn : ℕ) (market : M) (now : Scene) → MarketAt has s market turn → now.turn ≡ turn → MarketAt has s market now.turn
+at_turn has s turn market now at same = subst (MarketAt has s market) (sym same) at
+
+-- in a turn up to the count the plan's next message is said
+pub said_at : {M : Type 0} (has : M → List Raw → List ℕ → Type 0) (s : Setting) (turn : ℕ) (old : M) (raw : Raw) → 1 ≤ turn → turn ≤ s.count
+    → ((advertised : List ℕ) → has old (plan s.number demo_unit (turn - 1)) advertised → raw ≡ raw_of (plan_command s.number demo_unit turn))
+    → MarketAt has s old (turn - 1) → raw ≡ raw_of (plan_command s.number demo_unit turn)
+said_at has s turn old raw some within said at =
+    let before : accepted s (turn - 1) ≡ turn - 1 = omega (arith, some, within) in
+    said (advertised_until s (turn - 1)) (subst (λ (k : ℕ). has old (plan s.number demo_unit k) (advertised_until s (turn - 1))) before at.is)
+
+-- and then it was accepted
+pub accepted_more : {M : Type 0} (has : M → List Raw → List ℕ → Type 0) (s : Setting) (turn : ℕ) (old new : M) (raw : Raw) → 1 ≤ turn → turn ≤ s.count → s.count ≤ 1000 → IsRaw raw
+    → ((advertised : List ℕ) → has old (plan s.number demo_unit (turn - 1)) advertised → raw ≡ raw_of (plan_command s.number demo_unit turn))
+    → ((advertised : List ℕ) → has old (plan s.number demo_unit (turn - 1)) advertised → has new (plan s.number demo_unit turn) advertised)
+    → MarketAt has s old (turn - 1) → HasAccepted has s new turn
+accepted_more has s turn old new raw some within few is_raw said keeps at =
+    let before : accepted s (turn - 1) ≡ turn - 1 = omega (arith, some, within) in
+    let now : accepted s turn ≡ turn = omega (arith, within) in
+    let advertised : List ℕ = advertised_until s (turn - 1) in
+    let had : has old (plan s.number demo_unit (turn - 1)) advertised = subst (λ (k : ℕ). has old (plan s.number demo_unit k) advertised) before at.is in
+    let raws : AllByRecursion IsRaw (plan s.number demo_unit (turn - 1)) = subst (λ (k : ℕ). AllByRecursion IsRaw (plan s.number demo_unit k)) before at.raws in
+    let is : plan s.number demo_unit (turn - 1) ++ raw ∷ [] ≡ plan s.number demo_unit turn =
+    ap (λ (r : Raw). plan s.number demo_unit (turn - 1) ++ r ∷ []) (said advertised had) ∙ sym (plan_step s.number demo_unit turn some) in
+    record {
+      is = subst (λ (k : ℕ). has new (plan s.number demo_unit k) advertised) (sym now) (keeps advertised had);
+      raws = subst (λ (k : ℕ). AllByRecursion IsRaw (plan s.number demo_unit k)) (sym now) (subst (AllByRecursion IsRaw) is (all_more IsRaw (plan s.number demo_unit (turn - 1)) raw raws is_raw));
+      few = omega (arith, messages_many s turn, few);
+    }
 
 -- after it none
-pub accepted_all : (s : Setting) (turn : ℕ) (market : Market) (advertised : List ℕ) → s.count < turn → MarketHas market (messages s (turn - 1)) (accepted s (turn - 1)) advertised → MarketHas market (messages s turn) (accepted s (turn - 1)) advertised
-accepted_all s turn market advertised all has =
+pub accepted_all : {M : Type 0} (has : M → List Raw → List ℕ → Type 0) (s : Setting) (turn : ℕ) (market : M) → s.count < turn → MarketAt has s market (turn - 1) → HasAccepted has s market turn
+accepted_all has s turn market all at =
     let same : accepted s (turn - 1) ≡ accepted s turn = omega (arith, all) in
-    subst (λ (k : ℕ). MarketHas market (plan s.number demo_unit k) (accepted s (turn - 1)) advertised) same has
+    subst (λ (k : ℕ). MarketHas has market (plan s.number demo_unit k) (advertised_until s (turn - 1))) same at
 
--- ---- An image is advertised
-pub advertises : (old new : Market) (messages : List Raw) (sent : ℕ) (advertised : List ℕ) → MarketHas old messages sent advertised → new.venue ≡ old.venue → new.store ≡ old.store
-    → ((operations : List Operation) → ShelfStands old.shelf operations → ShelfStands new.shelf (operations ++ Advertise ∷ []))
-    → ((operations : List Operation) (operation : Operation) → accepted_by (operations ++ operation ∷ []) ≡ accepted_by operations ++ accepted_at operation)
-    → ((operations : List Operation) → advertised_by (operations ++ Advertise ∷ []) ≡ with_sequence (advertised_by operations) (length (accepted_by operations)))
-    → MarketHas new messages sent (with_sequence advertised (length messages))
-advertises old new messages sent advertised has venue store shelves adds tells = record {
-  unit_is = ap (λ (v : VenueState). v.unit) venue ∙ has.unit_is;
-  venue = subst (λ (v : VenueState). Stands v messages sent) (sym venue) has.venue;
-  store_is = store ∙ has.store_is;
-  shelf = record {
-    operations = has.shelf.operations ++ Advertise ∷ [];
-    accepted_is = adds has.shelf.operations Advertise ∙ append-nil (accepted_by has.shelf.operations) ∙ has.shelf.accepted_is;
-    advertised_is = tells has.shelf.operations ∙ ap (λ (ns : List ℕ). with_sequence ns (length (accepted_by has.shelf.operations))) has.shelf.advertised_is ∙ ap (λ (raws : List Raw). with_sequence advertised (length raws)) has.shelf.accepted_is;
-    stands = shelves has.shelf.operations has.shelf.stands;
-  };
-}
+-- ---- A turn's datagrams
+-- the message of a turn is the last that was accepted
+pub turn_message : (s : Setting) (turn : ℕ) → 1 ≤ turn → turn ≤ s.count → drop (accepted s (turn - 1)) (messages s turn) ≡ raw_of (plan_command s.number demo_unit turn) ∷ []
+turn_message s turn some within =
+    let before : accepted s (turn - 1) ≡ turn - 1 = omega (arith, some, within) in
+    let now : accepted s turn ≡ turn = omega (arith, within) in
+    let last : List Raw = raw_of (plan_command s.number demo_unit turn) ∷ [] in
+    ap (λ (k : ℕ). drop k (messages s turn)) before
+    ∙ ap (λ (k : ℕ). drop (turn - 1) (plan s.number demo_unit k)) now
+    ∙ ap (drop (turn - 1)) (plan_step s.number demo_unit turn some)
+    ∙ drop_at (plan s.number demo_unit (turn - 1)) last (turn - 1) (plan_length s.number demo_unit (turn - 1))
 
--- its sequence
-pub sequence_is : (market : Market) (messages : List Raw) (sent : ℕ) (advertised : List ℕ) (sequence : ℕ) → MarketHas market messages sent advertised → sequence ≡ market.shelf.pushed → sequence ≡ length messages
-sequence_is market messages sent advertised sequence has is = is ∙ has.shelf.stands.keeps.pushed_is ∙ ap (λ (raws : List Raw). length raws) has.shelf.accepted_is
+pub turn_datagrams : (s : Setting) (turn : ℕ) (raw : Raw) → 1 ≤ turn → turn ≤ s.count → raw ≡ raw_of (plan_command s.number demo_unit turn) → packed demo_unit turn (raw ∷ []) ≡ new_datagrams s turn
+turn_datagrams s turn raw some within is =
+    let first : turn ≡ accepted s (turn - 1) + 1 = omega (arith, some, within) in
+    ap (λ (r : Raw). packed demo_unit turn (r ∷ [])) is
+    ∙ ap (packed demo_unit turn) (sym (turn_message s turn some within))
+    ∙ ap (λ (k : ℕ). packed demo_unit k (drop (accepted s (turn - 1)) (messages s turn))) first
+
+-- there is none once all were accepted
+none_packed : (unit first : ℕ) → packed unit first [] ≡ []
+unfolding packed_on
+none_packed unit first = refl
+
+pub no_datagrams : (s : Setting) (turn : ℕ) → s.count < turn → [] ≡ new_datagrams s turn
+no_datagrams s turn all =
+    let many : length (messages s turn) ≤ accepted s (turn - 1) = omega (arith, messages_many s turn, all) in
+    sym (none_packed demo_unit (accepted s (turn - 1) + 1)) ∙ ap (packed demo_unit (accepted s (turn - 1) + 1)) (sym (drop_all (accepted s (turn - 1)) (messages s turn) many))
+
+-- the message stands at its sequence
+turn_venues : (s : Setting) (turn : ℕ) (raw : Raw) → 1 ≤ turn → turn ≤ s.count → raw ≡ raw_of (plan_command s.number demo_unit turn) → AreVenues (messages s turn) turn (raw ∷ [])
+turn_venues s zero raw some within is i r at = absurd (omega (arith, some))
+turn_venues s (suc k) raw some within is zero r at =
+    let now : accepted s (suc k) ≡ suc k = omega (arith, within) in
+    let place : k + 1 ≡ suc k = omega arith in
+    let here : suc k + 0 ≡ suc k = omega arith in
+    ap (message_at (messages s (suc k))) here
+    ∙ ap (λ (n : ℕ). slice_get (plan s.number demo_unit n) k) now
+    ∙ plan_at_place s.number demo_unit (suc k) k (omega arith)
+    ∙ ap (λ (n : ℕ). Some (raw_of (plan_command s.number demo_unit n))) place
+    ∙ ap Some (sym is)
+    ∙ at
+turn_venues s (suc k) raw some within is (suc i) r at = absurd (past i r at)
+  where
+    past : (i : ℕ) (r : Raw) → slice_get {X = Raw} [] i ≡ Some r → ⊥
+    past zero r e = cc
+    past (suc i) r e = cc
+
+-- and its datagrams are pieces
+pub turn_pieces : (s : Setting) (turn : ℕ) (raw : Raw) (datagrams : List (List ℕ)) → 1 ≤ turn → turn ≤ s.count → raw ≡ raw_of (plan_command s.number demo_unit turn) → IsPacking demo_unit turn (raw ∷ []) datagrams
+    → ((V : List Raw) (unit first : ℕ) (raws : List Raw) (datagrams : List (List ℕ)) → 0 < first → first + length raws ≤ length V + 1 → AreVenues V first raws → IsPacking unit first raws datagrams → AllByRecursion (IsPiece V unit) datagrams)
+    → AreDuePieces s turn datagrams
+turn_pieces s turn raw datagrams some within is packing pieces =
+    pieces (messages s turn) demo_unit turn (raw ∷ []) datagrams some (omega (arith, messages_many s turn, within)) (turn_venues s turn raw some within is) packing

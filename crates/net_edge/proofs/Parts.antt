@@ -7,22 +7,18 @@ use Rattle.pitch_io.specs.declared.net.NetTaken.{NetTaken}
 use Rattle.pitch_io.specs.Nets.{Call}
 use Rattle.session_ends.specs.Ending.{Ending}
 use Rattle.session_ends.specs.Events.{Event}
-use Rattle.gap_store.specs.Look.{Store}
 use Rattle.spin_server.specs.Serving.{Serving}
-use Rattle.spin_server.specs.Shelves.{Shelf}
 use Rattle.client_links.specs.Linking.{Lookups}
 use Rattle.client_core.specs.declared.client.UnitClient.{UnitClient}
-use Rattle.world_model.specs.Connections.{KeepsShelf}
 use Rattle.world_model.specs.State.{Pipe}
 use Rattle.net_edge.specs.Acting.{is_group_open}
-use Rattle.net_edge.specs.Due.{Setting, messages, advertised_until}
+use Rattle.net_edge.specs.Due.{Setting}
 use Rattle.pitch_model.specs.History.{Entry}
-use Rattle.net_edge.specs.Playing.{ClientHas, EndsHave, DemoAt, Plays, ProxyServes, SpinServes, HearsOn, HearsLink, LinkAt, MarketAt, IsSentTo, IsUncalled, IsGroupOver, AreTaken, KeepsStore, ServersDone, LinesDone, with_proxy}
+use Rattle.net_edge.specs.Playing.{ClientHas, EndsHave, DemoAt, Plays, ProxyServes, SpinServes, HearsOn, HearsLink, LinkAt, IsSentTo, IsUncalled, IsGroupOver, AreTaken, ServersDone, LinesDone, with_proxy}
 use Rattle.net_edge.specs.Scene.{Scene, OnLine, AtEnd, line_in, with_line, at_end, said_at}
 use Rattle.net_edge.specs.Peers.{Peer, ProxyPeer, SpinPeer, end_of, peer_setup, with_client_end}
 use Rattle.net_edge.specs.Turns.{IsOver}
 use Rattle.net_edge.specs.declared.ends.Ends.{Ends}
-use Rattle.net_edge.specs.declared.market.Market.{Market}
 use Rattle.net_edge.specs.declared.proxy.Proxy.{Proxy}
 use Rattle.net_edge.proofs.Turning.{over_is}
 
@@ -298,20 +294,3 @@ module _ (s : Setting) (base : List Call) where
             (so.spin_server spin_cut spin_stays)
             all _ (hears_ends SpinPeer c7 e6 spin_link last l.0 spin_cut n6 at6.has l.2).has,
       )
-
--- the servers look things up, and leave them as they are
-pub market_still : (s : Setting) (turn : ℕ) (market : Market) (store : Store) (shelf : Shelf) → MarketAt s market turn → store ≡ market.store → shelf ≡ market.shelf → MarketAt s (record market { store = store; shelf = shelf }) turn
-market_still s turn market store shelf has same_store same_shelf = record {
-  unit_is = has.unit_is;
-  venue = has.venue;
-  store_is = same_store ∙ has.store_is;
-  shelf = subst (λ (x : Shelf). KeepsShelf x (messages s turn) (advertised_until s turn)) (sym same_shelf) has.shelf;
-}
-
--- where the servers look things up
-pub store_kept : (s : Setting) (turn : ℕ) (market : Market) (now : Scene) → MarketAt s market turn → now.turn ≡ turn → KeepsStore market.store (messages s now.turn)
-store_kept s turn market now has at_turn =
-    subst (λ (t : ℕ). KeepsStore market.store (messages s t)) (sym at_turn) (record { store_is = has.store_is; raws = has.venue.raws; few = has.venue.few })
-
-pub shelf_kept : (s : Setting) (turn : ℕ) (market : Market) (now : Scene) → MarketAt s market turn → now.turn ≡ turn → KeepsShelf market.shelf (messages s now.turn) (advertised_until s now.turn)
-shelf_kept s turn market now has at_turn = subst (λ (t : ℕ). KeepsShelf market.shelf (messages s t) (advertised_until s t)) (sym at_turn) has.shelf

@@ -1,20 +1,18 @@
 -- What the proxy does with what comes to it.
-use Rattle.std.proofs.Common.{◌≡◌, ℕ, ◌∷◌, ◌++◌, ◌||◌, ◌⊎◌, inl, inr, Bool, true, false, List, [], length, replicate, Option, refl, sym, ap, ◌∙◌, subst}
+use Rattle.std.proofs.Common.{◌≡◌, ℕ, ◌∷◌, ◌++◌, ◌||◌, ◌⊎◌, inl, inr, Bool, true, false, List, [], Option, refl, ap, ◌∙◌, subst}
 use Rattle.std.proofs.Math.Bool.{or-false}
 use Rattle.pitch_io.specs.declared.net.LinkEnd.TheVariants.{GrpServer}
 use Rattle.pitch_io.specs.declared.net.NetTaken.{NetTaken}
 use Rattle.pitch_io.specs.declared.net.NetTaken.TheVariants as taken
 use Rattle.pitch_io.specs.Nets.{Call, Take, ListsCall, came}
-use Rattle.gap_store.specs.Look.{View, Store, store_of}
 use Rattle.session_ends.specs.Answering.{Answer}
 use Rattle.session_ends.specs.Closing.{Setup}
 use Rattle.session_ends.specs.Events.{Event, Fed}
-use Rattle.session_ends.specs.Sending.{new_items}
-use Rattle.grp_session.specs.Budget.{Counted, Spent}
-use Rattle.grp_session.specs.Budget as budget
-use Rattle.grp_session.specs.Serving.{Source, Answered, ProxyFeeds, StoreHasOneView, proxy_answer}
+use Rattle.grp_session.specs.Budget.{Counted, Limits, Spent}
+use Rattle.grp_session.specs.Serving.{Source, Answered, proxy_answer}
 use Rattle.net_edge.specs.Acting.{source_at, proxy_took, end_took, taken_at, is_group_open}
-use Rattle.net_edge.specs.Due.{Setting, call_room, gap_view}
+use Rattle.net_edge.specs.Due.{Setting, call_room, messages}
+use Rattle.net_edge.specs.Markets.{gap_source}
 use Rattle.net_edge.specs.Playing.{ProxyHas, ProxyFed, ProxyAnswers, ProxyServes, Plays, with_proxy, proxy_said}
 use Rattle.net_edge.specs.Scene.{Scene, AtEnd, got_end}
 use Rattle.net_edge.specs.Turns.{MayCall}
@@ -22,23 +20,15 @@ use Rattle.net_edge.specs.declared.proxy.Proxy.{Proxy}
 use Rattle.net_edge.proofs.Runs.{play_call}
 use Rattle.net_edge.proofs.Hearing.{not_failed}
 
-abbrev source_of : budget.Limits → Spent → List View → Source
-source_of m spent views = record { there = true; views = views; limits = m; spent = spent }
-
 -- it is fed over the venue's messages
-pub fed_at : (s : Setting) (now : Scene) (piece : List ℕ) (old new : Proxy) (store store' : Store) (none said : List ℕ) (nothing lines : List (List ℕ)) → StoreHasOneView → ProxyHas old now.grp.server now.spent → store ≡ store_of (gap_view s now.turn) → store' ≡ store
+pub fed_at : (s : Setting) (now : Scene) (piece : List ℕ) (old new : Proxy) (none said : List ℕ) (nothing lines : List (List ℕ)) → ProxyHas old now.grp.server now.spent
     → none ≡ [] → nothing ≡ [] → new.server.setup ≡ old.server.setup → new.budget.limits ≡ old.budget.limits
-    → ProxyFeeds now.grp.server piece old.server new.server true old.budget.limits now.spent (gap_view s now.turn) (Counted new.budget) (λ v. store' ≡ store_of v) none said nothing lines
+    → Answered now.grp.server piece (gap_source (messages s now.turn) old.budget.limits now.spent now.grp.server piece) old.server new.server (Counted new.budget) none said nothing lines
     → ProxyFed s piece now new said lines
-fed_at s now piece old new store store' none said nothing lines one has stored still no_said no_lines setup limits feeds =
-    let view : View = gap_view s now.turn in
+fed_at s now piece old new none said nothing lines has no_said no_lines setup limits answered =
     let es : List (Event Source) = now.grp.server in
-    let views_are : feeds.views ≡ replicate (length (new_items es piece)) view =
-    (one view feeds.now feeds.views feeds.rises (sym feeds.shows ∙ still ∙ stored)).1 ∙ ap (λ (n : ℕ). replicate n view) feeds.each in
-    let source_is : source_of old.budget.limits now.spent feeds.views ≡ source_at s piece now =
-    ap (λ (vs : List View). source_of old.budget.limits now.spent vs) views_are ∙ ap (λ (m : budget.Limits). source_of m now.spent (replicate (length (new_items es piece)) view)) has.limits_are in
     let there : Answered es piece (source_at s piece now) old.server new.server (Counted new.budget) none said nothing lines =
-    subst (λ (src : Source). Answered es piece src old.server new.server (Counted new.budget) none said nothing lines) source_is feeds.answered in
+    subst (λ (m : Limits). Answered es piece (gap_source (messages s now.turn) m now.spent es piece) old.server new.server (Counted new.budget) none said nothing lines) has.limits_are answered in
     let answer : Setup → Answer Spent = λ m. proxy_answer m es piece (source_at s piece now) in
     record {
       has = record {

@@ -6,20 +6,19 @@ use Rattle.pitch_io.specs.declared.net.LinkEnd.TheVariants.{SpinServer}
 use Rattle.pitch_io.specs.declared.net.NetTaken.{NetTaken}
 use Rattle.pitch_io.specs.declared.net.NetTaken.TheVariants as taken
 use Rattle.pitch_io.specs.Nets.{Call, Take, ListsCall, NetTakeFailed, came}
+use Rattle.session_ends.specs.Closing.{Setup}
 use Rattle.session_ends.specs.Events.{Event, Fed, Pumped}
 use Rattle.session_ends.specs.Sending.{new_items}
 use Rattle.spin_server.specs.Served.{Served}
-use Rattle.spin_server.specs.Serving.{Serving, SpinStands, SpinFeeds}
-use Rattle.spin_server.specs.Shelves.{Shelf}
-use Rattle.spin_server.specs.Stands.{ShelfShows}
-use Rattle.world_model.specs.Connections.{IsPipe, IsServed, KeepsShelf}
-use Rattle.world_model.specs.Ends.{spin_says}
+use Rattle.spin_server.specs.Serving.{Serving, SpinStands, spin_sends}
+use Rattle.world_model.specs.Connections.{IsServed}
+use Rattle.world_model.specs.Ends.{spin_server, spin_says}
 use Rattle.world_model.specs.State.{Connection}
-use Rattle.world_model.specs.Verbs.{at_spin_server, pumped_times, pumps, sent_whole, with_up}
+use Rattle.world_model.specs.Verbs.{pumped_times, pumps, sent_whole}
 use Rattle.world_model.proofs.Pumping.{Pumping, pumping_begins, pumping_ends}
-use Rattle.world_model.proofs.SpinCarrying.{is_fed, shows_view}
 use Rattle.net_edge.specs.Acting.{is_group_open, bytes_by, spin_server_fed, spin_answered, end_puts}
-use Rattle.net_edge.specs.Due.{Setting, demo_unit, call_room, messages, advertised_until, spin_view}
+use Rattle.net_edge.specs.Due.{Setting, demo_unit, call_room, spin_view}
+use Rattle.net_edge.specs.Markets.{SpinFed}
 use Rattle.net_edge.specs.Playing.{SpinHas, SpinSays, SpinServes, Plays}
 use Rattle.net_edge.specs.Scene.{Scene, AtEnd, is_got, got_end}
 use Rattle.net_edge.specs.Turns.{MayCall}
@@ -29,20 +28,16 @@ use Rattle.net_edge.proofs.Runs.{play_call}
 abbrev pub saying : List ℕ → Connection (List Served) → Connection (List Served)
 saying said c = record { up = c.up; down = record { put = said; taken = 0 }; server = c.server; link = c.link }
 
--- it is fed over the shelf
-pub fed_at : (s : Setting) (turn count : ℕ) (c : Connection (List Served)) (piece : List ℕ) (old new : Serving) (shelf shelf' : Shelf) (none said : List ℕ) → SpinHas old c.server → KeepsShelf shelf (messages s turn) (advertised_until s turn) → shelf' ≡ shelf → none ≡ [] → new.end.setup ≡ old.end.setup
-    → ((es : List (Event (List Served))) (view : Served) → SpinStands old es → ShelfShows shelf view → SpinFeeds es piece old new view (λ v. ShelfShows shelf' v) none said)
+-- it is fed over the venue's messages
+pub fed_at : (s : Setting) (turn count : ℕ) (c : Connection (List Served)) (piece : List ℕ) (old new : Serving) (none said : List ℕ) → SpinHas old c.server → none ≡ [] → new.end.setup ≡ old.end.setup
+    → SpinFed c.server piece (spin_view s turn) old new none said
     → SpinSays new said c (spin_server_fed s piece (taken.Got count) turn c)
-fed_at s turn count c piece old new shelf shelf' none said has keeps same no_said setup feeds =
-    let k : Connection (List Served) = saying [] c in
-    let fed : SpinFeeds c.server piece old new (spin_view s turn) (λ v. ShelfShows shelf v) none said =
-    subst (λ (x : Shelf). SpinFeeds c.server piece old new (spin_view s turn) (λ v. ShelfShows x v) none said) same (feeds c.server (spin_view s turn) has.stands (shows_view shelf (messages s turn) (advertised_until s turn) keeps)) in
-    let pipe : IsPipe none k.down = record { within = omega arith; are = no_said } in
-    let is : IsServed new said demo_unit (at_spin_server demo_unit (Fed piece (replicate (length (new_items c.server piece)) (spin_view s turn))) (with_up c.up k)) =
-    is_fed demo_unit (messages s turn) (advertised_until s turn) k c.up piece old new shelf none said keeps has.made setup pipe fed in
+fed_at s turn count c piece old new none said has no_said setup fed =
+    let event : Event (List Served) = Fed piece (replicate (length (new_items c.server piece)) (spin_view s turn)) in
+    let said_is : said ≡ spin_sends (spin_server demo_unit) event c.server = fed.replied ∙ ap (λ (b : List ℕ). b ++ spin_sends old.end.setup event c.server) no_said ∙ ap (λ (m : Setup). spin_sends m event c.server) has.made in
     record {
-      has = record { made = is.made; stands = is.stands };
-      says = ap (λ (b : List ℕ). c.down.put ++ b) (sym is.down.are);
+      has = record { made = setup ∙ has.made; stands = fed.stands };
+      says = ap (λ (b : List ℕ). c.down.put ++ b) (sym said_is);
       up_is = refl;
       link_is = refl;
     }

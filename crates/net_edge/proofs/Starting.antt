@@ -1,5 +1,5 @@
 -- How a run starts, and where it stops.
-use Rattle.std.proofs.Common.{◌≡◌, ℕ, ◌+◌, ◌<◌, ◌≤◌, ◌⊎◌, inl, inr, List, [], Option, None, Some, refl, sym, ◌∙◌, subst, arith}
+use Rattle.std.proofs.Common.{◌≡◌, ℕ, ◌+◌, ◌<◌, ◌≤◌, ◌⊎◌, inl, inr, List, [], Option, None, Some, refl, sym, ap, ◌∙◌, subst, arith}
 use Rattle.pitch_io.specs.declared.net.LinkEnd.TheVariants.{GrpClient, SpinClient}
 use Rattle.pitch_io.specs.declared.net.NetDone.TheVariants.{Done}
 use Rattle.pitch_io.specs.Nets.{Call, Begin, ListsCall, NetDoneFailed}
@@ -9,11 +9,11 @@ use Rattle.pitch_model.specs.declared.status.Status.TheVariants.{Current}
 use Rattle.venue_core.specs.Plan.{plan}
 use Rattle.net_edge.specs.Acting.{end_puts}
 use Rattle.net_edge.specs.Demo.{IsLast}
-use Rattle.net_edge.specs.Due.{Setting, demo_unit, accepted}
-use Rattle.net_edge.specs.Playing.{Plays, MarketHas, MarketAt, IsSentTo, IsUncalled, calls_before}
+use Rattle.net_edge.specs.Due.{Setting, demo_unit, accepted, messages}
+use Rattle.net_edge.specs.Markets.{MarketHas, MarketAt}
+use Rattle.net_edge.specs.Playing.{Plays, IsSentTo, IsUncalled, calls_before}
 use Rattle.net_edge.specs.Scene.{Scene, first_scene, all_put, said_at}
 use Rattle.net_edge.specs.Turns.{MayGoOn, client_status}
-use Rattle.net_edge.specs.declared.market.Market.{Market}
 
 -- ---- The start
 -- what is done has not failed
@@ -41,10 +41,11 @@ none_planned : (number unit : ℕ) → plan number unit 0 ≡ []
 unfolding plan
 none_planned number unit = refl
 
-pub market_first : (s : Setting) (market : Market) → MarketHas market [] 0 [] → MarketAt s market 0
-market_first s market has =
+pub market_first : {M : Type 0} (has : M → List Raw → List ℕ → Type 0) (s : Setting) (market : M) → has market [] [] → MarketAt has s market 0
+market_first has s market is =
     let none : accepted s 0 ≡ 0 = omega arith in
-    subst (λ (k : ℕ). MarketHas market (plan s.number demo_unit k) k []) (sym none) (subst (λ (V : List Raw). MarketHas market V 0 []) (sym (none_planned s.number demo_unit)) has)
+    let empty : [] ≡ messages s 0 = sym (ap (plan s.number demo_unit) none ∙ none_planned s.number demo_unit) in
+    subst (λ (V : List Raw). MarketHas has market V []) empty (record { is = is; raws = tt; few = omega arith })
 
 pub sent_first : (s : Setting) → IsSentTo s 0 (all_put first_scene)
 sent_first s = record { on_a = refl; on_b = refl; ticked = refl }

@@ -1,5 +1,5 @@
 -- A turn from its beginning to its end.
-use Rattle.std.proofs.Common.{◌≡◌, ℕ, zero, suc, ◌+◌, ◌-◌, ◌≤◌, Bool, true, false, cond, List, [], ◌∷◌, ◌++◌, length, Option, refl, sym, ap, ◌∙◌, subst, arith, append_assoc}
+use Rattle.std.proofs.Common.{◌≡◌, ℕ, zero, suc, ◌+◌, ◌-◌, ◌^◌, ◌<◌, ◌≤◌, Bool, true, false, cond, min, List, [], ◌∷◌, ◌++◌, length, Option, refl, sym, ap, ◌∙◌, subst, arith, append_assoc}
 use Rattle.std.proofs.lemmas.Bool.{false≢true}
 use Rattle.std.proofs.lemmas.List.{append-nil}
 use Rattle.pitch_io.specs.declared.line.Line.{Line}
@@ -10,15 +10,19 @@ use Rattle.pitch_io.specs.declared.net.NetDone.{NetDone}
 use Rattle.pitch_io.specs.Nets.{Call, Send, ListsCall, NetDoneFailed}
 use Rattle.pitch_messages.specs.Room.{Roomy}
 use Rattle.unit_packets.specs.Packing.{bytes_in}
+use Rattle.pitch_fields.specs.Limits.{last_sequence}
+use Rattle.unit_packets.specs.BlockBytes.{block_bytes, heartbeat_block}
 use Rattle.pitch_model.specs.Advertising.{with_sequence}
+use Rattle.pitch_model.specs.Datagrams.{IsPiece}
+use Rattle.pitch_model.specs.History.{Raw}
 use Rattle.venue_core.specs.Losses.{is_lost}
 use Rattle.net_edge.specs.Acting.{is_group_open, sent_on, all_tick, next_turn}
 use Rattle.net_edge.specs.Due.{Setting, IsDuePiece, AreDuePieces, demo_unit, accepted, advertised_until, beat, beats, copies, due, is_tenth, messages, new_datagrams, ticks}
-use Rattle.net_edge.specs.Playing.{EndsHave, DemoAt, Plays, MarketHas, MarketAt, IsFlushed, IsSentTo, IsUncalled, after_beat, after_due_beat}
+use Rattle.net_edge.specs.Markets.{MarketHas, MarketAt, HasAccepted}
+use Rattle.net_edge.specs.Playing.{EndsHave, DemoAt, Plays, IsSentTo, IsUncalled, after_beat, after_due_beat}
 use Rattle.net_edge.specs.Scene.{Scene, OnLine, line_in, at_end, said_at, all_put}
 use Rattle.net_edge.specs.Turns.{IsOver, MayGoOn, IsEndOver}
 use Rattle.net_edge.specs.declared.ends.Ends.{Ends}
-use Rattle.net_edge.specs.declared.market.Market.{Market}
 use Rattle.net_edge.proofs.Runs.{play_beat, play_turn}
 use Rattle.net_edge.proofs.Feeding.{messages_many}
 
@@ -160,14 +164,14 @@ over_is s now a b gap grp_client grp_server spin_client spin_server sent e has =
 
 -- ---- What the venue does in a turn
 module _ (s : Setting) (base : List Call) where
-  pub published : (turn : ℕ) (c0 c1 c2 c3 : Option (List Call)) (e e' : Ends) (market market' : Market) (lost_a lost_b : Bool) (given_a given_b : List (List ℕ)) (now : Scene)
+  pub published : {M : Type 0} (has : M → List Raw → List ℕ → Type 0) (turn : ℕ) (c0 c1 c2 c3 : Option (List Call)) (e e' : Ends) (market market' : M) (lost_a lost_b : Bool) (given_a given_b : List (List ℕ)) (now : Scene)
       → 1 ≤ turn → now.turn ≡ turn → DemoAt s base c0 e now → IsSentTo s (turn - 1) now → IsUncalled now
-      → lost_a ≡ is_lost s.number demo_unit turn 1 → lost_b ≡ is_lost s.number demo_unit turn 2 → given_a ≡ new_datagrams s turn → given_b ≡ new_datagrams s turn → IsFlushed s market turn
+      → lost_a ≡ is_lost s.number demo_unit turn 1 → lost_b ≡ is_lost s.number demo_unit turn 2 → given_a ≡ new_datagrams s turn → given_b ≡ new_datagrams s turn → HasAccepted has s market turn
       → ((n : Scene) → n.turn ≡ turn → Plays s base c0 n → Plays s base c1 (sent_on A (cond lost_a [] given_a) n))
       → ((n : Scene) → n.turn ≡ turn → Plays s base c1 n → Plays s base c2 (sent_on B (cond lost_b [] given_b) n))
-      → ((n : Scene) → n.turn ≡ turn → DemoAt s base c2 e n → IsFlushed s market turn → DemoAt s base c3 e' (after_due_beat s n) × MarketAt s market' turn)
-      → (after : Scene) × (after.turn ≡ turn) × DemoAt s base c3 e' after × MarketAt s market' turn × IsSentTo s turn after × IsUncalled after
-  published turn c0 c1 c2 c3 e e' market market' lost_a lost_b given_a given_b now some turn_is at before none by_a by_b are_a are_b flushed send_a send_b beat_on =
+      → ((n : Scene) → n.turn ≡ turn → DemoAt s base c2 e n → HasAccepted has s market turn → DemoAt s base c3 e' (after_due_beat s n) × MarketAt has s market' turn)
+      → (after : Scene) × (after.turn ≡ turn) × DemoAt s base c3 e' after × MarketAt has s market' turn × IsSentTo s turn after × IsUncalled after
+  published has turn c0 c1 c2 c3 e e' market market' lost_a lost_b given_a given_b now some turn_is at before none by_a by_b are_a are_b flushed send_a send_b beat_on =
       let on_a : cond lost_a [] given_a ≡ copies s A turn = ap (λ (b : Bool). cond b [] given_a) by_a ∙ ap (λ (ds : List (List ℕ)). cond (is_lost s.number demo_unit turn 1) [] ds) are_a in
       let on_b : cond lost_b [] given_b ≡ copies s B turn = ap (λ (b : Bool). cond b [] given_b) by_b ∙ ap (λ (ds : List (List ℕ)). cond (is_lost s.number demo_unit turn 2) [] ds) are_b in
       let n : Scene = copied s turn now in
@@ -185,15 +189,15 @@ module _ (s : Setting) (base : List Call) where
       )
 
   -- ---- Another turn
-  pub turn_again : (turn next : ℕ) (calls : Option (List Call)) (e : Ends) (market : Market) (now : Scene) → next ≡ turn + 1 → now.turn ≡ turn → DemoAt s base calls e now → MarketAt s market turn → IsOver s now → MayGoOn s now
-      → (n : Scene) × (n.turn ≡ next) × DemoAt s base calls e n × MarketAt s market (next - 1) × IsSentTo s (next - 1) n × IsUncalled n
-  turn_again turn next calls e market now next_is turn_is at has over goes =
+  pub turn_again : {M : Type 0} (has : M → List Raw → List ℕ → Type 0) (turn next : ℕ) (calls : Option (List Call)) (e : Ends) (market : M) (now : Scene) → next ≡ turn + 1 → now.turn ≡ turn → DemoAt s base calls e now → MarketAt has s market turn → IsOver s now → MayGoOn s now
+      → (n : Scene) × (n.turn ≡ next) × DemoAt s base calls e n × MarketAt has s market (next - 1) × IsSentTo s (next - 1) n × IsUncalled n
+  turn_again has turn next calls e market now next_is turn_is at stands over goes =
       let back : turn ≡ next - 1 = omega (arith, next_is) in
       let begins : suc now.turn ≡ next = omega (arith, next_is, turn_is) in (
         next_turn now,
         begins,
         turn_next s base calls e now at over goes,
-        subst (MarketAt s market) back has,
+        subst (MarketAt has s market) back stands,
         subst (λ (t : ℕ). IsSentTo s t (next_turn now)) (turn_is ∙ back) (sent_so s now over),
         uncalled_so now,
       )
@@ -221,14 +225,27 @@ pub pieces_in_turn : (s : Setting) (turn : ℕ) (flushed : List (Roomy ℕ)) →
 pieces_in_turn s turn flushed pieces list now at_turn is =
     subst (λ (t : ℕ). AreDuePieces s t (bytes_in list)) (sym at_turn) (subst (λ (ls : List (Roomy ℕ)). AreDuePieces s turn (bytes_in ls)) (sym is) pieces)
 
--- all that was accepted was sent
-pub flushed_is : (s : Setting) (turn : ℕ) (market : Market) → MarketHas market (messages s turn) (length (messages s turn)) (advertised_until s (turn - 1)) → IsFlushed s market turn
-flushed_is s turn market has = subst (λ (n : ℕ). MarketHas market (messages s turn) n (advertised_until s (turn - 1))) (messages_many s turn) has
-
 -- at a tenth turn it is advertised
-pub advertised_is : (s : Setting) (turn : ℕ) (market : Market) → 1 ≤ turn → is_tenth turn ≡ true → MarketHas market (messages s turn) (accepted s turn) (with_sequence (advertised_until s (turn - 1)) (length (messages s turn))) → MarketAt s market turn
-advertised_is s turn market some tenth has =
-    subst (MarketHas market (messages s turn) (accepted s turn)) (ap (with_sequence (advertised_until s (turn - 1))) (messages_many s turn) ∙ advertised_tenth s turn some tenth) has
+pub advertised_is : {M : Type 0} (has : M → List Raw → List ℕ → Type 0) (s : Setting) (turn : ℕ) (old new : M) → 1 ≤ turn → is_tenth turn ≡ true → HasAccepted has s old turn
+    → (has old (messages s turn) (advertised_until s (turn - 1)) → has new (messages s turn) (with_sequence (advertised_until s (turn - 1)) (length (messages s turn))))
+    → MarketAt has s new turn
+advertised_is has s turn old new some tenth at advertises = record {
+  is = subst (has new (messages s turn)) (ap (with_sequence (advertised_until s (turn - 1))) (messages_many s turn) ∙ advertised_tenth s turn some tenth) (advertises at.is);
+  raws = at.raws;
+  few = at.few;
+}
 
-pub advertised_still : (s : Setting) (turn : ℕ) (market : Market) → is_tenth turn ≡ false → IsFlushed s market turn → MarketAt s market turn
-advertised_still s turn market other has = subst (MarketHas market (messages s turn) (accepted s turn)) (advertised_other s turn other) has
+pub advertised_still : {M : Type 0} (has : M → List Raw → List ℕ → Type 0) (s : Setting) (turn : ℕ) (market : M) → is_tenth turn ≡ false → HasAccepted has s market turn → MarketAt has s market turn
+advertised_still has s turn market other at = subst (MarketHas has market (messages s turn)) (advertised_other s turn other) at
+
+-- the heartbeat of a tenth turn tells the sequence after all that was accepted, and is a piece
+pub heartbeat_is : (s : Setting) (turn sequence next : ℕ) (heartbeat : List ℕ) → length (messages s turn) ≤ last_sequence → sequence ≡ length (messages s turn) → next ≡ min (sequence + 1) (2 ^ 32 - 1) → heartbeat ≡ block_bytes (heartbeat_block demo_unit next) → heartbeat ≡ beat s turn
+heartbeat_is s turn sequence next heartbeat few is next_is said =
+    let tells : next ≡ accepted s turn + 1 = omega (arith, few, is, next_is, messages_many s turn) in
+    said ∙ ap (λ (n : ℕ). block_bytes (heartbeat_block demo_unit n)) tells
+
+pub beat_piece : (s : Setting) (turn : ℕ) (heartbeat : List ℕ) → length (messages s turn) ≤ last_sequence → heartbeat ≡ beat s turn
+    → ((V : List Raw) (unit next : ℕ) → unit < 256 → 0 < next → next ≤ length V + 1 → next ≤ last_sequence + 1 → IsPiece V unit (block_bytes (heartbeat_block unit next)))
+    → IsDuePiece s turn heartbeat
+beat_piece s turn heartbeat few is pieces =
+    subst (IsDuePiece s turn) (sym is) (pieces (messages s turn) demo_unit (accepted s turn + 1) (omega arith) (omega arith) (omega (arith, messages_many s turn)) (omega (arith, few, messages_many s turn)))

@@ -12,7 +12,8 @@ use Rattle.pitch_model.specs.Datagrams.{IsPiece}
 use Rattle.pitch_model.specs.History.{Raw}
 use Rattle.venue_core.specs.Losses.{is_lost}
 use Rattle.venue_core.specs.Plan.{plan}
-use Rattle.pitch_text.specs.Defaults.{default_hold, default_second, default_minute, default_day}
+use Rattle.pitch_text.specs.Defaults.{default_hold, default_kept, default_second, default_minute}
+use Rattle.pitch_text.specs.Defaults.{default_day}
 use Rattle.gap_store.specs.Look.{View}
 use Rattle.grp_session.specs.Budget.{Limits}
 use Rattle.spin_server.specs.Served.{Served}
@@ -31,7 +32,7 @@ abbrev pub demo_unit : ℕ
 demo_unit = 1
 
 abbrev pub kept_messages : ℕ
-kept_messages = 65536
+kept_messages = default_kept
 
 abbrev pub hold_limit : ℕ
 hold_limit = default_hold

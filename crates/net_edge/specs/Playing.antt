@@ -1,10 +1,9 @@
 -- What the code knows of a run that is under way. No caller needs it.
-use Rattle.std.specs.Prelude.{◌≡◌, ◌≤◌, ℕ, length, ◌-◌, Bool, true, false, not, ◌||◌, ◌&&◌, List}
-use Rattle.std.specs.Prelude.{[], ◌∷◌, ◌++◌, Option, None, Some, is_some, if◌then◌else◌}
+use Rattle.std.specs.Prelude.{◌≡◌, ◌≤◌, ℕ, Bool, true, false, not, ◌||◌, ◌&&◌, List, [], ◌∷◌, ◌++◌}
+use Rattle.std.specs.Prelude.{Option, None, Some, is_some, Result, OnOk, IfErr, OnErr}
+use Rattle.std.specs.Prelude.{if◌then◌else◌}
 use Rattle.std.specs.List.{AllByRecursion}
 use Rattle.pitch_fields.specs.Fields.{AreBytes}
-use Rattle.pitch_fields.specs.Limits.{last_sequence}
-use Rattle.pitch_messages.specs.Raw.{IsRaw}
 use Rattle.pitch_io.specs.declared.line.Line.{Line}
 use Rattle.pitch_io.specs.declared.line.Line.TheVariants.{A, B, Gap}
 use Rattle.pitch_io.specs.declared.net.LinkEnd.TheVariants.{GrpServer, SpinServer}
@@ -16,8 +15,6 @@ use Rattle.pitch_io.specs.declared.net.NetDone.TheVariants.{Done}
 use Rattle.pitch_model.specs.History.{Entry, Raw}
 use Rattle.pitch_model.specs.Honest.{Honest}
 use Rattle.pitch_model.specs.Image.{image}
-use Rattle.venue_core.specs.Stands.{Stands as VenueStands}
-use Rattle.gap_store.specs.Look.{Store, store_of}
 use Rattle.session_ends.specs.Closing.{Setup, closed_of}
 use Rattle.session_ends.specs.Ending.{Ending}
 use Rattle.session_ends.specs.Answering.{Answer}
@@ -30,21 +27,20 @@ use Rattle.spin_path.specs.Paths.{heard_all}
 use Rattle.client_links.specs.Linking.{Lookups, NoLookup, LinkStands, link_tells}
 use Rattle.client_core.specs.Tracks.{Tracks, Keeps}
 use Rattle.client_core.specs.declared.client.UnitClient.{UnitClient}
-use Rattle.world_model.specs.Connections.{KeepsShelf}
 use Rattle.world_model.specs.Ends.{grp_server, spin_server, gap_link, spin_link}
 use Rattle.world_model.specs.State.{Connection, Pipe}
 use Rattle.net_edge.specs.Acting.{scene_of, is_group_open, source_at, sent_on, end_puts, taken_at}
 use Rattle.net_edge.specs.Acting.{all_tick}
-use Rattle.net_edge.specs.Due.{Setting, demo_unit, kept_messages, hold_limit, request_limits}
-use Rattle.net_edge.specs.Due.{accepted, messages, advertised_until, beat, due, is_tenth, ticks}
+use Rattle.net_edge.specs.Due.{Setting, demo_unit, hold_limit, request_limits, beat, due, is_tenth}
+use Rattle.net_edge.specs.Due.{ticks}
 use Rattle.net_edge.specs.Scene.{Scene, OnLine, AtEnd, line_in, with_line, at_end, said_at, all_put}
 use Rattle.net_edge.specs.Peers.{Peer, LooksIn, end_of, peer_setup, down_of, with_client_end}
 use Rattle.net_edge.specs.Steps.{Step, calls_of}
 use Rattle.net_edge.specs.Breaking.{Breaks}
+use Rattle.net_edge.specs.Demo.{IsDemo, BreaksDemo}
 use Rattle.net_edge.specs.Turns.{AreSteps}
 use Rattle.net_edge.specs.declared.error.DemoError.{DemoError}
 use Rattle.net_edge.specs.declared.error.DemoError.TheVariants as errors
-use Rattle.net_edge.specs.declared.market.Market.{Market}
 use Rattle.net_edge.specs.declared.ends.Ends.{Ends}
 use Rattle.net_edge.specs.declared.proxy.Proxy.{Proxy}
 
@@ -88,20 +84,6 @@ BreaksRun before after error =
     (s : Setting) (base : List Call) → Runs s base before → Breaks s base after error
 
 -- ---- The ends
--- the venue has these messages and sent so many of them, and proxy and Spin Server look them up
-pub record MarketHas (market : Market) (messages : List Raw) (sent : ℕ) (advertised : List ℕ) :
-    Type 0 where
-  pub unit_is : market.venue.unit ≡ demo_unit
-  pub venue : VenueStands market.venue messages sent
-  pub store_is : market.store ≡ store_of (record { messages = messages; kept = kept_messages })
-  pub shelf : KeepsShelf market.shelf messages advertised
-
--- the proxy's store has these messages, which are raws, and no more of them than have sequences
-pub record KeepsStore (store : Store) (messages : List Raw) : Type 0 where
-  pub store_is : store ≡ store_of (record { messages = messages; kept = kept_messages })
-  pub raws : AllByRecursion IsRaw messages
-  pub few : length messages ≤ last_sequence
-
 -- the proxy stands for what happened to it, and its budget for what it accepted
 pub record ProxyHas (proxy : Proxy) (events : List (Event Source)) (spent : Spent) : Type 0 where
   pub made : proxy.server.setup ≡ grp_server demo_unit
@@ -308,16 +290,6 @@ pub record EndsHave (ends : Ends) (now : Scene) : Type 0 where
   pub replayed : now.gap.sent ≡ now.replayed
 
 -- ---- Turns
--- the market at the end of a turn's step with the venue
-abbrev pub MarketAt : Setting → Market → ℕ → Type 0
-MarketAt s market turn =
-    MarketHas market (messages s turn) (accepted s turn) (advertised_until s turn)
-
--- the market in a turn, when what was accepted was sent and nothing was advertised yet
-abbrev pub IsFlushed : Setting → Market → ℕ → Type 0
-IsFlushed s market turn =
-    MarketHas market (messages s turn) (accepted s turn) (advertised_until s (turn - 1))
-
 -- nothing was called in this turn yet
 pub record IsUncalled (now : Scene) : Type 0 where
   pub a : now.a.answers ≡ []
@@ -401,3 +373,16 @@ after_beat s now =
 -- the same in every tenth turn
 abbrev pub after_due_beat : Setting → Scene → Scene
 after_due_beat s now = if is_tenth now.turn then after_beat s now else now
+
+-- ---- A demo
+-- it ran, or broke off; the net failed only where its count of faults rose; and nothing is appended
+-- after an error
+pub record DoesDemo (s : Setting) (result : Result (Unit {0}) DemoError)
+    (calls calls' : Option (List Call)) (faults faults' : ℕ) (text text' : List ℕ) :
+    Type 0 where
+  pub ran : OnOk result (IsDemo s calls calls' text text')
+  pub broke : IfErr result (BreaksDemo s calls calls')
+  pub fault : IfErr result (RoseAtFault faults faults')
+  pub later : faults ≤ faults'
+  pub still : OnOk result (faults' ≡ faults)
+  pub err : OnErr result (text' ≡ text)

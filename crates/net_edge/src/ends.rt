@@ -6,8 +6,9 @@ ghost use Rattle.pitch_io.specs.Nets.{Call};
 ghost use Rattle.net_edge.specs.Acting.{all_tick};
 ghost use Rattle.net_edge.specs.Breaking.{Breaks};
 ghost use Rattle.net_edge.specs.Due.{Setting, setting, call_room, accepted, is_tenth};
-ghost use Rattle.net_edge.specs.Playing.{RoseAtFault, Plays, BreaksRun, EndsHave, MarketAt};
-ghost use Rattle.net_edge.specs.Playing.{IsFlushed, IsUncalled, IsSentTo, DemoAt, VenueDone};
+ghost use Rattle.net_edge.specs.Markets.{MarketAt, HasAccepted};
+ghost use Rattle.net_edge.specs.Playing.{RoseAtFault, Plays, BreaksRun, EndsHave};
+ghost use Rattle.net_edge.specs.Playing.{IsUncalled, IsSentTo, DemoAt, VenueDone};
 ghost use Rattle.net_edge.specs.Playing.{ServersDone, LinesDone, after_beat, after_due_beat};
 ghost use Rattle.net_edge.specs.Scene.{Scene, all_put};
 ghost use Rattle.net_edge.specs.Turns.{IsOver};
@@ -15,7 +16,7 @@ ghost use Rattle.net_edge.specs.Turns.{IsOver};
 use crate::error::DemoError;
 use crate::lines::hear_line;
 use crate::links::{ask_link, hear_link, tick_link};
-use crate::market::Market;
+use crate::market::{Market, accept_next};
 use crate::proxy::{Proxy, tick_proxy};
 use crate::putting::{send, send_unless};
 use crate::server_end::serve_end;
@@ -23,8 +24,10 @@ use crate::spin::{tell_spin, tick_spin};
 use client_core::UnitClient;
 use client_links::{GapLink, SpinLink};
 use pitch_io::{Line, Net, NetDone};
+use pitch_model::laws::packed_messages_are_pieces;
 use spin_server::SpinServer;
 use std::alloc::Global;
+use unit_packets::heartbeat;
 use venue_core::lost;
 
 /// The four ends and the client; which connections were cut, and which servers got End.
@@ -80,48 +83,50 @@ impl Ends {
         Ok(())
     }
 
-    // The turn's heartbeat is sent, an image is advertised, and a second passes.
-    fn beat<N: Net>(&mut self, net: &mut N, market: &mut Market) -> Result<(), DemoError>
+    // An image is advertised, the turn's heartbeat is sent, and a second passes.
+    fn beat<N: Net, M: Market>(&mut self, net: &mut N, market: &mut M) -> Result<(), DemoError>
         ensures beaten { OnOk result ((s : Setting) (base : List Call) (now : Scene)
-            → DemoAt s base (N.calls net.old) self.old now → IsFlushed s market.old now.turn
+            → DemoAt s base (N.calls net.old) self.old now
+            → HasAccepted M.has s market.old now.turn
             → 1 ≤ now.turn → is_tenth now.turn ≡ true
             → DemoAt s base (N.calls net.new) self.new (after_beat s now)
-            × MarketAt s market.new now.turn) }
+            × MarketAt M.has s market.new now.turn) }
         ensures broke { IfErr result (λ error. (s : Setting) (base : List Call) (now : Scene)
-            → Plays s base (N.calls net.old) now → IsFlushed s market.old now.turn
+            → Plays s base (N.calls net.old) now → HasAccepted M.has s market.old now.turn
             → Breaks s base (N.calls net.new) error) }
         ensures fault { IfErr result (RoseAtFault (N.faults net.old) (N.faults net.new)) }
         ensures later { N.faults net.old ≤ N.faults net.new }
         ensures still { OnOk result (N.faults net.new ≡ N.faults net.old) }
     {
-        let heartbeat = market.beat();
+        packed_messages_are_pieces();
+        let sequence = market.advertise()?;
+        let heartbeat = heartbeat(1, sequence.saturating_add(1));
         send(net, Line::A, &heartbeat)?;
         // Not by `send`: this call is the run's step with which all ends tick.
         match net.send(Line::B, &heartbeat) {
             NetDone::Done => {}
             NetDone::Failed => return Err(DemoError::NetFault),
         }
-        let sequence = market.advertise()?;
         self.tick(net, sequence)?;
         Ok(())
     }
 
     // Does what `beat` does, in every tenth turn.
-    fn beat_if_tenth<N: Net>(
+    fn beat_if_tenth<N: Net, M: Market>(
         &mut self,
         net: &mut N,
-        market: &mut Market,
+        market: &mut M,
         turn: u32,
     ) -> Result<(), DemoError>
         requires { 1 ≤ turn }
         ensures beaten { OnOk result ((s : Setting) (base : List Call) (now : Scene)
             → now.turn ≡ turn → DemoAt s base (N.calls net.old) self.old now
-            → IsFlushed s market.old turn
+            → HasAccepted M.has s market.old turn
             → DemoAt s base (N.calls net.new) self.new (after_due_beat s now)
-            × MarketAt s market.new turn) }
+            × MarketAt M.has s market.new turn) }
         ensures broke { IfErr result (λ error. (s : Setting) (base : List Call) (now : Scene)
-            → now.turn ≡ turn → Plays s base (N.calls net.old) now → IsFlushed s market.old turn
-            → Breaks s base (N.calls net.new) error) }
+            → now.turn ≡ turn → Plays s base (N.calls net.old) now
+            → HasAccepted M.has s market.old turn → Breaks s base (N.calls net.new) error) }
         ensures fault { IfErr result (RoseAtFault (N.faults net.old) (N.faults net.new)) }
         ensures later { N.faults net.old ≤ N.faults net.new }
         ensures still { OnOk result (N.faults net.new ≡ N.faults net.old) }
@@ -135,33 +140,33 @@ impl Ends {
 
     // What the venue does in a turn: a message of the plan is accepted and sent, and every tenth
     // turn has a heartbeat and a tick.
-    fn publish<N: Net>(
+    fn publish<N: Net, M: Market>(
         &mut self,
         net: &mut N,
-        market: &mut Market,
+        market: &mut M,
         number: u64,
         count: u32,
         turn: u32,
     ) -> Result<(), DemoError>
-        requires { 1 ≤ turn }
+        requires some { 1 ≤ turn }
+        requires few { count ≤ 1000 }
         ensures published { OnOk result ((base : List Call) (now : Scene) → now.turn ≡ turn
             → DemoAt (setting number count) base (N.calls net.old) self.old now
-            → MarketAt (setting number count) market.old (turn - 1)
+            → MarketAt M.has (setting number count) market.old (turn - 1)
             → IsSentTo (setting number count) (turn - 1) now → IsUncalled now
             → (after : Scene) × (after.turn ≡ turn)
             × DemoAt (setting number count) base (N.calls net.new) self.new after
-            × MarketAt (setting number count) market.new turn
+            × MarketAt M.has (setting number count) market.new turn
             × IsSentTo (setting number count) turn after × IsUncalled after) }
         ensures broke { IfErr result (λ error. (base : List Call) (now : Scene) → now.turn ≡ turn
             → Plays (setting number count) base (N.calls net.old) now
-            → MarketAt (setting number count) market.old (turn - 1)
+            → MarketAt M.has (setting number count) market.old (turn - 1)
             → Breaks (setting number count) base (N.calls net.new) error) }
         ensures fault { IfErr result (RoseAtFault (N.faults net.old) (N.faults net.new)) }
         ensures later { N.faults net.old ≤ N.faults net.new }
         ensures still { OnOk result (N.faults net.new ≡ N.faults net.old) }
     {
-        market.accept_next(number, count, turn)?;
-        let datagrams = market.flush()?;
+        let datagrams = accept_next(self.alloc, market, number, count, turn)?;
         let lost_on_a = lost(number, 1, turn, 1);
         send_unless(net, lost_on_a, Line::A, datagrams.as_slice())?;
         let lost_on_b = lost(number, 1, turn, 2);
@@ -171,21 +176,22 @@ impl Ends {
     }
 
     // In a turn both servers take what came to them.
-    fn serve<N: Net>(
+    fn serve<N: Net, M: Market>(
         &mut self,
         net: &mut N,
-        market: &mut Market,
+        market: &mut M,
         into: &mut [u8],
     ) -> Result<(), DemoError>
         requires { length into.old ≡ call_room }
         ensures served { OnOk result ((s : Setting) (base : List Call) (turn : ℕ) (now : Scene)
-            → VenueDone s base (N.calls net.old) turn self.old now → MarketAt s market.old turn
+            → VenueDone s base (N.calls net.old) turn self.old now
+            → MarketAt M.has s market.old turn
             → (after : Scene) × ServersDone s base (N.calls net.new) turn self.new after) }
         ensures broke { IfErr result (λ error. (s : Setting) (base : List Call) (turn : ℕ)
             (now : Scene) → VenueDone s base (N.calls net.old) turn self.old now
-            → MarketAt s market.old turn → Breaks s base (N.calls net.new) error) }
+            → MarketAt M.has s market.old turn → Breaks s base (N.calls net.new) error) }
         ensures market { OnOk result ((s : Setting) (turn : ℕ)
-            → MarketAt s market.old turn → MarketAt s market.new turn) }
+            → MarketAt M.has s market.old turn → MarketAt M.has s market.new turn) }
         ensures room { length into.new ≡ length into.old }
         ensures fault { IfErr result (RoseAtFault (N.faults net.old) (N.faults net.new)) }
         ensures later { N.faults net.old ≤ N.faults net.new }
@@ -195,7 +201,7 @@ impl Ends {
             self.alloc,
             net,
             &mut self.proxy,
-            &mut market.store,
+            market,
             into,
             self.grp_cut,
             self.grp_ended,
@@ -204,7 +210,7 @@ impl Ends {
             self.alloc,
             net,
             &mut self.spin,
-            &mut market.shelf,
+            market,
             into,
             self.spin_cut,
             self.spin_ended,
@@ -267,29 +273,30 @@ impl Ends {
     }
 
     /// One turn.
-    pub(crate) fn turn<N: Net>(
+    pub(crate) fn turn<N: Net, M: Market>(
         &mut self,
         net: &mut N,
-        market: &mut Market,
+        market: &mut M,
         number: u64,
         count: u32,
         turn: u32,
         into: &mut [u8],
     ) -> Result<(), DemoError>
         requires some { 1 ≤ turn }
+        requires few { count ≤ 1000 }
         requires room { length into.old ≡ call_room }
         ensures over { OnOk result ((base : List Call) (now : Scene) → now.turn ≡ turn
             → DemoAt (setting number count) base (N.calls net.old) self.old now
-            → MarketAt (setting number count) market.old (turn - 1)
+            → MarketAt M.has (setting number count) market.old (turn - 1)
             → IsSentTo (setting number count) (turn - 1) now → IsUncalled now
             → (after : Scene) × (after.turn ≡ turn)
             × DemoAt (setting number count) base (N.calls net.new) self.new after
-            × MarketAt (setting number count) market.new turn
+            × MarketAt M.has (setting number count) market.new turn
             × IsOver (setting number count) after) }
         ensures room { length into.new ≡ length into.old }
         ensures broke { IfErr result (λ error. (base : List Call) (now : Scene) → now.turn ≡ turn
             → DemoAt (setting number count) base (N.calls net.old) self.old now
-            → MarketAt (setting number count) market.old (turn - 1)
+            → MarketAt M.has (setting number count) market.old (turn - 1)
             → IsSentTo (setting number count) (turn - 1) now → IsUncalled now
             → Breaks (setting number count) base (N.calls net.new) error) }
         ensures fault { IfErr result (RoseAtFault (N.faults net.old) (N.faults net.new)) }

@@ -1,7 +1,8 @@
 //! Both ends of a unit over a net, on one thread.
 //!
 //! [`demo`] runs a venue with its Gap Request Proxy and its Spin Server at one end of three lines
-//! and two connections, and a client at the other. Whatever the net loses, repeats, reorders
+//! and two connections, and a client at the other. Both servers answer from a shared unit, whose
+//! writer is the venue. Whatever the net loses, repeats, reorders
 //! or cuts, each end makes of what came to it just what the definitions of its crate say.
 //! `specs/Demo.antt` says what such a run is.
 #![tactic(auto)]
@@ -13,12 +14,14 @@ mod in_memory;
 mod lines;
 mod links;
 mod market;
+mod plain;
 mod proxy;
 mod putting;
 mod running;
 mod server_end;
+mod shared;
 mod spin;
 
 pub use crate::error::DemoError;
 pub use crate::in_memory::carried_in_memory;
-pub use crate::running::demo;
+pub use crate::running::{demo, demo_plain};

@@ -1,129 +1,133 @@
-//! The venue of the demo's unit, and where its servers look its messages up.
+//! The venue's side of the demo's unit.
 
-ghost use Rattle.std.specs.Prelude.{◌≡◌, ℕ, ◌+◌, ◌-◌, ◌≤◌, List, [], ◌∷◌, length, drop, OnOk, IfOk};
-ghost use Rattle.std.specs.List.{AllByRecursion};
-ghost use Rattle.unit_packets.specs.BlockBytes.{block_bytes, heartbeat_block};
-ghost use Rattle.unit_packets.specs.Packing.{packed, bytes_in};
+ghost use Rattle.std.specs.Prelude.{◌≡◌, ℕ, ◌-◌, ◌≤◌, List, [], ◌∷◌, ◌++◌, length, OnOk, IfOk};
+ghost use Rattle.pitch_fields.specs.Limits.{last_sequence};
+ghost use Rattle.pitch_messages.specs.Raw.{IsRaw};
+ghost use Rattle.unit_packets.specs.Packing.{IsPacking, bytes_in, packed};
 ghost use Rattle.pitch_model.specs.Advertising.{with_sequence};
-ghost use Rattle.pitch_model.specs.Datagrams.{IsPiece};
 ghost use Rattle.pitch_model.specs.History.{Raw as RawSaid};
-ghost use Rattle.venue_core.specs.Plan.{plan};
-ghost use Rattle.net_edge.specs.Due.{setting, demo_unit, accepted, messages, advertised_until};
-ghost use Rattle.net_edge.specs.Playing.{MarketHas, MarketAt};
+ghost use Rattle.venue_core.specs.Commands.{raw_of};
+ghost use Rattle.venue_core.specs.Plan.{plan, plan_command};
+ghost use Rattle.session_ends.specs.Events.{Event};
+ghost use Rattle.grp_session.specs.Budget.{Counted, Spent};
+ghost use Rattle.grp_session.specs.Serving.{Answered, ProxyStands, Source};
+ghost use Rattle.spin_server.specs.Served.{Served};
+ghost use Rattle.spin_server.specs.Serving.{SpinStands};
+ghost use Rattle.net_edge.specs.Due.{AreDuePieces, setting, demo_unit, new_datagrams};
+ghost use Rattle.net_edge.specs.Markets.{StillHas, MarketAt, HasAccepted, gap_source, SpinFed};
+ghost use Rattle.net_edge.specs.Markets.{image_view};
 
-use gap_store::GapStore;
-use pitch_fields::{LAST_SEQUENCE, OutOfMemory};
-use pitch_model::laws::operations_add_up;
-use spin_server::ImageShelf;
+use grp_session::{GapBudget, GrpServer};
+use pitch_fields::OutOfMemory;
+use pitch_messages::{Raw, RawList};
+use pitch_model::laws::packed_messages_are_pieces;
+use spin_server::SpinServer;
 use std::alloc::Global;
-use unit_packets::DatagramList;
-use venue_core::{Venue, plan_command};
+use unit_packets::{DatagramList, pack};
 
-/// The venue, the messages that the proxy keeps, and the images that the Spin Server serves.
-#[derive(Drop)]
-pub(crate) struct Market {
-    alloc: Global,
-    venue: Venue,
-    pub(crate) store: GapStore,
-    pub(crate) shelf: ImageShelf,
+/// The venue's side: it accepts messages and advertises images, and the proxy and the Spin Server
+/// look both up there.
+pub(crate) trait Market {
+    /// These messages were accepted, and the images through these sequences advertised.
+    ghost has: { Self → List RawSaid → List ℕ → Type 0 };
+
+    /// Accepts command `index` of the plan, and answers its message.
+    fn accept(&mut self, number: u64, index: u32) -> Result<Raw, OutOfMemory>
+        requires { 1 ≤ index }
+        ensures raw { IfOk result (λ raw. (advertised : List ℕ)
+            → has self.old (plan number demo_unit (index - 1)) advertised
+            → raw ≡ raw_of (plan_command number demo_unit index)) }
+        ensures keeps { OnOk result ((advertised : List ℕ)
+            → has self.old (plan number demo_unit (index - 1)) advertised
+            → has self.new (plan number demo_unit index) advertised) };
+
+    /// Advertises the image of all messages, and answers its sequence.
+    fn advertise(&mut self) -> Result<u32, OutOfMemory>
+        ensures sequence { IfOk result (λ sequence. (messages : List RawSaid) (advertised : List ℕ)
+            → has self.old messages advertised → sequence ≡ length messages) }
+        ensures keeps { OnOk result ((messages : List RawSaid) (advertised : List ℕ)
+            → has self.old messages advertised
+            → has self.new messages (with_sequence advertised (length messages))) };
+
+    /// Feeds the proxy. It answers each message from all that was accepted.
+    fn feed_proxy(
+        &mut self,
+        server: &mut GrpServer,
+        budget: &mut GapBudget,
+        piece: &[u8],
+        said: &mut Vec<u8>,
+        lines: &mut DatagramList,
+    ) -> Result<(), OutOfMemory>
+        ensures fed { OnOk result ((messages : List RawSaid) (advertised : List ℕ)
+            (es : List (Event Source)) (spent : Spent) → has self.old messages advertised
+            → ProxyStands server.old es → Counted budget.old spent
+            → Answered es piece.now (gap_source messages budget.old.limits spent es piece.now)
+            server.old server.new (Counted budget.new) said.old.items said.new.items
+            (bytes_in lines.old.items) (bytes_in lines.new.items)) }
+        ensures setup { server.new.setup ≡ server.old.setup }
+        ensures limits { budget.new.limits ≡ budget.old.limits }
+        ensures keeps { OnOk result (StillHas has self.old self.new) };
+
+    /// Feeds the Spin Server. It answers each message from all that was accepted and advertised.
+    fn feed_spin(
+        &mut self,
+        server: &mut SpinServer,
+        piece: &[u8],
+        said: &mut Vec<u8>,
+    ) -> Result<(), OutOfMemory>
+        ensures fed { OnOk result ((messages : List RawSaid) (advertised : List ℕ)
+            (es : List (Event (List Served))) → has self.old messages advertised
+            → SpinStands server.old es → SpinFed es piece.now (image_view messages advertised)
+            server.old server.new said.old.items said.new.items) }
+        ensures setup { server.new.end.setup ≡ server.old.end.setup }
+        ensures keeps { OnOk result (StillHas has self.old self.new) };
 }
 
-impl Market {
-    /// Nothing was accepted.
-    pub(crate) fn make(alloc: Global) -> Result<Market, OutOfMemory>
-        ensures { IfOk result (λ market. MarketHas market [] 0 []) }
-    {
-        Ok(Market {
-            alloc,
-            venue: Venue::make(alloc, 1),
-            store: GapStore::make(alloc, 65536)?,
-            shelf: ImageShelf::make(alloc),
-        })
-    }
+// Appends the datagram of a message, which has this sequence.
+fn pack_one(
+    alloc: Global,
+    raw: &Raw,
+    sequence: u32,
+    out: &mut DatagramList,
+) -> Result<(), OutOfMemory>
+    requires { sequence ≤ last_sequence }
+    ensures ok { OnOk result (bytes_in out.new.items
+        ≡ bytes_in out.old.items ++ packed demo_unit sequence (raw.now ∷ [])) }
+    ensures packing { OnOk result (IsPacking demo_unit sequence (raw.now ∷ [])
+        (packed demo_unit sequence (raw.now ∷ []))) }
+    ensures raw { IsRaw raw.now }
+{
+    let _bytes = raw.bytes();
+    let mut one = RawList::make(alloc);
+    one.push(raw)?;
+    pack(alloc, 1, sequence, one.raws(), out)?;
+    Ok(())
+}
 
-    // The venue accepts a command of the plan.
-    fn accept(&mut self, number: u64, index: u32) -> Result<(), OutOfMemory>
-        requires { 1 ≤ index }
-        ensures { OnOk result ((sent : ℕ) (advertised : List ℕ)
-            → MarketHas self.old (plan number demo_unit (index - 1)) sent advertised
-            → MarketHas self.new (plan number demo_unit index) sent advertised) }
-    {
-        operations_add_up();
-        let command = plan_command(number, 1, index);
-        let Ok(raw) = self.venue.prepare(&command) else {
-            return Err(OutOfMemory);
-        };
-        self.venue.take_ready();
-        // No venue accepts so many.
-        if self.store.last() >= LAST_SEQUENCE || self.shelf.pushed() >= LAST_SEQUENCE {
-            return Err(OutOfMemory);
-        }
-        self.store.push(&raw);
-        self.shelf.push(&raw)?;
-        Ok(())
+/// In a turn the next command of the plan is accepted, until all were accepted. Answers the
+/// datagrams of its message.
+pub(crate) fn accept_next<M: Market>(
+    alloc: Global,
+    market: &mut M,
+    number: u64,
+    count: u32,
+    turn: u32,
+) -> Result<DatagramList, OutOfMemory>
+    requires some { 1 ≤ turn }
+    requires few { count ≤ 1000 }
+    ensures datagrams { IfOk result (λ list. MarketAt M.has (setting number count) market.old
+        (turn - 1) → bytes_in list.items ≡ new_datagrams (setting number count) turn) }
+    ensures pieces { IfOk result (λ list. MarketAt M.has (setting number count) market.old
+        (turn - 1) → AreDuePieces (setting number count) turn (bytes_in list.items)) }
+    ensures accepted { OnOk result (MarketAt M.has (setting number count) market.old (turn - 1)
+        → HasAccepted M.has (setting number count) market.new turn) }
+{
+    packed_messages_are_pieces();
+    let mut datagrams = DatagramList::make(alloc);
+    if turn > count {
+        return Ok(datagrams);
     }
-
-    /// In a turn the venue accepts the next command of the plan, until all were accepted.
-    pub(crate) fn accept_next(
-        &mut self,
-        number: u64,
-        count: u32,
-        turn: u32,
-    ) -> Result<(), OutOfMemory>
-        requires { 1 ≤ turn }
-        ensures { OnOk result (MarketAt (setting number count) self.old (turn - 1)
-            → MarketHas self.new (messages (setting number count) turn)
-            (accepted (setting number count) (turn - 1))
-            (advertised_until (setting number count) (turn - 1))) }
-    {
-        if turn > count {
-            return Ok(());
-        }
-        self.accept(number, turn)?;
-        Ok(())
-    }
-
-    /// The datagrams of what was accepted and not sent yet.
-    pub(crate) fn flush(&mut self) -> Result<DatagramList, OutOfMemory>
-        ensures datagrams { IfOk result
-            (λ list. (messages : List RawSaid) (sent : ℕ) (advertised : List ℕ)
-            → MarketHas self.old messages sent advertised
-            → bytes_in list.items ≡ packed demo_unit (sent + 1) (drop sent messages)) }
-        ensures pieces { IfOk result (λ list. (messages : List RawSaid) (sent : ℕ)
-            (advertised : List ℕ) → MarketHas self.old messages sent advertised
-            → AllByRecursion (IsPiece messages demo_unit) (bytes_in list.items)) }
-        ensures has { OnOk result ((messages : List RawSaid) (sent : ℕ) (advertised : List ℕ)
-            → MarketHas self.old messages sent advertised
-            → MarketHas self.new messages (length messages) advertised) }
-    {
-        let mut list = DatagramList::make(self.alloc);
-        self.venue.flush(&mut list)?;
-        Ok(list)
-    }
-
-    /// The heartbeat, which tells the first sequence that was not sent yet.
-    pub(crate) fn beat(&self) -> [u8; 8]
-        ensures bytes { (messages : List RawSaid) (sent : ℕ) (advertised : List ℕ)
-            → MarketHas self.now messages sent advertised
-            → result ≡ block_bytes (heartbeat_block demo_unit (sent + 1)) }
-        ensures piece { (messages : List RawSaid) (sent : ℕ) (advertised : List ℕ)
-            → MarketHas self.now messages sent advertised
-            → IsPiece messages demo_unit result }
-    {
-        self.venue.beat()
-    }
-
-    /// The image of all messages is advertised. Answers its sequence.
-    pub(crate) fn advertise(&mut self) -> Result<u32, OutOfMemory>
-        ensures sequence { IfOk result (λ sequence. (messages : List RawSaid) (sent : ℕ)
-            (advertised : List ℕ) → MarketHas self.old messages sent advertised
-            → sequence ≡ length messages) }
-        ensures has { OnOk result ((messages : List RawSaid) (sent : ℕ) (advertised : List ℕ)
-            → MarketHas self.old messages sent advertised
-            → MarketHas self.new messages sent (with_sequence advertised (length messages))) }
-    {
-        operations_add_up();
-        let sequence = self.shelf.advertise()?;
-        Ok(sequence)
-    }
+    let raw = market.accept(number, turn)?;
+    pack_one(alloc, &raw, turn, &mut datagrams)?;
+    Ok(datagrams)
 }

@@ -7,7 +7,6 @@ ghost use Rattle.pitch_io.specs.declared.net.LinkEnd.TheVariants.{GrpServer as S
 ghost use Rattle.pitch_io.specs.declared.net.NetTaken.{NetTaken as TakenSaid};
 ghost use Rattle.pitch_io.specs.declared.net.NetTaken.TheVariants.{Got};
 ghost use Rattle.unit_packets.specs.Packing.{bytes_in};
-ghost use Rattle.gap_store.specs.Look.{store_of};
 ghost use Rattle.session_ends.specs.Events.{Ticked};
 ghost use Rattle.grp_session.specs.Budget.{Spent, next_second};
 ghost use Rattle.grp_session.specs.Serving.{Source};
@@ -15,18 +14,19 @@ ghost use Rattle.world_model.specs.State.{Connection};
 ghost use Rattle.world_model.specs.Verbs.{at_grp_server};
 ghost use Rattle.net_edge.specs.Acting.{taken_at, where_stands, is_group_open};
 ghost use Rattle.net_edge.specs.Breaking.{Breaks};
-ghost use Rattle.net_edge.specs.Due.{Setting, demo_unit, gap_view, messages};
-ghost use Rattle.net_edge.specs.Playing.{RoseAtFault, Plays, KeepsRun, BreaksRun, KeepsStore};
+ghost use Rattle.net_edge.specs.Due.{Setting, demo_unit};
+ghost use Rattle.net_edge.specs.Markets.{StillHas, MarketAt};
+ghost use Rattle.net_edge.specs.Playing.{RoseAtFault, Plays, KeepsRun, BreaksRun};
 ghost use Rattle.net_edge.specs.Playing.{ProxyHas, ProxyFed, ProxyAnswers, ProxyServes, ProxySays};
 ghost use Rattle.net_edge.specs.Playing.{ProxyActs, AreTaken};
 ghost use Rattle.net_edge.specs.Scene.{Scene, got_end};
 
 use crate::error::DemoError;
+use crate::market::Market;
 use crate::putting::{put_whole, send_all};
 use crate::server_end::ServerEnd;
 use client_links::Account;
-use gap_store::GapStore;
-use grp_session::{GapBudget, GrpServer, look_laws};
+use grp_session::{GapBudget, GrpServer};
 use pitch_fields::OutOfMemory;
 use pitch_io::{Line, LinkEnd, Net, NetTaken};
 use pitch_text::{DEFAULT_DAY, DEFAULT_MINUTE, DEFAULT_SECOND};
@@ -57,9 +57,9 @@ impl Proxy {
     }
 
     // Bytes come to it.
-    fn feed(
+    fn feed<M: Market>(
         &mut self,
-        store: &mut GapStore,
+        market: &mut M,
         piece: &[u8],
         said: &mut Vec<u8>,
         lines: &mut DatagramList,
@@ -67,14 +67,11 @@ impl Proxy {
         requires no_said { said.old.items ≡ [] }
         requires no_lines { lines.old.items ≡ [] }
         ensures fed { OnOk result ((s : Setting) (now : Scene)
-            → ProxyHas self.old now.grp.server now.spent
-            → store.old ≡ store_of (gap_view s now.turn)
+            → ProxyHas self.old now.grp.server now.spent → MarketAt M.has s market.old now.turn
             → ProxyFed s piece.now now self.new said.new.items (bytes_in lines.new.items)) }
-        ensures store { store.new ≡ store.old }
+        ensures market { OnOk result (StillHas M.has market.old market.new) }
     {
-        look_laws();
-        self.server
-            .feed(piece, &mut self.budget, Some(store), said, lines)?;
+        market.feed_proxy(&mut self.server, &mut self.budget, piece, said, lines)?;
         Ok(())
     }
 
@@ -120,23 +117,23 @@ pub(crate) fn tick_proxy<N: Net>(
 }
 
 // What came to the proxy is fed, and what it says is put and sent.
-fn serve_piece<N: Net>(
+fn serve_piece<N: Net, M: Market>(
     alloc: Global,
     net: &mut N,
     proxy: &mut Proxy,
-    store: &mut GapStore,
+    market: &mut M,
     piece: &[u8],
 ) -> Result<(), DemoError>
     ensures served { OnOk result ((s : Setting) (base : List Call) (count : ℕ) (now : Scene)
         → ProxyHas proxy.old now.grp.server now.spent
-        → KeepsStore store.old (messages s now.turn)
+        → MarketAt M.has s market.old now.turn
         → Plays s base (N.calls net.old) (taken_at s ServerEnd piece.now (Got count) now)
         → ProxyAnswers s base (N.calls net.new) proxy.new piece.now count now) }
-    ensures store { store.new ≡ store.old }
+    ensures market { OnOk result (StillHas M.has market.old market.new) }
     ensures broke { IfErr result (λ error. (s : Setting) (base : List Call)
         (count : ℕ) (now : Scene)
         → ProxyHas proxy.old now.grp.server now.spent
-        → KeepsStore store.old (messages s now.turn)
+        → MarketAt M.has s market.old now.turn
         → Plays s base (N.calls net.old) (taken_at s ServerEnd piece.now (Got count) now)
         → Breaks s base (N.calls net.new) error) }
     ensures fault { IfErr result (RoseAtFault (N.faults net.old) (N.faults net.new)) }
@@ -145,35 +142,31 @@ fn serve_piece<N: Net>(
 {
     let mut said = Vec::new(alloc);
     let mut lines = DatagramList::make(alloc);
-    proxy.feed(store, piece, &mut said, &mut lines)?;
+    proxy.feed(market, piece, &mut said, &mut lines)?;
     put_whole(net, LinkEnd::GrpServer, &said)?;
     send_all(net, Line::Gap, lines.as_slice())?;
     Ok(())
 }
 
 impl ServerEnd for Proxy {
-    type Store = GapStore;
-
     ghost serves = { λ proxy s base calls answers ended now.
         ProxyServes s base calls proxy answers ended now };
-
-    ghost shows = { λ store s now. KeepsStore store (messages s now.turn) };
 
     ghost is_cut = { λ now. now.grp_cut };
 
     // It says all at once, at the last call as at any other.
-    fn serve_one<N: Net>(
+    fn serve_one<N: Net, M: Market>(
         &mut self,
         alloc: Global,
         net: &mut N,
-        store: &mut GapStore,
+        market: &mut M,
         into: &mut [u8],
         _last: bool,
     ) -> Result<NetTaken, DemoError> {
         let answer = net.take(LinkEnd::GrpServer, into);
         match answer {
             NetTaken::Got(count) => {
-                serve_piece(alloc, net, self, store, &into[..count])?;
+                serve_piece(alloc, net, self, market, &into[..count])?;
                 Ok(answer)
             }
             NetTaken::Quiet | NetTaken::End => Ok(answer),

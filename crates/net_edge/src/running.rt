@@ -1,7 +1,7 @@
 //! The demo: turns of both ends until the client is current.
 
 ghost use Rattle.std.specs.Prelude.{◌≡◌, ◌≤◌, ◌<◌, ◌+◌, ◌++◌, ◌⊎◌, List, [], length, OnOk, OnErr};
-ghost use Rattle.std.specs.Prelude.{IfOk, IfErr, MatchBool};
+ghost use Rattle.std.specs.Prelude.{IfOk, IfErr, MatchBool, false};
 ghost use Rattle.std.specs.FinMap as map;
 ghost use Rattle.pitch_io.specs.Causes.{Rose};
 ghost use Rattle.pitch_io.specs.Nets.{Call, Begin, ListsCall};
@@ -18,24 +18,31 @@ ghost use Rattle.net_edge.specs.declared.error.DemoError.TheVariants as errors;
 ghost use Rattle.net_edge.specs.Breaking.{Breaks};
 ghost use Rattle.net_edge.specs.Demo.{IsDemo, IsLast, BreaksDemo, SendsPieces};
 ghost use Rattle.net_edge.specs.Due.{Setting, setting, demo_unit, call_room, hold_limit};
+ghost use Rattle.net_edge.specs.Due.{kept_messages};
+ghost use Rattle.net_edge.specs.Markets.{MarketAt};
 ghost use Rattle.net_edge.specs.Playing.{RoseAtFault, ClientHas, SpinHas, EndsHave, DemoAt};
-ghost use Rattle.net_edge.specs.Playing.{MarketHas, MarketAt, Plays, calls_before};
+ghost use Rattle.net_edge.specs.Playing.{DoesDemo, Plays, calls_before};
 ghost use Rattle.net_edge.specs.Scene.{Scene, first_scene, all_put, said_at};
 ghost use Rattle.net_edge.specs.Turns.{IsOver};
 
 use crate::ends::Ends;
 use crate::error::DemoError;
 use crate::market::Market;
+use crate::plain::PlainMarket;
 use crate::proxy::Proxy;
 use crate::putting::put_whole;
+use crate::shared::SharedMarket;
 use client_core::UnitClient;
 use client_links::{Account, GapLink, SpinLink};
 use pitch_fields::OutOfMemory;
 use pitch_io::{LinkEnd, Net, NetDone};
 use pitch_model::Status;
-use pitch_text::DEFAULT_HOLD;
+use pitch_text::{DEFAULT_HOLD, DEFAULT_KEPT};
+use shared_unit::{MakeError, Naming, Opened, Run};
 use spin_server::SpinServer;
 use std::alloc::Global;
+use std::marker::Brand;
+use std::sync::Wait;
 use storm_plan::append_unit_line;
 
 // The account of both sessions.
@@ -146,10 +153,10 @@ fn ends_with(turn: u32, count: u32, status: Status) -> bool
 }
 
 // The turns of a run, until it ends.
-fn run<N: Net>(
+fn run<N: Net, M: Market>(
     net: &mut N,
     ends: &mut Ends,
-    market: &mut Market,
+    market: &mut M,
     number: u64,
     count: u32,
     into: &mut [u8],
@@ -158,13 +165,13 @@ fn run<N: Net>(
     requires room { length into.old ≡ call_room }
     ensures ran { OnOk result ((base : List Call)
         → DemoAt (setting number count) base (N.calls net.old) ends.old (all_put first_scene)
-        → MarketHas market.old [] 0 []
+        → M.has market.old [] []
         → (now : Scene) × DemoAt (setting number count) base (N.calls net.new) ends.new now
-        × MarketAt (setting number count) market.new now.turn × IsOver (setting number count) now
-        × IsLast (setting number count) now) }
+        × MarketAt M.has (setting number count) market.new now.turn
+        × IsOver (setting number count) now × IsLast (setting number count) now) }
     ensures broke { IfErr result (λ error. (base : List Call)
         → DemoAt (setting number count) base (N.calls net.old) ends.old (all_put first_scene)
-        → MarketHas market.old [] 0 []
+        → M.has market.old [] []
         → Breaks (setting number count) base (N.calls net.new) error) }
     ensures fault { IfErr result (RoseAtFault (N.faults net.old) (N.faults net.new)) }
     ensures later { N.faults net.old ≤ N.faults net.new }
@@ -190,14 +197,12 @@ fn append_end(client: &UnitClient, out: &mut Vec<u8>) -> Result<(), OutOfMemory>
     append_unit_line(1, client.status(), book.len(), book.shares(), out)
 }
 
-// The ends at their start, the logins that both links say, the venue's side, and room for what
-// comes.
+// The ends at their start, the logins that both links say, and room for what comes.
 #[derive(Drop)]
 struct Parts {
     ends: Ends,
     login: Vec<u8>,
     spin_login: Vec<u8>,
-    market: Market,
     into: Vec<u8>,
 }
 
@@ -207,26 +212,24 @@ fn make_parts(alloc: Global) -> Result<Parts, OutOfMemory>
     ensures login { IfOk result (λ parts. parts.login.items ≡ said_at GrpClient first_scene) }
     ensures spin_login { IfOk result
         (λ parts. parts.spin_login.items ≡ said_at SpinClient first_scene) }
-    ensures market { IfOk result (λ parts. MarketHas parts.market [] 0 []) }
     ensures room { IfOk result (λ parts. length parts.into.items ≡ call_room) }
 {
     let mut login = Vec::new(alloc);
     let mut spin_login = Vec::new(alloc);
     let ends = make_ends(alloc, &mut login, &mut spin_login)?;
-    let market = Market::make(alloc)?;
     let into = room(alloc)?;
     Ok(Parts {
         ends,
         login,
         spin_login,
-        market,
         into,
     })
 }
 
 // A run of these from the start, and the unit's line.
-fn play<N: Net>(
+fn play<N: Net, M: Market>(
     net: &mut N,
+    market: &mut M,
     parts: &mut Parts,
     number: u64,
     count: u32,
@@ -237,13 +240,13 @@ fn play<N: Net>(
     ensures played { OnOk result (EndsHave parts.old.ends (all_put first_scene)
         → parts.old.login.items ≡ said_at GrpClient first_scene
         → parts.old.spin_login.items ≡ said_at SpinClient first_scene
-        → MarketHas parts.old.market [] 0 []
+        → M.has market.old [] []
         → IsDemo (setting number count) (N.calls net.old) (N.calls net.new)
         out.old.items out.new.items) }
     ensures broke { IfErr result (λ error. EndsHave parts.old.ends (all_put first_scene)
         → parts.old.login.items ≡ said_at GrpClient first_scene
         → parts.old.spin_login.items ≡ said_at SpinClient first_scene
-        → MarketHas parts.old.market [] 0 []
+        → M.has market.old [] []
         → BreaksDemo (setting number count) (N.calls net.old) (N.calls net.new) error) }
     ensures fault { IfErr result (RoseAtFault (N.faults net.old) (N.faults net.new)) }
     ensures later { N.faults net.old ≤ N.faults net.new }
@@ -251,16 +254,97 @@ fn play<N: Net>(
     ensures err { OnErr result (out.new.items ≡ out.old.items) }
 {
     set_up(net, &parts.login, &parts.spin_login)?;
-    run(
-        net,
-        &mut parts.ends,
-        &mut parts.market,
-        number,
-        count,
-        &mut parts.into,
-    )?;
+    run(net, &mut parts.ends, market, number, count, &mut parts.into)?;
     append_end(&parts.ends.client, out)?;
     Ok(())
+}
+
+// A demo whose venue's side is this one, which has done nothing.
+fn demo_over<N: Net, M: Market>(
+    alloc: Global,
+    net: &mut N,
+    market: &mut M,
+    number: u64,
+    count: u32,
+    out: &mut Vec<u8>,
+) -> Result<(), DemoError>
+    requires many { (1 ≤ count) × (count ≤ 1000) }
+    requires new { M.has market.old [] [] }
+    ensures { DoesDemo (setting number count) result (N.calls net.old) (N.calls net.new)
+        (N.faults net.old) (N.faults net.new) out.old.items out.new.items }
+{
+    let mut parts = make_parts(alloc)?;
+    play(net, market, &mut parts, number, count, out)
+}
+
+/// Does what [`demo`] does, with servers that answer from a gap store and a shelf of images. It is
+/// what `demo` does where a shared unit has no place for a server.
+pub fn demo_plain<N: Net>(
+    alloc: Global,
+    net: &mut N,
+    number: u64,
+    count: u32,
+    out: &mut Vec<u8>,
+) -> Result<(), DemoError>
+    requires { (1 ≤ count) × (count ≤ 1000) }
+    ensures ran { OnOk result (IsDemo (setting number count)
+        (N.calls net.old) (N.calls net.new) out.old.items out.new.items) }
+    ensures broke { IfErr result
+        (BreaksDemo (setting number count) (N.calls net.old) (N.calls net.new)) }
+    ensures pieces { SendsPieces (setting number count) (N.calls net.old) (N.calls net.new) }
+    // The net failed only where its count of faults rose.
+    ensures fault { IfErr result (λ error.
+        error ≡ errors.NetFault → Rose (N.faults net.old) (N.faults net.new)) }
+    ensures later { N.faults net.old ≤ N.faults net.new }
+    ensures still { OnOk result (N.faults net.new ≡ N.faults net.old) }
+    ensures err { OnErr result (out.new.items ≡ out.old.items) }
+{
+    let mut market = PlainMarket::make(alloc)?;
+    demo_over(alloc, net, &mut market, number, count, out)
+}
+
+// A demo whose servers answer from the pair that was opened, under its name.
+fn demo_of<J: Naming, R: Run, W: Wait, N: Net>(
+    rt: &W,
+    alloc: Global,
+    opened: Opened<R>,
+    net: &mut N,
+    number: u64,
+    count: u32,
+    out: &mut Vec<u8>,
+) -> Result<(), DemoError>
+    requires book { opened.seen.book ≡ J.book }
+    requires kept { opened.kept ≡ J.kept }
+    requires demo { J.kept ≡ kept_messages }
+    requires free { R.fixed ≡ false }
+    requires servers { opened.servers ≡ 2 }
+    requires many { (1 ≤ count) × (count ≤ 1000) }
+    ensures { DoesDemo (setting number count) result (N.calls net.old) (N.calls net.new)
+        (N.faults net.old) (N.faults net.new) out.old.items out.new.items }
+{
+    match SharedMarket::<J, R, &W>::open(alloc, rt, opened) {
+        Ok(mut market) => demo_over(alloc, net, &mut market, number, count, out),
+        Err(MakeError::NoPlace) => demo_plain(alloc, net, number, count, out),
+        Err(MakeError::OutOfMemory) => Err(DemoError::OutOfMemory),
+    }
+}
+
+// Opens a pair with two servers, whose run fixes no messages.
+fn demo_opened<R: Run, W: Wait, N: Net>(
+    rt: &W,
+    alloc: Global,
+    net: &mut N,
+    number: u64,
+    count: u32,
+    out: &mut Vec<u8>,
+) -> Result<(), DemoError>
+    requires free { R.fixed ≡ false }
+    requires many { (1 ≤ count) × (count ≤ 1000) }
+    ensures { DoesDemo (setting number count) result (N.calls net.old) (N.calls net.new)
+        (N.faults net.old) (N.faults net.new) out.old.items out.new.items }
+{
+    let opened: Opened<R> = Opened::make(alloc, 1, DEFAULT_KEPT, 2)?;
+    demo_of::<Brand, R, W, N>(rt, alloc, opened, net, number, count, out)
 }
 
 /// Runs both ends of unit 1 over a net, and appends the unit's line to `out`: the status of its
@@ -275,7 +359,11 @@ fn play<N: Net>(
 /// Where the net lists its calls, they are those of such a run, whatever the net does with what it
 /// is given. Where it carries that, in whatever order and with whatever losses, the orders and the
 /// shares are those that the venue's messages up to the client's reach leave.
-pub fn demo<N: Net>(
+///
+/// The servers answer from a shared unit, each from all that its writer did; where it has no place
+/// for a server, from a plain store and shelf.
+pub fn demo<W: Wait, N: Net>(
+    rt: &W,
     alloc: Global,
     net: &mut N,
     number: u64,
@@ -297,6 +385,5 @@ pub fn demo<N: Net>(
     ensures still { OnOk result (N.faults net.new ≡ N.faults net.old) }
     ensures err { OnErr result (out.new.items ≡ out.old.items) }
 {
-    let mut parts = make_parts(alloc)?;
-    play(net, &mut parts, number, count, out)
+    demo_opened::<Brand, W, N>(rt, alloc, net, number, count, out)
 }

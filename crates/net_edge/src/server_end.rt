@@ -8,35 +8,31 @@ ghost use Rattle.pitch_io.specs.declared.net.NetTaken.{NetTaken as TakenSaid};
 ghost use Rattle.net_edge.specs.Acting.{is_group_open};
 ghost use Rattle.net_edge.specs.Breaking.{Breaks};
 ghost use Rattle.net_edge.specs.Due.{Setting, call_room};
+ghost use Rattle.net_edge.specs.Markets.{StillHas, MarketAt};
 ghost use Rattle.net_edge.specs.Playing.{RoseAtFault, AreTaken};
 ghost use Rattle.net_edge.specs.Scene.{Scene, is_got, got_end};
 
 use crate::error::DemoError;
 use crate::lines::MOST_CALLS;
+use crate::market::Market;
 use pitch_io::{Net, NetTaken};
 use std::alloc::Global;
 
 /// A server at its end of a connection.
 pub(crate) trait ServerEnd {
-    /// Where it looks up what is asked of it.
-    type Store;
-
     /// It took what came in a turn, and what it said by that was put and sent.
     ghost serves: { Self → Setting → List Call → Option (List Call) → List TakenSaid → Bool → Scene
         → Type 0 };
-
-    /// The store is that of a scene's turn.
-    ghost shows: { Self.Store → Setting → Scene → Type 0 };
 
     /// Whether its connection was cut.
     ghost is_cut: { Scene → Bool };
 
     /// One call of `take`, which may be the turn's last; what comes is served.
-    fn serve_one<N: Net>(
+    fn serve_one<N: Net, M: Market>(
         &mut self,
         alloc: Global,
         net: &mut N,
-        store: &mut Self::Store,
+        market: &mut M,
         into: &mut [u8],
         last: bool,
     ) -> Result<NetTaken, DemoError>
@@ -44,16 +40,16 @@ pub(crate) trait ServerEnd {
         ensures served { IfOk result (λ answer. (s : Setting) (base : List Call)
             (answers : List TakenSaid) (now : Scene)
             → serves self.old s base (N.calls net.old) answers false now → is_cut now ≡ false
-            → shows store.old s now
+            → MarketAt M.has s market.old now.turn
             → is_group_open answers ≡ true
             → is_group_open (answer ∷ answers) ≡ (is_got answer && not last)
             → serves self.new s base (N.calls net.new) (answer ∷ answers) (got_end answer) now) }
-        ensures store { store.new ≡ store.old }
+        ensures market { OnOk result (StillHas M.has market.old market.new) }
         ensures room { length into.new ≡ length into.old }
         ensures broke { IfErr result (λ error. (s : Setting) (base : List Call)
             (answers : List TakenSaid) (now : Scene)
             → serves self.old s base (N.calls net.old) answers false now → is_cut now ≡ false
-            → shows store.old s now → is_group_open answers ≡ true
+            → MarketAt M.has s market.old now.turn → is_group_open answers ≡ true
             → Breaks s base (N.calls net.new) error) }
         ensures fault { IfErr result (RoseAtFault (N.faults net.old) (N.faults net.new)) }
         ensures later { N.faults net.old ≤ N.faults net.new }
@@ -62,11 +58,11 @@ pub(crate) trait ServerEnd {
 
 /// A turn's calls of `take` at a server's end, where its connection stands and it did not get End
 /// before. Answers whether it got End so far.
-pub(crate) fn serve_end<N: Net, E: ServerEnd>(
+pub(crate) fn serve_end<N: Net, E: ServerEnd, M: Market>(
     alloc: Global,
     net: &mut N,
     server: &mut E,
-    store: &mut E::Store,
+    market: &mut M,
     into: &mut [u8],
     cut: bool,
     ended: bool,
@@ -74,14 +70,14 @@ pub(crate) fn serve_end<N: Net, E: ServerEnd>(
     requires { length into.old ≡ call_room }
     ensures served { IfOk result (λ ends. (s : Setting) (base : List Call) (now : Scene)
         → E.serves server.old s base (N.calls net.old) [] ended now → E.is_cut now ≡ cut
-        → E.shows store.old s now
+        → MarketAt M.has s market.old now.turn
         → (answers : List TakenSaid) × AreTaken answers (ends || cut)
         × E.serves server.new s base (N.calls net.new) answers ends now) }
-    ensures store { store.new ≡ store.old }
+    ensures market { OnOk result (StillHas M.has market.old market.new) }
     ensures room { length into.new ≡ length into.old }
     ensures broke { IfErr result (λ error. (s : Setting) (base : List Call) (now : Scene)
         → E.serves server.old s base (N.calls net.old) [] ended now → E.is_cut now ≡ cut
-        → E.shows store.old s now → Breaks s base (N.calls net.new) error) }
+        → MarketAt M.has s market.old now.turn → Breaks s base (N.calls net.new) error) }
     ensures fault { IfErr result (RoseAtFault (N.faults net.old) (N.faults net.new)) }
     ensures later { N.faults net.old ≤ N.faults net.new }
     ensures still { OnOk result (N.faults net.new ≡ N.faults net.old) }
@@ -90,7 +86,7 @@ pub(crate) fn serve_end<N: Net, E: ServerEnd>(
         return Ok(ended);
     }
     'takes: for index in 0..MOST_CALLS {
-        match server.serve_one(alloc, net, store, into, index == MOST_CALLS - 1)? {
+        match server.serve_one(alloc, net, market, into, index == MOST_CALLS - 1)? {
             NetTaken::Got(_) => {}
             NetTaken::End => return Ok(true),
             NetTaken::Quiet | NetTaken::Failed => return Ok(false),

@@ -7,39 +7,40 @@ ghost use Rattle.pitch_io.specs.declared.net.NetTaken.{NetTaken as TakenSaid};
 ghost use Rattle.pitch_io.specs.declared.net.NetTaken.TheVariants.{Got};
 ghost use Rattle.session_ends.specs.Events.{Ticked, Told};
 ghost use Rattle.spin_server.specs.Served.{Served};
-ghost use Rattle.world_model.specs.Connections.{KeepsShelf};
 ghost use Rattle.world_model.specs.State.{Connection};
 ghost use Rattle.world_model.specs.Verbs.{at_spin_server, sent_whole};
 ghost use Rattle.net_edge.specs.Acting.{where_stands, is_group_open, spin_server_fed};
 ghost use Rattle.net_edge.specs.Acting.{spin_answered};
-ghost use Rattle.net_edge.specs.Due.{Setting, demo_unit, messages, advertised_until};
+ghost use Rattle.net_edge.specs.Due.{Setting, demo_unit};
+ghost use Rattle.net_edge.specs.Markets.{StillHas, MarketAt};
 ghost use Rattle.net_edge.specs.Playing.{RoseAtFault, Plays, KeepsRun, BreaksRun, SpinHas};
 ghost use Rattle.net_edge.specs.Playing.{SpinSays, SpinActs, SpinServes, AreTaken};
 ghost use Rattle.net_edge.specs.Scene.{Scene, is_got, got_end};
 
 use crate::error::DemoError;
+use crate::market::Market;
 use crate::putting::put_whole;
 use crate::server_end::ServerEnd;
 use pitch_fields::OutOfMemory;
 use pitch_io::{LinkEnd, Net, NetTaken};
-use spin_server::{ImageShelf, SpinServer};
+use spin_server::SpinServer;
 use std::alloc::Global;
 
 // It is fed bytes; what it says is appended to an empty list.
-fn feed(
+fn feed<M: Market>(
     spin: &mut SpinServer,
-    shelf: &mut ImageShelf,
+    market: &mut M,
     piece: &[u8],
     said: &mut Vec<u8>,
 ) -> Result<(), OutOfMemory>
     requires { said.old.items ≡ [] }
     ensures fed { OnOk result ((s : Setting) (count turn : ℕ) (c : Connection (List Served))
         → SpinHas spin.old c.server
-        → KeepsShelf shelf.old (messages s turn) (advertised_until s turn)
+        → MarketAt M.has s market.old turn
         → SpinSays spin.new said.new.items c (spin_server_fed s piece.now (Got count) turn c)) }
-    ensures shelf { shelf.new ≡ shelf.old }
+    ensures market { OnOk result (StillHas M.has market.old market.new) }
 {
-    spin.feed(piece, shelf, said)?;
+    market.feed_spin(spin, piece, said)?;
     Ok(())
 }
 
@@ -58,9 +59,9 @@ fn pump_whole(spin: &mut SpinServer, said: &mut Vec<u8>) -> Result<(), OutOfMemo
 
 // What it says of an answer of `take`, to an empty list: it is fed what came, and sends a running
 // image to its end where the turn's calls are over.
-fn answer(
+fn answer<M: Market>(
     spin: &mut SpinServer,
-    shelf: &mut ImageShelf,
+    market: &mut M,
     taken: NetTaken,
     into: &[u8],
     last: bool,
@@ -70,14 +71,14 @@ fn answer(
     requires within { CameWithin taken into.now }
     ensures says { OnOk result ((s : Setting) (turn : ℕ) (c : Connection (List Served))
         → SpinHas spin.old c.server
-        → KeepsShelf shelf.old (messages s turn) (advertised_until s turn)
+        → MarketAt M.has s market.old turn
         → SpinSays spin.new said.new.items c
         (spin_answered s (came taken into.now) taken turn (is_got taken && not last) c)) }
-    ensures shelf { shelf.new ≡ shelf.old }
+    ensures market { OnOk result (StillHas M.has market.old market.new) }
 {
     match taken {
         NetTaken::Got(count) => {
-            feed(spin, shelf, &into[..count], said)?;
+            feed(spin, market, &into[..count], said)?;
             if !last {
                 return Ok(());
             }
@@ -92,22 +93,17 @@ fn answer(
 }
 
 impl ServerEnd for SpinServer {
-    type Store = ImageShelf;
-
     ghost serves = { λ spin s base calls answers ended now.
         SpinServes s base calls spin answers ended now };
-
-    ghost shows = { λ shelf s now.
-        KeepsShelf shelf (messages s now.turn) (advertised_until s now.turn) };
 
     ghost is_cut = { λ now. now.spin_cut };
 
     // Where the turn's calls are over it sends a running image to its end.
-    fn serve_one<N: Net>(
+    fn serve_one<N: Net, M: Market>(
         &mut self,
         alloc: Global,
         net: &mut N,
-        shelf: &mut ImageShelf,
+        market: &mut M,
         into: &mut [u8],
         last: bool,
     ) -> Result<NetTaken, DemoError> {
@@ -116,7 +112,7 @@ impl ServerEnd for SpinServer {
             return Err(DemoError::NetFault);
         }
         let mut said = Vec::new(alloc);
-        answer(self, shelf, taken, into, last, &mut said)?;
+        answer(self, market, taken, into, last, &mut said)?;
         put_whole(net, LinkEnd::SpinServer, &said)?;
         Ok(taken)
     }

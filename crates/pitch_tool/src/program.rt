@@ -71,7 +71,7 @@ fn do_job<R: Threads + Wait + Clock + Sync, I: Source, O: Sink, N: Net, G: Gate 
             units,
             count,
         } => print_drill(rt, alloc, number, units, count, out, gate),
-        Job::Demo { number, count } => print_demo(alloc, number, count, out, net),
+        Job::Demo { number, count } => print_demo(rt, alloc, number, count, out, net),
     }
 }
 

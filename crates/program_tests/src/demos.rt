@@ -4,6 +4,7 @@
 use crate::nets::{NoNet, Trouble, TroubledNet};
 use crate::runs::run_over;
 use loopback_net::StdNet;
+use net_edge::demo_plain;
 use pitch_fields::OutOfMemory;
 use pitch_io::{FreeGate, MemoryNet, Net, NetCall, NetVerb};
 use pitch_tool::ExitStatus;
@@ -69,49 +70,57 @@ fn a_net_that_carries_nothing_leaves_it_silent(rt: HostRuntime) -> Result<(), Fa
     Ok(())
 }
 
-// Demos, what is wrong with their nets, and where they end. By number 2 message 10 is lost on both
-// lines, so it comes by a gap reply or not at all. Without a proxy messages come by images. Orders
-// and shares are those of the plan's first 16, 9 and 40 messages, worked by a script of its rules.
-const LOSSES: [(&str, Trouble, &str); 3] = [
-    (
-        GAP,
-        Trouble::Nothing,
-        "unit 1 current 16 orders 5 shares 1088\n",
-    ),
-    (
-        GAP,
-        Trouble::GapLine,
-        "unit 1 behind 9 of 16 orders 2 shares 519\n",
-    ),
-    (
-        LONG,
-        Trouble::Proxy,
-        "unit 1 current 40 orders 12 shares 3199\n",
-    ),
+// A demo: its number and its count, what is wrong with its net, and its line.
+struct Case {
+    number: u64,
+    count: u32,
+    trouble: Trouble,
+    line: &'static str,
+}
+
+// By number 2 message 10 is lost on both lines, so it comes by a gap reply or not at all. Without a
+// proxy messages come by images. Orders and shares are those of the plan's first 16, 9 and 40
+// messages, worked by a script of its rules.
+const LOSSES: [Case; 3] = [
+    Case {
+        number: 2,
+        count: 16,
+        trouble: Trouble::Nothing,
+        line: "unit 1 current 16 orders 5 shares 1088\n",
+    },
+    Case {
+        number: 2,
+        count: 16,
+        trouble: Trouble::GapLine,
+        line: "unit 1 behind 9 of 16 orders 2 shares 519\n",
+    },
+    Case {
+        number: 0,
+        count: 40,
+        trouble: Trouble::Proxy,
+        line: "unit 1 current 40 orders 12 shares 3199\n",
+    },
 ];
-
-const GAP: &str = "demo --number 2 --count 16";
-
-const LONG: &str = "demo --number 0 --count 40";
 
 // Whether a demo over this net ends so.
 fn ends_so<R: Threads + Wait + Clock + Sync, N: Net + Drop>(
     rt: &R,
     alloc: Global,
     net: N,
-    case: &(&str, Trouble, &str),
+    case: &Case,
 ) -> Result<bool, OutOfMemory> {
-    let (line, trouble, text) = case;
-    let mut net = TroubledNet::make(net, *trouble);
-    let outcome = run_over(rt, alloc, line, b"", &mut net, &FreeGate)?;
-    Ok(outcome.is(ExitStatus::Done, text.as_bytes(), ""))
+    let (number, count) = (case.number, case.count);
+    let words = format!(in alloc; "demo --number {number} --count {count}")?;
+    let mut net = TroubledNet::make(net, case.trouble);
+    let outcome = run_over(rt, alloc, &words, b"", &mut net, &FreeGate)?;
+    Ok(outcome.is(ExitStatus::Done, case.line.as_bytes(), ""))
 }
 
 // Whether each demo ends so, over memory and over sockets.
 fn all_end_so<R: Threads + Wait + Clock + Sync + net::Net>(
     rt: &R,
     alloc: Global,
-    cases: &[(&str, Trouble, &str)],
+    cases: &[Case],
 ) -> Result<bool, OutOfMemory> {
     for case in cases {
         let memory = MemoryNet::make(alloc, Vec::new(alloc));
@@ -126,4 +135,24 @@ fn all_end_so<R: Threads + Wait + Clock + Sync + net::Net>(
 fn a_demo_recovers_what_is_lost(rt: HostRuntime) -> Result<(), Fail> {
     assert!(rt; all_end_so(&rt, rt.alloc(), &LOSSES)?);
     Ok(())
+}
+
+// Whether a demo ends so whose servers answer from a plain store and shelf.
+fn ends_so_plainly(alloc: Global, case: &Case) -> bool {
+    if case.count < 1 || case.count > 1000 {
+        return false;
+    }
+    let mut net = TroubledNet::make(MemoryNet::make(alloc, Vec::new(alloc)), case.trouble);
+    let mut out = Vec::new(alloc);
+    match demo_plain(alloc, &mut net, case.number, case.count, &mut out) {
+        Ok(()) => out.as_slice() == case.line.as_bytes(),
+        Err(_) => false,
+    }
+}
+
+#[test]
+fn a_demo_without_a_shared_unit_is_the_same(rt: HostRuntime) {
+    for case in &LOSSES {
+        assert!(rt; ends_so_plainly(rt.alloc(), case));
+    }
 }

@@ -8,10 +8,12 @@ use crate::failure::Failure;
 use net_edge::demo;
 use pitch_io::{Net, Sink};
 use std::alloc::Global;
+use std::sync::Wait;
 use stream_print::put_all;
 
 /// Writes where a demo of both ends over the net ended.
-pub fn print_demo<O: Sink, N: Net>(
+pub fn print_demo<R: Wait, O: Sink, N: Net>(
+    rt: &R,
     alloc: Global,
     number: u64,
     count: u32,
@@ -29,7 +31,7 @@ pub fn print_demo<O: Sink, N: Net>(
         → result ≢ Err Failure.OutOfMemory → N.faults net.new ≡ N.faults net.old }
 {
     let mut line = Vec::new(alloc);
-    demo(alloc, net, number, count, &mut line)?;
+    demo(rt, alloc, net, number, count, &mut line)?;
     put_all(out, &line)?;
     Ok(())
 }

@@ -14,7 +14,7 @@ use Rattle.net_edge.proofs.proxy.serve_piece.Goals as goal
 
 pub returns-clause-served : goal.returns-clause-served
 returns-clause-served g c = λ s base count now has store plays.
-    let fed = c.in_ok-feed.ensures.fed s now has store.store_is in
+    let fed = c.in_ok-feed.ensures.fed s now has store in
     let after : Scene = taken_at s GrpServer c.args.piece.now (Got count) now in
     let said_is : c.deref.result.now ≡ (proxy_said s c.args.piece.now now).reply = c.deref.ensures.value ∙ fed.said_is in
     let lines_are : bytes_in c.as_slice.result.now ≡ (proxy_said s c.args.piece.now now).lines = ap (λ (ls : List (Roomy ℕ)). bytes_in ls) c.as_slice.ensures ∙ fed.lines_are in
@@ -35,7 +35,7 @@ returns-in_err-put_whole-clause-broke g c = at_exit _ c.from_residual-in_err-put
 pub returns-in_err-send_all-clause-broke : goal.returns-in_err-send_all-clause-broke
 returns-in_err-send_all-clause-broke g c = at_exit _ c.from_residual-in_err-send_all.result _ c.from_residual-in_err-send_all.ensures
     (λ s base count now has store plays.
-    let fed = c.in_ok-feed.ensures.fed s now has store.store_is in
+    let fed = c.in_ok-feed.ensures.fed s now has store in
     let after : Scene = taken_at s GrpServer c.args.piece.now (Got count) now in
     let lines_are : bytes_in c.as_slice.result.now ≡ (proxy_said s c.args.piece.now now).lines = ap (λ (ls : List (Roomy ℕ)). bytes_in ls) c.as_slice.ensures ∙ fed.lines_are in
     let pieces : AreDuePieces s now.turn (bytes_in c.as_slice.result.now) = subst (AreDuePieces s now.turn) (sym lines_are) (reply_pieces s c.args.piece.now now store.raws store.few) in

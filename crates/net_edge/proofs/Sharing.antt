@@ -1,0 +1,195 @@
+-- The venue's side of a shared unit. A server that was told of all, and that has seen no more than all afterwards, answered at just that.
+use Rattle.std.proofs.Common.{◌≡◌, ℕ, zero, suc, ◌-◌, ◌≤◌, Bool, true, false, cond, ◌||◌, List, [], ◌∷◌, ◌++◌, length, replicate, Option, None, Some, refl, sym, ap, ◌∙◌, subst, arith, length-append, slice_get, is_some}
+use Rattle.std.proofs.lemmas.List.{append-nil}
+use mathlib.Core.List.{IsPrefix}
+use Rattle.pitch_messages.specs.declared.session.SessionMessage.{SessionMessage}
+use Rattle.pitch_messages.specs.declared.session.SessionMessage.TheVariants.{Login, LoginReply, GapRequest, GapReply, SpinAvailable, SpinRequest, SpinReply, SpinFinished}
+use Rattle.pitch_model.specs.Advertising.{Operation, Accept, Advertise, accepted_by, advertised_by, with_sequence, newest_of}
+use Rattle.pitch_model.specs.History.{Raw}
+use Rattle.pitch_model.proofs.Advertising.{accepted_more, advertised_accept, advertised_advertise}
+use Rattle.gap_store.specs.Look.{View, IsLater, look}
+use Rattle.gap_store.proofs.OneView.{one_view}
+use Rattle.session_ends.specs.Answering.{Answer, Answerer, no_answer, followed, answers, Rises}
+use Rattle.session_ends.specs.Closing.{Setup, cause_of, closed_of, logged_in, logs_in, login_status}
+use Rattle.session_ends.specs.Ending.{Ending, EndKnows, Known, known_of}
+use Rattle.session_ends.specs.Events.{Event, Fed}
+use Rattle.session_ends.specs.Saying.{heard_by}
+use Rattle.session_ends.specs.Sending.{new_items, sent_bytes, sent_since, some_bytes}
+use Rattle.session_ends.specs.declared.inbox.Heard.{Heard}
+use Rattle.session_ends.specs.declared.role.Said.{Said}
+use Rattle.session_ends.specs.declared.role.Said.TheVariants.{Skipped, TooShort, Message}
+use Rattle.session_ends.proofs.Runs.{IsOrder, rises_nowhere, rises_to}
+use Rattle.grp_session.specs.Budget.{Limits, Spent}
+use Rattle.grp_session.specs.Serving.{Answered, ProxyFeeds, Source}
+use Rattle.grp_session.proofs.Asked as asked
+use Rattle.spin_server.specs.Served.{Served, ServedLater, is_served}
+use Rattle.spin_server.specs.Serving.{Serving, Spin, SpinFeeds, SpinStands, after_login, refusal_answer, running_spin, served_answer, spin_answer, spin_fed_answer, spin_message_answer, spin_said_answer, spin_sends}
+use Rattle.spin_server.specs.Stands.{seen_of}
+use Rattle.spin_server.proofs.Serves as serves
+use Rattle.spin_server.proofs.Shelving.{later_both, seen_newest, seen_served}
+use Rattle.shared_unit.specs.Histories.{kept_at, served_at, then_done}
+use Rattle.shared_unit.proofs.Looking.{finds_at, newest_at}
+use Rattle.venue_core.specs.Commands.{raw_of}
+use Rattle.venue_core.specs.Plan.{plan, plan_command}
+use Rattle.venue_core.specs.Stands.{last_of}
+use Rattle.venue_core.proofs.PlanBooks.{plan_next}
+use Rattle.net_edge.specs.Due.{demo_unit, kept_messages}
+use Rattle.net_edge.specs.Markets.{SharedHas, SpinFed, gap_source, image_view}
+
+-- ---- The writer
+-- the last message is the one that was accepted last
+last_more : (raws : List Raw) (raw : Raw) → slice_get (raws ++ raw ∷ []) (length raws) ≡ Some raw
+last_more [] raw = refl
+last_more (r ∷ raws) raw = last_more raws raw
+
+last_accepted : (history : List Operation) (raw : Raw) → last_of (accepted_by (then_done history (Accept raw))) ≡ Some raw
+last_accepted history raw =
+    let raws : List Raw = accepted_by history in
+    let e : length (raws ++ raw ∷ []) - 1 ≡ length raws = omega (arith, length-append raws (raw ∷ [])) in
+    ap last_of (accepted_more history (Accept raw)) ∙ ap (slice_get (raws ++ raw ∷ [])) e ∙ last_more raws raw
+
+same_raw : (a b : Raw) → Some a ≡ Some b → a ≡ b
+same_raw a b e = cc
+
+pub accepted_is : (history now : List Operation) (raw last : Raw) → now ≡ then_done history (Accept raw) → Some last ≡ last_of (accepted_by now) → last ≡ raw
+accepted_is history now raw last is at = same_raw last raw (at ∙ ap (λ (h : List Operation). last_of (accepted_by h)) is ∙ last_accepted history raw)
+
+pub accepted_there : (history now : List Operation) (raw : Raw) → now ≡ then_done history (Accept raw) → None ≡ last_of (accepted_by now) → ⊥
+accepted_there history now raw is none = apart raw (none ∙ ap (λ (h : List Operation). last_of (accepted_by h)) is ∙ last_accepted history raw)
+  where
+    apart : (r : Raw) → ◌≡◌ {A = Option Raw} None (Some r) → ⊥
+    apart r e = cc
+
+-- one command of the plan more was accepted
+pub accepts : (history now : List Operation) (number index : ℕ) (advertised : List ℕ) → 1 ≤ index → now ≡ then_done history (Accept (raw_of (plan_command number demo_unit index)))
+    → SharedHas history (plan number demo_unit (index - 1)) advertised → SharedHas now (plan number demo_unit index) advertised
+accepts history now number index advertised some is has =
+    let raw : Raw = raw_of (plan_command number demo_unit index) in
+    let e : index ≡ suc (index - 1) = omega (arith, some) in
+    subst (λ (h : List Operation). SharedHas h (plan number demo_unit index) advertised) (sym is) (record {
+      accepted_is = accepted_more history (Accept raw) ∙ ap (λ (raws : List Raw). raws ++ raw ∷ []) has.accepted_is ∙ sym (plan_next number demo_unit (index - 1) index e);
+      advertised_is = advertised_accept history raw ∙ has.advertised_is;
+    })
+
+-- an image was advertised
+pub advertises : (history now : List Operation) (messages : List Raw) (advertised : List ℕ) → now ≡ then_done history Advertise → SharedHas history messages advertised → SharedHas now messages (with_sequence advertised (length messages))
+advertises history now messages advertised is has =
+    subst (λ (h : List Operation). SharedHas h messages (with_sequence advertised (length messages))) (sym is) (record {
+      accepted_is = accepted_more history Advertise ∙ append-nil (accepted_by history) ∙ has.accepted_is;
+      advertised_is = advertised_advertise history ∙ ap (λ (ns : List ℕ). with_sequence ns (length (accepted_by history))) has.advertised_is ∙ ap (λ (raws : List Raw). with_sequence advertised (length raws)) has.accepted_is;
+    })
+
+-- ---- A server between the same history
+-- what it was told of begins what it has seen before it is fed, and it has seen no more than that afterwards
+module _ {V : Type 0} (Later : V → V → Type 0) (order : IsOrder Later) (one : (a b : V) → Later a b → Later b a → b ≡ a) (at : List Operation → V) (grows : (h o : List Operation) → IsPrefix h o → Later (at h) (at o)) where
+  pub all_one : (told before after : List Operation) (views : List V) (now : V) → IsPrefix told before → IsPrefix after told → Rises Later (at before) views now → now ≡ at after → views ≡ replicate (length views) (at told)
+  all_one told before after views now begins covered rises shows =
+      let up : Later (at told) (at before) = grows told before begins in
+      let on : Later (at before) now = rises_to Later order (at before) views now rises in
+      let back : Later now (at told) = subst (λ (v : V). Later v (at told)) (sym shows) (grows after told covered) in
+      let same : now ≡ at before = one (at before) now on (order.then now (at told) (at before) back up) in
+      let is : at before ≡ at told = one (at told) (at before) up (order.then (at before) now (at told) on back) in
+      rises_nowhere Later order one (at before) now views rises same ∙ ap (λ (v : V). replicate (length views) v) is
+
+-- ---- The proxy
+kept_grows : (kept : ℕ) (h o : List Operation) → IsPrefix h o → IsLater (kept_at kept h) (kept_at kept o)
+kept_grows kept h o begins =
+    let found = finds_at kept h o (kept_at kept h) begins refl 1 1 (look (kept_at kept o) 1 1) refl in
+    subst (IsLater (kept_at kept h)) found.shows found.later
+
+kept_one : (a b : View) → IsLater a b → IsLater b a → b ≡ a
+kept_one a b p q = one_view a b p (omega (arith, ap length p.messages, length-append a.messages p.more, ap length q.messages, length-append b.messages q.more))
+
+abbrev view_of : List Raw → View
+view_of messages = record { messages = messages; kept = kept_messages }
+
+pub proxy_answers : (told before after : List Operation) (kept : ℕ) (messages : List Raw) (advertised : List ℕ) (es : List (Event Source)) (piece : List ℕ) (old new : Ending) (limits : Limits) (spent : Spent) (counted : Spent → Type 0)
+    (reply reply' : List ℕ) (lines lines' : List (List ℕ)) → kept ≡ kept_messages → SharedHas told messages advertised → IsPrefix told before → IsPrefix after told
+    → ProxyFeeds es piece old new true limits spent (kept_at kept before) counted (λ v. v ≡ kept_at kept after) reply reply' lines lines'
+    → Answered es piece (gap_source messages limits spent es piece) old new counted reply reply' lines lines'
+proxy_answers told before after kept messages advertised es piece old new limits spent counted reply reply' lines lines' is has begins covered feeds =
+    let n : ℕ = length (new_items es piece) in
+    let views : feeds.views ≡ replicate n (kept_at kept_messages told) =
+    all_one IsLater asked.later_order kept_one (kept_at kept) (kept_grows kept) told before after feeds.views feeds.now begins covered feeds.rises feeds.shows
+    ∙ ap (λ (m : ℕ). replicate m (kept_at kept told)) feeds.each ∙ ap (λ (k : ℕ). replicate n (kept_at k told)) is in
+    let all : feeds.views ≡ replicate n (view_of messages) = views ∙ ap (λ (raws : List Raw). replicate n (view_of raws)) has.accepted_is in
+    subst (λ (vs : List View). Answered es piece (record { there = true; views = vs; limits = limits; spent = spent }) old new counted reply reply' lines lines') all feeds.answered
+
+-- ---- The Spin Server
+served_grows : (h o : List Operation) → IsPrefix h o → ServedLater (served_at h) (served_at o)
+served_grows h o begins =
+    let newest = newest_at h o (served_at h) begins refl (newest_of (advertised_by o)) refl in
+    subst (ServedLater (served_at h)) newest.shows newest.later
+
+-- a message is answered the same whether all sequences are seen or the last ten
+module _ (s : Setup) (history : List Operation) (spin : Option Spin) where
+  request_same : (sequence : ℕ) (spin' : Option Spin) → served_answer s (served_at history) sequence spin' ≡ served_answer s (seen_of history) sequence spin'
+  request_same sequence None = refl
+  request_same sequence (Some running) = refl
+
+  logged_same : (logged : Bool) (sequence : ℕ) → spin_message_answer s logged spin (served_at history) (SpinRequest sequence) ≡ spin_message_answer s logged spin (seen_of history) (SpinRequest sequence)
+  logged_same false sequence = refl
+  logged_same true sequence =
+      ap (λ (b : Bool). cond b (served_answer s (served_at history) sequence spin) (refusal_answer s sequence 79 spin)) (sym (seen_served history sequence))
+      ∙ ap (λ (a : Answer (Option Spin)). cond (is_served (seen_of history) sequence) a (refusal_answer s sequence 79 spin)) (request_same sequence spin)
+
+  message_same : (logged : Bool) (message : SessionMessage) → spin_message_answer s logged spin (served_at history) message ≡ spin_message_answer s logged spin (seen_of history) message
+  message_same logged (Login sub user password) =
+      let status : ℕ = login_status s logged sub user password in
+      ap (λ (newest : Option ℕ). record { reply = sent_bytes s (LoginReply status) ++ after_login s status newest; lines = []; knows = spin }) (sym (seen_newest history))
+  message_same logged (SpinRequest sequence) = logged_same logged sequence
+  message_same logged (LoginReply status) = refl
+  message_same logged (GapRequest unit sequence count) = refl
+  message_same logged (GapReply unit sequence count status) = refl
+  message_same logged (SpinAvailable sequence) = refl
+  message_same logged (SpinReply sequence orders status) = refl
+  message_same logged (SpinFinished sequence) = refl
+
+  said_same : (logged : Bool) (said : Said) → spin_said_answer s logged spin (served_at history) said ≡ spin_said_answer s logged spin (seen_of history) said
+  said_same logged Skipped = refl
+  said_same logged TooShort = refl
+  said_same logged (Message message) = message_same logged message
+
+-- and so are all messages
+module _ {S V : Type 0} (s : Setup) (each : Answerer S V) (v w : V) (same : (logged : Bool) (state : S) (item : Heard) → each logged state v item ≡ each logged state w item) where
+  answers_same : (n : ℕ) (logged : Bool) (state : S) (items : List Heard) → answers s each logged state (replicate n v) items ≡ answers s each logged state (replicate n w) items
+  answers_same zero logged state items = refl
+  answers_same (suc n) logged state [] = refl
+  answers_same (suc n) logged state (item ∷ items) =
+      let after : Bool = logged || logs_in s.role item in
+      let closes : Bool = is_some (cause_of s logged item) in
+      let a : Answer S = each logged state w item in
+      ap (λ (x : Answer S). followed x (cond closes (no_answer x.knows) (answers s each after x.knows (replicate n v) items))) (same logged state item)
+      ∙ ap (λ (x : Answer S). followed a (cond closes (no_answer a.knows) x)) (answers_same n after a.knows items)
+
+pub fed_same : (s : Setup) (history : List Operation) (es : List (Event (List Served))) (piece : List ℕ) (n : ℕ) (spin : Option Spin) → spin_fed_answer s es piece (replicate n (served_at history)) spin ≡ spin_fed_answer s es piece (replicate n (seen_of history)) spin
+fed_same s history es piece n spin =
+    ap (λ (a : Answer (Option Spin)). cond (is_some (closed_of s es)) (no_answer spin) a)
+    (answers_same s (spin_answer s) (served_at history) (seen_of history) (λ logged state item. said_same s history state logged (heard_by s.role item)) n (logged_in s.role es) spin (new_items es piece))
+
+-- where as much is answered, the server stands for the piece at either views
+stands_same : (v : Serving) (es : List (Event (List Served))) (piece : List ℕ) (views views' : List Served)
+    → ((s : Setup) → spin_fed_answer s es piece views (running_spin s es) ≡ spin_fed_answer s es piece views' (running_spin s es)) → SpinStands v (Fed piece views ∷ es) → SpinStands v (Fed piece views' ∷ es)
+stands_same v es piece views views' same stands =
+    let s : Setup = v.end.setup in
+    let known : List ℕ → Known = λ reply. record (known_of (spin_sends s) s (Fed piece views ∷ es)) { sent = some_bytes reply || sent_since (spin_sends s) s.role es } in
+    record {
+      end_is = subst (λ (reply : List ℕ). EndKnows v.end (known reply)) (ap (λ (a : Answer (Option Spin)). a.reply) (same s)) stands.end_is;
+      spin_is = λ on. stands.spin_is on ∙ ap (λ (a : Answer (Option Spin)). a.knows) (same s);
+    }
+
+pub spin_answers : (told before after : List Operation) (messages : List Raw) (advertised : List ℕ) (es : List (Event (List Served))) (piece : List ℕ) (old new : Serving) (reply reply' : List ℕ)
+    → SharedHas told messages advertised → IsPrefix told before → IsPrefix after told → SpinFeeds es piece old new (served_at before) (λ v. v ≡ served_at after) reply reply' → SpinFed es piece (image_view messages advertised) old new reply reply'
+spin_answers told before after messages advertised es piece old new reply reply' has begins covered feeds =
+    let n : ℕ = length (new_items es piece) in
+    let views : feeds.views ≡ replicate n (served_at told) =
+    all_one ServedLater serves.later_order later_both served_at served_grows told before after feeds.views feeds.now begins covered feeds.rises feeds.shows
+    ∙ ap (λ (m : ℕ). replicate m (served_at told)) feeds.each in
+    let is : seen_of told ≡ image_view messages advertised =
+    ap (λ (raws : List Raw). image_view raws (advertised_by told)) has.accepted_is ∙ ap (λ (ns : List ℕ). image_view messages ns) has.advertised_is in
+    let at : SpinStands new (Fed piece (replicate n (served_at told)) ∷ es) = subst (λ (vs : List Served). SpinStands new (Fed piece vs ∷ es)) views feeds.stands in
+    subst (λ (view : Served). SpinFed es piece view old new reply reply') is (record {
+      stands = stands_same new es piece (replicate n (served_at told)) (replicate n (seen_of told)) (λ s. fed_same s told es piece n (running_spin s es)) at;
+      replied = feeds.replied ∙ ap (λ (vs : List Served). reply ++ spin_sends old.end.setup (Fed piece vs) es) views
+          ∙ ap (λ (a : Answer (Option Spin)). reply ++ a.reply) (fed_same old.end.setup told es piece n (running_spin old.end.setup es));
+    })
