@@ -73,7 +73,7 @@ def functions_in(path):
             found.append(current)
         elif current and line.strip() == "{":
             current = None
-        elif current and (clause := re.match(r"\s+ensures(?: (\w+))? \{", line)):
+        elif current and (clause := re.match(r"\s+ensures\*?(?: (\w+))? \{", line)):
             current.clauses.append(clause[1] or "-")
     return found
 

@@ -1,16 +1,16 @@
 -- What the quoted units of a stream stand for, once some blocks were heard. Blocks stand newest
 -- first.
-use Rattle.std.specs.Prelude.{◌≡◌, ℕ, List, [], Option, Some, None, slice_get}
+use Rattle.std.specs.Prelude.{◌≡◌, ℕ, List, [], Option, Some, None}
 use Rattle.unit_packets.specs.Blocks.{Block}
 use Rattle.pitch_model.specs.History.{Entry}
 use Rattle.pitch_model.specs.Units.{unit_history}
+use Rattle.unit_clients.specs.Tables.{UnitTable, AtEach}
 use Rattle.best_quotes.specs.Stands.{Stands}
 use Rattle.best_quotes.specs.declared.unit.QuotedUnit.{QuotedUnit}
 
--- how many messages each client holds at most, and the place of each unit at its number
-pub record QuotedUnits : Type 0 where
-  pub limit : ℕ
-  pub units : List (Option QuotedUnit)
+-- the quoted units of a stream
+abbrev pub QuotedUnits : Type 0
+QuotedUnits = UnitTable QuotedUnit
 
 -- there is a quoted unit, and it stands for this history
 abbrev pub StandsAt : ℕ → List Entry → Option QuotedUnit → Type 0
@@ -24,6 +24,5 @@ IsQuoted H before unit None = unit_history unit before ≡ []
 IsQuoted H before unit (Some quoted) = Stands quoted H (unit_history unit before)
 
 -- each unit heard its blocks
-pub record HaveQuoted (q : QuotedUnits) (before : List Block) : Type 0 where
-  pub each : (unit : ℕ) (quoted : Option QuotedUnit)
-      → slice_get q.units unit ≡ Some quoted → IsQuoted q.limit before unit quoted
+abbrev pub HaveQuoted : QuotedUnits → List Block → Type 0
+HaveQuoted q before = AtEach (IsQuoted q.limit before) q.places

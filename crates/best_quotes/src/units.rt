@@ -1,4 +1,4 @@
-ghost use Rattle.std.specs.Prelude.{◌≡◌, ◌≤◌, ◌++◌, ℕ, List, [], ◌∷◌, OnOk, IfOk, length};
+ghost use Rattle.std.specs.Prelude.{◌≡◌, ◌≤◌, ◌++◌, ℕ, List, [], ◌∷◌, OnOk, IfOk};
 ghost use Rattle.pitch_fields.specs.Limits.{most_held};
 ghost use Rattle.unit_packets.specs.Blocks.{Block};
 ghost use Rattle.pitch_model.specs.Heard.{block_change};
@@ -15,31 +15,26 @@ use client_core::Change;
 use pitch_fields::OutOfMemory;
 use std::alloc::Global;
 use std::marker::Model;
-use unit_clients::empty_places;
+use unit_clients::UnitTable;
 use unit_packets::BlockView;
 
 /// The quoted unit of each unit that a block named. Each holds at most so many messages that came
 /// too early.
 #[derive(Drop)]
 pub struct QuotedUnits {
-    limit: u32,
-    units: Vec<Option<QuotedUnit>>,
+    units: UnitTable<QuotedUnit>,
 }
 
 impl Model for QuotedUnits {
-    ghost use Rattle.std.specs.Prelude.{◌≡◌, ◌≤◌, length};
-    ghost use Rattle.std.specs.Coded.{codes};
-    ghost use Rattle.pitch_fields.specs.Limits.{most_held};
     ghost use Rattle.best_quotes.specs.contracts.unit.QuotedUnit as quoted;
     ghost use Rattle.best_quotes.specs.Units.{QuotedUnits};
+    ghost use Rattle.unit_clients.specs.Tables.{table_code};
 
     ghost Value = { QuotedUnits };
 
-    ghost view = { λ q. record { limit = q.limit; units = q.units.items } };
+    ghost coded = { table_code quoted.the_row.coded };
 
-    ghost coded = { Prim.hlevel (codes, quoted.the_row.coded) };
-
-    ghost invariant = { λ q. (1 ≤ q.limit) × (q.limit ≤ most_held) × (length q.units.items ≡ 256) };
+    ghost view = { λ q. q.units };
 }
 
 // Hands a block to what is in its unit's place, which is made where there is nothing.
@@ -82,8 +77,8 @@ impl QuotedUnits {
         ensures limit { IfOk result (λ units. units.limit ≡ limit) }
         ensures heard { IfOk result (λ units. HaveQuoted units []) }
     {
-        let units = empty_places(alloc)?;
-        Ok(QuotedUnits { limit, units })
+        let units = UnitTable::make(alloc, limit)?;
+        Ok(QuotedUnits { units })
     }
 
     /// Hands a block to its unit, and appends what each message that is applied changes of the best
@@ -111,8 +106,8 @@ impl QuotedUnits {
             → HaveQuoted self.old before
             → change ≡ block_change self.old.limit (unit_history block.now.unit before) block.now) }
     {
-        let unit = block.header().unit as usize;
-        let change = hear_at(alloc, self.limit, &mut self.units[unit], block, lines)?;
+        let limit = self.units.limit();
+        let change = hear_at(alloc, limit, self.units.place_of(block), block, lines)?;
         Ok(change)
     }
 }

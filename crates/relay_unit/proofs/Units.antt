@@ -1,19 +1,22 @@
 -- The relay of a unit hears a block.
-use Rattle.std.proofs.Common.{◌≡◌, ◌≢◌, ℕ, ◌<◌, zero, suc, arith, ◌+◌, ◌++◌, fold, slice_get, ap, inl, inr, List, [], ◌∷◌, ◌==◌, length, refl, sym, ◌∙◌, subst, Option, Some, None, Result, Ok, Err}
+use Rattle.std.proofs.Common.{◌≡◌, ◌≢◌, ℕ, ◌+◌, ◌++◌, fold, slice_get, ap, List, [], ◌∷◌, ◌==◌, length, refl, sym, ◌∙◌, subst, Option, Some, None, Result, Ok, Err}
 use Rattle.std.specs.Result.{IsErr, IsErrAnd, IfErr}
 use Rattle.std.proofs.Math.ListN.{set}
 use Rattle.std.proofs.lemmas.Bool.{eq-eqb, ne_eqb, cond-false, cond-true}
+use Rattle.std.proofs.lemmas.Option.{slice_get_within}
 use Rattle.std.specs.List.{concat}
 use Rattle.unit_packets.specs.Blocks.{Block}
 use Rattle.unit_packets.specs.Packing.{packed}
 use Rattle.pitch_model.specs.Book.{Book, empty_book, after}
 use Rattle.pitch_model.specs.History.{Entry, Raw}
-use Rattle.unit_clients.proofs.Hearing.{get_set}
+use Rattle.unit_clients.specs.Tables.{AtEach, with_place}
+use Rattle.unit_clients.proofs.Placing.{each_set, get_set_same}
 use Rattle.relay_unit.specs.AnyRelays.{book_in, book_at, with_more, HasSentAt, AppendAny, AppendsAnyAt}
-use Rattle.relay_unit.specs.Calls.{AppendsAny, JoinsMore}
+use Rattle.relay_unit.specs.Calls.{AppendsAny}
 use Rattle.relay_unit.specs.Following.{Sends, HasSent}
+use Rattle.relay_unit.specs.Outlets.{JoinsMore}
 use Rattle.relay_unit.specs.Hearing.{first_heard, relay_heard, relay_history}
-use Rattle.relay_unit.specs.Relays.{StandsFor, StandsAt, IsRelay, HaveRelayed}
+use Rattle.relay_unit.specs.Relays.{Relays, StandsFor, StandsAt, IsRelay}
 use Rattle.relay_unit.specs.Sparing.{HasHeard, IsSpentBy, messages_heard}
 use Rattle.relay_unit.specs.Stands.{Stands, followed_book, relay_unit_of}
 use Rattle.relay_unit.specs.declared.relay.Relay.{Relay}
@@ -48,16 +51,11 @@ this_relay H block before (Some relay) stands = (
   subst (HasHeard relay) (sym (count_same block before)) stands.1,
 )
 
-pub relays_hear : (H u : ℕ) (old : List (Option Relay)) (slot : Option Relay) (block : Block) (before : List Block) → HaveRelayed (record { limit = H; relays = old }) before → u ≡ block.unit
-    → StandsAt H block.unit (relay_heard H block (relay_history H block.unit before)) (messages_heard block.unit before + length block.raws) slot → HaveRelayed (record { limit = H; relays = set old u slot }) (block ∷ before)
-relays_hear H u old slot block before stands same heard = record {
-  each = λ unit s at. elim (get_set old u unit slot s at) [
-    | inl here ↦
-        subst (IsRelay H (block ∷ before) unit) (sym here.1)
-        (subst (λ (n : ℕ). IsRelay H (block ∷ before) n slot) (sym (here.0 ∙ same)) (this_relay H block before slot heard))
-    | inr kept ↦ other_relay H unit block before s (λ e. kept.0 (sym e ∙ sym same)) (stands.each unit s kept.1)
-  ];
-}
+pub relays_hear : (H : ℕ) (places : List (Option Relay)) (slot : Option Relay) (block : Block) (before : List Block) → AtEach (IsRelay H before) places
+    → StandsAt H block.unit (relay_heard H block (relay_history H block.unit before)) (messages_heard block.unit before + length block.raws) slot → AtEach (IsRelay H (block ∷ before)) (set places block.unit slot)
+relays_hear H places slot block before stands heard =
+    each_set (IsRelay H before) (IsRelay H (block ∷ before)) places block.unit slot stands (λ unit other apart. other_relay H unit block before other (λ same. apart (sym same)))
+    (this_relay H block before slot heard)
 
 -- what holds of an error that is handed on holds of the answer
 pub handed_on : {T E : Type 0} (r : Result T E) (error : E) (P : E → Type 0) → IsErr r × IsErrAnd r (λ e. e ≡ error) → P error → IfErr r P
@@ -73,14 +71,7 @@ new_relay H unit relay slot before is fresh stands =
 pub old_relay : (H unit : ℕ) (relay : Relay) (slot : Option Relay) (before : List Block) → slot ≡ Some relay → IsRelay H before unit slot → StandsFor relay H unit (relay_history H unit before) × HasHeard relay (messages_heard unit before)
 old_relay H unit relay slot before is stands = subst (IsRelay H before unit) is stands
 
--- where nothing stands no block was heard
-pub no_relay : (H unit : ℕ) (slot : Option Relay) → slot ≡ None → IsRelay H [] unit slot
-no_relay H unit slot none = subst (IsRelay H [] unit) (sym none) refl
-
 -- ---- Any input, honest or not
-pub no_sent : (unit : ℕ) (place : Option Relay) → place ≡ None → HasSentAt unit [] place
-no_sent unit place none = subst (HasSentAt unit []) (sym none) refl
-
 -- a relay that was made at the block
 pub new_sends : (block : Block) (fresh relay : Relay) (place : Option Relay) (out out' : List ℕ)
     → place ≡ None → HasSent fresh [] → followed_book fresh ≡ empty_book → relay_unit_of fresh ≡ block.unit
@@ -127,40 +118,27 @@ more_here Sent unit other more same = cond-true (other == unit) (Sent other ++ m
 more_there : (Sent : ℕ → List Raw) (unit other : ℕ) (more : List Raw) → other ≢ unit → with_more Sent unit more other ≡ Sent other
 more_there Sent unit other more differs = cond-false (other == unit) (Sent other ++ more) (Sent other) (ne_eqb other unit differs)
 
-get_set_same : {X : Type 0} (xs : List X) (i : ℕ) (y : X) → i < length xs → slice_get (set xs i y) i ≡ Some y
-get_set_same [] i y within = absurd (omega arith)
-get_set_same (x ∷ xs) zero y within = refl
-get_set_same (x ∷ xs) (suc i) y within = get_set_same xs i y (omega arith)
-
 -- the relays of a stream, where the one in a unit's place sends
-pub relays_send : (H u : ℕ) (old : List (Option Relay)) (place place' : Option Relay) (block : Block) (out out' : List ℕ)
-    → u ≡ block.unit → u < length old → slice_get old u ≡ Some place → AppendsAnyAt place place' block out out'
-    → AppendAny (record { limit = H; relays = old }) (record { limit = H; relays = set old u place' }) block out out'
-relays_send H u old place place' block out out' same within at appends Sent S =
+pub relays_send : (relays : Relays) (place place' : Option Relay) (block : Block) (out out' : List ℕ) → slice_get relays.places block.unit ≡ Some place
+    → AppendsAnyAt place place' block out out' → AppendAny relays (with_place relays block.unit place') block out out'
+relays_send relays place place' block out out' at appends Sent S =
     let unit = block.unit in
-    let at_unit : slice_get old unit ≡ Some place = ap (slice_get old) (sym same) ∙ at in
-    let then : slice_get (set old u place') unit ≡ Some place' = ap (slice_get (set old u place')) (sym same) ∙ get_set_same old u place' within in
-    let a = appends (Sent unit) (S.each unit place at_unit) in
-    let m = a.2 in (
+    let old = relays.places in
+    let then : slice_get (set old unit place') unit ≡ Some place' = get_set_same old unit place' (slice_get_within old unit place at) in
+    let a = appends (Sent unit) (S.each unit place at) in
+    let m = a.2 in
+    let Now : ℕ → Option Relay → Type 0 = λ n p. HasSentAt n (Sent n) p in
+    let Then : ℕ → Option Relay → Type 0 = λ n p. HasSentAt n (with_more Sent unit m.more n) p in (
       a.0,
       a.1,
       record {
         more = m.more;
         added_is = m.added_is;
-        sends = subst (λ (p : Option (Option Relay)). Sends (book_at p) m.more (book_at (slice_get (set old u place') unit))) (sym at_unit)
+        sends = subst (λ (p : Option (Option Relay)). Sends (book_at p) m.more (book_at (slice_get (set old unit place') unit))) (sym at)
             (subst (λ (p : Option (Option Relay)). Sends (book_in place) m.more (book_at p)) (sym then) m.sends);
-        line = λ some. ap book_at then ∙ m.line some ∙ ap (λ (p : Option (Option Relay)). fold after (book_at p) m.more) (sym at_unit);
-        sent_are = record {
-          each = λ other p there. elim (get_set old u other place' p there) [
-            | inl here ↦
-                let named : other ≡ unit = here.0 ∙ same in
-                subst (HasSentAt other (with_more Sent unit m.more other)) (sym here.1)
-                (subst (λ (rs : List Raw). HasSentAt other rs place') (sym (more_here Sent unit other m.more named))
-                (subst (λ (n : ℕ). HasSentAt n (Sent n ++ m.more) place') (sym named) m.sent_is))
-            | inr kept ↦
-                subst (λ (rs : List Raw). HasSentAt other rs p) (sym (more_there Sent unit other m.more (λ e. kept.0 (e ∙ sym same))))
-                (S.each other p kept.1)
-          ];
-        };
+        line = λ some. ap book_at then ∙ m.line some ∙ ap (λ (p : Option (Option Relay)). fold after (book_at p) m.more) (sym at);
+        sent_are = each_set Now Then old unit place' S
+            (λ other p apart kept. subst (λ (rs : List Raw). HasSentAt other rs p) (sym (more_there Sent unit other m.more apart)) kept)
+            (subst (λ (rs : List Raw). HasSentAt unit rs place') (sym (more_here Sent unit unit m.more refl)) m.sent_is);
       },
     )

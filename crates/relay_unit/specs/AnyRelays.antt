@@ -6,6 +6,7 @@ use Rattle.unit_packets.specs.Blocks.{Block}
 use Rattle.unit_packets.specs.Packing.{packed}
 use Rattle.pitch_model.specs.Book.{Book, empty_book, after}
 use Rattle.pitch_model.specs.History.{Raw}
+use Rattle.unit_clients.specs.Tables.{AtEach}
 use Rattle.relay_unit.specs.Following.{Sends, HasSent}
 use Rattle.relay_unit.specs.Relays.{Relays}
 use Rattle.relay_unit.specs.Stands.{followed_book, relay_unit_of}
@@ -22,7 +23,7 @@ book_at None = empty_book
 book_at (Some place) = book_in place
 
 abbrev pub book_of_unit : Relays → ℕ → Book
-book_of_unit r unit = book_at (slice_get r.relays unit)
+book_of_unit r unit = book_at (slice_get r.places unit)
 
 -- the relay in a place has sent these messages under this unit
 abbrev pub HasSentAt : ℕ → List Raw → Option Relay → Type 0
@@ -30,9 +31,8 @@ HasSentAt unit sent None = sent ≡ []
 HasSentAt unit sent (Some relay) = (relay_unit_of relay ≡ unit) × HasSent relay sent
 
 -- each unit's relay has sent its messages
-pub record HaveSent (r : Relays) (Sent : ℕ → List Raw) : Type 0 where
-  pub each : (unit : ℕ) (place : Option Relay)
-      → slice_get r.relays unit ≡ Some place → HasSentAt unit (Sent unit) place
+abbrev pub HaveSent : Relays → (ℕ → List Raw) → Type 0
+HaveSent r Sent = AtEach (λ unit place. HasSentAt unit (Sent unit) place) r.places
 
 -- more messages of one unit
 abbrev pub with_more : (ℕ → List Raw) → ℕ → List Raw → ℕ → List Raw

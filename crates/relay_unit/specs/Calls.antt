@@ -1,9 +1,6 @@
 -- What a call of a relay, and of the relays of a stream, promises of a block that it hears.
 use Rattle.std.specs.Prelude.{◌≡◌, ◌+◌, ◌++◌, ℕ, List, ◌∷◌, length}
-use Rattle.std.specs.List.{concat}
-use Rattle.pitch_messages.specs.Room.{Roomy}
 use Rattle.unit_packets.specs.Blocks.{Block}
-use Rattle.unit_packets.specs.Packing.{bytes_in}
 use Rattle.pitch_model.specs.History.{Entry, Raw}
 use Rattle.pitch_model.specs.declared.change.Change.{Change}
 use Rattle.relay_unit.specs.Changing.{merged_change}
@@ -16,19 +13,6 @@ use Rattle.relay_unit.specs.Sparing.{HasHeard, IsSpentBy, messages_heard}
 use Rattle.relay_unit.specs.Stands.{Stands, IsOutrun, relay_unit_of}
 use Rattle.relay_unit.specs.declared.relay.Relay.{Relay}
 use Rattle.relay_unit.specs.declared.relay.RelayError.{RelayError}
-
--- ---- What is appended
--- datagrams are appended to those of a list
-abbrev pub ListsMore : (out out' : List (Roomy ℕ)) → List (List ℕ) → Type 0
-ListsMore out out' datagrams = bytes_in out' ≡ bytes_in out ++ datagrams
-
--- or to bytes, one behind another
-abbrev pub JoinsMore : (out out' : List ℕ) → List (List ℕ) → Type 0
-JoinsMore out out' datagrams = out' ≡ out ++ concat datagrams
-
--- some datagrams are
-abbrev pub Appends : (List (List ℕ) → Type 0) → Type 0
-Appends Lays = (datagrams : List (List ℕ)) × Lays datagrams
 
 -- ---- Of a relay
 -- whatever history it stood for, it stands for that history and the block

@@ -7,6 +7,7 @@ pub mod Stands
 pub mod Following
 pub mod Sparing
 pub mod Relays
+pub mod Outlets
 pub mod Calls
 pub mod AnyRelays
 pub mod Places

@@ -1,16 +1,16 @@
 -- What the relays of all units stand for, once some blocks were heard. Blocks stand newest first.
-use Rattle.std.specs.Prelude.{◌≡◌, ℕ, List, Option, Some, None, slice_get}
+use Rattle.std.specs.Prelude.{◌≡◌, ℕ, List, Option, Some, None}
 use Rattle.unit_packets.specs.Blocks.{Block}
 use Rattle.pitch_model.specs.History.{Entry}
+use Rattle.unit_clients.specs.Tables.{UnitTable, AtEach}
 use Rattle.relay_unit.specs.Hearing.{first_heard, relay_history}
 use Rattle.relay_unit.specs.Sparing.{HasHeard, messages_heard}
 use Rattle.relay_unit.specs.Stands.{Stands, relay_unit_of}
 use Rattle.relay_unit.specs.declared.relay.Relay.{Relay}
 
--- how many messages each relay holds at most, and the place of each unit at its number
-pub record Relays : Type 0 where
-  pub limit : ℕ
-  pub relays : List (Option Relay)
+-- the relays of all units
+abbrev pub Relays : Type 0
+Relays = UnitTable Relay
 
 -- the relay sends under this unit, and is where the history brings one
 abbrev pub StandsFor : Relay → ℕ → ℕ → List Entry → Type 0
@@ -29,6 +29,5 @@ IsRelay H before unit (Some relay) =
     × HasHeard relay (messages_heard unit before)
 
 -- each unit's relay heard its blocks
-pub record HaveRelayed (r : Relays) (before : List Block) : Type 0 where
-  pub each : (unit : ℕ) (relay : Option Relay)
-      → slice_get r.relays unit ≡ Some relay → IsRelay r.limit before unit relay
+abbrev pub HaveRelayed : Relays → List Block → Type 0
+HaveRelayed r before = AtEach (IsRelay r.limit before) r.places

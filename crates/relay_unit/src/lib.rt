@@ -9,6 +9,7 @@
 
 mod hearing;
 mod laws;
+mod outlet;
 mod packing;
 mod relay;
 mod relays;
@@ -17,5 +18,6 @@ pub use crate::laws::{
     blocks_have_no_more_messages_than_bytes, followers_have_the_orders_of_a_relay,
     relayed_messages_leave_the_followed_book,
 };
+pub use crate::outlet::Outlet;
 pub use crate::relay::{Relay, RelayError};
 pub use crate::relays::Relays;

@@ -2,13 +2,13 @@ ghost use Rattle.std.specs.Prelude.{◌≤◌};
 ghost use Rattle.pitch_fields.specs.Limits.{last_sequence};
 
 use crate::hearing::hear_merged;
-use crate::packing::append_packed;
+use crate::outlet::Outlet;
 use client_core::{Change, Item, UnitClient};
 use order_book::UnitBook;
 use pitch_fields::OutOfMemory;
 use pitch_messages::RawList;
 use std::alloc::Global;
-use unit_packets::{BlockView, DatagramList, LAST_SEQUENCE, pack};
+use unit_packets::{BlockView, LAST_SEQUENCE};
 
 /// Why a relay does not go on.
 #[derive(Clone, Copy, Debug, PartialEq, Eq)]
@@ -60,9 +60,10 @@ impl Relay {
     ghost use Rattle.pitch_model.specs.Book.{empty_book};
     ghost use Rattle.relay_unit.specs.Calls.{StandsAfter, AppendsRelayed, OutrunsAfter};
     ghost use Rattle.relay_unit.specs.Calls.{IsChangeAfter, HearsFew, SpendsFew};
-    ghost use Rattle.relay_unit.specs.Calls.{AppendsAny, Appends, ListsMore, JoinsMore};
+    ghost use Rattle.relay_unit.specs.Calls.{AppendsAny};
     ghost use Rattle.relay_unit.specs.Following.{HasSent};
     ghost use Rattle.relay_unit.specs.Hearing.{first_heard};
+    ghost use Rattle.relay_unit.specs.Outlets.{Appends};
     ghost use Rattle.relay_unit.specs.Sending.{AddsRelayed, AddsAny};
     ghost use Rattle.relay_unit.specs.Sparing.{HasHeard};
     ghost use Rattle.relay_unit.specs.Stands.{Stands, GoesOn, IsSpent};
@@ -138,17 +139,17 @@ impl Relay {
     /// A block with a sequence is one of a line. One without tells what a Spin Server says, or has
     /// messages of an image. Where an image is taken, what is sent is a Unit Clear and the image of
     /// the book as it is then; else it is the messages that were applied.
-    pub fn hear(
+    pub fn hear<O: Outlet>(
         &mut self,
         block: &BlockView<'_>,
-        out: &mut DatagramList,
+        out: &mut O,
     ) -> Result<Change, RelayError>
         // Whatever history the relay stood for, it now stands for that history and this block.
         ensures stands { OnOk result (StandsAfter self.old self.new block.now) }
         // Of any venue of which that history speaks, what is appended is what it adds to what is
         // relayed, under the sequences behind those sent.
         ensures sends { OnOk result
-            (AppendsRelayed self.old block.now (ListsMore out.old.items out.new.items)) }
+            (AppendsRelayed self.old block.now (O.gains out.old out.new)) }
         // The answer is what the block changes: the status before and after it, how many messages
         // were fresh and overflowed the hold, and the last end of an image.
         ensures change { IfOk result (IsChangeAfter self.old block.now) }
@@ -160,62 +161,18 @@ impl Relay {
         ensures many { IfErr result (SpendsFew self.old block.now) }
         // Whatever it heard, what is appended are messages behind all that it had sent, which leave
         // the orders of the book that it follows then.
-        ensures any { OnOk result (AppendsAny self.old self.new block.now
-            (ListsMore out.old.items out.new.items)) }
+        ensures any { OnOk result
+            (AppendsAny self.old self.new block.now (O.gains out.old out.new)) }
         ensures unit { relay_unit_of self.new ≡ relay_unit_of self.old }
-        ensures grown { OnOk result (Appends (ListsMore out.old.items out.new.items)) }
-        ensures out { OnErr result (out.new.items ≡ out.old.items) }
+        ensures grown { OnOk result (Appends (O.gains out.old out.new)) }
+        ensures out { OnErr result (O.stays out.old out.new) }
         // Once it was refused, the relay gives that answer again.
         ensures ready { OnOk result (GoesOn self.old) }
         ensures spent { IfErr result (IsSpent self.new) }
         ensures again { (error : RelayError) → IsSpent self.old error → result ≡ Err error }
     {
         let (change, first) = self.take(block)?;
-        match pack(self.alloc, self.unit, first, self.added.raws(), out) {
-            Ok(()) => Ok(change),
-            Err(_) => {
-                self.spent = Some(RelayError::OutOfMemory);
-                Err(RelayError::OutOfMemory)
-            }
-        }
-    }
-
-    /// Hears a block as `hear` does, and appends the datagrams of what it adds one behind another,
-    /// as a stream of blocks has them. It takes no list of datagrams where they are one.
-    pub fn hear_onto(
-        &mut self,
-        block: &BlockView<'_>,
-        out: &mut Vec<u8>,
-    ) -> Result<Change, RelayError>
-        // Whatever history the relay stood for, it now stands for that history and this block.
-        ensures stands { OnOk result (StandsAfter self.old self.new block.now) }
-        // Of any venue of which that history speaks, what is appended is what it adds to what is
-        // relayed, under the sequences behind those sent.
-        ensures sends { OnOk result
-            (AppendsRelayed self.old block.now (JoinsMore out.old.items out.new.items)) }
-        // The answer is what the block changes: the status before and after it, how many messages
-        // were fresh and overflowed the hold, and the last end of an image.
-        ensures change { IfOk result (IsChangeAfter self.old block.now) }
-        // The sequences are spent only where what is relayed then outruns the last one.
-        ensures outrun { IfErr result (OutrunsAfter self.old block.now) }
-        // Whatever it heard, it sends no more messages than it heard, and its sequences are spent
-        // only where these are more than there are sequences.
-        ensures heard { OnOk result (HearsFew self.old self.new block.now) }
-        ensures many { IfErr result (SpendsFew self.old block.now) }
-        // Whatever it heard, what is appended are messages behind all that it had sent, which leave
-        // the orders of the book that it follows then.
-        ensures any { OnOk result (AppendsAny self.old self.new block.now
-            (JoinsMore out.old.items out.new.items)) }
-        ensures unit { relay_unit_of self.new ≡ relay_unit_of self.old }
-        ensures grown { OnOk result (Appends (JoinsMore out.old.items out.new.items)) }
-        ensures out { OnErr result (out.new.items ≡ out.old.items) }
-        // Once it was refused, the relay gives that answer again.
-        ensures ready { OnOk result (GoesOn self.old) }
-        ensures spent { IfErr result (IsSpent self.new) }
-        ensures again { (error : RelayError) → IsSpent self.old error → result ≡ Err error }
-    {
-        let (change, first) = self.take(block)?;
-        match append_packed(self.alloc, self.unit, first, self.added.raws(), out) {
+        match out.append(self.alloc, self.unit, first, self.added.raws()) {
             Ok(()) => Ok(change),
             Err(_) => {
                 self.spent = Some(RelayError::OutOfMemory);

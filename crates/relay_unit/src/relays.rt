@@ -1,8 +1,9 @@
-ghost use Rattle.std.specs.Prelude.{◌≡◌, ◌≤◌, ◌++◌, [], OnOk, OnErr, IfOk, IfErr, length};
+ghost use Rattle.std.specs.Prelude.{◌≡◌, ◌≤◌, ◌++◌, [], OnOk, OnErr, IfOk, IfErr};
 ghost use Rattle.pitch_fields.specs.Limits.{most_held};
 ghost use Rattle.relay_unit.specs.AnyRelays.{HaveSent, AppendAny, AppendsAnyAt};
 ghost use Rattle.relay_unit.specs.Calls.{HaveRelayedAfter, AppendVenues, AreChanged};
-ghost use Rattle.relay_unit.specs.Calls.{OutrunVenues, SpendFew, Appends, JoinsMore};
+ghost use Rattle.relay_unit.specs.Calls.{OutrunVenues, SpendFew};
+ghost use Rattle.relay_unit.specs.Outlets.{Appends, JoinsMore};
 ghost use Rattle.relay_unit.specs.Places.{StandsThere, AppendsThere, ChangesThere};
 ghost use Rattle.relay_unit.specs.Places.{OutrunsThere, SpentThere};
 ghost use Rattle.relay_unit.specs.Relays.{HaveRelayed};
@@ -12,32 +13,26 @@ use client_core::Change;
 use pitch_fields::OutOfMemory;
 use std::alloc::Global;
 use std::marker::Model;
-use unit_clients::empty_places;
+use unit_clients::UnitTable;
 use unit_packets::BlockView;
 
 /// The relay of each unit that a block named. Each holds at most so many messages that came too
 /// early.
 #[derive(Drop)]
 pub struct Relays {
-    limit: u32,
-    relays: Vec<Option<Relay>>,
+    relays: UnitTable<Relay>,
 }
 
 impl Model for Relays {
-    ghost use Rattle.std.specs.Prelude.{◌≡◌, ◌≤◌, length};
-    ghost use Rattle.std.specs.Coded.{codes};
-    ghost use Rattle.pitch_fields.specs.Limits.{most_held};
     ghost use Rattle.relay_unit.specs.contracts.relay.Relay as relay;
     ghost use Rattle.relay_unit.specs.Relays.{Relays};
+    ghost use Rattle.unit_clients.specs.Tables.{table_code};
 
     ghost Value = { Relays };
 
-    ghost view = { λ r. record { limit = r.limit; relays = r.relays.items } };
+    ghost coded = { table_code relay.the_row.coded };
 
-    ghost coded = { Prim.hlevel (codes, relay.the_row.coded) };
-
-    ghost invariant = { λ r. (1 ≤ r.limit) × (r.limit ≤ most_held)
-        × (length r.relays.items ≡ 256) };
+    ghost view = { λ r. r.relays };
 }
 
 // Hands a block to the relay at its unit's place, which is made where there is none.
@@ -61,10 +56,10 @@ fn hear_at(
     ensures out { OnErr result (out.new.items ≡ out.old.items) }
 {
     match slot {
-        Some(relay) => relay.hear_onto(block, out),
+        Some(relay) => relay.hear(block, out),
         None => {
             let mut relay = Relay::make(alloc, block.header().unit, limit)?;
-            let change = relay.hear_onto(block, out)?;
+            let change = relay.hear(block, out)?;
             *slot = Some(relay);
             Ok(change)
         }
@@ -80,8 +75,8 @@ impl Relays {
         // No unit's relay has sent a message.
         ensures any { IfOk result (λ relays. HaveSent relays (λ unit. [])) }
     {
-        let relays = empty_places(alloc)?;
-        Ok(Relays { limit, relays })
+        let relays = UnitTable::make(alloc, limit)?;
+        Ok(Relays { relays })
     }
 
     /// Hands a block to the relay of its unit, which appends the datagrams that the block adds.
@@ -113,8 +108,8 @@ impl Relays {
         ensures grown { OnOk result (Appends (JoinsMore out.old.items out.new.items)) }
         ensures out { OnErr result (out.new.items ≡ out.old.items) }
     {
-        let unit = block.header().unit as usize;
-        let change = hear_at(alloc, self.limit, &mut self.relays[unit], block, out)?;
+        let limit = self.relays.limit();
+        let change = hear_at(alloc, limit, self.relays.place_of(block), block, out)?;
         Ok(change)
     }
 }

@@ -1,4 +1,4 @@
-use relay_unit::Relay;
+use relay_unit::{Outlet, Relay};
 use std::process::Abort;
 use std::test::Fail;
 use unit_packets::{DatagramList, view_block};
@@ -23,15 +23,9 @@ const IMAGE: &[u8] =
     b"\x28\0\x02\x01\x01\0\0\0\x06\x97\0\0\0\0\x1a\x22\0\0\0\0\x05\0\0\0\0\0\0\0B\x64\0IBM   \xe8\x03\x01";
 
 // Hears a block, in ample memory.
-fn hear(rt: &impl Abort, relay: &mut Relay, bytes: &[u8], out: &mut DatagramList) {
+fn hear(rt: &impl Abort, relay: &mut Relay, bytes: &[u8], out: &mut impl Outlet) {
     let block = view_block(bytes).expect(rt, "a block");
     assert!(rt; relay.hear(&block, out).is_ok());
-}
-
-// The same, with the datagrams one behind another.
-fn hear_onto(rt: &impl Abort, relay: &mut Relay, bytes: &[u8], out: &mut Vec<u8>) {
-    let block = view_block(bytes).expect(rt, "a block");
-    assert!(rt; relay.hear_onto(&block, out).is_ok());
 }
 
 #[test]
@@ -52,7 +46,7 @@ fn datagrams_are_laid_one_behind_another(rt: HostRuntime) -> Result<(), Fail> {
     let mut relay = Relay::make(rt.alloc(), 1, 16)?;
     let mut out = Vec::new(rt.alloc());
     for bytes in [HEARTBEAT, AVAILABLE, REPLY, ORDER, FINISHED, DELETION] {
-        hear_onto(&rt, &mut relay, bytes, &mut out);
+        hear(&rt, &mut relay, bytes, &mut out);
     }
     assert!(rt; out.len() == IMAGE.len() + DELETION.len());
     assert!(rt; out.starts_with(IMAGE) && out.ends_with(DELETION));

@@ -82,7 +82,7 @@ books_more H clients before n slot a t b u c v so_far at more = record {
   text = so_far.text ++ more.text;
   printed = prints_more a b c t u v so_far.text more.text so_far.printed more.printed;
   such = λ Vs keep. ap (λ (l : List ℕ). l ++ more.text) (so_far.such Vs keep)
-      ∙ ap (λ (l : List ℕ). flat_map (unit_text H Vs before) (named_below (is_named before) n) ++ l) (more.such Vs (keep n slot at))
+      ∙ ap (λ (l : List ℕ). flat_map (unit_text H Vs before) (named_below (is_named before) n) ++ l) (more.such Vs (keep.each n slot at))
       ∙ sym (one_more H Vs before n);
 }
 
@@ -95,7 +95,7 @@ books_fail H clients before n slot a t b u c lt low so_far at fails = record {
       let split = below_split (is_named before) (n + 1) 256 (omega arith) in
       let here : so_far.text ++ fails.text ≡ flat_map (unit_text H Vs before) (named_below (is_named before) (n + 1)) =
       ap (λ (l : List ℕ). l ++ fails.text) (so_far.such Vs keep)
-      ∙ ap (λ (l : List ℕ). flat_map (unit_text H Vs before) (named_below (is_named before) n) ++ l) (fails.such Vs (keep n slot at))
+      ∙ ap (λ (l : List ℕ). flat_map (unit_text H Vs before) (named_below (is_named before) n) ++ l) (fails.such Vs (keep.each n slot at))
       ∙ sym (one_more H Vs before n) in (
         flat_map (unit_text H Vs before) split.0,
         ap (flat_map (unit_text H Vs before)) (units_below 256 before low ∙ split.1)
@@ -111,7 +111,7 @@ books_are H Vs before low = ap (flat_map (unit_text H Vs before)) (sym (units_be
 -- ---- The end of a stream that was followed
 -- for a venue that the blocks speak of, the books are those of its messages
 pub end_of_books : (units : Units) (before : List Block) (w : Option (List ℕ)) (t : List ℕ) (v : Option (List ℕ)) (u : List ℕ) → HaveHeard units before
-    → PrintsSuch (AreBooksBelow units.limit units.clients before 256) w t v u → PrintsSuch (IsEnd (Follow units.limit) before) w t v u
+    → PrintsSuch (AreBooksBelow units.limit units.places before 256) w t v u → PrintsSuch (IsEnd (Follow units.limit) before) w t v u
 end_of_books units before w t v u heard p = record {
   text = p.text;
   printed = p.printed;
@@ -119,5 +119,5 @@ end_of_books units before w t v u heard p = record {
 }
 
 pub prefix_of_books : (units : Units) (before : List Block) (w : Option (List ℕ)) (t : List ℕ) (v : Option (List ℕ)) → HaveHeard units before
-    → PutsSuch (AreFirstBooks units.limit units.clients before) w t v → PutsSuch (IsPrefixOfEnd (Follow units.limit) before) w t v
+    → PutsSuch (AreFirstBooks units.limit units.places before) w t v → PutsSuch (IsPrefixOfEnd (Follow units.limit) before) w t v
 prefix_of_books units before w t v heard p = record { text = p.text; puts = p.puts; such = λ Image Vs honest. p.such Vs (heard.keep Image Vs honest) }

@@ -1,17 +1,16 @@
 -- What the clients of all units stand for, once some blocks were heard. Blocks stand newest first.
-use Rattle.std.specs.Prelude.{◌≡◌, ℕ, ◌<◌, Bool, true, false, ◌==◌, List, length, Option, Some}
-use Rattle.std.specs.Prelude.{None, slice_get}
+use Rattle.std.specs.Prelude.{◌≡◌, ℕ, ◌<◌, Bool, true, false, ◌==◌, List, Option, Some, None}
 use Rattle.std.specs.List.{list_any}
 use Rattle.unit_packets.specs.Blocks.{Block}
 use Rattle.pitch_model.specs.History.{Raw, Entry}
 use Rattle.pitch_model.specs.Units.{unit_history, AllHonest}
 use Rattle.client_core.specs.Tracks.{Tracks, Keeps, IsAsBefore}
 use Rattle.client_core.specs.declared.client.UnitClient.{UnitClient}
+use Rattle.unit_clients.specs.Tables.{UnitTable, AtEach}
 
--- how many messages each client holds at most, and the place of each unit at its number
-pub record Units : Type 0 where
-  pub limit : ℕ
-  pub clients : List (Option UnitClient)
+-- the clients of all units
+abbrev pub Units : Type 0
+Units = UnitTable UnitClient
 
 -- a block names the unit
 abbrev pub is_named : List Block → ℕ → Bool
@@ -39,11 +38,9 @@ IsSlotAsBefore None slot = slot ≡ None
 IsSlotAsBefore (Some client) None = ⊥
 IsSlotAsBefore (Some client) (Some client') = IsAsBefore client client'
 
--- each of the 256 units has its place
-pub record Clients (H : ℕ) (clients : List (Option UnitClient)) (before : List Block) : Type 0 where
-  pub many : length clients ≡ 256
-  pub each : (unit : ℕ) (client : Option UnitClient)
-      → slice_get clients unit ≡ Some client → IsClient H before unit client
+-- each of the 256 units has its place, and its client there
+abbrev pub Clients : ℕ → List (Option UnitClient) → List Block → Type 0
+Clients H clients before = AtEach (IsClient H before) clients
 
 -- a unit's client, where it has one, keeps to its venue's messages
 abbrev pub KeepsTo : List Raw → Option UnitClient → Type 0
@@ -51,13 +48,12 @@ KeepsTo V None = Unit {0}
 KeepsTo V (Some client) = Keeps client V
 
 abbrev pub AllKeep : (ℕ → List Raw) → List (Option UnitClient) → Type 0
-AllKeep Vs clients = (unit : ℕ) (client : Option UnitClient)
-    → slice_get clients unit ≡ Some client → KeepsTo (Vs unit) client
+AllKeep Vs clients = AtEach (λ unit client. KeepsTo (Vs unit) client) clients
 
 -- each unit's client heard its blocks, and keeps to its venue's messages wherever the blocks speak
 -- of no others
 pub record HaveHeard (units : Units) (before : List Block) : Type 0 where
-  pub clients : Clients units.limit units.clients before
+  pub clients : Clients units.limit units.places before
   pub named : AreUnits before
   pub keep : (Image : List Raw → ℕ → List Raw) (Vs : ℕ → List Raw)
-      → AllHonest Image Vs before → AllKeep Vs units.clients
+      → AllHonest Image Vs before → AllKeep Vs units.places

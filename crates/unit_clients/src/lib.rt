@@ -3,11 +3,12 @@
 //!
 //! A unit has a client exactly where a block names it, and that client stands for the unit's blocks
 //! alone. Make `Units`, hand over each block of the stream in turn by `hear_block`, and find in
-//! `clients` the client of each unit at its number.
+//! `clients` the client of each unit at its number. They stand in a `UnitTable`, and so does what
+//! other crates keep for each unit.
 #![tactic(auto)]
 
-mod places;
+mod table;
 mod units;
 
-pub use crate::places::{UNITS, empty_places};
+pub use crate::table::UnitTable;
 pub use crate::units::Units;

@@ -9,7 +9,7 @@ ghost use Rattle.client_core.specs.Tracks.{Tracks, Keeps, IsAsBefore};
 ghost use Rattle.unit_clients.specs.Clients.{IsClient, TracksAt, IsSlotAsBefore, KeepsTo};
 ghost use Rattle.unit_clients.specs.Clients.{HaveHeard};
 
-use crate::places::empty_places;
+use crate::table::UnitTable;
 use client_core::{Change, UnitClient};
 use pitch_fields::OutOfMemory;
 use std::alloc::Global;
@@ -20,25 +20,19 @@ use unit_packets::BlockView;
 /// early.
 #[derive(Drop)]
 pub struct Units {
-    limit: u32,
-    clients: Vec<Option<UnitClient>>,
+    clients: UnitTable<UnitClient>,
 }
 
 impl Model for Units {
-    ghost use Rattle.std.specs.Prelude.{◌≡◌, ◌≤◌, length};
-    ghost use Rattle.std.specs.Coded.{codes};
-    ghost use Rattle.pitch_fields.specs.Limits.{most_held};
     ghost use Rattle.client_core.specs.contracts.client.UnitClient as client;
     ghost use Rattle.unit_clients.specs.Clients.{Units};
+    ghost use Rattle.unit_clients.specs.Tables.{table_code};
 
     ghost Value = { Units };
 
-    ghost view = { λ u. record { limit = u.limit; clients = u.clients.items } };
+    ghost coded = { table_code client.the_row.coded };
 
-    ghost coded = { Prim.hlevel (codes, client.the_row.coded) };
-
-    ghost invariant = { λ u. (1 ≤ u.limit)
-        × (u.limit ≤ most_held) × (length u.clients.items ≡ 256) };
+    ghost view = { λ u. u.clients };
 }
 
 // Hands a block to a client.
@@ -96,8 +90,8 @@ impl Units {
         ensures limit { IfOk result (λ units. units.limit ≡ limit) }
         ensures heard { IfOk result (λ units. HaveHeard units []) }
     {
-        let clients = empty_places(alloc)?;
-        Ok(Units { limit, clients })
+        let clients = UnitTable::make(alloc, limit)?;
+        Ok(Units { clients })
     }
 
     /// Hands a block to the client of its unit, and answers what it changed there.
@@ -121,16 +115,16 @@ impl Units {
         ensures err { OnErr result
             ((before : List Block) → HaveHeard self.old before → HaveHeard self.new before) }
     {
-        let unit = block.header().unit as usize;
-        let change = hear_at(alloc, self.limit, &mut self.clients[unit], block)?;
+        let limit = self.clients.limit();
+        let change = hear_at(alloc, limit, self.clients.place_of(block), block)?;
         Ok(change)
     }
 
     /// The place of each unit, at its number. It is empty where no block named the unit.
     pub fn clients(&self) -> &[Option<UnitClient>]
-        ensures clients { result.now ≡ self.now.clients }
+        ensures clients { result.now ≡ self.now.places }
         ensures many { length result.now ≡ 256 }
     {
-        &self.clients
+        self.clients.places()
     }
 }

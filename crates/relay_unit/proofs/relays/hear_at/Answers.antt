@@ -23,13 +23,13 @@ returns-in_ok-change-in-None-clause-stands c = λ before stands.
     let fresh = c.in_ok-relay-in-None.ensures in
     let heard = c.in_ok-change-in-None.ensures in
     let there = new_relay c.args.limit block.unit c.in_ok-relay-in-None.relay c.args.slot.now before c.in-None.is fresh.stands stands in (
-      (c.hear_onto-in-None.ensures.unit ∙ fresh.unit ∙ ap (λ (h : Header). h.unit) c.header.ensures, heard.stands c.args.limit (relay_history c.args.limit block.unit before) there),
+      (c.hear-in-None.ensures.unit ∙ fresh.unit ∙ ap (λ (h : Header). h.unit) c.header.ensures, heard.stands c.args.limit (relay_history c.args.limit block.unit before) there),
       heard.heard (messages_heard block.unit before) (fresh.heard (messages_heard block.unit before)),
     )
 
 pub returns-in_ok-change-in-None-clause-any : goal.returns-in_ok-change-in-None-clause-any
 returns-in_ok-change-in-None-clause-any c =
     let fresh = c.in_ok-relay-in-None.ensures in
-    new_sends c.args.block.now c.in_ok-relay-in-None.relay c.hear_onto-in-None.new.self c.args.slot.now c.args.out.now.items c.hear_onto-in-None.new.out.items
-    c.in-None.is fresh.any fresh.empty (fresh.unit ∙ ap (λ (h : Header). h.unit) c.header.ensures) c.hear_onto-in-None.ensures.unit
+    new_sends c.args.block.now c.in_ok-relay-in-None.relay c.hear-in-None.new.self c.args.slot.now c.args.out.now.items c.hear-in-None.new.out.items
+    c.in-None.is fresh.any fresh.empty (fresh.unit ∙ ap (λ (h : Header). h.unit) c.header.ensures) c.hear-in-None.ensures.unit
     c.in_ok-change-in-None.ensures.any

@@ -1,5 +1,5 @@
 use Rattle.std.proofs.Common.{◌≡◌, ℕ, Option, None, Some, slice_get, vec_len}
-use Rattle.unit_clients.proofs.places.empty_places.Given as goal
+use Rattle.unit_clients.proofs.table.empty_places.Given as goal
 
 abbrev pub invariant-loop : goal.invariant-loop
 invariant-loop g l = record {
