@@ -97,9 +97,7 @@ pub nothing_done : (s : Setting) (calls : Option (List Call)) (faults : ℕ) (te
 nothing_done s calls faults text = record {
   ran = tt;
   broke = none_called s calls;
-  fault = λ e. absurd (apart e);
-  later = omega arith;
-  still = tt;
+  counts = record { fault = λ e. absurd (apart e); later = omega arith; still = tt };
   err = refl;
 }
   where

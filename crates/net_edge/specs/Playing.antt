@@ -48,6 +48,12 @@ use Rattle.net_edge.specs.declared.proxy.Proxy.{Proxy}
 abbrev pub RoseAtFault : ℕ → ℕ → DemoError → Type 0
 RoseAtFault before after error = error ≡ errors.NetFault → Rose before after
 
+-- and the count never falls, and stays where all went well
+pub record NetCounts {T : Type 0} (result : Result T DemoError) (before after : ℕ) : Type 0 where
+  pub fault : IfErr result (RoseAtFault before after)
+  pub later : before ≤ after
+  pub still : OnOk result (after ≡ before)
+
 -- the net's calls, where it lists them: those of the run, and those before it
 abbrev pub ListsCalls : List Call → Option (List Call) → List Step → Type 0
 ListsCalls base None run = Unit {0}
@@ -382,7 +388,5 @@ pub record DoesDemo (s : Setting) (result : Result (Unit {0}) DemoError)
     Type 0 where
   pub ran : OnOk result (IsDemo s calls calls' text text')
   pub broke : IfErr result (BreaksDemo s calls calls')
-  pub fault : IfErr result (RoseAtFault faults faults')
-  pub later : faults ≤ faults'
-  pub still : OnOk result (faults' ≡ faults)
+  pub counts : NetCounts result faults faults'
   pub err : OnErr result (text' ≡ text)

@@ -7,7 +7,7 @@ ghost use Rattle.net_edge.specs.Acting.{all_tick};
 ghost use Rattle.net_edge.specs.Breaking.{Breaks};
 ghost use Rattle.net_edge.specs.Due.{Setting, setting, call_room, accepted, is_tenth};
 ghost use Rattle.net_edge.specs.Markets.{MarketAt, HasAccepted};
-ghost use Rattle.net_edge.specs.Playing.{RoseAtFault, Plays, BreaksRun, EndsHave};
+ghost use Rattle.net_edge.specs.Playing.{NetCounts, Plays, BreaksRun, EndsHave};
 ghost use Rattle.net_edge.specs.Playing.{IsUncalled, IsSentTo, DemoAt, VenueDone};
 ghost use Rattle.net_edge.specs.Playing.{ServersDone, LinesDone, after_beat, after_due_beat};
 ghost use Rattle.net_edge.specs.Scene.{Scene, all_put};
@@ -54,9 +54,7 @@ impl Ends {
             → Plays s base (N.calls net.old) (all_tick s now)
             → DemoAt s base (N.calls net.new) self.new (all_put (all_tick s now))) }
         ensures broke { IfErr result (BreaksRun (N.calls net.old) (N.calls net.new)) }
-        ensures fault { IfErr result (RoseAtFault (N.faults net.old) (N.faults net.new)) }
-        ensures later { N.faults net.old ≤ N.faults net.new }
-        ensures still { OnOk result (N.faults net.new ≡ N.faults net.old) }
+        ensures faults { NetCounts result (N.faults net.old) (N.faults net.new) }
     {
         tell_spin(self.alloc, net, &mut self.spin, sequence, self.spin_cut)?;
         tick_proxy(self.alloc, net, &mut self.proxy, self.grp_cut)?;
@@ -94,9 +92,7 @@ impl Ends {
         ensures broke { IfErr result (λ error. (s : Setting) (base : List Call) (now : Scene)
             → Plays s base (N.calls net.old) now → HasAccepted M.has s market.old now.turn
             → Breaks s base (N.calls net.new) error) }
-        ensures fault { IfErr result (RoseAtFault (N.faults net.old) (N.faults net.new)) }
-        ensures later { N.faults net.old ≤ N.faults net.new }
-        ensures still { OnOk result (N.faults net.new ≡ N.faults net.old) }
+        ensures faults { NetCounts result (N.faults net.old) (N.faults net.new) }
     {
         packed_messages_are_pieces();
         let sequence = market.advertise()?;
@@ -127,9 +123,7 @@ impl Ends {
         ensures broke { IfErr result (λ error. (s : Setting) (base : List Call) (now : Scene)
             → now.turn ≡ turn → Plays s base (N.calls net.old) now
             → HasAccepted M.has s market.old turn → Breaks s base (N.calls net.new) error) }
-        ensures fault { IfErr result (RoseAtFault (N.faults net.old) (N.faults net.new)) }
-        ensures later { N.faults net.old ≤ N.faults net.new }
-        ensures still { OnOk result (N.faults net.new ≡ N.faults net.old) }
+        ensures faults { NetCounts result (N.faults net.old) (N.faults net.new) }
     {
         if turn % 10 != 0 {
             return Ok(());
@@ -162,9 +156,7 @@ impl Ends {
             → Plays (setting number count) base (N.calls net.old) now
             → MarketAt M.has (setting number count) market.old (turn - 1)
             → Breaks (setting number count) base (N.calls net.new) error) }
-        ensures fault { IfErr result (RoseAtFault (N.faults net.old) (N.faults net.new)) }
-        ensures later { N.faults net.old ≤ N.faults net.new }
-        ensures still { OnOk result (N.faults net.new ≡ N.faults net.old) }
+        ensures faults { NetCounts result (N.faults net.old) (N.faults net.new) }
     {
         let datagrams = accept_next(self.alloc, market, number, count, turn)?;
         let lost_on_a = lost(number, 1, turn, 1);
@@ -193,9 +185,7 @@ impl Ends {
         ensures market { OnOk result ((s : Setting) (turn : ℕ)
             → MarketAt M.has s market.old turn → MarketAt M.has s market.new turn) }
         ensures room { length into.new ≡ length into.old }
-        ensures fault { IfErr result (RoseAtFault (N.faults net.old) (N.faults net.new)) }
-        ensures later { N.faults net.old ≤ N.faults net.new }
-        ensures still { OnOk result (N.faults net.new ≡ N.faults net.old) }
+        ensures faults { NetCounts result (N.faults net.old) (N.faults net.new) }
     {
         self.grp_ended = serve_end(
             self.alloc,
@@ -228,9 +218,7 @@ impl Ends {
             (now : Scene) → ServersDone s base (N.calls net.old) turn self.old now
             → Breaks s base (N.calls net.new) error) }
         ensures room { length into.new ≡ length into.old }
-        ensures fault { IfErr result (RoseAtFault (N.faults net.old) (N.faults net.new)) }
-        ensures later { N.faults net.old ≤ N.faults net.new }
-        ensures still { OnOk result (N.faults net.new ≡ N.faults net.old) }
+        ensures faults { NetCounts result (N.faults net.old) (N.faults net.new) }
     {
         hear_line(net, Line::A, &mut self.client, into)?;
         hear_line(net, Line::B, &mut self.client, into)?;
@@ -249,9 +237,7 @@ impl Ends {
             (now : Scene) → LinesDone s base (N.calls net.old) turn self.old now
             → Breaks s base (N.calls net.new) error) }
         ensures room { length into.new ≡ length into.old }
-        ensures fault { IfErr result (RoseAtFault (N.faults net.old) (N.faults net.new)) }
-        ensures later { N.faults net.old ≤ N.faults net.new }
-        ensures still { OnOk result (N.faults net.new ≡ N.faults net.old) }
+        ensures faults { NetCounts result (N.faults net.old) (N.faults net.new) }
     {
         self.grp_cut = hear_link(
             self.alloc,
@@ -299,9 +285,7 @@ impl Ends {
             → MarketAt M.has (setting number count) market.old (turn - 1)
             → IsSentTo (setting number count) (turn - 1) now → IsUncalled now
             → Breaks (setting number count) base (N.calls net.new) error) }
-        ensures fault { IfErr result (RoseAtFault (N.faults net.old) (N.faults net.new)) }
-        ensures later { N.faults net.old ≤ N.faults net.new }
-        ensures still { OnOk result (N.faults net.new ≡ N.faults net.old) }
+        ensures faults { NetCounts result (N.faults net.old) (N.faults net.new) }
     {
         self.publish(net, market, number, count, turn)?;
         self.serve(net, market, into)?;

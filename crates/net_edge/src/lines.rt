@@ -10,7 +10,7 @@ ghost use Rattle.pitch_model.specs.History.{Entry};
 ghost use Rattle.net_edge.specs.Acting.{ours, is_group_open};
 ghost use Rattle.net_edge.specs.Breaking.{Breaks};
 ghost use Rattle.net_edge.specs.Due.{Setting, call_room};
-ghost use Rattle.net_edge.specs.Playing.{RoseAtFault, ClientHas, HearsOn, IsGroupOver};
+ghost use Rattle.net_edge.specs.Playing.{NetCounts, ClientHas, HearsOn, IsGroupOver};
 ghost use Rattle.net_edge.specs.Scene.{Scene};
 
 use crate::error::DemoError;
@@ -71,9 +71,7 @@ fn hear_one<N: Net>(
         (answers : List TakenSaid) (now : Scene)
         → HearsOn s base (N.calls net.old) client.old line answers now
         → is_group_open answers ≡ true → Breaks s base (N.calls net.new) error) }
-    ensures fault { IfErr result (RoseAtFault (N.faults net.old) (N.faults net.new)) }
-    ensures later { N.faults net.old ≤ N.faults net.new }
-    ensures still { OnOk result (N.faults net.new ≡ N.faults net.old) }
+    ensures faults { NetCounts result (N.faults net.old) (N.faults net.new) }
 {
     let answer = net.next(line, into);
     match answer {
@@ -102,9 +100,7 @@ pub(crate) fn hear_line<N: Net>(
     ensures broke { IfErr result (λ error. (s : Setting) (base : List Call) (now : Scene)
         → HearsOn s base (N.calls net.old) client.old line [] now
         → Breaks s base (N.calls net.new) error) }
-    ensures fault { IfErr result (RoseAtFault (N.faults net.old) (N.faults net.new)) }
-    ensures later { N.faults net.old ≤ N.faults net.new }
-    ensures still { OnOk result (N.faults net.new ≡ N.faults net.old) }
+    ensures faults { NetCounts result (N.faults net.old) (N.faults net.new) }
 {
     'calls: for _index in 0..MOST_CALLS {
         match hear_one(net, line, client, into)? {

@@ -12,7 +12,7 @@ ghost use Rattle.world_model.specs.Verbs.{at_link};
 ghost use Rattle.net_edge.specs.Acting.{is_group_open, where_stands};
 ghost use Rattle.net_edge.specs.Breaking.{Breaks};
 ghost use Rattle.net_edge.specs.Due.{Setting, call_room};
-ghost use Rattle.net_edge.specs.Playing.{RoseAtFault, Plays, KeepsRun, BreaksRun, ClientHas};
+ghost use Rattle.net_edge.specs.Playing.{NetCounts, Plays, KeepsRun, BreaksRun, ClientHas};
 ghost use Rattle.net_edge.specs.Playing.{LinkHas, LinkTells, LinkSays, LinkActs, LinkTicks, closes};
 ghost use Rattle.net_edge.specs.Playing.{told_down, HearsLink, AreTaken};
 ghost use Rattle.net_edge.specs.Scene.{Scene};
@@ -89,9 +89,7 @@ fn hear_link_once<N: Net, L: ClientEnd>(
         (answers : List TakenSaid) (now : Scene)
         → HearsLink L.peer s base (N.calls net.old) (L.ending link.old) client.old answers false now
         → is_group_open answers ≡ true → Breaks s base (N.calls net.new) error) }
-    ensures fault { IfErr result (RoseAtFault (N.faults net.old) (N.faults net.new)) }
-    ensures later { N.faults net.old ≤ N.faults net.new }
-    ensures still { OnOk result (N.faults net.new ≡ N.faults net.old) }
+    ensures faults { NetCounts result (N.faults net.old) (N.faults net.new) }
 {
     let end = L::net_end();
     let answer = net.take(end, into);
@@ -130,9 +128,7 @@ pub(crate) fn hear_link<N: Net, L: ClientEnd>(
     ensures broke { IfErr result (λ error. (s : Setting) (base : List Call) (now : Scene)
         → HearsLink L.peer s base (N.calls net.old) (L.ending link.old) client.old [] cut now
         → Breaks s base (N.calls net.new) error) }
-    ensures fault { IfErr result (RoseAtFault (N.faults net.old) (N.faults net.new)) }
-    ensures later { N.faults net.old ≤ N.faults net.new }
-    ensures still { OnOk result (N.faults net.new ≡ N.faults net.old) }
+    ensures faults { NetCounts result (N.faults net.old) (N.faults net.new) }
 {
     if cut {
         return Ok(true);
@@ -182,9 +178,7 @@ pub(crate) fn tick_link<N: Net, L: ClientEnd>(
         (where_stands cut (λ k. at_link (peer_setup L.peer) Ticked k) c) E cut after now) }
     ensures runs { OnOk result (KeepsRun (N.calls net.old) (N.calls net.new)) }
     ensures broke { IfErr result (BreaksRun (N.calls net.old) (N.calls net.new)) }
-    ensures fault { IfErr result (RoseAtFault (N.faults net.old) (N.faults net.new)) }
-    ensures later { N.faults net.old ≤ N.faults net.new }
-    ensures still { OnOk result (N.faults net.new ≡ N.faults net.old) }
+    ensures faults { NetCounts result (N.faults net.old) (N.faults net.new) }
 {
     let mut said = Vec::new(alloc);
     say_ticked(link, cut, &mut said)?;
@@ -228,9 +222,7 @@ pub(crate) fn ask_link<N: Net, L: ClientEnd>(
         (where_stands cut (asked_of L.peer ask) c) now) }
     ensures runs { OnOk result (KeepsRun (N.calls net.old) (N.calls net.new)) }
     ensures broke { IfErr result (BreaksRun (N.calls net.old) (N.calls net.new)) }
-    ensures fault { IfErr result (RoseAtFault (N.faults net.old) (N.faults net.new)) }
-    ensures later { N.faults net.old ≤ N.faults net.new }
-    ensures still { OnOk result (N.faults net.new ≡ N.faults net.old) }
+    ensures faults { NetCounts result (N.faults net.old) (N.faults net.new) }
 {
     let mut said = Vec::new(alloc);
     say_asked(link, ask, cut, &mut said)?;

@@ -16,7 +16,7 @@ ghost use Rattle.net_edge.specs.Acting.{taken_at, where_stands, is_group_open};
 ghost use Rattle.net_edge.specs.Breaking.{Breaks};
 ghost use Rattle.net_edge.specs.Due.{Setting, demo_unit};
 ghost use Rattle.net_edge.specs.Markets.{StillHas, MarketAt};
-ghost use Rattle.net_edge.specs.Playing.{RoseAtFault, Plays, KeepsRun, BreaksRun};
+ghost use Rattle.net_edge.specs.Playing.{NetCounts, Plays, KeepsRun, BreaksRun};
 ghost use Rattle.net_edge.specs.Playing.{ProxyHas, ProxyFed, ProxyAnswers, ProxyServes, ProxySays};
 ghost use Rattle.net_edge.specs.Playing.{ProxyActs, AreTaken};
 ghost use Rattle.net_edge.specs.Scene.{Scene, got_end};
@@ -106,9 +106,7 @@ pub(crate) fn tick_proxy<N: Net>(
         (where_stands cut (λ k. at_grp_server demo_unit Ticked k) c) (next_second spent) now) }
     ensures runs { OnOk result (KeepsRun (N.calls net.old) (N.calls net.new)) }
     ensures broke { IfErr result (BreaksRun (N.calls net.old) (N.calls net.new)) }
-    ensures fault { IfErr result (RoseAtFault (N.faults net.old) (N.faults net.new)) }
-    ensures later { N.faults net.old ≤ N.faults net.new }
-    ensures still { OnOk result (N.faults net.new ≡ N.faults net.old) }
+    ensures faults { NetCounts result (N.faults net.old) (N.faults net.new) }
 {
     let mut said = Vec::new(alloc);
     proxy.tick(cut, &mut said)?;
@@ -136,9 +134,7 @@ fn serve_piece<N: Net, M: Market>(
         → MarketAt M.has s market.old now.turn
         → Plays s base (N.calls net.old) (taken_at s ServerEnd piece.now (Got count) now)
         → Breaks s base (N.calls net.new) error) }
-    ensures fault { IfErr result (RoseAtFault (N.faults net.old) (N.faults net.new)) }
-    ensures later { N.faults net.old ≤ N.faults net.new }
-    ensures still { OnOk result (N.faults net.new ≡ N.faults net.old) }
+    ensures faults { NetCounts result (N.faults net.old) (N.faults net.new) }
 {
     let mut said = Vec::new(alloc);
     let mut lines = DatagramList::make(alloc);

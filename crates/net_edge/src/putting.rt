@@ -6,7 +6,7 @@ ghost use Rattle.unit_packets.specs.Packing.{bytes_in};
 ghost use Rattle.net_edge.specs.Acting.{sent_on, end_puts};
 ghost use Rattle.net_edge.specs.Breaking.{Breaks};
 ghost use Rattle.net_edge.specs.Due.{Setting, IsDuePiece, AreDuePieces};
-ghost use Rattle.net_edge.specs.Playing.{RoseAtFault, Plays, KeepsRun, BreaksRun};
+ghost use Rattle.net_edge.specs.Playing.{NetCounts, Plays, KeepsRun, BreaksRun};
 ghost use Rattle.net_edge.specs.Scene.{Scene};
 
 use crate::error::DemoError;
@@ -21,9 +21,7 @@ pub(crate) fn send<N: Net>(net: &mut N, line: Line, datagram: &[u8]) -> Result<(
     ensures broke { IfErr result (λ error. (s : Setting) (base : List Call) (now : Scene)
         → Plays s base (N.calls net.old) now → IsDuePiece s now.turn datagram.now
         → Breaks s base (N.calls net.new) error) }
-    ensures fault { IfErr result (RoseAtFault (N.faults net.old) (N.faults net.new)) }
-    ensures later { N.faults net.old ≤ N.faults net.new }
-    ensures still { OnOk result (N.faults net.new ≡ N.faults net.old) }
+    ensures faults { NetCounts result (N.faults net.old) (N.faults net.new) }
 {
     match net.send(line, datagram) {
         NetDone::Done => Ok(()),
@@ -43,9 +41,7 @@ pub(crate) fn send_all<N: Net>(
     ensures broke { IfErr result (λ error. (s : Setting) (base : List Call) (now : Scene)
         → Plays s base (N.calls net.old) now → AreDuePieces s now.turn (bytes_in datagrams.now)
         → Breaks s base (N.calls net.new) error) }
-    ensures fault { IfErr result (RoseAtFault (N.faults net.old) (N.faults net.new)) }
-    ensures later { N.faults net.old ≤ N.faults net.new }
-    ensures still { OnOk result (N.faults net.new ≡ N.faults net.old) }
+    ensures faults { NetCounts result (N.faults net.old) (N.faults net.new) }
 {
     'sends: for datagram in datagrams {
         send(net, line, datagram.bytes())?;
@@ -67,9 +63,7 @@ pub(crate) fn send_unless<N: Net>(
     ensures broke { IfErr result (λ error. (s : Setting) (base : List Call) (now : Scene)
         → Plays s base (N.calls net.old) now → AreDuePieces s now.turn (bytes_in datagrams.now)
         → Breaks s base (N.calls net.new) error) }
-    ensures fault { IfErr result (RoseAtFault (N.faults net.old) (N.faults net.new)) }
-    ensures later { N.faults net.old ≤ N.faults net.new }
-    ensures still { OnOk result (N.faults net.new ≡ N.faults net.old) }
+    ensures faults { NetCounts result (N.faults net.old) (N.faults net.new) }
 {
     if lost {
         return Ok(());
@@ -85,9 +79,7 @@ pub(crate) fn put_whole<N: Net>(net: &mut N, at: LinkEnd, bytes: &[u8]) -> Resul
         → Plays s base (N.calls net.new) (end_puts at bytes.now now)) }
     ensures runs { OnOk result (KeepsRun (N.calls net.old) (N.calls net.new)) }
     ensures broke { IfErr result (BreaksRun (N.calls net.old) (N.calls net.new)) }
-    ensures fault { IfErr result (RoseAtFault (N.faults net.old) (N.faults net.new)) }
-    ensures later { N.faults net.old ≤ N.faults net.new }
-    ensures still { OnOk result (N.faults net.new ≡ N.faults net.old) }
+    ensures faults { NetCounts result (N.faults net.old) (N.faults net.new) }
 {
     let mut done = 0;
     'puts: while done < bytes.len() {

@@ -20,7 +20,7 @@ ghost use Rattle.net_edge.specs.Demo.{IsDemo, IsLast, BreaksDemo, SendsPieces};
 ghost use Rattle.net_edge.specs.Due.{Setting, setting, demo_unit, call_room, hold_limit};
 ghost use Rattle.net_edge.specs.Due.{kept_messages};
 ghost use Rattle.net_edge.specs.Markets.{MarketAt};
-ghost use Rattle.net_edge.specs.Playing.{RoseAtFault, ClientHas, SpinHas, EndsHave, DemoAt};
+ghost use Rattle.net_edge.specs.Playing.{NetCounts, ClientHas, SpinHas, EndsHave, DemoAt};
 ghost use Rattle.net_edge.specs.Playing.{DoesDemo, Plays, calls_before};
 ghost use Rattle.net_edge.specs.Scene.{Scene, first_scene, all_put, said_at};
 ghost use Rattle.net_edge.specs.Turns.{IsOver};
@@ -109,9 +109,7 @@ fn begin<N: Net>(net: &mut N) -> Result<(), DemoError>
     ensures begun { OnOk result (ListsCall (N.calls net.old) (N.calls net.new) (Begin Done)) }
     ensures failed { IfErr result (λ error. (error ≡ errors.NetFault)
         × ListsCall (N.calls net.old) (N.calls net.new) (Begin Failed)) }
-    ensures fault { IfErr result (RoseAtFault (N.faults net.old) (N.faults net.new)) }
-    ensures later { N.faults net.old ≤ N.faults net.new }
-    ensures still { OnOk result (N.faults net.new ≡ N.faults net.old) }
+    ensures faults { NetCounts result (N.faults net.old) (N.faults net.new) }
 {
     match net.begin() {
         NetDone::Done => Ok(()),
@@ -126,9 +124,7 @@ fn set_up<N: Net>(net: &mut N, login: &[u8], spin_login: &[u8]) -> Result<(), De
         → Plays s (calls_before (N.calls net.old)) (N.calls net.new) (all_put first_scene)) }
     ensures broke { IfErr result (λ error. (s : Setting)
         → BreaksDemo s (N.calls net.old) (N.calls net.new) error) }
-    ensures fault { IfErr result (RoseAtFault (N.faults net.old) (N.faults net.new)) }
-    ensures later { N.faults net.old ≤ N.faults net.new }
-    ensures still { OnOk result (N.faults net.new ≡ N.faults net.old) }
+    ensures faults { NetCounts result (N.faults net.old) (N.faults net.new) }
 {
     begin(net)?;
     put_whole(net, LinkEnd::GrpClient, login)?;
@@ -173,9 +169,7 @@ fn run<N: Net, M: Market>(
         → DemoAt (setting number count) base (N.calls net.old) ends.old (all_put first_scene)
         → M.has market.old [] []
         → Breaks (setting number count) base (N.calls net.new) error) }
-    ensures fault { IfErr result (RoseAtFault (N.faults net.old) (N.faults net.new)) }
-    ensures later { N.faults net.old ≤ N.faults net.new }
-    ensures still { OnOk result (N.faults net.new ≡ N.faults net.old) }
+    ensures faults { NetCounts result (N.faults net.old) (N.faults net.new) }
 {
     let mut turn = 1;
     ends.turn(net, market, number, count, turn, into)?;
@@ -214,10 +208,10 @@ fn make_parts(alloc: Global) -> Result<Parts, OutOfMemory>
         (λ parts. parts.spin_login.items ≡ said_at SpinClient first_scene) }
     ensures room { IfOk result (λ parts. length parts.into.items ≡ call_room) }
 {
+    let into = room(alloc)?;
     let mut login = Vec::new(alloc);
     let mut spin_login = Vec::new(alloc);
     let ends = make_ends(alloc, &mut login, &mut spin_login)?;
-    let into = room(alloc)?;
     Ok(Parts {
         ends,
         login,
@@ -248,9 +242,7 @@ fn play<N: Net, M: Market>(
         → parts.old.spin_login.items ≡ said_at SpinClient first_scene
         → M.has market.old [] []
         → BreaksDemo (setting number count) (N.calls net.old) (N.calls net.new) error) }
-    ensures fault { IfErr result (RoseAtFault (N.faults net.old) (N.faults net.new)) }
-    ensures later { N.faults net.old ≤ N.faults net.new }
-    ensures still { OnOk result (N.faults net.new ≡ N.faults net.old) }
+    ensures faults { NetCounts result (N.faults net.old) (N.faults net.new) }
     ensures err { OnErr result (out.new.items ≡ out.old.items) }
 {
     set_up(net, &parts.login, &parts.spin_login)?;

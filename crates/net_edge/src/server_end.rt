@@ -9,7 +9,7 @@ ghost use Rattle.net_edge.specs.Acting.{is_group_open};
 ghost use Rattle.net_edge.specs.Breaking.{Breaks};
 ghost use Rattle.net_edge.specs.Due.{Setting, call_room};
 ghost use Rattle.net_edge.specs.Markets.{StillHas, MarketAt};
-ghost use Rattle.net_edge.specs.Playing.{RoseAtFault, AreTaken};
+ghost use Rattle.net_edge.specs.Playing.{NetCounts, AreTaken};
 ghost use Rattle.net_edge.specs.Scene.{Scene, is_got, got_end};
 
 use crate::error::DemoError;
@@ -51,9 +51,7 @@ pub(crate) trait ServerEnd {
             → serves self.old s base (N.calls net.old) answers false now → is_cut now ≡ false
             → MarketAt M.has s market.old now.turn → is_group_open answers ≡ true
             → Breaks s base (N.calls net.new) error) }
-        ensures fault { IfErr result (RoseAtFault (N.faults net.old) (N.faults net.new)) }
-        ensures later { N.faults net.old ≤ N.faults net.new }
-        ensures still { OnOk result (N.faults net.new ≡ N.faults net.old) };
+        ensures faults { NetCounts result (N.faults net.old) (N.faults net.new) };
 }
 
 /// A turn's calls of `take` at a server's end, where its connection stands and it did not get End
@@ -78,9 +76,7 @@ pub(crate) fn serve_end<N: Net, E: ServerEnd, M: Market>(
     ensures broke { IfErr result (λ error. (s : Setting) (base : List Call) (now : Scene)
         → E.serves server.old s base (N.calls net.old) [] ended now → E.is_cut now ≡ cut
         → MarketAt M.has s market.old now.turn → Breaks s base (N.calls net.new) error) }
-    ensures fault { IfErr result (RoseAtFault (N.faults net.old) (N.faults net.new)) }
-    ensures later { N.faults net.old ≤ N.faults net.new }
-    ensures still { OnOk result (N.faults net.new ≡ N.faults net.old) }
+    ensures faults { NetCounts result (N.faults net.old) (N.faults net.new) }
 {
     if cut || ended {
         return Ok(ended);

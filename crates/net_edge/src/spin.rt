@@ -13,7 +13,7 @@ ghost use Rattle.net_edge.specs.Acting.{where_stands, is_group_open, spin_server
 ghost use Rattle.net_edge.specs.Acting.{spin_answered};
 ghost use Rattle.net_edge.specs.Due.{Setting, demo_unit};
 ghost use Rattle.net_edge.specs.Markets.{StillHas, MarketAt};
-ghost use Rattle.net_edge.specs.Playing.{RoseAtFault, Plays, KeepsRun, BreaksRun, SpinHas};
+ghost use Rattle.net_edge.specs.Playing.{NetCounts, Plays, KeepsRun, BreaksRun, SpinHas};
 ghost use Rattle.net_edge.specs.Playing.{SpinSays, SpinActs, SpinServes, AreTaken};
 ghost use Rattle.net_edge.specs.Scene.{Scene, is_got, got_end};
 
@@ -165,9 +165,7 @@ pub(crate) fn tell_spin<N: Net>(
         (where_stands cut (λ k. at_spin_server demo_unit (Told sequence) k) c) now) }
     ensures runs { OnOk result (KeepsRun (N.calls net.old) (N.calls net.new)) }
     ensures broke { IfErr result (BreaksRun (N.calls net.old) (N.calls net.new)) }
-    ensures fault { IfErr result (RoseAtFault (N.faults net.old) (N.faults net.new)) }
-    ensures later { N.faults net.old ≤ N.faults net.new }
-    ensures still { OnOk result (N.faults net.new ≡ N.faults net.old) }
+    ensures faults { NetCounts result (N.faults net.old) (N.faults net.new) }
 {
     let mut said = Vec::new(alloc);
     say_told(spin, sequence, cut, &mut said)?;
@@ -188,9 +186,7 @@ pub(crate) fn tick_spin<N: Net>(
         (where_stands cut (λ k. at_spin_server demo_unit Ticked k) c) now) }
     ensures runs { OnOk result (KeepsRun (N.calls net.old) (N.calls net.new)) }
     ensures broke { IfErr result (BreaksRun (N.calls net.old) (N.calls net.new)) }
-    ensures fault { IfErr result (RoseAtFault (N.faults net.old) (N.faults net.new)) }
-    ensures later { N.faults net.old ≤ N.faults net.new }
-    ensures still { OnOk result (N.faults net.new ≡ N.faults net.old) }
+    ensures faults { NetCounts result (N.faults net.old) (N.faults net.new) }
 {
     let mut said = Vec::new(alloc);
     say_ticked(spin, cut, &mut said)?;

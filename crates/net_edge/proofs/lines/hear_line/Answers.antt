@@ -15,8 +15,8 @@ calls-init g c = record {
 pub calls-preserved : goal.calls-preserved
 calls-preserved g c = record {
   room = c.hear_one.ensures.room ∙ c.calls.invariant.room;
-  later = omega (arith, c.calls.invariant.later, c.hear_one.ensures.later);
-  still = c.in_ok-hear_one.ensures.still ∙ c.calls.invariant.still;
+  later = omega (arith, c.calls.invariant.later, c.hear_one.ensures.faults.later);
+  still = c.in_ok-hear_one.ensures.faults.still ∙ c.calls.invariant.still;
   heard = λ s base now h. call_more c.in_ok-hear_one.field-0 c.calls._index (omega arith) (c.calls.invariant.heard s base now h) (λ answers gots opened is. c.in_ok-hear_one.ensures.heard s base answers now is opened) (ap is_got c.in-Got.is);
 }
 
@@ -25,9 +25,11 @@ returns-in-Quiet g c = record {
   heard = λ s base now h. call_last c.in_ok-hear_one.field-0 c.calls._index (omega arith) (c.calls.invariant.heard s base now h) (λ answers gots opened is. c.in_ok-hear_one.ensures.heard s base answers now is opened) (nothing c.in_ok-hear_one.field-0 c.in-Quiet.is);
   room = c.hear_one.ensures.room ∙ c.calls.invariant.room;
   broke = tt;
-  fault = tt;
-  later = omega (arith, c.calls.invariant.later, c.hear_one.ensures.later);
-  still = c.in_ok-hear_one.ensures.still ∙ c.calls.invariant.still;
+  faults = record {
+    fault = tt;
+    later = omega (arith, c.calls.invariant.later, c.hear_one.ensures.faults.later);
+    still = c.in_ok-hear_one.ensures.faults.still ∙ c.calls.invariant.still;
+  };
 }
 
 pub returns-clause-heard : goal.returns-clause-heard

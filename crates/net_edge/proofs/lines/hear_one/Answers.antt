@@ -14,12 +14,6 @@ returns-in-Quiet-clause-heard g c = λ s base answers now h opened.
     let bytes : List ℕ = came c.next-answer.result c.next-answer.new.into in
     hears_on s base _ _ c.args.client.now c.args.client.now c.args.line (length c.args.into.now) bytes c.next-answer.result answers now h c.next-answer.ensures.calls c.requires (not_failed c.next-answer.result c.in-Quiet.is) opened (heard_nothing_of c.args.client.now c.next-answer.result bytes h.heard c.in-Quiet.is h.has)
 
-pub returns-in_ok-hear_datagram-in-Got-clause-still : goal.returns-in_ok-hear_datagram-in-Got-clause-still
-returns-in_ok-hear_datagram-in-Got-clause-still g c = c.in-Got.ensures.still (λ f. f)
-
-pub returns-in-Quiet-clause-still : goal.returns-in-Quiet-clause-still
-returns-in-Quiet-clause-still g c = c.next-answer.ensures.still (not_failed c.next-answer.result c.in-Quiet.is)
-
 pub returns-in_err-hear_datagram-in-Got-clause-broke : goal.returns-in_err-hear_datagram-in-Got-clause-broke
 returns-in_err-hear_datagram-in-Got-clause-broke g c = at_exit _ c.from_residual.result _ c.from_residual.ensures
     (λ s base answers now h opened. line_stops s base (g.N.Net.calls c.args.net.now) (g.N.Net.calls c.next-answer.new.self) c.args.client.now c.args.line (length c.args.into.now) (take c.in-Got.count c.next-answer.new.into) c.in-Got.count answers now h c.in-Got.ensures.calls c.requires opened)

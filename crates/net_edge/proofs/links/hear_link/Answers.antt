@@ -19,8 +19,8 @@ takes-init g c = record {
 pub takes-preserved : goal.takes-preserved
 takes-preserved g c = record {
   room = c.hear_link_once.ensures.room ∙ c.takes.invariant.room;
-  later = omega (arith, c.takes.invariant.later, c.hear_link_once.ensures.later);
-  still = c.in_ok-answer.ensures.still ∙ c.takes.invariant.still;
+  later = omega (arith, c.takes.invariant.later, c.hear_link_once.ensures.faults.later);
+  still = c.in_ok-answer.ensures.faults.still ∙ c.takes.invariant.still;
   heard = λ s base now h.
       call_more c.in_ok-answer.answer c.takes._index (omega arith) (c.takes.invariant.heard s base now h)
       (λ answers gots opened is.

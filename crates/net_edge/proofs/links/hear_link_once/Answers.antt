@@ -26,15 +26,6 @@ returns-in_ok-hear_down-in-End-clause-heard g c = λ s base answers now h opened
     subst (λ (a : NetTaken). HearsLink peer s base (g.N.Net.calls c.take-answer.new.self) link c.hear_down.new.client (a ∷ answers) true now) (sym c.in-End.is)
     (link_end peer s base _ _ c.net_end-end.result link link c.args.client.now c.hear_down.new.client (length c.args.into.now) c.requires answers now h c.net_end-end.ensures opened c.in-End.ensures.calls (c.in_ok-hear_down-in-End.ensures h.heard h.has))
 
-pub returns-in_ok-shut-in-Got-clause-still : goal.returns-in_ok-shut-in-Got-clause-still
-returns-in_ok-shut-in-Got-clause-still g c = c.in-Got.ensures.still (λ f. f)
-
-pub returns-in-Quiet-clause-still : goal.returns-in-Quiet-clause-still
-returns-in-Quiet-clause-still g c = c.in-Quiet.ensures.still (λ f. f)
-
-pub returns-in_ok-hear_down-in-End-clause-still : goal.returns-in_ok-hear_down-in-End-clause-still
-returns-in_ok-hear_down-in-End-clause-still g c = c.in-End.ensures.still (λ f. f)
-
 pub returns-in_err-shut-in-Got-clause-broke : goal.returns-in_err-shut-in-Got-clause-broke
 returns-in_err-shut-in-Got-clause-broke g c = at_exit _ c.from_residual.result _ c.from_residual.ensures
     (λ s base answers now h opened.

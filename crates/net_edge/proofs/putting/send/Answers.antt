@@ -7,8 +7,5 @@ use Rattle.net_edge.proofs.putting.send.Goals as goal
 pub returns-in-Done-clause-sent : goal.returns-in-Done-clause-sent
 returns-in-Done-clause-sent g c = λ s base now plays piece. play_call s base _ _ now _ c.in-Done.ensures.calls (λ f. f) piece plays
 
-pub returns-in-Done-clause-still : goal.returns-in-Done-clause-still
-returns-in-Done-clause-still g c = c.in-Done.ensures.still (λ f. f)
-
 pub returns-in-Failed-clause-broke : goal.returns-in-Failed-clause-broke
 returns-in-Failed-clause-broke g c = λ s base now plays piece. breaks_by s base _ _ now (Send c.args.line c.args.datagram.now Failed) c.in-Failed.ensures.calls tt piece plays

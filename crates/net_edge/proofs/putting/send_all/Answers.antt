@@ -32,8 +32,8 @@ sends-preserved g c =
           ∙ sent_both c.args.line sent (item.items ∷ []) now
           ∙ ap (λ (xs : List (List _)). sent_on c.args.line xs now) (sym (bytes_more all i item at)))
           (c.in_ok-send.ensures.sent s base (sent_on c.args.line sent now) (c.sends.invariant.plays s base now plays pieces) piece);
-      later = omega (arith, c.sends.invariant.later, c.send.ensures.later);
-      still = c.in_ok-send.ensures.still ∙ c.sends.invariant.still;
+      later = omega (arith, c.sends.invariant.later, c.send.ensures.faults.later);
+      still = c.in_ok-send.ensures.faults.still ∙ c.sends.invariant.still;
     }
 
 pub returns-clause-sent : goal.returns-clause-sent

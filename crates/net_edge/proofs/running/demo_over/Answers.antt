@@ -6,9 +6,7 @@ pub returns : goal.returns
 returns g c = record {
   ran = on_ok_weaker c.play.result (λ played. played c.in_ok-parts.ensures.ends c.in_ok-parts.ensures.login c.in_ok-parts.ensures.spin_login c.requires.new) c.play.ensures.played;
   broke = IfErr-weaker c.play.result _ _ (λ error broke. broke c.in_ok-parts.ensures.ends c.in_ok-parts.ensures.login c.in_ok-parts.ensures.spin_login c.requires.new) c.play.ensures.broke;
-  fault = c.play.ensures.fault;
-  later = c.play.ensures.later;
-  still = c.play.ensures.still;
+  counts = c.play.ensures.faults;
   err = c.play.ensures.err;
 }
 

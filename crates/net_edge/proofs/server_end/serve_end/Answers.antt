@@ -29,8 +29,8 @@ pub takes-preserved : goal.takes-preserved
 takes-preserved g c = record {
   room = c.serve_one.ensures.room ∙ c.takes.invariant.room;
   market = λ messages advertised has. c.in_ok-serve_one.ensures.market messages advertised (c.takes.invariant.market messages advertised has);
-  later = omega (arith, c.takes.invariant.later, c.serve_one.ensures.later);
-  still = c.in_ok-serve_one.ensures.still ∙ c.takes.invariant.still;
+  later = omega (arith, c.takes.invariant.later, c.serve_one.ensures.faults.later);
+  still = c.in_ok-serve_one.ensures.faults.still ∙ c.takes.invariant.still;
   served = λ s base now h whole stored.
       call_more c.in_ok-serve_one.field-0 c.takes.index (omega arith) (c.takes.invariant.served s base now h whole stored)
       (λ answers gots opened is.

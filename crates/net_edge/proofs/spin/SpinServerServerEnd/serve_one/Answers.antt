@@ -23,9 +23,6 @@ returns-clause-served g c = λ s base answers now h whole keeps opened more.
     (λ k has. c.in_ok-answer.ensures.says s now.turn k has keeps)
     (λ scene plays. subst (λ (b : List ℕ). Plays s base (g.N.Net.calls c.put_whole.new.net) (end_puts SpinServer b scene)) c.deref.ensures.value (c.in_ok-put_whole.ensures.put s base scene plays))
 
-pub returns-clause-still : goal.returns-clause-still
-returns-clause-still g c = c.in_ok-put_whole.ensures.still ∙ c.take-taken.ensures.still (unfailed c.take-taken.result c.in_default.not-Failed)
-
 pub returns-in-Failed-clause-broke : goal.returns-in-Failed-clause-broke
 returns-in-Failed-clause-broke g c = λ s base answers now h whole keeps opened.
     let room : ℕ = length c.args.into.now in
