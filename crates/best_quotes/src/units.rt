@@ -63,9 +63,17 @@ fn hear_at(
         Some(quoted) => quoted.hear(block, lines),
         None => {
             let mut quoted = QuotedUnit::make(alloc, limit)?;
-            let change = quoted.hear(block, lines)?;
-            *slot = Some(quoted);
-            Ok(change)
+            // It is dropped by calls: a function that drops one itself takes long to prove.
+            match quoted.hear(block, lines) {
+                Ok(change) => {
+                    drop(slot.replace(quoted));
+                    Ok(change)
+                }
+                Err(error) => {
+                    drop(quoted);
+                    Err(error)
+                }
+            }
         }
     }
 }

@@ -121,7 +121,10 @@ fn venue_after(alloc: Global, unit: u8, text: &[u8]) -> Result<Venue, CommandErr
     let mut venue = Venue::make(alloc, unit);
     match accept_all(alloc, &mut venue, Commands::of_text(text)) {
         Ok(()) => Ok(venue),
-        Err(error) => Err(error),
+        Err(error) => {
+            drop(venue);
+            Err(error)
+        }
     }
 }
 
@@ -175,6 +178,9 @@ pub fn append_feed(
     ensures kept { OnErr result (out.new.items ≡ out.old.items) }
 {
     let mut venue = venue_after(alloc, unit, text)?;
-    append_datagrams(&mut venue, alloc, out)?;
+    let appended = append_datagrams(&mut venue, alloc, out);
+    // By a call: a function that drops a venue itself takes long to prove.
+    drop(venue);
+    appended?;
     Ok(())
 }

@@ -85,6 +85,41 @@ fn next_of_both<R: DrillRun, W: Wait + Clock>(
     }
 }
 
+// The client's ends, and whether its service is still there.
+#[derive(Drop)]
+struct Links<J: Naming, R: DrillRun + Run> {
+    words: Receiver<Word<R>>,
+    replies: Receiver<Reply<R>>,
+    asks: Outbox<Request<J, R>>,
+    served: bool,
+}
+
+impl<J: Naming, R: DrillRun + Run> Links<J, R> {
+    // Nothing was asked yet.
+    fn make(alloc: Global, ends: ClientEnds<J, R>) -> Links<J, R> {
+        let ClientEnds {
+            words,
+            replies,
+            asks,
+        } = ends;
+        Links {
+            words,
+            replies,
+            asks: Outbox::make(alloc, asks),
+            served: true,
+        }
+    }
+
+    // Waits for what comes next.
+    fn next<W: Wait + Clock>(&self, rt: &W) -> Next<R> {
+        if self.served {
+            next_of_both(rt, &self.words, &self.replies)
+        } else {
+            next_word(rt, &self.words)
+        }
+    }
+}
+
 // After a datagram: the client asks the service for what it lacks, at every tenth.
 fn tick<J: Naming, R: DrillRun + Run, W: Wait>(
     rt: &W,
@@ -180,6 +215,76 @@ fn take_reply<J: Naming, R: DrillRun + Run, W: Wait, G: Gate>(
     Ok(())
 }
 
+// The client hears what comes next. Says whether more may come.
+fn hear_next<J: Naming, R: DrillRun + Run, W: Wait + Clock, G: Gate>(
+    rt: &W,
+    gate: &G,
+    course: &Course<R>,
+    links: &mut Links<J, R>,
+    counts: &mut Counts,
+    client: &mut UnitClient,
+) -> Result<bool, OutOfMemory>
+    requires { FollowsOn client.old drill_kept (plan R.number R.unit R.count) }
+    ensures { OnOk result (FollowsOn client.new drill_kept (plan R.number R.unit R.count)) }
+{
+    match links.next(rt) {
+        Next::NoWords | Next::Word(Word::Last) => Ok(false),
+        Next::NoReplies => {
+            links.served = false;
+            Ok(true)
+        }
+        Next::Word(word) => {
+            take_word(rt, gate, course, client, counts, word, &mut links.asks)?;
+            Ok(true)
+        }
+        Next::Reply(reply) => {
+            take_reply(rt, gate, course, client, counts, reply, &mut links.asks)?;
+            Ok(true)
+        }
+    }
+}
+
+// The client hears its publisher and its service until the publisher's last word or end.
+fn hear_to_end<J: Naming, R: DrillRun + Run, W: Wait + Clock, G: Gate>(
+    rt: &W,
+    gate: &G,
+    course: &Course<R>,
+    links: &mut Links<J, R>,
+    client: &mut UnitClient,
+) -> Result<(), OutOfMemory>
+    requires { FollowsOn client.old drill_kept (plan R.number R.unit R.count) }
+    ensures { OnOk result (FollowsOn client.new drill_kept (plan R.number R.unit R.count)) }
+{
+    let mut counts = Counts { heard: 0, step: 0 };
+    'said: for _ in rt.forever() {
+        if !hear_next(rt, gate, course, links, &mut counts, client)? {
+            break;
+        }
+    }
+    Ok(())
+}
+
+// Makes a client, and has it hear all that comes through its links.
+fn follow_through<J: Naming, R: DrillRun + Run, W: Wait + Clock, G: Gate>(
+    rt: &W,
+    alloc: Global,
+    gate: &G,
+    course: &Course<R>,
+    links: &mut Links<J, R>,
+) -> Result<UnitClient, OutOfMemory>
+    ensures { IfOk result (λ client. FollowsOn client drill_kept (plan R.number R.unit R.count)) }
+{
+    plan_is_in_order();
+    let mut client = begin(alloc, KEPT)?;
+    match hear_to_end(rt, gate, course, links, &mut client) {
+        Ok(()) => Ok(client),
+        Err(error) => {
+            drop(client);
+            Err(error)
+        }
+    }
+}
+
 /// Makes a client, and has it hear its publisher and its service until the publisher's last word or
 /// end. It ticks after every ten datagrams.
 pub(crate) fn follow<J: Naming, R: DrillRun + Run, W: Wait + Clock, G: Gate>(
@@ -192,32 +297,8 @@ pub(crate) fn follow<J: Naming, R: DrillRun + Run, W: Wait + Clock, G: Gate>(
     // Whatever came, it follows the run's messages.
     ensures { IfOk result (λ client. FollowsOn client drill_kept (plan R.number R.unit R.count)) }
 {
-    plan_is_in_order();
-    let mut client = begin(alloc, KEPT)?;
-    let mut counts = Counts { heard: 0, step: 0 };
-    let ClientEnds {
-        words,
-        replies,
-        asks,
-    } = ends;
-    let mut asks = Outbox::make(alloc, asks);
-    let mut served = true;
-    'said: for _ in rt.forever() {
-        let next = if served {
-            next_of_both(rt, &words, &replies)
-        } else {
-            next_word(rt, &words)
-        };
-        match next {
-            Next::NoWords | Next::Word(Word::Last) => break,
-            Next::NoReplies => served = false,
-            Next::Word(word) => {
-                take_word(rt, gate, course, &mut client, &mut counts, word, &mut asks)?;
-            }
-            Next::Reply(reply) => {
-                take_reply(rt, gate, course, &mut client, &mut counts, reply, &mut asks)?;
-            }
-        }
-    }
-    Ok(client)
+    let mut links = Links::make(alloc, ends);
+    let followed = follow_through(rt, alloc, gate, course, &mut links);
+    drop(links);
+    followed
 }

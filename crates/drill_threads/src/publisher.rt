@@ -340,6 +340,13 @@ pub(crate) fn publish<J: Naming, R: DrillRun + Run, H: Wait + Drop, W: Wait, G: 
     ensures advertised { IfOk result (λ writer. HasAdvertised writer course.now.count) }
 {
     let mut to = Outgoing::make(alloc, ends);
-    publish_all(rt, alloc, gate, course, &mut writer, &mut to)?;
-    Ok(writer)
+    let published = publish_all(rt, alloc, gate, course, &mut writer, &mut to);
+    drop(to);
+    match published {
+        Ok(()) => Ok(writer),
+        Err(error) => {
+            drop(writer);
+            Err(error)
+        }
+    }
 }

@@ -19,6 +19,7 @@ ghost use Rattle.drill_threads.specs.Replying.{replies_to_gap, replies_to_spin, 
 use crate::course::Course;
 use crate::ends::{Request, ServiceEnds};
 use crate::outbox::Outbox;
+use crossbeam_channel::Receiver;
 use drill_values::{Datagram, DrillRun, Image, Reply};
 use gap_store::{Found, GapLookup};
 use pitch_fields::OutOfMemory;
@@ -205,6 +206,55 @@ fn answer<J: Naming, R: DrillRun + Run, W: Wait>(
     }
 }
 
+// Hears what is told, or answers what is asked.
+fn take_request<J: Naming, R: DrillRun + Run, W: Wait, G: Gate>(
+    rt: &W,
+    alloc: Global,
+    gate: &G,
+    course: &Course<R>,
+    step: &mut u32,
+    server: &mut Server<J, R>,
+    request: Request<J, R>,
+    replies: &mut Outbox<Reply<R>>,
+) -> Result<(), OutOfMemory> {
+    match request {
+        Request::Told(told) => {
+            server.hear_told(told);
+            Ok(())
+        }
+        Request::Asked(ask) => {
+            *step = step.saturating_add(1);
+            let work = course.work(Role::Service, *step);
+            gate.before(work);
+            answer(rt, alloc, course, server, ask, replies)?;
+            gate.after(work);
+            Ok(())
+        }
+    }
+}
+
+// Takes all requests, until none can come.
+fn serve_all<J: Naming, R: DrillRun + Run, W: Wait, G: Gate>(
+    rt: &W,
+    alloc: Global,
+    gate: &G,
+    course: &Course<R>,
+    server: &mut Server<J, R>,
+    requests: &Receiver<Request<J, R>>,
+    replies: &mut Outbox<Reply<R>>,
+) -> Result<(), OutOfMemory> {
+    let mut step = 0u32;
+    'requests: for _ in rt.forever() {
+        match requests.recv(rt) {
+            Ok(request) => {
+                take_request(rt, alloc, gate, course, &mut step, server, request, replies)?;
+            }
+            Err(_) => break,
+        }
+    }
+    Ok(())
+}
+
 /// Hears what is told and answers what is asked, until neither the publisher nor the client is
 /// left. Hands the server back.
 pub(crate) fn serve<J: Naming, R: DrillRun + Run, W: Wait, G: Gate>(
@@ -217,19 +267,22 @@ pub(crate) fn serve<J: Naming, R: DrillRun + Run, W: Wait, G: Gate>(
 ) -> Result<Server<J, R>, OutOfMemory> {
     let ServiceEnds { requests, replies } = ends;
     let mut replies = Outbox::make(alloc, replies);
-    let mut step = 0u32;
-    'requests: for _ in rt.forever() {
-        match requests.recv(rt) {
-            Ok(Request::Told(told)) => server.hear_told(told),
-            Ok(Request::Asked(ask)) => {
-                step = step.saturating_add(1);
-                let work = course.work(Role::Service, step);
-                gate.before(work);
-                answer(rt, alloc, course, &mut server, ask, &mut replies)?;
-                gate.after(work);
-            }
-            Err(_) => break,
+    let served = serve_all(
+        rt,
+        alloc,
+        gate,
+        course,
+        &mut server,
+        &requests,
+        &mut replies,
+    );
+    drop(requests);
+    drop(replies);
+    match served {
+        Ok(()) => Ok(server),
+        Err(error) => {
+            drop(server);
+            Err(error)
         }
     }
-    Ok(server)
 }

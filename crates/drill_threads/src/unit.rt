@@ -1,6 +1,6 @@
 //! One unit's drill.
 
-ghost use Rattle.std.specs.Prelude.{◌≡◌, ◌≤◌, ◌*◌, [], IfOk};
+ghost use Rattle.std.specs.Prelude.{◌≡◌, ◌≤◌, ◌*◌, [], length, IfOk};
 ghost use Rattle.venue_core.specs.Plan.{plan};
 ghost use Rattle.drill_client.specs.Ending.{IsAtEnd};
 ghost use Rattle.drill_client.specs.Following.{FollowsOn};
@@ -25,6 +25,31 @@ use std::sync::Wait;
 use std::thread::{Threads, join};
 use std::time::Clock;
 use unit_threads::{KEPT, drill_plain};
+
+// The line of a client at the end of its unit.
+fn line_of_client<R: DrillRun + Run>(
+    alloc: Global,
+    course: &Course<R>,
+    client: &UnitClient,
+) -> Result<Vec<u8>, OutOfMemory>
+    requires { IsAtEnd client.now drill_kept (plan R.number R.unit R.count) }
+    ensures { IfOk result (λ line.
+        line.items ≡ drill_line course.now.number course.now.unit course.now.count) }
+{
+    let mut out = Vec::new(alloc);
+    append_end(client, course.unit, &mut out)?;
+    Ok(out)
+}
+
+// The line of a unit that is played in turns.
+fn plain_line<R: DrillRun + Run>(alloc: Global, course: &Course<R>) -> Result<Vec<u8>, OutOfMemory>
+    ensures { IfOk result (λ line.
+        line.items ≡ drill_line course.now.number course.now.unit course.now.count) }
+{
+    let mut out = Vec::new(alloc);
+    drill_plain(alloc, course.number, course.unit, course.count, &mut out)?;
+    Ok(out)
+}
 
 // The client and the service run beside one another until both have ended. Where no thread can be
 // made, `join` calls its first closure last: so the client comes first then, and the service after
@@ -111,6 +136,44 @@ fn finish_well<J: Naming, R: DrillRun + Run, H: Wait + Drop>(
 
 // The three parties run beside one another until all have ended, and the client takes what it
 // lacks then.
+fn run_connected<
+    J: Naming + Send + Sync,
+    R: DrillRun + Run + Send + Sync,
+    W: Threads + Wait + Clock + Sync,
+    G: Gate + Sync,
+>(
+    rt: &W,
+    alloc: Global,
+    gate: &G,
+    course: &Course<R>,
+    writer: Writer<J, R, &W>,
+    server: Server<J, R>,
+    ends: Ends<J, R>,
+) -> Result<UnitClient, OutOfMemory>
+    requires { writer ≡ [] }
+    ensures { IfOk result (λ client. IsAtEnd client drill_kept (plan R.number R.unit R.count)) }
+{
+    let Ends {
+        publisher,
+        client,
+        service,
+    } = ends;
+    // where no thread can be made, the publisher comes first
+    let ((followed, served), published) = join(
+        rt,
+        move || -> (
+            Result<UnitClient, OutOfMemory>,
+            Result<Server<J, R>, OutOfMemory>,
+        )
+            ensures { IfOk result.0
+                (λ client. FollowsOn client drill_kept (plan R.number R.unit R.count)) }
+        { run_receivers(rt, alloc, gate, course, server, client, service) },
+        move || publish(rt, alloc, gate, course, writer, publisher),
+    );
+    finish(alloc, course, published, served, followed)
+}
+
+// The three parties, over new channels.
 fn run_parties<
     J: Naming + Send + Sync,
     R: DrillRun + Run + Send + Sync,
@@ -127,24 +190,49 @@ fn run_parties<
     requires { writer ≡ [] }
     ensures { IfOk result (λ client. IsAtEnd client drill_kept (plan R.number R.unit R.count)) }
 {
-    let Ends {
-        publisher,
-        client,
-        service,
-    } = Ends::<J, R>::make(alloc)?;
-    // where no thread can be made, the publisher comes first
-    let ((followed, served), published) = join(
-        rt,
-        move || -> (
-            Result<UnitClient, OutOfMemory>,
-            Result<Server<J, R>, OutOfMemory>,
-        )
-            ensures { IfOk result.0
-                (λ client. FollowsOn client drill_kept (plan R.number R.unit R.count)) }
-        { run_receivers(rt, alloc, gate, course, server, client, service) },
-        move || publish(rt, alloc, gate, course, writer, publisher),
-    );
-    finish(alloc, course, published, served, followed)
+    match Ends::<J, R>::make(alloc) {
+        Ok(ends) => run_connected(rt, alloc, gate, course, writer, server, ends),
+        Err(error) => {
+            drop(writer);
+            drop(server);
+            Err(error)
+        }
+    }
+}
+
+// The server of a unit that has one.
+fn only<J: Naming, R: Run>(mut servers: Vec<Server<J, R>>) -> Server<J, R>
+    requires { length servers.items ≡ 1 }
+{
+    let Some(server) = servers.pop() else {
+        unreachable!();
+    };
+    drop(servers);
+    server
+}
+
+// The client's line, of the parties run with a writer and its server.
+fn line_of_parties<
+    J: Naming + Send + Sync,
+    R: DrillRun + Run + Send + Sync,
+    W: Threads + Wait + Clock + Sync,
+    G: Gate + Sync,
+>(
+    rt: &W,
+    alloc: Global,
+    gate: &G,
+    course: &Course<R>,
+    writer: Writer<J, R, &W>,
+    server: Server<J, R>,
+) -> Result<Vec<u8>, OutOfMemory>
+    requires { writer ≡ [] }
+    ensures { IfOk result (λ line.
+        line.items ≡ drill_line course.now.number course.now.unit course.now.count) }
+{
+    let client = run_parties(rt, alloc, gate, course, writer, server)?;
+    let line = line_of_client(alloc, course, &client);
+    drop(client);
+    line
 }
 
 // The line of a unit that is run with threads, or where there is no place for a server in turns.
@@ -167,23 +255,14 @@ fn run_unit<
     requires servers { opened.servers ≡ 1 }
     ensures { IfOk result (λ line. line.items ≡ drill_line course.number course.unit course.count) }
 {
-    let mut out = Vec::new(alloc);
     let mut places = LeftRightPlaces::make();
-    let made = make::<J, R, &W, LeftRightPlaces>(alloc, rt, opened, &mut places);
-    let (writer, mut servers) = match made {
-        Ok(made) => made,
-        Err(MakeError::OutOfMemory) => return Err(OutOfMemory),
-        Err(MakeError::NoPlace) => {
-            drill_plain(alloc, course.number, course.unit, course.count, &mut out)?;
-            return Ok(out);
+    match make::<J, R, &W, LeftRightPlaces>(alloc, rt, opened, &mut places) {
+        Ok((writer, servers)) => {
+            line_of_parties(rt, alloc, gate, &course, writer, only(servers))
         }
-    };
-    let Some(server) = servers.pop() else {
-        unreachable!();
-    };
-    let client = run_parties(rt, alloc, gate, &course, writer, server)?;
-    append_end(&client, course.unit, &mut out)?;
-    Ok(out)
+        Err(MakeError::OutOfMemory) => Err(OutOfMemory),
+        Err(MakeError::NoPlace) => plain_line(alloc, &course),
+    }
 }
 
 // Runs a unit under a fresh name for its pair of copies.

@@ -82,15 +82,21 @@ impl Relay {
         ensures unit { IfOk result (λ relay. relay_unit_of relay ≡ unit) }
     {
         let mut client = UnitClient::make(alloc, limit)?;
-        client.hear(&Item::SpinUp)?;
-        Ok(Relay {
-            alloc,
-            unit,
-            client,
-            added: RawList::make(alloc),
-            sent: 0,
-            spent: None,
-        })
+        match client.hear(&Item::SpinUp) {
+            Ok(_) => Ok(Relay {
+                alloc,
+                unit,
+                client,
+                added: RawList::make(alloc),
+                sent: 0,
+                spent: None,
+            }),
+            Err(error) => {
+                // By a call: a function that drops a client itself takes long to prove.
+                drop(client);
+                Err(error)
+            }
+        }
     }
 
     // Hears a block, unless the relay is spent. What the block adds is then in `added`, and counts

@@ -59,9 +59,17 @@ fn hear_at(
         Some(relay) => relay.hear(block, out),
         None => {
             let mut relay = Relay::make(alloc, block.header().unit, limit)?;
-            let change = relay.hear(block, out)?;
-            *slot = Some(relay);
-            Ok(change)
+            // It is dropped by calls: a function that drops a relay itself takes long to prove.
+            match relay.hear(block, out) {
+                Ok(change) => {
+                    drop(slot.replace(relay));
+                    Ok(change)
+                }
+                Err(error) => {
+                    drop(relay);
+                    Err(error)
+                }
+            }
         }
     }
 }

@@ -1,5 +1,7 @@
 ghost use Rattle.std.specs.Prelude.{◌≡◌, ℕ, ◌≤◌, ◌<◌, length, IfOk, OnOk};
 ghost use Rattle.std.specs.List.{Contains};
+ghost use Rattle.feed_lines.specs.BookText.{book_text};
+ghost use Rattle.pitch_model.specs.Book.{empty_book};
 ghost use Rattle.run_audit.specs.Backward.{JudgesBook, Stands};
 ghost use Rattle.run_audit.specs.declared.backward.AgreedBook.{AgreedBook};
 ghost use Rattle.run_audit.specs.Finding.{Finds, IsBookAt, messages_of};
@@ -12,9 +14,20 @@ use crate::naming::named_by;
 use crate::printing::printed;
 use crate::verdict::Verdict;
 use crate::walk::{Walk, go_to, starts};
+use order_book::UnitBook;
 use pitch_fields::OutOfMemory;
 use pitch_messages::{ByteList, RawList};
 use std::alloc::Global;
+
+// The printed book of a unit before its first message.
+fn printed_empty(alloc: Global, unit: u8) -> Result<ByteList, OutOfMemory>
+    ensures { IfOk result (λ text. text.items ≡ book_text unit 0 empty_book) }
+{
+    let book = UnitBook::make(alloc);
+    let text = printed(alloc, unit, 0, &book);
+    drop(book);
+    text
+}
 
 // The printed book of a unit after n messages, or None where it has fewer.
 fn book_at<'a>(
@@ -41,7 +54,7 @@ fn book_at<'a>(
     if n > 0 {
         return Ok(None);
     }
-    Ok(Some(printed(alloc, unit, 0, &order_book::UnitBook::make(alloc))?))
+    Ok(Some(printed_empty(alloc, unit)?))
 }
 
 // The book that a line names, or None where it names none.

@@ -7,6 +7,7 @@ use pitch_fields::OutOfMemory;
 use pitch_messages::{RawList, Raws};
 use pitch_model::laws::books_have_open_orders;
 use std::alloc::Global;
+use std::mem::replace;
 
 /// The book of a unit after its first n messages, and the messages that are left.
 #[derive(Drop)]
@@ -42,7 +43,8 @@ pub(crate) fn go_to<'a>(
 {
     books_have_open_orders();
     if n < walk.n {
-        *walk = at_start(alloc, log);
+        // By a call: a function that drops a book itself takes long to prove.
+        drop(replace(walk, at_start(alloc, log)));
     }
     'steps: while walk.n < n {
         let Some(raw) = walk.left.next_raw() else {

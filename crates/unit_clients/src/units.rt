@@ -76,9 +76,17 @@ fn hear_at(
         Some(client) => hear(client, block),
         None => {
             let mut client = UnitClient::make(alloc, limit)?;
-            let change = hear(&mut client, block)?;
-            *slot = Some(client);
-            Ok(change)
+            // It is dropped by calls: a function that drops a client itself takes long to prove.
+            match hear(&mut client, block) {
+                Ok(change) => {
+                    drop(slot.replace(client));
+                    Ok(change)
+                }
+                Err(error) => {
+                    drop(client);
+                    Err(error)
+                }
+            }
         }
     }
 }

@@ -451,6 +451,44 @@ fn play_all(alloc: Global, side: &mut Side, course: Course) -> Result<UnitClient
     Ok(client)
 }
 
+// The client takes what it lacks after all commands, and the unit's line is appended.
+fn end_with(
+    alloc: Global,
+    side: &mut Side,
+    client: &mut UnitClient,
+    course: Course,
+    out: &mut Vec<u8>,
+) -> Result<(), OutOfMemory>
+    requires count { (1 ≤ course.count) × (course.count ≤ most_drilled) }
+    requires serves { HasPlayed side.old course.number course.unit course.count course.count }
+    requires heard { Follows client.old drill_kept (plan course.number course.unit course.count)
+        (plain_history course.number course.unit course.count course.count) }
+    ensures ok { OnOk result (out.new.items
+        ≡ out.old.items ++ drill_line course.number course.unit course.count) }
+    ensures err { OnErr result (out.new.items ≡ out.old.items) }
+{
+    end(alloc, side, client, course)?;
+    append_end(client, course.unit, out)?;
+    Ok(())
+}
+
+// The same from the first command on, with a side that has accepted nothing.
+fn play_to_end(
+    alloc: Global,
+    side: &mut Side,
+    course: Course,
+    out: &mut Vec<u8>,
+) -> Result<(), OutOfMemory>
+    requires count { (1 ≤ course.count) × (course.count ≤ most_drilled) }
+    requires serves { Serves side.old course.unit [] [] 0 }
+    ensures ok { OnOk result (out.new.items
+        ≡ out.old.items ++ drill_line course.number course.unit course.count) }
+    ensures err { OnErr result (out.new.items ≡ out.old.items) }
+{
+    let mut client = play_all(alloc, side, course)?;
+    end_with(alloc, side, &mut client, course, out)
+}
+
 /// Plays a unit's drill on one thread: a venue accepts the first `count` commands of the plan, and
 /// a client hears what is not lost of the datagrams on two lines, and asks for the rest. Appends
 /// the unit's line: its client is current at the last message, with the number of open orders and
@@ -474,8 +512,5 @@ pub fn drill_plain(
         count,
     };
     let mut side = Side::make(alloc, unit)?;
-    let mut client = play_all(alloc, &mut side, course)?;
-    end(alloc, &mut side, &mut client, course)?;
-    append_end(&client, unit, out)?;
-    Ok(())
+    play_to_end(alloc, &mut side, course, out)
 }

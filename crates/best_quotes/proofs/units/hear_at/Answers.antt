@@ -9,12 +9,12 @@ returns-in-Some-clause-quotes c =
     on_ok c.hear.result (λ quotes before Image V stands honest.
     quotes Image V c.args.limit (unit_history unit before) (old_unit c.args.limit unit c.in-Some.quoted c.args.slot.now before c.in-Some.is stands) honest) c.hear.ensures.quotes
 
-pub returns-in_ok-change-in-None-clause-stands : goal.returns-in_ok-change-in-None-clause-stands
-returns-in_ok-change-in-None-clause-stands c = λ before stands.
+pub returns-in-Ok-clause-stands : goal.returns-in-Ok-clause-stands
+returns-in-Ok-clause-stands c = rw c.replace.ensures.after (λ before stands.
     let unit = c.args.block.now.unit in
-    c.in_ok-change-in-None.ensures.stands c.args.limit (unit_history unit before) (new_unit c.args.limit unit c.in_ok-quoted-in-None.quoted c.args.slot.now before c.in-None.is c.in_ok-quoted-in-None.ensures stands)
+    c.in-Ok.ensures.stands c.args.limit (unit_history unit before) (new_unit c.args.limit unit c.in_ok-quoted-in-None.quoted c.args.slot.now before c.in-None.is c.in_ok-quoted-in-None.ensures stands))
 
-pub returns-in_ok-change-in-None-clause-quotes : goal.returns-in_ok-change-in-None-clause-quotes
-returns-in_ok-change-in-None-clause-quotes c = λ before Image V stands honest.
+pub returns-in-Ok-clause-quotes : goal.returns-in-Ok-clause-quotes
+returns-in-Ok-clause-quotes c = λ before Image V stands honest.
     let unit = c.args.block.now.unit in
-    c.in_ok-change-in-None.ensures.quotes Image V c.args.limit (unit_history unit before) (new_unit c.args.limit unit c.in_ok-quoted-in-None.quoted c.args.slot.now before c.in-None.is c.in_ok-quoted-in-None.ensures stands) honest
+    c.in-Ok.ensures.quotes Image V c.args.limit (unit_history unit before) (new_unit c.args.limit unit c.in_ok-quoted-in-None.quoted c.args.slot.now before c.in-None.is c.in_ok-quoted-in-None.ensures stands) honest

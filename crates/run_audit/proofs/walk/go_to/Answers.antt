@@ -1,4 +1,4 @@
-use Rattle.std.proofs.Common.{rules, refl, sym, subst, arith, ◌≤◌}
+use Rattle.std.proofs.Common.{rules, refl, sym, ◌∙◌, subst, arith, ◌≤◌}
 use Rattle.run_audit.specs.Walking.{IsAt}
 use Rattle.run_audit.proofs.Walking.{at_more, not_done}
 use Rattle.run_audit.proofs.walk.go_to.Goals as goal
@@ -7,8 +7,8 @@ use Rattle.run_audit.proofs.walk.go_to.Goals.{then-n-walk, else-n-walk}
 pub steps-init : goal.steps-init
 steps-init c = elim c.if-n-walk.branch [
   | then-n-walk w ↦ record {
-    at = subst (IsAt c.args.log.now.items) (sym w.walk-is) w.at_start.ensures.at;
-    most = subst (λ walk. walk.n ≤ c.args.n) (sym w.walk-is) (let zero = w.at_start.ensures.start in omega arith);
+    at = subst (IsAt c.args.log.now.items) (sym (w.walk-is ∙ w.replace.ensures.after)) w.at_start.ensures.at;
+    most = subst (λ walk. walk.n ≤ c.args.n) (sym (w.walk-is ∙ w.replace.ensures.after)) (let zero = w.at_start.ensures.start in omega arith);
   }
   | else-n-walk w ↦ record {
     at = subst (IsAt c.args.log.now.items) (sym w.walk-is) c.requires.at;

@@ -17,14 +17,14 @@ returns-in-Some-clause-keeps c =
     c.hear.result c.hear.ensures.keeps
     (λ keeps Image V E honest kept. keeps Image V E honest (subst (KeepsTo V) c.in-Some.is kept))
 
-pub returns-in_ok-change-in-None-clause-tracks : goal.returns-in_ok-change-in-None-clause-tracks
-returns-in_ok-change-in-None-clause-tracks c = λ before unit stands.
-    c.in_ok-change-in-None.ensures.tracks c.args.limit (unit_history unit before) (new_client c.args.limit c.in_ok-client-in-None.client c.args.slot.now c.in-None.is c.in_ok-client-in-None.ensures.tracks before unit stands)
+pub returns-in-Ok-clause-tracks : goal.returns-in-Ok-clause-tracks
+returns-in-Ok-clause-tracks c = rw c.replace.ensures.after (λ before unit stands.
+    c.in-Ok.ensures.tracks c.args.limit (unit_history unit before) (new_client c.args.limit c.in_ok-client-in-None.client c.args.slot.now c.in-None.is c.in_ok-client-in-None.ensures.tracks before unit stands))
 
-pub returns-in_ok-change-in-None-clause-keeps : goal.returns-in_ok-change-in-None-clause-keeps
-returns-in_ok-change-in-None-clause-keeps c = λ Image V E honest kept.
-    c.in_ok-change-in-None.ensures.keeps Image V E honest (c.in_ok-client-in-None.ensures.keeps V)
+pub returns-in-Ok-clause-keeps : goal.returns-in-Ok-clause-keeps
+returns-in-Ok-clause-keeps c = rw c.replace.ensures.after (λ Image V E honest kept.
+    c.in-Ok.ensures.keeps Image V E honest (c.in_ok-client-in-None.ensures.keeps V))
 
-pub returns-in_ok-change-in-None-clause-change : goal.returns-in_ok-change-in-None-clause-change
-returns-in_ok-change-in-None-clause-change c = λ before unit stands.
-    c.in_ok-change-in-None.ensures.change c.args.limit (unit_history unit before) (new_client c.args.limit c.in_ok-client-in-None.client c.args.slot.now c.in-None.is c.in_ok-client-in-None.ensures.tracks before unit stands)
+pub returns-in-Ok-clause-change : goal.returns-in-Ok-clause-change
+returns-in-Ok-clause-change c = λ before unit stands.
+    c.in-Ok.ensures.change c.args.limit (unit_history unit before) (new_client c.args.limit c.in_ok-client-in-None.client c.args.slot.now c.in-None.is c.in_ok-client-in-None.ensures.tracks before unit stands)
