@@ -70,36 +70,29 @@ fn a_net_that_carries_nothing_leaves_it_silent(rt: HostRuntime) -> Result<(), Fa
     Ok(())
 }
 
-// A demo: its number and its count, what is wrong with its net, and its line.
-struct Case {
-    number: u64,
-    count: u32,
-    trouble: Trouble,
-    line: &'static str,
-}
-
-// By number 2 message 10 is lost on both lines, so it comes by a gap reply or not at all. Without a
-// proxy messages come by images. Orders and shares are those of the plan's first 16, 9 and 40
-// messages, worked by a script of its rules.
-const LOSSES: [Case; 3] = [
-    Case {
-        number: 2,
-        count: 16,
-        trouble: Trouble::Nothing,
-        line: "unit 1 current 16 orders 5 shares 1088\n",
-    },
-    Case {
-        number: 2,
-        count: 16,
-        trouble: Trouble::GapLine,
-        line: "unit 1 behind 9 of 16 orders 2 shares 519\n",
-    },
-    Case {
-        number: 0,
-        count: 40,
-        trouble: Trouble::Proxy,
-        line: "unit 1 current 40 orders 12 shares 3199\n",
-    },
+// Demos: the number and the count, what is wrong with the net, and the line. By number 2 message 10
+// is lost on both lines, so it comes by a gap reply or not at all. Without a proxy messages come by
+// images. Orders and shares are those of the plan's first 16, 9 and 40 messages, worked by a script
+// of its rules.
+const LOSSES: [(u64, u32, Trouble, &str); 3] = [
+    (
+        2,
+        16,
+        Trouble::Nothing,
+        "unit 1 current 16 orders 5 shares 1088\n",
+    ),
+    (
+        2,
+        16,
+        Trouble::GapLine,
+        "unit 1 behind 9 of 16 orders 2 shares 519\n",
+    ),
+    (
+        0,
+        40,
+        Trouble::Proxy,
+        "unit 1 current 40 orders 12 shares 3199\n",
+    ),
 ];
 
 // Whether a demo over this net ends so.
@@ -107,20 +100,20 @@ fn ends_so<R: Threads + Wait + Clock + Sync, N: Net + Drop>(
     rt: &R,
     alloc: Global,
     net: N,
-    case: &Case,
+    case: &(u64, u32, Trouble, &str),
 ) -> Result<bool, OutOfMemory> {
-    let (number, count) = (case.number, case.count);
+    let (number, count, trouble, line) = case;
     let words = format!(in alloc; "demo --number {number} --count {count}")?;
-    let mut net = TroubledNet::make(net, case.trouble);
+    let mut net = TroubledNet::make(net, *trouble);
     let outcome = run_over(rt, alloc, &words, b"", &mut net, &FreeGate)?;
-    Ok(outcome.is(ExitStatus::Done, case.line.as_bytes(), ""))
+    Ok(outcome.is(ExitStatus::Done, line.as_bytes(), ""))
 }
 
 // Whether each demo ends so, over memory and over sockets.
 fn all_end_so<R: Threads + Wait + Clock + Sync + net::Net>(
     rt: &R,
     alloc: Global,
-    cases: &[Case],
+    cases: &[(u64, u32, Trouble, &str)],
 ) -> Result<bool, OutOfMemory> {
     for case in cases {
         let memory = MemoryNet::make(alloc, Vec::new(alloc));
@@ -138,14 +131,15 @@ fn a_demo_recovers_what_is_lost(rt: HostRuntime) -> Result<(), Fail> {
 }
 
 // Whether a demo ends so whose servers answer from a plain store and shelf.
-fn ends_so_plainly(alloc: Global, case: &Case) -> bool {
-    if case.count < 1 || case.count > 1000 {
+fn ends_so_plainly(alloc: Global, case: &(u64, u32, Trouble, &str)) -> bool {
+    let (number, count, trouble, line) = case;
+    if *count < 1 || *count > 1000 {
         return false;
     }
-    let mut net = TroubledNet::make(MemoryNet::make(alloc, Vec::new(alloc)), case.trouble);
+    let mut net = TroubledNet::make(MemoryNet::make(alloc, Vec::new(alloc)), *trouble);
     let mut out = Vec::new(alloc);
-    match demo_plain(alloc, &mut net, case.number, case.count, &mut out) {
-        Ok(()) => out.as_slice() == case.line.as_bytes(),
+    match demo_plain(alloc, &mut net, *number, *count, &mut out) {
+        Ok(()) => out.as_slice() == line.as_bytes(),
         Err(_) => false,
     }
 }

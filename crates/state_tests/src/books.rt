@@ -121,19 +121,31 @@ fn a_copy_and_its_orders_by_id(rt: HostRuntime) {
 }
 
 #[test]
-fn statuses_stay_and_come_by_symbol(rt: HostRuntime) {
-    let ibm = Symbol::from_six(*b"IBM   ");
-    let aapl = Symbol::from_six(*b"AAPL  ");
+fn statuses_stay_after_a_clear(rt: HostRuntime) {
     let book = book_after(&rt, rt.alloc(), &[ADD, HALT, CLEAR]);
     assert!(rt; book.len() == 0);
-    assert!(rt; book.status(ibm) == Some((0x48, 0x30)));
-    assert!(rt; book.status(aapl).is_none());
-    let more = book_after(&rt, rt.alloc(), &[HALT, OTHER_HALT, TRADE]);
-    let copy = more.copy().expect(&rt, "memory");
+    assert!(rt; book.status(Symbol::from_six(*b"IBM   ")) == Some((0x48, 0x30)));
+    assert!(rt; book.status(Symbol::from_six(*b"AAPL  ")).is_none());
+    drop(book);
+}
+
+// Appends the statuses in a copy of the book that messages leave.
+fn append_copied(rt: &impl Abort, alloc: Global, raws: &[&[u8]], states: &mut StatusList) {
+    let book = book_after(rt, alloc, raws);
+    let copy = book.copy().expect(rt, "memory");
+    drop(book);
+    assert!(rt; copy.statuses_by_symbol(states).is_ok());
+    drop(copy);
+}
+
+#[test]
+fn statuses_come_by_symbol(rt: HostRuntime) {
     let mut states = StatusList::make(rt.alloc());
-    assert!(rt; book.statuses_by_symbol(&mut states).is_ok());
+    append_copied(&rt, rt.alloc(), &[ADD, HALT, CLEAR], &mut states);
     assert!(rt; states.len() == 1);
-    assert!(rt; copy.statuses_by_symbol(&mut states).is_ok());
+    append_copied(&rt, rt.alloc(), &[HALT, OTHER_HALT, TRADE], &mut states);
+    let ibm = Symbol::from_six(*b"IBM   ");
+    let aapl = Symbol::from_six(*b"AAPL  ");
     let wanted = [(ibm, b'H', b'0'), (aapl, b'H', b'R'), (ibm, b'T', b'N')];
     assert!(rt; states.len() == 3);
     for (state, want) in states.as_slice().iter().zip(wanted) {
