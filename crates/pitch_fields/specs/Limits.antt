@@ -6,6 +6,10 @@ use Rattle.std.specs.Prelude.{ℕ}
 abbrev pub last_sequence : ℕ
 last_sequence = 4294967294
 
+-- the most bytes that a text of commands, or a schedule, can have: 2^26
+abbrev pub text_limit : ℕ
+text_limit = 67108864
+
 -- the most messages that a client may hold of those that came too early
 abbrev pub most_held : ℕ
 most_held = 65536

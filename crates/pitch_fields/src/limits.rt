@@ -1,2 +1,5 @@
 /// The last sequence that a message can have: the next one still fits into four bytes.
 pub const LAST_SEQUENCE: u32 = 4294967294;
+
+/// The most bytes that a text of commands, or a schedule, can have.
+pub const TEXT_LIMIT: usize = 67_108_864;

@@ -1,5 +1,5 @@
 -- The default limits, by their numbers.
-use Rattle.std.proofs.Common.{◌≡◌, refl, Option, None}
+use Rattle.std.proofs.Common.{◌≡◌, refl, None}
 use Rattle.pitch_text.specs.ScheduleGrammar.{setup_of}
 use Rattle.pitch_text.specs.declared.options.Limits.{Limits}
 use Rattle.pitch_text.specs.declared.verb.Verb.TheVariants as verbs

@@ -1,5 +1,5 @@
 -- Worked examples of the grammar: what lines say, field by field.
-use Rattle.std.proofs.Common.{◌≡◌, ℕ, true, false, List, [], ◌∷◌, ◌++◌, codes, Result, Ok, Err, Some, None, refl}
+use Rattle.std.proofs.Common.{◌≡◌, true, false, [], ◌∷◌, codes, Ok, Err, Some, None, refl}
 use Rattle.pitch_fields.specs.declared.side.Side.TheVariants.{Buy, Sell}
 use Rattle.pitch_io.specs.declared.line.Line.TheVariants.{A, Gap}
 use Rattle.pitch_text.specs.declared.command.Command.TheVariants.{Time, Add, Exec, ExecAt, Reduce, Modify, Delete, Trade, Break, Clear, EndSession, Status}

@@ -19,11 +19,11 @@ mod verb_rules;
 mod well_formed;
 
 pub use crate::command::{Command, CommandEntry};
-pub use crate::command_text::{CommandList, Commands, read_commands};
+pub use crate::command_text::{CommandLines, CommandList, Commands, read_commands};
 pub use crate::defaults::{
     DEFAULT_DAY, DEFAULT_HOLD, DEFAULT_KEPT, DEFAULT_MINUTE, DEFAULT_SECOND,
 };
 pub use crate::print::print_entry;
-pub use crate::schedule_text::{Schedule, ScheduleList, read_schedule};
+pub use crate::schedule_text::{Schedule, ScheduleLines, ScheduleList, read_schedule};
 pub use crate::verb::{ScheduleEntry, Session, Verb};
 pub use text_lines::{TextCause, TextError};

@@ -10,7 +10,7 @@ use Rattle.stream_print.specs.Inputs.{Has, AreAll, stream_limit, trouble_of}
 use Rattle.pitch_tool.specs.Devices.{Run, Wires, HasFaulted, HasNetFaulted}
 use Rattle.pitch_tool.specs.Jobs.{job_of, JobEnds, Judges, blocks_trouble}
 use Rattle.pitch_tool.specs.Program.{Closes, HasCauses, IsNoForm, IsWhole, IsRefusal}
-use Rattle.pitch_tool.specs.TextForms.{text_limit, text_trouble, made}
+use Rattle.pitch_tool.specs.TextForms.{text_trouble, made}
 use Rattle.pitch_tool.specs.declared.failure.Failure.TheVariants as ending
 use Rattle.pitch_tool.specs.declared.failure.Trouble.{Trouble}
 use Rattle.pitch_tool.specs.declared.failure.Trouble.TheVariants.{Blocks, LongText, Commands, Schedule, SequencesSpent}
@@ -18,6 +18,7 @@ use Rattle.pitch_tool.specs.declared.job.Job.{Job}
 use Rattle.pitch_tool.specs.declared.job.Job.TheVariants.{Stream, Text, Storm, Drill, Demo, Audit}
 use Rattle.pitch_tool.specs.declared.failure.Trouble.TheVariants as faults
 use Rattle.std.specs.Option.{option_map}
+use Rattle.pitch_fields.specs.Limits.{text_limit}
 use Rattle.run_audit.specs.Input.{input_fault}
 use Rattle.stream_print.specs.declared.failure.StreamTrouble.TheVariants.{TooLong}
 use Rattle.pitch_tool.specs.AuditForm.{audit_trouble}

@@ -1,6 +1,7 @@
 -- The job of a form, what is wrong with its input, and how it ends.
 use Rattle.std.specs.Prelude.{Bool, true, false, ◌≡◌, ◌+◌, ℕ, List, Option, None, Some, Result, Ok}
 use Rattle.std.specs.Prelude.{Err}
+use Rattle.pitch_fields.specs.Limits.{text_limit}
 use Rattle.pitch_words.specs.declared.form.Form.{Form}
 use Rattle.pitch_words.specs.declared.form.Form.TheVariants as form
 use Rattle.stream_print.specs.Inputs.{stream_limit, trouble_of, StopsSoon, StreamEnds}
@@ -17,7 +18,7 @@ use Rattle.pitch_tool.specs.DemoForm.{IsDemoCount, DemoEnds}
 use Rattle.pitch_tool.specs.Devices.{Wires}
 use Rattle.pitch_tool.specs.DrillForm.{IsDrill, DrillEnds}
 use Rattle.pitch_tool.specs.StormForm.{IsStorm, StormEnds}
-use Rattle.pitch_tool.specs.TextForms.{text_limit, text_trouble, AreWorkers, CanMake, TextEnds}
+use Rattle.pitch_tool.specs.TextForms.{text_trouble, AreWorkers, CanMake, TextEnds}
 use Rattle.pitch_tool.specs.declared.failure.Failure.{Failure}
 use Rattle.pitch_tool.specs.declared.failure.Failure.TheVariants.{BadInput, Read, Write}
 use Rattle.pitch_tool.specs.declared.failure.Failure.TheVariants.{OutOfMemory}

@@ -1,8 +1,9 @@
 -- A text form: what it makes of a whole text, and how it ends.
-use Rattle.std.specs.Prelude.{◌≡◌, ℕ, ◌≤◌, ◌<◌, List, [], length, nat_lt, cond, Option, Some}
-use Rattle.std.specs.Prelude.{Result, Ok, Err}
+use Rattle.std.specs.Prelude.{◌≡◌, ℕ, ◌≤◌, ◌<◌, List, [], length, nat_lt, Option, Some}
+use Rattle.std.specs.Prelude.{Result, Ok, Err, if◌then◌else◌}
 use Rattle.std.specs.Result.{result_err}
 use Rattle.std.specs.Io.KnownBytes.{Consumes}
+use Rattle.pitch_fields.specs.Limits.{text_limit}
 use Rattle.pitch_io.specs.Putting.{Grows}
 use Rattle.command_feed.specs.Feed.{feed_of, AppendsPacking}
 use Rattle.command_feed.specs.declared.error.CommandError.{CommandError}
@@ -23,10 +24,6 @@ use Rattle.pitch_tool.specs.declared.failure.Trouble.{Trouble}
 use Rattle.pitch_tool.specs.declared.failure.Trouble.TheVariants.{LongText, Commands, Schedule}
 use Rattle.pitch_tool.specs.declared.job.TextForm.{TextForm}
 use Rattle.pitch_tool.specs.declared.job.TextForm.TheVariants.{Pack, Replay}
-
--- how many bytes a text has at most: 2^26
-abbrev pub text_limit : ℕ
-text_limit = 67108864
 
 -- why nothing was made of some commands, as why the program ends
 abbrev pub of_commands : CommandError → Failure
@@ -72,7 +69,7 @@ IsMadeOf (Replay workers) text bytes = (worlds : List World) × AreRunThrough te
 -- the form finds
 abbrev pub text_trouble : TextForm → ℕ → List ℕ → Option Trouble
 text_trouble form most text =
-    cond (nat_lt most (length text)) (Some LongText) (result_err (made form text))
+    if nat_lt most (length text) then Some LongText else result_err (made form text)
 
 -- ---- How a text form ends
 -- the whole text was read

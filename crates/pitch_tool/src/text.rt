@@ -1,7 +1,8 @@
 ghost use Rattle.std.specs.Prelude.{◌≡◌, ◌≤◌, ◌+◌, IfOk, IfErr, Err, Ok, length};
+ghost use Rattle.pitch_fields.specs.Limits.{text_limit};
 ghost use Rattle.pitch_io.specs.Causes.{HasCause};
 ghost use Rattle.stream_print.specs.Told.{told, TakesAtMost};
-ghost use Rattle.pitch_tool.specs.TextForms.{text_limit, CanMake, made, IsMadeOf, IsUnmade};
+ghost use Rattle.pitch_tool.specs.TextForms.{CanMake, made, IsMadeOf, IsUnmade};
 ghost use Rattle.pitch_tool.specs.TextForms.{TextEnds};
 
 use crate::commands::pack::pack;
@@ -9,13 +10,11 @@ use crate::commands::replay::replay;
 use crate::failure::{Failure, Trouble};
 use crate::job::TextForm;
 use crate::reading::read_whole;
+use pitch_fields::TEXT_LIMIT;
 use pitch_io::{Gate, Sink, Source};
 use std::alloc::Global;
 use std::thread::Threads;
 use stream_print::put_all;
-
-/// How many bytes a text has at most.
-pub const TEXT_LIMIT: usize = 67108864;
 
 // What a form makes of a text.
 fn make<R: Threads + Sync, G: Gate + Sync>(
@@ -25,7 +24,7 @@ fn make<R: Threads + Sync, G: Gate + Sync>(
     text: &[u8],
     gate: &G,
 ) -> Result<Vec<u8>, Failure>
-    requires size { length text.now ≤ 67108864 }
+    requires size { length text.now ≤ text_limit }
     requires can { CanMake form }
     ensures made { IfOk result (λ bytes. made form text.now ≡ Ok bytes.items) }
     ensures made_of { IfOk result (λ bytes. IsMadeOf form text.now bytes.items) }

@@ -1,6 +1,7 @@
 //! A schedule whose units are run apart.
 
 ghost use Rattle.std.specs.Prelude.{◌≡◌, ◌≤◌, ◌<◌, ◌++◌, List, ℕ, length, take, OnOk, OnErr, Ok};
+ghost use Rattle.pitch_fields.specs.Limits.{text_limit};
 ghost use Rattle.schedule_replay.specs.Replay.{replay_of};
 ghost use Rattle.schedule_replay.specs.Runs.{AreFilled, AreRunsAt};
 ghost use Rattle.schedule_replay.specs.Stretches.{AreListed, Owned, parts_of};
@@ -68,7 +69,7 @@ pub(crate) fn replay_apart<R: Threads + Sync, G: Gate + Sync>(
     worlds: &mut WorldList,
     out: &mut Vec<u8>,
 ) -> Result<(), Unrun>
-    requires size { length text.now ≤ 67108864 }
+    requires size { length text.now ≤ text_limit }
     requires workers { 0 < workers }
     ensures written { OnOk result ((written : List ℕ)
         × (replay_of text.now ≡ Ok written) × (out.new.items ≡ out.old.items ++ written)) }

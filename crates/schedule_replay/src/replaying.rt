@@ -2,6 +2,7 @@
 
 ghost use Rattle.std.specs.Prelude.{◌≡◌, ◌≤◌, ◌++◌, ◌⊎◌, List, ℕ, length, take, OnOk, OnErr, IfErr};
 ghost use Rattle.std.specs.Prelude.{Ok, Err};
+ghost use Rattle.pitch_fields.specs.Limits.{text_limit};
 ghost use Rattle.schedule_replay.specs.Apart.{most_workers};
 ghost use Rattle.schedule_replay.specs.Replay.{replay_of};
 ghost use Rattle.schedule_replay.specs.Worlds.{AddsWorlds};
@@ -26,7 +27,7 @@ fn replay_lines<R: Threads + Sync, G: Gate + Sync>(
     worlds: &mut WorldList,
     out: &mut Vec<u8>,
 ) -> Result<(), ReplayError>
-    requires size { length text.now ≤ 67108864 }
+    requires size { length text.now ≤ text_limit }
     requires workers { (1 ≤ workers) × (workers ≤ most_workers) }
     ensures written { OnOk result ((written : List ℕ)
         × (replay_of text.now ≡ Ok written) × (out.new.items ≡ out.old.items ++ written)) }
@@ -71,7 +72,7 @@ pub fn replay<R: Threads + Sync, G: Gate + Sync>(
     worlds: &mut WorldList,
     out: &mut Vec<u8>,
 ) -> Result<(), ReplayError>
-    requires size { length text.now ≤ 67108864 }
+    requires size { length text.now ≤ text_limit }
     requires workers { (1 ≤ workers) × (workers ≤ most_workers) }
     ensures written { OnOk result ((written : List ℕ)
         × (replay_of text.now ≡ Ok written) × (out.new.items ≡ out.old.items ++ written)) }

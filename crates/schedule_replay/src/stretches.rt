@@ -2,6 +2,7 @@
 
 ghost use Rattle.std.specs.Prelude.{◌≡◌, ◌≤◌, ◌<◌, ◌++◌, ◌∷◌, ◌==◌, [], ℕ, length, take, OnOk};
 ghost use Rattle.std.specs.Prelude.{IfOk, if◌then◌else◌};
+ghost use Rattle.pitch_fields.specs.Limits.{text_limit};
 ghost use Rattle.schedule_replay.specs.Stretches.{AreWholeLines, Splits, IsCut, list_at};
 
 use crate::running::PLACES;
@@ -77,7 +78,7 @@ fn with_line(unit: u8, found: u8) -> Option<u8> {
 // The first lines of a text that are one unit's.
 fn first_stretch(text: &[u8]) -> Front
     requires some { 0 < length text.now }
-    requires size { length text.now ≤ 67108864 }
+    requires size { length text.now ≤ text_limit }
     ensures some { 0 < result.size }
     ensures within { result.size ≤ length text.now }
     ensures few { result.lines ≤ result.size }
@@ -129,7 +130,7 @@ fn add_stretch(lists: &mut Vec<Vec<Stretch>>, unit: u8, stretch: Stretch) -> Res
 
 /// Cuts a text into stretches. What their lines say, one after another, is what the text says.
 pub(crate) fn cut_text(alloc: Global, text: &[u8]) -> Result<Cut, Unrun>
-    requires { length text.now ≤ 67108864 }
+    requires { length text.now ≤ text_limit }
     ensures { IfOk result (λ cut. IsCut text.now cut.order.items cut.lists.items) }
 {
     let mut order = Vec::new(alloc);

@@ -13,7 +13,7 @@ ghost use Rattle.schedule_replay.specs.Worlds.{IsPlace};
 use crate::running::run_in;
 use crate::stretches::Stretch;
 use crate::unrun::Unrun;
-use pitch_fields::OutOfMemory;
+use pitch_fields::{OutOfMemory, TEXT_LIMIT};
 use pitch_io::{Gate, Role, Work};
 use pitch_text::laws::schedules_are_well_formed;
 use pitch_text::{Schedule, ScheduleEntry};
@@ -21,9 +21,6 @@ use std::alloc::Global;
 use std::thread;
 use std::thread::Threads;
 use world_model::World;
-
-// The most bytes of a text.
-const LARGEST_TEXT: usize = 67_108_864;
 
 /// What came of a unit: its world, and what its stretches write, end to end, with the length of
 /// each.
@@ -81,7 +78,7 @@ fn run_lines(
     ensures { OnOk result ((before : List EntrySaid) → IsPlace before unit place.old → RunsLines
         unit (items_at (lines + 1) bytes.now) before place.new out.old.items out.new.items) }
 {
-    if bytes.len() > LARGEST_TEXT {
+    if bytes.len() > TEXT_LIMIT {
         return Err(Unrun::NotApart);
     }
     schedules_are_well_formed();

@@ -2,6 +2,7 @@ ghost use Rattle.std.specs.Prelude.{◌≡◌, ◌≤◌, ◌<◌, ◌^◌, OnOk
 ghost use Rattle.std.specs.Prelude.{option_map};
 ghost use Rattle.std.specs.Iterator.{YieldsFirst, item_count};
 ghost use Rattle.std.specs.Str.Lines.{strip_carriage_return};
+ghost use Rattle.pitch_fields.specs.Limits.{text_limit};
 ghost use Rattle.text_lines.specs.Fields.{Rest};
 ghost use Rattle.text_lines.specs.Reading.{Reads};
 ghost use Rattle.text_lines.specs.Text.{line_of, is_skipped, too_long, said_on, item_of, items_of};
@@ -70,9 +71,9 @@ impl<'a, G: Grammar> Model for Lines<'a, G> {
 impl<'a, G: Grammar> Lines<'a, G> {
     /// All the lines of a text of at most 67,108,864 bytes.
     #[inline]
-    pub fn new(text: &'a [u8]) -> Lines<'a, G>
-        requires { length text.now ≤ 67108864 }
-        ensures { result ≡ items_of G.reading G.entry_of text.now }
+    pub fn of_text(text: &'a [u8]) -> Lines<'a, G>
+        requires { length text.now ≤ text_limit }
+        ensures items { result ≡ items_of G.reading G.entry_of text.now }
     {
         Lines {
             rest: text,
@@ -107,7 +108,7 @@ impl<'a, G: Grammar> Iterator for Lines<'a, G> {
 /// Appends the entries of a text of at most 67,108,864 bytes by a grammar, or answers the text's
 /// first fault. After an error, want of memory among them, the list is as before.
 pub fn read_text<G: Grammar>(text: &[u8], out: &mut List<G::Entry>) -> Result<(), TextError>
-    requires { length text.now ≤ 67108864 }
+    requires { length text.now ≤ text_limit }
     ensures entries { OnOk result
         (AppendsEntries G.entry_of (entries_of G.reading text.now) out.old.items out.new.items) }
     ensures bad { IfErr result (IsFirstFault (entries_of G.reading text.now)) }
@@ -125,13 +126,13 @@ pub fn read_text<G: Grammar>(text: &[u8], out: &mut List<G::Entry>) -> Result<()
 
 // Appends the entries of the lines up to the first fault.
 fn take_lines<G: Grammar>(text: &[u8], out: &mut List<G::Entry>) -> Result<(), TextError>
-    requires { length text.now ≤ 67108864 }
+    requires { length text.now ≤ text_limit }
     ensures entries { OnOk result
         (AppendsEntries G.entry_of (entries_of G.reading text.now) out.old.items out.new.items) }
     ensures bad { IfErr result (IsFirstFault (entries_of G.reading text.now)) }
     ensures kept { take (length out.old.items) out.new.items ≡ out.old.items }
 {
-    'lines: for item in Lines::<G>::new(text) {
+    'lines: for item in Lines::<G>::of_text(text) {
         match item {
             Ok(entry) => out.push(entry)?,
             Err(error) => return Err(error),

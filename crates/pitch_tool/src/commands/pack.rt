@@ -1,4 +1,5 @@
 ghost use Rattle.std.specs.Prelude.{◌≡◌, ◌≤◌, [], IfOk, IfErr, length};
+ghost use Rattle.pitch_fields.specs.Limits.{text_limit};
 ghost use Rattle.command_feed.specs.Feed.{AppendsPacking};
 ghost use Rattle.pitch_tool.specs.TextForms.{made, IsUnmade};
 ghost use Rattle.pitch_tool.specs.declared.job.TextForm.TheVariants.{Pack};
@@ -10,7 +11,7 @@ use std::alloc::Global;
 /// The datagrams that a unit's venue makes of a text of commands, back to back, once it has
 /// accepted all of them.
 pub fn pack(alloc: Global, unit: u8, text: &[u8]) -> Result<Vec<u8>, Failure>
-    requires { length text.now ≤ 67108864 }
+    requires { length text.now ≤ text_limit }
     ensures made { IfOk result (λ feed. made (Pack unit) text.now ≡ Ok feed.items) }
     ensures packing { IfOk result (λ feed. AppendsPacking unit text.now [] feed.items) }
     ensures unmade { IfErr result (IsUnmade (made (Pack unit) text.now)) }

@@ -1,4 +1,5 @@
 ghost use Rattle.std.specs.Prelude.{◌≡◌, ◌≤◌, Ok, IfOk, IfErr, length};
+ghost use Rattle.pitch_fields.specs.Limits.{text_limit};
 ghost use Rattle.pitch_tool.specs.TextForms.{AreWorkers, made, IsMadeOf, IsUnmade};
 ghost use Rattle.pitch_tool.specs.declared.job.TextForm.TheVariants.{Replay};
 
@@ -16,7 +17,7 @@ pub fn replay<R: Threads + Sync, G: Gate + Sync>(
     workers: u8,
     gate: &G,
 ) -> Result<Vec<u8>, Failure>
-    requires size { length text.now ≤ 67108864 }
+    requires size { length text.now ≤ text_limit }
     requires workers { AreWorkers workers }
     ensures made { IfOk result (λ written. made (Replay workers) text.now ≡ Ok written.items) }
     ensures run { IfOk result (λ written. IsMadeOf (Replay workers) text.now written.items) }

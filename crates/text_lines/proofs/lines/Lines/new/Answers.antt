@@ -1,5 +1,0 @@
-use Rattle.text_lines.proofs.TextLemmas.{items_all}
-use Rattle.text_lines.proofs.lines.Lines.new.Goals as goal
-
-pub returns : goal.returns
-returns g c = items_all g.G.Grammar.reading g.G.Grammar.entry_of c.args.text.now
