@@ -188,14 +188,3 @@ messages_as (Err at) = refl
 pub text_messages : (bytes : List ℕ) (items : List (Result CommandEntry TextError)) → items ≡ items_of command command_entry bytes → messages_of bytes ≡ accepted_in [] (all_of items)
 unfolding messages_of
 text_messages bytes items are = messages_as (entries_of command bytes) ∙ ap (accepted_in []) (sym (items_answer command command_entry bytes) ∙ ap (λ (l : List (Result CommandEntry TextError)). all_of l) (sym are))
-
--- ---- Datagrams
-pub joined_more : (lists : List (Roomy ℕ)) (i : ℕ) (list : Roomy ℕ) → slice_get lists i ≡ Some list → concat (bytes_in (take (i + 1) lists)) ≡ concat (bytes_in (take i lists)) ++ list.items
-joined_more lists i list at =
-    ap (λ (ls : List (Roomy ℕ)). concat (bytes_in ls)) (take_more lists i list (slice_get_within lists i list at))
-    ∙ ap (λ (l : Roomy ℕ). concat (bytes_in (take i lists ++ l ∷ []))) (get_or_from_slice_get lists i list list at)
-    ∙ joined (take i lists) list
-  where
-    joined : (ls : List (Roomy ℕ)) (l : Roomy ℕ) → concat (bytes_in (ls ++ l ∷ [])) ≡ concat (bytes_in ls) ++ l.items
-    joined [] l = append-nil l.items
-    joined (m ∷ ls) l = ap (λ (t : List ℕ). m.items ++ t) (joined ls l) ∙ sym (append_assoc m.items (concat (bytes_in ls)) l.items)

@@ -2,6 +2,7 @@ ghost use Rattle.std.specs.Prelude.{◌≡◌, ◌≤◌, ◌++◌, [], ◌⊎�
 ghost use Rattle.std.specs.Prelude.{IfOk, IfErr, length, take};
 ghost use Rattle.std.specs.List.{concat};
 ghost use Rattle.std.specs.Result.{result_err};
+ghost use Rattle.pitch_fields.specs.Limits.{text_limit};
 ghost use Rattle.pitch_text.specs.declared.command.CommandEntry.{CommandEntry};
 ghost use Rattle.text_lines.specs.Text.{all_of};
 ghost use Rattle.text_lines.specs.declared.fault.TextError.{TextError};
@@ -16,10 +17,9 @@ ghost use Rattle.command_feed.specs.declared.error.CommandError.TheVariants as e
 use crate::batch::Batch;
 use crate::error::CommandError;
 use pitch_fields::OutOfMemory;
-use pitch_messages::ByteList;
 use pitch_text::{CommandEntry, Commands, TextError};
 use std::alloc::Global;
-use unit_packets::DatagramList;
+use unit_packets::{DatagramList, append_datagrams};
 use venue_core::{Venue, VenueError};
 
 // The error of the command of a line.
@@ -112,7 +112,7 @@ fn accept_all(alloc: Global, venue: &mut Venue, mut items: Commands<'_>) -> Resu
 
 // The venue after the commands of a text.
 fn venue_after(alloc: Global, unit: u8, text: &[u8]) -> Result<Venue, CommandError>
-    requires { length text.now ≤ 67108864 }
+    requires { length text.now ≤ text_limit }
     ensures ok { IfOk result (λ venue. IsVenueAfter text.now venue) }
     ensures unit { IfOk result (λ venue. venue.unit ≡ unit) }
     ensures err { IfErr result
@@ -128,19 +128,8 @@ fn venue_after(alloc: Global, unit: u8, text: &[u8]) -> Result<Venue, CommandErr
     }
 }
 
-// Appends bytes, end to end. After OutOfMemory some may have been appended.
-fn append_all(datagrams: &[ByteList], out: &mut Vec<u8>) -> Result<(), OutOfMemory>
-    ensures ok { OnOk result (out.new.items ≡ out.old.items ++ concat (bytes_in datagrams.now)) }
-    ensures behind { take (length out.old.items) out.new.items ≡ out.old.items }
-{
-    'datagrams: for datagram in datagrams {
-        out.extend_from_slice(datagram.bytes())?;
-    }
-    Ok(())
-}
-
 // Appends the datagrams of all that a venue has pending. The bytes are as before after OutOfMemory.
-fn append_datagrams(venue: &mut Venue, alloc: Global, out: &mut Vec<u8>) -> Result<(), OutOfMemory>
+fn append_pending(venue: &mut Venue, alloc: Global, out: &mut Vec<u8>) -> Result<(), OutOfMemory>
     ensures ok { OnOk result ((accepted : List (List ℕ)) → Stands venue.old accepted 0
         → out.new.items ≡ out.old.items ++ concat (packed venue.old.unit 1 accepted)) }
     ensures packing { OnOk result ((accepted : List (List ℕ)) → Stands venue.old accepted 0
@@ -149,12 +138,7 @@ fn append_datagrams(venue: &mut Venue, alloc: Global, out: &mut Vec<u8>) -> Resu
 {
     let mut datagrams = DatagramList::make(alloc);
     venue.flush(&mut datagrams)?;
-    let start = out.len();
-    if let Err(error) = append_all(datagrams.as_slice(), out) {
-        out.truncate(start);
-        return Err(error);
-    }
-    Ok(())
+    append_datagrams(datagrams.as_slice(), out)
 }
 
 /// Appends the feed of a unit that a text of commands makes: its datagrams, end to end, from
@@ -169,7 +153,7 @@ pub fn append_feed(
     text: &[u8],
     out: &mut Vec<u8>,
 ) -> Result<(), CommandError>
-    requires { length text.now ≤ 67108864 }
+    requires { length text.now ≤ text_limit }
     ensures feed { OnOk result ((feed : List ℕ)
         × (feed_of unit text.now ≡ Ok feed) × (out.new.items ≡ out.old.items ++ feed)) }
     ensures packing { OnOk result (AppendsPacking unit text.now out.old.items out.new.items) }
@@ -178,7 +162,7 @@ pub fn append_feed(
     ensures kept { OnErr result (out.new.items ≡ out.old.items) }
 {
     let mut venue = venue_after(alloc, unit, text)?;
-    let appended = append_datagrams(&mut venue, alloc, out);
+    let appended = append_pending(&mut venue, alloc, out);
     // By a call: a function that drops a venue itself takes long to prove.
     drop(venue);
     appended?;

@@ -10,5 +10,4 @@ pub mod Speaking
 pub mod Units
 pub mod Following
 pub mod Followers
-pub mod Packed
 pub mod Examples

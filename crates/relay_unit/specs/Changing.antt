@@ -1,5 +1,5 @@
 -- What a block of either kind changes for the client of a relay.
-use Rattle.std.specs.Prelude.{ℕ, cond, List, [], ◌∷◌, ◌==◌, Result, Ok, Err, if◌then◌else◌}
+use Rattle.std.specs.Prelude.{ℕ, List, [], ◌∷◌, ◌==◌, Result, Ok, Err, if◌then◌else◌}
 use Rattle.unit_packets.specs.Blocks.{Block}
 use Rattle.pitch_messages.specs.Raw.{kind_of}
 use Rattle.pitch_messages.specs.Session.{session_reads}
@@ -49,4 +49,4 @@ session_change H E block = record {
 -- what a block changes that is heard after a history
 abbrev pub merged_change : ℕ → List Entry → Block → Change
 merged_change H E block =
-    cond (block.sequence == 0) (session_change H E block) (block_change H E block)
+    if block.sequence == 0 then session_change H E block else block_change H E block

@@ -1,5 +1,5 @@
 -- What a relay hears of the blocks of a merged stream: those of a line, and those of a Spin Server.
-use Rattle.std.specs.Prelude.{ℕ, Bool, ◌||◌, ◌&&◌, cond, List, [], ◌∷◌, ◌==◌, nat_le}
+use Rattle.std.specs.Prelude.{ℕ, Bool, ◌||◌, ◌&&◌, List, [], ◌∷◌, ◌==◌, nat_le}
 use Rattle.std.specs.Prelude.{Result, Ok, Err, if◌then◌else◌}
 use Rattle.unit_packets.specs.Blocks.{Block}
 use Rattle.pitch_messages.specs.Raw.{kind_of}
@@ -42,8 +42,8 @@ heard_session (raw ∷ raws) E = heard_session raws (heard_unsequenced raw E)
 -- a history with a block of either kind that is heard after it
 abbrev pub heard_merged : Block → List Entry → List Entry
 heard_merged block E =
-    cond (block.sequence == 0) (heard_session block.raws E)
-    (heard_sequenced block.sequence block.raws E)
+    if block.sequence == 0 then heard_session block.raws E
+    else heard_sequenced block.sequence block.raws E
 
 -- after each block comes a tick; what it asks for is not sent
 abbrev pub relay_heard : ℕ → Block → List Entry → List Entry

@@ -1,5 +1,6 @@
 -- What a relay sends: messages of its own that leave the book which it follows.
-use Rattle.std.specs.Prelude.{ℕ, Bool, cond, List, [], ◌∷◌, ◌++◌, nat_lt, take, drop, length, ◌+◌}
+use Rattle.std.specs.Prelude.{ℕ, Bool, List, [], ◌∷◌, ◌++◌, nat_lt, take, drop, length, ◌+◌}
+use Rattle.std.specs.Prelude.{if◌then◌else◌}
 use Rattle.std.specs.List.{list_any}
 use Rattle.pitch_messages.specs.declared.message.Message.TheVariants.{UnitClear}
 use Rattle.pitch_messages.specs.Writing.{written}
@@ -16,7 +17,7 @@ takes_image H E entry =
 -- what is sent for an entry that takes the reach from r to t: where an image was taken, Unit Clear
 -- and the image of the book through t; else the messages r + 1 to t
 abbrev pub sent_for : Bool → List Raw → ℕ → ℕ → List Raw
-sent_for taken V r t = cond taken (written (UnitClear 0) ∷ image V t) (drop r (take t V))
+sent_for taken V r t = if taken then written (UnitClear 0) ∷ image V t else drop r (take t V)
 
 -- what is sent over a history, where V are the venue's messages and the hold has H places
 abbrev pub relayed : ℕ → List Raw → List Entry → List Raw

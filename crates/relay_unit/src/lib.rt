@@ -10,7 +10,6 @@
 mod hearing;
 mod laws;
 mod outlet;
-mod packing;
 mod relay;
 mod relays;
 

@@ -3,11 +3,10 @@ ghost use Rattle.unit_packets.specs.Blocks.{StaysWithin};
 ghost use Rattle.unit_packets.specs.Packing.{packed};
 ghost use Rattle.relay_unit.specs.Outlets.{ListsMore, JoinsMore};
 
-use crate::packing::append_packed;
 use pitch_fields::OutOfMemory;
 use pitch_messages::Raws;
 use std::alloc::Global;
-use unit_packets::{DatagramList, pack};
+use unit_packets::{DatagramList, append_packed, pack};
 
 /// Where a relay appends its datagrams: a list of them, for who sends them one by one, or bytes,
 /// for a stream that has them one behind another.

@@ -1,7 +1,7 @@
 use Rattle.std.proofs.Common.{◌≡◌, ◌++◌, length, take}
 use Rattle.std.specs.List.{concat}
 use Rattle.unit_packets.specs.Packing.{bytes_in}
-use Rattle.relay_unit.proofs.packing.append_all.Given as goal
+use Rattle.unit_packets.proofs.joined.append_datagrams.Given as goal
 
 abbrev pub invariant-datagrams : goal.invariant-datagrams
 invariant-datagrams l = record {

@@ -5,13 +5,12 @@ use Rattle.std.proofs.lemmas.List.{append-nil, take_more}
 use Rattle.std.proofs.lemmas.Option.{get_or_from_slice_get, slice_get_within}
 use Rattle.std.proofs.lemmas.List.Folds.{concat-append}
 use Rattle.pitch_messages.specs.Room.{Roomy}
-use Rattle.pitch_model.specs.History.{Raw}
 use Rattle.unit_packets.specs.BlockBytes.{block_bytes}
 use Rattle.unit_packets.specs.Packing.{FitsDatagram, begun_datagrams, packed_on, packed, bytes_in}
 use Rattle.unit_packets.proofs.Packs.{fits_true, packed_takes}
 
 -- the first of them do too
-first_fit : (raws more : List Raw) → FitsDatagram (raws ++ more) → FitsDatagram raws
+first_fit : (raws more : List (List ℕ)) → FitsDatagram (raws ++ more) → FitsDatagram raws
 first_fit raws more fits =
     let size = fits.size in
     let count = fits.count in
@@ -19,11 +18,11 @@ first_fit raws more fits =
     let all = length-append raws more in
     record { size = omega arith; count = omega arith }
 
-nothing_more : (unit sequence : ℕ) (begun : List Raw) → packed_on unit sequence begun [] ≡ begun_datagrams unit sequence begun
+nothing_more : (unit sequence : ℕ) (begun : List (List ℕ)) → packed_on unit sequence begun [] ≡ begun_datagrams unit sequence begun
 unfolding packed_on
 nothing_more unit sequence begun = refl
 
-on_fit : (unit sequence : ℕ) (begun more : List Raw) → FitsDatagram (begun ++ more)
+on_fit : (unit sequence : ℕ) (begun more : List (List ℕ)) → FitsDatagram (begun ++ more)
     → packed_on unit sequence begun more ≡ begun_datagrams unit sequence (begun ++ more)
 on_fit unit sequence begun [] fits =
     nothing_more unit sequence begun ∙ ap (begun_datagrams unit sequence) (sym (append-nil begun))
@@ -34,16 +33,16 @@ on_fit unit sequence begun (raw ∷ more) fits =
     ∙ on_fit unit sequence (begun ++ raw ∷ []) more all
     ∙ ap (begun_datagrams unit sequence) grouped
 
-one_joined : (unit sequence : ℕ) (raws : List Raw) → 0 < length raws
+one_joined : (unit sequence : ℕ) (raws : List (List ℕ)) → 0 < length raws
     → concat (begun_datagrams unit sequence raws) ≡ block_bytes (record { unit = unit; sequence = sequence; raws = raws })
 one_joined unit sequence [] some = absurd (omega arith)
 one_joined unit sequence (raw ∷ raws) some = append-nil (block_bytes (record { unit = unit; sequence = sequence; raws = raw ∷ raws }))
 
-pub one_packed : (unit sequence : ℕ) (raws : List Raw) → 0 < length raws → FitsDatagram raws
+pub one_packed : (unit sequence : ℕ) (raws : List (List ℕ)) → 0 < length raws → FitsDatagram raws
     → block_bytes (record { unit = unit; sequence = sequence; raws = raws }) ≡ concat (packed unit sequence raws)
 one_packed unit sequence raws some fits = sym (ap concat (on_fit unit sequence [] raws fits) ∙ one_joined unit sequence raws some)
 
-pub none_packed : (unit sequence : ℕ) (raws : List Raw) → length raws ≡ 0 → concat (packed unit sequence raws) ≡ []
+pub none_packed : (unit sequence : ℕ) (raws : List (List ℕ)) → length raws ≡ 0 → concat (packed unit sequence raws) ≡ []
 none_packed unit sequence [] none = ap concat (nothing_more unit sequence [])
 none_packed unit sequence (raw ∷ raws) none = absurd (omega arith)
 

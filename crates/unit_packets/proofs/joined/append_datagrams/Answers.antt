@@ -3,8 +3,8 @@ use Rattle.std.specs.List.{concat}
 use Rattle.std.proofs.lemmas.List.{take_at}
 use Rattle.std.proofs.lemmas.Option.{slice_get_read}
 use Rattle.unit_packets.specs.Packing.{bytes_in}
-use Rattle.relay_unit.proofs.Packed.{joined_more}
-use Rattle.relay_unit.proofs.packing.append_all.Goals as goal
+use Rattle.unit_packets.proofs.Packed.{joined_more}
+use Rattle.unit_packets.proofs.joined.append_datagrams.Goals as goal
 
 pub datagrams-preserved : goal.datagrams-preserved
 datagrams-preserved c =

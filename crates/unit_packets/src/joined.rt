@@ -1,13 +1,18 @@
+//! Datagrams that are laid one behind another, as a stream has them.
+
 ghost use Rattle.std.specs.Prelude.{◌≡◌, ◌+◌, ◌≤◌, ◌++◌, length, OnOk, OnErr, IsTrue, IsFalse};
 ghost use Rattle.std.specs.List.{concat};
-ghost use Rattle.unit_packets.specs.BlockBytes.{header_bytes, block_bytes};
+ghost use Rattle.unit_packets.specs.BlockBytes.{block_bytes};
 ghost use Rattle.unit_packets.specs.Blocks.{StaysWithin};
 ghost use Rattle.unit_packets.specs.Packing.{FitsDatagram, bytes_in, packed};
 
+use crate::header::Header;
+use crate::packer::{DATAGRAM_SIZE, DatagramList};
+use crate::packing::pack;
+use crate::writing::header_bytes;
 use pitch_fields::OutOfMemory;
 use pitch_messages::{ByteList, Raws};
 use std::alloc::Global;
-use unit_packets::{DATAGRAM_SIZE, DatagramList, Header, pack};
 
 // Whether messages go into one datagram.
 fn is_one_datagram(raws: &Raws<'_>) -> bool
@@ -16,26 +21,8 @@ fn is_one_datagram(raws: &Raws<'_>) -> bool
     raws.len() <= 255 && raws.joined().len() <= DATAGRAM_SIZE - 8
 }
 
-// The eight bytes of a header.
-fn header_bytes(header: Header) -> [u8; 8]
-    ensures { result ≡ header_bytes header }
-{
-    let [length, more_length] = header.length.to_le_bytes();
-    let [first, second, third, fourth] = header.sequence.to_le_bytes();
-    [
-        length,
-        more_length,
-        header.count,
-        header.unit,
-        first,
-        second,
-        third,
-        fourth,
-    ]
-}
-
 // Appends the block of messages that go into one datagram.
-#[tactic(auto, unfolding(unit_packets::specs::BlockBytes::block_bytes))]
+#[tactic(auto, unfolding(crate::specs::BlockBytes::block_bytes))]
 fn append_block(
     unit: u8,
     sequence: u32,
@@ -71,8 +58,8 @@ fn append_bytes(bytes: &[u8], out: &mut Vec<u8>) -> Result<(), OutOfMemory>
     Ok(())
 }
 
-// Appends the bytes of datagrams.
-fn append_all(datagrams: &[ByteList], out: &mut Vec<u8>) -> Result<(), OutOfMemory>
+/// Appends the bytes of datagrams, one behind another. They are as before after OutOfMemory.
+pub fn append_datagrams(datagrams: &[ByteList], out: &mut Vec<u8>) -> Result<(), OutOfMemory>
     ensures ok { OnOk result (out.new.items ≡ out.old.items ++ concat (bytes_in datagrams.now)) }
     ensures err { OnErr result (out.new.items ≡ out.old.items) }
 {
@@ -89,9 +76,9 @@ fn append_all(datagrams: &[ByteList], out: &mut Vec<u8>) -> Result<(), OutOfMemo
     Ok(())
 }
 
-// Appends the datagrams of messages, the first of which has this sequence, one behind another. The
-// bytes are as before after OutOfMemory.
-pub(crate) fn append_packed(
+/// Appends the packed datagrams of messages, the first of which has this sequence, one behind
+/// another. The bytes are as before after OutOfMemory.
+pub fn append_packed(
     alloc: Global,
     unit: u8,
     first: u32,
@@ -111,5 +98,5 @@ pub(crate) fn append_packed(
     }
     let mut datagrams = DatagramList::make(alloc);
     pack(alloc, unit, first, raws, &mut datagrams)?;
-    append_all(datagrams.as_slice(), out)
+    append_datagrams(datagrams.as_slice(), out)
 }
