@@ -3,6 +3,7 @@ use Rattle.std.proofs.Common.{◌≡◌, ℕ, ◌+◌, true, false, Bool, List, 
 use Rattle.std.proofs.lemmas.List.{append-nil, length-drop}
 use Rattle.std.specs.List.{concat}
 use Rattle.unit_packets.specs.Causes.{counted}
+use Rattle.unit_packets.proofs.Feeds.{FedOn, all_fed}
 use Rattle.pcap_feed.specs.Capture.{Packet, judge_head, judge_record, front_of, is_cut_off, ordered, begin_of, packets_from, left_from, order_told_from, packets_of, left_of, order_told, capture_place, error_in, left_error, capture_fault_from, capture_fault, capture_end_fault}
 use Rattle.pcap_feed.specs.Lent.{StandsAtFront}
 use Rattle.pcap_feed.specs.Feeding.{CutsRecords, CutsCapture, Stops, Capturing, unfed, HoldsCapture, FeedsCapture, FeedsPieces, CapturePiecesAreCut, CapturePiecesDoNotMatter, WithRoomFor, GoesOn, capture_answer, held_fault_on, held_fault}
@@ -155,28 +156,17 @@ stands_unfed =
 pub no_packets : packets_of [] ≡ []
 no_packets = (unread_of [] (Truncated 0 24) nothing_unread).packets
 
-record AllFed (fed pieces : List ℕ) (new : Capturing) (before after : List Packet) : Type 0 where
-  stands : HoldsCapture new (fed ++ pieces)
-  packets : before ≡ packets_of fed → after ≡ packets_of (fed ++ pieces)
-
-all_fed : (pieces : List (List ℕ)) (fed : List ℕ) (old new : Capturing) (before after : List Packet) → HoldsCapture old fed → FeedsPieces pieces old new before after → AllFed fed (concat pieces) new before after
-all_fed [] fed old new before after stands (same, none) = record {
-  stands = subst (λ (r : Capturing). HoldsCapture r (fed ++ [])) (sym same) (subst (λ (b : List ℕ). HoldsCapture old b) (sym (append-nil fed)) stands);
-  packets = λ was. none ∙ was ∙ ap packets_of (sym (append-nil fed));
-}
-all_fed (piece ∷ pieces) fed old new before after stands (next, middle, answer, one, others) =
-    let first = one fed stands in
-    let then = all_fed pieces (fed ++ piece) next new middle after first.stands others in
-    let join : (fed ++ piece) ++ concat pieces ≡ fed ++ concat (piece ∷ pieces) = append_assoc fed piece (concat pieces) in
-    record {
-      stands = subst (λ (b : List ℕ). HoldsCapture new b) join then.stands;
-      packets = λ was. then.packets (first.given ∙ ap (λ (ps : List Packet). ps ++ first.added) was ∙ sym first.packets) ∙ ap packets_of join;
-    }
+packets_fed : (pieces : List (List ℕ)) (old new : Capturing) (before after : List Packet) → HoldsCapture old [] → FeedsPieces pieces old new before after → FedOn HoldsCapture packets_of [] (concat pieces) new before after
+packets_fed pieces = all_fed HoldsCapture packets_of _
+    (λ old new fed piece before after answer stands feeds.
+        let did = feeds fed stands in
+        record { stands = did.stands; puts = λ was. did.given ∙ ap (λ (ps : List Packet). ps ++ did.added) was ∙ sym did.packets })
+    pieces []
 
 pub pieces_are_cut : CapturePiecesAreCut
 pieces_are_cut pieces reading packets all =
-    let a = all_fed pieces [] unfed reading [] packets stands_unfed all in
-    (a.packets (sym no_packets), a.stands.fault_is, a.stands)
+    let a = packets_fed pieces unfed reading [] packets stands_unfed all in
+    (a.puts (sym no_packets), a.stands.fault_is, a.stands)
 
 pub pieces_do_not_matter : CapturePiecesDoNotMatter
 pieces_do_not_matter pieces others reading left packets some same one other =

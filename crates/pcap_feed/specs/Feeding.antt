@@ -3,6 +3,7 @@ use Rattle.std.specs.Prelude.{◌≡◌, ℕ, ◌+◌, ◌≤◌, Bool, List, []
 use Rattle.std.specs.Prelude.{None, Some, Result, Ok, Err}
 use Rattle.std.specs.List.{concat}
 use Rattle.unit_packets.specs.Causes.{counted}
+use Rattle.unit_packets.specs.Feeding.{FeedsEach}
 use Rattle.pcap_feed.specs.Stream.{items_within, left_over}
 use Rattle.pcap_feed.specs.Capture.{Packet, judge_head, judge_record, front_of, packets_from}
 use Rattle.pcap_feed.specs.Capture.{left_from, order_told_from, packets_of, left_of, order_told}
@@ -141,13 +142,11 @@ pub record CutsCapture (told : Option ByteOrder) (bytes : List ℕ) (told_then :
   pub stop : Stops told_then (drop put_behind bytes) error
 
 -- ---- Laws
--- pieces that were fed one after the other, with memory for each
-abbrev pub FeedsPieces : List (List ℕ) → Capturing → Capturing → List Packet → List Packet → Type 0
-FeedsPieces [] old new before after = (new ≡ old) × (after ≡ before)
-FeedsPieces (piece ∷ pieces) old new before after =
-    (next : Capturing) × (middle : List Packet) × (answer : Result (Unit {0}) CaptureFeedError)
-    × ((fed : List ℕ) → HoldsCapture old fed → FeedsCapture fed piece next before middle answer)
-    × FeedsPieces pieces next new middle after
+-- a reader of records was fed these pieces, with memory for each
+abbrev pub FeedsPieces :
+    List (List ℕ) → Capturing → Capturing → List Packet → List Packet → Type 0
+FeedsPieces = FeedsEach (λ old piece new before after answer.
+    (fed : List ℕ) → HoldsCapture old fed → FeedsCapture fed piece new before after answer)
 
 -- what was fed in pieces is cut as all bytes in one are
 abbrev pub CapturePiecesAreCut : Type 0

@@ -8,7 +8,7 @@ use Rattle.unit_packets.specs.Judging.{judge}
 use Rattle.unit_packets.specs.Lending.{header_for, StandsFirst}
 use Rattle.unit_packets.specs.Cutting.{blocks_of, rest_of, place_of, fault_in, fault_from}
 use Rattle.unit_packets.specs.Reading.{Reading, unread}
-use Rattle.unit_packets.specs.Feeding.{fed_fault, kept_fault, StandsFor, fed_answer, Feeds, WithMemory, CutsTo, FeedsAll, PiecesAreCut, PiecesDoNotMatter}
+use Rattle.unit_packets.specs.Feeding.{fed_fault, kept_fault, StandsFor, fed_answer, Feeds, WithMemory, CutsTo, FeedsEach, FeedsAll, PiecesAreCut, PiecesDoNotMatter}
 use Rattle.unit_packets.specs.declared.header.BlockError.{BlockError}
 use Rattle.unit_packets.specs.declared.header.BlockFault.{BlockFault}
 use Rattle.unit_packets.specs.declared.block.FeedError.{FeedError}
@@ -144,28 +144,40 @@ blocks_none : blocks_of [] ≡ []
 unfolding blocks_of blocks_by
 blocks_none = refl
 
-record AllFed (fed pieces : List ℕ) (new : Reading) (before after : List Block) : Type 0 where
-  stands : StandsFor new (fed ++ pieces)
-  blocks : before ≡ blocks_of fed → after ≡ blocks_of (fed ++ pieces)
+-- whatever a reader stands for and puts out, where one piece more is fed
+pub record FedOn {Reader Item : Type 0} (Stands : Reader → List ℕ → Type 0) (cut : List ℕ → List Item)
+    (fed piece : List ℕ) (new : Reader) (before after : List Item) : Type 0 where
+  pub stands : Stands new (fed ++ piece)
+  pub puts : before ≡ cut fed → after ≡ cut (fed ++ piece)
 
-all_fed : (pieces : List (List ℕ)) (fed : List ℕ) (old new : Reading) (before after : List Block) → StandsFor old fed → FeedsAll pieces old new before after → AllFed fed (concat pieces) new before after
-all_fed [] fed old new before after stands (same, none) = record {
-  stands = subst (λ (r : Reading). StandsFor r (fed ++ [])) (sym same) (subst (λ (b : List ℕ). StandsFor old b) (sym (append-nil fed)) stands);
-  blocks = λ was. none ∙ was ∙ ap blocks_of (sym (append-nil fed));
+pub all_fed : {Reader Item Answer : Type 0} (Stands : Reader → List ℕ → Type 0) (cut : List ℕ → List Item)
+    (does : Reader → List ℕ → Reader → List Item → List Item → Answer → Type 0)
+    → ((old new : Reader) (fed piece : List ℕ) (before after : List Item) (answer : Answer) → Stands old fed → does old piece new before after answer → FedOn Stands cut fed piece new before after)
+    → (pieces : List (List ℕ)) (fed : List ℕ) (old new : Reader) (before after : List Item) → Stands old fed → FeedsEach does pieces old new before after → FedOn Stands cut fed (concat pieces) new before after
+all_fed {Reader} Stands cut does one [] fed old new before after stands (same, none) = record {
+  stands = subst (λ (r : Reader). Stands r (fed ++ [])) (sym same) (subst (λ (b : List ℕ). Stands old b) (sym (append-nil fed)) stands);
+  puts = λ was. none ∙ was ∙ ap cut (sym (append-nil fed));
 }
-all_fed (piece ∷ pieces) fed old new before after stands (next, middle, answer, one, others) =
-    let first = one fed stands in
-    let then = all_fed pieces (fed ++ piece) next new middle after first.stands others in
+all_fed Stands cut does one (piece ∷ pieces) fed old new before after stands (next, middle, answer, feeds, others) =
+    let first = one old next fed piece before middle answer stands feeds in
+    let then = all_fed Stands cut does one pieces (fed ++ piece) next new middle after first.stands others in
     let join : (fed ++ piece) ++ concat pieces ≡ fed ++ concat (piece ∷ pieces) = append_assoc fed piece (concat pieces) in
     record {
-      stands = subst (λ (b : List ℕ). StandsFor new b) join then.stands;
-      blocks = λ was. then.blocks (first.given ∙ ap (λ (bs : List Block). bs ++ first.added) was ∙ sym first.blocks) ∙ ap blocks_of join;
+      stands = subst (λ (b : List ℕ). Stands new b) join then.stands;
+      puts = λ was. then.puts (first.puts was) ∙ ap cut join;
     }
+
+blocks_fed : (pieces : List (List ℕ)) (old new : Reading) (before after : List Block) → StandsFor old [] → FeedsAll pieces old new before after → FedOn StandsFor blocks_of [] (concat pieces) new before after
+blocks_fed pieces = all_fed StandsFor blocks_of _
+    (λ old new fed piece before after answer stands feeds.
+        let did = feeds fed stands in
+        record { stands = did.stands; puts = λ was. did.given ∙ ap (λ (bs : List Block). bs ++ did.added) was ∙ sym did.blocks })
+    pieces []
 
 pub pieces_are_cut : PiecesAreCut
 pieces_are_cut pieces reading blocks all =
-    let a = all_fed pieces [] unread reading [] blocks stands_unread all in
-    (a.blocks (sym blocks_none), stands_fault false reading (concat pieces) a.stands, a.stands)
+    let a = blocks_fed pieces unread reading [] blocks stands_unread all in
+    (a.puts (sym blocks_none), stands_fault false reading (concat pieces) a.stands, a.stands)
 
 pub pieces_do_not_matter : PiecesDoNotMatter
 pieces_do_not_matter pieces others reading left blocks some same one other =

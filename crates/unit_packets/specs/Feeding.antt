@@ -72,13 +72,20 @@ pub record CutsTo (bytes : List ℕ) (passed : ℕ) (error : BlockError) (before
   pub stop : judge (drop passed bytes) ≡ Err error
 
 -- ---- Laws
--- pieces that were fed one after the other, with memory for each
+-- pieces that were fed one after the other, with memory for each, where `does` says what one does
+-- to a reader and to what it has put out
+abbrev pub FeedsEach : {Reader Item Answer : Type 0}
+    → (Reader → List ℕ → Reader → List Item → List Item → Answer → Type 0)
+    → List (List ℕ) → Reader → Reader → List Item → List Item → Type 0
+FeedsEach does [] old new before after = (new ≡ old) × (after ≡ before)
+FeedsEach {Reader} {Item} {Answer} does (piece ∷ pieces) old new before after =
+    (next : Reader) × (middle : List Item) × (answer : Answer)
+    × does old piece next before middle answer × FeedsEach does pieces next new middle after
+
+-- a reader of blocks was fed these
 abbrev pub FeedsAll : List (List ℕ) → Reading → Reading → List Block → List Block → Type 0
-FeedsAll [] old new before after = (new ≡ old) × (after ≡ before)
-FeedsAll (piece ∷ pieces) old new before after =
-    (next : Reading) × (middle : List Block) × (answer : Result (Unit {0}) FeedError)
-    × ((fed : List ℕ) → StandsFor old fed → Feeds fed piece next before middle answer)
-    × FeedsAll pieces next new middle after
+FeedsAll = FeedsEach (λ old piece new before after answer.
+    (fed : List ℕ) → StandsFor old fed → Feeds fed piece new before after answer)
 
 -- what was fed in pieces is cut as all bytes in one are
 abbrev pub PiecesAreCut : Type 0
