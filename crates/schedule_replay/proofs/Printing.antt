@@ -1,11 +1,9 @@
 -- What a line prints.
 use Rattle.std.proofs.Common.{◌≡◌, ◌≤◌, ℕ, List, [], ◌∷◌, ◌++◌, length, length-take, take, drop, refl, sym, ap, ◌∙◌, arith, append_assoc, codes, decimal}
 use Rattle.std.proofs.lemmas.List.{take_at, take-append-drop, take-append-le}
-use Rattle.feed_lines.specs.Follow.{overflow_text}
-use Rattle.feed_lines.specs.StatusText.{status_text}
 use Rattle.pitch_text.specs.declared.verb.Verb.{Verb}
 use Rattle.pitch_text.specs.declared.verb.Verb.TheVariants as verbs
-use Rattle.world_model.specs.Printed.{printed, printed_line, outcome_text, shown_state, shown_at, verb_text}
+use Rattle.world_model.specs.Printed.{printed, printed_line, shown_state, shown_at, verb_text}
 use Rattle.world_model.specs.State.{State}
 use Rattle.world_model.specs.Verbs.{next_state, state_of}
 use Rattle.world_model.specs.declared.limits.Limits.{Limits}
@@ -24,13 +22,6 @@ pub behind_of : (old new text : List ℕ) → new ≡ old ++ text → take (leng
 behind_of old new text is = ap (take (length old)) is ∙ take_at old text (length old) refl
 
 -- ---- The printed line
-
-pub printed_is : (line unit : ℕ) (verb : Verb) (p : Printed)
-    → (decimal line ++ (32 ∷ [] ++ (decimal unit ++ 32 ∷ []))) ++ (outcome_text verb p.outcome ++ (overflow_text p.overflow ++ (codes "; " ++ (status_text p.status ++ 10 ∷ [])))) ≡ printed_line line unit verb p
-unfolding printed_line
-printed_is line unit verb p =
-    let rest : List ℕ = outcome_text verb p.outcome ++ (overflow_text p.overflow ++ (codes "; " ++ (status_text p.status ++ 10 ∷ []))) in
-    append_assoc (decimal line) (32 ∷ (decimal unit ++ 32 ∷ [])) rest ∙ ap (λ (t : List ℕ). decimal line ++ 32 ∷ t) (append_assoc (decimal unit) (32 ∷ []) rest)
 
 -- what `show` prints after its line is the same before it and after it
 shown_same : (unit : ℕ) (limits : Limits) (verb : Verb) (s : State) → shown_at unit limits verb (next_state unit limits verb s) ≡ shown_at unit limits verb s

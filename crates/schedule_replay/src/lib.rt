@@ -8,7 +8,6 @@
 mod apart;
 mod error;
 pub mod laws;
-mod lines;
 mod merging;
 mod replaying;
 mod running;

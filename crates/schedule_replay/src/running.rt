@@ -2,6 +2,7 @@
 
 ghost use Rattle.std.specs.Prelude.{◌≡◌, ◌≤◌, ◌++◌, ◌⊎◌, [], ◌∷◌, List, ℕ, length, take, OnOk};
 ghost use Rattle.std.specs.Prelude.{OnErr, IfOk, IfErr, IfSome, IfNone, IsSome, Ok, Err};
+ghost use Rattle.pitch_fields.specs.Limits.{text_limit};
 ghost use Rattle.pitch_text.specs.WellFormed.{IsVerb, IsWellFormed};
 ghost use Rattle.pitch_text.specs.declared.verb.ScheduleEntry.{ScheduleEntry as EntrySaid};
 ghost use Rattle.pitch_text.specs.declared.verb.Verb.{Verb as VerbSaid};
@@ -17,7 +18,6 @@ ghost use Rattle.schedule_replay.specs.Worlds.{worlds_in};
 ghost use Rattle.schedule_replay.specs.declared.error.ReplayError.TheVariants as errors;
 
 use crate::error::ReplayError;
-use crate::lines::append_printed;
 use crate::units::replay_work;
 use pitch_fields::OutOfMemory;
 use pitch_io::Gate;
@@ -27,7 +27,7 @@ use pitch_text::{
     ScheduleEntry, TextError, Verb,
 };
 use std::alloc::Global;
-use world_model::{Limits, World};
+use world_model::{Limits, World, append_printed};
 
 /// A list of worlds.
 pub type WorldList = pitch_messages::List<World>;
@@ -72,19 +72,7 @@ fn limits_at(verb: &Verb) -> Limits
             minute,
             day,
         },
-        Verb::Command(_) => default_limits(),
-        Verb::Flush => default_limits(),
-        Verb::Beat => default_limits(),
-        Verb::Deliver { .. } => default_limits(),
-        Verb::Rest { .. } => default_limits(),
-        Verb::Connect(_) => default_limits(),
-        Verb::Cut(_) => default_limits(),
-        Verb::Up { .. } => default_limits(),
-        Verb::Down { .. } => default_limits(),
-        Verb::Advertise => default_limits(),
-        Verb::Tick => default_limits(),
-        Verb::Show => default_limits(),
-        Verb::Quote { .. } => default_limits(),
+        _ => default_limits(),
     }
 }
 
@@ -141,19 +129,7 @@ fn append_shown(world: &World, verb: &Verb, out: &mut Vec<u8>) -> Result<(), Out
 {
     match verb {
         Verb::Show => world.show(out),
-        Verb::Command(_) => Ok(()),
-        Verb::Setup { .. } => Ok(()),
-        Verb::Flush => Ok(()),
-        Verb::Beat => Ok(()),
-        Verb::Deliver { .. } => Ok(()),
-        Verb::Rest { .. } => Ok(()),
-        Verb::Connect(_) => Ok(()),
-        Verb::Cut(_) => Ok(()),
-        Verb::Up { .. } => Ok(()),
-        Verb::Down { .. } => Ok(()),
-        Verb::Advertise => Ok(()),
-        Verb::Tick => Ok(()),
-        Verb::Quote { .. } => Ok(()),
+        _ => Ok(()),
     }
 }
 
@@ -259,7 +235,7 @@ fn run_text<G: Gate>(
     text: &[u8],
     out: &mut Vec<u8>,
 ) -> Result<(), ReplayError>
-    requires size { length text.now ≤ 67108864 }
+    requires size { length text.now ≤ text_limit }
     requires none { ArePlaces [] places.old.items }
     ensures runs { OnOk result (RunsText text.now places.new.items out.old.items out.new.items) }
     ensures cause { IfErr result
@@ -312,7 +288,7 @@ pub(crate) fn replay_together<G: Gate>(
     worlds: &mut WorldList,
     out: &mut Vec<u8>,
 ) -> Result<(), ReplayError>
-    requires { length text.now ≤ 67108864 }
+    requires { length text.now ≤ text_limit }
     ensures written { OnOk result ((written : List ℕ)
         × (replay_of text.now ≡ Ok written) × (out.new.items ≡ out.old.items ++ written)) }
     ensures worlds { OnOk result (AddsWorlds text.now worlds.old.items worlds.new.items) }

@@ -14,4 +14,5 @@ mod Sessions
 mod SpinActing
 mod Ticking
 mod Examples
+mod PrintedLines
 pub mod Spending

@@ -9,12 +9,12 @@ ghost use Rattle.venue_core.specs.Causes.{refusal_text};
 ghost use Rattle.world_model.specs.Printed.{ask_text, best_text, outcome_text, printed_line};
 ghost use Rattle.world_model.specs.Printed.{quoted_symbol};
 
+use crate::outcome::{Outcome, Printed};
 use feed_lines::{LINE, put_overflow, put_status};
 use pitch_fields::{OutOfMemory, Price, put_byte, put_name, put_number, put_price, put_text};
 use pitch_model::Ask;
 use pitch_text::Verb;
 use venue_core::VenueError;
-use world_model::{Outcome, Printed};
 
 // Writes a number after a word.
 fn put_counted(out: &mut [u8], at: usize, word: &[u8], value: u64) -> usize
@@ -96,19 +96,7 @@ fn put_quoted(out: &mut [u8], at: usize, verb: &Verb) -> usize
             let bytes = symbol.bytes();
             put_name(out, at, &bytes)
         }
-        Verb::Command(_) => at,
-        Verb::Setup { .. } => at,
-        Verb::Flush => at,
-        Verb::Beat => at,
-        Verb::Deliver { .. } => at,
-        Verb::Rest { .. } => at,
-        Verb::Connect(_) => at,
-        Verb::Cut(_) => at,
-        Verb::Up { .. } => at,
-        Verb::Down { .. } => at,
-        Verb::Advertise => at,
-        Verb::Tick => at,
-        Verb::Show => at,
+        _ => at,
     }
 }
 
@@ -152,7 +140,7 @@ fn put_ask(out: &mut [u8], at: usize, ask: Ask) -> usize
 }
 
 // Writes what became of a verb.
-#[tactic(auto, unfolding(world_model::specs::Printed::outcome_text))]
+#[tactic(auto, unfolding(crate::specs::Printed::outcome_text))]
 fn put_outcome(out: &mut [u8], at: usize, verb: &Verb, outcome: Outcome) -> usize
     requires { at + 250 ≤ length out.old }
     ensures end { result ≤ at + 250 }
@@ -254,7 +242,7 @@ fn put_printed(
 }
 
 /// Appends the line of a verb. The text is as before after OutOfMemory.
-pub(crate) fn append_printed(
+pub fn append_printed(
     line: u32,
     unit: u8,
     verb: &Verb,

@@ -3,8 +3,8 @@ use Rattle.feed_lines.specs.Follow.{overflow_text}
 use Rattle.feed_lines.specs.StatusText.{status_text}
 use Rattle.world_model.specs.Printed.{outcome_text}
 use Rattle.world_model.specs.declared.outcome.Printed.{Printed}
-use Rattle.schedule_replay.proofs.Printing.{printed_is}
-use Rattle.schedule_replay.proofs.lines.put_printed.Goals as goal
+use Rattle.world_model.proofs.PrintedLines.{printed_is}
+use Rattle.world_model.proofs.lines.put_printed.Goals as goal
 
 pub returns-clause-text : goal.returns-clause-text
 returns-clause-text c =
