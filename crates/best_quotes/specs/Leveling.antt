@@ -1,5 +1,5 @@
 -- Levels in maps: for each symbol what is open on either side at each price, where anything is.
-use Rattle.std.specs.Prelude.{◌≡◌, ℕ, ◌+◌, ◌-◌, ◌==◌, cond, List, bytes_eq, Option, Some, None}
+use Rattle.std.specs.Prelude.{◌≡◌, ℕ, ◌+◌, ◌-◌, ◌==◌, List, bytes_eq, Option, Some, None}
 use Rattle.std.specs.Prelude.{IsSome, if◌then◌else◌}
 use Rattle.std.specs.Map.{lookup}
 use Rattle.std.specs.Ordering.{nat_cmp}
@@ -28,12 +28,12 @@ HasPrices prices shares = (price : ℕ) → get nat_cmp prices price ≡ standin
 abbrev pub SetsPrice : Prices → ℕ → ℕ → Prices → Type 0
 SetsPrice prices price n prices' =
     (other : ℕ)
-    → get nat_cmp prices' other ≡ cond (price == other) (standing n) (get nat_cmp prices other)
+    → get nat_cmp prices' other ≡ (if price == other then standing n else get nat_cmp prices other)
 
 -- the shares of an order at a price; none where it has another one
 abbrev pub priced : ℕ → Option Order → ℕ
 priced price None = 0
-priced price (Some order) = cond (price == order.price) order.quantity 0
+priced price (Some order) = if price == order.price then order.quantity else 0
 
 -- shares without those of one order, and with those of another
 abbrev pub moved_at : Option Order → Option Order → (ℕ → ℕ) → ℕ → ℕ

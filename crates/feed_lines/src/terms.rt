@@ -23,12 +23,7 @@ impl Terms {
           price = price;
         } }
     {
-        Terms {
-            side,
-            quantity,
-            symbol: Symbol::from_six(symbol),
-            price: Price::from_long(price),
-        }
+        Terms::of_expanded(side, quantity, Symbol::from_six(symbol).bytes(), price)
     }
 
     /// The terms in a short form.
@@ -41,12 +36,8 @@ impl Terms {
           price = long_price price;
         } }
     {
-        Terms {
-            side,
-            quantity: u32::from(quantity),
-            symbol: Symbol::from_six(symbol),
-            price: Price::from_short(price),
-        }
+        let price = Price::from_short(price).ten_thousandths();
+        Terms::of_long(side, u32::from(quantity), symbol, price)
     }
 
     /// The terms in an expanded form.

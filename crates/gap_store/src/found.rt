@@ -21,7 +21,8 @@ pub enum Found {
 
 /// Where messages of a unit can be looked up by their sequences.
 pub trait GapLookup {
-    /// Which messages so far, and how many of the last are kept, it may be seen as. They only grow.
+    /// The views that a look-up may have of it: the messages so far, of which so many of the last
+    /// are kept. Both only grow.
     ghost shows: { Self → View → Type 0 };
 
     /// Whether nobody else pushes there: then a look-up leaves it as it was.

@@ -1,5 +1,5 @@
 -- The commands as clap's builders make them.
-use Rattle.std.specs.Prelude.{cond, true, false, List, [], map, Some}
+use Rattle.std.specs.Prelude.{true, false, List, [], map, Some, if◌then◌else◌}
 use Rattle.clap.specs.Walk.{Rule}
 use Rattle.clap.specs.Simple.{App, Shape, new_rule, new_shape}
 use Rattle.clap.specs.declared.builder.action.ArgAction.TheVariants.{Set, SetTrue}
@@ -8,7 +8,11 @@ use Rattle.long_options.specs.Words.{Described, Listed, Text}
 -- an option `--name`, with one value or none
 abbrev pub option_rule : Listed → Rule
 option_rule o =
-    record (new_rule o.0) { long = Some o.0; action = Some (cond o.2 SetTrue Set); required = o.1 }
+    record (new_rule o.0) {
+      long = Some o.0;
+      action = Some (if o.2 then SetTrue else Set);
+      required = o.1;
+    }
 
 -- a command with its options, and no help or version
 abbrev pub command_shape : Described → Shape

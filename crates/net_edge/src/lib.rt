@@ -2,9 +2,9 @@
 //!
 //! [`demo`] runs a venue with its Gap Request Proxy and its Spin Server at one end of three lines
 //! and two connections, and a client at the other. Both servers answer from a shared unit, whose
-//! writer is the venue. Whatever the net loses, repeats, reorders
-//! or cuts, each end makes of what came to it just what the definitions of its crate say.
-//! `specs/Demo.antt` says what such a run is.
+//! writer is the venue. Whatever the net loses, repeats, reorders or cuts, each end makes of what
+//! came to it just what the definitions of its crate say. `specs/Demo.antt` says what such a run
+//! is.
 #![tactic(auto)]
 
 mod client_end;

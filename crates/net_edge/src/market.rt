@@ -26,7 +26,7 @@ use std::alloc::Global;
 use unit_packets::{DatagramList, pack};
 
 /// The venue's side: it accepts messages and advertises images, and the proxy and the Spin Server
-/// look both up there.
+/// look them up there.
 pub(crate) trait Market {
     /// These messages were accepted, and the images through these sequences advertised.
     ghost has: { Self → List RawSaid → List ℕ → Type 0 };

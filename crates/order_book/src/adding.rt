@@ -13,6 +13,7 @@ pub(crate) fn is_displayed(flags: u8) -> bool
 }
 
 // The order of an add in the long form.
+#[inline]
 pub(crate) fn order_of_long(
     id: u64,
     side: Side,
@@ -23,18 +24,12 @@ pub(crate) fn order_of_long(
 ) -> Order
     ensures { result ≡ order_of_long id side quantity symbol price flags }
 {
-    Order {
-        id,
-        side,
-        quantity,
-        symbol: Symbol::from_six(symbol),
-        price: Price::from_long(price),
-        display: is_displayed(flags),
-        participant: *b"    ",
-    }
+    let symbol = Symbol::from_six(symbol).bytes();
+    order_of_expanded(id, side, quantity, symbol, price, flags, *b"    ")
 }
 
 // The order of an add in the short form.
+#[inline]
 pub(crate) fn order_of_short(
     id: u64,
     side: Side,
@@ -45,18 +40,12 @@ pub(crate) fn order_of_short(
 ) -> Order
     ensures { result ≡ order_of_short id side quantity symbol price flags }
 {
-    Order {
-        id,
-        side,
-        quantity: u32::from(quantity),
-        symbol: Symbol::from_six(symbol),
-        price: Price::from_short(price),
-        display: is_displayed(flags),
-        participant: *b"    ",
-    }
+    let price = Price::from_short(price).ten_thousandths();
+    order_of_long(id, side, u32::from(quantity), symbol, price, flags)
 }
 
 // The order of an add in the expanded form.
+#[inline]
 pub(crate) fn order_of_expanded(
     id: u64,
     side: Side,

@@ -1,10 +1,10 @@
 //! The book of one unit: its open orders and trading statuses.
 //!
 //! `UnitBook::apply` has exactly the effect that the definition of the book gives a message, or the
-//! book is unchanged and the answer is want of memory. `reserve` makes room for messages
-//! ahead, and none is refused while there is room for one. `turn_bytes` does so too, and tells
-//! which order became which. Orders, levels, best prices and statuses can be asked for at any time.
-//! `image_of` writes the messages that make a book anew.
+//! book is unchanged and the answer is want of memory. `reserve` makes room for messages ahead, and
+//! none is refused while there is room for one. `turn_bytes` does so too, and tells which order
+//! became which. Orders, levels, best prices and statuses can be asked for at any time. `image_of`
+//! writes the messages that make a book anew.
 #![tactic(auto)]
 
 mod adding;

@@ -90,41 +90,42 @@ heard_item block (item.SpinReply sequence orders status) E is = absurd is
 heard_item block (item.ImageMessages raws) E is = absurd is
 heard_item block (item.SpinFinished sequence) E is = absurd is
 
+-- what is counted of messages and of nothing else
+record CountsMessages (of : Item → ℕ) (count : ℕ → List Raw → ℕ) : Type 0 where
+  messages : (first : ℕ) (raws : item.RawList) → of (item.Messages first raws) ≡ count first raws.items
+  next : (n : ℕ) → of (item.Next n) ≡ 0
+  nothing : of item.Nothing ≡ 0
+  none : (first : ℕ) → count first [] ≡ 0
+
+counted_item : (of : Item → ℕ) (count : ℕ → List Raw → ℕ) (block : Block) (it : Item) → CountsMessages of count → IsItemOf block it → of it ≡ cond (block.sequence == 0) 0 (count block.sequence block.raws)
+counted_item of count block (item.Messages first raws) counts is =
+    let sequenced = ne_eqb block.sequence 0 (λ e. let p = is.0 in omega arith) in
+    counts.messages first raws
+    ∙ ap (λ n. count n raws.items) is.2 ∙ ap (λ rs. count block.sequence rs) is.3 ∙ sym (cond-false (block.sequence == 0) 0 (count block.sequence block.raws) sequenced)
+counted_item of count block (item.Next next) counts is =
+    let sequenced = ne_eqb block.sequence 0 (λ e. let p = is.0 in omega arith) in
+    counts.next next
+    ∙ sym (counts.none block.sequence) ∙ ap (λ rs. count block.sequence rs) (sym is.1) ∙ sym (cond-false (block.sequence == 0) 0 (count block.sequence block.raws) sequenced)
+counted_item of count block item.Nothing counts is = counts.nothing ∙ sym (cond-true (block.sequence == 0) 0 (count block.sequence block.raws) (eq-eqb block.sequence 0 is))
+counted_item of count block item.GrpUp counts is = absurd is
+counted_item of count block item.GrpDown counts is = absurd is
+counted_item of count block (item.GapReply sequence number status) counts is = absurd is
+counted_item of count block item.SpinUp counts is = absurd is
+counted_item of count block item.SpinDown counts is = absurd is
+counted_item of count block (item.Advertised sequence) counts is = absurd is
+counted_item of count block (item.SpinReply sequence orders status) counts is = absurd is
+counted_item of count block (item.ImageMessages raws) counts is = absurd is
+counted_item of count block (item.SpinFinished sequence) counts is = absurd is
+
 pub overflows_item : (H : ℕ) (block : Block) (it : Item) (E : List Entry) → IsItemOf block it → overflows_of H E it ≡ block_overflows H E block
-overflows_item H block (item.Messages first raws) E is =
-    let sequenced = ne_eqb block.sequence 0 (λ e. let p = is.0 in omega arith) in
-    ap (λ n. overflowed_messages H n raws.items E) is.2 ∙ ap (λ rs. overflowed_messages H block.sequence rs E) is.3 ∙ sym (cond-false (block.sequence == 0) 0 (overflowed_messages H block.sequence block.raws E) sequenced)
-overflows_item H block (item.Next next) E is =
-    let sequenced = ne_eqb block.sequence 0 (λ e. let p = is.0 in omega arith) in
-    ap (λ rs. overflowed_messages H block.sequence rs E) (sym is.1) ∙ sym (cond-false (block.sequence == 0) 0 (overflowed_messages H block.sequence block.raws E) sequenced)
-overflows_item H block item.Nothing E is = sym (cond-true (block.sequence == 0) 0 (overflowed_messages H block.sequence block.raws E) (eq-eqb block.sequence 0 is))
-overflows_item H block item.GrpUp E is = absurd is
-overflows_item H block item.GrpDown E is = absurd is
-overflows_item H block (item.GapReply sequence count status) E is = absurd is
-overflows_item H block item.SpinUp E is = absurd is
-overflows_item H block item.SpinDown E is = absurd is
-overflows_item H block (item.Advertised sequence) E is = absurd is
-overflows_item H block (item.SpinReply sequence orders status) E is = absurd is
-overflows_item H block (item.ImageMessages raws) E is = absurd is
-overflows_item H block (item.SpinFinished sequence) E is = absurd is
+overflows_item H block it E =
+    counted_item (overflows_of H E) (λ first raws. overflowed_messages H first raws E) block it
+    (record { messages = λ first raws. refl; next = λ n. refl; nothing = refl; none = λ first. refl })
 
 pub fresh_item : (H : ℕ) (block : Block) (it : Item) (E : List Entry) → IsItemOf block it → fresh_of H E it ≡ block_fresh H E block
-fresh_item H block (item.Messages first raws) E is =
-    let sequenced = ne_eqb block.sequence 0 (λ e. let p = is.0 in omega arith) in
-    ap (λ n. fresh_messages H n raws.items E) is.2 ∙ ap (λ rs. fresh_messages H block.sequence rs E) is.3 ∙ sym (cond-false (block.sequence == 0) 0 (fresh_messages H block.sequence block.raws E) sequenced)
-fresh_item H block (item.Next next) E is =
-    let sequenced = ne_eqb block.sequence 0 (λ e. let p = is.0 in omega arith) in
-    ap (λ rs. fresh_messages H block.sequence rs E) (sym is.1) ∙ sym (cond-false (block.sequence == 0) 0 (fresh_messages H block.sequence block.raws E) sequenced)
-fresh_item H block item.Nothing E is = sym (cond-true (block.sequence == 0) 0 (fresh_messages H block.sequence block.raws E) (eq-eqb block.sequence 0 is))
-fresh_item H block item.GrpUp E is = absurd is
-fresh_item H block item.GrpDown E is = absurd is
-fresh_item H block (item.GapReply sequence count status) E is = absurd is
-fresh_item H block item.SpinUp E is = absurd is
-fresh_item H block item.SpinDown E is = absurd is
-fresh_item H block (item.Advertised sequence) E is = absurd is
-fresh_item H block (item.SpinReply sequence orders status) E is = absurd is
-fresh_item H block (item.ImageMessages raws) E is = absurd is
-fresh_item H block (item.SpinFinished sequence) E is = absurd is
+fresh_item H block it E =
+    counted_item (fresh_of H E) (λ first raws. fresh_messages H first raws E) block it
+    (record { messages = λ first raws. refl; next = λ n. refl; nothing = refl; none = λ first. refl })
 
 no_image_item : (H : ℕ) (block : Block) (it : Item) (E : List Entry) → IsItemOf block it → image_end H E it ≡ NoImage
 no_image_item H block (item.Messages first raws) E is = refl

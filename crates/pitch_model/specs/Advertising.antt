@@ -1,7 +1,7 @@
 -- What a venue's side does with the images of its feed ("Spin Image Available Message"). That only
 -- the last ten are served is this project's own.
-use Rattle.std.specs.Prelude.{ℕ, ◌+◌, ◌-◌, nat_eq, cond, List, [], ◌∷◌, ◌++◌, length, drop, fold}
-use Rattle.std.specs.Prelude.{Option, slice_get}
+use Rattle.std.specs.Prelude.{ℕ, ◌+◌, ◌-◌, nat_eq, List, [], ◌∷◌, ◌++◌, length, drop, fold}
+use Rattle.std.specs.Prelude.{Option, slice_get, if◌then◌else◌}
 use Rattle.std.specs.List.{flat_map}
 use Rattle.std.specs.Set.{is_member}
 use Rattle.pitch_model.specs.History.{Raw}
@@ -31,7 +31,7 @@ told_by n (Advertise ∷ operations) = n ∷ told_by n operations
 -- one more sequence is advertised; a repeat adds nothing
 abbrev pub with_sequence : List ℕ → ℕ → List ℕ
 with_sequence advertised sequence =
-    cond (is_member nat_eq advertised sequence) advertised (advertised ++ sequence ∷ [])
+    if is_member nat_eq advertised sequence then advertised else advertised ++ sequence ∷ []
 
 -- the distinct sequences that were advertised, in their order
 abbrev pub advertised_by : List Operation → List ℕ

@@ -1,6 +1,7 @@
 -- What a client makes of its history: which ends are up, what is owed, and what it asks for.
-use Rattle.std.specs.Prelude.{ℕ, ◌+◌, ◌-◌, Bool, true, false, ◌&&◌, ◌||◌, not, cond, List, [], ◌∷◌}
+use Rattle.std.specs.Prelude.{ℕ, ◌+◌, ◌-◌, Bool, true, false, ◌&&◌, ◌||◌, not, List, [], ◌∷◌}
 use Rattle.std.specs.Prelude.{Option, Some, None, nat_lt, ◌==◌, min, option_map, unwrap_or}
+use Rattle.std.specs.Prelude.{if◌then◌else◌}
 use Rattle.std.specs.Option.{option_map_or}
 use Rattle.pitch_model.specs.History.{Entry, GrpUp, GrpDown, GapReply, SpinUp, SpinDown, Advertised}
 use Rattle.pitch_model.specs.History.{Ticked, Spinning, NoSpin, spin_of}
@@ -66,8 +67,8 @@ is_refusal entry = false
 abbrev pub is_troubled : ℕ → List Entry → Bool
 is_troubled H [] = false
 is_troubled H (entry ∷ E) =
-    cond (nat_lt (reach H E) (reach H (entry ∷ E))) false
-    ((is_overflow H E entry || is_refusal entry) || is_troubled H E)
+    if nat_lt (reach H E) (reach H (entry ∷ E)) then false
+    else (is_overflow H E entry || is_refusal entry) || is_troubled H E
 
 -- an image is wanted: more than 1,000 messages are missing up to the top, or there is trouble
 abbrev pub wants : ℕ → List Entry → ℕ → Bool
@@ -103,17 +104,17 @@ asks_spin H E top advertised =
 -- a gap is asked for where the Gap Request Proxy is up and owes no reply
 abbrev pub gap_or_none : ℕ → List Entry → ℕ → Option Ask
 gap_or_none H E top =
-    cond (is_grp_up E && not (owes E)) (Some (gap_ask (reach H E) (least_held H E) top)) None
+    if is_grp_up E && not (owes E) then Some (gap_ask (reach H E) (least_held H E) top) else None
 
 abbrev pub spin_or_gap : ℕ → List Entry → ℕ → Option ℕ → Option Ask
 spin_or_gap H E top None = gap_or_none H E top
 spin_or_gap H E top (Some advertised) =
-    cond (asks_spin H E top advertised) (Some (Spin advertised)) (gap_or_none H E top)
+    if asks_spin H E top advertised then Some (Spin advertised) else gap_or_none H E top
 
 -- nothing is asked for where the client is silent or current
 abbrev pub ask_with : ℕ → List Entry → Option ℕ → Option Ask
 ask_with H E None = None
-ask_with H E (Some top) = cond (reach H E == top) None (spin_or_gap H E top (advertised_of E))
+ask_with H E (Some top) = if reach H E == top then None else spin_or_gap H E top (advertised_of E)
 
 -- what a client asks for at a tick
 abbrev pub ask_of : ℕ → List Entry → Option Ask

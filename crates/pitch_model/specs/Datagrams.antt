@@ -1,5 +1,5 @@
 -- What the blocks of a datagram add to a history, and the datagrams of a venue.
-use Rattle.std.specs.Prelude.{◌≡◌, ℕ, ◌+◌, ◌≤◌, ◌<◌, cond, List, [], ◌∷◌, length, ◌==◌}
+use Rattle.std.specs.Prelude.{◌≡◌, ℕ, ◌+◌, ◌≤◌, ◌<◌, List, [], ◌∷◌, length, ◌==◌, if◌then◌else◌}
 use Rattle.std.specs.List.{AllByRecursion}
 use Rattle.unit_packets.specs.Blocks.{Block}
 use Rattle.unit_packets.specs.Cutting.{blocks_of, rest_of}
@@ -16,7 +16,7 @@ heard_blocks (block ∷ blocks) E = heard_blocks blocks (heard_block block E)
 
 -- how many of a block's messages are heard: none of an unsequenced block
 abbrev pub block_messages : Block → ℕ
-block_messages block = cond (block.sequence == 0) 0 (length block.raws)
+block_messages block = if block.sequence == 0 then 0 else length block.raws
 
 -- how many messages of the blocks are heard
 abbrev pub messages_in : List Block → ℕ

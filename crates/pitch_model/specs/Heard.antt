@@ -1,6 +1,6 @@
 -- What an item adds to a history, and what it changes.
-use Rattle.std.specs.Prelude.{◌≡◌, ℕ, ◌+◌, ◌≤◌, ◌<◌, Bool, ◌&&◌, not, cond, List, [], ◌∷◌, length}
-use Rattle.std.specs.Prelude.{◌==◌, nat_lt, min, ◌^◌, ◌-◌}
+use Rattle.std.specs.Prelude.{◌≡◌, ℕ, ◌+◌, ◌≤◌, ◌<◌, Bool, ◌&&◌, not, List, [], ◌∷◌, length}
+use Rattle.std.specs.Prelude.{◌==◌, nat_lt, min, ◌^◌, ◌-◌, if◌then◌else◌}
 use Rattle.pitch_fields.specs.Limits.{last_sequence}
 use Rattle.unit_packets.specs.Blocks.{Block}
 use Rattle.pitch_model.specs.History.{Entry, Raw, image_finished, bad_image, spin_of, adds}
@@ -79,11 +79,13 @@ is_fresh H E sequence = nat_lt (reach H E) sequence && not (is_seen (part_of H E
 abbrev pub fresh_messages : ℕ → ℕ → List Raw → List Entry → ℕ
 fresh_messages H first [] E = 0
 fresh_messages H first (raw ∷ raws) E =
-    cond (is_fresh H E first) 1 0 + fresh_messages H (first + 1) raws (entry.Message first raw ∷ E)
+    (if is_fresh H E first then 1 else 0)
+    + fresh_messages H (first + 1) raws (entry.Message first raw ∷ E)
 
 -- how many messages of a block are fresh; an unsequenced one has none
 abbrev pub block_fresh : ℕ → List Entry → Block → ℕ
-block_fresh H E block = cond (block.sequence == 0) 0 (fresh_messages H block.sequence block.raws E)
+block_fresh H E block =
+    if block.sequence == 0 then 0 else fresh_messages H block.sequence block.raws E
 
 abbrev pub fresh_of : ℕ → List Entry → Item → ℕ
 fresh_of H E (item.Messages first raws) = fresh_messages H first raws.items E
@@ -96,7 +98,7 @@ overflows_of H E item = 0
 -- what becomes of an image where the reach is n: a finished one above n is taken, another is stale;
 -- the count of a bad one stops at the greatest number of 64 bits
 abbrev pub image_end_at : ℕ → List (ℕ × List Raw) → List (ℕ × List Raw) → ImageEnd
-image_end_at n (image ∷ images) bad = cond (nat_lt n image.0) end.Taken end.Stale
+image_end_at n (image ∷ images) bad = if nat_lt n image.0 then end.Taken else end.Stale
 image_end_at n [] (image ∷ bad) = end.Bad image.0 (min (adds image.1) (2 ^ 64 - 1))
 image_end_at n [] [] = end.NoImage
 

@@ -1,6 +1,6 @@
 -- What one unit's client heard and did. A history is a list of entries, the newest first.
-use Rattle.std.specs.Prelude.{ℕ, Bool, ◌&&◌, ◌||◌, cond, not, List, [], ◌∷◌, ◌++◌, Option, Some}
-use Rattle.std.specs.Prelude.{nat_le, ◌==◌, sum_by}
+use Rattle.std.specs.Prelude.{ℕ, Bool, ◌&&◌, ◌||◌, not, List, [], ◌∷◌, ◌++◌, Option, Some}
+use Rattle.std.specs.Prelude.{nat_le, ◌==◌, sum_by, if◌then◌else◌}
 use Rattle.pitch_fields.specs.Limits.{last_sequence}
 use Rattle.pitch_messages.specs.Raw.{kind_of}
 use Rattle.pitch_model.specs.declared.ask.Ask.{Ask}
@@ -48,7 +48,7 @@ is_add raw = kind_of raw == 0x21 || kind_of raw == 0x22 || kind_of raw == 0x2f
 
 -- how many of the raws add an order
 abbrev pub adds : List Raw → ℕ
-adds raws = sum_by (λ raw. cond (is_add raw) 1 0) raws
+adds raws = sum_by (λ raw. if is_add raw then 1 else 0) raws
 
 -- a spin is asked for
 abbrev pub spin_asked : Option Ask → Spinning → Spinning
@@ -63,8 +63,9 @@ can_promise sequence orders = nat_le orders sequence && nat_le orders last_seque
 -- the reply to what was asked makes the spin run where it is accepted, and ends it where not
 abbrev pub spin_replied : Spinning → ℕ → ℕ → Bool → Spinning
 spin_replied (Asked asked) sequence orders accepted =
-    cond (asked == sequence) (cond (accepted && can_promise sequence orders)
-    (Running sequence orders []) NoSpin) (Asked asked)
+    if asked == sequence
+    then (if accepted && can_promise sequence orders then Running sequence orders [] else NoSpin)
+    else Asked asked
 spin_replied spin sequence orders accepted = spin
 
 -- messages of an image come to the running spin
@@ -75,7 +76,7 @@ spin_more spin more = spin
 -- the running spin ends
 abbrev pub spin_finished : Spinning → ℕ → Spinning
 spin_finished (Running running orders raws) sequence =
-    cond (running == sequence) NoSpin (Running running orders raws)
+    if running == sequence then NoSpin else Running running orders raws
 spin_finished spin sequence = spin
 
 -- the spin after an entry
@@ -96,13 +97,13 @@ spin_of (entry ∷ E) = spin_step entry (spin_of E)
 -- the image that Spin Finished finishes, with its sequence: it has as many adds as were promised
 abbrev pub image_finished : Spinning → ℕ → List (ℕ × List Raw)
 image_finished (Running running orders raws) sequence =
-    cond (running == sequence && adds raws == orders) ((running, raws) ∷ []) []
+    if running == sequence && adds raws == orders then (running, raws) ∷ [] else []
 image_finished spin sequence = []
 
 -- the image that is bad then, with the number that was promised
 abbrev pub bad_image : Spinning → ℕ → List (ℕ × List Raw)
 bad_image (Running running orders raws) sequence =
-    cond (running == sequence && not (adds raws == orders)) ((orders, raws) ∷ []) []
+    if running == sequence && not (adds raws == orders) then (orders, raws) ∷ [] else []
 bad_image spin sequence = []
 
 -- the image that an entry finishes

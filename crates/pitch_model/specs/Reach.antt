@@ -1,6 +1,7 @@
 -- How far what was heard reaches, and what is held beyond.
-use Rattle.std.specs.Prelude.{◌≡◌, ℕ, zero, suc, ◌≤◌, ◌<◌, Bool, true, false, ◌&&◌, ◌||◌, cond}
+use Rattle.std.specs.Prelude.{◌≡◌, ℕ, zero, suc, ◌≤◌, ◌<◌, Bool, true, false, ◌&&◌, ◌||◌}
 use Rattle.std.specs.Prelude.{List, [], ◌∷◌, ◌++◌, map, filter, nat_eq, nat_lt, ◌==◌, max}
+use Rattle.std.specs.Prelude.{if◌then◌else◌}
 use Rattle.std.specs.Set.{is_member, distinct_count}
 use Rattle.pitch_model.specs.History.{Entry, images_at, messages_at, spin_of}
 
@@ -41,7 +42,7 @@ is_joined P (suc k) = is_anchor P (suc k) || (is_seen P (suc k) && is_joined P k
 -- the greatest number at most n that passes a test, or 0
 abbrev pub greatest : (ℕ → Bool) → ℕ → ℕ
 greatest p zero = zero
-greatest p (suc n) = cond (p (suc n)) (suc n) (greatest p n)
+greatest p (suc n) = if p (suc n) then suc n else greatest p n
 
 abbrev pub largest : List ℕ → ℕ
 largest [] = 0
@@ -78,7 +79,7 @@ overflows H P (k ∷ ks) = nat_lt H (held_count P)
 -- at an overflow the reach becomes the base, and the message is all that came
 abbrev pub settled : ℕ → Part → List ℕ → Part
 settled H P messages =
-    cond (overflows H P messages) (record { base = reach_of P; images = []; seen = messages }) P
+    if overflows H P messages then record { base = reach_of P; images = []; seen = messages } else P
 
 abbrev pub sequences : {X : Type 0} → List (ℕ × X) → List ℕ
 sequences xs = map (λ x. x.0) xs

@@ -1,5 +1,5 @@
 -- What a history told of, and how far the client is.
-use Rattle.std.specs.Prelude.{ℕ, ◌-◌, cond, List, [], ◌∷◌, max, Option, Some, None, ◌==◌}
+use Rattle.std.specs.Prelude.{ℕ, ◌-◌, List, [], ◌∷◌, max, Option, Some, None, ◌==◌, if◌then◌else◌}
 use Rattle.pitch_model.specs.History.{Entry, Message, Next, Advertised, images_at, spin_of}
 use Rattle.pitch_model.specs.Reach.{reach, sequences}
 use Rattle.pitch_model.specs.declared.status.Status.{Status}
@@ -27,7 +27,7 @@ top_of (entry ∷ E) = raised (told_at E entry) (top_of E)
 -- where the reach is n
 abbrev pub status_at : ℕ → Option ℕ → Status
 status_at n None = Silent
-status_at n (Some top) = cond (n == top) (Current n) (Behind n top)
+status_at n (Some top) = if n == top then Current n else Behind n top
 
 -- silent where nothing was told of, current where the reach is the top, else behind
 abbrev pub status_of : ℕ → List Entry → Status

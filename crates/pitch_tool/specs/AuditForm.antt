@@ -1,6 +1,6 @@
 -- An audit: what is written of its input, and how it ends.
-use Rattle.std.specs.Prelude.{◌≡◌, ℕ, ◌≤◌, ◌<◌, List, length, nat_lt, cond, Option, None, Some}
-use Rattle.std.specs.Prelude.{Result, Ok, Err}
+use Rattle.std.specs.Prelude.{◌≡◌, ℕ, ◌≤◌, ◌<◌, List, length, nat_lt, Option, None, Some}
+use Rattle.std.specs.Prelude.{Result, Ok, Err, if◌then◌else◌}
 use Rattle.std.specs.Option.{option_map}
 use Rattle.std.specs.Io.KnownBytes.{Consumes}
 use Rattle.pitch_io.specs.Putting.{Grows}
@@ -28,7 +28,8 @@ of_audit errors.OutOfMemory = OutOfMemory
 -- what the audit finds
 abbrev pub audit_trouble : ℕ → List ℕ → Option Trouble
 audit_trouble most bytes =
-    cond (nat_lt most (length bytes)) (Some (Blocks TooLong)) (option_map Audit (input_fault bytes))
+    if nat_lt most (length bytes) then Some (Blocks TooLong)
+    else option_map Audit (input_fault bytes)
 
 -- the whole input was read, and this is the verdict on it
 pub record ReadsAudit (most : ℕ) (input : Told) (verdict : Verdict) : Type 0 where

@@ -1,4 +1,4 @@
-//! The commands that make bytes of a text or of numbers, each in a module of its own.
+//! The commands other than those of a stream, each in a module of its own.
 
 pub mod audit;
 pub mod demo;

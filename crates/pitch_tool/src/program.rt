@@ -236,9 +236,8 @@ fn close<R: Threads + Wait + Clock + Sync, I: Source, O: Sink, E: Sink, N: Net, 
 ///   venue has accepted all. `replay` reads a schedule, and writes what each of its lines does in
 ///   the world of its unit: venue, lines, servers and client.
 /// - `audit` reads at most 1,073,741,824 bytes, a log with a printed report, and writes nothing
-/// before
-///   it has read them all: then the line that says whether each printed book is what the log's
-///   messages leave, or which line of the report is the first that is wrong.
+///   before it has read them all: then the line that says whether each printed book is what the
+///   log's messages leave, or which line of the report is the first that is wrong.
 /// - `storm` reads nothing: it makes a schedule, does all its lines in the worlds of its units, and
 ///   writes where each unit ended. Its units and those of `replay` run in at most K pieces of work,
 ///   which `rt` may run beside one another, and `gate` is told of each unit; what is written does

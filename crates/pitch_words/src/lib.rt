@@ -9,11 +9,14 @@
 //! | `show` | | |
 //! | `pack --unit U` | U is 1 to 255 | |
 //! | `replay [--workers K]` | K is 1 to 64 | 1 |
-//! | `storm --number S --units N --steps M [--workers K]` | S is below 2^64, N is 1 to 16, M is 1 to 10,000, K is 1 to 64 | 1 |
-//! | `drill --number S --units N --count C` | S and N as above, C is 1 to 100,000 | |
-//! | `demo --number S --count C` | S as above, C is 1 to 1,000 | |
+//! | `storm --number S --units N --steps M [--workers K]` | S, N, M as below, K as above | 1 |
+//! | `drill --number S --units N --count C` | S and N as below, C is 1 to 100,000 | |
+//! | `demo --number S --count C` | S as below, C is 1 to 1,000 | |
 //! | `relay [--hold H]` | H as above | 4,096 |
 //! | `quotes [--hold H]` | H as above | 4,096 |
+//! | `audit` | | |
+//!
+//! S is below 2^64, N is 1 to 16, and M is 1 to 10,000.
 //!
 //! The first word is a command's name. The options follow in any order, each at most once, as
 //! `--name value` or `--name=value`; those in brackets may be left out. A value is 1 to 20 digits

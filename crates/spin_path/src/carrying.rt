@@ -9,7 +9,7 @@ ghost use Rattle.spin_path.specs.Paths.{Move, path_of, all_said, IsFeed, AreMove
 use client_links::{ItemList, SpinLink};
 use pitch_fields::OutOfMemory;
 
-/// Feeds a client's link the next bytes of its spin server, and appends the items that it tells to
+/// Feeds a client's link the next bytes of its Spin Server, and appends the items that it tells to
 /// an empty list. Once the client has heard them, no image was bad, and each that was finished is
 /// that of the unit's messages.
 pub fn carry(link: &mut SpinLink, piece: &[u8], items: &mut ItemList) -> Result<(), OutOfMemory>

@@ -2,7 +2,7 @@ ghost use Rattle.spin_path.specs.Paths.{ImagesAreWhole, NeverAnswered, MovesStay
 ghost use Rattle.spin_path.specs.Paths.{SpareIsUnheard};
 
 /// The law of images over bytes: whatever a client asks for, and wherever its connections are cut,
-/// of a spin server's bytes no image is bad, each that is finished is the image of the unit's
+/// of a Spin Server's bytes no image is bad, each that is finished is the image of the unit's
 /// messages, and no sequence is advertised past them. So no change of a client says that an image
 /// was bad.
 pub fn images_are_whole()

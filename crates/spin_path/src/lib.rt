@@ -1,4 +1,4 @@
-//! A client's history over its connections to spin servers, down to bytes. Whatever a client asks
+//! A client's history over its connections to Spin Servers, down to bytes. Whatever a client asks
 //! for, however the bytes of a server are delayed and wherever they are cut, no image is bad, and
 //! each image that is finished is that of the unit's messages.
 //!

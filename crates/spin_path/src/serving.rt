@@ -8,7 +8,7 @@ ghost use Rattle.spin_path.specs.Paths.{Move, path_of, AreMoves, ServesOn};
 use pitch_fields::OutOfMemory;
 use spin_server::{ImageShelf, SpinServer};
 
-/// Feeds a spin server the next bytes of its client, and lets it send the next block of a running
+/// Feeds a Spin Server the next bytes of its client, and lets it send the next block of a running
 /// image, over the shelf of the unit's messages. Answers whether a spin still runs.
 pub fn serve(
     server: &mut SpinServer,

@@ -15,9 +15,9 @@ pub enum Imaged {
 
 /// Where images of a unit can be looked up.
 pub trait ImageLookup {
-    /// Which messages so far, and which sequences that were advertised, it may be seen as. They
-    /// only grow within a call. From one call to the next sequences may go: a shelf shows the last
-    /// ten alone.
+    /// The views that a look-up may have of it: the messages so far, and the sequences that were
+    /// advertised. Both only grow within a call. From one call to the next sequences may go: a
+    /// shelf shows the last ten alone.
     ghost shows: { Self → Served → Type 0 };
 
     /// Whether nobody else pushes or advertises there: then a look-up leaves it as it was.

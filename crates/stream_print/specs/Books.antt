@@ -1,5 +1,5 @@
 -- The text of the books of all units.
-use Rattle.std.specs.Prelude.{◌≡◌, ℕ, List, [], ◌++◌, cond, Option}
+use Rattle.std.specs.Prelude.{◌≡◌, ℕ, List, [], ◌++◌, Option, if◌then◌else◌}
 use Rattle.std.specs.List.{flat_map}
 use Rattle.unit_packets.specs.Blocks.{Block}
 use Rattle.pitch_model.specs.History.{Raw}
@@ -10,7 +10,7 @@ use Rattle.unit_clients.specs.Clients.{AllKeep, KeepsTo, is_named}
 
 -- the text of a unit's book, where a block names the unit
 abbrev pub named_text : ℕ → (ℕ → List Raw) → List Block → ℕ → List ℕ
-named_text H Vs before unit = cond (is_named before unit) (unit_text H Vs before unit) []
+named_text H Vs before unit = if is_named before unit then unit_text H Vs before unit else []
 
 -- the text of a unit's book, where it has a client, by each list of messages to which that client
 -- keeps

@@ -1,6 +1,6 @@
 -- A stream of blocks: what is wrong with it, and what is written for it.
-use Rattle.std.specs.Prelude.{◌≡◌, ◌≤◌, ℕ, List, ◌++◌, [], length, take, nat_lt, cond, option_map}
-use Rattle.std.specs.Prelude.{Option, Some, None, Result, Ok, Err, ◌⊎◌}
+use Rattle.std.specs.Prelude.{◌≡◌, ◌≤◌, ℕ, List, ◌++◌, [], length, take, nat_lt, option_map}
+use Rattle.std.specs.Prelude.{Option, Some, None, Result, Ok, Err, ◌⊎◌, if◌then◌else◌}
 use Rattle.std.specs.Io.KnownBytes.{Consumes}
 use Rattle.pitch_io.specs.Putting.{Grows}
 use Rattle.unit_packets.specs.Blocks.{Block}
@@ -45,7 +45,7 @@ or_trouble None other = other
 unfoldable pub trouble_of : Carrier → ℕ → List ℕ → Option StreamTrouble
 trouble_of carrier most bytes =
     or_trouble (lasting_trouble carrier (take most bytes))
-    (cond (nat_lt most (length bytes)) (Some TooLong) (end_trouble carrier bytes))
+    (if nat_lt most (length bytes) then Some TooLong else end_trouble carrier bytes)
 
 -- what was taken is some bytes without a trouble that lasts, and then at most the 65,536 of one
 -- piece: so less than a piece is taken behind the byte with which a trouble shows

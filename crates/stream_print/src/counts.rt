@@ -16,8 +16,8 @@ pub enum PacketUse {
     Faulty,
 }
 
-/// How many packets a capture has, how many of them carry a datagram that was asked for, and of how
-/// many that is faulty. A count stays at the end of its type.
+/// How many packets a capture has, how many of them carry a datagram that was asked for, and how
+/// many of these datagrams are faulty. A count stays at the end of its type.
 #[derive(Clone, Copy, Debug, PartialEq, Eq)]
 pub struct PacketCounts {
     pub packets: u64,
