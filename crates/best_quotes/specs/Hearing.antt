@@ -1,40 +1,17 @@
 -- What hearing a block does to a client, to a quoted unit, and to the lines.
 use Rattle.std.specs.Prelude.{◌≡◌, ℕ, List, ◌++◌}
 use Rattle.unit_packets.specs.Blocks.{Block}
-use Rattle.pitch_model.specs.Heard.{block_change}
 use Rattle.pitch_model.specs.HeardBlocks.{heard_block}
 use Rattle.pitch_model.specs.History.{Entry, Raw}
 use Rattle.pitch_model.specs.Honest.{Honest}
 use Rattle.pitch_model.specs.Levels.{level}
-use Rattle.client_core.specs.Blocks.{Carries}
 use Rattle.client_core.specs.Tracks.{Tracks, Keeps, current_book}
-use Rattle.pitch_model.specs.declared.change.Change.{Change}
 use Rattle.client_core.specs.declared.client.UnitClient.{UnitClient}
 use Rattle.best_quotes.specs.Leveling.{Entries, Has}
 use Rattle.best_quotes.specs.Quoting.{quotes_of_block}
 use Rattle.best_quotes.specs.Stands.{Stands}
 use Rattle.best_quotes.specs.declared.quote.QuoteLine.{QuoteLine}
 use Rattle.best_quotes.specs.declared.unit.QuotedUnit.{QuotedUnit}
-
--- this holds of any block that carries these messages from this sequence on
-abbrev pub OfBlock : ℕ → List Raw → (Block → Type 0) → Type 0
-OfBlock sequence raws P = (block : Block) → Carries block sequence raws → P block
-
--- whatever history a client stood for, it then stands for that history and the block
-abbrev pub TracksOn : UnitClient → UnitClient → Block → Type 0
-TracksOn old new block =
-    (H : ℕ) (E : List Entry) → Tracks old H E → Tracks new H (heard_block block E)
-
--- a client keeps to each venue of which the history with the block speaks
-abbrev pub KeepsOn : UnitClient → UnitClient → Block → Type 0
-KeepsOn old new block =
-    (Image : List Raw → ℕ → List Raw) (V : List Raw) (E : List Entry)
-    → Honest Image V (heard_block block E) → Keeps old V → Keeps new V
-
--- the answer is what the block changes
-abbrev pub Answers : UnitClient → Change → Block → Type 0
-Answers client change block =
-    (H : ℕ) (E : List Entry) → Tracks client H E → change ≡ block_change H E block
 
 -- the levels stay those of the client's book
 abbrev pub LevelsStay : UnitClient → UnitClient → Entries → Entries → Type 0

@@ -1,6 +1,7 @@
 ghost use Rattle.std.specs.Prelude.{OnOk, IfOk, length};
 ghost use Rattle.unit_packets.specs.Blocks.{StaysWithin};
-ghost use Rattle.best_quotes.specs.Hearing.{OfBlock, TracksOn, KeepsOn, Answers, LevelsStay, Tells};
+ghost use Rattle.best_quotes.specs.Hearing.{LevelsStay, Tells};
+ghost use Rattle.client_core.specs.Hearing.{Changes, HearsBlock, KeepsBlock, OfBlock};
 
 use crate::levels::Levels;
 use crate::lines::{QuoteLines, turn_each};
@@ -24,10 +25,10 @@ pub(crate) fn hear_block(
     requires within { StaysWithin sequence (length raws) }
     ensures levels { OnOk result
         (LevelsStay client.old client.new levels.old.entries levels.new.entries) }
-    ensures tracks { OnOk result (OfBlock sequence raws.entry (TracksOn client.old client.new)) }
-    ensures keeps { OnOk result (OfBlock sequence raws.entry (KeepsOn client.old client.new)) }
+    ensures tracks { OnOk result (OfBlock sequence raws.entry (HearsBlock client.old client.new)) }
+    ensures keeps { OnOk result (OfBlock sequence raws.entry (KeepsBlock client.old client.new)) }
     ensures change { IfOk result (λ change.
-        OfBlock sequence raws.entry (Answers client.old change)) }
+        OfBlock sequence raws.entry (Changes client.old change)) }
     // In an honest history the lines are those of the block, as the definition has them.
     ensures lines { OnOk result (OfBlock sequence raws.entry
         (Tells client.old levels.old.entries lines.old.items lines.new.items)) }

@@ -1,6 +1,6 @@
 -- What the client's own functions tell one another. No public clause needs this file.
 use Rattle.std.specs.Prelude.{◌≡◌, ℕ, ◌+◌, ◌-◌, ◌^◌, ◌≤◌, ◌&&◌, not, nat_lt, min, List, [], ◌∷◌}
-use Rattle.std.specs.Prelude.{◌++◌, Option, Some, None, option_map}
+use Rattle.std.specs.Prelude.{◌++◌, drop, take, Option, Some, None, option_map}
 use Rattle.pitch_fields.specs.Limits.{last_sequence}
 use Rattle.std.specs.FinMap.{len}
 use Rattle.order_book.specs.Standing.{Standing}
@@ -16,7 +16,7 @@ use Rattle.pitch_model.specs.declared.item.Item.{Item}
 use Rattle.client_core.specs.Keeping.{holds, order_count}
 use Rattle.client_core.specs.Applying.{Applies}
 use Rattle.client_core.specs.Items.{NeedsNoMemory}
-use Rattle.client_core.specs.Tracks.{held_number}
+use Rattle.client_core.specs.Tracks.{current_book, held_number, reached}
 use Rattle.client_core.specs.declared.client.UnitClient.{UnitClient}
 use Rattle.client_core.specs.declared.applied_log.AppliedLog.{AppliedLog}
 use Rattle.client_core.specs.declared.applied_log.AppliedLog.TheVariants.{Off, On, Turned}
@@ -75,6 +75,11 @@ with_more more so_far = option_map (λ before. before ++ more) so_far
 pub record Notes (book : Book) (raws : List Raw) (log log' : AppliedLog) : Type 0 where
   pub noted_is : noted log' ≡ with_more raws (noted log)
   pub turned_is : turned log' ≡ with_more (turns_of book raws) (turned log)
+
+-- so are the venue's messages from the old reach to the new one
+abbrev pub NotesVenues : (c c' : UnitClient) → List Raw → (log log' : AppliedLog) → Type 0
+NotesVenues c c' V log log' =
+    Notes (current_book c) (drop (reached c) (take (reached c') V)) log log'
 
 -- so many more messages can be noted without memory
 abbrev pub CanNote : ℕ → AppliedLog → Type 0

@@ -117,24 +117,25 @@ impl UnitClient {
     ghost use Rattle.client_core.specs.Tracks.{Tracks, Keeps, IsAsBefore, IsStill, Applied};
     ghost use Rattle.client_core.specs.Tracks.{KeepsRoom, KeepsListRoom, current_book, held_number};
     ghost use Rattle.client_core.specs.Tracks.{reached, spare_of};
-    ghost use Rattle.client_core.specs.Blocks.{Carries};
+    ghost use Rattle.client_core.specs.Hearing.{Hears, HearsBlock, IsToldBy, OfBlock, OfHistory};
+    ghost use Rattle.client_core.specs.Hearing.{Changes, KeepsBlock, KeepsImaged, OfReached};
     ghost use Rattle.client_core.specs.Items.{IsImage, NeedsNoMemory, message_count};
     ghost use Rattle.client_core.specs.Bookkeeping.{HasRoom, IsImageReady, noted, turned, Notes};
-    ghost use Rattle.client_core.specs.Bookkeeping.{CanNote, CanNoteItem, KeepsLogRoom};
+    ghost use Rattle.client_core.specs.Bookkeeping.{CanNote, CanNoteItem, KeepsLogRoom, NotesVenues};
     ghost use Rattle.client_core.specs.Bookkeeping.{NotesApplied, Tells};
     ghost use Rattle.client_core.specs.Keeping.{book_size};
     ghost use Rattle.client_core.specs.Weight.{weight, told_by};
 
     // What changed since the client had a status, as something was heard.
     fn changed_since(&self, before: Status, heard: Heard) -> Change
-        ensures change { (H : ℕ) (E : List Entry)
-            → Tracks self.now H E → result ≡ record {
+        ensures change { IsToldBy self.now
+            (λ H E. record {
               before = before;
               after = status_of H E;
               fresh = heard.fresh;
               overflows = heard.overflows;
               image = heard.image;
-            } }
+            }) result }
         ensures image { result.image ≡ heard.image }
     {
         Change {
@@ -152,21 +153,18 @@ impl UnitClient {
         requires raw { IsRaw raw.now }
         requires room { HasRoom 1 self.old.hold self.old.book.spare }
         requires log { CanNote (1 + held_number self.old) log.old }
-        ensures tracks { (H : ℕ) (E : List Entry)
-            → Tracks self.old H E → Tracks self.new H (Message sequence raw.now ∷ E) }
+        ensures tracks { Hears self.old self.new (λ E. Message sequence raw.now ∷ E) }
         ensures keeps { (V : List Raw)
             → message_at V sequence ≡ Some raw.now → Keeps self.old V → Keeps self.new V }
-        ensures fresh { (H : ℕ) (E : List Entry)
-            → Tracks self.old H E → result.fresh ≡ is_fresh H E sequence }
-        ensures overflow { (H : ℕ) (E : List Entry)
-            → Tracks self.old H E → result.overflow ≡ is_overflow H E (Message sequence raw.now) }
+        ensures fresh { IsToldBy self.old (λ H E. is_fresh H E sequence) result.fresh }
+        ensures overflow { IsToldBy self.old
+            (λ H E. is_overflow H E (Message sequence raw.now)) result.overflow }
         ensures notes { NotesApplied
             (reached self.old) (reached self.new) self.old.book self.new.book log.old log.new }
         ensures held { reached self.new + held_number self.new
             ≤ (reached self.old + held_number self.old) + 1 }
-        ensures venues { (V : List Raw) → message_at V sequence ≡ Some raw.now
-            → Keeps self.old V → Notes (current_book self.old)
-            (drop (reached self.old) (take (reached self.new) V)) log.old log.new }
+        ensures venues { (V : List Raw) → message_at V sequence ≡ Some raw.now → Keeps self.old V
+            → NotesVenues self.old self.new V log.old log.new }
         ensures log { (left : ℕ) → CanNote ((left + 1) + held_number self.old) log.old
             → CanNote (left + held_number self.new) log.new }
         ensures spin { self.new.spin ≡ self.old.spin }
@@ -183,21 +181,19 @@ impl UnitClient {
         requires first { (1 ≤ first) × (first + length raws ≤ last_sequence + 1) }
         requires room { HasRoom (length raws) self.old.hold self.old.book.spare }
         requires log { CanNote (length raws + held_number self.old) log.old }
-        ensures tracks { (H : ℕ) (E : List Entry)
-            → Tracks self.old H E → Tracks self.new H (heard_messages first raws.entry E) }
+        ensures tracks { Hears self.old self.new (heard_messages first raws.entry) }
         ensures keeps { (V : List Raw)
             → AreVenues V first raws.entry → Keeps self.old V → Keeps self.new V }
-        ensures fresh { (H : ℕ) (E : List Entry)
-            → Tracks self.old H E → result.fresh ≡ fresh_messages H first raws.entry E }
-        ensures overflows { (H : ℕ) (E : List Entry)
-            → Tracks self.old H E → result.overflows ≡ overflowed_messages H first raws.entry E }
+        ensures fresh { IsToldBy self.old
+            (λ H E. fresh_messages H first raws.entry E) result.fresh }
+        ensures overflows { IsToldBy self.old
+            (λ H E. overflowed_messages H first raws.entry E) result.overflows }
         ensures notes { NotesApplied
             (reached self.old) (reached self.new) self.old.book self.new.book log.old log.new }
         ensures held { reached self.new + held_number self.new
             ≤ (reached self.old + held_number self.old) + length raws.entry }
-        ensures venues { (V : List Raw)
-            → AreVenues V first raws.entry → Keeps self.old V → Notes (current_book self.old)
-            (drop (reached self.old) (take (reached self.new) V)) log.old log.new }
+        ensures venues { (V : List Raw) → AreVenues V first raws.entry → Keeps self.old V
+            → NotesVenues self.old self.new V log.old log.new }
         ensures log { KeepsLogRoom self.old self.new (length raws.entry) log.old log.new }
         ensures spin { self.new.spin ≡ self.old.spin }
     {
@@ -223,21 +219,22 @@ impl UnitClient {
         raws: Raws<'_>,
     ) -> Result<Counts, OutOfMemory>
         requires first { (1 ≤ first) × (first + length raws ≤ last_sequence + 1) }
-        ensures tracks { OnOk result ((H : ℕ) (E : List Entry)
-            → Tracks self.old H E → Tracks self.new H (heard_messages first raws.entry E)) }
+        ensures tracks { OnOk result (Hears self.old self.new (heard_messages first raws.entry)) }
         ensures keeps { OnOk result
             ((V : List Raw) → AreVenues V first raws.entry → Keeps self.old V → Keeps self.new V) }
-        ensures fresh { IfOk result (λ counts. (H : ℕ) (E : List Entry)
-            → Tracks self.old H E → counts.fresh ≡ fresh_messages H first raws.entry E) }
-        ensures overflows { IfOk result (λ counts. (H : ℕ) (E : List Entry)
-            → Tracks self.old H E → counts.overflows ≡ overflowed_messages H first raws.entry E) }
+        ensures fresh { IfOk result
+            (λ counts. IsToldBy self.old
+            (λ H E. fresh_messages H first raws.entry E) counts.fresh) }
+        ensures overflows { IfOk result
+            (λ counts. IsToldBy self.old
+            (λ H E. overflowed_messages H first raws.entry E) counts.overflows) }
         ensures notes { OnOk result (NotesApplied (reached self.old)
             (reached self.new) self.old.book self.new.book log.old log.new) }
         ensures held { OnOk result (reached self.new + held_number self.new
             ≤ (reached self.old + held_number self.old) + length raws.entry) }
-        ensures venues { OnOk result ((V : List Raw)
-            → AreVenues V first raws.entry → Keeps self.old V → Notes (current_book self.old)
-            (drop (reached self.old) (take (reached self.new) V)) log.old log.new) }
+        ensures venues { OnOk result
+            ((V : List Raw) → AreVenues V first raws.entry → Keeps self.old V
+            → NotesVenues self.old self.new V log.old log.new) }
         ensures log { OnOk result
             (KeepsLogRoom self.old self.new (length raws.entry) log.old log.new) }
         ensures err { OnErr result (IsAsBefore self.old self.new) }
@@ -263,20 +260,17 @@ impl UnitClient {
         requires some { (1 ≤ first) × (1 ≤ length raws.now) }
         requires old { first + length raws.now ≤ self.now.hold.floor + 1 }
         requires hold { IsHold self.now.hold }
-        ensures tracks { (H : ℕ) (E : List Entry)
-            → Tracks self.now H E → Tracks self.now H (heard_messages first raws.now E) }
-        ensures fresh { (H : ℕ) (E : List Entry)
-            → Tracks self.now H E → result.fresh ≡ fresh_messages H first raws.now E }
-        ensures overflows { (H : ℕ) (E : List Entry)
-            → Tracks self.now H E → result.overflows ≡ overflowed_messages H first raws.now E }
+        ensures tracks { Hears self.now self.now (heard_messages first raws.now) }
+        ensures fresh { IsToldBy self.now (λ H E. fresh_messages H first raws.now E) result.fresh }
+        ensures overflows { IsToldBy self.now
+            (λ H E. overflowed_messages H first raws.now E) result.overflows }
     {
         NO_MESSAGES
     }
 
     fn hear_next(&mut self, next: u32)
         requires { 1 ≤ next }
-        ensures tracks { (H : ℕ) (E : List Entry)
-            → Tracks self.old H E → Tracks self.new H (Next next ∷ E) }
+        ensures tracks { Hears self.old self.new (λ E. Next next ∷ E) }
         ensures still { IsStill self.old self.new }
         ensures spin { self.new.spin ≡ self.old.spin }
     {
@@ -292,25 +286,23 @@ impl UnitClient {
         raws: Raws<'_>,
     ) -> Result<Counts, OutOfMemory>
         requires { StaysWithin sequence (length raws) }
-        ensures tracks { OnOk result ((block : Block) → Carries block sequence raws.entry → (H : ℕ)
-            (E : List Entry) → Tracks self.old H E → Tracks self.new H (heard_block block E)) }
-        ensures keeps { OnOk result ((block : Block) → Carries block sequence raws.entry
-            → (Image : List Raw → ℕ → List Raw) (V : List Raw) (E : List Entry)
-            → Honest Image V (heard_block block E) → Keeps self.old V → Keeps self.new V) }
-        ensures fresh { IfOk result (λ counts. (block : Block)
-            → Carries block sequence raws.entry → (H : ℕ) (E : List Entry)
-            → Tracks self.old H E → counts.fresh ≡ block_fresh H E block) }
-        ensures overflows { IfOk result (λ counts. (block : Block)
-            → Carries block sequence raws.entry → (H : ℕ) (E : List Entry)
-            → Tracks self.old H E → counts.overflows ≡ block_overflows H E block) }
+        ensures tracks { OnOk result (OfBlock sequence raws.entry (HearsBlock self.old self.new)) }
+        ensures keeps { OnOk result (OfBlock sequence raws.entry (KeepsBlock self.old self.new)) }
+        ensures fresh { IfOk result
+            (λ counts. OfBlock sequence raws.entry
+            (λ block. IsToldBy self.old (λ H E. block_fresh H E block) counts.fresh)) }
+        ensures overflows { IfOk result
+            (λ counts. OfBlock sequence raws.entry
+            (λ block. IsToldBy self.old (λ H E. block_overflows H E block) counts.overflows)) }
         ensures notes { OnOk result (NotesApplied (reached self.old)
             (reached self.new) self.old.book self.new.book log.old log.new) }
         ensures held { OnOk result (reached self.new + held_number self.new
             ≤ (reached self.old + held_number self.old) + length raws.entry) }
-        ensures venues { OnOk result ((block : Block) → Carries block sequence raws.entry
-            → (Image : List Raw → ℕ → List Raw) (V : List Raw) (E : List Entry) → Honest Image V
-            (heard_block block E) → Keeps self.old V → Notes (current_book self.old)
-            (drop (reached self.old) (take (reached self.new) V)) log.old log.new) }
+        ensures venues { OnOk result
+            (OfBlock sequence raws.entry
+            (λ block. (Image : List Raw → ℕ → List Raw) (V : List Raw) (E : List Entry)
+            → Honest Image V (heard_block block E) → Keeps self.old V
+            → NotesVenues self.old self.new V log.old log.new)) }
         ensures log { OnOk result
             (KeepsLogRoom self.old self.new (length raws.entry) log.old log.new) }
         ensures err { OnErr result (IsAsBefore self.old self.new) }
@@ -343,17 +335,14 @@ impl UnitClient {
     pub fn hear_block(&mut self, sequence: u32, raws: Raws<'_>) -> Result<Change, OutOfMemory>
         requires { StaysWithin sequence (length raws) }
         // Whatever history the client stood for, it now stands for that history and this block.
-        ensures tracks { OnOk result ((block : Block) → Carries block sequence raws.entry → (H : ℕ)
-            (E : List Entry) → Tracks self.old H E → Tracks self.new H (heard_block block E)) }
+        ensures tracks { OnOk result (OfBlock sequence raws.entry (HearsBlock self.old self.new)) }
         // In an honest history, where all that is heard comes from one venue, the book stays the
         // one that the venue's messages up to the reach leave, and what is held stays the venue's.
-        ensures keeps { OnOk result ((block : Block) → Carries block sequence raws.entry
-            → (Image : List Raw → ℕ → List Raw) (V : List Raw) (E : List Entry)
-            → Honest Image V (heard_block block E) → Keeps self.old V → Keeps self.new V) }
+        ensures keeps { OnOk result (OfBlock sequence raws.entry (KeepsBlock self.old self.new)) }
         // Whatever was heard before, the answer is what the block changes: the status before and
         // after it, and how many messages were fresh and overflowed the hold.
-        ensures change { IfOk result (λ change. (block : Block) → Carries block sequence raws.entry
-            → (H : ℕ) (E : List Entry) → Tracks self.old H E → change ≡ block_change H E block) }
+        ensures change { IfOk result
+            (λ change. OfBlock sequence raws.entry (Changes self.old change)) }
         // Honest or not, the book is what the applied messages make of the one before, and only
         // their room is used up.
         ensures applies { OnOk result ((applied : List Raw) × Applied self.old self.new applied) }
@@ -385,27 +374,23 @@ impl UnitClient {
     ) -> Result<Change, OutOfMemory>
         requires { StaysWithin sequence (length raws) }
         // Whatever history the client stood for, it now stands for that history and this block.
-        ensures tracks { OnOk result ((block : Block) → Carries block sequence raws.entry → (H : ℕ)
-            (E : List Entry) → Tracks self.old H E → Tracks self.new H (heard_block block E)) }
+        ensures tracks { OnOk result (OfBlock sequence raws.entry (HearsBlock self.old self.new)) }
         // In an honest history, where all that is heard comes from one venue, the book stays the
         // one that the venue's messages up to the reach leave, and what is held stays the venue's.
-        ensures keeps { OnOk result ((block : Block) → Carries block sequence raws.entry
-            → (Image : List Raw → ℕ → List Raw) (V : List Raw) (E : List Entry)
-            → Honest Image V (heard_block block E) → Keeps self.old V → Keeps self.new V) }
+        ensures keeps { OnOk result (OfBlock sequence raws.entry (KeepsBlock self.old self.new)) }
         // Whatever was heard before, the answer is what the block changes: the status before and
         // after it, and how many messages were fresh and overflowed the hold.
-        ensures change { IfOk result (λ change. (block : Block) → Carries block sequence raws.entry
-            → (H : ℕ) (E : List Entry) → Tracks self.old H E → change ≡ block_change H E block) }
+        ensures change { IfOk result
+            (λ change. OfBlock sequence raws.entry (Changes self.old change)) }
         // Honest or not, what is appended are the applied messages, by which the reach rose.
         ensures applies { OnOk result ((more : List Raw)
             × (applied.new.items ≡ applied.old.items ++ more) × Applied self.old self.new more) }
         // In an honest history these are the venue's messages after the old reach, up to the new
         // one.
-        ensures venues { OnOk result ((block : Block) → Carries block sequence raws.entry
-            → (Image : List Raw → ℕ → List Raw) (V : List Raw) (H : ℕ) (E : List Entry)
-            → Tracks self.old H E → Honest Image V (heard_block block E)
-            → Keeps self.old V → applied.new.items
-            ≡ applied.old.items ++ drop (reach H E) (take (reach H (heard_block block E)) V)) }
+        ensures venues { OnOk result
+            (OfBlock sequence raws.entry
+            (λ block. OfReached self.old (heard_block block)
+            (λ raws. applied.new.items ≡ applied.old.items ++ raws))) }
         // Where there was room for this block and for more messages, there is still room for those:
         // in the book, and in the list.
         ensures room { OnOk result (KeepsRoom self.old self.new (length raws.entry)) }
@@ -444,28 +429,24 @@ impl UnitClient {
     ) -> Result<Change, OutOfMemory>
         requires { StaysWithin sequence (length raws) }
         // Whatever history the client stood for, it now stands for that history and this block.
-        ensures tracks { OnOk result ((block : Block) → Carries block sequence raws.entry → (H : ℕ)
-            (E : List Entry) → Tracks self.old H E → Tracks self.new H (heard_block block E)) }
+        ensures tracks { OnOk result (OfBlock sequence raws.entry (HearsBlock self.old self.new)) }
         // In an honest history, where all that is heard comes from one venue, the book stays the
         // one that the venue's messages up to the reach leave, and what is held stays the venue's.
-        ensures keeps { OnOk result ((block : Block) → Carries block sequence raws.entry
-            → (Image : List Raw → ℕ → List Raw) (V : List Raw) (E : List Entry)
-            → Honest Image V (heard_block block E) → Keeps self.old V → Keeps self.new V) }
+        ensures keeps { OnOk result (OfBlock sequence raws.entry (KeepsBlock self.old self.new)) }
         // Whatever was heard before, the answer is what the block changes: the status before and
         // after it, and how many messages were fresh and overflowed the hold.
-        ensures change { IfOk result (λ change. (block : Block) → Carries block sequence raws.entry
-            → (H : ℕ) (E : List Entry) → Tracks self.old H E → change ≡ block_change H E block) }
+        ensures change { IfOk result
+            (λ change. OfBlock sequence raws.entry (Changes self.old change)) }
         // Honest or not, what is appended are the turns of the applied messages, by which the reach
         // rose.
         ensures applies { OnOk result ((more : List Raw) × (turns.new.items ≡ turns.old.items
             ++ turns_of (current_book self.old) more) × Applied self.old self.new more) }
         // In an honest history these are the turns of the venue's messages after the old reach, up
         // to the new one.
-        ensures venues { OnOk result ((block : Block) → Carries block sequence raws.entry
-            → (Image : List Raw → ℕ → List Raw) (V : List Raw) (H : ℕ) (E : List Entry)
-            → Tracks self.old H E → Honest Image V (heard_block block E)
-            → Keeps self.old V → turns.new.items ≡ turns.old.items ++ turns_of
-            (current_book self.old) (drop (reach H E) (take (reach H (heard_block block E)) V))) }
+        ensures venues { OnOk result
+            (OfBlock sequence raws.entry
+            (λ block. OfReached self.old (heard_block block)
+            (λ raws. turns.new.items ≡ turns.old.items ++ turns_of (current_book self.old) raws))) }
         // Where there was room for this block and for more messages, there is still room for those:
         // in the book, and in the list.
         ensures room { OnOk result (KeepsRoom self.old self.new (length raws.entry)) }
@@ -487,8 +468,7 @@ impl UnitClient {
     }
 
     fn hear_grp_up(&mut self)
-        ensures tracks { (H : ℕ) (E : List Entry)
-            → Tracks self.old H E → Tracks self.new H (GrpUp ∷ E) }
+        ensures tracks { Hears self.old self.new (λ E. GrpUp ∷ E) }
         ensures still { IsStill self.old self.new }
         ensures weighs { weight self.new ≤ weight self.old }
     {
@@ -496,8 +476,7 @@ impl UnitClient {
     }
 
     fn hear_grp_down(&mut self)
-        ensures tracks { (H : ℕ) (E : List Entry)
-            → Tracks self.old H E → Tracks self.new H (GrpDown ∷ E) }
+        ensures tracks { Hears self.old self.new (λ E. GrpDown ∷ E) }
         ensures still { IsStill self.old self.new }
         ensures weighs { weight self.new ≤ weight self.old }
     {
@@ -506,8 +485,7 @@ impl UnitClient {
     }
 
     fn hear_gap_reply(&mut self, accepted: bool)
-        ensures tracks { (H : ℕ) (E : List Entry)
-            → Tracks self.old H E → Tracks self.new H (GapReply accepted ∷ E) }
+        ensures tracks { Hears self.old self.new (λ E. GapReply accepted ∷ E) }
         ensures still { IsStill self.old self.new }
         ensures weighs { weight self.new ≤ weight self.old }
     {
@@ -516,8 +494,7 @@ impl UnitClient {
     }
 
     fn hear_spin_up(&mut self)
-        ensures tracks { (H : ℕ) (E : List Entry)
-            → Tracks self.old H E → Tracks self.new H (SpinUp ∷ E) }
+        ensures tracks { Hears self.old self.new (λ E. SpinUp ∷ E) }
         ensures still { IsStill self.old self.new }
         ensures weighs { weight self.new ≤ weight self.old }
     {
@@ -525,8 +502,7 @@ impl UnitClient {
     }
 
     fn hear_spin_down(&mut self)
-        ensures tracks { (H : ℕ) (E : List Entry)
-            → Tracks self.old H E → Tracks self.new H (SpinDown ∷ E) }
+        ensures tracks { Hears self.old self.new (λ E. SpinDown ∷ E) }
         ensures still { IsStill self.old self.new }
         ensures weighs { weight self.new ≤ weight self.old }
     {
@@ -536,8 +512,7 @@ impl UnitClient {
     }
 
     fn hear_advertised(&mut self, sequence: u32)
-        ensures tracks { (H : ℕ) (E : List Entry)
-            → Tracks self.old H E → Tracks self.new H (Advertised sequence ∷ E) }
+        ensures tracks { Hears self.old self.new (λ E. Advertised sequence ∷ E) }
         ensures still { IsStill self.old self.new }
         ensures weighs { weight self.new ≤ weight self.old }
     {
@@ -546,8 +521,7 @@ impl UnitClient {
     }
 
     fn hear_spin_reply(&mut self, sequence: u32, orders: u32, accepted: bool)
-        ensures tracks { (H : ℕ) (E : List Entry)
-            → Tracks self.old H E → Tracks self.new H (SpinReply sequence orders accepted ∷ E) }
+        ensures tracks { Hears self.old self.new (λ E. SpinReply sequence orders accepted ∷ E) }
         ensures still { IsStill self.old self.new }
         ensures weighs { weight self.new ≤ weight self.old + 1 }
     {
@@ -555,8 +529,7 @@ impl UnitClient {
     }
 
     fn hear_image_messages(&mut self, raws: Raws<'_>) -> Result<(), OutOfMemory>
-        ensures tracks { OnOk result ((H : ℕ) (E : List Entry)
-            → Tracks self.old H E → Tracks self.new H (ImageMessages raws.entry ∷ E)) }
+        ensures tracks { OnOk result (Hears self.old self.new (λ E. ImageMessages raws.entry ∷ E)) }
         ensures still { IsStill self.old self.new }
         ensures err { OnErr result (IsAsBefore self.old self.new) }
         ensures weighs { OnOk result (weight self.new ≤ weight self.old + length raws.entry) }
@@ -567,13 +540,13 @@ impl UnitClient {
     // Hears the end of a spin, whose image has room for what is held.
     fn end_spin(&mut self, sequence: u32) -> ImageEnd
         requires { IsImageReady (held_number self.old) sequence self.old.spin }
-        ensures tracks { (H : ℕ) (E : List Entry)
-            → Tracks self.old H E → Tracks self.new H (SpinFinished sequence ∷ E) }
+        ensures tracks { Hears self.old self.new (λ E. SpinFinished sequence ∷ E) }
         ensures keeps { (Image : List Raw → ℕ → List Raw) (V : List Raw)
             → IsImage Image V → (H : ℕ) (E : List Entry) → Tracks self.old H E
             → IsHonestAt Image V E (SpinFinished sequence) → Keeps self.old V → Keeps self.new V }
-        ensures image { (H : ℕ) (E : List Entry) → Tracks self.old H E → result ≡ image_end_at
-            (reach H E) (image_finished (spin_of E) sequence) (bad_image (spin_of E) sequence) }
+        ensures image { IsToldBy self.old
+            (λ H E. image_end_at (reach H E) (image_finished (spin_of E) sequence)
+            (bad_image (spin_of E) sequence)) result }
         ensures still { result ≢ ImageEnd.Taken → IsStill self.old self.new }
         ensures weighs { result ≢ ImageEnd.Taken → weight self.new ≤ weight self.old }
         ensures weighs_taken { result ≡ ImageEnd.Taken
@@ -595,14 +568,14 @@ impl UnitClient {
     }
 
     fn hear_spin_finished(&mut self, sequence: u32) -> Result<ImageEnd, OutOfMemory>
-        ensures tracks { OnOk result ((H : ℕ) (E : List Entry)
-            → Tracks self.old H E → Tracks self.new H (SpinFinished sequence ∷ E)) }
+        ensures tracks { OnOk result (Hears self.old self.new (λ E. SpinFinished sequence ∷ E)) }
         ensures keeps { OnOk result ((Image : List Raw → ℕ → List Raw) (V : List Raw)
             → IsImage Image V → (H : ℕ) (E : List Entry) → Tracks self.old H E
             → IsHonestAt Image V E (SpinFinished sequence) → Keeps self.old V → Keeps self.new V) }
         ensures image { IfOk result
-            (λ image. (H : ℕ) (E : List Entry) → Tracks self.old H E → image ≡ image_end_at
-            (reach H E) (image_finished (spin_of E) sequence) (bad_image (spin_of E) sequence)) }
+            (IsToldBy self.old
+            (λ H E. image_end_at (reach H E) (image_finished (spin_of E) sequence)
+            (bad_image (spin_of E) sequence))) }
         ensures still { IfOk result (λ image. image ≢ ImageEnd.Taken → IsStill self.old self.new) }
         ensures err { OnErr result (IsAsBefore self.old self.new) }
         ensures weighs { IfOk result
@@ -619,22 +592,19 @@ impl UnitClient {
     #[tactic(auto, using(crate::proofs::Applying::still_keeps, crate::proofs::Applying::still_notes, crate::proofs::Applying::still_held, crate::proofs::Applying::still_venues, crate::proofs::Applying::still_log))]
     fn hear_item(&mut self, log: &mut AppliedLog, item: &Item) -> Result<Heard, OutOfMemory>
         requires { IsItem item.now }
-        ensures tracks { OnOk result ((H : ℕ) (E : List Entry)
-            → Tracks self.old H E → Tracks self.new H (heard item.now E)) }
-        ensures keeps { OnOk result ((Image : List Raw → ℕ → List Raw) (V : List Raw)
-            → IsImage Image V → (H : ℕ) (E : List Entry) → Tracks self.old H E
-            → Honest Image V (heard item.now E) → Keeps self.old V → Keeps self.new V) }
-        ensures heard { IfOk result
-            (λ told. (H : ℕ) (E : List Entry) → Tracks self.old H E → Tells H E item.now told) }
+        ensures tracks { OnOk result (Hears self.old self.new (heard item.now)) }
+        ensures keeps { OnOk result (KeepsImaged self.old self.new (heard item.now)) }
+        ensures heard { IfOk result (λ told. OfHistory self.old (λ H E. Tells H E item.now told)) }
         ensures notes { IfOk result (λ told. told.image ≢ ImageEnd.Taken → NotesApplied
             (reached self.old) (reached self.new) self.old.book self.new.book log.old log.new) }
         ensures held { IfOk result
             (λ told. told.image ≢ ImageEnd.Taken → reached self.new + held_number self.new
             ≤ (reached self.old + held_number self.old) + message_count item.now) }
-        ensures venues { IfOk result (λ told. told.image ≢ ImageEnd.Taken
+        ensures venues { IfOk result
+            (λ told. told.image ≢ ImageEnd.Taken
             → (Image : List Raw → ℕ → List Raw) (V : List Raw) (E : List Entry)
-            → Honest Image V (heard item.now E) → Keeps self.old V → Notes (current_book self.old)
-            (drop (reached self.old) (take (reached self.new) V)) log.old log.new) }
+            → Honest Image V (heard item.now E) → Keeps self.old V
+            → NotesVenues self.old self.new V log.old log.new) }
         ensures log { IfOk result (λ told. told.image ≢ ImageEnd.Taken
             → KeepsLogRoom self.old self.new (message_count item.now) log.old log.new) }
         ensures taken { IfOk result (λ told. told.image ≡ ImageEnd.Taken → log.new ≡ log.old) }
@@ -687,18 +657,14 @@ impl UnitClient {
     pub fn hear(&mut self, item: &Item) -> Result<Change, OutOfMemory>
         requires { IsItem item.now }
         // Whatever history the client stood for, it now stands for that history and this item.
-        ensures tracks { OnOk result ((H : ℕ) (E : List Entry)
-            → Tracks self.old H E → Tracks self.new H (heard item.now E)) }
+        ensures tracks { OnOk result (Hears self.old self.new (heard item.now)) }
         // In an honest history, where all that is heard comes from one venue, the book stays the
         // one that the venue's messages up to the reach leave, and what is held stays the venue's.
         // An image may be any messages that leave the book for which it stands.
-        ensures keeps { OnOk result ((Image : List Raw → ℕ → List Raw) (V : List Raw)
-            → IsImage Image V → (H : ℕ) (E : List Entry) → Tracks self.old H E
-            → Honest Image V (heard item.now E) → Keeps self.old V → Keeps self.new V) }
+        ensures keeps { OnOk result (KeepsImaged self.old self.new (heard item.now)) }
         // Whatever was heard before, the answer is what the item changes: the status before and
         // after it, how many messages were fresh and overflowed the hold, and an image's end.
-        ensures change { IfOk result (λ change. (H : ℕ) (E : List Entry)
-            → Tracks self.old H E → change ≡ change_of H E item.now) }
+        ensures change { IfOk result (IsToldBy self.old (λ H E. change_of H E item.now)) }
         // Honest or not, the book is what the applied messages make of the one before, and only
         // their room is used up.
         ensures applies { IfOk result (λ change. change.image ≢ ImageEnd.Taken
@@ -725,27 +691,23 @@ impl UnitClient {
     pub fn hear_into(&mut self, item: &Item, applied: &mut RawList) -> Result<Change, OutOfMemory>
         requires { IsItem item.now }
         // Whatever history the client stood for, it now stands for that history and this item.
-        ensures tracks { OnOk result ((H : ℕ) (E : List Entry)
-            → Tracks self.old H E → Tracks self.new H (heard item.now E)) }
+        ensures tracks { OnOk result (Hears self.old self.new (heard item.now)) }
         // In an honest history, where all that is heard comes from one venue, the book stays the
         // one that the venue's messages up to the reach leave, and what is held stays the venue's.
         // An image may be any messages that leave the book for which it stands.
-        ensures keeps { OnOk result ((Image : List Raw → ℕ → List Raw) (V : List Raw)
-            → IsImage Image V → (H : ℕ) (E : List Entry) → Tracks self.old H E
-            → Honest Image V (heard item.now E) → Keeps self.old V → Keeps self.new V) }
+        ensures keeps { OnOk result (KeepsImaged self.old self.new (heard item.now)) }
         // Whatever was heard before, the answer is what the item changes: the status before and
         // after it, how many messages were fresh and overflowed the hold, and an image's end.
-        ensures change { IfOk result (λ change. (H : ℕ) (E : List Entry)
-            → Tracks self.old H E → change ≡ change_of H E item.now) }
+        ensures change { IfOk result (IsToldBy self.old (λ H E. change_of H E item.now)) }
         // Honest or not, what is appended are the applied messages, by which the reach rose.
         ensures applies { IfOk result (λ change. change.image ≢ ImageEnd.Taken → (more : List Raw)
             × (applied.new.items ≡ applied.old.items ++ more) × Applied self.old self.new more) }
         // In an honest history these are the venue's messages after the old reach, up to the new
         // one.
-        ensures venues { IfOk result (λ change. change.image ≢ ImageEnd.Taken
-            → (Image : List Raw → ℕ → List Raw) (V : List Raw) (H : ℕ) (E : List Entry) → Tracks
-            self.old H E → Honest Image V (heard item.now E) → Keeps self.old V → applied.new.items
-            ≡ applied.old.items ++ drop (reach H E) (take (reach H (heard item.now E)) V)) }
+        ensures venues { IfOk result
+            (λ change. change.image ≢ ImageEnd.Taken
+            → OfReached self.old (heard item.now)
+            (λ raws. applied.new.items ≡ applied.old.items ++ raws)) }
         ensures taken { IfOk result
             (λ change. change.image ≡ ImageEnd.Taken → applied.new ≡ applied.old) }
         // Where there was room for this item and for more messages, there is still room for those:

@@ -2,6 +2,7 @@ ghost use Rattle.std.specs.Prelude.{◌≡◌, ◌≤◌, ◌++◌, ℕ, List, l
 ghost use Rattle.pitch_fields.specs.Limits.{last_sequence};
 ghost use Rattle.pitch_model.specs.History.{Entry, Raw};
 ghost use Rattle.pitch_model.specs.Honest.{Honest};
+ghost use Rattle.client_core.specs.Hearing.{Hears, KeepsImaged};
 ghost use Rattle.client_core.specs.Items.{IsImage};
 ghost use Rattle.client_core.specs.Tracks.{Tracks, Keeps};
 ghost use Rattle.drill_client.specs.Ending.{AsksForAll, IsAtEnd, whole_line};
@@ -25,11 +26,8 @@ fn is_behind(status: Status) -> bool
 // Hears that both connections ended, that the Spin Server is up again, and of so many messages.
 fn hear_of_all(client: &mut UnitClient, count: u32)
     requires { count ≤ last_sequence }
-    ensures tracks { (H : ℕ) (E : List Entry)
-        → Tracks client.old H E → Tracks client.new H (told_all count E) }
-    ensures keeps { (Image : List Raw → ℕ → List Raw) (V : List Raw)
-        → IsImage Image V → (H : ℕ) (E : List Entry) → Tracks client.old H E
-        → Honest Image V (told_all count E) → Keeps client.old V → Keeps client.new V }
+    ensures tracks { Hears client.old client.new (told_all count) }
+    ensures keeps { KeepsImaged client.old client.new (told_all count) }
 {
     hear_sure(client, &Item::GrpDown);
     hear_sure(client, &Item::SpinDown);

@@ -4,6 +4,7 @@ ghost use Rattle.std.specs.Prelude.{ℕ, List, OnOk};
 ghost use Rattle.pitch_model.specs.Heard.{heard, IsItem};
 ghost use Rattle.pitch_model.specs.History.{Entry, Raw};
 ghost use Rattle.pitch_model.specs.Honest.{Honest};
+ghost use Rattle.client_core.specs.Hearing.{Hears, KeepsImaged};
 ghost use Rattle.client_core.specs.Items.{IsImage, NeedsNoMemory};
 ghost use Rattle.client_core.specs.Tracks.{Tracks, Keeps, held_number, spare_of};
 ghost use Rattle.drill_client.specs.Following.{imaged_whole};
@@ -17,11 +18,8 @@ use pitch_model::Item;
 pub(crate) fn hear_sure(client: &mut UnitClient, item: &Item)
     requires item { IsItem item.now }
     requires memory { NeedsNoMemory item.now (held_number client.old) (spare_of client.old) }
-    ensures tracks { (H : ℕ) (E : List Entry)
-        → Tracks client.old H E → Tracks client.new H (heard item.now E) }
-    ensures keeps { (Image : List Raw → ℕ → List Raw) (V : List Raw)
-        → IsImage Image V → (H : ℕ) (E : List Entry) → Tracks client.old H E
-        → Honest Image V (heard item.now E) → Keeps client.old V → Keeps client.new V }
+    ensures tracks { Hears client.old client.new (heard item.now) }
+    ensures keeps { KeepsImaged client.old client.new (heard item.now) }
 {
     client.hear(item).unwrap();
 }
@@ -33,11 +31,10 @@ pub(crate) fn hear_whole(
     orders: u32,
     raws: RawList,
 ) -> Result<(), OutOfMemory>
-    ensures tracks { OnOk result ((H : ℕ) (E : List Entry)
-        → Tracks client.old H E → Tracks client.new H (imaged_whole sequence orders raws.items E)) }
-    ensures keeps { OnOk result ((Image : List Raw → ℕ → List Raw) (V : List Raw)
-        → IsImage Image V → (H : ℕ) (E : List Entry) → Tracks client.old H E → Honest Image V
-        (imaged_whole sequence orders raws.items E) → Keeps client.old V → Keeps client.new V) }
+    ensures tracks { OnOk result
+        (Hears client.old client.new (imaged_whole sequence orders raws.items)) }
+    ensures keeps { OnOk result
+        (KeepsImaged client.old client.new (imaged_whole sequence orders raws.items)) }
 {
     let reply = Item::SpinReply {
         sequence,

@@ -25,10 +25,6 @@ SendsOn H V E E' sent sent' =
     (before : List Raw) → relayed H V E ≡ before ++ sent → relayed H V E' ≡ before ++ sent'
 
 -- ---- What a client and the messages so far are, once something was heard
--- it stands for what it stood for and what was heard, which is what `hears` puts on a history
-abbrev pub TracksOn : UnitClient → UnitClient → (List Entry → List Entry) → Type 0
-TracksOn c c' hears = (H : ℕ) (E : List Entry) → Tracks c H E → Tracks c' H (hears E)
-
 -- wherever that is honest, it keeps the venue's messages
 abbrev pub KeepsOn : UnitClient → UnitClient → (List Entry → List Entry) → Type 0
 KeepsOn c c' hears =
@@ -41,10 +37,6 @@ abbrev pub SendsRelayed :
 SendsRelayed c hears sent sent' =
     (V : List Raw) (H : ℕ) (E : List Entry) → Tracks c H E → IsVenue V (hears E)
     → Keeps c V → SendsOn H V E (hears E) sent sent'
-
--- the answer is that of every history for which it stood
-abbrev pub IsToldBy : UnitClient → {A : Type 0} → (ℕ → List Entry → A) → A → Type 0
-IsToldBy c told answer = (H : ℕ) (E : List Entry) → Tracks c H E → answer ≡ told H E
 
 -- no more is sent, or left to send, than was before and so many messages
 abbrev pub WeighsNoMore : (c c' : UnitClient) → (sent sent' : List Raw) → ℕ → Type 0

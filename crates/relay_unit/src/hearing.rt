@@ -3,11 +3,12 @@ ghost use Rattle.pitch_messages.specs.Raw.{IsRaw, kind_of};
 ghost use Rattle.pitch_messages.specs.Session.{session_reads};
 ghost use Rattle.pitch_model.specs.History.{Raw as RawBytes};
 ghost use Rattle.pitch_model.specs.Heard.{IsItem, heard, change_of};
+ghost use Rattle.client_core.specs.Hearing.{Hears, IsToldBy};
 ghost use Rattle.client_core.specs.Weight.{told_by};
 ghost use Rattle.relay_unit.specs.Changing.{raw_end, end_or, session_end, merged_change};
 ghost use Rattle.relay_unit.specs.Hearing.{is_of_session};
 ghost use Rattle.relay_unit.specs.Hearing.{heard_unsequenced, heard_session, heard_merged};
-ghost use Rattle.relay_unit.specs.Sending.{IsItemOfRaw, IsToldBy, TracksOn, KeepsOn, WeighsNoMore};
+ghost use Rattle.relay_unit.specs.Sending.{IsItemOfRaw, KeepsOn, WeighsNoMore};
 ghost use Rattle.relay_unit.specs.Sending.{SendsRelayed, SendsAny, SendsLine};
 
 use client_core::{Change, ImageEnd, Item, UnitClient};
@@ -37,7 +38,7 @@ fn hear_item(
     sent: &mut RawList,
 ) -> Result<Change, OutOfMemory>
     requires { IsItem item.now }
-    ensures tracks { OnOk result (TracksOn client.old client.new (heard item.now)) }
+    ensures tracks { OnOk result (Hears client.old client.new (heard item.now)) }
     ensures keeps { OnOk result (KeepsOn client.old client.new (heard item.now)) }
     ensures sends { OnOk result
         (SendsRelayed client.old (heard item.now) sent.old.items sent.new.items) }
@@ -106,7 +107,7 @@ fn hear_raw(
     sent: &mut RawList,
 ) -> Result<ImageEnd, OutOfMemory>
     requires { IsRaw raw.now }
-    ensures tracks { OnOk result (TracksOn client.old client.new (heard_unsequenced raw.now)) }
+    ensures tracks { OnOk result (Hears client.old client.new (heard_unsequenced raw.now)) }
     ensures keeps { OnOk result (KeepsOn client.old client.new (heard_unsequenced raw.now)) }
     ensures sends { OnOk result
         (SendsRelayed client.old (heard_unsequenced raw.now) sent.old.items sent.new.items) }
@@ -139,7 +140,7 @@ fn hear_session(
     raws: Raws<'_>,
     sent: &mut RawList,
 ) -> Result<ImageEnd, OutOfMemory>
-    ensures tracks { OnOk result (TracksOn client.old client.new (heard_session raws.entry)) }
+    ensures tracks { OnOk result (Hears client.old client.new (heard_session raws.entry)) }
     ensures keeps { OnOk result (KeepsOn client.old client.new (heard_session raws.entry)) }
     ensures sends { OnOk result
         (SendsRelayed client.old (heard_session raws.entry) sent.old.items sent.new.items) }
@@ -165,7 +166,7 @@ pub(crate) fn hear_merged(
     block: &BlockView<'_>,
     sent: &mut RawList,
 ) -> Result<Change, OutOfMemory>
-    ensures tracks { OnOk result (TracksOn client.old client.new (heard_merged block.now)) }
+    ensures tracks { OnOk result (Hears client.old client.new (heard_merged block.now)) }
     ensures keeps { OnOk result (KeepsOn client.old client.new (heard_merged block.now)) }
     ensures sends { OnOk result
         (SendsRelayed client.old (heard_merged block.now) sent.old.items sent.new.items) }

@@ -5,6 +5,7 @@ ghost use Rattle.pitch_model.specs.History.{Raw, Entry};
 ghost use Rattle.pitch_model.specs.Units.{unit_history};
 ghost use Rattle.pitch_model.specs.Heard.{heard_block, block_change};
 ghost use Rattle.pitch_model.specs.Honest.{Honest};
+ghost use Rattle.client_core.specs.Hearing.{Changes, HearsBlock, KeepsBlock};
 ghost use Rattle.client_core.specs.Tracks.{Tracks, Keeps, IsAsBefore};
 ghost use Rattle.unit_clients.specs.Clients.{IsClient, TracksAt, IsSlotAsBefore, KeepsTo};
 ghost use Rattle.unit_clients.specs.Clients.{HaveHeard};
@@ -39,12 +40,9 @@ impl Model for Units {
 #[inline]
 fn hear(client: &mut UnitClient, block: &BlockView<'_>) -> Result<Change, OutOfMemory>
     // A client that stood for a history then stands for it with the block after it.
-    ensures tracks { OnOk result ((H : ℕ) (E : List Entry)
-        → Tracks client.old H E → Tracks client.new H (heard_block block.now E)) }
-    ensures keeps { OnOk result ((Image : List Raw → ℕ → List Raw) (V : List Raw) (E : List Entry)
-        → Honest Image V (heard_block block.now E) → Keeps client.old V → Keeps client.new V) }
-    ensures change { IfOk result (λ change. (H : ℕ) (E : List Entry)
-        → Tracks client.old H E → change ≡ block_change H E block.now) }
+    ensures tracks { OnOk result (HearsBlock client.old client.new block.now) }
+    ensures keeps { OnOk result (KeepsBlock client.old client.new block.now) }
+    ensures change { IfOk result (λ change. Changes client.old change block.now) }
     ensures err { OnErr result (IsAsBefore client.old client.new) }
 {
     client.hear_block(block.header().sequence, block.raws())
