@@ -2,7 +2,7 @@
 use Rattle.std.proofs.Common.{◌≡◌, ℕ, [], ◌∷◌, refl, ◌∙◌, arith}
 use Rattle.pitch_model.specs.History.{SpinUp}
 use Rattle.pitch_model.specs.History as model
-use Rattle.pitch_model.specs.Reach.{reach_of, held_count, part_of}
+use Rattle.pitch_model.specs.Reach.{reach_of, held_count, since_overflow}
 use Rattle.client_core.specs.Spinning.{IsSpin}
 use Rattle.client_core.specs.Tracks.{Tracks}
 use Rattle.client_core.specs.Weight.{spin_weight, weight}
@@ -16,7 +16,7 @@ no_spin NoSpin is = refl
 no_spin (Asked sequence) is = absurd is
 no_spin (Running image) is = absurd is
 
-none_held : (H : ℕ) → held_count (part_of H (SpinUp ∷ [])) ≡ 0
+none_held : (H : ℕ) → held_count (since_overflow H (SpinUp ∷ [])) ≡ 0
 unfolding held_count reach_of
 none_held H = refl
 

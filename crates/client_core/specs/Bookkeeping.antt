@@ -9,7 +9,7 @@ use Rattle.order_book.specs.declared.turn.Turn.{Turn}
 use Rattle.hold_buffer.specs.HoldView.{HoldView}
 use Rattle.pitch_model.specs.Book.{Book, book_after}
 use Rattle.pitch_model.specs.History.{Entry, Raw, Spinning, adds, image_finished, bad_image}
-use Rattle.pitch_model.specs.Reach.{Part, grown, settled, overflows, reach_of, is_seen}
+use Rattle.pitch_model.specs.Reach.{SinceOverflow, grown, settled, overflows, reach_of, is_seen}
 use Rattle.pitch_model.specs.Settling.{Settled}
 use Rattle.pitch_model.specs.Heard.{fresh_of, overflows_of, image_end}
 use Rattle.pitch_model.specs.declared.item.Item.{Item}
@@ -108,7 +108,7 @@ pub record NotesApplied (n n' : ℕ) (book book' : Standing) (log log' : Applied
 -- ---- Answers
 -- a message was taken in where what came so far was P: the hold then stands at the reach and holds
 -- what is held, and the answer says whether the message was fresh and whether the hold overflowed
-pub record TakesIn (P : Part) (h : HoldView) (sequence : ℕ) (h' : HoldView) (taken : Taken) :
+pub record TakesIn (P : SinceOverflow) (h : HoldView) (sequence : ℕ) (h' : HoldView) (taken : Taken) :
     Type 0 where
   pub settled_then : Settled
       (settled h.limit (grown P [] (sequence ∷ [])) (sequence ∷ [])) h'.floor (holds h')

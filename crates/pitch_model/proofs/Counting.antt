@@ -7,7 +7,7 @@ use Rattle.std.proofs.lemmas.Map.Made.{length-le_from_is_member, distinct_count-
 use Rattle.std.proofs.lemmas.Bool.{both_ways, eqb-true, cond_both}
 use Rattle.std.proofs.lemmas.Bool.Decides.{nat_tests}
 use Rattle.pitch_model.specs.History.{Entry, Message, Next, GrpUp, GrpDown, GapReply, SpinUp, SpinDown, Advertised, SpinReply, ImageMessages, SpinFinished, Ticked, messages_at, images_at, spin_of}
-use Rattle.pitch_model.specs.Reach.{Part, is_seen, grown, settled, reach_of, held_of, held_count, part_of, sequences}
+use Rattle.pitch_model.specs.Reach.{SinceOverflow, is_seen, grown, settled, reach_of, held_of, held_count, since_overflow, sequences}
 use Rattle.pitch_model.proofs.Least.{member_held}
 use Rattle.pitch_model.proofs.Rises.{grown_rises}
 
@@ -50,26 +50,26 @@ count_same xs ys same =
 
 -- ---- What is held
 -- what is held of P is held of Q
-pub held_le : (P Q : Part) → ((k : ℕ) → (ltb (reach_of P) k && is_seen P k) ≡ true → (ltb (reach_of Q) k && is_seen Q k) ≡ true) → held_count P ≤ held_count Q
+pub held_le : (P Q : SinceOverflow) → ((k : ℕ) → (ltb (reach_of P) k && is_seen P k) ≡ true → (ltb (reach_of Q) k && is_seen Q k) ≡ true) → held_count P ≤ held_count Q
 unfolding held_count
 held_le P Q within = count_le (held_of P) (held_of Q) (λ k m. member_held Q k ∙ within k (sym (member_held P k) ∙ m))
 
-pub held_same : (P Q : Part) → ((k : ℕ) → (ltb (reach_of P) k && is_seen P k) ≡ (ltb (reach_of Q) k && is_seen Q k)) → held_count P ≡ held_count Q
+pub held_same : (P Q : SinceOverflow) → ((k : ℕ) → (ltb (reach_of P) k && is_seen P k) ≡ (ltb (reach_of Q) k && is_seen Q k)) → held_count P ≡ held_count Q
 unfolding held_count
 held_same P Q same = count_same (held_of P) (held_of Q) (λ k. member_held P k ∙ same k ∙ sym (member_held Q k))
 
 -- one more is held
-pub held_more : (P Q : Part) (k : ℕ) → (ltb (reach_of P) k && is_seen P k) ≡ false → ((j : ℕ) → (ltb (reach_of Q) j && is_seen Q j) ≡ (eqb j k || (ltb (reach_of P) j && is_seen P j))) → held_count Q ≡ suc (held_count P)
+pub held_more : (P Q : SinceOverflow) (k : ℕ) → (ltb (reach_of P) k && is_seen P k) ≡ false → ((j : ℕ) → (ltb (reach_of Q) j && is_seen Q j) ≡ (eqb j k || (ltb (reach_of P) j && is_seen P j))) → held_count Q ≡ suc (held_count P)
 unfolding held_count
 held_more P Q k fresh more =
     count_same (held_of Q) (k ∷ held_of P) (λ j. member_held Q j ∙ more j ∙ ap (λ (b : Bool). eqb j k || b) (sym (member_held P j)))
     ∙ ap (λ (b : Bool). length (cond b (unique_keys eqb (held_of P)) (k ∷ unique_keys eqb (held_of P)))) (member_held P k ∙ fresh)
 
 -- ---- Never more than the hold has places
-held_alone : (P : Part) (H k : ℕ) → 1 ≤ H → held_count (record { base = reach_of P; images = []; seen = k ∷ [] }) ≤ H
+held_alone : (P : SinceOverflow) (H k : ℕ) → 1 ≤ H → held_count (record { base = reach_of P; images = []; seen = k ∷ [] }) ≤ H
 unfolding held_count
 held_alone P H k one =
-    let Q : Part = record { base = reach_of P; images = []; seen = k ∷ [] } in
+    let Q : SinceOverflow = record { base = reach_of P; images = []; seen = k ∷ [] } in
     let l = distinct_count-le eqb (held_of Q) in
     let s = cond_both (ltb (reach_of Q) k) (k ∷ []) [] (λ xs. length xs ≤ 1) (λ t. omega arith) (λ f. omega arith) in
     omega arith
@@ -88,7 +88,7 @@ one_message (ImageMessages raws) = omega arith
 one_message (SpinFinished s) = omega arith
 one_message (Ticked ask) = omega arith
 
-few_settled : (H : ℕ) (P : Part) (images ms : List ℕ) → 1 ≤ H → length ms ≤ 1 → held_count P ≤ H → held_count (settled H (grown P images ms) ms) ≤ H
+few_settled : (H : ℕ) (P : SinceOverflow) (images ms : List ℕ) → 1 ≤ H → length ms ≤ 1 → held_count P ≤ H → held_count (settled H (grown P images ms) ms) ≤ H
 few_settled H P images [] one l h =
     let up = grown_rises P images [] in
     let le = held_le (grown P images []) P (λ k t. grind (arith, nat_tests, up, t)) in
@@ -102,6 +102,6 @@ none_held : (H : ℕ) → held_count (record { base = 0; images = []; seen = [] 
 unfolding held_count
 none_held H = omega arith
 
-pub held_few : (H : ℕ) (E : List Entry) → 1 ≤ H → held_count (part_of H E) ≤ H
+pub held_few : (H : ℕ) (E : List Entry) → 1 ≤ H → held_count (since_overflow H E) ≤ H
 held_few H [] one = none_held H
-held_few H (entry ∷ E) one = few_settled H (part_of H E) (sequences (images_at entry (spin_of E))) (sequences (messages_at entry)) one (one_message entry) (held_few H E one)
+held_few H (entry ∷ E) one = few_settled H (since_overflow H E) (sequences (images_at entry (spin_of E))) (sequences (messages_at entry)) one (one_message entry) (held_few H E one)

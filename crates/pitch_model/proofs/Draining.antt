@@ -3,7 +3,7 @@ use Rattle.std.proofs.Common.{◌≡◌, ℕ, suc, ◌+◌, ◌≤◌, ◌<◌, 
 use Rattle.std.proofs.lemmas.Bool.{and_parts, and_from, and_right, lt-ltb, le-ltb, cases_lt}
 use Rattle.std.proofs.lemmas.Bool.Decides.{nat_tests}
 use Rattle.pitch_model.specs.History.{Entry, Raw, Message, SpinFinished, spin_of, image_finished}
-use Rattle.pitch_model.specs.Reach.{Part, grown, is_seen, reach_of, held_count, part_of, reach, is_held, is_overflow, sequences}
+use Rattle.pitch_model.specs.Reach.{SinceOverflow, grown, is_seen, reach_of, held_count, since_overflow, reach, is_held, is_overflow, sequences}
 use Rattle.pitch_model.specs.Settling.{Draining}
 use Rattle.pitch_model.specs.Steps.{RunsOn, Drains}
 use Rattle.pitch_model.proofs.Reaching.{reach_is, joined_reach, next_unseen}
@@ -12,7 +12,7 @@ use Rattle.pitch_model.proofs.Entries.{settled_at}
 use Rattle.pitch_model.proofs.Counting.{held_le, held_few}
 
 -- ---- A floor that may be short of the reach
-module _ (P : Part) (n : ℕ) (has : ℕ → Bool) (D : Draining P n has) where
+module _ (P : SinceOverflow) (n : ℕ) (has : ℕ → Bool) (D : Draining P n has) where
   pub floor_up : n ≤ reach_of P
   floor_up = (reach_is P).greatest n D.joined
 
@@ -33,18 +33,18 @@ module _ (P : Part) (n : ℕ) (has : ℕ → Bool) (D : Draining P n has) where
 
 -- ---- The next message
 module _ (H : ℕ) (E : List Entry) (k : ℕ) (raw : Raw) (one : 1 ≤ H) (next : k ≡ reach H E + 1) where
-  with_next : Part
-  with_next = grown (part_of H E) [] (k ∷ [])
+  with_next : SinceOverflow
+  with_next = grown (since_overflow H E) [] (k ∷ [])
 
   drains_next : Draining with_next k (is_held H E)
   unfolding with_next
-  drains_next = step_next (part_of H E) (reach H E) k (is_held H E) (settled_at H E) (next ∙ add-one (reach H E))
+  drains_next = step_next (since_overflow H E) (reach H E) k (is_held H E) (settled_at H E) (next ∙ add-one (reach H E))
 
-  no_more : held_count with_next ≤ held_count (part_of H E)
+  no_more : held_count with_next ≤ held_count (since_overflow H E)
   unfolding with_next
   no_more =
       let up = floor_up with_next k (is_held H E) drains_next in
-      held_le with_next (part_of H E) (λ j t.
+      held_le with_next (since_overflow H E) (λ j t.
       let both = and_parts (ltb (reach_of with_next) j) (is_seen with_next j) t in
       let rest = rest_held with_next k (is_held H E) drains_next j in
       (and_parts (ltb (reach_of with_next) j) (is_held H E j) (sym rest ∙ t)).1)
@@ -62,7 +62,7 @@ module _ (H : ℕ) (E : List Entry) (k : ℕ) (raw : Raw) (one : 1 ≤ H) (next 
   }
 
 -- ---- A finished image
-runs_from : (P : Part) (s : ℕ) (had : ℕ → Bool) → RunsOn P s (λ j. ltb s j && had j) → RunsOn P s had
+runs_from : (P : SinceOverflow) (s : ℕ) (had : ℕ → Bool) → RunsOn P s (λ j. ltb s j && had j) → RunsOn P s had
 runs_from P s had R = record {
   up = R.up;
   run = λ j above below. (and_parts (ltb s j) (had j) (R.run j above below)).1;
@@ -77,10 +77,10 @@ runs_from P s had R = record {
 pub taken_drains : (H : ℕ) (E : List Entry) (sequence s : ℕ) (raws : List Raw) → image_finished (spin_of E) sequence ≡ (s, raws) ∷ [] → reach H E < s → Drains H E (SpinFinished sequence) s
 taken_drains H E sequence s raws finished above =
     let has : ℕ → Bool = λ j. ltb s j && is_held H E j in
-    let G = grown (part_of H E) (s ∷ []) [] in
-    let D = step_taken (part_of H E) (reach H E) s (is_held H E) (settled_at H E) has above (λ j. refl) in
+    let G = grown (since_overflow H E) (s ∷ []) [] in
+    let D = step_taken (since_overflow H E) (reach H E) s (is_held H E) (settled_at H E) has above (λ j. refl) in
     let R = runs_from G s (is_held H E) (runs_on G s has D) in
     record {
       calm = refl;
-      runs = subst (λ (is : List (ℕ × List Raw)). RunsOn (grown (part_of H E) (sequences is) []) s (is_held H E)) (sym finished) R;
+      runs = subst (λ (is : List (ℕ × List Raw)). RunsOn (grown (since_overflow H E) (sequences is) []) s (is_held H E)) (sym finished) R;
     }

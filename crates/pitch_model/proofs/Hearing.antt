@@ -4,6 +4,7 @@ use Rattle.std.specs.List.{slice_get}
 use Rattle.std.proofs.Math.Seq.{take-suc}
 use Rattle.std.proofs.lemmas.Option.{slice_get_within, get_or_from_slice_get}
 use Rattle.std.proofs.lemmas.Bool.{cond-true, cond-false, eq-eqb, ne_eqb}
+use Rattle.pitch_messages.specs.Room.{Roomy}
 use Rattle.unit_packets.specs.Blocks.{Block, StaysWithin}
 use Rattle.pitch_model.specs.History.{Entry, Raw, Message}
 use Rattle.pitch_model.specs.Reach.{is_overflow}
@@ -92,7 +93,7 @@ heard_item block (item.SpinFinished sequence) E is = absurd is
 
 -- what is counted of messages and of nothing else
 record CountsMessages (of : Item → ℕ) (count : ℕ → List Raw → ℕ) : Type 0 where
-  messages : (first : ℕ) (raws : item.RawList) → of (item.Messages first raws) ≡ count first raws.items
+  messages : (first : ℕ) (raws : Roomy Raw) → of (item.Messages first raws) ≡ count first raws.items
   next : (n : ℕ) → of (item.Next n) ≡ 0
   nothing : of item.Nothing ≡ 0
   none : (first : ℕ) → count first [] ≡ 0

@@ -6,7 +6,7 @@ use Rattle.std.specs.Cmp.{nat_eq_equiv}
 use Rattle.std.proofs.lemmas.Map.Made.{is_member-filter}
 use Rattle.std.proofs.lemmas.Bool.{or_cases, or_left, or_right, false≢true, both_ways, eqb-true, eq-eqb, cases_lt}
 use Rattle.std.proofs.lemmas.Option.{none-some, same_Some}
-use Rattle.pitch_model.specs.Reach.{Part, is_seen, reach_of, held_of}
+use Rattle.pitch_model.specs.Reach.{SinceOverflow, is_seen, reach_of, held_of}
 use Rattle.pitch_model.specs.Asking.{least_of}
 
 -- what least_of gives is a member
@@ -59,7 +59,7 @@ least_none [] h = refl
 least_none (k ∷ ks) h = absurd (both_ways _ (h k) (or_left (eqb k k) (is_member eqb ks k) (eq-eqb k k refl)))
 
 -- what is held, as a list
-pub member_held : (P : Part) (q : ℕ) → is_member eqb (held_of P) q ≡ (ltb (reach_of P) q && is_seen P q)
+pub member_held : (P : SinceOverflow) (q : ℕ) → is_member eqb (held_of P) q ≡ (ltb (reach_of P) q && is_seen P q)
 member_held P q = is_member-filter nat_eq_equiv (ltb (reach_of P)) q (λ x e. ap (ltb (reach_of P)) (eqb-true q x e)) P.seen ∙ swapped (is_seen P q) (ltb (reach_of P) q)
   where
     swapped : (a b : Bool) → (a && b) ≡ (b && a)

@@ -3,7 +3,7 @@ use Rattle.std.proofs.Common.{◌≡◌, ℕ, zero, suc, ◌≤◌, Bool, true, 
 use Rattle.std.specs.Set.{is_member}
 use Rattle.std.proofs.lemmas.Bool.{or_cases, and_parts, or_left, or_right, and_from, false≢true, eqb-true, eq-eqb, cases_Bool, both_ways, cases_lt, cases_eq}
 use Rattle.pitch_model.specs.Settling.{AnchorsUpTo}
-use Rattle.pitch_model.specs.Reach.{Part, Joined, IsReach, is_anchor, is_seen, is_joined, greatest, largest, top_of_part, reach_of}
+use Rattle.pitch_model.specs.Reach.{SinceOverflow, Joined, IsReach, is_anchor, is_seen, is_joined, greatest, largest, top_since, reach_of}
 
 -- ---- the greatest that passes
 pub greatest_passes : (p : ℕ → Bool) (n k : ℕ) → k ≤ n → p k ≡ true → p (greatest p n) ≡ true
@@ -38,7 +38,7 @@ member_le_largest (x ∷ xs) k h =
     ]
 
 -- ---- the test and the relation
-pub joined_from_test : (P : Part) (k : ℕ) → is_joined P k ≡ true → Joined P k
+pub joined_from_test : (P : SinceOverflow) (k : ℕ) → is_joined P k ≡ true → Joined P k
 joined_from_test P zero h = record { anchor = 0; is_anchored = h; below = omega arith; run = λ j a b. absurd (omega arith) }
 joined_from_test P (suc k) h =
     elim (or_cases (is_anchor P (suc k)) (is_seen P (suc k) && is_joined P k) h) [
@@ -55,7 +55,7 @@ joined_from_test P (suc k) h =
           }
     ]
 
-pub test_from_joined : (P : Part) (k : ℕ) → Joined P k → is_joined P k ≡ true
+pub test_from_joined : (P : SinceOverflow) (k : ℕ) → Joined P k → is_joined P k ≡ true
 test_from_joined P zero J = let b = J.below in let e : J.anchor ≡ 0 = omega arith in subst (λ i. is_anchor P i ≡ true) e J.is_anchored
 test_from_joined P (suc k) J =
     elim (cases_eq J.anchor (suc k)) [
@@ -67,14 +67,14 @@ test_from_joined P (suc k) J =
           or_right _ _ (and_from _ _ seen rest)
     ]
 
-pub anchor_le_top : (P : Part) (k : ℕ) → is_anchor P k ≡ true → k ≤ top_of_part P
+pub anchor_le_top : (P : SinceOverflow) (k : ℕ) → is_anchor P k ≡ true → k ≤ top_since P
 anchor_le_top P k h =
     elim (or_cases (eqb k P.base) (is_member eqb P.images k) h) [
       | inl here ↦ let e = eqb-true k P.base here in omega arith
       | inr there ↦ let le = member_le_largest P.images k there in omega arith
     ]
 
-pub joined_le_top : (P : Part) (k : ℕ) → Joined P k → k ≤ top_of_part P
+pub joined_le_top : (P : SinceOverflow) (k : ℕ) → Joined P k → k ≤ top_since P
 joined_le_top P k J =
     elim (cases_eq J.anchor k) [
       | inl same ↦ anchor_le_top P k (subst (λ i. is_anchor P i ≡ true) same J.is_anchored)
@@ -84,23 +84,23 @@ joined_le_top P k J =
           omega arith
     ]
 
-pub base_joined : (P : Part) → Joined P P.base
+pub base_joined : (P : SinceOverflow) → Joined P P.base
 base_joined P = record { anchor = P.base; is_anchored = or_left _ _ (eq-eqb P.base P.base refl); below = omega arith; run = λ j a b. absurd (omega arith) }
 
 -- the reach is the greatest number that is joined
-pub reach_is : (P : Part) → IsReach P (reach_of P)
+pub reach_is : (P : SinceOverflow) → IsReach P (reach_of P)
 unfolding reach_of
 reach_is P = record {
-  joined = joined_from_test P _ (greatest_passes (is_joined P) (top_of_part P) P.base (joined_le_top P P.base (base_joined P)) (test_from_joined P P.base (base_joined P)));
-  greatest = λ m J. greatest_above (is_joined P) (top_of_part P) m (joined_le_top P m J) (test_from_joined P m J);
+  joined = joined_from_test P _ (greatest_passes (is_joined P) (top_since P) P.base (joined_le_top P P.base (base_joined P)) (test_from_joined P P.base (base_joined P)));
+  greatest = λ m J. greatest_above (is_joined P) (top_since P) m (joined_le_top P m J) (test_from_joined P m J);
 }
 
 -- there is one
-pub reach_one : (P : Part) (m n : ℕ) → IsReach P m → IsReach P n → m ≡ n
+pub reach_one : (P : SinceOverflow) (m n : ℕ) → IsReach P m → IsReach P n → m ≡ n
 reach_one P m n R S = let a = R.greatest n S.joined in let b = S.greatest m R.joined in omega arith
 
 -- a joined number above which there is no anchor, and whose next was not seen, is the reach
-pub reach_stops : (P : Part) (n : ℕ) → Joined P n → AnchorsUpTo P n → is_seen P (suc n) ≡ false → reach_of P ≡ n
+pub reach_stops : (P : SinceOverflow) (n : ℕ) → Joined P n → AnchorsUpTo P n → is_seen P (suc n) ≡ false → reach_of P ≡ n
 reach_stops P n J anchors gap = reach_one P _ n (reach_is P) (record {
   joined = J;
   greatest = λ m K. elim (cases_lt n m) [
@@ -109,15 +109,15 @@ reach_stops P n J anchors gap = reach_one P _ n (reach_is P) (record {
   ];
 })
 
-pub joined_reach : (P : Part) → Joined P (reach_of P)
+pub joined_reach : (P : SinceOverflow) → Joined P (reach_of P)
 joined_reach P = (reach_is P).joined
 
 -- every anchor is at most the reach
-pub anchors_up_to_reach : (P : Part) → AnchorsUpTo P (reach_of P)
+pub anchors_up_to_reach : (P : SinceOverflow) → AnchorsUpTo P (reach_of P)
 anchors_up_to_reach P s h = (reach_is P).greatest s (record { anchor = s; is_anchored = h; below = omega arith; run = λ j a b. absurd (omega arith) })
 
 -- what follows the reach was not seen
-pub next_unseen : (P : Part) → is_seen P (suc (reach_of P)) ≡ false
+pub next_unseen : (P : SinceOverflow) → is_seen P (suc (reach_of P)) ≡ false
 next_unseen P =
     elim (cases_Bool (is_seen P (suc (reach_of P)))) [
       | inl seen ↦

@@ -7,31 +7,31 @@ use Rattle.std.specs.List.{IsDistinct}
 use Rattle.std.proofs.lemmas.Map.Made.{length-from_keys, is_member-filter}
 use Rattle.std.proofs.lemmas.Bool.{or_cases, and_parts, or_from, or_left, or_right, and_right, false≢true, eqb-true, eq-eqb, ne_eqb, lt-ltb, both_ways, cases_eq}
 use Rattle.std.proofs.lemmas.Bool.Decides.{nat_tests}
-use Rattle.pitch_model.specs.Reach.{Part, Joined, is_anchor, is_seen, grown, reach_of, held_of, held_count}
+use Rattle.pitch_model.specs.Reach.{SinceOverflow, Joined, is_anchor, is_seen, grown, reach_of, held_of, held_count}
 use Rattle.pitch_model.specs.Settling.{AnchorsUpTo, Settled, Draining}
 use Rattle.pitch_model.proofs.Reaching.{reach_stops, joined_reach, anchors_up_to_reach, next_unseen}
 
-pub drained : (P : Part) (n : ℕ) (has : ℕ → Bool) → Draining P n has → has (suc n) ≡ false → Settled P n has
+pub drained : (P : SinceOverflow) (n : ℕ) (has : ℕ → Bool) → Draining P n has → has (suc n) ≡ false → Settled P n has
 drained P n has D none = record {
   reach = reach_stops P n D.joined D.anchors (let e = D.held (suc n) in let l = lt-ltb n (suc n) (omega arith) in grind (arith, nat_tests));
   held = D.held;
 }
 
-pub draining : (P : Part) (n : ℕ) (has : ℕ → Bool) → Settled P n has → Draining P n has
+pub draining : (P : SinceOverflow) (n : ℕ) (has : ℕ → Bool) → Settled P n has → Draining P n has
 draining P n has S = record {
   joined = subst (Joined P) S.reach (joined_reach P);
   anchors = subst (AnchorsUpTo P) S.reach (anchors_up_to_reach P);
   held = S.held;
 }
 
-pub gap : (P : Part) (n : ℕ) (has : ℕ → Bool) → Settled P n has → is_seen P (suc n) ≡ false
+pub gap : (P : SinceOverflow) (n : ℕ) (has : ℕ → Bool) → Settled P n has → is_seen P (suc n) ≡ false
 gap P n has S = subst (λ m. is_seen P (suc m) ≡ false) S.reach (next_unseen P)
 
-pub next_not_held : (P : Part) (n : ℕ) (has : ℕ → Bool) → Settled P n has → has (suc n) ≡ false
+pub next_not_held : (P : SinceOverflow) (n : ℕ) (has : ℕ → Bool) → Settled P n has → has (suc n) ≡ false
 next_not_held P n has S = let g = gap P n has S in S.held (suc n) ∙ and_right (ltb n (suc n)) (is_seen P (suc n)) g
 
 -- one more is joined, where it was seen
-pub joined_more : (P : Part) (n : ℕ) → Joined P n → is_seen P (suc n) ≡ true → Joined P (suc n)
+pub joined_more : (P : SinceOverflow) (n : ℕ) → Joined P n → is_seen P (suc n) ≡ true → Joined P (suc n)
 joined_more P n J seen = let b = J.below in record {
   anchor = J.anchor;
   is_anchored = J.is_anchored;
@@ -40,7 +40,7 @@ joined_more P n J seen = let b = J.below in record {
 }
 
 -- the next held message is taken out, and the floor rises
-pub popped : (P : Part) (n : ℕ) (has has' : ℕ → Bool) → Draining P n has → has (suc n) ≡ true → ((k : ℕ) → has' k ≡ (not (eqb k (suc n)) && has k)) → Draining P (suc n) has'
+pub popped : (P : SinceOverflow) (n : ℕ) (has has' : ℕ → Bool) → Draining P n has → has (suc n) ≡ true → ((k : ℕ) → has' k ≡ (not (eqb k (suc n)) && has k)) → Draining P (suc n) has'
 popped P n has has' D is_next out =
     let seen = (and_parts (ltb n (suc n)) (is_seen P (suc n)) (sym (D.held (suc n)) ∙ is_next)).1 in record {
       joined = joined_more P n D.joined seen;
@@ -49,10 +49,10 @@ popped P n has has' D is_next out =
     }
 
 -- what was joined stays so, as more is seen
-pub joined_grown : (P : Part) (ks : List ℕ) (k n : ℕ) → Joined P n → Joined (grown P [] (k ∷ [])) n
+pub joined_grown : (P : SinceOverflow) (ks : List ℕ) (k n : ℕ) → Joined P n → Joined (grown P [] (k ∷ [])) n
 joined_grown P ks k n J = record { anchor = J.anchor; is_anchored = J.is_anchored; below = J.below; run = λ j a b. or_right (eqb j k) (is_seen P j) (J.run j a b) }
 
-module _ (P : Part) (n k : ℕ) (has : ℕ → Bool) (S : Settled P n has) where
+module _ (P : SinceOverflow) (n k : ℕ) (has : ℕ → Bool) (S : Settled P n has) where
   settled_grown : (has' : ℕ → Bool) → k ≢ suc n → ((j : ℕ) → has' j ≡ (ltb n j && (eqb j k || is_seen P j))) → Settled (grown P [] (k ∷ [])) n has'
   settled_grown has' other held' =
       let D = draining P n has S in
@@ -95,7 +95,7 @@ module _ (P : Part) (n k : ℕ) (has : ℕ → Bool) (S : Settled P n has) where
   pub step_overflow : (has' : ℕ → Bool) → suc n < k → ((j : ℕ) → has' j ≡ eqb j k) → Settled (record { base = reach_of (grown P [] (k ∷ [])); images = []; seen = k ∷ [] }) n has'
   step_overflow has' fresh alone =
       let still = settled_grown (λ j. ltb n j && (eqb j k || is_seen P j)) (omega arith) (λ j. refl) in
-      let Q : Part = record { base = reach_of (grown P [] (k ∷ [])); images = []; seen = k ∷ [] } in
+      let Q : SinceOverflow = record { base = reach_of (grown P [] (k ∷ [])); images = []; seen = k ∷ [] } in
       let base_is : Q.base ≡ n = still.reach in
       record {
         reach = reach_stops Q n
@@ -107,7 +107,7 @@ module _ (P : Part) (n k : ℕ) (has : ℕ → Bool) (S : Settled P n has) where
 
 -- ---- images
 -- an anchor of the part with one more image
-image_or_old : (P : Part) (s x : ℕ) → is_anchor (grown P (s ∷ []) []) x ≡ true → (x ≡ s) ⊎ (is_anchor P x ≡ true)
+image_or_old : (P : SinceOverflow) (s x : ℕ) → is_anchor (grown P (s ∷ []) []) x ≡ true → (x ≡ s) ⊎ (is_anchor P x ≡ true)
 image_or_old P s x h =
     elim (or_cases (eqb x P.base) (eqb x s || is_member eqb P.images x) h) [
       | inl base ↦ inr (or_left (eqb x P.base) (is_member eqb P.images x) base)
@@ -117,14 +117,14 @@ image_or_old P s x h =
       ]
     ]
 
-anchor_more : (P : Part) (s x : ℕ) → is_anchor P x ≡ true → is_anchor (grown P (s ∷ []) []) x ≡ true
+anchor_more : (P : SinceOverflow) (s x : ℕ) → is_anchor P x ≡ true → is_anchor (grown P (s ∷ []) []) x ≡ true
 anchor_more P s x h =
     elim (or_cases (eqb x P.base) (is_member eqb P.images x) h) [
       | inl base ↦ or_left (eqb x P.base) (eqb x s || is_member eqb P.images x) base
       | inr old ↦ or_right (eqb x P.base) (eqb x s || is_member eqb P.images x) (or_right (eqb x s) (is_member eqb P.images x) old)
     ]
 
-module _ (P : Part) (n s : ℕ) (has : ℕ → Bool) (S : Settled P n has) where
+module _ (P : SinceOverflow) (n s : ℕ) (has : ℕ → Bool) (S : Settled P n has) where
   -- a finished image at or below the floor
   pub step_stale : s ≤ n → Settled (grown P (s ∷ []) []) n has
   step_stale old =
@@ -150,7 +150,7 @@ module _ (P : Part) (n s : ℕ) (has : ℕ → Bool) (S : Settled P n has) where
 
 -- ---- how many are held
 -- the hold's sequences, each once
-pub held_count_is : (P : Part) (n : ℕ) (has : ℕ → Bool) → Settled P n has → (ks : List ℕ) → IsDistinct eqb ks → ((k : ℕ) → is_member eqb ks k ≡ has k) → length ks ≡ held_count P
+pub held_count_is : (P : SinceOverflow) (n : ℕ) (has : ℕ → Bool) → Settled P n has → (ks : List ℕ) → IsDistinct eqb ks → ((k : ℕ) → is_member eqb ks k ≡ has k) → length ks ≡ held_count P
 unfolding held_count
 held_count_is P n has S ks distinct same =
     length-from_keys nat_eq_equiv ks (held_of P) distinct (λ q. same q ∙ S.held q ∙ and_swapped n (reach_of P) q (is_seen P q) S.reach

@@ -2,7 +2,7 @@
 use Rattle.std.proofs.Common.{ℕ, ◌≤◌, List, [], ◌∷◌, ◌++◌, arith, Option, Some, None, unwrap_or, eqb, ◌&&◌}
 use Rattle.std.proofs.lemmas.Bool.{cond_both}
 use Rattle.pitch_model.specs.History.{Entry, Message, Next, GrpUp, GrpDown, GapReply, SpinUp, SpinDown, Advertised, SpinReply, ImageMessages, SpinFinished, Ticked, images_at, messages_at, spin_of, Spinning, NoSpin, Asked, Running, image_finished, adds}
-use Rattle.pitch_model.specs.Reach.{Part, overflows, reach_of, part_of, reach, sequences, largest, top_of_part, grown_at}
+use Rattle.pitch_model.specs.Reach.{SinceOverflow, overflows, reach_of, since_overflow, reach, sequences, largest, top_since, grown_at}
 use Rattle.pitch_model.specs.Status.{raised, top_of, told_at}
 use Rattle.pitch_model.proofs.Reaching.{joined_reach, joined_le_top}
 
@@ -10,7 +10,7 @@ use Rattle.pitch_model.proofs.Reaching.{joined_reach, joined_le_top}
 abbrev pub top_number : Option ℕ → ℕ
 top_number top = unwrap_or top 0
 
-reach_le_part : (P : Part) → reach_of P ≤ top_of_part P
+reach_le_part : (P : SinceOverflow) → reach_of P ≤ top_since P
 reach_le_part P = joined_le_top P (reach_of P) (joined_reach P)
 
 largest_append : (ks js : List ℕ) (t : ℕ) → largest ks ≤ t → largest js ≤ t → largest (ks ++ js) ≤ t
@@ -63,20 +63,20 @@ module _ (E : List Entry) where
   told_images (Ticked ask) = omega arith
 
 -- no number of the part is above the top
-part_le_top : (H : ℕ) (E : List Entry) → top_of_part (part_of H E) ≤ top_number (top_of E)
+part_le_top : (H : ℕ) (E : List Entry) → top_since (since_overflow H E) ≤ top_number (top_of E)
 part_le_top H [] = omega arith
 part_le_top H (entry ∷ E) =
-    let P = grown_at (part_of H E) E entry in
+    let P = grown_at (since_overflow H E) E entry in
     let t = top_number (top_of (entry ∷ E)) in
     let IH = part_le_top H E in
     let up = raised_up (told_at E entry) (top_of E) in
     let m = told_messages E entry in
     let i = told_images E entry in
-    let seen = largest_append (sequences (messages_at entry)) (part_of H E).seen t m (omega arith) in
-    let images = largest_append (sequences (images_at entry (spin_of E))) (part_of H E).images t i (omega arith) in
-    let whole : top_of_part P ≤ t = omega arith in
+    let seen = largest_append (sequences (messages_at entry)) (since_overflow H E).seen t m (omega arith) in
+    let images = largest_append (sequences (images_at entry (spin_of E))) (since_overflow H E).images t i (omega arith) in
+    let whole : top_since P ≤ t = omega arith in
     let r = reach_le_part P in
-    cond_both (overflows H P (sequences (messages_at entry))) (record { base = reach_of P; images = []; seen = sequences (messages_at entry) }) P (λ Q. top_of_part Q ≤ t) (λ o. omega arith) (λ o. whole)
+    cond_both (overflows H P (sequences (messages_at entry))) (record { base = reach_of P; images = []; seen = sequences (messages_at entry) }) P (λ Q. top_since Q ≤ t) (λ o. omega arith) (λ o. whole)
 
 pub reach_le_top : (H : ℕ) (E : List Entry) → reach H E ≤ unwrap_or (top_of E) 0
-reach_le_top H E = let a = reach_le_part (part_of H E) in let b = part_le_top H E in omega arith
+reach_le_top H E = let a = reach_le_part (since_overflow H E) in let b = part_le_top H E in omega arith

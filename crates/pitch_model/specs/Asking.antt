@@ -5,7 +5,7 @@ use Rattle.std.specs.Prelude.{if◌then◌else◌}
 use Rattle.std.specs.Option.{option_map_or}
 use Rattle.pitch_model.specs.History.{Entry, GrpUp, GrpDown, GapReply, SpinUp, SpinDown, Advertised}
 use Rattle.pitch_model.specs.History.{Ticked, Spinning, NoSpin, spin_of}
-use Rattle.pitch_model.specs.Reach.{reach, is_overflow, part_of, held_of}
+use Rattle.pitch_model.specs.Reach.{reach, is_overflow, since_overflow, held_of}
 use Rattle.pitch_model.specs.Status.{raised, top_of}
 use Rattle.pitch_model.specs.declared.ask.Ask.{Ask}
 use Rattle.pitch_model.specs.declared.ask.Ask.TheVariants.{Gap, Spin}
@@ -82,7 +82,7 @@ least_of (k ∷ ks) = Some (option_map_or (min k) (least_of ks) k)
 
 -- the least sequence held
 abbrev pub least_held : ℕ → List Entry → Option ℕ
-least_held H E = least_of (held_of (part_of H E))
+least_held H E = least_of (held_of (since_overflow H E))
 
 -- no spin is asked for or runs
 abbrev pub is_idle : Spinning → Bool

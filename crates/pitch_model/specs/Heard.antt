@@ -7,7 +7,7 @@ use Rattle.pitch_model.specs.History.{Entry, Raw, image_finished, bad_image, spi
 use Rattle.pitch_model.specs.History as entry
 pub use Rattle.pitch_model.specs.HeardBlocks.{heard_messages, heard_sequenced, heard_block}
 pub use Rattle.pitch_model.specs.HeardBlocks.{overflowed_messages, block_overflows}
-use Rattle.pitch_model.specs.Reach.{reach, is_seen, part_of}
+use Rattle.pitch_model.specs.Reach.{reach, is_seen, since_overflow}
 use Rattle.pitch_model.specs.Status.{status_of}
 use Rattle.pitch_model.specs.declared.change.Change.{Change}
 use Rattle.pitch_model.specs.declared.change.ImageEnd.{ImageEnd}
@@ -73,7 +73,7 @@ heard (item.SpinFinished sequence) E = entry.SpinFinished sequence ∷ E
 -- ---- What an item changes, where the hold has H places
 -- a message is fresh after a history: it is above the reach, and has not come
 abbrev pub is_fresh : ℕ → List Entry → ℕ → Bool
-is_fresh H E sequence = nat_lt (reach H E) sequence && not (is_seen (part_of H E) sequence)
+is_fresh H E sequence = nat_lt (reach H E) sequence && not (is_seen (since_overflow H E) sequence)
 
 -- how many of messages with rising sequence are fresh, each after those before it
 abbrev pub fresh_messages : ℕ → ℕ → List Raw → List Entry → ℕ

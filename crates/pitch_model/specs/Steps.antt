@@ -1,7 +1,7 @@
 -- What one entry does to the reach and to what is held.
 use Rattle.std.specs.Prelude.{◌≡◌, ℕ, ◌+◌, ◌<◌, ◌≤◌, Bool, true, false, ◌&&◌, nat_lt, List, ◌∷◌}
 use Rattle.pitch_model.specs.History.{Entry}
-use Rattle.pitch_model.specs.Reach.{Part, reach_of, is_seen, part_of, reach, is_held, is_overflow}
+use Rattle.pitch_model.specs.Reach.{SinceOverflow, reach_of, is_seen, since_overflow, reach, is_held, is_overflow}
 
 -- the reach and what is held are after E' what they were after E
 pub record SameReach (H : ℕ) (E E' : List Entry) : Type 0 where
@@ -17,7 +17,7 @@ pub record Leaves (H : ℕ)
 
 -- the reach of a part is at least `from`; all that is between was held, and what follows was not;
 -- those beyond are still held
-pub record RunsOn (P : Part) (from : ℕ) (held : ℕ → Bool) : Type 0 where
+pub record RunsOn (P : SinceOverflow) (from : ℕ) (held : ℕ → Bool) : Type 0 where
   pub up : from ≤ reach_of P
   pub run : (j : ℕ) → from < j → j ≤ reach_of P → held j ≡ true
   pub stop : held (reach_of P + 1) ≡ false
@@ -27,4 +27,4 @@ pub record RunsOn (P : Part) (from : ℕ) (held : ℕ → Bool) : Type 0 where
 -- held that follow it without a break
 pub record Drains (H : ℕ) (E : List Entry) (entry : Entry) (from : ℕ) : Type 0 where
   pub calm : is_overflow H E entry ≡ false
-  pub runs : RunsOn (part_of H (entry ∷ E)) from (is_held H E)
+  pub runs : RunsOn (since_overflow H (entry ∷ E)) from (is_held H E)

@@ -32,22 +32,22 @@ ghost use Rattle.pitch_model.specs.Heard.{IsItem, IsItemOf, heard, heard_block, 
 ghost use Rattle.pitch_model.specs.Heard.{block_change};
 ghost use Rattle.pitch_model.specs.Honest.{AreVenues, Honest};
 ghost use Rattle.pitch_model.specs.Units.{unit_history, units_of};
-ghost use Rattle.pitch_model.specs.Reach.{Part, IsReach, is_anchor, is_seen, reach_of, held_count};
-ghost use Rattle.pitch_model.specs.Reach.{part_of, reach, is_held};
+ghost use Rattle.pitch_model.specs.Reach.{SinceOverflow, IsReach, is_anchor, is_seen, reach_of, held_count};
+ghost use Rattle.pitch_model.specs.Reach.{since_overflow, reach, is_held};
 ghost use Rattle.pitch_model.specs.Status.{top_of};
 ghost use Rattle.pitch_model.specs.Steps.{SameReach, Leaves, Drains};
 
 /// The reach of a part is the greatest number that is joined to an anchor, and no other number is
 /// that.
 pub fn reach_is_the_greatest_joined()
-    ensures greatest { (P : Part) → IsReach P (reach_of P) }
-    ensures only { (P : Part) (m n : ℕ) → IsReach P m → IsReach P n → m ≡ n }
+    ensures greatest { (P : SinceOverflow) → IsReach P (reach_of P) }
+    ensures only { (P : SinceOverflow) (m n : ℕ) → IsReach P m → IsReach P n → m ≡ n }
 {}
 
 /// No anchor is above the reach, and the message after the reach did not come.
 pub fn reach_is_closed()
-    ensures anchors { (P : Part) (s : ℕ) → is_anchor P s ≡ true → s ≤ reach_of P }
-    ensures next { (P : Part) → is_seen P (reach_of P + 1) ≡ false }
+    ensures anchors { (P : SinceOverflow) (s : ℕ) → is_anchor P s ≡ true → s ≤ reach_of P }
+    ensures next { (P : SinceOverflow) → is_seen P (reach_of P + 1) ≡ false }
 {}
 
 /// The reach is at most the greatest sequence that was told of.
@@ -62,7 +62,7 @@ pub fn reach_never_falls()
 
 /// Never more messages are held than the hold has places.
 pub fn held_is_within_the_limit()
-    ensures { (H : ℕ) (E : List Entry) → 1 ≤ H → held_count (part_of H E) ≤ H }
+    ensures { (H : ℕ) (E : List Entry) → 1 ≤ H → held_count (since_overflow H E) ≤ H }
 {}
 
 /// An old message and one that is held change nothing.
@@ -83,11 +83,11 @@ pub fn next_message_is_applied()
 /// held goes, it alone is held, and the reach stays.
 pub fn later_messages_are_held()
     ensures kept { (H : ℕ) (E : List Entry) (k : ℕ) (raw : Raw)
-        → reach H E + 1 < k → is_held H E k ≡ false → held_count (part_of H E) < H
+        → reach H E + 1 < k → is_held H E k ≡ false → held_count (since_overflow H E) < H
         → Leaves H E (Message k raw) false (reach H E) (λ j. j == k || is_held H E j) }
     ensures overflow { (H : ℕ) (E : List Entry) (k : ℕ) (raw : Raw)
         → reach H E + 1 < k → is_held H E k ≡ false
-        → held_count (part_of H E) ≡ H → Leaves H E (Message k raw) true (reach H E) (λ j. j == k) }
+        → held_count (since_overflow H E) ≡ H → Leaves H E (Message k raw) true (reach H E) (λ j. j == k) }
 {}
 
 /// A finished image above the reach takes its place, with the held messages that follow it; another
@@ -104,7 +104,7 @@ pub fn images_are_taken_above_the_reach()
 /// What is neither a message nor a finished image changes nothing, as a heartbeat.
 pub fn other_entries_change_nothing()
     ensures { (H : ℕ) (E : List Entry) (entry : Entry) → messages_at entry ≡ []
-        → images_at entry (spin_of E) ≡ [] → part_of H (entry ∷ E) ≡ part_of H E }
+        → images_at entry (spin_of E) ≡ [] → since_overflow H (entry ∷ E) ≡ since_overflow H E }
 {}
 
 /// In the book that messages leave, each order stands under its id and has shares, and there are no

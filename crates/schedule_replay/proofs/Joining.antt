@@ -22,9 +22,9 @@ use Rattle.schedule_replay.specs.Replay.{verbs_of, limits_of, replay_line, repla
 use Rattle.schedule_replay.specs.Runs.{entries_among, without_fault, AreFilled, AreOf, ArePartsOf, part_entries, part_texts, cut_by, Ran, left_pieces, pieces_on, pieces_at, put_together, AreRunsAt, is_filled, has_world}
 use Rattle.schedule_replay.specs.Stretches.{IsCut, Owned, StretchPart, items_at, items_in, parts_of, stretches_of}
 use Rattle.schedule_replay.specs.Worlds.{IsPlace, ArePlaces}
-use Rattle.schedule_replay.specs.declared.merging.Left.{Left}
+use Rattle.schedule_replay.specs.declared.merging.Unmerged.{Unmerged}
 use Rattle.schedule_replay.specs.declared.stretches.Stretch.{Stretch}
-use Rattle.schedule_replay.specs.declared.units.Run.{Run}
+use Rattle.schedule_replay.specs.declared.units.UnitRun.{UnitRun}
 use Rattle.schedule_replay.proofs.Reading.{said_all}
 use Rattle.schedule_replay.proofs.Splitting.{own_same, own_other, verbs_own, lines_stand_apart}
 
@@ -49,11 +49,11 @@ some_one : {X : Type 0} (x y : X) → ◌≡◌ {A = Option X} (Some x) (Some y)
 some_one x y h = cc
 
 -- what is left of a run that was not put together yet
-abbrev first_left : Run → Left
+abbrev first_left : UnitRun → Unmerged
 first_left run = record { text = run.text; lengths = run.lengths; next = 0; at = 0 }
 
 -- a run at the place of its unit
-run_put : (parts : List StretchPart) (places : List (Option World)) (lefts : List Left) (run : Run) → run.unit < length places → run.unit < length lefts → AreRunsAt parts places lefts → Ran parts run
+run_put : (parts : List StretchPart) (places : List (Option World)) (lefts : List Unmerged) (run : UnitRun) → run.unit < length places → run.unit < length lefts → AreRunsAt parts places lefts → Ran parts run
     → AreRunsAt parts (set places run.unit run.world) (set lefts run.unit (first_left run))
 run_put parts places lefts run low lower are ran = record {
   many = length-set places run.unit run.world ∙ are.many;
@@ -76,16 +76,16 @@ run_put parts places lefts run low lower are ran = record {
 }
 
 -- the same, where the place and what is put there come under names of their own
-pub puts_run : (parts : List StretchPart) (places : List (Option World)) (lefts : List Left) (run : Run) (place : ℕ) (world : Option World) (left : Left) → place ≡ run.unit → world ≡ run.world → left ≡ record { text = run.text; lengths = run.lengths; next = 0; at = 0 }
+pub puts_run : (parts : List StretchPart) (places : List (Option World)) (lefts : List Unmerged) (run : UnitRun) (place : ℕ) (world : Option World) (left : Unmerged) → place ≡ run.unit → world ≡ run.world → left ≡ record { text = run.text; lengths = run.lengths; next = 0; at = 0 }
     → place < length places → place < length lefts → AreRunsAt parts places lefts → Ran parts run → AreRunsAt parts (set places place world) (set lefts place left)
 puts_run parts places lefts run place world left at is put low lower are ran =
     subst (λ (p : ℕ). AreRunsAt parts (set places p world) (set lefts p left)) (sym at)
     (subst (λ (w : Option World). AreRunsAt parts (set places run.unit w) (set lefts run.unit left)) (sym is)
-    (subst (λ (l : Left). AreRunsAt parts (set places run.unit run.world) (set lefts run.unit l)) (sym put)
+    (subst (λ (l : Unmerged). AreRunsAt parts (set places run.unit run.world) (set lefts run.unit l)) (sym put)
     (run_put parts places lefts run (omega (arith, at, low)) (omega (arith, at, lower)) are ran)))
 
 -- no runs yet
-pub puts_none : (parts : List StretchPart) (places : List (Option World)) (lefts : List Left) → ArePlaces [] places → length lefts ≡ 65 → AreRunsAt parts places lefts
+pub puts_none : (parts : List StretchPart) (places : List (Option World)) (lefts : List Unmerged) → ArePlaces [] places → length lefts ≡ 65 → AreRunsAt parts places lefts
 puts_none parts places lefts none many = record {
   many = none.many;
   texts = many;
@@ -261,7 +261,7 @@ filled_cases None h = absurd (true≢false (sym h))
 filled_cases (Some None) h = absurd (true≢false (sym h))
 filled_cases (Some (Some world)) h = (world, refl)
 
-parts_at : (parts : List StretchPart) (places : List (Option World)) (lefts : List Left) → AreRunsAt parts places lefts → (unit : ℕ) → Filled places unit
+parts_at : (parts : List StretchPart) (places : List (Option World)) (lefts : List Unmerged) → AreRunsAt parts places lefts → (unit : ℕ) → Filled places unit
     → ArePartsOf unit parts × (pieces_at lefts unit ≡ part_texts unit [] parts)
 parts_at parts places lefts are unit filled = let there = filled_cases (slice_get places unit) filled in let its = are.each unit there.0 there.1 in (its.are, its.texts)
 
@@ -288,7 +288,7 @@ verbs_by_parts unit ps all =
     (ap (λ (l : List ScheduleEntry). own unit (reverse l)) (sym its) ∙ own_reverse unit (own unit (all_entries ps)) ∙ ap (λ (l : List ScheduleEntry). reverse l) (own_again unit (all_entries ps)) ∙ sym (own_reverse unit (all_entries ps)))
 
 -- every unit's place, by the whole
-whole_places : (ps : List StretchPart) (places : List (Option World)) (lefts : List Left) → AreRunsAt ps places lefts → AllByRecursion (λ (p : StretchPart). Filled places p.unit) ps → AllParts ps → ArePlaces (reverse (all_entries ps)) places
+whole_places : (ps : List StretchPart) (places : List (Option World)) (lefts : List Unmerged) → AreRunsAt ps places lefts → AllByRecursion (λ (p : StretchPart). Filled places p.unit) ps → AllParts ps → ArePlaces (reverse (all_entries ps)) places
 whole_places ps places lefts are has all = record {
   many = are.many;
   low = λ unit named. elim (cases_lt unit 65) [
@@ -309,13 +309,13 @@ whole_places ps places lefts are has all = record {
     by unit (Some world) at = place_by_verbs (reverse (part_entries unit ps)) (reverse (all_entries ps)) unit (Some world) (verbs_by_parts unit ps all) (are.each unit world at).done
 
 -- all units were run apart, and their texts joined
-pub record RunsApart (text : List ℕ) (places : List (Option World)) (order : List ℕ) (lefts : List Left) : Type 0 where
+pub record RunsApart (text : List ℕ) (places : List (Option World)) (order : List ℕ) (lefts : List Unmerged) : Type 0 where
   pub entries : List ScheduleEntry
   pub read : schedule_of text ≡ Ok entries
   pub are : ArePlaces (reverse entries) places
   pub written : replay_text entries ≡ put_together (pieces_at lefts) order
 
-pub runs_apart : (text order : List ℕ) (lists : List (Vec Stretch Global)) (places : List (Option World)) (lefts : List Left) (cut : IsCut text order lists) → AreRunsAt (parts_of text cut.all) places lefts → AreFilled lists places
+pub runs_apart : (text order : List ℕ) (lists : List (Vec Stretch Global)) (places : List (Option World)) (lefts : List Unmerged) (cut : IsCut text order lists) → AreRunsAt (parts_of text cut.all) places lefts → AreFilled lists places
     → RunsApart text places order lefts
 runs_apart text order lists places lefts cut are filled =
     let ps : List StretchPart = parts_of text cut.all in
@@ -355,37 +355,37 @@ joined_same (s ∷ ss) p q same =
     ∙ ap (λ (t : List ℕ). first_piece (q s) ++ t) (joined_same ss (λ unit. cond (eqb s unit) (drop 1 (p unit)) (p unit)) (λ unit. cond (eqb s unit) (drop 1 (q unit)) (q unit))
     (λ unit. ap (λ (ps : List (List ℕ)). cond (eqb s unit) (drop 1 ps) ps) (same unit)))
 
-taken_at : (lefts : List Left) (unit : ℕ) (left left' : Left) → unit < length lefts → slice_get lefts unit ≡ Some left → left_pieces left' ≡ drop 1 (left_pieces left)
+taken_at : (lefts : List Unmerged) (unit : ℕ) (left left' : Unmerged) → unit < length lefts → slice_get lefts unit ≡ Some left → left_pieces left' ≡ drop 1 (left_pieces left)
     → (v : ℕ) → cond (eqb unit v) (drop 1 (pieces_at lefts v)) (pieces_at lefts v) ≡ pieces_at (set lefts unit left') v
 taken_at lefts unit left left' lt at taken v = elim (cases_eq unit v) [
   | inl same ↦
       ap (λ (b : Bool). cond b (drop 1 (pieces_at lefts v)) (pieces_at lefts v)) (eq-eqb unit v same)
-      ∙ ap (λ (n : ℕ). drop 1 (pieces_at lefts n)) (sym same) ∙ ap (λ (o : Option Left). drop 1 (pieces_on o)) at ∙ sym taken
+      ∙ ap (λ (n : ℕ). drop 1 (pieces_at lefts n)) (sym same) ∙ ap (λ (o : Option Unmerged). drop 1 (pieces_on o)) at ∙ sym taken
       ∙ ap pieces_on (sym (slice_set_same lefts unit left' lt)) ∙ ap (pieces_at (set lefts unit left')) same
   | inr other ↦
       ap (λ (b : Bool). cond b (drop 1 (pieces_at lefts v)) (pieces_at lefts v)) (ne_eqb unit v other) ∙ ap pieces_on (sym (slice_set_other lefts unit v left' other))
 ]
 
 -- what was appended, and what is left, are the whole
-pub Merging : List ℕ → ℕ → List Left → List Left → List ℕ → List ℕ → Type 0
+pub Merging : List ℕ → ℕ → List Unmerged → List Unmerged → List ℕ → List ℕ → Type 0
 Merging ss i first lefts old now = old ++ put_together (pieces_at first) ss ≡ now ++ put_together (pieces_at lefts) (drop i ss)
 
-pub merging_none : (ss : List ℕ) (lefts : List Left) (old : List ℕ) → Merging ss 0 lefts lefts old old
+pub merging_none : (ss : List ℕ) (lefts : List Unmerged) (old : List ℕ) → Merging ss 0 lefts lefts old old
 unfolding Merging
 merging_none ss lefts old = refl
 
-pub merging_more : (ss : List ℕ) (i : ℕ) (s : ℕ) (first lefts : List Left) (old now new : List ℕ) (left left' : Left) → slice_get ss i ≡ Some s → Merging ss i first lefts old now
+pub merging_more : (ss : List ℕ) (i : ℕ) (s : ℕ) (first lefts : List Unmerged) (old now new : List ℕ) (left left' : Unmerged) → slice_get ss i ≡ Some s → Merging ss i first lefts old now
     → s < length lefts → slice_get lefts s ≡ Some left → new ≡ now ++ first_piece (left_pieces left) → left_pieces left' ≡ drop 1 (left_pieces left) → Merging ss (i + 1) first (set lefts s left') old new
 unfolding Merging
 merging_more ss i s first lefts old now new left left' there so_far lt at text taken =
     so_far
     ∙ ap (λ (l : List ℕ). now ++ put_together (pieces_at lefts) l) (drop_there ss i s there)
-    ∙ ap (λ (o : Option Left). now ++ (first_piece (pieces_on o) ++ put_together (λ unit. cond (eqb s unit) (drop 1 (pieces_at lefts unit)) (pieces_at lefts unit)) (drop (i + 1) ss))) at
+    ∙ ap (λ (o : Option Unmerged). now ++ (first_piece (pieces_on o) ++ put_together (λ unit. cond (eqb s unit) (drop 1 (pieces_at lefts unit)) (pieces_at lefts unit)) (drop (i + 1) ss))) at
     ∙ ap (λ (t : List ℕ). now ++ (first_piece (left_pieces left) ++ t)) (joined_same (drop (i + 1) ss) (λ unit. cond (eqb s unit) (drop 1 (pieces_at lefts unit)) (pieces_at lefts unit)) (pieces_at (set lefts s left')) (taken_at lefts s left left' lt at taken))
     ∙ sym (append_assoc now (first_piece (left_pieces left)) (put_together (pieces_at (set lefts s left')) (drop (i + 1) ss)))
     ∙ ap (λ (t : List ℕ). t ++ put_together (pieces_at (set lefts s left')) (drop (i + 1) ss)) (sym text)
 
-pub merging_end : (ss : List ℕ) (i : ℕ) (first lefts : List Left) (old now : List ℕ) → length ss ≤ i → Merging ss i first lefts old now → now ≡ old ++ put_together (pieces_at first) ss
+pub merging_end : (ss : List ℕ) (i : ℕ) (first lefts : List Unmerged) (old now : List ℕ) → length ss ≤ i → Merging ss i first lefts old now → now ≡ old ++ put_together (pieces_at first) ss
 unfolding Merging
 merging_end ss i first lefts old now end all =
     sym (append-nil now) ∙ ap (λ (l : List ℕ). now ++ put_together (pieces_at lefts) l) (sym (drop_all i ss end)) ∙ sym all

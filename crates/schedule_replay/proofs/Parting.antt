@@ -21,8 +21,8 @@ use Rattle.schedule_replay.specs.Runs.{later, entries_among, without_fault, AreO
 use Rattle.schedule_replay.specs.Stretches.{AreListed, Owned, StretchPart, items_at, list_at, part_at, parts_of, stretches_of, unit_parts}
 use Rattle.schedule_replay.specs.Worlds.{IsPlace}
 use Rattle.schedule_replay.specs.declared.stretches.Stretch.{Stretch}
-use Rattle.schedule_replay.specs.declared.units.Run.{Run}
-use Rattle.schedule_replay.specs.declared.unrun.Unrun.{Unrun}
+use Rattle.schedule_replay.specs.declared.units.UnitRun.{UnitRun}
+use Rattle.schedule_replay.specs.declared.unrun.CantRunApart.{CantRunApart}
 
 abbrev Items : Type 0
 Items = List (Result ScheduleEntry TextError)
@@ -205,7 +205,7 @@ cut_more (m ∷ ns) text piece n all is =
 
 -- ---- A unit's run
 
-pub ran_none : (unit : ℕ) (run : Run) → run.world ≡ None → run.text.items ≡ [] → run.lengths.items ≡ [] → Ran [] run
+pub ran_none : (unit : ℕ) (run : UnitRun) → run.world ≡ None → run.text.items ≡ [] → run.lengths.items ≡ [] → Ran [] run
 ran_none unit run world text lengths = record {
   are = tt;
   done = subst (λ (w : Option World). IsPlace [] run.unit w) (sym world) refl;
@@ -213,7 +213,7 @@ ran_none unit run world text lengths = record {
   whole = ap (λ (ns : List ℕ). lengths_total ns) lengths ∙ sym (ap (λ (t : List ℕ). length t) text);
 }
 
-pub ran_more : (parts : List StretchPart) (unit : ℕ) (items : Items) (run run' : Run) (n : ℕ) → unit ≡ run.unit → run'.unit ≡ run.unit
+pub ran_more : (parts : List StretchPart) (unit : ℕ) (items : Items) (run run' : UnitRun) (n : ℕ) → unit ≡ run.unit → run'.unit ≡ run.unit
     → ((before : List ScheduleEntry) → IsPlace before unit run.world → RunsLines unit items before run'.world run.text.items run'.text.items)
     → n ≡ length run'.text.items - length run.text.items → run'.lengths.items ≡ run.lengths.items ++ n ∷ [] → Ran parts run → Ran (parts ++ record { unit = unit; items = items } ∷ []) run'
 ran_more parts unit items run run' n own same runs size grown ran =
@@ -300,7 +300,7 @@ own_texts text unit before (o ∷ all) =
     ]
 
 -- a run of the unit's own parts is one of all parts
-pub ran_whole : (text : List ℕ) (unit : ℕ) (list : List Stretch) (all : List Owned) (run : Run) → run.unit ≡ unit → list ≡ stretches_of unit all → Ran (unit_parts text unit list) run → Ran (parts_of text all) run
+pub ran_whole : (text : List ℕ) (unit : ℕ) (list : List Stretch) (all : List Owned) (run : UnitRun) → run.unit ≡ unit → list ≡ stretches_of unit all → Ran (unit_parts text unit list) run → Ran (parts_of text all) run
 ran_whole text unit list all run whose listed ran =
     let mine : List StretchPart = unit_parts text unit (stretches_of unit all) in
     let its : Ran mine run = subst (λ (l : List Stretch). Ran (unit_parts text unit l) run) listed ran in
@@ -314,7 +314,7 @@ ran_whole text unit list all run whose listed ran =
     }
 
 -- the same of what came of a unit by its list
-pub listed_run : (text : List ℕ) (unit : ℕ) (lists : List (Vec Stretch Global)) (list : List Stretch) (result : Result Run Unrun) → list ≡ list_at lists unit → IfOk result (λ run. run.unit ≡ unit) → IfOk result (λ run. Ran (unit_parts text unit list) run)
+pub listed_run : (text : List ℕ) (unit : ℕ) (lists : List (Vec Stretch Global)) (list : List Stretch) (result : Result UnitRun CantRunApart) → list ≡ list_at lists unit → IfOk result (λ run. run.unit ≡ unit) → IfOk result (λ run. Ran (unit_parts text unit list) run)
     → IfOk result (λ run. (all : List Owned) → AreListed all lists → Ran (parts_of text all) run)
 listed_run text unit lists list (Ok run) is whose ran = λ all listed. ran_whole text unit list all run whose (is ∙ listed unit) ran
 listed_run text unit lists list (Err why) is whose ran = tt
@@ -322,14 +322,14 @@ listed_run text unit lists list (Err why) is whose ran = tt
 -- ---- All stretches of a unit
 
 -- the stretches so far were done
-pub Walking : List ℕ → ℕ → List Stretch → ℕ → Run → Run → Type 0
+pub Walking : List ℕ → ℕ → List Stretch → ℕ → UnitRun → UnitRun → Type 0
 Walking text unit list i first run = (run.unit ≡ unit) × (Ran [] first → Ran (unit_parts text unit (take i list)) run)
 
-pub walks_none : (text : List ℕ) (list : List Stretch) (run : Run) → Walking text run.unit list 0 run run
+pub walks_none : (text : List ℕ) (list : List Stretch) (run : UnitRun) → Walking text run.unit list 0 run run
 unfolding Walking
 walks_none text list run = (refl, λ ran. ran)
 
-pub walks_unit : (text : List ℕ) (unit : ℕ) (list : List Stretch) (i : ℕ) (first run : Run) → Walking text unit list i first run → run.unit ≡ unit
+pub walks_unit : (text : List ℕ) (unit : ℕ) (list : List Stretch) (i : ℕ) (first run : UnitRun) → Walking text unit list i first run → run.unit ≡ unit
 unfolding Walking
 walks_unit text unit list i first run w = w.0
 
@@ -346,7 +346,7 @@ take_there {X} (y ∷ xs) (suc i) x at =
     let e : suc i + 1 ≡ suc (i + 1) = omega arith in
     ap (λ (n : ℕ). take n (y ∷ xs)) e ∙ ap (λ (l : List X). y ∷ l) (take_there xs i x at)
 
-pub walks_more : (text : List ℕ) (unit : ℕ) (list : List Stretch) (i : ℕ) (s : Stretch) (part : List ℕ) (first run run' : Run) → slice_get list i ≡ Some s → part ≡ take s.size (drop s.at text) → run'.unit ≡ run.unit
+pub walks_more : (text : List ℕ) (unit : ℕ) (list : List Stretch) (i : ℕ) (s : Stretch) (part : List ℕ) (first run run' : UnitRun) → slice_get list i ≡ Some s → part ≡ take s.size (drop s.at text) → run'.unit ≡ run.unit
     → ((parts : List StretchPart) → Ran parts run → Ran (parts ++ record { unit = run.unit; items = items_at (s.before + 1) part } ∷ []) run') → Walking text unit list i first run → Walking text unit list (i + 1) first run'
 unfolding Walking
 walks_more text unit list i s part first run run' at is same goes w =
@@ -360,6 +360,6 @@ walks_more text unit list i s part first run run' at is same goes w =
           subst (λ (ps : List StretchPart). Ran ps run') (sym grown) (subst (λ (b : List ℕ). Ran (unit_parts text unit (take i list) ++ record { unit = unit; items = items_at (s.before + 1) b } ∷ []) run') is named),
     )
 
-pub walks_all : (text : List ℕ) (unit : ℕ) (list : List Stretch) (i : ℕ) (first run : Run) → length list ≤ i → Walking text unit list i first run → Ran [] first → Ran (unit_parts text unit list) run
+pub walks_all : (text : List ℕ) (unit : ℕ) (list : List Stretch) (i : ℕ) (first run : UnitRun) → length list ≤ i → Walking text unit list i first run → Ran [] first → Ran (unit_parts text unit list) run
 unfolding Walking
 walks_all text unit list i first run end w start = subst (λ (l : List Stretch). Ran (unit_parts text unit l) run) (take_all i list end) (w.1 start)

@@ -13,8 +13,8 @@ use Rattle.schedule_replay.specs.Replay.{replay_line}
 use Rattle.schedule_replay.specs.Stretches.{AreListed, Owned, StretchPart, list_at, parts_of}
 use Rattle.schedule_replay.specs.Worlds.{IsPlace}
 use Rattle.schedule_replay.specs.declared.stretches.Stretch.{Stretch}
-use Rattle.schedule_replay.specs.declared.merging.Left.{Left}
-use Rattle.schedule_replay.specs.declared.units.Run.{Run}
+use Rattle.schedule_replay.specs.declared.merging.Unmerged.{Unmerged}
+use Rattle.schedule_replay.specs.declared.units.UnitRun.{UnitRun}
 
 -- an entry that stands so many lines later
 abbrev pub later : ℕ → ScheduleEntry → ScheduleEntry
@@ -79,29 +79,29 @@ lengths_total [] = 0
 lengths_total (n ∷ lengths) = n + lengths_total lengths
 
 -- the lines of a unit were done, part by part
-pub record Ran (parts : List StretchPart) (run : Run) : Type 0 where
+pub record Ran (parts : List StretchPart) (run : UnitRun) : Type 0 where
   pub are : ArePartsOf run.unit parts
   pub done : IsPlace (reverse (part_entries run.unit parts)) run.unit run.world
   pub texts : cut_by run.lengths.items run.text.items ≡ part_texts run.unit [] parts
   pub whole : lengths_total run.lengths.items ≡ length run.text.items
 
 -- runs of units by their lists: whatever the stretches of the text are, the runs are of its parts
-abbrev pub AreRun : List ℕ → List (Vec Stretch) → List Run → Type 0
+abbrev pub AreRun : List ℕ → List (Vec Stretch) → List UnitRun → Type 0
 AreRun text lists runs =
     (all : List Owned) → AreListed all lists → AllByRecursion (Ran (parts_of text all)) runs
 
 -- ---- Put together
 
 -- what is left of a unit's texts
-abbrev pub left_pieces : Left → List (List ℕ)
+abbrev pub left_pieces : Unmerged → List (List ℕ)
 left_pieces left = cut_by (drop left.next left.lengths.items) (drop left.at left.text.items)
 
-abbrev pub pieces_on : Option Left → List (List ℕ)
+abbrev pub pieces_on : Option Unmerged → List (List ℕ)
 pieces_on None = []
 pieces_on (Some left) = left_pieces left
 
 -- what is left of each unit's texts, which stand at the unit's place
-abbrev pub pieces_at : List Left → ℕ → List (List ℕ)
+abbrev pub pieces_at : List Unmerged → ℕ → List (List ℕ)
 pieces_at lefts unit = pieces_on (slice_get lefts unit)
 
 -- the texts of units in the order of some stretches, of which it is said whose they are: at each
@@ -119,7 +119,7 @@ pub record IsRunAt (parts : List StretchPart) (unit : ℕ) (world : World) (piec
   pub done : IsPlace (reverse (part_entries unit parts)) unit (Some world)
   pub texts : pieces ≡ part_texts unit [] parts
 
-pub record AreRunsAt (parts : List StretchPart) (places : List (Option World)) (lefts : List Left) :
+pub record AreRunsAt (parts : List StretchPart) (places : List (Option World)) (lefts : List Unmerged) :
     Type 0 where
   pub many : length places ≡ 65
   pub texts : length lefts ≡ 65

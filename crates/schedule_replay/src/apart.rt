@@ -7,11 +7,11 @@ ghost use Rattle.schedule_replay.specs.Runs.{AreFilled, AreRunsAt};
 ghost use Rattle.schedule_replay.specs.Stretches.{AreListed, Owned, parts_of};
 ghost use Rattle.schedule_replay.specs.Worlds.{AddsWorlds};
 
-use crate::merging::{Left, are_filled, merge, no_lefts, put_pieces};
+use crate::merging::{Unmerged, are_filled, merge, no_lefts, put_pieces};
 use crate::running::{LAST_UNIT, PLACES, WorldList, all_worlds, no_worlds};
 use crate::stretches::{Cut, Stretch, cut_text};
 use crate::units::run_units;
-use crate::unrun::Unrun;
+use crate::unrun::CantRunApart;
 use pitch_fields::OutOfMemory;
 use pitch_io::Gate;
 use std::alloc::Global;
@@ -40,8 +40,8 @@ fn run_lists<R: Threads + Sync, G: Gate + Sync>(
     lists: &[Vec<Stretch>],
     workers: u8,
     places: &mut Vec<Option<World>>,
-    lefts: &mut Vec<Left>,
-) -> Result<(), Unrun>
+    lefts: &mut Vec<Unmerged>,
+) -> Result<(), CantRunApart>
     requires { 0 < workers }
     ensures runs { OnOk result ((all : List Owned) → AreListed all lists.now
         → AreRunsAt (parts_of text.now all) places.old.items lefts.old.items
@@ -54,7 +54,7 @@ fn run_lists<R: Threads + Sync, G: Gate + Sync>(
     if are_filled(lists, places) {
         Ok(())
     } else {
-        Err(Unrun::NotApart)
+        Err(CantRunApart::NotApart)
     }
 }
 
@@ -68,7 +68,7 @@ pub(crate) fn replay_apart<R: Threads + Sync, G: Gate + Sync>(
     gate: &G,
     worlds: &mut WorldList,
     out: &mut Vec<u8>,
-) -> Result<(), Unrun>
+) -> Result<(), CantRunApart>
     requires size { length text.now ≤ text_limit }
     requires workers { 0 < workers }
     ensures written { OnOk result ((written : List ℕ)

@@ -11,16 +11,16 @@ ghost use Rattle.schedule_replay.specs.Worlds.{ArePlaces};
 
 use crate::running::put;
 use crate::stretches::Stretch;
-use crate::units::Run;
-use crate::unrun::Unrun;
+use crate::units::UnitRun;
+use crate::unrun::CantRunApart;
 use pitch_fields::OutOfMemory;
 use std::alloc::Global;
 use world_model::World;
 
-/// What is left of a unit's texts, which stand end to end: `next` is the number of the next text,
+/// A unit's texts, end to end, that are not all merged yet: `next` is the number of the next one,
 /// and `at` the byte where it begins.
 #[derive(Drop)]
-pub(crate) struct Left {
+pub(crate) struct Unmerged {
     pub text: Vec<u8>,
     pub lengths: Vec<u32>,
     pub next: usize,
@@ -28,14 +28,14 @@ pub(crate) struct Left {
 }
 
 // Puts a run at the place of its unit.
-fn put_run(places: &mut Vec<Option<World>>, lefts: &mut Vec<Left>, run: Run)
+fn put_run(places: &mut Vec<Option<World>>, lefts: &mut Vec<Unmerged>, run: UnitRun)
     ensures { (parts : List StretchPart) → AreRunsAt parts places.old.items lefts.old.items
         → Ran parts run → AreRunsAt parts places.new.items lefts.new.items }
 {
     let place = usize::from(run.unit);
     if place < places.len() && place < lefts.len() {
         put(&mut places[place], run.world);
-        let left = Left {
+        let left = Unmerged {
             text: run.text,
             lengths: run.lengths,
             next: 0,
@@ -48,7 +48,7 @@ fn put_run(places: &mut Vec<Option<World>>, lefts: &mut Vec<Left>, run: Run)
 }
 
 // Puts the runs of a piece at the places of their units.
-fn put_piece(places: &mut Vec<Option<World>>, lefts: &mut Vec<Left>, mut runs: Vec<Run>)
+fn put_piece(places: &mut Vec<Option<World>>, lefts: &mut Vec<Unmerged>, mut runs: Vec<UnitRun>)
     ensures { (parts : List StretchPart) → AreRunsAt parts places.old.items lefts.old.items
         → AllByRecursion (Ran parts) runs.items → AreRunsAt parts places.new.items lefts.new.items }
 {
@@ -60,9 +60,9 @@ fn put_piece(places: &mut Vec<Option<World>>, lefts: &mut Vec<Left>, mut runs: V
 /// Puts the runs of all pieces at the places of their units.
 pub(crate) fn put_pieces(
     places: &mut Vec<Option<World>>,
-    lefts: &mut Vec<Left>,
-    mut pieces: Vec<Result<Vec<Run>, Unrun>>,
-) -> Result<(), Unrun>
+    lefts: &mut Vec<Unmerged>,
+    mut pieces: Vec<Result<Vec<UnitRun>, CantRunApart>>,
+) -> Result<(), CantRunApart>
     ensures { OnOk result ((parts : List StretchPart) → AreRunsAt
         parts places.old.items lefts.old.items → ((n : ℕ) → IfSome (slice_get pieces.items n)
         (λ piece. IfOk piece (λ runs. AllByRecursion (Ran parts) runs.items)))
@@ -78,12 +78,12 @@ pub(crate) fn put_pieces(
 }
 
 /// Nothing is left of any unit.
-pub(crate) fn no_lefts(alloc: Global, many: usize) -> Result<Vec<Left>, OutOfMemory>
+pub(crate) fn no_lefts(alloc: Global, many: usize) -> Result<Vec<Unmerged>, OutOfMemory>
     ensures { IfOk result (λ lefts. length lefts.items ≡ many) }
 {
     let mut lefts = Vec::with_capacity(alloc, many)?;
     'lefts: for _ in 0..many {
-        lefts.push(Left {
+        lefts.push(Unmerged {
             text: Vec::new(alloc),
             lengths: Vec::new(alloc),
             next: 0,
@@ -117,7 +117,7 @@ pub(crate) fn are_filled(lists: &[Vec<Stretch>], places: &[Option<World>]) -> bo
 }
 
 // Takes the memory for all texts at once.
-fn reserve_all(lefts: &[Left], out: &mut Vec<u8>) -> Result<(), Unrun>
+fn reserve_all(lefts: &[Unmerged], out: &mut Vec<u8>) -> Result<(), CantRunApart>
     ensures { out.new.items ≡ out.old.items }
 {
     let mut size = 0usize;
@@ -129,7 +129,7 @@ fn reserve_all(lefts: &[Left], out: &mut Vec<u8>) -> Result<(), Unrun>
 }
 
 // Appends the next text. After an error the text is as before.
-fn take_piece(left: &mut Left, out: &mut Vec<u8>) -> Result<(), Unrun>
+fn take_piece(left: &mut Unmerged, out: &mut Vec<u8>) -> Result<(), CantRunApart>
     ensures text { OnOk result
         (out.new.items ≡ out.old.items ++ first_piece (left_pieces left.old)) }
     ensures left { OnOk result (left_pieces left.new ≡ drop 1 (left_pieces left.old)) }
@@ -138,11 +138,11 @@ fn take_piece(left: &mut Left, out: &mut Vec<u8>) -> Result<(), Unrun>
     let next = left.next;
     let at = left.at;
     if next >= left.lengths.len() || at > left.text.len() {
-        return Err(Unrun::NotApart);
+        return Err(CantRunApart::NotApart);
     }
     let size = left.lengths[next] as usize;
     if size > left.text.len() - at {
-        return Err(Unrun::NotApart);
+        return Err(CantRunApart::NotApart);
     }
     out.extend_from_slice(&left.text[at..at + size])?;
     left.next = next + 1;
@@ -151,7 +151,11 @@ fn take_piece(left: &mut Left, out: &mut Vec<u8>) -> Result<(), Unrun>
 }
 
 /// Appends at each stretch the next text of its unit. After an error some may have been appended.
-pub(crate) fn merge(order: &[u8], lefts: &mut Vec<Left>, out: &mut Vec<u8>) -> Result<(), Unrun>
+pub(crate) fn merge(
+    order: &[u8],
+    lefts: &mut Vec<Unmerged>,
+    out: &mut Vec<u8>,
+) -> Result<(), CantRunApart>
     ensures text { OnOk result
         (out.new.items ≡ out.old.items ++ put_together (pieces_at lefts.old.items) order.now) }
     ensures behind { take (length out.old.items) out.new.items ≡ out.old.items }
@@ -160,7 +164,7 @@ pub(crate) fn merge(order: &[u8], lefts: &mut Vec<Left>, out: &mut Vec<u8>) -> R
     'stretches: for whose in order {
         let unit = usize::from(*whose);
         if unit >= lefts.len() {
-            return Err(Unrun::NotApart);
+            return Err(CantRunApart::NotApart);
         }
         take_piece(&mut lefts[unit], out)?;
     }

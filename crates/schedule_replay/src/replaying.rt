@@ -11,7 +11,7 @@ ghost use Rattle.schedule_replay.specs.declared.error.ReplayError.TheVariants as
 use crate::apart::replay_apart;
 use crate::error::ReplayError;
 use crate::running::{WorldList, replay_together};
-use crate::unrun::Unrun;
+use crate::unrun::CantRunApart;
 use pitch_io::Gate;
 use std::alloc::Global;
 use std::thread::Threads;
@@ -43,8 +43,8 @@ fn replay_lines<R: Threads + Sync, G: Gate + Sync>(
     let before = out.len();
     match replay_apart(rt, alloc, text, workers, gate, worlds, out) {
         Ok(()) => Ok(()),
-        Err(Unrun::OutOfMemory) => Err(ReplayError::OutOfMemory),
-        Err(Unrun::NotApart) => {
+        Err(CantRunApart::OutOfMemory) => Err(ReplayError::OutOfMemory),
+        Err(CantRunApart::NotApart) => {
             out.truncate(before);
             replay_together(alloc, gate, text, worlds, out)
         }

@@ -6,7 +6,7 @@ ghost use Rattle.pitch_fields.specs.Limits.{text_limit};
 ghost use Rattle.schedule_replay.specs.Stretches.{AreWholeLines, Splits, IsCut, list_at};
 
 use crate::running::PLACES;
-use crate::unrun::Unrun;
+use crate::unrun::CantRunApart;
 use pitch_fields::OutOfMemory;
 use std::alloc::Global;
 use text_lines::length_before;
@@ -116,20 +116,24 @@ fn no_lists(alloc: Global) -> Result<Vec<Vec<Stretch>>, OutOfMemory>
 
 // Puts a stretch at the end of its unit's list; NotApart where the unit is not one of a schedule, 1
 // to 64.
-fn add_stretch(lists: &mut Vec<Vec<Stretch>>, unit: u8, stretch: Stretch) -> Result<(), Unrun>
+fn add_stretch(
+    lists: &mut Vec<Vec<Stretch>>,
+    unit: u8,
+    stretch: Stretch,
+) -> Result<(), CantRunApart>
     ensures { OnOk result ((other : ℕ) → list_at lists.new.items other ≡ if unit == other
         then list_at lists.old.items other ++ stretch ∷ [] else list_at lists.old.items other) }
 {
     let place = usize::from(unit);
     if place == 0 || place >= lists.len() {
-        return Err(Unrun::NotApart);
+        return Err(CantRunApart::NotApart);
     }
     lists[place].push(stretch)?;
     Ok(())
 }
 
 /// Cuts a text into stretches. What their lines say, one after another, is what the text says.
-pub(crate) fn cut_text(alloc: Global, text: &[u8]) -> Result<Cut, Unrun>
+pub(crate) fn cut_text(alloc: Global, text: &[u8]) -> Result<Cut, CantRunApart>
     requires { length text.now ≤ text_limit }
     ensures { IfOk result (λ cut. IsCut text.now cut.order.items cut.lists.items) }
 {

@@ -12,7 +12,7 @@ ghost use Rattle.schedule_replay.specs.Worlds.{IsPlace};
 
 use crate::running::run_in;
 use crate::stretches::Stretch;
-use crate::unrun::Unrun;
+use crate::unrun::CantRunApart;
 use pitch_fields::{OutOfMemory, TEXT_LIMIT};
 use pitch_io::{Gate, Role, Work};
 use pitch_text::laws::schedules_are_well_formed;
@@ -25,7 +25,7 @@ use world_model::World;
 /// What came of a unit: its world, and what its stretches write, end to end, with the length of
 /// each.
 #[derive(Drop)]
-pub(crate) struct Run {
+pub(crate) struct UnitRun {
     pub unit: u8,
     pub world: Option<World>,
     pub text: Vec<u8>,
@@ -41,7 +41,7 @@ fn run_later(
     entry: &ScheduleEntry,
     place: &mut Option<World>,
     out: &mut Vec<u8>,
-) -> Result<(), Unrun>
+) -> Result<(), CantRunApart>
     requires { IsWellFormed entry.now.unit entry.now.verb }
     ensures own { OnOk result (entry.now.unit ≡ unit) }
     ensures world { OnOk result ((before : List EntrySaid) → IsPlace before entry.now.unit place.old
@@ -50,7 +50,7 @@ fn run_later(
         → out.new.items ≡ out.old.items ++ replay_line before (later lines entry.now)) }
 {
     if entry.unit != unit {
-        return Err(Unrun::NotApart);
+        return Err(CantRunApart::NotApart);
     }
     match entry.line.checked_add(lines) {
         Some(line) => {
@@ -62,7 +62,7 @@ fn run_later(
             run_in(alloc, place, &moved, out)?;
             Ok(())
         }
-        None => Err(Unrun::NotApart),
+        None => Err(CantRunApart::NotApart),
     }
 }
 
@@ -74,25 +74,30 @@ fn run_lines(
     bytes: &[u8],
     place: &mut Option<World>,
     out: &mut Vec<u8>,
-) -> Result<(), Unrun>
+) -> Result<(), CantRunApart>
     ensures { OnOk result ((before : List EntrySaid) → IsPlace before unit place.old → RunsLines
         unit (items_at (lines + 1) bytes.now) before place.new out.old.items out.new.items) }
 {
     if bytes.len() > TEXT_LIMIT {
-        return Err(Unrun::NotApart);
+        return Err(CantRunApart::NotApart);
     }
     schedules_are_well_formed();
     'entries: for item in Schedule::of_text(bytes) {
         match item {
             Ok(entry) => run_later(alloc, unit, lines, &entry, place, out)?,
-            Err(_) => return Err(Unrun::NotApart),
+            Err(_) => return Err(CantRunApart::NotApart),
         }
     }
     Ok(())
 }
 
 // Does the lines of a stretch of the run's unit, before which so many lines stand.
-fn run_stretch(alloc: Global, before: u32, bytes: &[u8], run: &mut Run) -> Result<(), Unrun>
+fn run_stretch(
+    alloc: Global,
+    before: u32,
+    bytes: &[u8],
+    run: &mut UnitRun,
+) -> Result<(), CantRunApart>
     ensures unit { run.new.unit ≡ run.old.unit }
     ensures ran { OnOk result ((parts : List StretchPart) → Ran parts run.old → Ran (parts
         ++ record { unit = run.old.unit; items = items_at (before + 1) bytes.now } ∷ []) run.new) }
@@ -111,12 +116,17 @@ fn run_stretch(alloc: Global, before: u32, bytes: &[u8], run: &mut Run) -> Resul
             run.lengths.push(length)?;
             Ok(())
         }
-        Err(_) => Err(Unrun::NotApart),
+        Err(_) => Err(CantRunApart::NotApart),
     }
 }
 
 // Does the stretches of a text that are the run's unit's.
-fn run_list(alloc: Global, text: &[u8], list: &[Stretch], run: &mut Run) -> Result<(), Unrun>
+fn run_list(
+    alloc: Global,
+    text: &[u8],
+    list: &[Stretch],
+    run: &mut UnitRun,
+) -> Result<(), CantRunApart>
     ensures unit { run.new.unit ≡ run.old.unit }
     ensures ran { OnOk result
         (Ran [] run.old → Ran (unit_parts text.now run.old.unit list.now) run.new) }
@@ -125,7 +135,7 @@ fn run_list(alloc: Global, text: &[u8], list: &[Stretch], run: &mut Run) -> Resu
         let at = stretch.at as usize;
         let size = stretch.size as usize;
         if at > text.len() || size > text.len() - at {
-            return Err(Unrun::NotApart);
+            return Err(CantRunApart::NotApart);
         }
         run_stretch(alloc, stretch.before, &text[at..at + size], run)?;
     }
@@ -133,11 +143,11 @@ fn run_list(alloc: Global, text: &[u8], list: &[Stretch], run: &mut Run) -> Resu
 }
 
 // A run of which nothing was done. Takes no memory.
-fn fresh_run(alloc: Global, unit: u8) -> Run
+fn fresh_run(alloc: Global, unit: u8) -> UnitRun
     ensures unit { result.unit ≡ unit }
     ensures ran { Ran [] result }
 {
-    Run {
+    UnitRun {
         unit,
         world: None,
         text: Vec::new(alloc),
@@ -146,7 +156,12 @@ fn fresh_run(alloc: Global, unit: u8) -> Run
 }
 
 // Does the stretches of a unit in a world of its own.
-fn run_stretches(alloc: Global, text: &[u8], list: &[Stretch], unit: u8) -> Result<Run, Unrun>
+fn run_stretches(
+    alloc: Global,
+    text: &[u8],
+    list: &[Stretch],
+    unit: u8,
+) -> Result<UnitRun, CantRunApart>
     ensures unit { IfOk result (λ run. run.unit ≡ unit) }
     ensures ran { IfOk result (λ run. Ran (unit_parts text.now unit list.now) run) }
 {
@@ -162,13 +177,18 @@ fn run_stretches(alloc: Global, text: &[u8], list: &[Stretch], unit: u8) -> Resu
 }
 
 // Does the stretches that a unit has in the lists of a text.
-fn run_listed(alloc: Global, text: &[u8], lists: &[Vec<Stretch>], unit: u8) -> Result<Run, Unrun>
+fn run_listed(
+    alloc: Global,
+    text: &[u8],
+    lists: &[Vec<Stretch>],
+    unit: u8,
+) -> Result<UnitRun, CantRunApart>
     ensures { IfOk result (λ run. (all : List Owned)
         → AreListed all lists.now → Ran (parts_of text.now all) run) }
 {
     match lists.get(usize::from(unit)) {
         Some(list) => run_stretches(alloc, text, list, unit),
-        None => Err(Unrun::NotApart),
+        None => Err(CantRunApart::NotApart),
     }
 }
 
@@ -179,7 +199,7 @@ fn run_unit<G: Gate>(
     text: &[u8],
     lists: &[Vec<Stretch>],
     unit: u8,
-) -> Result<Run, Unrun>
+) -> Result<UnitRun, CantRunApart>
     ensures { IfOk result (λ run. (all : List Owned)
         → AreListed all lists.now → Ran (parts_of text.now all) run) }
 {
@@ -206,7 +226,7 @@ fn run_piece<G: Gate>(
     text: &[u8],
     lists: &[Vec<Stretch>],
     units: &[u8],
-) -> Result<Vec<Run>, Unrun>
+) -> Result<Vec<UnitRun>, CantRunApart>
     ensures { IfOk result (λ runs. AreRun text.now lists.now runs.items) }
 {
     let mut runs = Vec::new(alloc);
@@ -226,7 +246,7 @@ pub(crate) fn run_units<R: Threads + Sync, G: Gate + Sync>(
     lists: &[Vec<Stretch>],
     units: &[u8],
     workers: u8,
-) -> Result<Vec<Result<Vec<Run>, Unrun>>, OutOfMemory>
+) -> Result<Vec<Result<Vec<UnitRun>, CantRunApart>>, OutOfMemory>
     requires { 0 < workers }
     ensures { IfOk result (λ pieces. (n : ℕ) → IfSome (slice_get pieces.items n)
         (λ piece. IfOk piece (λ runs. AreRun text.now lists.now runs.items))) }

@@ -4,7 +4,7 @@ use Rattle.schedule_replay.specs.Replay.{replay_text, replay_on}
 use Rattle.schedule_replay.specs.Runs.{AreFilled, AreRunsAt, pieces_at, put_together}
 use Rattle.schedule_replay.specs.Stretches.{AreListed, IsCut, list_at, parts_of}
 use Rattle.schedule_replay.specs.Worlds.{worlds_in}
-use Rattle.schedule_replay.specs.declared.merging.Left.{Left}
+use Rattle.schedule_replay.specs.declared.merging.Unmerged.{Unmerged}
 use Rattle.schedule_replay.specs.declared.stretches.Stretch.{Stretch}
 use Rattle.schedule_replay.proofs.Joining.{RunsApart, puts_none, runs_apart}
 use Rattle.schedule_replay.proofs.Places.{all_worlds_are}
@@ -16,7 +16,7 @@ returns-clause-written g c =
     let order : List ℕ = c.in_ok-order.field-0.order.items in
     let lists : List (Vec Stretch Global) = c.in_ok-order.field-0.lists.items in
     let places : List (Option World) = c.run_lists.new.places.items in
-    let lefts : List Left = c.run_lists.new.lefts.items in
+    let lefts : List Unmerged = c.run_lists.new.lefts.items in
     let cut : IsCut text order lists = c.in_ok-order.ensures in
     let listed : AreListed cut.all c.deref.result.now = λ unit. ap (λ (l : List (Vec Stretch Global)). list_at l unit) c.deref.ensures.value ∙ cut.each unit in
     let are : AreRunsAt (parts_of text cut.all) places lefts = c.in_ok-run_lists.ensures.runs cut.all listed (puts_none (parts_of text cut.all) c.in_ok-places.places.items c.in_ok-lefts.lefts.items c.in_ok-places.ensures c.in_ok-lefts.ensures) in
@@ -33,7 +33,7 @@ returns-clause-worlds g c =
     let order : List ℕ = c.in_ok-order.field-0.order.items in
     let lists : List (Vec Stretch Global) = c.in_ok-order.field-0.lists.items in
     let places : List (Option World) = c.run_lists.new.places.items in
-    let lefts : List Left = c.run_lists.new.lefts.items in
+    let lefts : List Unmerged = c.run_lists.new.lefts.items in
     let cut : IsCut text order lists = c.in_ok-order.ensures in
     let listed : AreListed cut.all c.deref.result.now = λ unit. ap (λ (l : List (Vec Stretch Global)). list_at l unit) c.deref.ensures.value ∙ cut.each unit in
     let are : AreRunsAt (parts_of text cut.all) places lefts = c.in_ok-run_lists.ensures.runs cut.all listed (puts_none (parts_of text cut.all) c.in_ok-places.places.items c.in_ok-lefts.lefts.items c.in_ok-places.ensures c.in_ok-lefts.ensures) in

@@ -4,13 +4,13 @@ use Rattle.std.proofs.lemmas.Result.{IfOk-weaker}
 use Rattle.std.specs.List.{AllByRecursion}
 use Rattle.schedule_replay.specs.Runs.{AreRun, Ran}
 use Rattle.schedule_replay.specs.Stretches.{parts_of}
-use Rattle.schedule_replay.specs.declared.units.Run.{Run}
-use Rattle.schedule_replay.specs.declared.unrun.Unrun.{Unrun}
+use Rattle.schedule_replay.specs.declared.units.UnitRun.{UnitRun}
+use Rattle.schedule_replay.specs.declared.unrun.CantRunApart.{CantRunApart}
 use Rattle.schedule_replay.proofs.apart.run_lists.Goals as goal
 
 pub returns-then-are_filled-clause-runs : goal.returns-then-are_filled-clause-runs
 returns-then-are_filled-clause-runs g c = λ all listed were.
     let text : List ℕ = c.args.text.now in
     c.in_ok-put_pieces.ensures (parts_of text all) were
-    (λ n. IfSome_then (slice_get c.in_ok-pieces.pieces.items n) (c.in_ok-pieces.ensures n) (λ (piece : Result (Vec Run Global) Unrun) done.
+    (λ n. IfSome_then (slice_get c.in_ok-pieces.pieces.items n) (c.in_ok-pieces.ensures n) (λ (piece : Result (Vec UnitRun Global) CantRunApart) done.
     IfOk-weaker piece (λ runs. AreRun text c.args.lists.now runs.items) (λ runs. AllByRecursion (Ran (parts_of text all)) runs.items) (λ runs are. are all listed) done))

@@ -3,7 +3,7 @@ use Rattle.std.proofs.Math.ListN.{set}
 use Rattle.std.specs.List.{slice_get}
 use Rattle.std.proofs.lemmas.List.{take_all}
 use Rattle.std.proofs.lemmas.Option.{slice_get_read, slice_get-get_or}
-use Rattle.schedule_replay.specs.declared.merging.Left.{Left}
+use Rattle.schedule_replay.specs.declared.merging.Unmerged.{Unmerged}
 use Rattle.schedule_replay.proofs.Joining.{Merging, merging_none, merging_more, merging_end}
 use Rattle.schedule_replay.proofs.Printing.{behind_on}
 use Rattle.schedule_replay.proofs.merging.merge.Goals as goal
@@ -20,7 +20,7 @@ stretches-preserved c =
     let all : List ℕ = c.args.order.now in
     let i : ℕ = c.stretches.whose-index in
     let s : ℕ = get_or all i 0 in
-    let lefts : List Left = c.stretches.lefts.items in
+    let lefts : List Unmerged = c.stretches.lefts.items in
     let there : slice_get all i ≡ Some s = slice_get-get_or all i 0 (omega (arith, c.stretches-test.true)) in
     let within : c.from-unit.result < length lefts = omega (arith, c.if-unit-len.false, c.len.ensures) in
     let low : s < length lefts = omega (arith, within, c.from-unit.ensures) in

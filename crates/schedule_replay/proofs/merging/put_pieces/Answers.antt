@@ -3,13 +3,13 @@ use Rattle.std.specs.Option.{option_to_list}
 use Rattle.std.specs.List.{AllByRecursion}
 use Rattle.schedule_replay.specs.Runs.{Ran}
 use Rattle.schedule_replay.specs.Stretches.{StretchPart}
-use Rattle.schedule_replay.specs.declared.units.Run.{Run}
-use Rattle.schedule_replay.specs.declared.unrun.Unrun.{Unrun}
+use Rattle.schedule_replay.specs.declared.units.UnitRun.{UnitRun}
+use Rattle.schedule_replay.specs.declared.unrun.CantRunApart.{CantRunApart}
 use Rattle.schedule_replay.proofs.Joining.{all_at, all_last}
 use Rattle.schedule_replay.proofs.merging.put_pieces.Goals as goal
 
 abbrev Piece : Type 0
-Piece = Result (Vec Run Global) Unrun
+Piece = Result (Vec UnitRun Global) CantRunApart
 
 abbrev AreAll : List StretchPart → Piece → Type 0
 AreAll parts piece = IfOk piece (λ runs. AllByRecursion (Ran parts) runs.items)
