@@ -1,16 +1,21 @@
 -- A link over what happens to it.
-use Rattle.std.proofs.Common.{◌≡◌, ℕ, Bool, false, cond, ◌||◌, List, [], ◌∷◌, ◌++◌, refl, sym, ap, ◌∙◌, subst, Option, Some, None, is_some}
+use Rattle.std.proofs.Common.{◌≡◌, ℕ, ◌+◌, length, Bool, false, cond, ◌||◌, List, [], ◌∷◌, ◌++◌, refl, sym, ap, ◌∙◌, subst, Option, Some, None, is_some}
+use Rattle.std.specs.List.{list_any}
 use Rattle.std.proofs.lemmas.List.{append-nil}
+use Rattle.unit_packets.specs.Causes.{counted}
+use Rattle.unit_packets.specs.Reading.{Reading, loaded, passed}
 use Rattle.pitch_model.specs.declared.item.Item.{Item}
 use Rattle.session_ends.specs.declared.closed.Closed.{Closed}
 use Rattle.session_ends.specs.declared.inbox.Heard.{Heard}
 use Rattle.session_ends.specs.declared.role.Role.{Role}
-use Rattle.session_ends.specs.Closing.{Setup, cause_of, logged_in, logs_in}
+use Rattle.session_ends.specs.Closing.{Setup, cause_of, first_cause, logged_in, logs_in}
 use Rattle.session_ends.specs.Ending.{Ending, EndKnows, known_of, nothing_known, known_ticked}
 use Rattle.session_ends.specs.Events.{Event, Fed, Ticked}
+use Rattle.session_ends.specs.Hearing.{reader_items, IsThrough}
 use Rattle.session_ends.specs.Inboxes.{Inboxed}
-use Rattle.session_ends.specs.Sending.{new_items}
-use Rattle.session_ends.proofs.Ends.{Takes, Pieced, fed_end, shut_end, known_none, bool_none}
+use Rattle.session_ends.specs.Sending.{new_items, some_bytes}
+use Rattle.session_ends.proofs.Ends.{Takes, takes, Pieced, fed_end, shut_end, known_none, bool_none}
+use Rattle.session_ends.proofs.Through.{Went, went}
 use Rattle.client_links.specs.Linking.{Lookups, NoLookup, link_sends, link_tells, LinkStands}
 use Rattle.client_links.specs.Telling.{run_of, tells_on, tells, until}
 
@@ -56,6 +61,33 @@ module _ (es : List (Event Lookups)) (piece : List ℕ) (old new : Ending) (item
 
 pub sent_none : (v : Ending) → v ≡ record v { sent = (v.sent || false) }
 sent_none v = ap (λ (b : Bool). record v { sent = b }) (sym (bool_none v.sent))
+
+-- an open link took a piece in, heard what its reader says, and took the reader back
+pub record HeardPiece (es : List (Event Lookups)) (piece : List ℕ) (old taken back : Ending) (reader : Reading) : Type 0 where
+  pub stands : LinkStands back (Fed piece NoLookup ∷ es)
+  pub role_is : back.setup.role ≡ taken.setup.role
+  pub told : tells taken.setup taken.logged (reader_items reader) ≡ link_tells old.setup es piece
+
+pub heard_piece : (es : List (Event Lookups)) (piece : List ℕ) (old inside taken heard kept back : Ending) (reader : Reading) (count : ℕ) → inside ≡ old → kept ≡ heard → old.closed ≡ None → LinkStands old es
+    → reader ≡ loaded inside.inbox.reading piece → taken.inbox.fed ≡ counted (inside.inbox.fed + length piece) → taken.heard ≡ (inside.heard || some_bytes piece)
+    → taken ≡ record inside { inbox = taken.inbox; heard = taken.heard } → IsThrough reader.rest count
+    → heard ≡ record taken { closed = heard.closed; logged = heard.logged } → heard.closed ≡ first_cause taken.setup taken.logged (reader_items reader)
+    → (heard.closed ≡ None → heard.logged ≡ (taken.logged || list_any (logs_in taken.setup.role) (reader_items reader)))
+    → back ≡ record kept { inbox = record { reading = passed reader count; fed = kept.inbox.fed } } → HeardPiece es piece old taken back reader
+heard_piece es piece old inside taken heard kept back reader count same same' still stands is fed hears first t then closed logged returned =
+    let first' : taken ≡ record old { inbox = taken.inbox; heard = taken.heard } = first ∙ ap (λ (v : Ending). record v { inbox = taken.inbox; heard = taken.heard }) same in
+    let returned' : back ≡ record heard { inbox = record { reading = passed reader count; fed = heard.inbox.fed } } =
+    returned ∙ ap (λ (v : Ending). record v { inbox = record { reading = passed reader count; fed = v.inbox.fed } }) same' in
+    let did : Went old back piece reader [] = went old taken heard back back piece reader count []
+    (is ∙ ap (λ (v : Ending). loaded v.inbox.reading piece) same) (fed ∙ ap (λ (v : Ending). counted (v.inbox.fed + length piece)) same)
+    (hears ∙ ap (λ (v : Ending). v.heard || some_bytes piece) same) first' t then closed logged returned' (sent_none back) in
+    let took : Takes old.setup es piece old.logged back.inbox (reader_items reader) =
+    takes (link_sends old.setup) old.setup es piece NoLookup old back.inbox [] (reader_items reader) still stands refl did.takes in
+    record {
+      stands = fed_stands es piece old back (reader_items reader) back.inbox still stands took did.did;
+      role_is = ap (λ (v : Ending). v.setup.role) returned' ∙ ap (λ (v : Ending). v.setup.role) then;
+      told = ap (λ (v : Ending). tells v.setup v.logged (reader_items reader)) first' ∙ fed_tells es piece old back (reader_items reader) back.inbox still stands took did.did;
+    }
 
 -- a link that was closed stays as it was, and tells nothing
 pub shut_stands : (v : Ending) (c : Closed) (event : Event Lookups) (es : List (Event Lookups)) → v.closed ≡ Some c → LinkStands v es → LinkStands v (event ∷ es)

@@ -1,40 +1,33 @@
-ghost use Rattle.std.specs.Prelude.{◌≡◌, List, [], ◌∷◌, ◌++◌, ◌+◌, length, map, OnOk, OnErr, IsOk};
-ghost use Rattle.std.specs.Prelude.{IfOk, IfSome, Some};
+ghost use Rattle.std.specs.Prelude.{◌≡◌, List, [], ◌∷◌, ◌++◌, OnOk, OnErr, IsOk};
+ghost use Rattle.std.specs.Prelude.{IfOk, IfSome};
 ghost use Rattle.pitch_messages.specs.declared.session.SessionMessage.TheVariants.{GapRequest};
-ghost use Rattle.session_ends.specs.declared.closed.CloseCause.TheVariants.{Memory};
 ghost use Rattle.session_ends.specs.declared.role.Role.TheVariants.{GapLink as LinkRole};
-ghost use Rattle.session_ends.specs.Closing.{closed_of};
-ghost use Rattle.unit_packets.specs.Causes.{counted};
-ghost use Rattle.session_ends.specs.Events.{Event, Fed, Ticked, Asked};
-ghost use Rattle.session_ends.specs.Items.{closed_at};
-ghost use Rattle.session_ends.specs.Sending.{sent_at_tick};
-ghost use Rattle.client_links.specs.Linking.{Lookups, NoLookup, link_setup, login_bytes};
-ghost use Rattle.client_links.specs.Linking.{link_sends, link_tells, LinkStands};
-ghost use Rattle.client_links.specs.Telling.{without_spare};
+ghost use Rattle.session_ends.specs.Events.{Event, Asked};
+ghost use Rattle.client_links.specs.Linking.{Lookups, link_setup, login_bytes};
+ghost use Rattle.client_links.specs.Linking.{link_sends, LinkStands};
 
 use crate::items::ItemList;
-use crate::link::Link;
+use crate::link::{Link, Peer};
 use pitch_fields::OutOfMemory;
 use pitch_messages::session::SessionMessage;
-use session_ends::{Account, Closed, Role};
+use session_ends::{Account, Role};
 use std::alloc::Global;
-use std::marker::Model;
+
+/// The Gap Request Proxy, as the peer of a link.
+pub struct ProxyPeer;
+
+impl Peer for ProxyPeer {
+    ghost role = { LinkRole };
+
+    fn role() -> Role {
+        Role::GapLink
+    }
+}
 
 /// The client's end of a session with the Gap Request Proxy.
-#[derive(Drop)]
-pub struct GapLink {
-    link: Link,
-}
+pub type GapLink = Link<ProxyPeer>;
 
-impl Model for GapLink {
-    ghost use Rattle.session_ends.specs.Ending.{Ending};
-
-    ghost Value = { Ending };
-
-    ghost view = { λ l. l.link };
-}
-
-impl GapLink {
+impl Link<ProxyPeer> {
     /// A link, not logged in. Its Login block is appended to `out`, which is as before after
     /// OutOfMemory.
     ///
@@ -47,46 +40,8 @@ impl GapLink {
             (out.new.items ≡ out.old.items ++ login_bytes LinkRole 0 account.now) }
         ensures err { OnErr result (out.new.items ≡ out.old.items) }
     {
-        let link = Link::make(alloc, Role::GapLink, 0, account, out)?;
-        Ok(GapLink { link })
-    }
-
-    /// Why the link closed and where, or None exactly while it has not.
-    pub fn closed(&self) -> Option<Closed>
-        ensures kept { result ≡ self.now.closed }
-        // Of all that happened to it: the first cause that closes it.
-        ensures cause { (es : List (Event Lookups))
-            → LinkStands self.now es → result ≡ closed_of self.now.setup es }
-    {
-        self.link.closed()
-    }
-
-    /// Takes the next piece of the stream, and appends what it tells the client: GrpUp after an
-    /// accepted login, and a GapReply for each response. Other types are skipped. Once closed it
-    /// takes bytes and does nothing.
-    ///
-    /// After OutOfMemory `items` is as before, and the link is closed with Memory.
-    ///
-    /// Standard: "Login Response Message", "Gap Response Message".
-    pub fn feed(&mut self, piece: &[u8], items: &mut ItemList) -> Result<(), OutOfMemory>
-        // Of all that happened to it: the piece came too.
-        ensures stands { OnOk result ((es : List (Event Lookups))
-            → LinkStands self.old es → LinkStands self.new (Fed piece.now NoLookup ∷ es)) }
-        // Of all that happened to it: what the piece then tells was appended, whatever room the
-        // lists of the items have.
-        ensures tells { OnOk result ((es : List (Event Lookups))
-            → LinkStands self.old es → map without_spare items.new.items
-            ≡ map without_spare items.old.items ++ link_tells self.old.setup es piece.now) }
-        ensures setup { self.new.setup ≡ self.old.setup }
-        ensures err_closed { OnErr result (self.new.closed ≡ Some
-            (closed_at Memory (counted (self.old.inbox.fed + length piece.now)))) }
-        ensures err_items { OnErr result (items.new.items ≡ items.old.items) }
-        ensures shut { IfSome self.old.closed (λ c. self.new ≡ self.old) }
-        ensures shut_ok { IfSome self.old.closed
-            (λ c. IsOk result × (items.new.items ≡ items.old.items)) }
-    {
-        self.link.feed(piece, items)?;
-        Ok(())
+        let link = Link::open(alloc, 0, account, out)?;
+        Ok(link)
     }
 
     /// Asks for `count` messages of a unit from a sequence on: the request is appended to `out`,
@@ -112,7 +67,7 @@ impl GapLink {
         ensures shut { IfSome self.old.closed
             (λ c. IsOk result × ((self.new ≡ self.old) × (out.new.items ≡ out.old.items))) }
     {
-        self.link.ask(
+        self.send(
             &SessionMessage::GapRequest {
                 unit,
                 sequence,
@@ -120,32 +75,6 @@ impl GapLink {
             },
             out,
         )?;
-        Ok(())
-    }
-
-    /// A second passes. The link closes at the fifth silent tick in a row; else, where nothing was
-    /// sent since the last tick, a heartbeat is appended to `out`. Its Login counts as sent since
-    /// the making. Once closed it does nothing. After OutOfMemory it is closed with Memory, and
-    /// `out` is as before.
-    ///
-    /// Standard: "Heartbeat Messages". The number of ticks is this project's own.
-    pub fn tick(&mut self, out: &mut Vec<u8>) -> Result<(), OutOfMemory>
-        // Of all that happened to it: the tick happened too.
-        ensures stands { OnOk result ((es : List (Event Lookups))
-            → LinkStands self.old es → LinkStands self.new (Ticked ∷ es)) }
-        // Of all that happened to it: what is then sent at a tick was appended.
-        ensures says { OnOk result
-            ((es : List (Event Lookups)) → LinkStands self.old es → out.new.items
-            ≡ out.old.items ++ sent_at_tick (link_sends self.old.setup) self.old.setup es) }
-        ensures setup { self.new.setup ≡ self.old.setup }
-        ensures err_closed { OnErr result
-            (self.new.closed ≡ Some (closed_at Memory self.old.inbox.fed)) }
-        ensures err_out { OnErr result (out.new.items ≡ out.old.items) }
-        ensures shut { IfSome self.old.closed (λ c. self.new ≡ self.old) }
-        ensures shut_ok { IfSome self.old.closed
-            (λ c. IsOk result × (out.new.items ≡ out.old.items)) }
-    {
-        self.link.tick(out)?;
         Ok(())
     }
 }

@@ -14,8 +14,9 @@ mod laws;
 mod link;
 mod spin_link;
 
-pub use crate::gap_link::GapLink;
+pub use crate::gap_link::{GapLink, ProxyPeer};
 pub use crate::items::ItemList;
 pub use crate::laws::cutting_laws;
-pub use crate::spin_link::SpinLink;
+pub use crate::link::{Link, Peer};
+pub use crate::spin_link::{SpinLink, SpinPeer};
 pub use session_ends::{Account, CloseCause, Closed};

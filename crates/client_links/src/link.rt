@@ -4,7 +4,7 @@ ghost use Rattle.std.specs.List.{list_any};
 ghost use Rattle.unit_packets.specs.Causes.{counted};
 ghost use Rattle.session_ends.specs.declared.closed.CloseCause.TheVariants.{Memory};
 ghost use Rattle.session_ends.specs.declared.inbox.Heard.{Heard};
-ghost use Rattle.session_ends.specs.Closing.{cause_of, first_cause, logs_in};
+ghost use Rattle.session_ends.specs.Closing.{cause_of, closed_of, first_cause, logs_in};
 ghost use Rattle.session_ends.specs.Ending.{EndKnows, nothing_known};
 ghost use Rattle.session_ends.specs.Events.{Event, Fed, Ticked, Asked};
 ghost use Rattle.session_ends.specs.Hearing.{reader_items, IsThrough};
@@ -22,19 +22,33 @@ use pitch_messages::session::SessionMessage;
 use pitch_model::Item;
 use session_ends::{Account, Closed, End, Heard, LentRaw, Role, Said, Sayings};
 use std::alloc::Global;
-use std::marker::Model;
+use std::marker::{Model, PhantomData};
 use std::mem::replace;
 use unit_packets::BlockReader;
 
-// What both links are made of.
+/// With whom a link connects its client.
+pub trait Peer {
+    ghost use Rattle.session_ends.specs.declared.role.Role.{Role as RoleSaid};
+
+    /// The role of its links.
+    ghost role: { RoleSaid };
+
+    /// That role.
+    fn role() -> Role
+        ensures role { result ≡ role };
+}
+
+/// The client's end of a session: a [`GapLink`](crate::GapLink) or a
+/// [`SpinLink`](crate::SpinLink).
 #[derive(Drop)]
-pub(crate) struct Link {
+pub struct Link<P: Peer> {
     alloc: Global,
     end: End,
     spin: bool,
+    peer: PhantomData<P>,
 }
 
-impl Model for Link {
+impl<P: Peer> Model for Link<P> {
     ghost use Rattle.std.specs.Prelude.{◌≡◌};
     ghost use Rattle.session_ends.specs.Ending.{Ending};
     ghost use Rattle.client_links.specs.Telling.{hands_out};
@@ -105,21 +119,21 @@ fn tell(spin: bool, message: &SessionMessage, told: &mut Vec<Item>) -> Result<()
     }
 }
 
-impl Link {
+impl<P: Peer> Link<P> {
     // A link, whose login block it appends. The bytes are as before after OutOfMemory.
-    pub(crate) fn make(
+    pub(crate) fn open(
         alloc: Global,
-        role: Role,
         unit: u8,
         account: &Account,
         out: &mut Vec<u8>,
-    ) -> Result<Link, OutOfMemory>
-        ensures stands { IfOk result (λ link. EndKnows link (nothing_known role)) }
-        ensures setup { IfOk result (λ link. link.setup ≡ link_setup role unit) }
+    ) -> Result<Link<P>, OutOfMemory>
+        ensures stands { IfOk result (λ link. EndKnows link (nothing_known P.role)) }
+        ensures setup { IfOk result (λ link. link.setup ≡ link_setup P.role unit) }
         ensures says { OnOk result
-            (out.new.items ≡ out.old.items ++ login_bytes role unit account.now) }
+            (out.new.items ≡ out.old.items ++ login_bytes P.role unit account.now) }
         ensures err { OnErr result (out.new.items ≡ out.old.items) }
     {
+        let role = P::role();
         let end = End::make(alloc, role, unit, Vec::new(alloc), false);
         end.put(
             &SessionMessage::Login {
@@ -133,11 +147,16 @@ impl Link {
             alloc,
             end,
             spin: role == Role::SpinLink,
+            peer: PhantomData,
         })
     }
 
-    pub(crate) fn closed(&self) -> Option<Closed>
-        ensures { result ≡ self.now.closed }
+    /// Why the link closed and where, or None exactly while it has not.
+    pub fn closed(&self) -> Option<Closed>
+        ensures kept { result ≡ self.now.closed }
+        // Of all that happened to it: the first cause that closes it.
+        ensures cause { (es : List (Event Lookups))
+            → LinkStands self.now es → result ≡ closed_of self.now.setup es }
     {
         self.end.closed()
     }
@@ -266,11 +285,22 @@ impl Link {
         Ok(())
     }
 
-    // Takes the next piece of the stream, and appends what it tells the client. After OutOfMemory
-    // `items` is as before, and the link is closed.
-    pub(crate) fn feed(&mut self, piece: &[u8], items: &mut ItemList) -> Result<(), OutOfMemory>
+    /// Takes the next piece of the stream, and appends what it tells the client, in the order of
+    /// the stream. A link to a proxy tells GrpUp after an accepted login and a GapReply for each
+    /// response, and skips other types. One to a Spin Server tells SpinUp, Advertised, SpinReply,
+    /// SpinFinished, and one ImageMessages for each longest run of other messages within a block.
+    /// Once closed it takes bytes and does nothing.
+    ///
+    /// After OutOfMemory `items` is as before, and the link is closed with Memory.
+    ///
+    /// Standard: "Login Response Message", "Gap Response Message", "Spin Image Available Message",
+    /// "Spin Response Message", "Spin Finished Message".
+    pub fn feed(&mut self, piece: &[u8], items: &mut ItemList) -> Result<(), OutOfMemory>
+        // Of all that happened to it: the piece came too.
         ensures stands { OnOk result ((es : List (Event Lookups))
             → LinkStands self.old es → LinkStands self.new (Fed piece.now NoLookup ∷ es)) }
+        // Of all that happened to it: what the piece then tells was appended, whatever room the
+        // lists of the items have.
         ensures tells { OnOk result ((es : List (Event Lookups))
             → LinkStands self.old es → map without_spare items.new.items
             ≡ map without_spare items.old.items ++ link_tells self.old.setup es piece.now) }
@@ -298,7 +328,7 @@ impl Link {
     }
 
     // Sends a request, unless the link is closed. All is as before after OutOfMemory.
-    pub(crate) fn ask(
+    pub(crate) fn send(
         &mut self,
         request: &SessionMessage,
         out: &mut Vec<u8>,
@@ -322,10 +352,17 @@ impl Link {
         Ok(())
     }
 
-    // A second passes.
-    pub(crate) fn tick(&mut self, out: &mut Vec<u8>) -> Result<(), OutOfMemory>
+    /// A second passes. The link closes at the fifth silent tick in a row; else, where nothing was
+    /// sent since the last tick, a heartbeat is appended to `out`. Its Login counts as sent since
+    /// the making. Once closed it does nothing. After OutOfMemory it is closed with Memory, and
+    /// `out` is as before.
+    ///
+    /// Standard: "Heartbeat Messages". The number of ticks is this project's own.
+    pub fn tick(&mut self, out: &mut Vec<u8>) -> Result<(), OutOfMemory>
+        // Of all that happened to it: the tick happened too.
         ensures stands { OnOk result ((es : List (Event Lookups))
             → LinkStands self.old es → LinkStands self.new (Ticked ∷ es)) }
+        // Of all that happened to it: what is then sent at a tick was appended.
         ensures says { OnOk result
             ((es : List (Event Lookups)) → LinkStands self.old es → out.new.items
             ≡ out.old.items ++ sent_at_tick (link_sends self.old.setup) self.old.setup es) }

@@ -5,7 +5,7 @@ use Rattle.client_links.specs.Telling.{without_spare, tells_on, tells, until}
 use Rattle.client_links.proofs.link.Link.hear_all.Given as goal
 
 abbrev pub invariant-items : goal.invariant-items
-invariant-items l = record {
+invariant-items g l = record {
   still : l.self.closed ≡ None;
   rest : l.self ≡ record l.fn.self { closed = l.self.closed; logged = l.self.logged };
   bytes : l.items.bytes ≡ l.reader.rest;
@@ -15,4 +15,4 @@ invariant-items l = record {
 }
 
 abbrev pub decreases-items : goal.decreases-items
-decreases-items l = length (says l.items)
+decreases-items g l = length (says l.items)

@@ -1,7 +1,0 @@
-use Rattle.std.proofs.Common.{sym, subst}
-use Rattle.session_ends.specs.Ending.{Ending}
-use Rattle.client_links.specs.Linking.{LinkStands}
-use Rattle.client_links.proofs.gap_link.GapLink.feed.Goals as goal
-
-pub returns-clause-stands : goal.returns-clause-stands
-returns-clause-stands c = λ es stands. c.in_ok-feed.ensures.stands es (subst (λ (v : Ending). LinkStands v es) (sym c.self.view_is) stands)
