@@ -1,12 +1,12 @@
 -- The longest list of blocks.
-use Rattle.std.proofs.Common.{◌≡◌, ℕ, zero, suc, ◌+◌, ◌≤◌, ◌⊎◌, List, [], ◌∷◌, ◌++◌, length, take, drop, refl, sym, ap, ◌∙◌, arith, Ok, Err, Result, subst, inl, inr}
-use Rattle.std.proofs.lemmas.List.{take-append-le, length-drop, get_or-take, length-take-le, drop-append-le}
+use Rattle.std.proofs.Common.{◌≡◌, ℕ, zero, suc, ◌+◌, ◌-◌, ◌≤◌, ◌⊎◌, List, [], ◌∷◌, ◌++◌, length, take, drop, refl, sym, ap, ◌∙◌, arith, Ok, Err, Result, subst, inl, inr}
+use Rattle.std.proofs.lemmas.List.{take-append-le, length-drop, get_or-take, length-take-le, drop-append-le, drop-drop}
 use Rattle.unit_packets.specs.Blocks.{Block}
 use Rattle.unit_packets.specs.declared.header.Header.{Header}
 use Rattle.unit_packets.specs.declared.header.BlockError.{BlockError}
 use Rattle.unit_packets.specs.Judging.{judge, block_at, BeginsWithBlock}
 use Rattle.pitch_messages.specs.Raw.{raws_of}
-use Rattle.unit_packets.specs.Cutting.{blocks_on, rest_on, blocks_by, rest_by, blocks_of, rest_of}
+use Rattle.unit_packets.specs.Cutting.{blocks_on, rest_on, blocks_by, rest_by, blocks_of, rest_of, place_of}
 use Rattle.unit_packets.proofs.Stable.{judge_found, judge_more, IsFinal}
 
 pub cases_Result : {A E : Type 0} (r : Result A E) → ((x : A) × (r ≡ Ok x)) ⊎ ((e : E) × (r ≡ Err e))
@@ -141,6 +141,34 @@ rest_short_by (suc n) bytes le = elim (cases_Result (judge bytes)) [
 
 pub rest_short : (bytes : List ℕ) → length (rest_of bytes) ≤ length bytes
 rest_short bytes = rest_short_by (length bytes) bytes (omega arith)
+
+-- the rest stands behind the whole blocks
+rest_stands_none : (bytes : List ℕ) (e : BlockError) → judge bytes ≡ Err e → rest_of bytes ≡ drop (length bytes - length (rest_of bytes)) bytes
+rest_stands_none bytes e is =
+    let rest = (none_of bytes e is).rest in
+    let nothing : 0 ≡ length bytes - length (rest_of bytes) = omega (arith, ap length rest) in
+    rest ∙ ap (λ (k : ℕ). drop k bytes) nothing
+
+rest_stands_by : (n : ℕ) (bytes : List ℕ) → length bytes ≤ n → rest_of bytes ≡ drop (length bytes - length (rest_of bytes)) bytes
+rest_stands_by zero bytes le = elim (cases_Result (judge bytes)) [
+  | inl found ↦ absurd (omega (arith, shorter bytes found.0 found.1))
+  | inr none ↦ rest_stands_none bytes none.0 none.1
+]
+rest_stands_by (suc n) bytes le = elim (cases_Result (judge bytes)) [
+  | inl found ↦
+      let h : Header = found.0 in
+      let left : List ℕ = drop h.length bytes in
+      let fewer = shorter bytes h found.1 in
+      let fits = (judge_found bytes h found.1).fits in
+      let first = first_of bytes h found.1 in
+      let size : h.length + (length left - length (rest_of left)) ≡ length bytes - length (rest_of bytes) =
+      omega (arith, fits, length-drop h.length bytes, rest_short left, ap length first.rest) in
+      first.rest ∙ rest_stands_by n left (omega (arith, fewer)) ∙ drop-drop (length left - length (rest_of left)) h.length bytes ∙ ap (λ (k : ℕ). drop k bytes) size
+  | inr none ↦ rest_stands_none bytes none.0 none.1
+]
+
+pub rest_stands : (bytes : List ℕ) → rest_of bytes ≡ drop (place_of bytes) bytes
+rest_stands bytes = rest_stands_by (length bytes) bytes (omega arith)
 
 -- what a block at the start needs to be taken out
 pub record Takes (bytes : List ℕ) (h : Header) : Type 0 where

@@ -1,64 +1,46 @@
 -- What a reader stands for after a piece.
-use Rattle.std.proofs.Common.{◌≡◌, ℕ, ◌+◌, ◌≤◌, ◌⊎◌, Bool, true, false, List, [], ◌∷◌, ◌++◌, length, take, drop, refl, sym, ap, ◌∙◌, subst, arith, Option, Some, None, Ok, Err, Result, length-append, append_assoc, inl, inr, is_some}
+use Rattle.std.proofs.Common.{◌≡◌, ℕ, ◌+◌, ◌⊎◌, Bool, true, false, List, [], ◌∷◌, ◌++◌, length, take, drop, refl, sym, ap, ◌∙◌, subst, arith, Option, Some, None, Ok, Err, Result, length-append, append_assoc, inl, inr, is_some}
 use Rattle.std.specs.List.{concat}
-use Rattle.std.proofs.lemmas.List.{append-nil, length-drop, drop-drop, take_at}
+use Rattle.std.proofs.lemmas.List.{append-nil, take_at}
 use Rattle.unit_packets.specs.Blocks.{Block}
 use Rattle.unit_packets.specs.Causes.{counted}
 use Rattle.unit_packets.specs.Judging.{judge}
-use Rattle.unit_packets.specs.Lending.{header_for, StandsFirst}
-use Rattle.unit_packets.specs.Cutting.{blocks_of, rest_of, place_of, fault_in, fault_from}
+use Rattle.unit_packets.specs.Cutting.{blocks_of, rest_of, place_of, fault_in}
 use Rattle.unit_packets.specs.Reading.{Reading, unread}
-use Rattle.unit_packets.specs.Feeding.{fed_fault, kept_fault, StandsFor, fed_answer, Feeds, WithMemory, CutsTo, FeedsEach, FeedsAll, PiecesAreCut, PiecesDoNotMatter}
-use Rattle.unit_packets.specs.declared.header.BlockError.{BlockError}
+use Rattle.unit_packets.specs.Feeding.{fed_fault, kept_fault, StandsFor, fed_answer, Feeds, WithMemory, FeedsEach, FeedsAll, PiecesAreCut, PiecesDoNotMatter}
 use Rattle.unit_packets.specs.declared.header.BlockFault.{BlockFault}
 use Rattle.unit_packets.specs.declared.block.FeedError.{FeedError}
 use Rattle.unit_packets.specs.declared.block.FeedError.TheVariants.{Fault, OutOfMemory}
-use Rattle.unit_packets.proofs.Cuts.{appends, none_of, rest_short}
-use Rattle.unit_packets.specs.declared.header.Header.{Header}
+use Rattle.unit_packets.proofs.Cuts.{appends, rest_short, rest_stands}
 use Rattle.unit_packets.specs.Cutting.{rest_by, blocks_by}
 use Rattle.unit_packets.proofs.Stable.{IsFinal, judge_more}
-use Rattle.unit_packets.proofs.Streams.{leads, fault_judged, lasting_of, lasting_more, fault_stays}
+use Rattle.unit_packets.proofs.Streams.{lasting_of, lasting_more, fault_stays}
 
 -- ---- Cutting a piece
-pub record Cutting (bytes : List ℕ) (at : ℕ) (before so_far : List Block) : Type 0 where
-  pub within : at ≤ length bytes
-  pub rest : rest_of bytes ≡ rest_of (drop at bytes)
+-- the blocks before `left` were appended
+pub record Cutting (bytes left : List ℕ) (before so_far : List Block) : Type 0 where
+  pub rest : rest_of left ≡ rest_of bytes
   pub added : List Block
   pub are : so_far ≡ before ++ added
-  pub blocks : added ++ blocks_of (drop at bytes) ≡ blocks_of bytes
+  pub blocks : added ++ blocks_of left ≡ blocks_of bytes
 
-pub cutting_none : (bytes : List ℕ) (before : List Block) → Cutting bytes 0 before before
-cutting_none bytes before = record { within = omega arith; rest = refl; added = []; are = sym (append-nil before); blocks = refl }
+pub cutting_none : (bytes left : List ℕ) (before : List Block) → left ≡ bytes → Cutting bytes left before before
+cutting_none bytes left before is = record { rest = ap rest_of is; added = []; are = sym (append-nil before); blocks = ap blocks_of is }
 
-pub cutting_kept : (bytes : List ℕ) (at n : ℕ) (before so_far : List Block) → Cutting bytes at before so_far → n ≡ length before → take n so_far ≡ before
-cutting_kept bytes at n before so_far c is = ap (λ (k : ℕ). take k so_far) is ∙ ap (take (length before)) c.are ∙ take_at before c.added (length before) refl
+pub cutting_kept : (bytes left : List ℕ) (n : ℕ) (before so_far : List Block) → Cutting bytes left before so_far → n ≡ length before → take n so_far ≡ before
+cutting_kept bytes left n before so_far c is = ap (λ (k : ℕ). take k so_far) is ∙ ap (take (length before)) c.are ∙ take_at before c.added (length before) refl
 
-pub cutting_more : (bytes rest : List ℕ) (at n : ℕ) (before so_far longer : List Block) (block : Block) → Cutting bytes at before so_far → rest ≡ drop at bytes → StandsFirst rest block → n ≡ (header_for block).length
-    → longer ≡ so_far ++ block ∷ [] → Cutting bytes (at + n) before longer
-cutting_more bytes rest at n before so_far longer block c is stands size more =
-    let l = leads (drop at bytes) block (subst (λ (r : List ℕ). StandsFirst r block) is stands) in
-    let cut : drop (header_for block).length (drop at bytes) ≡ drop (at + n) bytes = drop-drop (header_for block).length at bytes ∙ ap (λ (k : ℕ). drop (at + k) bytes) (sym size) in
-    record {
-      within = omega (arith, l.fits, length-drop at bytes, c.within, size);
-      rest = c.rest ∙ l.rest_is ∙ ap rest_of cut;
-      added = c.added ++ block ∷ [];
-      are = more ∙ ap (λ (bs : List Block). bs ++ block ∷ []) c.are ∙ append_assoc before c.added (block ∷ []);
-      blocks = append_assoc c.added (block ∷ []) (blocks_of (drop (at + n) bytes))
-          ∙ ap (λ (r : List ℕ). c.added ++ (block ∷ blocks_of r)) (sym cut)
-          ∙ ap (λ (bs : List Block). c.added ++ bs) (sym l.blocks)
-          ∙ c.blocks;
-    }
+pub cutting_more : (bytes left less : List ℕ) (before so_far longer : List Block) (block : Block) → Cutting bytes left before so_far → blocks_of left ≡ block ∷ blocks_of less → rest_of less ≡ rest_of left → longer ≡ so_far ++ block ∷ []
+    → Cutting bytes less before longer
+cutting_more bytes left less before so_far longer block c first rest more = record {
+  rest = rest ∙ c.rest;
+  added = c.added ++ block ∷ [];
+  are = more ∙ ap (λ (bs : List Block). bs ++ block ∷ []) c.are ∙ append_assoc before c.added (block ∷ []);
+  blocks = append_assoc c.added (block ∷ []) (blocks_of less) ∙ ap (λ (bs : List Block). c.added ++ bs) (sym first) ∙ c.blocks;
+}
 
-pub cutting_end : (bytes rest : List ℕ) (at : ℕ) (before so_far : List Block) (e : BlockError) → Cutting bytes at before so_far → rest ≡ drop at bytes → judge rest ≡ Err e → CutsTo bytes at e before so_far
-cutting_end bytes rest at before so_far e c is stop =
-    let there : judge (drop at bytes) ≡ Err e = ap judge (sym is) ∙ stop in
-    let none = none_of (drop at bytes) e there in
-    record {
-      within = c.within;
-      rest = c.rest ∙ none.rest;
-      blocks = c.are ∙ ap (λ (bs : List Block). before ++ bs) (sym (append-nil c.added) ∙ ap (λ (bs : List Block). c.added ++ bs) (sym none.blocks) ∙ c.blocks);
-      stop = there;
-    }
+pub cutting_end : (bytes left : List ℕ) (before so_far : List Block) → Cutting bytes left before so_far → blocks_of left ≡ [] → so_far ≡ before ++ blocks_of bytes
+cutting_end bytes left before so_far c none = c.are ∙ ap (λ (bs : List Block). before ++ bs) (sym (append-nil c.added) ∙ ap (λ (bs : List Block). c.added ++ bs) (sym none) ∙ c.blocks)
 
 -- ---- Standing for bytes
 counted_on : (a b : ℕ) → counted (counted a + b) ≡ counted (a + b)
@@ -74,28 +56,26 @@ all_kept reading fed stands none = elim stands.keeps [
 ]
 
 -- a piece was cut, behind no fault
-pub fed_on : (fed piece all : List ℕ) (at : ℕ) (error : BlockError) (old new : Reading) (before after : List Block) (answer : Result (Unit {0}) FeedError)
-    → StandsFor old fed → kept_fault old ≡ None → all ≡ old.rest ++ piece → CutsTo all at error before after
-    → new.place ≡ counted (old.place + at) → new.rest ≡ drop at all → answer ≡ fed_answer (fault_from false new.place (Err error))
+pub fed_on : (fed piece all : List ℕ) (at : ℕ) (old new : Reading) (before after : List Block) (answer : Result (Unit {0}) FeedError)
+    → StandsFor old fed → kept_fault old ≡ None → all ≡ old.rest ++ piece → at ≡ place_of all → after ≡ before ++ blocks_of all
+    → new.place ≡ counted (old.place + at) → new.rest ≡ drop at all → answer ≡ fed_answer (fault_in false new.place new.rest)
     → Feeds fed piece new before after answer
-fed_on fed piece all at error old new before after answer stands none are c place rest gives =
+fed_on fed piece all at old new before after answer stands none are there given place rest gives =
     let more = appends fed piece in
     let kept : rest_of fed ≡ old.rest = all_kept old fed stands none in
     let bytes : rest_of fed ++ piece ≡ all = ap (λ (r : List ℕ). r ++ piece) kept ∙ sym are in
-    let left : rest_of (fed ++ piece) ≡ drop at all = more.rest ∙ ap rest_of bytes ∙ c.rest in
-    let short = rest_short fed in
-    let within = c.within in
+    let behind : new.rest ≡ rest_of all = rest ∙ ap (λ (n : ℕ). drop n all) there ∙ sym (rest_stands all) in
+    let left : rest_of (fed ++ piece) ≡ new.rest = more.rest ∙ ap rest_of bytes ∙ sym behind in
     let size : length all ≡ length (rest_of fed) + length piece = sym (ap length bytes) ∙ length-append (rest_of fed) piece in
-    let on : place_of fed + at ≡ place_of (fed ++ piece) = omega (arith, short, within, size, ap length left, length-drop at all, length-append fed piece) in
+    let on : place_of fed + at ≡ place_of (fed ++ piece) = omega (arith, rest_short fed, rest_short all, size, there, ap length left, ap length behind, length-append fed piece) in
     let here : new.place ≡ counted (place_of (fed ++ piece)) = place ∙ ap (λ (p : ℕ). counted (p + at)) stands.place_is ∙ counted_on (place_of fed) at ∙ ap counted on in
     record {
-      stands = record { place_is = here; dropped = []; rest_is = left ∙ sym rest ∙ sym (append-nil new.rest); keeps = inl refl };
+      stands = record { place_is = here; dropped = []; rest_is = left ∙ sym (append-nil new.rest); keeps = inl refl };
       added = blocks_of all;
-      given = c.blocks;
+      given = given;
       blocks = more.blocks ∙ ap (λ (r : List ℕ). blocks_of fed ++ blocks_of r) bytes;
-      fault = gives ∙ ap (λ (r : Result Header BlockError). fed_answer (fault_from false new.place r)) (sym c.stop)
-          ∙ ap fed_answer (sym (fault_judged new.place (drop at all)))
-          ∙ ap (λ (p : ℕ). fed_answer (fault_in false p (drop at all))) here
+      fault = gives
+          ∙ ap (λ (p : ℕ). fed_answer (fault_in false p new.rest)) here
           ∙ ap (λ (r : List ℕ). fed_answer (fault_in false (counted (place_of (fed ++ piece))) r)) (sym left);
     }
 

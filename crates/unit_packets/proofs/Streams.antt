@@ -33,6 +33,20 @@ leads rest block stands =
       rest_is = first.rest;
     }
 
+-- past a block that stands at the start are the others
+pub record GoesOn (old left : List ℕ) (block : Block) : Type 0 where
+  pub blocks : blocks_of old ≡ block ∷ blocks_of left
+  pub rest : rest_of left ≡ rest_of old
+
+pub goes_on : (old rest left : List ℕ) (block : Block) (h : Header) (n : ℕ) → rest ≡ old → StandsFirst rest block → h ≡ header_for block → n ≡ h.length → left ≡ drop n rest → GoesOn old left block
+goes_on old rest left block h n same stands is size cut =
+    let l = leads rest block stands in
+    let past : left ≡ drop (header_for block).length rest = cut ∙ ap (λ (k : ℕ). drop k rest) (size ∙ ap (λ (g : Header). g.length) is) in
+    record {
+      blocks = ap blocks_of (sym same) ∙ l.blocks ∙ ap (λ (r : List ℕ). block ∷ blocks_of r) (sym past);
+      rest = ap rest_of past ∙ sym l.rest_is ∙ ap rest_of same;
+    }
+
 -- ---- A fault
 -- a rest of no bytes is no block yet
 pub judge_nothing : judge [] ≡ Err (Truncated 0 8)

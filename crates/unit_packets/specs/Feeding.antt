@@ -1,14 +1,12 @@
 -- A stream that is fed in pieces.
-use Rattle.std.specs.Prelude.{◌≡◌, ℕ, ◌≤◌, ◌⊎◌, true, false, List, [], ◌∷◌, ◌++◌, length, drop}
+use Rattle.std.specs.Prelude.{◌≡◌, ℕ, ◌⊎◌, true, false, List, [], ◌∷◌, ◌++◌}
 use Rattle.std.specs.Prelude.{Option, None, Some, Result, Ok, Err}
 use Rattle.std.specs.Option.{IsSome}
 use Rattle.std.specs.List.{concat}
 use Rattle.unit_packets.specs.Blocks.{Block}
 use Rattle.unit_packets.specs.Causes.{counted}
 use Rattle.unit_packets.specs.Cutting.{blocks_of, rest_of, place_of, fault_in}
-use Rattle.unit_packets.specs.Judging.{judge}
 use Rattle.unit_packets.specs.Reading.{Reading, unread}
-use Rattle.unit_packets.specs.declared.header.BlockError.{BlockError}
 use Rattle.unit_packets.specs.declared.header.BlockFault.{BlockFault}
 use Rattle.unit_packets.specs.declared.block.FeedError.{FeedError}
 use Rattle.unit_packets.specs.declared.block.FeedError.TheVariants.{Fault, OutOfMemory}
@@ -62,14 +60,6 @@ WithMemory (Err OutOfMemory) P = Unit {0}
 abbrev pub IsRepeated : Option BlockFault → Result (Unit {0}) FeedError → Type 0 → Type 0
 IsRepeated None answer P = Unit {0}
 IsRepeated (Some fault) answer P = (answer ≡ Err (Fault fault)) × P
-
--- the bytes of a piece, cut into blocks, and what stands where no further block does
-pub record CutsTo (bytes : List ℕ) (passed : ℕ) (error : BlockError) (before after : List Block) :
-    Type 0 where
-  pub within : passed ≤ length bytes
-  pub rest : rest_of bytes ≡ drop passed bytes
-  pub blocks : after ≡ before ++ blocks_of bytes
-  pub stop : judge (drop passed bytes) ≡ Err error
 
 -- ---- Laws
 -- pieces that were fed one after the other, with memory for each, where `does` says what one does

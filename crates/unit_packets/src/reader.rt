@@ -1,15 +1,16 @@
 ghost use Rattle.std.specs.Prelude.{◌≡◌, ℕ, ◌≤◌, List, ◌++◌, [], ◌∷◌, length, take, drop, vec_len};
 ghost use Rattle.std.specs.Prelude.{IfOk, OnOk, OnErr, Err, true};
-ghost use Rattle.unit_packets.specs.Cutting.{fault_in, fault_from};
-ghost use Rattle.unit_packets.specs.Feeding.{StandsFor, Feeds, WithMemory, IsRepeated, CutsTo};
+ghost use Rattle.unit_packets.specs.Cutting.{blocks_of, place_of, fault_in, fault_from};
+ghost use Rattle.unit_packets.specs.Feeding.{StandsFor, Feeds, WithMemory, IsRepeated};
 ghost use Rattle.unit_packets.specs.Feeding.{kept_fault, fed_answer, ended_answer, ended_fault};
 ghost use Rattle.unit_packets.specs.Reading.{unread, loaded, passed, kept};
 
 use crate::block::{BlockList, FeedError};
+use crate::blocks::Blocks;
 use crate::header::{BlockError, BlockFault};
 use crate::judge::read_block;
 use crate::rest::StreamRest;
-use crate::view::{BlockView, view_block};
+use crate::view::BlockView;
 use pitch_fields::OutOfMemory;
 use std::alloc::Global;
 use std::marker::Model;
@@ -55,35 +56,24 @@ fn push_copy(alloc: Global, view: &BlockView<'_>, out: &mut BlockList) -> Result
     out.push(block)
 }
 
-// Appends the blocks with which the bytes begin. Answers how many bytes they have, and why no block
-// follows them.
-fn cut_blocks(
-    alloc: Global,
-    bytes: &[u8],
-    out: &mut BlockList,
-) -> Result<(usize, BlockError), OutOfMemory>
-    ensures ok { IfOk result (λ cut. CutsTo bytes.now cut.0 cut.1 out.old.items out.new.items) }
+// Appends the blocks with which the bytes begin. Answers how many bytes they have.
+fn cut_blocks(alloc: Global, bytes: &[u8], out: &mut BlockList) -> Result<usize, OutOfMemory>
+    ensures place { IfOk result (λ passed. passed ≡ place_of bytes.now) }
+    ensures ok { OnOk result (out.new.items ≡ out.old.items ++ blocks_of bytes.now) }
     ensures err { OnErr result (out.new.items ≡ out.old.items) }
 {
     let before = out.len();
-    let mut at = 0;
-    'next: while at <= bytes.len() {
-        let rest = &bytes[at..];
-        match view_block(rest) {
-            Ok(view) => {
-                match push_copy(alloc, &view, out) {
-                    Ok(()) => {}
-                    Err(error) => {
-                        out.truncate(before);
-                        return Err(error);
-                    }
-                }
-                at += view.header().length as usize;
+    let mut blocks = Blocks::of_bytes(bytes);
+    'next: while let Some(view) = blocks.next_block() {
+        match push_copy(alloc, &view, out) {
+            Ok(()) => {}
+            Err(error) => {
+                out.truncate(before);
+                return Err(error);
             }
-            Err(error) => return Ok((at, error)),
         }
     }
-    unreachable!()
+    Ok(bytes.len() - blocks.rest().len())
 }
 
 /// Cuts a stream that comes in pieces into blocks. What is loaded and not yet passed is the
@@ -163,9 +153,9 @@ impl BlockReader {
         self.load(piece)?;
         let alloc = self.stream.allocator();
         match cut_blocks(alloc, self.rest(), out) {
-            Ok((passed, error)) => {
+            Ok(passed) => {
                 self.pass(passed);
-                answer(fault_from(false, self.place(), error))
+                answer(fault_in(false, self.place(), self.rest()))
             }
             Err(_) => {
                 self.stream.keep(before);

@@ -2,8 +2,8 @@ use pitch_messages::{Raw, RawList};
 use std::alloc::Global;
 use std::process::Abort;
 use unit_packets::{
-    BlockError, BlockFault, BlockList, BlockReader, DatagramList, FeedError, Header, LAST_SEQUENCE,
-    Packer, heartbeat, pack, put_session, read_block,
+    BlockError, BlockFault, BlockList, BlockReader, Blocks, DatagramList, FeedError, Header,
+    LAST_SEQUENCE, Packer, heartbeat, pack, put_session, read_block,
 };
 
 // Each stream begins with a block of one time message, of 14 bytes.
@@ -109,6 +109,22 @@ fn streams_in_pieces(rt: HostRuntime) {
         for size in [1, 2, 7, 64] {
             feed_in_pieces(&rt, rt.alloc(), stream, size);
         }
+    }
+}
+
+#[test]
+fn blocks_one_after_another(rt: HostRuntime) {
+    for stream in &STREAMS {
+        let mut blocks = Blocks::of_bytes(stream.bytes);
+        let first = blocks.next_block().expect(&rt, "a block");
+        assert!(rt; first.header().length == 14 && blocks.rest() == &stream.bytes[14..]);
+        assert!(rt; Blocks::of_bytes(stream.bytes).count() == stream.blocks);
+        if stream.blocks == 2 {
+            let second = blocks.next_block().expect(&rt, "a block");
+            assert!(rt; second.header().sequence == 2 && second.raws().len() == 0);
+        }
+        assert!(rt; blocks.next_block().is_none());
+        assert!(rt; blocks.rest().is_empty() == (stream.blocks == 2));
     }
 }
 

@@ -1,11 +1,13 @@
-use Rattle.std.proofs.Common.{ap}
-use Rattle.std.proofs.lemmas.List.{take_rest}
-use Rattle.unit_packets.specs.declared.header.Header.{Header}
-use Rattle.unit_packets.proofs.Feeds.{cutting_more, cutting_end}
+use Rattle.std.proofs.Common.{◌≡◌, ap, ◌∙◌, length, arith}
+use Rattle.unit_packets.specs.Cutting.{rest_of}
+use Rattle.unit_packets.proofs.Cuts.{rest_short}
+use Rattle.unit_packets.proofs.Feeds.{cutting_more}
 use Rattle.unit_packets.proofs.reader.cut_blocks.Goals as goal
 
 pub next-preserved : goal.next-preserved
-next-preserved c = cutting_more _ _ _ _ _ _ _ c.in-Ok.view c.next.invariant (take_rest c.args.bytes.now c.next.at) c.in-Ok.ensures.found (ap (λ (h : Header). h.length) c.header.ensures) c.in-Ok-push_copy.ensures.ok
+next-preserved c = cutting_more _ _ _ _ _ _ c.in-Some.view c.next.invariant c.in-Some.ensures.blocks c.in-Some.ensures.rest c.in-Ok.ensures.ok
 
-pub returns-in-Err-clause-ok : goal.returns-in-Err-clause-ok
-returns-in-Err-clause-ok c = cutting_end _ _ _ _ _ _ c.next.invariant (take_rest c.args.bytes.now c.next.at) c.in-Err.ensures.fault
+pub overflow_sub-result : goal.overflow_sub-result
+overflow_sub-result c =
+    let rest : c.rest.result.now ≡ rest_of c.args.bytes.now = c.rest.ensures ∙ c.in_default.ensures.rest ∙ c.next.invariant.rest in
+    omega (arith, ap length rest, rest_short c.args.bytes.now)

@@ -1,6 +1,6 @@
-use Rattle.std.proofs.Common.{◌≡◌, ℕ, ◌+◌, List, ◌++◌, false, drop, ap, sym, ◌∙◌, None, Some, Err}
+use Rattle.std.proofs.Common.{◌≡◌, ℕ, ◌+◌, List, ◌++◌, false, drop, ap, sym, ◌∙◌, None, Some}
 use Rattle.unit_packets.specs.Causes.{counted}
-use Rattle.unit_packets.specs.Cutting.{fault_in, fault_from}
+use Rattle.unit_packets.specs.Cutting.{fault_in}
 use Rattle.unit_packets.specs.Feeding.{fed_answer, kept_fault}
 use Rattle.unit_packets.specs.Reading.{Reading}
 use Rattle.unit_packets.proofs.Feeds.{fed_past, fed_on, with_memory}
@@ -22,7 +22,9 @@ returns-in-Ok-clause-fed c = with_memory c.answer.result _ (λ fed stands.
     ap (λ (r : Reading). r.place) c.pass.ensures ∙ ap (λ (r : Reading). counted (r.place + c.in-Ok.passed)) c.in_ok-load.ensures.ok in
     let rest : c.pass.new.self.rest ≡ drop c.in-Ok.passed all =
     ap (λ (r : Reading). r.rest) c.pass.ensures ∙ ap (drop c.in-Ok.passed) (sym c.rest-2.ensures) in
-    let gives : c.answer.result ≡ fed_answer (fault_from false c.pass.new.self.place (Err c.in-Ok.error)) =
-    c.answer.ensures ∙ ap fed_answer (c.fault_from.ensures ∙ ap (λ (p : ℕ). fault_from false p (Err c.in-Ok.error)) c.place-in-Ok.ensures) in
-    fed_on fed c.args.piece.now all c.in-Ok.passed c.in-Ok.error c.args.self.now c.pass.new.self c.args.out.now.items c.cut_blocks.new.out.items c.answer.result
-    stands none are c.in-Ok.ensures.ok place rest gives)
+    let gives : c.answer.result ≡ fed_answer (fault_in false c.pass.new.self.place c.pass.new.self.rest) =
+    c.answer.ensures ∙ ap fed_answer (c.fault_in-in-Ok.ensures
+    ∙ ap (λ (p : ℕ). fault_in false p c.rest-in-Ok.result.now) c.place-in-Ok.ensures
+    ∙ ap (fault_in false c.pass.new.self.place) c.rest-in-Ok.ensures) in
+    fed_on fed c.args.piece.now all c.in-Ok.passed c.args.self.now c.pass.new.self c.args.out.now.items c.cut_blocks.new.out.items c.answer.result
+    stands none are c.in-Ok.ensures.place c.in-Ok.ensures.ok place rest gives)
