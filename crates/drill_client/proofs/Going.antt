@@ -1,5 +1,5 @@
 -- What a client hears that goes on following.
-use Rattle.std.proofs.Common.{◌≡◌, ℕ, zero, suc, ◌+◌, ◌==◌, ◌&&◌, ◌≤◌, true, false, List, [], ◌∷◌, ◌++◌, length, take, drop, Option, Some, None, Err, refl, sym, ap, ◌∙◌, subst, arith}
+use Rattle.std.proofs.Common.{◌≡◌, ℕ, zero, suc, ◌+◌, ◌==◌, ◌&&◌, ◌≤◌, true, false, List, [], ◌∷◌, ◌++◌, length, take, Option, Some, None, refl, sym, ap, ◌∙◌, subst, arith}
 use Rattle.std.proofs.lemmas.List.{take_more}
 use Rattle.std.proofs.lemmas.Option.{get_or_from_slice_get, slice_get_within}
 use Rattle.std.proofs.lemmas.Bool.{cond-true, cond_both}
@@ -11,12 +11,7 @@ use Rattle.std.specs.Prelude.{cond}
 use Rattle.unit_packets.specs.Blocks.{Block}
 use Rattle.pitch_model.specs.declared.ask.Ask.{Ask}
 use Rattle.pitch_model.specs.declared.ask.Ask.TheVariants.{Gap, Spin}
-use Rattle.unit_packets.specs.Cutting.{blocks_of, blocks_by}
-use Rattle.unit_packets.specs.Judging.{judge}
-use Rattle.unit_packets.specs.Lending.{header_for, StandsFirst}
-use Rattle.unit_packets.specs.declared.header.BlockError.{BlockError}
-use Rattle.unit_packets.proofs.Cuts.{none_of}
-use Rattle.unit_packets.proofs.Streams.{leads}
+use Rattle.unit_packets.specs.Cutting.{blocks_of}
 use Rattle.client_core.specs.declared.client.UnitClient.{UnitClient}
 use Rattle.pitch_model.specs.Datagrams.{IsVenueBlock, IsPiece, heard_blocks}
 use Rattle.pitch_model.specs.Heard.{heard_block, heard_messages, heard_sequenced}
@@ -137,48 +132,24 @@ heard_one_more lists i list at E =
     at_end (l ∷ ls) E = at_end ls (heard_blocks (blocks_of l.items) E)
 
 -- ---- The blocks of a datagram
-no_blocks : blocks_of [] ≡ []
-unfolding blocks_of blocks_by
-no_blocks = refl
-
-pub empty_by : (xs : List ℕ) → (length xs == 0) ≡ true → xs ≡ []
-empty_by [] e = refl
-empty_by (x ∷ xs) e = absurd (some (length xs) e)
-  where
-    some : (n : ℕ) → (suc n == 0) ≡ true → ⊥
-    some n e = grind (arith, nat_tests, e)
-
--- the blocks before `rest` were heard: what follows still is to be heard of all
-pub record HeardTo (old new : UnitClient) (datagram rest : List ℕ) : Type 0 where
-  pub pieces : (V : List Raw) (unit : ℕ) → IsPiece V unit datagram → AllByRecursion (IsVenueBlock V unit) (blocks_of rest)
+-- the blocks before `left` were heard: these still are to be heard of all
+pub record HeardTo (old new : UnitClient) (datagram : List ℕ) (left : List Block) : Type 0 where
+  pub pieces : (V : List Raw) (unit : ℕ) → IsPiece V unit datagram → AllByRecursion (IsVenueBlock V unit) left
   pub follows : (V : List Raw) (unit : ℕ) → IsPiece V unit datagram → (H : ℕ) (E : List Entry) → Follows old H V E
-      → (F : List Entry) × (heard_blocks (blocks_of rest) F ≡ heard_blocks (blocks_of datagram) E) × Follows new H V F
+      → (F : List Entry) × (heard_blocks left F ≡ heard_blocks (blocks_of datagram) E) × Follows new H V F
 
-pub heard_to_none : (client : UnitClient) (datagram : List ℕ) → HeardTo client client datagram datagram
-heard_to_none client datagram = record { pieces = λ V unit piece. piece.blocks; follows = λ V unit piece H E f. (E, refl, f) }
+pub heard_to_more : (one two three : UnitClient) (datagram : List ℕ) (left more : List Block) (block : Block) → HeardTo one two datagram left → left ≡ block ∷ more
+    → ((V : List Raw) (unit : ℕ) → IsVenueBlock V unit block → (H : ℕ) (E : List Entry) → Follows two H V E → Follows three H V (heard_block block E)) → HeardTo one three datagram more
+heard_to_more one two three datagram left more block h is hears = record {
+  pieces = λ V unit piece. (subst (AllByRecursion (IsVenueBlock V unit)) is (h.pieces V unit piece)).1;
+  follows = λ V unit piece H E f.
+      let before = h.follows V unit piece H E f in
+      let here = (subst (AllByRecursion (IsVenueBlock V unit)) is (h.pieces V unit piece)).0 in
+      (heard_block block before.0, sym (ap (λ (bs : List Block). heard_blocks bs before.0) is) ∙ before.1, hears V unit here H before.0 before.2);
+}
 
-pub heard_to_more : (one two three : UnitClient) (datagram rest left : List ℕ) (block : Block) → HeardTo one two datagram rest → StandsFirst rest block → left ≡ drop (header_for block).length rest
-    → ((V : List Raw) (unit : ℕ) → IsVenueBlock V unit block → (H : ℕ) (E : List Entry) → Follows two H V E → Follows three H V (heard_block block E)) → HeardTo one three datagram left
-heard_to_more one two three datagram rest left block h stands is hears =
-    let l = leads rest block stands in
-    let cut : blocks_of rest ≡ block ∷ blocks_of left = l.blocks ∙ ap (λ (r : List ℕ). block ∷ blocks_of r) (sym is) in
-    record {
-      pieces = λ V unit piece. (subst (AllByRecursion (IsVenueBlock V unit)) cut (h.pieces V unit piece)).1;
-      follows = λ V unit piece H E f.
-          let before = h.follows V unit piece H E f in
-          let here = (subst (AllByRecursion (IsVenueBlock V unit)) cut (h.pieces V unit piece)).0 in
-          (heard_block block before.0, sym (ap (λ (bs : List Block). heard_blocks bs before.0) cut) ∙ before.1, hears V unit here H before.0 before.2);
-    }
-
-all_heard : (one two : UnitClient) (datagram rest : List ℕ) → HeardTo one two datagram rest → blocks_of rest ≡ [] → (V : List Raw) (unit : ℕ) → IsPiece V unit datagram → (H : ℕ) (E : List Entry) → Follows one H V E → Follows two H V (heard_blocks (blocks_of datagram) E)
-all_heard one two datagram rest h none V unit piece H E f =
+pub heard_to_end : (one two : UnitClient) (datagram : List ℕ) (left : List Block) → HeardTo one two datagram left → left ≡ [] → (V : List Raw) (unit : ℕ) → IsPiece V unit datagram → (H : ℕ) (E : List Entry) → Follows one H V E
+    → Follows two H V (heard_blocks (blocks_of datagram) E)
+heard_to_end one two datagram left h none V unit piece H E f =
     let before = h.follows V unit piece H E f in
     subst (Follows two H V) (sym (ap (λ (bs : List Block). heard_blocks bs before.0) none) ∙ before.1) before.2
-
-pub heard_to_stop : (one two : UnitClient) (datagram rest : List ℕ) (e : BlockError) → HeardTo one two datagram rest → judge rest ≡ Err e → (V : List Raw) (unit : ℕ) → IsPiece V unit datagram → (H : ℕ) (E : List Entry) → Follows one H V E
-    → Follows two H V (heard_blocks (blocks_of datagram) E)
-heard_to_stop one two datagram rest e h fault = all_heard one two datagram rest h (none_of rest e fault).blocks
-
-pub heard_to_end : (one two : UnitClient) (datagram rest : List ℕ) → HeardTo one two datagram rest → rest ≡ [] → (V : List Raw) (unit : ℕ) → IsPiece V unit datagram → (H : ℕ) (E : List Entry) → Follows one H V E
-    → Follows two H V (heard_blocks (blocks_of datagram) E)
-heard_to_end one two datagram rest h none = all_heard one two datagram rest h (ap blocks_of none ∙ no_blocks)

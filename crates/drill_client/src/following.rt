@@ -19,7 +19,7 @@ use pitch_fields::OutOfMemory;
 use pitch_messages::{ByteList, RawList};
 use pitch_model::{Ask, Item};
 use std::alloc::Global;
-use unit_packets::{BlockView, Header, view_block};
+use unit_packets::{BlockView, Blocks};
 
 /// A client that holds at most `limit` messages. Both its connections are up, and of messages it
 /// has heard nothing, so it follows every venue.
@@ -45,14 +45,6 @@ fn hear_block(client: &mut UnitClient, block: &BlockView<'_>) -> Result<(), OutO
     Ok(())
 }
 
-// What follows the first block.
-fn after_block(bytes: &[u8], header: Header) -> &[u8]
-    requires { header.length ≤ length bytes.now }
-    ensures { result.now ≡ drop header.length bytes.now }
-{
-    bytes.split_at(usize::from(header.length)).1
-}
-
 /// Hears a datagram. After OutOfMemory it has heard the blocks before the one that wanted memory.
 pub fn hear_datagram(client: &mut UnitClient, datagram: &[u8]) -> Result<(), OutOfMemory>
     // Of every venue of whose feed the datagram is a piece: the client goes on following it.
@@ -60,15 +52,8 @@ pub fn hear_datagram(client: &mut UnitClient, datagram: &[u8]) -> Result<(), Out
         → IsPiece V unit datagram.now → (H : ℕ) (E : List Entry) → Follows client.old H V E
         → Follows client.new H V (heard_blocks (blocks_of datagram.now) E)) }
 {
-    let mut rest = datagram;
-    'pieces: while !rest.is_empty() {
-        match view_block(rest) {
-            Ok(block) => {
-                hear_block(client, &block)?;
-                rest = after_block(rest, block.header());
-            }
-            Err(_) => return Ok(()),
-        }
+    'pieces: for block in Blocks::of_bytes(datagram) {
+        hear_block(client, &block)?;
     }
     Ok(())
 }
