@@ -3,6 +3,7 @@ ghost use Rattle.std.specs.Prelude.{IfOk, IfSome};
 ghost use Rattle.pitch_messages.specs.declared.session.SessionMessage.TheVariants.{GapRequest};
 ghost use Rattle.session_ends.specs.declared.role.Role.TheVariants.{GapLink as LinkRole};
 ghost use Rattle.session_ends.specs.Events.{Event, Asked};
+ghost use Rattle.session_ends.specs.Happening.{Happens, OfEvents};
 ghost use Rattle.client_links.specs.Linking.{Lookups, link_setup, login_bytes};
 ghost use Rattle.client_links.specs.Linking.{link_sends, LinkStands};
 
@@ -56,12 +57,12 @@ impl Link<ProxyPeer> {
         out: &mut Vec<u8>,
     ) -> Result<(), OutOfMemory>
         // Of all that happened to it: it was asked too.
-        ensures stands { OnOk result ((es : List (Event Lookups)) → LinkStands self.old es
-            → LinkStands self.new (Asked (GapRequest unit sequence count) ∷ es)) }
+        ensures stands { OnOk result
+            (Happens LinkStands self.old self.new (Asked (GapRequest unit sequence count))) }
         // Of all that happened to it: the request was appended, while it was open.
-        ensures says { OnOk result
-            ((es : List (Event Lookups)) → LinkStands self.old es → out.new.items ≡ out.old.items
-            ++ link_sends self.old.setup (Asked (GapRequest unit sequence count)) es) }
+        ensures says { OnOk result (OfEvents LinkStands self.old
+            (λ es. out.new.items ≡ out.old.items
+            ++ link_sends self.old.setup (Asked (GapRequest unit sequence count)) es)) }
         ensures setup { self.new.setup ≡ self.old.setup }
         ensures err { OnErr result ((self.new ≡ self.old) × (out.new.items ≡ out.old.items)) }
         ensures shut { IfSome self.old.closed

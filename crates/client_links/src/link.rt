@@ -7,6 +7,7 @@ ghost use Rattle.session_ends.specs.declared.inbox.Heard.{Heard};
 ghost use Rattle.session_ends.specs.Closing.{cause_of, closed_of, first_cause, logs_in};
 ghost use Rattle.session_ends.specs.Ending.{EndKnows, nothing_known};
 ghost use Rattle.session_ends.specs.Events.{Event, Fed, Ticked, Asked};
+ghost use Rattle.session_ends.specs.Happening.{Happens, OfEvents};
 ghost use Rattle.session_ends.specs.Hearing.{reader_items, IsThrough};
 ghost use Rattle.session_ends.specs.Items.{closed_at};
 ghost use Rattle.session_ends.specs.Sending.{sent_at_tick};
@@ -155,8 +156,7 @@ impl<P: Peer> Link<P> {
     pub fn closed(&self) -> Option<Closed>
         ensures kept { result ≡ self.now.closed }
         // Of all that happened to it: the first cause that closes it.
-        ensures cause { (es : List (Event Lookups))
-            → LinkStands self.now es → result ≡ closed_of self.now.setup es }
+        ensures cause { OfEvents LinkStands self.now (λ es. result ≡ closed_of self.now.setup es) }
     {
         self.end.closed()
     }
@@ -270,10 +270,10 @@ impl<P: Peer> Link<P> {
     fn hear_piece(&mut self, piece: &[u8], told: &mut Vec<Item>) -> Result<(), OutOfMemory>
         requires open { self.old.closed ≡ None }
         requires none_told { told.old.items ≡ [] }
-        ensures stands { OnOk result ((es : List (Event Lookups))
-            → LinkStands self.old es → LinkStands self.new (Fed piece.now NoLookup ∷ es)) }
-        ensures tells { OnOk result ((es : List (Event Lookups)) → LinkStands self.old es
-            → map without_spare told.new.items ≡ link_tells self.old.setup es piece.now) }
+        ensures stands { OnOk result
+            (Happens LinkStands self.old self.new (Fed piece.now NoLookup)) }
+        ensures tells { OnOk result (OfEvents LinkStands self.old
+            (λ es. map without_spare told.new.items ≡ link_tells self.old.setup es piece.now)) }
         ensures setup { self.new.setup ≡ self.old.setup }
         ensures count { self.new.inbox.fed ≡ counted (self.old.inbox.fed + length piece.now) }
     {
@@ -297,13 +297,13 @@ impl<P: Peer> Link<P> {
     /// "Spin Response Message", "Spin Finished Message".
     pub fn feed(&mut self, piece: &[u8], items: &mut ItemList) -> Result<(), OutOfMemory>
         // Of all that happened to it: the piece came too.
-        ensures stands { OnOk result ((es : List (Event Lookups))
-            → LinkStands self.old es → LinkStands self.new (Fed piece.now NoLookup ∷ es)) }
+        ensures stands { OnOk result
+            (Happens LinkStands self.old self.new (Fed piece.now NoLookup)) }
         // Of all that happened to it: what the piece then tells was appended, whatever room the
         // lists of the items have.
-        ensures tells { OnOk result ((es : List (Event Lookups))
-            → LinkStands self.old es → map without_spare items.new.items
-            ≡ map without_spare items.old.items ++ link_tells self.old.setup es piece.now) }
+        ensures tells { OnOk result (OfEvents LinkStands self.old
+            (λ es. map without_spare items.new.items ≡ map without_spare items.old.items
+            ++ link_tells self.old.setup es piece.now)) }
         ensures setup { self.new.setup ≡ self.old.setup }
         ensures err_closed { OnErr result (self.new.closed ≡ Some
             (closed_at Memory (counted (self.old.inbox.fed + length piece.now)))) }
@@ -333,10 +333,10 @@ impl<P: Peer> Link<P> {
         request: &SessionMessage,
         out: &mut Vec<u8>,
     ) -> Result<(), OutOfMemory>
-        ensures stands { OnOk result ((es : List (Event Lookups))
-            → LinkStands self.old es → LinkStands self.new (Asked request.now ∷ es)) }
-        ensures says { OnOk result ((es : List (Event Lookups)) → LinkStands self.old es
-            → out.new.items ≡ out.old.items ++ link_sends self.old.setup (Asked request.now) es) }
+        ensures stands { OnOk result (Happens LinkStands self.old self.new (Asked request.now)) }
+        ensures says { OnOk result (OfEvents LinkStands self.old
+            (λ es. out.new.items ≡ out.old.items
+            ++ link_sends self.old.setup (Asked request.now) es)) }
         ensures setup { self.new.setup ≡ self.old.setup }
         ensures err { OnErr result ((self.new ≡ self.old) × (out.new.items ≡ out.old.items)) }
         ensures shut { IfSome self.old.closed
@@ -360,12 +360,11 @@ impl<P: Peer> Link<P> {
     /// Standard: "Heartbeat Messages". The number of ticks is this project's own.
     pub fn tick(&mut self, out: &mut Vec<u8>) -> Result<(), OutOfMemory>
         // Of all that happened to it: the tick happened too.
-        ensures stands { OnOk result ((es : List (Event Lookups))
-            → LinkStands self.old es → LinkStands self.new (Ticked ∷ es)) }
+        ensures stands { OnOk result (Happens LinkStands self.old self.new Ticked) }
         // Of all that happened to it: what is then sent at a tick was appended.
-        ensures says { OnOk result
-            ((es : List (Event Lookups)) → LinkStands self.old es → out.new.items
-            ≡ out.old.items ++ sent_at_tick (link_sends self.old.setup) self.old.setup es) }
+        ensures says { OnOk result (OfEvents LinkStands self.old
+            (λ es. out.new.items ≡ out.old.items
+            ++ sent_at_tick (link_sends self.old.setup) self.old.setup es)) }
         ensures setup { self.new.setup ≡ self.old.setup }
         ensures err_closed { OnErr result
             (self.new.closed ≡ Some (closed_at Memory self.old.inbox.fed)) }

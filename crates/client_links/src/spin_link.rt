@@ -3,6 +3,7 @@ ghost use Rattle.std.specs.Prelude.{IfOk, IfSome};
 ghost use Rattle.pitch_messages.specs.declared.session.SessionMessage.TheVariants.{SpinRequest};
 ghost use Rattle.session_ends.specs.declared.role.Role.TheVariants.{SpinLink as LinkRole};
 ghost use Rattle.session_ends.specs.Events.{Event, Asked};
+ghost use Rattle.session_ends.specs.Happening.{Happens, OfEvents};
 ghost use Rattle.client_links.specs.Linking.{Lookups, link_setup, login_bytes};
 ghost use Rattle.client_links.specs.Linking.{link_sends, LinkStands};
 
@@ -55,12 +56,12 @@ impl Link<SpinPeer> {
     /// Standard: "Spin Request Message".
     pub fn ask(&mut self, sequence: u32, out: &mut Vec<u8>) -> Result<(), OutOfMemory>
         // Of all that happened to it: it was asked too.
-        ensures stands { OnOk result ((es : List (Event Lookups))
-            → LinkStands self.old es → LinkStands self.new (Asked (SpinRequest sequence) ∷ es)) }
+        ensures stands { OnOk result
+            (Happens LinkStands self.old self.new (Asked (SpinRequest sequence))) }
         // Of all that happened to it: the request was appended, while it was open.
-        ensures says { OnOk result
-            ((es : List (Event Lookups)) → LinkStands self.old es → out.new.items
-            ≡ out.old.items ++ link_sends self.old.setup (Asked (SpinRequest sequence)) es) }
+        ensures says { OnOk result (OfEvents LinkStands self.old
+            (λ es. out.new.items ≡ out.old.items
+            ++ link_sends self.old.setup (Asked (SpinRequest sequence)) es)) }
         ensures setup { self.new.setup ≡ self.old.setup }
         ensures err { OnErr result ((self.new ≡ self.old) × (out.new.items ≡ out.old.items)) }
         ensures shut { IfSome self.old.closed

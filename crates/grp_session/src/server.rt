@@ -10,6 +10,7 @@ ghost use Rattle.session_ends.specs.declared.role.Role.TheVariants.{GrpServer as
 ghost use Rattle.session_ends.specs.Answering.{Hears, HearsAll};
 ghost use Rattle.session_ends.specs.Closing.{cause_of, closed_of, first_cause, logs_in};
 ghost use Rattle.session_ends.specs.Events.{Event, Ticked};
+ghost use Rattle.session_ends.specs.Happening.{Happens, OfEvents};
 ghost use Rattle.session_ends.specs.Hearing.{reader_items, IsThrough};
 ghost use Rattle.session_ends.specs.Items.{closed_at};
 ghost use Rattle.session_ends.specs.Sending.{sent_bytes, sent_at_tick};
@@ -117,8 +118,7 @@ impl GrpServer {
     pub fn closed(&self) -> Option<Closed>
         ensures kept { result ≡ self.now.closed }
         // Of all that happened to it: the first cause that closes it.
-        ensures cause { (es : List (Event Source))
-            → ProxyStands self.now es → result ≡ closed_of self.now.setup es }
+        ensures cause { OfEvents ProxyStands self.now (λ es. result ≡ closed_of self.now.setup es) }
     {
         self.end.closed()
     }
@@ -484,12 +484,11 @@ impl GrpServer {
     /// Standard: "Heartbeat Messages". The number of ticks is this project's own.
     pub fn tick(&mut self, reply: &mut Vec<u8>) -> Result<(), OutOfMemory>
         // Of all that happened to it: the tick happened too.
-        ensures stands { OnOk result ((es : List (Event Source))
-            → ProxyStands self.old es → ProxyStands self.new (Ticked ∷ es)) }
+        ensures stands { OnOk result (Happens ProxyStands self.old self.new Ticked) }
         // Of all that happened to it: what is then sent at a tick was appended.
-        ensures says { OnOk result
-            ((es : List (Event Source)) → ProxyStands self.old es → reply.new.items
-            ≡ reply.old.items ++ sent_at_tick (grp_sends self.old.setup) self.old.setup es) }
+        ensures says { OnOk result (OfEvents ProxyStands self.old
+            (λ es. reply.new.items ≡ reply.old.items
+            ++ sent_at_tick (grp_sends self.old.setup) self.old.setup es)) }
         ensures setup { self.new.setup ≡ self.old.setup }
         ensures err_closed { OnErr result
             (self.new.closed ≡ Some (closed_at Memory self.old.inbox.fed)) }

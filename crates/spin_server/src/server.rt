@@ -9,6 +9,7 @@ ghost use Rattle.session_ends.specs.Answering.{Hears, HearsAll};
 ghost use Rattle.session_ends.specs.Closing.{cause_of, closed_of, first_cause, logs_in};
 ghost use Rattle.session_ends.specs.Closing.{login_status};
 ghost use Rattle.session_ends.specs.Events.{Event, Ticked, Pumped, Told};
+ghost use Rattle.session_ends.specs.Happening.{Happens, OfEvents};
 ghost use Rattle.session_ends.specs.Hearing.{reader_items, IsThrough};
 ghost use Rattle.session_ends.specs.Items.{closed_at};
 ghost use Rattle.session_ends.specs.Sending.{sent_bytes, sent_at_tick};
@@ -97,8 +98,8 @@ impl SpinServer {
     pub fn closed(&self) -> Option<Closed>
         ensures kept { result ≡ self.now.end.closed }
         // Of everything that happened to it: the first cause that closes it.
-        ensures cause { (es : List (Event (List Served)))
-            → SpinStands self.now es → result ≡ closed_of self.now.end.setup es }
+        ensures cause { OfEvents SpinStands self.now
+            (λ es. result ≡ closed_of self.now.end.setup es) }
     {
         self.end.closed()
     }
@@ -429,14 +430,13 @@ impl SpinServer {
     /// is as before after OutOfMemory.
     pub fn pump(&mut self, reply: &mut Vec<u8>) -> Result<bool, OutOfMemory>
         // Of everything that happened before: it was asked for the next block too.
-        ensures stands { OnOk result ((es : List (Event (List Served)))
-            → SpinStands self.old es → SpinStands self.new (Pumped ∷ es)) }
+        ensures stands { OnOk result (Happens SpinStands self.old self.new Pumped) }
         // Of everything that happened before: what is sent then was appended.
-        ensures says { OnOk result ((es : List (Event (List Served))) → SpinStands self.old es
-            → reply.new.items ≡ reply.old.items ++ spin_sends self.old.end.setup Pumped es) }
+        ensures says { OnOk result (OfEvents SpinStands self.old
+            (λ es. reply.new.items ≡ reply.old.items ++ spin_sends self.old.end.setup Pumped es)) }
         // Of everything that happened before: true exactly where a spin runs after the call.
-        ensures more { IfOk result (λ more. (es : List (Event (List Served)))
-            → SpinStands self.old es → more ≡ runs self.old.end.setup (Pumped ∷ es)) }
+        ensures more { IfOk result (λ more. OfEvents SpinStands self.old
+            (λ es. more ≡ runs self.old.end.setup (Pumped ∷ es))) }
         // A spin that still runs has fewer blocks left, so calls in a row end it.
         ensures fewer { IfOk result
             (λ more. more ≡ true → blocks_left self.new.spin < blocks_left self.old.spin) }
@@ -467,12 +467,11 @@ impl SpinServer {
     /// OutOfMemory.
     pub fn tell(&mut self, sequence: u32, reply: &mut Vec<u8>) -> Result<(), OutOfMemory>
         // Of everything that happened before: it was told of the sequence too.
-        ensures stands { OnOk result ((es : List (Event (List Served)))
-            → SpinStands self.old es → SpinStands self.new (Told sequence ∷ es)) }
+        ensures stands { OnOk result (Happens SpinStands self.old self.new (Told sequence)) }
         // Of everything that happened before: what is sent then was appended.
-        ensures says { OnOk result
-            ((es : List (Event (List Served))) → SpinStands self.old es → reply.new.items
-            ≡ reply.old.items ++ spin_sends self.old.end.setup (Told sequence) es) }
+        ensures says { OnOk result (OfEvents SpinStands self.old
+            (λ es. reply.new.items ≡ reply.old.items
+            ++ spin_sends self.old.end.setup (Told sequence) es)) }
         ensures setup { self.new.end.setup ≡ self.old.end.setup }
         ensures err { OnErr result ((self.new ≡ self.old) × (reply.new.items ≡ reply.old.items)) }
         ensures shut { IfSome self.old.end.closed
@@ -500,12 +499,11 @@ impl SpinServer {
     /// before.
     pub fn tick(&mut self, reply: &mut Vec<u8>) -> Result<(), OutOfMemory>
         // Of everything that happened before: the tick happened too.
-        ensures stands { OnOk result ((es : List (Event (List Served)))
-            → SpinStands self.old es → SpinStands self.new (Ticked ∷ es)) }
+        ensures stands { OnOk result (Happens SpinStands self.old self.new Ticked) }
         // Of everything that happened before: what a tick then sends was appended.
-        ensures says { OnOk result ((es : List (Event (List Served)))
-            → SpinStands self.old es → reply.new.items ≡ reply.old.items
-            ++ sent_at_tick (spin_sends self.old.end.setup) self.old.end.setup es) }
+        ensures says { OnOk result (OfEvents SpinStands self.old
+            (λ es. reply.new.items ≡ reply.old.items
+            ++ sent_at_tick (spin_sends self.old.end.setup) self.old.end.setup es)) }
         ensures setup { self.new.end.setup ≡ self.old.end.setup }
         ensures err_closed { OnErr result
             (self.new.end.closed ≡ Some (closed_at Memory self.old.end.inbox.fed)) }
