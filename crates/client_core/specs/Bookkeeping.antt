@@ -108,8 +108,8 @@ pub record NotesApplied (n n' : ℕ) (book book' : Standing) (log log' : Applied
 -- ---- Answers
 -- a message was taken in where what came so far was P: the hold then stands at the reach and holds
 -- what is held, and the answer says whether the message was fresh and whether the hold overflowed
-pub record TakesIn (P : SinceOverflow) (h : HoldView) (sequence : ℕ) (h' : HoldView) (taken : Taken) :
-    Type 0 where
+pub record TakesIn (P : SinceOverflow) (h : HoldView)
+    (sequence : ℕ) (h' : HoldView) (taken : Taken) : Type 0 where
   pub settled_then : Settled
       (settled h.limit (grown P [] (sequence ∷ [])) (sequence ∷ [])) h'.floor (holds h')
   pub overflow_is : taken.overflow ≡ overflows h.limit (grown P [] (sequence ∷ [])) (sequence ∷ [])

@@ -89,14 +89,16 @@ abbrev pub grown_at : SinceOverflow → List Entry → Entry → SinceOverflow
 grown_at P E entry =
     grown P (sequences (images_at entry (spin_of E))) (sequences (messages_at entry))
 
--- the part after a history, where the hold has H places
+-- what was heard since the last overflow of a history, where the hold has H places
 abbrev pub since_overflow : ℕ → List Entry → SinceOverflow
 since_overflow H [] = record { base = 0; images = []; seen = [] }
-since_overflow H (entry ∷ E) = settled H (grown_at (since_overflow H E) E entry) (sequences (messages_at entry))
+since_overflow H (entry ∷ E) =
+    settled H (grown_at (since_overflow H E) E entry) (sequences (messages_at entry))
 
 -- an entry with which the hold overflows
 abbrev pub is_overflow : ℕ → List Entry → Entry → Bool
-is_overflow H E entry = overflows H (grown_at (since_overflow H E) E entry) (sequences (messages_at entry))
+is_overflow H E entry =
+    overflows H (grown_at (since_overflow H E) E entry) (sequences (messages_at entry))
 
 -- the reach after a history
 abbrev pub reach : ℕ → List Entry → ℕ

@@ -1,7 +1,8 @@
 -- What one entry does to the reach and to what is held.
 use Rattle.std.specs.Prelude.{◌≡◌, ℕ, ◌+◌, ◌<◌, ◌≤◌, Bool, true, false, ◌&&◌, nat_lt, List, ◌∷◌}
 use Rattle.pitch_model.specs.History.{Entry}
-use Rattle.pitch_model.specs.Reach.{SinceOverflow, reach_of, is_seen, since_overflow, reach, is_held, is_overflow}
+use Rattle.pitch_model.specs.Reach.{SinceOverflow, reach_of, is_seen, since_overflow, reach}
+use Rattle.pitch_model.specs.Reach.{is_held, is_overflow}
 
 -- the reach and what is held are after E' what they were after E
 pub record SameReach (H : ℕ) (E E' : List Entry) : Type 0 where

@@ -87,7 +87,8 @@ pub fn later_messages_are_held()
         → Leaves H E (Message k raw) false (reach H E) (λ j. j == k || is_held H E j) }
     ensures overflow { (H : ℕ) (E : List Entry) (k : ℕ) (raw : Raw)
         → reach H E + 1 < k → is_held H E k ≡ false
-        → held_count (since_overflow H E) ≡ H → Leaves H E (Message k raw) true (reach H E) (λ j. j == k) }
+        → held_count (since_overflow H E) ≡ H
+        → Leaves H E (Message k raw) true (reach H E) (λ j. j == k) }
 {}
 
 /// A finished image above the reach takes its place, with the held messages that follow it; another

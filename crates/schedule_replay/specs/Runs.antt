@@ -119,8 +119,8 @@ pub record IsRunAt (parts : List StretchPart) (unit : ℕ) (world : World) (piec
   pub done : IsPlace (reverse (part_entries unit parts)) unit (Some world)
   pub texts : pieces ≡ part_texts unit [] parts
 
-pub record AreRunsAt (parts : List StretchPart) (places : List (Option World)) (lefts : List Unmerged) :
-    Type 0 where
+pub record AreRunsAt (parts : List StretchPart)
+    (places : List (Option World)) (lefts : List Unmerged) : Type 0 where
   pub many : length places ≡ 65
   pub texts : length lefts ≡ 65
   pub each : (unit : ℕ) (world : World)
