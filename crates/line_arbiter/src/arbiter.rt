@@ -2,7 +2,6 @@ ghost use Rattle.std.specs.Prelude.{◌≡◌, ◌+◌, ◌<◌, ◌≤◌, ◌^
 ghost use Rattle.std.specs.Prelude.{OnOk, OnErr, IfOk, IfErr, IfNone, Err, Some, None, slice_get};
 ghost use Rattle.std.specs.Prelude.{nat_lt, ◌==◌, ◌&&◌, if◌then◌else◌};
 ghost use Rattle.unit_packets.specs.Cutting.{blocks_of, rest_of};
-ghost use Rattle.unit_packets.specs.Judging.{judge};
 ghost use Rattle.line_arbiter.specs.Delivered.{Delivers, datagram_fault};
 ghost use Rattle.line_arbiter.specs.Noted.{Note, HasNoted, line_place, line_count};
 
@@ -12,7 +11,7 @@ use client_core::item_of_block;
 use pitch_fields::OutOfMemory;
 use pitch_io::Line;
 use std::alloc::Global;
-use unit_packets::{BlockError, BlockView, view_block};
+use unit_packets::{BlockView, Blocks, read_block};
 
 /// The number of places: one for each of 256 units, on each of three lines.
 const PLACES: usize = 768;
@@ -98,7 +97,7 @@ impl Arbiter {
     {
         let before = out.len();
         match hear_blocks(alloc, datagram, out) {
-            Ok((at, error)) => Ok(fault_at(datagram.len(), at, error)),
+            Ok(rest) => Ok(fault_of(datagram, rest)),
             Err(error) => {
                 out.truncate(before);
                 Err(error)
@@ -107,19 +106,22 @@ impl Arbiter {
     }
 }
 
-// The fault of what follows the blocks; none where nothing follows.
-fn fault_at(length: usize, at: usize, error: BlockError) -> Option<DatagramFault>
-    requires { (at ≤ length) × (length < 2 ^ 32) }
-    ensures { result ≡ (if at == length && nat_lt 0 length
-        then None else Some (record { place = at; error = error })) }
+// The fault of the bytes that follow a datagram's blocks.
+fn fault_of(datagram: &[u8], rest: &[u8]) -> Option<DatagramFault>
+    requires follows { rest.now ≡ rest_of datagram.now }
+    requires small { length datagram.now < 2 ^ 32 }
+    ensures { result ≡ datagram_fault datagram.now }
 {
-    if at == length && length > 0 {
+    if rest.is_empty() && !datagram.is_empty() {
         return None;
     }
-    Some(DatagramFault {
-        place: at as u32,
-        error,
-    })
+    match read_block(rest) {
+        Ok(_) => None,
+        Err(error) => Some(DatagramFault {
+            place: (datagram.len() - rest.len()) as u32,
+            error,
+        }),
+    }
 }
 
 // Appends the item of a block.
@@ -135,27 +137,20 @@ fn push_heard(alloc: Global, view: &BlockView<'_>, out: &mut HeardList) -> Resul
     })
 }
 
-// Appends the items of the blocks at the start of the bytes. Answers how many bytes these blocks
-// have, and why no block follows them. After OutOfMemory some may have been appended.
-fn hear_blocks(
+// Appends the items of the blocks at the start of the bytes. Answers the bytes that follow them.
+// After OutOfMemory some may have been appended.
+fn hear_blocks<'a>(
     alloc: Global,
-    bytes: &[u8],
+    bytes: &'a [u8],
     out: &mut HeardList,
-) -> Result<(usize, BlockError), OutOfMemory>
+) -> Result<&'a [u8], OutOfMemory>
     ensures heard { OnOk result (Delivers (blocks_of bytes.now) out.old.items out.new.items) }
-    ensures stop { IfOk result (λ cut. (cut.0 ≤ length bytes.now)
-        × (rest_of bytes.now ≡ drop cut.0 bytes.now) × (judge (drop cut.0 bytes.now) ≡ Err cut.1)) }
+    ensures rest { IfOk result (λ rest. rest.now ≡ rest_of bytes.now) }
     ensures kept { take (length out.old.items) out.new.items ≡ out.old.items }
 {
-    let mut at = 0;
-    'next: while at <= bytes.len() {
-        match view_block(&bytes[at..]) {
-            Ok(view) => {
-                push_heard(alloc, &view, out)?;
-                at += usize::from(view.header().length);
-            }
-            Err(error) => return Ok((at, error)),
-        }
+    let mut blocks = Blocks::of_bytes(bytes);
+    'next: while let Some(block) = blocks.next_block() {
+        push_heard(alloc, &block, out)?;
     }
-    unreachable!()
+    Ok(blocks.rest())
 }

@@ -9,13 +9,14 @@ use Rattle.std.proofs.lemmas.Option.{slice_get_past, none-some}
 use Rattle.pitch_messages.specs.Raw.{raws_of}
 use Rattle.unit_packets.specs.Blocks.{Block, IsBlock}
 use Rattle.unit_packets.specs.BlockBytes.{block_bytes, heartbeat_block}
-use Rattle.unit_packets.specs.Cutting.{blocks_of, blocks_by, rest_of, rest_by}
+use Rattle.unit_packets.specs.Cutting.{blocks_of, rest_of}
 use Rattle.unit_packets.specs.Judging.{judge, header_of, block_at}
 use Rattle.unit_packets.specs.Packing.{IsPacking, sequence_after}
 use Rattle.unit_packets.specs.declared.header.Header.{Header}
 use Rattle.unit_packets.proofs.Cuts.{first_of}
 use Rattle.unit_packets.proofs.Judged.{front_stands, front_judged}
 use Rattle.unit_packets.proofs.Packs.{after_known}
+use Rattle.unit_packets.proofs.Streams.{of_nothing}
 use Rattle.unit_packets.proofs.Written.{written_is}
 use Rattle.pitch_model.specs.Datagrams.{heard_blocks, block_messages, messages_in, fresh_in, overflows_in, changes_in, IsVenueBlock, IsPiece}
 use Rattle.pitch_model.specs.Heard.{heard_block, heard_messages, heard_sequenced, block_change, block_fresh, block_overflows, fresh_messages, overflowed_messages}
@@ -26,11 +27,17 @@ use Rattle.pitch_model.proofs.Growing.{slice_more, venues_more}
 use Rattle.pitch_model.specs.Units.{unit_history}
 use Rattle.pitch_model.proofs.Hearing.{fresh_messages-le, overflowed_messages-le}
 use Rattle.pitch_model.proofs.Honesty.{venues_first, venues_rest}
+use Rattle.pitch_model.proofs.Units.{honest_block}
 
 -- ---- Blocks one after another
 pub heard_both : (E : List Entry) (xs ys : List Block) → heard_blocks (xs ++ ys) E ≡ heard_blocks ys (heard_blocks xs E)
 heard_both E [] ys = refl
 heard_both E (x ∷ xs) ys = heard_both (heard_block x E) xs ys
+
+-- what was heard before some blocks is honest where what was heard with them is
+pub honest_blocks : (Image : List Raw → ℕ → List Raw) (V : List Raw) (blocks : List Block) (E : List Entry) → Honest Image V (heard_blocks blocks E) → Honest Image V E
+honest_blocks Image V [] E h = h
+honest_blocks Image V (block ∷ blocks) E h = honest_block Image V block E (honest_blocks Image V blocks (heard_block block E) h)
 
 pub fresh_sum : (H : ℕ) (E : List Entry) (blocks : List Block) → fresh_in H E blocks ≡ sum_by (λ change. change.fresh) (changes_in H E blocks)
 fresh_sum H E [] = refl
@@ -115,14 +122,6 @@ venues_suffix V first prefix suffix are i raw at =
     subst (λ (k : ℕ). message_at V k ≡ Some raw) e (are (length prefix + i) raw (slice_later prefix suffix i ∙ at))
 
 -- ---- A datagram that is one block
-no_blocks : blocks_of [] ≡ []
-unfolding blocks_of blocks_by
-no_blocks = refl
-
-no_rest : rest_of [] ≡ []
-unfolding rest_of rest_by
-no_rest = refl
-
 abbrev made : ℕ → ℕ → List Raw → Block
 made u s rs = record { unit = u; sequence = s; raws = rs }
 
@@ -142,8 +141,8 @@ one_block datagram block is =
     ap (λ (v : ℕ). made v h.sequence (raws_of h.count (drop 8 (take h.length datagram)))) is.unit
     ∙ ap (λ (v : ℕ). made block.unit v (raws_of h.count (drop 8 (take h.length datagram)))) is.sequence
     ∙ ap (λ (v : List Raw). made block.unit block.sequence v) raws in (
-      first.blocks ∙ ap (λ (b : Block). b ∷ blocks_of (drop h.length datagram)) same ∙ ap (λ (r : List ℕ). block ∷ blocks_of r) behind ∙ ap (λ (bs : List Block). block ∷ bs) no_blocks,
-      first.rest ∙ ap rest_of behind ∙ no_rest,
+      first.blocks ∙ ap (λ (b : Block). b ∷ blocks_of (drop h.length datagram)) same ∙ ap (λ (r : List ℕ). block ∷ blocks_of r) behind ∙ ap (λ (bs : List Block). block ∷ bs) of_nothing.blocks,
+      first.rest ∙ ap rest_of behind ∙ of_nothing.rest,
     )
 
 block_piece : (V : List Raw) (unit : ℕ) (datagram : List ℕ) (block : Block) → IsBlock datagram block → IsVenueBlock V unit block → IsPiece V unit datagram

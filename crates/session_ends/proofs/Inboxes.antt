@@ -1,14 +1,13 @@
 -- What a stream says, and what a piece adds to it.
-use Rattle.std.proofs.Common.{◌≡◌, ℕ, zero, suc, ◌+◌, ◌≤◌, List, [], ◌∷◌, ◌++◌, length, drop, refl, sym, ap, ◌∙◌, arith, false, subst, length-append, append_assoc, inl, inr, Option, Some, None, Err}
+use Rattle.std.proofs.Common.{◌≡◌, ℕ, zero, suc, ◌+◌, ◌≤◌, List, [], ◌∷◌, ◌++◌, length, drop, refl, sym, ap, ◌∙◌, arith, false, subst, length-append, append_assoc, inl, inr, Option, Some, None}
 use Rattle.std.proofs.lemmas.List.{append-nil, length-drop}
 use Rattle.unit_packets.specs.Blocks.{Block}
 use Rattle.unit_packets.specs.Causes.{counted}
 use Rattle.unit_packets.specs.declared.header.Header.{Header}
 use Rattle.unit_packets.specs.declared.header.BlockFault.{BlockFault}
 use Rattle.unit_packets.specs.Judging.{judge}
-use Rattle.unit_packets.specs.Cutting.{blocks_of, blocks_by, rest_of, rest_by, place_of, fault_in, fault_from}
-use Rattle.unit_packets.specs.declared.header.BlockError.{BlockError}
-use Rattle.unit_packets.specs.Feeding.{Feeds, CutsTo, fed_answer, fed_fault, kept_fault}
+use Rattle.unit_packets.specs.Cutting.{blocks_of, blocks_by, rest_of, rest_by, place_of, fault_in}
+use Rattle.unit_packets.specs.Feeding.{Feeds, fed_answer, fed_fault, kept_fault}
 use Rattle.unit_packets.proofs.Stable.{judge_found}
 use Rattle.unit_packets.proofs.Cuts.{first_of, none_of, cases_Result, rest_short, appends}
 use Rattle.unit_packets.proofs.Feeds.{stands_unread, stands_fault, fed_on}
@@ -98,14 +97,14 @@ answer_one None (Some f) is = cc
 answer_one (Some f) None is = cc
 answer_one (Some f) (Some g) is = cc
 
-pub taken_in : (fed piece all : List ℕ) (old new : Inboxed) (passed : ℕ) (error : BlockError) (fault : Option BlockFault) (start : ℕ) (before mid after : List Heard)
-    → HasTaken old fed → fed_fault fed ≡ None → all ≡ old.reading.rest ++ piece → start ≡ old.reading.place → CutsTo all passed error [] (blocks_of all) → mid ≡ before ++ stream_items_from start (blocks_of all)
-    → new.reading.place ≡ counted (old.reading.place + passed) → new.reading.rest ≡ drop passed all → fault ≡ fault_from false new.reading.place (Err error)
+pub taken_in : (fed piece all : List ℕ) (old new : Inboxed) (passed : ℕ) (fault : Option BlockFault) (start : ℕ) (before mid after : List Heard)
+    → HasTaken old fed → fed_fault fed ≡ None → all ≡ old.reading.rest ++ piece → start ≡ old.reading.place → passed ≡ place_of all → mid ≡ before ++ stream_items_from start (blocks_of all)
+    → new.reading.place ≡ counted (old.reading.place + passed) → new.reading.rest ≡ drop passed all → fault ≡ fault_in false new.reading.place new.reading.rest
     → new.fed ≡ counted (old.fed + length piece) → after ≡ mid ++ trouble fault → TakesPiece fed piece new before after
-taken_in fed piece all old new passed error fault start before mid after old_is unspoiled are place cut heard on rest why count a =
+taken_in fed piece all old new passed fault start before mid after old_is unspoiled are place cut heard on rest why count a =
     let none : kept_fault old.reading ≡ None = stands_fault false old.reading fed old_is.reads ∙ unspoiled in
     let f : Feeds fed piece new.reading [] (blocks_of all) (fed_answer fault) =
-    fed_on fed piece all passed error old.reading new.reading [] (blocks_of all) (fed_answer fault) old_is.reads none are cut on rest (ap fed_answer why) in
+    fed_on fed piece all passed old.reading new.reading [] (blocks_of all) (fed_answer fault) old_is.reads none are cut refl on rest (ap fed_answer why) in
     let here : start ≡ counted (place_of fed) = place ∙ old_is.reads.place_is in
     let same : fault ≡ fed_fault (fed ++ piece) = answer_one fault (fed_fault (fed ++ piece)) f.fault in
     let given : blocks_of all ≡ f.added = f.given in

@@ -5,7 +5,7 @@ use Rattle.std.specs.List.{list_any}
 use Rattle.std.proofs.lemmas.List.{length-drop, drop-drop}
 use Rattle.unit_packets.specs.Blocks.{Block}
 use Rattle.unit_packets.specs.Causes.{counted}
-use Rattle.unit_packets.specs.Cutting.{blocks_of, rest_of, place_of, fault_from}
+use Rattle.unit_packets.specs.Cutting.{blocks_of, rest_of, place_of, fault_from, fault_in}
 use Rattle.unit_packets.specs.Feeding.{fed_fault}
 use Rattle.unit_packets.specs.Judging.{judge}
 use Rattle.unit_packets.specs.Lending.{StandsFirst}
@@ -13,7 +13,7 @@ use Rattle.unit_packets.specs.Reading.{Reading, loaded, passed}
 use Rattle.unit_packets.specs.declared.header.BlockError.{BlockError}
 use Rattle.unit_packets.specs.declared.header.BlockFault.{BlockFault}
 use Rattle.unit_packets.proofs.Cuts.{none_of, rest_short}
-use Rattle.unit_packets.proofs.Streams.{leads}
+use Rattle.unit_packets.proofs.Streams.{leads, fault_judged}
 use Rattle.session_ends.specs.declared.closed.CloseCause.TheVariants.{Sequenced}
 use Rattle.session_ends.specs.declared.inbox.Heard.{Heard}
 use Rattle.session_ends.specs.declared.inbox.Heard.TheVariants.{Broken}
@@ -113,14 +113,15 @@ reader_through fed piece old new count taken none t is =
     let all : List ℕ = old.reading.rest ++ piece in
     let start : ℕ = old.reading.place in
     let says : List Heard = stream_items_from start (blocks_of all) in
-    let fault : Option BlockFault = fault_from false (counted (start + count)) (Err t.error) in
+    let fault : Option BlockFault = fault_in false (counted (start + count)) (drop count all) in
     let at : place_of all ≡ count = omega (arith, t.within, ap length t.rest, length-drop count all) in
     let after : says ++ trouble (fault_from false (counted (start + place_of all)) (judge (rest_of all))) ≡ says ++ trouble fault =
     ap (λ (n : ℕ). says ++ trouble (fault_from false (counted (start + n)) (judge (rest_of all)))) at
-    ∙ ap (λ r. says ++ trouble (fault_from false (counted (start + count)) r)) (ap judge t.rest ∙ t.stop) in
+    ∙ ap (λ (r : List ℕ). says ++ trouble (fault_from false (counted (start + count)) (judge r))) t.rest
+    ∙ ap (λ (f : Option BlockFault). says ++ trouble f) (sym (fault_judged (counted (start + count)) (drop count all))) in
     subst (λ (i : Inboxed). TakesPiece fed piece i [] (reader_items (loaded old.reading piece))) (sym is)
-    (taken_in fed piece all old (record { reading = passed (loaded old.reading piece) count; fed = counted (old.fed + length piece) }) count t.error fault start [] says (says ++ trouble (fault_from false (counted (start + place_of all)) (judge (rest_of all))))
-    taken none refl refl (record { within = t.within; rest = t.rest; blocks = refl; stop = t.stop }) refl refl refl refl refl after)
+    (taken_in fed piece all old (record { reading = passed (loaded old.reading piece) count; fed = counted (old.fed + length piece) }) count fault start [] says (says ++ trouble (fault_from false (counted (start + place_of all)) (judge (rest_of all))))
+    taken none refl refl (sym at) refl refl refl refl refl after)
 
 -- an end took a piece in, heard all that its reader says, took the reader back, and noted what it
 -- said

@@ -12,20 +12,20 @@ use Rattle.unit_packets.specs.declared.header.BlockFault.{BlockFault}
 use Rattle.unit_packets.specs.declared.block.FeedError.{FeedError}
 use Rattle.unit_packets.specs.declared.block.FeedError.TheVariants.{Fault, OutOfMemory}
 use Rattle.unit_packets.proofs.Cuts.{appends, rest_short, rest_stands}
-use Rattle.unit_packets.specs.Cutting.{rest_by, blocks_by}
+use Rattle.unit_packets.specs.Cutting.{rest_by}
 use Rattle.unit_packets.proofs.Stable.{IsFinal, judge_more}
-use Rattle.unit_packets.proofs.Streams.{lasting_of, lasting_more, fault_stays}
+use Rattle.unit_packets.proofs.Walking.{Walked, walked_none, walked_more, walked_all}
+use Rattle.unit_packets.proofs.Streams.{of_nothing, lasting_of, lasting_more, fault_stays}
 
 -- ---- Cutting a piece
 -- the blocks before `left` were appended
 pub record Cutting (bytes left : List ℕ) (before so_far : List Block) : Type 0 where
-  pub rest : rest_of left ≡ rest_of bytes
   pub added : List Block
   pub are : so_far ≡ before ++ added
-  pub blocks : added ++ blocks_of left ≡ blocks_of bytes
+  pub walked : Walked bytes left added
 
 pub cutting_none : (bytes left : List ℕ) (before : List Block) → left ≡ bytes → Cutting bytes left before before
-cutting_none bytes left before is = record { rest = ap rest_of is; added = []; are = sym (append-nil before); blocks = ap blocks_of is }
+cutting_none bytes left before is = record { added = []; are = sym (append-nil before); walked = walked_none bytes left is }
 
 pub cutting_kept : (bytes left : List ℕ) (n : ℕ) (before so_far : List Block) → Cutting bytes left before so_far → n ≡ length before → take n so_far ≡ before
 cutting_kept bytes left n before so_far c is = ap (λ (k : ℕ). take k so_far) is ∙ ap (take (length before)) c.are ∙ take_at before c.added (length before) refl
@@ -33,14 +33,13 @@ cutting_kept bytes left n before so_far c is = ap (λ (k : ℕ). take k so_far) 
 pub cutting_more : (bytes left less : List ℕ) (before so_far longer : List Block) (block : Block) → Cutting bytes left before so_far → blocks_of left ≡ block ∷ blocks_of less → rest_of less ≡ rest_of left → longer ≡ so_far ++ block ∷ []
     → Cutting bytes less before longer
 cutting_more bytes left less before so_far longer block c first rest more = record {
-  rest = rest ∙ c.rest;
   added = c.added ++ block ∷ [];
   are = more ∙ ap (λ (bs : List Block). bs ++ block ∷ []) c.are ∙ append_assoc before c.added (block ∷ []);
-  blocks = append_assoc c.added (block ∷ []) (blocks_of less) ∙ ap (λ (bs : List Block). c.added ++ bs) (sym first) ∙ c.blocks;
+  walked = walked_more bytes left less c.added block c.walked first rest;
 }
 
 pub cutting_end : (bytes left : List ℕ) (before so_far : List Block) → Cutting bytes left before so_far → blocks_of left ≡ [] → so_far ≡ before ++ blocks_of bytes
-cutting_end bytes left before so_far c none = c.are ∙ ap (λ (bs : List Block). before ++ bs) (sym (append-nil c.added) ∙ ap (λ (bs : List Block). c.added ++ bs) (sym none) ∙ c.blocks)
+cutting_end bytes left before so_far c none = c.are ∙ ap (λ (bs : List Block). before ++ bs) (walked_all bytes left c.added c.walked none)
 
 -- ---- Standing for bytes
 counted_on : (a b : ℕ) → counted (counted a + b) ≡ counted (a + b)
@@ -120,10 +119,6 @@ pub stands_unread : StandsFor unread []
 unfolding rest_of rest_by
 stands_unread = record { place_is = refl; dropped = []; rest_is = refl; keeps = inl refl }
 
-blocks_none : blocks_of [] ≡ []
-unfolding blocks_of blocks_by
-blocks_none = refl
-
 -- whatever a reader stands for and puts out, where one piece more is fed
 pub record FedOn {Reader Item : Type 0} (Stands : Reader → List ℕ → Type 0) (cut : List ℕ → List Item)
     (fed piece : List ℕ) (new : Reader) (before after : List Item) : Type 0 where
@@ -157,7 +152,7 @@ blocks_fed pieces = all_fed StandsFor blocks_of _
 pub pieces_are_cut : PiecesAreCut
 pieces_are_cut pieces reading blocks all =
     let a = blocks_fed pieces unread reading [] blocks stands_unread all in
-    (a.puts (sym blocks_none), stands_fault false reading (concat pieces) a.stands, a.stands)
+    (a.puts (sym of_nothing.blocks), stands_fault false reading (concat pieces) a.stands, a.stands)
 
 pub pieces_do_not_matter : PiecesDoNotMatter
 pieces_do_not_matter pieces others reading left blocks some same one other =

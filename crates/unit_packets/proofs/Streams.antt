@@ -11,7 +11,7 @@ use Rattle.unit_packets.specs.declared.header.BlockError.{BlockError}
 use Rattle.unit_packets.specs.declared.header.BlockError.TheVariants.{Truncated}
 use Rattle.unit_packets.specs.declared.header.BlockFault.{BlockFault}
 use Rattle.unit_packets.proofs.Stable.{judge_found, judge_more, IsFinal}
-use Rattle.unit_packets.proofs.Cuts.{first_of, none_of, appends, rest_short}
+use Rattle.unit_packets.proofs.Cuts.{None_at, first_of, none_of, appends, rest_short}
 
 -- ---- A block more
 -- a block that stands at the start is the first, and the others follow it
@@ -52,6 +52,10 @@ goes_on old rest left block h n same stands is size cut =
 pub judge_nothing : judge [] ≡ Err (Truncated 0 8)
 unfolding judge
 judge_nothing = refl
+
+-- so it has no blocks
+pub of_nothing : None_at []
+of_nothing = none_of [] (Truncated 0 8) judge_nothing
 
 -- what stands where no block does
 abbrev faulty : ℕ → BlockError → Option BlockFault

@@ -41,7 +41,7 @@ impl<'a> Blocks<'a> {
     }
 
     /// The next block, or None where none follows: then the rest begins with none.
-    #[inline]
+    #[inline(always)]
     pub fn next_block(&mut self) -> Option<BlockView<'a>>
         ensures blocks { YieldsFirst blocks_of self.old result self.new }
         ensures stands { IfSome result (λ block. StandsFirst self.old block
@@ -67,7 +67,7 @@ impl<'a> Iterator for Blocks<'a> {
 
     ghost remaining = { item_count blocks_of };
 
-    #[inline]
+    #[inline(always)]
     fn next(&mut self) -> Option<BlockView<'a>> {
         self.next_block()
     }

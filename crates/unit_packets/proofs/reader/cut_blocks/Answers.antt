@@ -9,5 +9,5 @@ next-preserved c = cutting_more _ _ _ _ _ _ c.in-Some.view c.next.invariant c.in
 
 pub overflow_sub-result : goal.overflow_sub-result
 overflow_sub-result c =
-    let rest : c.rest.result.now ≡ rest_of c.args.bytes.now = c.rest.ensures ∙ c.in_default.ensures.rest ∙ c.next.invariant.rest in
+    let rest : c.rest.result.now ≡ rest_of c.args.bytes.now = c.rest.ensures ∙ c.in_default.ensures.rest ∙ c.next.invariant.walked.rest in
     omega (arith, ap length rest, rest_short c.args.bytes.now)
