@@ -1,5 +1,5 @@
 -- Counts of lines and units, each in its place.
-use Rattle.std.proofs.Common.{◌≡◌, ◌≢◌, ℕ, ◌+◌, ◌<◌, ◌-◌, Bool, true, false, ◌&&◌, cond, eqb, true≢false, List, [], ◌∷◌, length, refl, sym, ap, ◌∙◌, arith, Some, slice_get, Option, inl, inr}
+use Rattle.std.proofs.Common.{◌≡◌, ◌≢◌, ℕ, ◌+◌, ◌<◌, Bool, true, false, ◌&&◌, cond, eqb, true≢false, List, [], ◌∷◌, length, refl, sym, ap, ◌∙◌, arith, Some, slice_get, Option, inl, inr}
 use Rattle.std.proofs.Math.ListN.{set, replicate, get_or, length-set, length-replicate}
 use Rattle.std.proofs.lemmas.Bool.{cases_Bool, eqb-true, eq-eqb}
 use Rattle.std.proofs.lemmas.List.{get_or-replicate, get_or-set_same, get_or-set_other}

@@ -1,6 +1,6 @@
 -- Worked examples of silence and of what closes an end, computed by the definitions. Events stand
 -- newest first.
-use Rattle.std.proofs.Common.{◌≡◌, ℕ, Bool, true, false, List, [], ◌∷◌, ◌++◌, refl, Option, Some, None}
+use Rattle.std.proofs.Common.{◌≡◌, ℕ, Bool, true, false, List, [], ◌∷◌, refl, Option, Some, None}
 use Rattle.std.specs.Prelude.{codes, filter}
 use Rattle.pitch_messages.specs.Raw.{raws_of}
 use Rattle.pitch_messages.specs.Session.{session_reads}
@@ -14,9 +14,9 @@ use Rattle.session_ends.specs.declared.closed.CloseCause.TheVariants as cause
 use Rattle.session_ends.specs.declared.role.Role.{Role}
 use Rattle.session_ends.specs.declared.role.Role.TheVariants.{GrpServer, SpinServer, GapLink, SpinLink}
 use Rattle.session_ends.specs.Closing.{Setup, closed_of, login_status}
-use Rattle.session_ends.specs.Events.{Event, Fed, Ticked, Asked, silence}
+use Rattle.session_ends.specs.Events.{Event, Fed, Ticked, silence}
 use Rattle.session_ends.specs.Items.{closed_at, stream_items}
-use Rattle.session_ends.specs.Sending.{header_unit, sent_since, sent_at_tick}
+use Rattle.session_ends.specs.Sending.{header_unit, sent_at_tick}
 use Rattle.session_ends.specs.Saying.{is_read}
 
 abbrev end : Role → Setup

@@ -1,5 +1,5 @@
 -- Worked examples of the definitions, computed.
-use Rattle.std.proofs.Common.{◌≡◌, ℕ, Bool, true, false, not, nat_le, List, [], ◌∷◌, codes, Option, None, Some, refl, ap, ◌∙◌}
+use Rattle.std.proofs.Common.{◌≡◌, ℕ, Bool, true, false, not, nat_le, [], ◌∷◌, codes, Option, None, Some, refl, ap, ◌∙◌}
 use Rattle.std.specs.Fmt.{digits}
 use Rattle.std.specs.FinMap as map
 use Rattle.pitch_fields.specs.declared.side.Side.TheVariants.{Buy, Sell}
@@ -9,12 +9,11 @@ use Rattle.pitch_messages.specs.Writing.{written}
 use Rattle.pitch_model.specs.Book.{Book}
 use Rattle.pitch_text.specs.declared.command.Command.{Command}
 use Rattle.pitch_text.specs.declared.command.Command.TheVariants.{Time, Add, Exec, Reduce, Modify, Delete, Trade, Status}
-use Rattle.venue_core.specs.declared.error.VenueError.{VenueError}
 use Rattle.venue_core.specs.declared.error.VenueError.TheVariants.{Ended, ZeroQuantity, BadSymbol, KnownId, UnknownId, TooMuch, BookFull, SequencesSpent}
 use Rattle.venue_core.specs.Causes.{refusal_text}
 use Rattle.venue_core.specs.Commands.{raw_of}
 use Rattle.venue_core.specs.Losses.{mix, state_after, is_lost}
-use Rattle.venue_core.specs.Plan.{plan_quantity, plan_price, plan_order, plan_command}
+use Rattle.venue_core.specs.Plan.{plan_quantity, plan_price, plan_command}
 use Rattle.venue_core.specs.Refusals.{is_ended, are_spent, has_order, refused_if, first_refusal, excess, shares_of, refusal_at}
 
 -- ---- Losses
