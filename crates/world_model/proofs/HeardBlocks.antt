@@ -1,18 +1,13 @@
 -- What a client hears, one block after another.
-use Rattle.std.proofs.Common.{◌≡◌, ℕ, ◌+◌, ◌≤◌, Bool, true, false, ◌||◌, List, [], ◌∷◌, ◌++◌, length, drop, nat_lt, refl, sym, ap, ◌∙◌, subst, arith, append_assoc, Err, Some, take}
-use Rattle.std.proofs.lemmas.List.{append-nil, length-drop, drop-drop, drop_all, take_more}
+use Rattle.std.proofs.Common.{◌≡◌, ℕ, ◌+◌, Bool, true, false, ◌||◌, List, [], ◌∷◌, ◌++◌, nat_lt, refl, sym, ap, ◌∙◌, subst, arith, append_assoc, Some, take}
+use Rattle.std.proofs.lemmas.List.{append-nil, take_more}
 use Rattle.std.proofs.lemmas.Bool.Decides.{nat_tests}
 use Rattle.std.proofs.lemmas.Option.{get_or_from_slice_get, slice_get_within}
 use Rattle.std.specs.List.{flat_map, slice_get}
 use Rattle.pitch_messages.specs.Room.{Roomy}
 use Rattle.unit_packets.specs.Packing.{bytes_in}
 use Rattle.unit_packets.specs.Blocks.{Block}
-use Rattle.unit_packets.specs.Cutting.{blocks_of, blocks_by}
-use Rattle.unit_packets.specs.Judging.{judge}
-use Rattle.unit_packets.specs.Lending.{header_for, StandsFirst}
-use Rattle.unit_packets.specs.declared.header.BlockError.{BlockError}
-use Rattle.unit_packets.proofs.Cuts.{none_of}
-use Rattle.unit_packets.proofs.Streams.{leads}
+use Rattle.unit_packets.specs.Cutting.{blocks_of}
 use Rattle.pitch_io.specs.declared.line.Line.{Line}
 use Rattle.pitch_model.specs.Heard.{heard_block, block_change, block_overflows}
 use Rattle.pitch_model.specs.Datagrams.{heard_blocks, overflows_in, block_messages}
@@ -20,7 +15,7 @@ use Rattle.pitch_model.specs.declared.change.Change.{Change}
 use Rattle.pitch_model.specs.History.{Entry, Raw}
 use Rattle.pitch_model.specs.Honest.{Honest}
 use Rattle.pitch_model.specs.Image.{image}
-use Rattle.pitch_model.proofs.Units.{honest_block}
+use Rattle.pitch_model.proofs.Datagrams.{heard_both, honest_blocks}
 use Rattle.client_core.specs.Blocks.{Carries}
 use Rattle.client_core.specs.Tracks.{Tracks, Keeps}
 use Rattle.client_core.specs.declared.client.UnitClient.{UnitClient}
@@ -29,15 +24,7 @@ use Rattle.line_arbiter.specs.declared.arbiter.Arbiter.{Arbiter}
 use Rattle.world_model.specs.Verbs.{noted_blocks, note_of}
 use Rattle.world_model.specs.Hearing.{overflow_in, HearsBlocks}
 
-no_blocks : blocks_of [] ≡ []
-unfolding blocks_of blocks_by
-no_blocks = refl
-
 -- ---- One after another
-heard_append : (xs ys : List Block) (E : List Entry) → heard_blocks (xs ++ ys) E ≡ heard_blocks ys (heard_blocks xs E)
-heard_append [] ys E = refl
-heard_append (x ∷ xs) ys E = heard_append xs ys (heard_block x E)
-
 noted_append : (unit H : ℕ) (line : Line) (xs ys : List Block) (E : List Entry) (notes : List Note)
     → noted_blocks unit H line (xs ++ ys) E notes ≡ noted_blocks unit H line ys (heard_blocks xs E) (noted_blocks unit H line xs E notes)
 noted_append unit H line [] ys E notes = refl
@@ -63,20 +50,16 @@ overflow_append H (x ∷ xs) ys E =
     ∙ or_assoc (nat_lt 0 (block_overflows H E x)) (overflow_in H xs (heard_block x E)) (overflow_in H ys (heard_blocks xs (heard_block x E)))
     ∙ ap (λ (b : Bool). b || overflow_in H ys (heard_blocks xs (heard_block x E))) (sym (overflow_step H x xs E))
 
-honest_blocks : (V : List Raw) (blocks : List Block) (E : List Entry) → Honest image V (heard_blocks blocks E) → Honest image V E
-honest_blocks V [] E h = h
-honest_blocks V (block ∷ blocks) E h = honest_block image V block E (honest_blocks V blocks (heard_block block E) h)
-
 module _ (unit : ℕ) (line : Line) where
   pub hears_none : (client : UnitClient) (arbiter : Arbiter) → HearsBlocks unit line client client arbiter arbiter [] false
   hears_none client arbiter = record { tracks = λ H E T. T; keeps = λ V E h K. K; noted = λ H E notes T N. N; overflow_is = λ H E T. refl }
 
   pub hears_more : (one two three : UnitClient) (a b c : Arbiter) (xs ys : List Block) (p q : Bool) → HearsBlocks unit line one two a b xs p → HearsBlocks unit line two three b c ys q → HearsBlocks unit line one three a c (xs ++ ys) (p || q)
   hears_more one two three a b c xs ys p q first second = record {
-    tracks = λ H E T. subst (Tracks three H) (sym (heard_append xs ys E)) (second.tracks H (heard_blocks xs E) (first.tracks H E T));
+    tracks = λ H E T. subst (Tracks three H) (sym (heard_both E xs ys)) (second.tracks H (heard_blocks xs E) (first.tracks H E T));
     keeps = λ V E h K.
-        let all : Honest image V (heard_blocks ys (heard_blocks xs E)) = subst (Honest image V) (heard_append xs ys E) h in
-        second.keeps V (heard_blocks xs E) all (first.keeps V E (honest_blocks V ys (heard_blocks xs E) all) K);
+        let all : Honest image V (heard_blocks ys (heard_blocks xs E)) = subst (Honest image V) (heard_both E xs ys) h in
+        second.keeps V (heard_blocks xs E) all (first.keeps V E (honest_blocks image V ys (heard_blocks xs E) all) K);
     noted = λ H E notes T N. subst (λ (l : List Note). HasNoted c l) (sym (noted_append unit H line xs ys E notes))
         (second.noted H (heard_blocks xs E) (noted_blocks unit H line xs E notes) (first.tracks H E T) (first.noted H E notes T N));
     overflow_is = λ H E T. ap (λ (x : Bool). x || q) (first.overflow_is H E T) ∙ ap (λ (y : Bool). overflow_in H xs E || y) (second.overflow_is H (heard_blocks xs E) (first.tracks H E T)) ∙ sym (overflow_append H xs ys E);
@@ -104,41 +87,6 @@ module _ (unit : ℕ) (line : Line) where
 
       same : (H : ℕ) (E : List Entry) (ns : List Note) → Tracks one H E → ◌≡◌ {A = List Note} ((record { line = line; unit = unit; messages = messages; fresh = change.fresh }) ∷ ns) (note_of unit H line block E ∷ ns)
       same H E ns T = λ i. (record { line = line; unit = unit; messages = many i; fresh = (changes block carries H E T i).fresh }) ∷ ns
-
-  -- ---- The blocks of some bytes
-  pub record HeardTo (one two : UnitClient) (a b : Arbiter) (bytes : List ℕ) (at : ℕ) (overflow : Bool) : Type 0 where
-    pub within : at ≤ length bytes
-    pub done : List Block
-    pub left : done ++ blocks_of (drop at bytes) ≡ blocks_of bytes
-    pub hears : HearsBlocks unit line one two a b done overflow
-
-  pub heard_nothing : (client : UnitClient) (arbiter : Arbiter) (bytes : List ℕ) → HeardTo client client arbiter arbiter bytes 0 false
-  heard_nothing client arbiter bytes = record { within = omega arith; done = []; left = refl; hears = hears_none client arbiter }
-
-  pub heard_block_more : (one two three : UnitClient) (a b c : Arbiter) (bytes rest : List ℕ) (at n : ℕ) (block : Block) (p q : Bool) → HeardTo one two a b bytes at p → rest ≡ drop at bytes → StandsFirst rest block
-      → n ≡ (header_for block).length → HearsBlocks unit line two three b c (block ∷ []) q → HeardTo one three a c bytes (at + n) (p || q)
-  heard_block_more one two three a b c bytes rest at n block p q h is stands size more =
-      let l = leads (drop at bytes) block (subst (λ (r : List ℕ). StandsFirst r block) is stands) in
-      let cut : drop (header_for block).length (drop at bytes) ≡ drop (at + n) bytes = drop-drop (header_for block).length at bytes ∙ ap (λ (k : ℕ). drop (at + k) bytes) (sym size) in
-      record {
-        within = omega (arith, l.fits, length-drop at bytes, h.within, size);
-        done = h.done ++ block ∷ [];
-        left = append_assoc h.done (block ∷ []) (blocks_of (drop (at + n) bytes))
-            ∙ ap (λ (r : List ℕ). h.done ++ (block ∷ blocks_of r)) (sym cut)
-            ∙ ap (λ (bs : List Block). h.done ++ bs) (sym l.blocks)
-            ∙ h.left;
-        hears = hears_more one two three a b c h.done (block ∷ []) p q h.hears more;
-      }
-
-  pub heard_stop : (one two : UnitClient) (a b : Arbiter) (bytes rest : List ℕ) (at : ℕ) (p : Bool) (e : BlockError) → HeardTo one two a b bytes at p → rest ≡ drop at bytes → judge rest ≡ Err e → HearsBlocks unit line one two a b (blocks_of bytes) p
-  heard_stop one two a b bytes rest at p e h is stop =
-      let none = none_of (drop at bytes) e (ap judge (sym is) ∙ stop) in
-      subst (λ (bs : List Block). HearsBlocks unit line one two a b bs p) (sym (append-nil h.done) ∙ ap (λ (bs : List Block). h.done ++ bs) (sym none.blocks) ∙ h.left) h.hears
-
-  pub heard_all : (one two : UnitClient) (a b : Arbiter) (bytes : List ℕ) (at : ℕ) (p : Bool) → HeardTo one two a b bytes at p → length bytes ≤ at → HearsBlocks unit line one two a b (blocks_of bytes) p
-  heard_all one two a b bytes at p h end =
-      let none : blocks_of (drop at bytes) ≡ [] = ap blocks_of (drop_all at bytes end) ∙ no_blocks in
-      subst (λ (bs : List Block). HearsBlocks unit line one two a b bs p) (sym (append-nil h.done) ∙ ap (λ (bs : List Block). h.done ++ bs) (sym none) ∙ h.left) h.hears
 
 -- ---- The blocks of datagrams
 flat_one : (lists : List (Roomy ℕ)) (list : Roomy ℕ) → flat_map blocks_of (bytes_in (lists ++ list ∷ [])) ≡ flat_map blocks_of (bytes_in lists) ++ blocks_of list.items

@@ -14,7 +14,7 @@ use pitch_fields::OutOfMemory;
 use pitch_io::Line;
 use pitch_messages::ByteList;
 use pitch_model::Item;
-use unit_packets::{BlockView, view_block};
+use unit_packets::{BlockView, Blocks};
 
 // How many messages of a block count: none of an unsequenced one.
 fn messages_of(block: &BlockView<'_>) -> u32
@@ -56,17 +56,10 @@ pub(crate) fn hear_datagram(
     ensures { IfOk result (λ overflow. HearsBlocks
         unit line client.old client.new arbiter.old arbiter.new (blocks_of datagram.now) overflow) }
 {
-    let mut at = 0;
     let mut overflow = false;
-    'next: while at < datagram.len() {
-        match view_block(&datagram[at..]) {
-            Ok(block) => {
-                let marked = hear_block(unit, line, client, arbiter, &block)?;
-                overflow = either(overflow, marked);
-                at += usize::from(block.header().length);
-            }
-            Err(_) => return Ok(overflow),
-        }
+    'pieces: for block in Blocks::of_bytes(datagram) {
+        let marked = hear_block(unit, line, client, arbiter, &block)?;
+        overflow = either(overflow, marked);
     }
     Ok(overflow)
 }
