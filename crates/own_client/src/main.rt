@@ -18,7 +18,7 @@ use std::alloc::Global;
 use std::io::Read;
 use std::{fmt, io};
 use unit_clients::Units;
-use unit_packets::{BlockReader, view_block};
+use unit_packets::{BlockReader, Blocks, read_block};
 
 /// How many messages a unit may hold while one before them is missing.
 const HOLD: u32 = 4096;
@@ -50,18 +50,14 @@ fn hear(alloc: Global, units: &mut Units, bytes: &[u8]) -> anyhow::Result<usize>
         → HaveHeard units.new (reverse (blocks_of bytes.now) ++ before)) }
     ensures within { IfOk result (λ n. n ≤ length bytes.now) }
 {
-    let mut at = 0;
-    'next: while at <= bytes.len() {
-        match view_block(&bytes[at..]) {
-            Ok(block) => {
-                units.hear_block(alloc, &block)?;
-                at += block.header().length as usize;
-            }
-            Err(error) if error.is_truncated() => return Ok(at),
-            Err(error) => return Err(error.into()),
-        }
+    let mut blocks = Blocks::of_bytes(bytes);
+    'next: while let Some(block) = blocks.next_block() {
+        units.hear_block(alloc, &block)?;
     }
-    unreachable!()
+    match read_block(blocks.rest()) {
+        Err(error) if !error.is_truncated() => Err(error.into()),
+        _ => Ok(bytes.len() - blocks.rest().len()),
+    }
 }
 
 // Reads a stream of blocks to its end.

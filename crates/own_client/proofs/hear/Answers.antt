@@ -1,19 +1,16 @@
-use Rattle.std.proofs.Common.{ap}
-use Rattle.std.proofs.lemmas.List.{take_rest}
-use Rattle.unit_packets.specs.declared.header.Header.{Header}
-use Rattle.own_client.proofs.Hearing.{heard_none, heard_more, heard_end}
+use Rattle.std.proofs.Common.{◌≡◌, ap, ◌∙◌, length, arith}
+use Rattle.unit_packets.specs.Cutting.{rest_of}
+use Rattle.unit_packets.proofs.Cuts.{rest_short}
+use Rattle.own_client.proofs.Hearing.{heard_more, heard_all}
 use Rattle.own_client.proofs.hear.Goals as goal
 
-pub next-init : goal.next-init
-next-init c = heard_none c.args.units.now c.args.bytes.now
-
 pub next-preserved : goal.next-preserved
-next-preserved c =
-    heard_more c.args.units.now c.next.units c.hear_block.new.self c.args.bytes.now _ c.next.at c.header.result.length c.in-Ok.block
-    c.next.invariant (take_rest c.args.bytes.now c.next.at) c.in-Ok.ensures.found (ap (λ (h : Header). h.length) c.header.ensures)
-    c.in_ok-hear_block-in-Ok.ensures.heard
+next-preserved c = heard_more _ _ _ _ _ _ c.in-Some.block c.next.invariant c.in-Some.ensures.blocks c.in-Some.ensures.rest c.in_ok-hear_block.ensures.heard
 
-pub returns-in-Err-clause-heard : goal.returns-in-Err-clause-heard
-returns-in-Err-clause-heard c =
-    heard_end c.args.units.now c.next.units c.args.bytes.now _ c.next.at _ c.next.invariant
-    (take_rest c.args.bytes.now c.next.at) c.in-Err.ensures.fault
+pub overflow_sub-result : goal.overflow_sub-result
+overflow_sub-result c =
+    let rest : c.rest-in_default-read_block.result.now ≡ rest_of c.args.bytes.now = c.rest-in_default-read_block.ensures ∙ c.in_default.ensures.rest ∙ c.next.invariant.walked.rest in
+    omega (arith, ap length rest, rest_short c.args.bytes.now)
+
+pub returns-in_default-read_block-clause-heard : goal.returns-in_default-read_block-clause-heard
+returns-in_default-read_block-clause-heard c = heard_all _ _ _ _ c.next.invariant c.in_default.ensures.blocks.0
