@@ -1,6 +1,6 @@
 -- Worked examples of what is sent and heard over connections, computed by the definitions. Moves,
 -- events and entries stand newest first.
-use Rattle.std.proofs.Common.{◌≡◌, ℕ, true, false, List, [], ◌∷◌, ◌++◌, refl, arith, Some}
+use Rattle.std.proofs.Common.{◌≡◌, true, false, List, [], ◌∷◌, ◌++◌, refl, arith, Some}
 use Rattle.std.specs.Prelude.{codes}
 use Rattle.pitch_messages.specs.Raw.{raws_of}
 use Rattle.pitch_messages.specs.Session.{session_reads, session_written}
