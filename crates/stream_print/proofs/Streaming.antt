@@ -1,13 +1,12 @@
 -- Blocks that are printed one after another, and packets that are.
-use Rattle.std.proofs.Common.{◌≡◌, ℕ, ◌+◌, ◌*◌, ◌≤◌, ◌==◌, Bool, true, false, cond, List, [], ◌∷◌, ◌++◌, length, drop, reverse, refl, sym, ap, ◌∙◌, subst, arith, append_assoc, Option, Err}
-use Rattle.std.proofs.lemmas.List.{append-nil, length-drop, drop-drop, reverse-append}
+use Rattle.std.proofs.Common.{◌≡◌, ℕ, ◌+◌, ◌-◌, ◌*◌, ◌≤◌, ◌==◌, Bool, true, false, cond, List, [], ◌∷◌, ◌++◌, length, drop, reverse, refl, sym, ap, ◌∙◌, subst, arith, append_assoc, Option}
+use Rattle.std.proofs.lemmas.List.{append-nil, length-drop, reverse-append}
 use Rattle.unit_packets.specs.Blocks.{Block}
 use Rattle.unit_packets.specs.Cutting.{blocks_of, rest_of}
-use Rattle.unit_packets.specs.Judging.{judge}
 use Rattle.unit_packets.specs.Lending.{header_for, StandsFirst}
-use Rattle.unit_packets.specs.declared.header.BlockError.{BlockError}
 use Rattle.unit_packets.proofs.Streams.{leads}
-use Rattle.unit_packets.proofs.Cuts.{none_of}
+use Rattle.unit_packets.proofs.Cuts.{rest_short, rest_stands}
+use Rattle.unit_packets.proofs.Walking.{Walked, walked_none, walked_more, walked_all}
 use Rattle.pitch_model.specs.History.{Raw}
 use Rattle.pitch_model.specs.Image.{image}
 use Rattle.pitch_model.proofs.Units.{all_honest_before}
@@ -200,53 +199,45 @@ fails_more f g e u v w all done more left are some fails = λ before known.
     by before OutOfMemory printed fails = puts_more_blocks (task_form f.task) before all done more left u v w f.page.text g.page.text are printed fails
 
 -- ---- The blocks of some bytes
--- the blocks in front of a place were printed, and the others follow from there on
-pub record Taking (f f' : Printer) (bytes : List ℕ) (at : ℕ) (written written' : Option (List ℕ)) : Type 0 where
+-- the blocks in front of what is left were printed
+pub record Taking (f f' : Printer) (bytes left : List ℕ) (written written' : Option (List ℕ)) : Type 0 where
   pub done : List Block
   pub prints : PrintsBlocks f f' written written' done
-  pub blocks : blocks_of bytes ≡ done ++ blocks_of (drop at bytes)
-  pub rest : rest_of bytes ≡ rest_of (drop at bytes)
-  pub within : at ≤ length bytes
-  pub few : 8 * f'.number ≤ 8 * f.number + at
+  pub walked : Walked bytes left done
+  pub few : 8 * f'.number + length left ≤ 8 * f.number + length bytes
 
-pub taking_start : (f : Printer) (bytes : List ℕ) (written : Option (List ℕ)) → Taking f f bytes 0 written written
-taking_start f bytes written = record { done = []; prints = prints_no_block f written; blocks = refl; rest = refl; within = omega arith; few = omega arith }
+pub taking_start : (f : Printer) (bytes left : List ℕ) (written : Option (List ℕ)) → left ≡ bytes → Taking f f bytes left written written
+taking_start f bytes left written same = record { done = []; prints = prints_no_block f written; walked = walked_none bytes left same; few = omega (arith, ap length same) }
 
-pub taking_more : (f g h : Printer) (bytes rest : List ℕ) (at n : ℕ) (u v w : Option (List ℕ)) (block : Block) → Taking f g bytes at u v → rest ≡ drop at bytes → StandsFirst rest block → n ≡ (header_for block).length
-    → PrintsBlocks g h v w (block ∷ []) → h.number ≡ g.number + 1 → Taking f h bytes (at + n) u w
-taking_more f g h bytes rest at n u v w block so_far is stands size more number =
-    let l = leads rest block stands in
-    let within = so_far.within in
+pub taking_more : (f g h : Printer) (bytes left less : List ℕ) (u v w : Option (List ℕ)) (block : Block) → Taking f g bytes left u v → blocks_of left ≡ block ∷ blocks_of less → rest_of less ≡ rest_of left
+    → StandsFirst left block × (less ≡ drop (header_for block).length left) → PrintsBlocks g h v w (block ∷ []) → h.number ≡ g.number + 1 → Taking f h bytes less u w
+taking_more f g h bytes left less u v w block so_far first rest stands more number =
+    let l = leads left block stands.0 in
     let few = so_far.few in
     let header = l.header in
     let fits = l.fits in
-    let left : drop (header_for block).length rest ≡ drop (at + n) bytes = ap (λ (k : ℕ). drop k rest) (sym size) ∙ ap (drop n) is ∙ drop-drop n at bytes in
     record {
       done = so_far.done ++ block ∷ [];
       prints = prints_blocks_more f g h u v w so_far.done (block ∷ []) so_far.prints more;
-      blocks = so_far.blocks ∙ ap (λ (q : List ℕ). so_far.done ++ blocks_of q) (sym is) ∙ ap (λ (bs : List Block). so_far.done ++ bs) (l.blocks ∙ ap (λ (q : List ℕ). block ∷ blocks_of q) left)
-          ∙ sym (append_assoc so_far.done (block ∷ []) (blocks_of (drop (at + n) bytes)));
-      rest = so_far.rest ∙ ap rest_of (sym is) ∙ l.rest_is ∙ ap rest_of left;
-      within = omega (arith, within, fits, size, ap length is, length-drop at bytes);
-      few = omega (arith, few, number, header, size);
+      walked = walked_more bytes left less so_far.done block so_far.walked first rest;
+      few = omega (arith, few, number, header, fits, ap length stands.1, length-drop (header_for block).length left);
     }
 
-pub taking_end : (f g : Printer) (bytes rest : List ℕ) (at : ℕ) (u v : Option (List ℕ)) (error : BlockError) → Taking f g bytes at u v → rest ≡ drop at bytes → judge rest ≡ Err error → PrintsWhole f g bytes at u v
-taking_end f g bytes rest at u v error so_far is judged =
-    let none = none_of (drop at bytes) error (ap judge (sym is) ∙ judged) in
-    let all : blocks_of bytes ≡ so_far.done = so_far.blocks ∙ ap (λ (bs : List Block). so_far.done ++ bs) none.blocks ∙ append-nil so_far.done in
+pub taking_end : (f g : Printer) (bytes left last : List ℕ) (u v : Option (List ℕ)) → Taking f g bytes left u v → blocks_of left ≡ [] → last ≡ rest_of left → PrintsWhole f g bytes (length bytes - length last) u v
+taking_end f g bytes left last u v so_far none rest =
+    let few = so_far.few in
+    let end : last ≡ rest_of bytes = rest ∙ so_far.walked.rest in
+    let short : length last ≤ length left = subst (λ (r : List ℕ). length r ≤ length left) (sym rest) (rest_short left) in
     record {
-      prints = subst (PrintsBlocks f g u v) (sym all) so_far.prints;
-      within = so_far.within;
-      rest = so_far.rest ∙ none.rest;
-      few = so_far.few;
+      prints = subst (PrintsBlocks f g u v) (walked_all bytes left so_far.done so_far.walked none) so_far.prints;
+      within = omega arith;
+      rest = rest_stands bytes ∙ ap (λ (r : List ℕ). drop (length bytes - length r) bytes) (sym end);
+      few = omega (arith, few, short, ap length end, rest_short bytes);
     }
 
 -- a block that is not printed, behind others
-pub taking_fails : (f g : Printer) (e : PrintError) (bytes rest : List ℕ) (at : ℕ) (u v w : Option (List ℕ)) (block : Block) → Taking f g bytes at u v → rest ≡ drop at bytes → StandsFirst rest block
+pub taking_fails : (f g : Printer) (e : PrintError) (bytes left less : List ℕ) (u v w : Option (List ℕ)) (block : Block) → Taking f g bytes left u v → blocks_of left ≡ block ∷ blocks_of less
     → FailsBlocks e g v w (block ∷ []) → FailsBlocks e f u w (blocks_of bytes)
-taking_fails f g e bytes rest at u v w block so_far is stands fails =
-    let l = leads rest block stands in
-    let left : List ℕ = drop (header_for block).length rest in
-    fails_more f g e u v w (blocks_of bytes) so_far.done (block ∷ []) (blocks_of left)
-    (so_far.blocks ∙ ap (λ (q : List ℕ). so_far.done ++ blocks_of q) (sym is) ∙ ap (λ (bs : List Block). so_far.done ++ bs) l.blocks) so_far.prints fails
+taking_fails f g e bytes left less u v w block so_far first fails =
+    fails_more f g e u v w (blocks_of bytes) so_far.done (block ∷ []) (blocks_of less)
+    (sym so_far.walked.blocks ∙ ap (λ (bs : List Block). so_far.done ++ bs) first) so_far.prints fails

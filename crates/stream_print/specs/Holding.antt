@@ -1,5 +1,5 @@
 -- What can be printed.
-use Rattle.std.specs.Prelude.{◌≡◌, ◌≤◌, ℕ}
+use Rattle.std.specs.Prelude.{◌≡◌, ◌≤◌}
 use Rattle.pitch_fields.specs.Limits.{most_held}
 use Rattle.stream_print.specs.declared.carrier.Carrier.{Carrier}
 use Rattle.stream_print.specs.declared.carrier.Carrier.TheVariants.{Bare}

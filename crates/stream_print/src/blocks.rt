@@ -7,7 +7,7 @@ use crate::failure::PrintError;
 use crate::printer::Printer;
 use pitch_io::Sink;
 use std::alloc::Global;
-use unit_packets::view_block;
+use unit_packets::Blocks;
 
 /// Prints the blocks that are whole at the start of some bytes. Answers how many bytes they have.
 pub fn print_blocks<O: Sink>(
@@ -24,15 +24,9 @@ pub fn print_blocks<O: Sink>(
         bytes.now)) }
     ensures cause { CountsFault O.faults out.old out.new (result ≡ Err PrintError.Write) }
 {
-    let mut at = 0;
-    'block: while at <= bytes.len() {
-        match view_block(&bytes[at..]) {
-            Ok(block) => {
-                printer.print(alloc, &block, out)?;
-                at += block.header().length as usize;
-            }
-            Err(_) => return Ok(at),
-        }
+    let mut blocks = Blocks::of_bytes(bytes);
+    'next: while let Some(block) = blocks.next_block() {
+        printer.print(alloc, &block, out)?;
     }
-    unreachable!()
+    Ok(bytes.len() - blocks.rest().len())
 }

@@ -1,37 +1,34 @@
-use Rattle.std.proofs.Common.{ap, arith}
-use Rattle.std.proofs.lemmas.List.{take_rest}
-use Rattle.unit_packets.specs.Cutting.{blocks_of}
-use Rattle.unit_packets.specs.declared.header.Header.{Header}
+use Rattle.std.proofs.Common.{◌≡◌, ap, ◌∙◌, length, arith}
+use Rattle.unit_packets.specs.Cutting.{blocks_of, rest_of}
+use Rattle.unit_packets.proofs.Cuts.{rest_short}
 use Rattle.stream_print.specs.Printing.{FailsBlocks}
 use Rattle.stream_print.specs.declared.failure.PrintError.{PrintError}
 use Rattle.stream_print.proofs.Unprinted.{if_err}
 use Rattle.stream_print.proofs.Streaming.{taking_start, taking_more, taking_end, taking_fails}
 use Rattle.stream_print.proofs.blocks.print_blocks.Goals as goal
 
-pub block-init : goal.block-init
-block-init g c = record { taking = taking_start c.args.printer.now c.args.bytes.now (g.O.Sink.written c.args.out.now); later = omega arith }
+pub next-init : goal.next-init
+next-init g c = record { taking = taking_start _ _ _ _ c.of_bytes-blocks.ensures; later = omega arith }
 
-pub returns-in_err-print-in-Ok-clause-err : goal.returns-in_err-print-in-Ok-clause-err
-returns-in_err-print-in-Ok-clause-err g c =
-    if_err (λ (e : PrintError). FailsBlocks e c.args.printer.now (g.O.Sink.written c.args.out.now) (g.O.Sink.written c.print.new.out) (blocks_of c.args.bytes.now))
-    c.from_residual.result _ c.from_residual.ensures
-    (taking_fails c.args.printer.now c.block.printer _ c.args.bytes.now _ c.block.at (g.O.Sink.written c.args.out.now) (g.O.Sink.written c.block.out) (g.O.Sink.written c.print.new.out)
-    c.in-Ok.block c.block.invariant.taking (take_rest c.args.bytes.now c.block.at) c.in-Ok.ensures.found c.in_err-print-in-Ok.ensures.err)
-
-pub returns-in-Err-clause-prints : goal.returns-in-Err-clause-prints
-returns-in-Err-clause-prints g c =
-    taking_end c.args.printer.now c.block.printer c.args.bytes.now _ c.block.at (g.O.Sink.written c.args.out.now) (g.O.Sink.written c.block.out) c.in-Err.field-0 c.block.invariant.taking
-    (take_rest c.args.bytes.now c.block.at) c.in-Err.ensures.fault
-
-pub block-preserved : goal.block-preserved
-block-preserved g c =
-    let later = c.block.invariant.later in
+pub next-preserved : goal.next-preserved
+next-preserved g c =
+    let later = c.next.invariant.later in
     let cause = c.print.ensures.cause.later in
     record {
-      taking = taking_more c.args.printer.now c.block.printer c.print.new.self c.args.bytes.now _ c.block.at c.header.result.length
-          (g.O.Sink.written c.args.out.now) (g.O.Sink.written c.block.out) (g.O.Sink.written c.print.new.out) c.in-Ok.block
-          c.block.invariant.taking (take_rest c.args.bytes.now c.block.at) c.in-Ok.ensures.found (ap (λ (h : Header). h.length) c.header.ensures)
-          c.in_ok-print-in-Ok.ensures.prints
-          c.in_ok-print-in-Ok.ensures.number;
+      taking = taking_more _ _ _ _ _ _ _ _ _ c.in-Some.block c.next.invariant.taking c.in-Some.ensures.blocks c.in-Some.ensures.rest c.in-Some.ensures.stands c.in_ok-print.ensures.prints c.in_ok-print.ensures.number;
       later = omega arith;
     }
+
+pub overflow_sub-result : goal.overflow_sub-result
+overflow_sub-result g c =
+    let rest : c.rest.result.now ≡ rest_of c.args.bytes.now = c.rest.ensures ∙ c.in_default.ensures.rest ∙ c.next.invariant.taking.walked.rest in
+    omega (arith, ap length rest, rest_short c.args.bytes.now)
+
+pub returns-in_err-print-clause-err : goal.returns-in_err-print-clause-err
+returns-in_err-print-clause-err g c =
+    if_err (λ (e : PrintError). FailsBlocks e c.args.printer.now (g.O.Sink.written c.args.out.now) (g.O.Sink.written c.print.new.out) (blocks_of c.args.bytes.now))
+    c.from_residual.result _ c.from_residual.ensures
+    (taking_fails _ _ _ _ _ _ _ _ _ c.in-Some.block c.next.invariant.taking c.in-Some.ensures.blocks c.in_err-print.ensures.err)
+
+pub returns-clause-prints : goal.returns-clause-prints
+returns-clause-prints g c = taking_end _ _ _ _ _ _ _ c.next.invariant.taking c.in_default.ensures.blocks.0 (c.rest.ensures ∙ c.in_default.ensures.rest)
