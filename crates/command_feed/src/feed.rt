@@ -138,7 +138,8 @@ fn append_pending(venue: &mut Venue, alloc: Global, out: &mut Vec<u8>) -> Result
 {
     let mut datagrams = DatagramList::make(alloc);
     venue.flush(&mut datagrams)?;
-    append_datagrams(datagrams.as_slice(), out)
+    append_datagrams(datagrams.as_slice(), out)?;
+    Ok(())
 }
 
 /// Appends the feed of a unit that a text of commands makes: its datagrams, end to end, from

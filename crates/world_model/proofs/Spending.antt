@@ -1,5 +1,5 @@
 -- No more requests are accepted than the limits allow.
-use Rattle.std.proofs.Common.{◌≡◌, ◌≢◌, ℕ, zero, suc, ◌+◌, ◌-◌, ◌/◌, ◌≤◌, ◌<◌, Bool, true, false, not, List, [], ◌∷◌, length, refl, sym, ap, ◌∙◌, subst, arith, Option, Some, None, ◌⊎◌, inl, inr, nat_eq, cond, take}
+use Rattle.std.proofs.Common.{◌≡◌, ◌≢◌, ℕ, suc, ◌+◌, ◌/◌, ◌≤◌, ◌<◌, Bool, true, false, not, List, [], ◌∷◌, length, refl, sym, ap, ◌∙◌, subst, arith, Option, Some, None, ◌⊎◌, inl, inr, nat_eq, cond, take}
 use Rattle.std.specs.Prelude.{nat_lt, nat_le, unwrap_or, is_some, ◌==◌, ◌||◌, if◌then◌else◌}
 use Rattle.std.specs.List.{AllByRecursion}
 use Rattle.std.proofs.lemmas.Bool.{cases_eq, ne_eqb, eq-eqb, leb-false}
@@ -12,7 +12,6 @@ use Rattle.pitch_messages.specs.declared.session.SessionMessage.{SessionMessage}
 use Rattle.pitch_messages.specs.declared.session.SessionMessage.TheVariants.{Login, LoginReply, GapRequest, GapReply, SpinAvailable, SpinRequest, SpinReply, SpinFinished}
 use Rattle.session_ends.specs.Answering.{Answer, no_answer, answers}
 use Rattle.session_ends.specs.Closing.{Setup, closed_of, cause_of, logs_in, logged_in}
-use Rattle.session_ends.specs.Events.{Event, Fed}
 use Rattle.session_ends.specs.Saying.{heard_by}
 use Rattle.session_ends.specs.Sending.{new_items}
 use Rattle.session_ends.specs.declared.inbox.Heard.{Heard}
@@ -24,14 +23,14 @@ use Rattle.gap_store.specs.declared.found.Found.TheVariants.{Kept, Ahead, NotKep
 use Rattle.grp_session.specs.Asking.{gap_status, status_here, status_found, spent_after}
 use Rattle.grp_session.specs.Budget.{Spent, how_many, this_second, this_minute, limit_reached, next_second, spending}
 use Rattle.grp_session.specs.Budget as budget
-use Rattle.grp_session.specs.Serving.{Source, grp_answer, said_answer, message_answer, request_answer, proxy_answer}
+use Rattle.grp_session.specs.Serving.{Source, grp_answer, said_answer, message_answer, request_answer}
 use Rattle.spin_server.specs.Served.{Served}
 use Rattle.venue_core.specs.declared.error.VenueError.{VenueError}
 use Rattle.venue_core.specs.Refusals.{refusal}
-use Rattle.world_model.specs.Ends.{grp_server, gap_link, spin_link}
+use Rattle.world_model.specs.Ends.{grp_server}
 use Rattle.world_model.specs.Spending.{ticks_in, SpendsWithin}
-use Rattle.world_model.specs.State.{State, Connection, Pipe, waiting, datagrams_on}
-use Rattle.world_model.specs.Verbs.{Done, done, does, next_state, state_of, commanded_on, delivered_on, numbered, grp_connected, spin_connected, cut_on, grp_cut, spin_cut, carried, wanted, grp_fed, spin_fed, with_up, with_down, took, grp_up_on, spin_up_on, grp_down_on, spin_down_on, gap_link_fed, spin_link_fed, grp_cut_where, spin_cut_where, source_of, shut}
+use Rattle.world_model.specs.State.{State, Connection, waiting, datagrams_on}
+use Rattle.world_model.specs.Verbs.{Done, does, state_of, commanded_on, delivered_on, numbered, grp_connected, spin_connected, cut_on, grp_cut, spin_cut, wanted, grp_fed, with_up, took, grp_up_on, spin_up_on, grp_down_on, spin_down_on, grp_cut_where, spin_cut_where, source_of}
 use Rattle.world_model.specs.declared.limits.Limits.{Limits}
 
 abbrev limits_of : Limits → budget.Limits
