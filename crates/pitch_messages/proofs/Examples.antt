@@ -1,14 +1,15 @@
 -- Worked examples: each type of message with its fields at the places that the specification gives,
 -- and each number's bytes from the low one on.
-use Rattle.std.proofs.Common.{◌≡◌, ℕ, List, [], ◌∷◌, codes, Ok, refl}
+use Rattle.std.proofs.Common.{◌≡◌, ℕ, List, [], ◌∷◌, map, codes, Ok, refl}
 use Rattle.pitch_fields.specs.declared.side.Side.TheVariants.{Sell}
 use Rattle.pitch_messages.specs.declared.message.Message.{Message}
 use Rattle.pitch_messages.specs.declared.message.Message.TheVariants.{Time, AddLong, AddShort, Executed, ExecutedAt, ReduceLong, ReduceShort, ModifyLong, ModifyShort, Delete, TradeLong, TradeShort, TradeBreak, EndOfSession, AddExpanded, TradeExpanded, TradingStatus, UnitClear}
 use Rattle.pitch_messages.specs.declared.session.SessionMessage.{SessionMessage}
 use Rattle.pitch_messages.specs.declared.session.SessionMessage.TheVariants.{Login, LoginReply, GapRequest, GapReply, SpinAvailable, SpinRequest, SpinReply, SpinFinished}
-use Rattle.pitch_messages.specs.Reading.{reads}
+use Rattle.pitch_messages.specs.Table.{needs}
+use Rattle.pitch_messages.specs.Reading.{MessageRow, reads, table}
 use Rattle.pitch_messages.specs.Session.{session_reads, session_written}
-use Rattle.pitch_messages.specs.Writing.{written}
+use Rattle.pitch_messages.specs.Writing.{with_reserved_blank, written}
 
 -- these are the bytes of the message, and they say the message
 abbrev Stands : Message → List ℕ → Type 0
@@ -130,10 +131,26 @@ trading_status_with_other_reserved_bytes : reads
 unfolding reads
 trading_status_with_other_reserved_bytes = refl
 
+-- spaces for its reserved bytes alone
+trading_status_blanked : with_reserved_blank
+    (0x12 ∷ 0x31 ∷ 0x01 ∷ 0x02 ∷ 0x03 ∷ 0x04 ∷ 0x47 ∷ 0x41 ∷ 0x4d ∷ 0x4d ∷ 0x41 ∷ 0x44 ∷ 0x4c ∷ 0x54 ∷ 0x48
+    ∷ 0x30 ∷ 0xff ∷ 0x00 ∷ []) ≡ written (TradingStatus 0x4030201 (codes "GAMMADLT") 0x48 0x30)
+unfolding written
+trading_status_blanked = refl
+
+nothing_blanked : with_reserved_blank (0x06 ∷ 0x97 ∷ 0xff ∷ 0x00 ∷ 0xff ∷ 0x00 ∷ []) ≡ 0x06 ∷ 0x97 ∷ 0xff ∷ 0x00 ∷ 0xff ∷ 0x00 ∷ []
+nothing_blanked = refl
+
 unit_clear : Stands (UnitClear 0x4030201)
     (0x06 ∷ 0x97 ∷ 0x01 ∷ 0x02 ∷ 0x03 ∷ 0x04 ∷ [])
 unfolding reads written
 unit_clear = (refl, refl)
+
+-- the types, and how many bytes each needs
+needed : map {B = ℕ × ℕ} (λ (row : MessageRow). (row.kind, needs row)) table ≡
+    (0x20, 6) ∷ (0x21, 34) ∷ (0x22, 26) ∷ (0x23, 26) ∷ (0x24, 38) ∷ (0x25, 18) ∷ (0x26, 16) ∷ (0x27, 27) ∷ (0x28, 19) ∷ (0x29, 14)
+    ∷ (0x2a, 41) ∷ (0x2b, 33) ∷ (0x2c, 14) ∷ (0x2d, 6) ∷ (0x2f, 40) ∷ (0x30, 43) ∷ (0x31, 18) ∷ (0x97, 6) ∷ []
+needed = refl
 
 -- ---- Session messages
 login : StandsInSession (Login (codes "0001") (codes "FEED") (codes "PITCH     "))

@@ -1,23 +1,46 @@
--- Tables of messages by their type, and how a raw is read by one.
-use Rattle.std.specs.Prelude.{ℕ, nat_lt, List, length, take, drop, Option, None, Some}
-use Rattle.std.specs.Prelude.{if◌then◌else◌}
+-- Tables of messages by their type: how a raw is read by one, and how a message is written.
+use Rattle.std.specs.Prelude.{ℕ, ◌==◌, ◌+◌, nat_lt, List, [], ◌∷◌, ◌++◌, length, take, drop}
+use Rattle.std.specs.Prelude.{Option, None, Some, Result, if◌then◌else◌}
+use Rattle.pitch_messages.specs.Fields.{Field, Values, Makes, widths, all_bytes, all_blanked}
+use Rattle.pitch_messages.specs.Fields.{with_fields}
 
--- the n bytes from a place
-abbrev pub bytes_at : ℕ → ℕ → List ℕ → List ℕ
-bytes_at n at raw = take n (drop at raw)
-
--- a type of message: how many bytes it needs, and what those say
+-- a type of message: its byte, its fields, end to end behind the length and the type, and the
+-- message that is made of what they say
 pub record Row (A : Type 0) : Type 0 where
-  pub needs : ℕ
-  pub says : List ℕ → A
+  pub kind : ℕ
+  pub fields : List Field
+  pub makes : Makes fields A
+
+-- how many bytes a message of a row needs
+abbrev pub needs : {A : Type 0} → Row A → ℕ
+needs row = 2 + widths row.fields
+
+-- what a raw of a row says; what it has past the row's bytes is ignored
+abbrev pub says : {A E : Type 0} → (ℕ → E) → Row A → List ℕ → Result A E
+says bad row raw = with_fields bad row.fields 2 raw row.makes
+
+-- the bytes of a message of a row: its length, its type and its fields, end to end
+abbrev pub row_bytes : {A : Type 0} (row : Row A) → Values row.fields → List ℕ
+row_bytes row values = needs row ∷ row.kind ∷ all_bytes row.fields values
+
+-- the row of a type
+abbrev pub row_in : {A : Type 0} → List (Row A) → ℕ → Option (Row A)
+row_in [] kind = None
+row_in (row ∷ rows) kind = if kind == row.kind then Some row else row_in rows kind
 
 -- how many bytes a row needs, 0 where there is none
 abbrev pub needs_by : {A : Type 0} → Option (Row A) → ℕ
 needs_by None = 0
-needs_by (Some row) = row.needs
+needs_by (Some row) = needs row
 
--- what a raw says by its row; what it has past the row's bytes is ignored
-abbrev pub reads_by : {A : Type 0} → (List ℕ → A) → (ℕ → ℕ → A) → Option (Row A) → List ℕ → A
-reads_by unknown short None raw = unknown raw
-reads_by unknown short (Some row) raw =
-    if nat_lt (length raw) row.needs then short row.needs (length raw) else row.says raw
+-- what a raw says by its row
+abbrev pub reads_by : {A B : Type 0} → (List ℕ → B) → (ℕ → ℕ → B) → (Row A → List ℕ → B)
+    → Option (Row A) → List ℕ → B
+reads_by unknown short known None raw = unknown raw
+reads_by unknown short known (Some row) raw =
+    if nat_lt (length raw) (needs row) then short (needs row) (length raw) else known row raw
+
+-- a raw with spaces for the reserved bytes of its row
+abbrev pub blanked_by : {A : Type 0} → Option (Row A) → List ℕ → List ℕ
+blanked_by None raw = raw
+blanked_by (Some row) raw = take 2 raw ++ all_blanked row.fields (drop 2 raw)

@@ -3,16 +3,17 @@ ghost use Rattle.std.specs.Option.{option_map};
 ghost use Rattle.pitch_fields.specs.Side.{side_of};
 ghost use Rattle.pitch_messages.specs.Raw.{IsRaw, kind_of};
 ghost use Rattle.pitch_messages.specs.declared.message.ReadError.TheVariants.{BadSide};
-ghost use Rattle.pitch_messages.specs.Table.{bytes_at};
+ghost use Rattle.pitch_messages.specs.Fields.{bytes_at};
+ghost use Rattle.pitch_messages.specs.Table.{needs};
 ghost use Rattle.pitch_messages.specs.Writing.{written, with_reserved_blank};
-ghost use Rattle.pitch_messages.specs.Reading.{needs_of, extra_of, reads, row_of, time_row};
+ghost use Rattle.pitch_messages.specs.Reading.{needs_of, extra_of, reads, row_of, row_says};
 ghost use Rattle.pitch_messages.specs.Reading.{add_long_row, add_short_row, executed_row};
 ghost use Rattle.pitch_messages.specs.Reading.{executed_at_row, reduce_long_row, reduce_short_row};
 ghost use Rattle.pitch_messages.specs.Reading.{modify_long_row, modify_short_row, delete_row};
 ghost use Rattle.pitch_messages.specs.Reading.{trade_long_row, trade_short_row, trade_break_row};
 ghost use Rattle.pitch_messages.specs.Reading.{end_of_session_row, add_expanded_row};
 ghost use Rattle.pitch_messages.specs.Reading.{trade_expanded_row, trading_status_row};
-ghost use Rattle.pitch_messages.specs.Reading.{unit_clear_row};
+ghost use Rattle.pitch_messages.specs.Reading.{time_row, unit_clear_row};
 
 use crate::message::{Message, ReadError};
 use crate::raw::Raw;
@@ -78,7 +79,7 @@ fn side_at(bytes: &[u8]) -> Result<Side, ReadError>
 #[inline(always)]
 fn time(bytes: &[u8]) -> Result<Message, ReadError>
     requires { 6 ≤ length bytes.now }
-    ensures { result ≡ time_row.says bytes.now }
+    ensures { result ≡ row_says time_row bytes.now }
 {
     Ok(Message::Time {
         second: get_u32(bytes, 2),
@@ -88,7 +89,7 @@ fn time(bytes: &[u8]) -> Result<Message, ReadError>
 #[inline(always)]
 fn add_long(bytes: &[u8]) -> Result<Message, ReadError>
     requires { 34 ≤ length bytes.now }
-    ensures { result ≡ add_long_row.says bytes.now }
+    ensures { result ≡ row_says add_long_row bytes.now }
 {
     let side = side_at(bytes)?;
     Ok(Message::AddLong {
@@ -105,7 +106,7 @@ fn add_long(bytes: &[u8]) -> Result<Message, ReadError>
 #[inline(always)]
 fn add_short(bytes: &[u8]) -> Result<Message, ReadError>
     requires { 26 ≤ length bytes.now }
-    ensures { result ≡ add_short_row.says bytes.now }
+    ensures { result ≡ row_says add_short_row bytes.now }
 {
     let side = side_at(bytes)?;
     Ok(Message::AddShort {
@@ -122,7 +123,7 @@ fn add_short(bytes: &[u8]) -> Result<Message, ReadError>
 #[inline(always)]
 fn executed(bytes: &[u8]) -> Result<Message, ReadError>
     requires { 26 ≤ length bytes.now }
-    ensures { result ≡ executed_row.says bytes.now }
+    ensures { result ≡ row_says executed_row bytes.now }
 {
     Ok(Message::Executed {
         offset: get_u32(bytes, 2),
@@ -135,7 +136,7 @@ fn executed(bytes: &[u8]) -> Result<Message, ReadError>
 #[inline(always)]
 fn executed_at(bytes: &[u8]) -> Result<Message, ReadError>
     requires { 38 ≤ length bytes.now }
-    ensures { result ≡ executed_at_row.says bytes.now }
+    ensures { result ≡ row_says executed_at_row bytes.now }
 {
     Ok(Message::ExecutedAt {
         offset: get_u32(bytes, 2),
@@ -150,7 +151,7 @@ fn executed_at(bytes: &[u8]) -> Result<Message, ReadError>
 #[inline(always)]
 fn reduce_long(bytes: &[u8]) -> Result<Message, ReadError>
     requires { 18 ≤ length bytes.now }
-    ensures { result ≡ reduce_long_row.says bytes.now }
+    ensures { result ≡ row_says reduce_long_row bytes.now }
 {
     Ok(Message::ReduceLong {
         offset: get_u32(bytes, 2),
@@ -162,7 +163,7 @@ fn reduce_long(bytes: &[u8]) -> Result<Message, ReadError>
 #[inline(always)]
 fn reduce_short(bytes: &[u8]) -> Result<Message, ReadError>
     requires { 16 ≤ length bytes.now }
-    ensures { result ≡ reduce_short_row.says bytes.now }
+    ensures { result ≡ row_says reduce_short_row bytes.now }
 {
     Ok(Message::ReduceShort {
         offset: get_u32(bytes, 2),
@@ -174,7 +175,7 @@ fn reduce_short(bytes: &[u8]) -> Result<Message, ReadError>
 #[inline(always)]
 fn modify_long(bytes: &[u8]) -> Result<Message, ReadError>
     requires { 27 ≤ length bytes.now }
-    ensures { result ≡ modify_long_row.says bytes.now }
+    ensures { result ≡ row_says modify_long_row bytes.now }
 {
     Ok(Message::ModifyLong {
         offset: get_u32(bytes, 2),
@@ -188,7 +189,7 @@ fn modify_long(bytes: &[u8]) -> Result<Message, ReadError>
 #[inline(always)]
 fn modify_short(bytes: &[u8]) -> Result<Message, ReadError>
     requires { 19 ≤ length bytes.now }
-    ensures { result ≡ modify_short_row.says bytes.now }
+    ensures { result ≡ row_says modify_short_row bytes.now }
 {
     Ok(Message::ModifyShort {
         offset: get_u32(bytes, 2),
@@ -202,7 +203,7 @@ fn modify_short(bytes: &[u8]) -> Result<Message, ReadError>
 #[inline(always)]
 fn delete(bytes: &[u8]) -> Result<Message, ReadError>
     requires { 14 ≤ length bytes.now }
-    ensures { result ≡ delete_row.says bytes.now }
+    ensures { result ≡ row_says delete_row bytes.now }
 {
     Ok(Message::Delete {
         offset: get_u32(bytes, 2),
@@ -213,7 +214,7 @@ fn delete(bytes: &[u8]) -> Result<Message, ReadError>
 #[inline(always)]
 fn trade_long(bytes: &[u8]) -> Result<Message, ReadError>
     requires { 41 ≤ length bytes.now }
-    ensures { result ≡ trade_long_row.says bytes.now }
+    ensures { result ≡ row_says trade_long_row bytes.now }
 {
     let side = side_at(bytes)?;
     Ok(Message::TradeLong {
@@ -230,7 +231,7 @@ fn trade_long(bytes: &[u8]) -> Result<Message, ReadError>
 #[inline(always)]
 fn trade_short(bytes: &[u8]) -> Result<Message, ReadError>
     requires { 33 ≤ length bytes.now }
-    ensures { result ≡ trade_short_row.says bytes.now }
+    ensures { result ≡ row_says trade_short_row bytes.now }
 {
     let side = side_at(bytes)?;
     Ok(Message::TradeShort {
@@ -247,7 +248,7 @@ fn trade_short(bytes: &[u8]) -> Result<Message, ReadError>
 #[inline(always)]
 fn trade_break(bytes: &[u8]) -> Result<Message, ReadError>
     requires { 14 ≤ length bytes.now }
-    ensures { result ≡ trade_break_row.says bytes.now }
+    ensures { result ≡ row_says trade_break_row bytes.now }
 {
     Ok(Message::TradeBreak {
         offset: get_u32(bytes, 2),
@@ -258,7 +259,7 @@ fn trade_break(bytes: &[u8]) -> Result<Message, ReadError>
 #[inline(always)]
 fn end_of_session(bytes: &[u8]) -> Result<Message, ReadError>
     requires { 6 ≤ length bytes.now }
-    ensures { result ≡ end_of_session_row.says bytes.now }
+    ensures { result ≡ row_says end_of_session_row bytes.now }
 {
     Ok(Message::EndOfSession {
         offset: get_u32(bytes, 2),
@@ -268,7 +269,7 @@ fn end_of_session(bytes: &[u8]) -> Result<Message, ReadError>
 #[inline(always)]
 fn add_expanded(bytes: &[u8]) -> Result<Message, ReadError>
     requires { 40 ≤ length bytes.now }
-    ensures { result ≡ add_expanded_row.says bytes.now }
+    ensures { result ≡ row_says add_expanded_row bytes.now }
 {
     let side = side_at(bytes)?;
     Ok(Message::AddExpanded {
@@ -286,7 +287,7 @@ fn add_expanded(bytes: &[u8]) -> Result<Message, ReadError>
 #[inline(always)]
 fn trade_expanded(bytes: &[u8]) -> Result<Message, ReadError>
     requires { 43 ≤ length bytes.now }
-    ensures { result ≡ trade_expanded_row.says bytes.now }
+    ensures { result ≡ row_says trade_expanded_row bytes.now }
 {
     let side = side_at(bytes)?;
     Ok(Message::TradeExpanded {
@@ -303,7 +304,7 @@ fn trade_expanded(bytes: &[u8]) -> Result<Message, ReadError>
 #[inline(always)]
 fn trading_status(bytes: &[u8]) -> Result<Message, ReadError>
     requires { 18 ≤ length bytes.now }
-    ensures { result ≡ trading_status_row.says bytes.now }
+    ensures { result ≡ row_says trading_status_row bytes.now }
 {
     Ok(Message::TradingStatus {
         offset: get_u32(bytes, 2),
@@ -316,7 +317,7 @@ fn trading_status(bytes: &[u8]) -> Result<Message, ReadError>
 #[inline(always)]
 fn unit_clear(bytes: &[u8]) -> Result<Message, ReadError>
     requires { 6 ≤ length bytes.now }
-    ensures { result ≡ unit_clear_row.says bytes.now }
+    ensures { result ≡ row_says unit_clear_row bytes.now }
 {
     Ok(Message::UnitClear {
         offset: get_u32(bytes, 2),
@@ -326,7 +327,7 @@ fn unit_clear(bytes: &[u8]) -> Result<Message, ReadError>
 // How many bytes a message of a type needs, where the type is known.
 #[inline(always)]
 fn needs_of(kind: u8) -> Option<u8>
-    ensures { result ≡ option_map (λ row. row.needs) (row_of kind) }
+    ensures { result ≡ option_map (λ row. needs row) (row_of kind) }
 {
     match kind {
         0x20 => Some(6),

@@ -4,11 +4,13 @@ ghost use Rattle.std.specs.Prelude.{◌≡◌, ℕ, ◌+◌, ◌≤◌, ◌<◌,
 ghost use Rattle.std.specs.Prelude.{OnOk, IfErr};
 ghost use Rattle.std.specs.Option.{option_map};
 ghost use Rattle.pitch_messages.specs.Raw.{IsRaw, kind_of};
-ghost use Rattle.pitch_messages.specs.Table.{bytes_at, needs_by};
+ghost use Rattle.pitch_messages.specs.Fields.{bytes_at};
+ghost use Rattle.pitch_messages.specs.Table.{needs, needs_by};
 ghost use Rattle.pitch_messages.specs.Session.{session_row_of, session_reads, session_written};
 ghost use Rattle.pitch_messages.specs.Session.{login_row, login_reply_row, gap_request_row};
 ghost use Rattle.pitch_messages.specs.Session.{gap_reply_row, spin_available_row, spin_request_row};
 ghost use Rattle.pitch_messages.specs.Session.{spin_reply_row, spin_finished_row};
+ghost use Rattle.pitch_messages.specs.Session.{session_row_says};
 ghost use Rattle.pitch_messages.specs.declared.session.SessionMessage.TheVariants.{Login};
 
 use crate::raw::Raw;
@@ -97,7 +99,7 @@ fn ten_at(bytes: &[u8], at: usize) -> [u8; 10]
 
 fn login(bytes: &[u8]) -> SessionMessage
     requires { 22 ≤ length bytes.now }
-    ensures { Ok result ≡ login_row.says bytes.now }
+    ensures { Ok result ≡ session_row_says login_row bytes.now }
 {
     SessionMessage::Login {
         sub: four_at(bytes, 2),
@@ -108,14 +110,14 @@ fn login(bytes: &[u8]) -> SessionMessage
 
 fn login_reply(bytes: &[u8]) -> SessionMessage
     requires { 3 ≤ length bytes.now }
-    ensures { Ok result ≡ login_reply_row.says bytes.now }
+    ensures { Ok result ≡ session_row_says login_reply_row bytes.now }
 {
     SessionMessage::LoginReply { status: bytes[2] }
 }
 
 fn gap_request(bytes: &[u8]) -> SessionMessage
     requires { 9 ≤ length bytes.now }
-    ensures { Ok result ≡ gap_request_row.says bytes.now }
+    ensures { Ok result ≡ session_row_says gap_request_row bytes.now }
 {
     SessionMessage::GapRequest {
         unit: bytes[2],
@@ -126,7 +128,7 @@ fn gap_request(bytes: &[u8]) -> SessionMessage
 
 fn gap_reply(bytes: &[u8]) -> SessionMessage
     requires { 10 ≤ length bytes.now }
-    ensures { Ok result ≡ gap_reply_row.says bytes.now }
+    ensures { Ok result ≡ session_row_says gap_reply_row bytes.now }
 {
     SessionMessage::GapReply {
         unit: bytes[2],
@@ -138,7 +140,7 @@ fn gap_reply(bytes: &[u8]) -> SessionMessage
 
 fn spin_available(bytes: &[u8]) -> SessionMessage
     requires { 6 ≤ length bytes.now }
-    ensures { Ok result ≡ spin_available_row.says bytes.now }
+    ensures { Ok result ≡ session_row_says spin_available_row bytes.now }
 {
     SessionMessage::SpinAvailable {
         sequence: get_u32(bytes, 2),
@@ -147,7 +149,7 @@ fn spin_available(bytes: &[u8]) -> SessionMessage
 
 fn spin_request(bytes: &[u8]) -> SessionMessage
     requires { 6 ≤ length bytes.now }
-    ensures { Ok result ≡ spin_request_row.says bytes.now }
+    ensures { Ok result ≡ session_row_says spin_request_row bytes.now }
 {
     SessionMessage::SpinRequest {
         sequence: get_u32(bytes, 2),
@@ -156,7 +158,7 @@ fn spin_request(bytes: &[u8]) -> SessionMessage
 
 fn spin_reply(bytes: &[u8]) -> SessionMessage
     requires { 11 ≤ length bytes.now }
-    ensures { Ok result ≡ spin_reply_row.says bytes.now }
+    ensures { Ok result ≡ session_row_says spin_reply_row bytes.now }
 {
     SessionMessage::SpinReply {
         sequence: get_u32(bytes, 2),
@@ -167,7 +169,7 @@ fn spin_reply(bytes: &[u8]) -> SessionMessage
 
 fn spin_finished(bytes: &[u8]) -> SessionMessage
     requires { 6 ≤ length bytes.now }
-    ensures { Ok result ≡ spin_finished_row.says bytes.now }
+    ensures { Ok result ≡ session_row_says spin_finished_row bytes.now }
 {
     SessionMessage::SpinFinished {
         sequence: get_u32(bytes, 2),
@@ -176,7 +178,7 @@ fn spin_finished(bytes: &[u8]) -> SessionMessage
 
 // How many bytes a session message of a type needs, where the type is one of a session.
 fn needs_of(kind: u8) -> Option<u8>
-    ensures { result ≡ option_map (λ row. row.needs) (session_row_of kind) }
+    ensures { result ≡ option_map (λ row. needs row) (session_row_of kind) }
 {
     match kind {
         0x01 => Some(22),

@@ -1,22 +1,17 @@
 -- The messages of an image: raws of bytes, one add for each open order, one status for each symbol.
-use Rattle.std.proofs.Common.{◌≡◌, ℕ, zero, suc, ◌+◌, ◌≤◌, ◌<◌, Bool, true, false, ◌&&◌, ◌||◌, ◌==◌, cond, List, [], ◌∷◌, ◌++◌, length, take, map, slice_index, nat_le, refl, sym, ap, ◌∙◌, subst, arith, length-append, length-take, Option, Some, None}
+use Rattle.std.proofs.Common.{◌≡◌, ℕ, suc, ◌+◌, ◌^◌, ◌≤◌, ◌<◌, Bool, true, false, ◌&&◌, ◌||◌, ◌==◌, cond, List, [], ◌∷◌, ◌++◌, length, take, map, nat_le, refl, sym, ap, ◌∙◌, subst, arith, length-take, Option, Some, None}
 use Rattle.std.specs.List.{AllByRecursion}
-use Rattle.std.specs.Int.{byte_at, bytes_low_first}
 use Rattle.std.specs.FinMap as finite
 use Rattle.std.proofs.lemmas.Cmp.{nat_cmp_total, nat_list_cmp_total}
 use Rattle.std.proofs.Math.Bool.{or-true}
-use Rattle.std.proofs.Math.Nat.{mod-lt}
 use Rattle.std.proofs.lemmas.List.{map-append}
 use Rattle.std.proofs.lemmas.List.Sums.{sum_by-cons, sum_by-append}
 use Rattle.std.proofs.lemmas.Bool.Decides.{nat_tests}
 use Rattle.pitch_fields.specs.Fields.{AreBytes}
-use Rattle.pitch_fields.specs.Side.{byte_of}
-use Rattle.pitch_fields.specs.declared.side.Side.{Side}
-use Rattle.pitch_fields.specs.declared.side.Side.TheVariants.{Buy, Sell}
 use Rattle.pitch_messages.specs.declared.order.Order.{Order}
 use Rattle.pitch_messages.specs.declared.trading_state.TradingState.{TradingState}
 use Rattle.pitch_messages.specs.declared.message.Message.{Message}
-use Rattle.pitch_messages.specs.declared.message.Message.TheVariants.{Time}
+use Rattle.pitch_messages.specs.declared.message.Message.TheVariants.{Time, AddLong, AddShort, AddExpanded, TradingStatus}
 use Rattle.pitch_messages.specs.Forms.{status_message, add_message, add_in_form, plain_symbol, short_price, flags_of}
 use Rattle.pitch_messages.specs.Raw.{IsRaw, kind_of}
 use Rattle.pitch_messages.specs.Writing.{written}
@@ -27,9 +22,9 @@ use Rattle.pitch_model.specs.Levels.{orders_of}
 use Rattle.pitch_model.specs.Statuses.{symbol_state, statuses_of}
 use Rattle.pitch_model.specs.Widths.{FitsWire, FitsStatus, IsWireBook}
 use Rattle.pitch_model.proofs.Books.{book_after_len}
-use Rattle.pitch_model.proofs.Images.{plain_is}
+use Rattle.pitch_model.proofs.Images.{plain_is, short_is}
 use Rattle.pitch_model.proofs.Putting.{all_entries}
-use Rattle.pitch_model.proofs.Widths.{bytes_append}
+use Rattle.pitch_messages.proofs.Widths.{message_raw}
 
 -- ---- How many orders an image adds
 abbrev adds_of : List Order → List Raw
@@ -135,25 +130,9 @@ image_promised V s low =
     both n within = grind (arith, nat_tests, within, low)
 
 -- ---- Bytes
--- the lowest n bytes of a number, the lowest of them first
-abbrev little : ℕ → ℕ → List ℕ
-little n x = bytes_low_first 0 n x
-
-number_bytes : (i k n : ℕ) → AreBytes (bytes_low_first i k n)
-number_bytes i zero n = tt
-number_bytes i (suc k) n = (byte i, number_bytes (suc i) k n)
-  where
-    byte : (i : ℕ) → byte_at i n < 256
-    byte zero = mod-lt n (omega arith)
-    byte (suc i) = mod-lt _ (omega arith)
-
 bytes_prefix : (xs ys : List ℕ) → AreBytes (xs ++ ys) → AreBytes xs
 bytes_prefix [] ys all = tt
 bytes_prefix (x ∷ xs) ys all = (all.0, bytes_prefix xs ys all.1)
-
-side_byte : (side : Side) → byte_of side < 256
-side_byte Buy = omega arith
-side_byte Sell = omega arith
 
 flags_byte : (display : Bool) → flags_of display < 256
 flags_byte true = omega arith
@@ -162,65 +141,39 @@ flags_byte false = omega arith
 abbrev IsByteRaw : List ℕ → Type 0
 IsByteRaw raw = IsRaw raw × AreBytes raw
 
-raw_by : (raw : List ℕ) (n : ℕ) → length raw ≡ n → slice_index raw 0 ≡ n → 2 ≤ n → n ≤ 255 → AreBytes raw → IsByteRaw raw
-raw_by raw n size first least most bytes = (record { least = omega (arith, size, least); most = omega (arith, size, most); first = first ∙ sym size }, bytes)
-
--- an add's type, id and side, quantity, symbol and price, and what follows
-add_bytes : (size kind id : ℕ) (side : Side) (n quantity : ℕ) (symbol : List ℕ) (m price : ℕ) (last : List ℕ) → size < 256 → kind < 256 → AreBytes symbol → AreBytes last
-    → AreBytes (size ∷ kind ∷ (little 4 0 ++ (little 8 id ++ byte_of side ∷ (little n quantity ++ (symbol ++ (little m price ++ last))))))
-add_bytes size kind id side n quantity symbol m price last s k all more =
-    let ends : AreBytes (little n quantity ++ (symbol ++ (little m price ++ last))) =
-    bytes_append (little n quantity) (symbol ++ (little m price ++ last)) (number_bytes 0 n quantity)
-    (bytes_append symbol (little m price ++ last) all (bytes_append (little m price) last (number_bytes 0 m price) more)) in
-    let rest : List ℕ = byte_of side ∷ (little n quantity ++ (symbol ++ (little m price ++ last))) in
-    (s, (k, bytes_append (little 4 0) (little 8 id ++ rest) (number_bytes 0 4 0) (bytes_append (little 8 id) rest (number_bytes 0 8 id) (side_byte side, ends))))
-
 add_raw : (order : Order) → FitsWire order → IsByteRaw (written (add_message order 0))
-unfolding written add_message
-add_raw order fits = by (plain_symbol order) (short_price order.quantity order.price) refl
+unfolding add_message
+add_raw order fits = by (plain_symbol order) (short_price order.quantity order.price) refl refl
   where
-    one : AreBytes (flags_of order.display ∷ [])
-    one = (flags_byte order.display, tt)
+    flags : flags_of order.display < 256
+    flags = flags_byte order.display
 
-    by : (six : Option (List ℕ)) (cents : Option ℕ) → plain_symbol order ≡ six → IsByteRaw (written (add_in_form six cents order 0))
-    by None cents s =
-        let symbol = fits.symbol in
-        let participant = fits.participant in
-        raw_by (written (add_in_form None cents order 0)) 40
-        (omega (arith, length-append order.symbol (little 8 order.price ++ flags_of order.display ∷ order.participant), symbol, participant)) refl (omega arith) (omega arith)
-        (add_bytes 40 0x2f order.id order.side 4 order.quantity order.symbol 8 order.price (flags_of order.display ∷ order.participant) (omega arith) (omega arith) fits.symbol_bytes (flags_byte order.display, fits.participant_bytes))
-    by (Some six) None s =
+    by : (six : Option (List ℕ)) (cents : Option ℕ) → plain_symbol order ≡ six → short_price order.quantity order.price ≡ cents → IsByteRaw (written (add_in_form six cents order 0))
+    by None cents s c =
+        message_raw (AddExpanded 0 order.id order.side order.quantity order.symbol order.price (flags_of order.display) order.participant) (omega arith, omega arith)
+        (omega arith, (fits.id, (tt, (fits.quantity, ((fits.symbol, fits.symbol_bytes), (fits.price, (flags, ((fits.participant, fits.participant_bytes), tt))))))))
+    by (Some six) None s c =
         let plain = (plain_is order six fits s).0 in
-        let size = plain.size in
-        raw_by (written (add_in_form (Some six) None order 0)) 34 (omega (arith, length-append six (little 8 order.price ++ flags_of order.display ∷ []), size)) refl (omega arith) (omega arith)
-        (add_bytes 34 0x21 order.id order.side 4 order.quantity six 8 order.price (flags_of order.display ∷ []) (omega arith) (omega arith) (bytes_prefix six (32 ∷ 32 ∷ []) (subst AreBytes (sym plain.padded) fits.symbol_bytes)) one)
-    by (Some six) (Some cents) s =
+        let bytes : AreBytes six = bytes_prefix six (32 ∷ 32 ∷ []) (subst AreBytes (sym plain.padded) fits.symbol_bytes) in
+        message_raw (AddLong 0 order.id order.side order.quantity six order.price (flags_of order.display)) (omega arith, omega arith)
+        (omega arith, (fits.id, (tt, (fits.quantity, ((plain.size, bytes), (fits.price, (flags, tt)))))))
+    by (Some six) (Some cents) s c =
         let plain = (plain_is order six fits s).0 in
-        let size = plain.size in
-        raw_by (written (add_in_form (Some six) (Some cents) order 0)) 26 (omega (arith, length-append six (little 2 cents ++ flags_of order.display ∷ []), size)) refl (omega arith) (omega arith)
-        (add_bytes 26 0x22 order.id order.side 2 order.quantity six 2 cents (flags_of order.display ∷ []) (omega arith) (omega arith) (bytes_prefix six (32 ∷ 32 ∷ []) (subst AreBytes (sym plain.padded) fits.symbol_bytes)) one)
+        let bytes : AreBytes six = bytes_prefix six (32 ∷ 32 ∷ []) (subst AreBytes (sym plain.padded) fits.symbol_bytes) in
+        let short = short_is order.quantity order.price cents c in
+        message_raw (AddShort 0 order.id order.side order.quantity six cents (flags_of order.display)) (omega arith, omega arith)
+        (omega arith, (fits.id, (tt, (short.few, ((plain.size, bytes), (short.low, (flags, tt)))))))
 
-time_raw : (second : ℕ) → IsByteRaw (written (Time second))
-unfolding written
-time_raw second = raw_by (written (Time second)) 6 refl refl (omega arith) (omega arith) (omega arith, (omega arith, number_bytes 0 4 second))
+time_raw : (second : ℕ) → second < 256 ^ 4 → IsByteRaw (written (Time second))
+time_raw second fits = message_raw (Time second) (omega arith, omega arith) (fits, tt)
 
 adds_raw : (es : List (ℕ × Order)) → AllByRecursion (λ e. FitsWire e.1) es → AllByRecursion IsByteRaw (adds_of (map (λ (e : ℕ × Order). e.1) es))
 adds_raw [] all = tt
 adds_raw (e ∷ es) all = (add_raw e.1 all.0, adds_raw es all.1)
 
 status_raw : (symbol : List ℕ) (status : ℕ × ℕ) → FitsStatus symbol status → IsByteRaw (written (status_message (symbol_state (symbol, status)) 0))
-unfolding written
 status_raw symbol status fits =
-    let size = fits.symbol in
-    let last : List ℕ = status.0 ∷ status.1 ∷ 32 ∷ 32 ∷ [] in
-    raw_by (written (status_message (symbol_state (symbol, status)) 0)) 18 (omega (arith, length-append symbol last, size)) refl (omega arith) (omega arith) (
-      omega arith,
-      (
-        omega arith,
-        bytes_append (little 4 0) (symbol ++ last) (number_bytes 0 4 0)
-            (bytes_append symbol last fits.symbol_bytes (fits.halt, (fits.sho, (omega arith, (omega arith, tt))))),
-      ),
-    )
+    message_raw (TradingStatus 0 symbol status.0 status.1) (omega arith, omega arith) (omega arith, ((fits.symbol, fits.symbol_bytes), (fits.halt, (fits.sho, (tt, tt)))))
 
 states_raw : (es : List (List ℕ × (ℕ × ℕ))) → AllByRecursion (λ e. FitsStatus e.0 e.1) es → AllByRecursion IsByteRaw (raws_of_states es)
 states_raw [] all = tt
@@ -233,14 +186,14 @@ byte_raws_append (x ∷ xs) ys all more = (all.0, byte_raws_append xs ys all.1 m
 image_byte_raws : (book : Book) → IsWireBook book → AllByRecursion IsByteRaw (image_of book)
 image_byte_raws book wire =
     subst (AllByRecursion IsByteRaw) (sym (parts_are book))
-    (byte_raws_append (map written (clock_of book.second)) _ (clock book.second)
+    (byte_raws_append (map written (clock_of book.second)) _ (clock book.second wire.clock)
     (byte_raws_append (adds_of (orders_of book)) _
     (adds_raw (finite.entries book.orders) (all_entries nat_cmp_total finite.nat_cmp-IsAntisymmetric (λ id order. FitsWire order) book.orders wire.orders))
     (states_raw (finite.entries book.statuses) (all_entries nat_list_cmp_total (finite.slice_cmp-IsAntisymmetric finite.nat_cmp-IsAntisymmetric) FitsStatus book.statuses wire.statuses))))
   where
-    clock : (second : Option ℕ) → AllByRecursion IsByteRaw (map written (clock_of second))
-    clock None = tt
-    clock (Some second) = (time_raw second, tt)
+    clock : (second : Option ℕ) → ((n : ℕ) → second ≡ Some n → n < 256 ^ 4) → AllByRecursion IsByteRaw (map written (clock_of second))
+    clock None fits = tt
+    clock (Some second) fits = (time_raw second (fits second refl), tt)
 
 all_raws : (raws : List Raw) → AllByRecursion IsByteRaw raws → AllByRecursion IsRaw raws
 all_raws [] all = tt

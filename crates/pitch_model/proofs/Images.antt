@@ -11,12 +11,13 @@ use Rattle.std.proofs.lemmas.Bool.Decides.{nat_tests}
 use Rattle.std.proofs.lemmas.List.Sums.{fold-append}
 use Rattle.pitch_messages.specs.declared.order.Order.{Order}
 use Rattle.pitch_messages.specs.declared.message.Message.{Message}
+use Rattle.pitch_messages.specs.declared.message.Message.TheVariants.{Time, AddLong, AddShort, AddExpanded, TradingStatus}
 use Rattle.pitch_messages.specs.declared.message.ReadError.{ReadError}
 use Rattle.pitch_messages.specs.Reading.{reads}
 use Rattle.pitch_fields.specs.Name.{is_blank, six_of}
 use Rattle.pitch_fields.specs.Price.{short_of}
 use Rattle.pitch_messages.specs.Forms.{status_message, add_message, add_in_form, plain_symbol, short_price, flags_of}
-use Rattle.pitch_messages.proofs.RoundTrip.{time_back, add_long_back, add_short_back, add_expanded_back, trading_status_back}
+use Rattle.pitch_messages.proofs.RoundTrip.{message_back}
 use Rattle.pitch_messages.specs.Writing.{written}
 use Rattle.pitch_model.specs.Book.{Book, symbol_cmp, IsBook, empty_book, with_order, with_status, added, long_symbol, long_price, is_displayed, order_of_long, order_of_expanded, after_message, after_read, after, book_after}
 use Rattle.pitch_fields.specs.Fields.{AreBytes}
@@ -192,12 +193,12 @@ unfolding add_message
 add_message_reads order fits = by (plain_symbol order) (short_price order.quantity order.price) refl refl
   where
     by : (six : Option (List ℕ)) (cents : Option ℕ) → plain_symbol order ≡ six → short_price order.quantity order.price ≡ cents → reads (written (add_in_form six cents order 0)) ≡ Ok (add_in_form six cents order 0)
-    by None cents s c = add_expanded_back 0 order.id order.side order.quantity order.symbol order.price (flags_of order.display) order.participant (omega arith) fits.id fits.quantity fits.price fits.symbol fits.participant
-    by (Some six) None s c = let plain = plain_is order six fits s in add_long_back 0 order.id order.side order.quantity six order.price (flags_of order.display) (omega arith) fits.id fits.quantity fits.price plain.0.size
+    by None cents s c = message_back (AddExpanded 0 order.id order.side order.quantity order.symbol order.price (flags_of order.display) order.participant) (omega arith, (fits.id, (tt, (fits.quantity, (fits.symbol, (fits.price, (tt, (fits.participant, tt))))))))
+    by (Some six) None s c = let plain = plain_is order six fits s in message_back (AddLong 0 order.id order.side order.quantity six order.price (flags_of order.display)) (omega arith, (fits.id, (tt, (fits.quantity, (plain.0.size, (fits.price, (tt, tt)))))))
     by (Some six) (Some cents) s c =
         let plain = plain_is order six fits s in
         let short = short_is order.quantity order.price cents c in
-        add_short_back 0 order.id order.side order.quantity six cents (flags_of order.display) (omega arith) fits.id short.few short.low plain.0.size
+        message_back (AddShort 0 order.id order.side order.quantity six cents (flags_of order.display)) (omega arith, (fits.id, (tt, (short.few, (plain.0.size, (short.low, (tt, tt)))))))
 
 -- ---- The image
 adds_read : (es : List (ℕ × Order)) → AllByRecursion (λ e. FitsWire e.1) es → AllByRecursion (λ m. reads (written m) ≡ Ok m) (map (λ order. add_message order 0) (map (λ e. e.1) es))
@@ -206,11 +207,11 @@ adds_read (e ∷ es) all = (add_message_reads e.1 all.0, adds_read es all.1)
 
 image_reads : (second : Option ℕ) (messages : List Message) → ((n : ℕ) → second ≡ Some n → n < 256 ^ 4) → AllByRecursion (λ m. reads (written m) ≡ Ok m) messages → AllByRecursion (λ m. reads (written m) ≡ Ok m) (clock_of second ++ messages)
 image_reads None messages fits all = all
-image_reads (Some second) messages fits all = (time_back second (fits second refl), all)
+image_reads (Some second) messages fits all = (message_back (Time second) (fits second refl, tt), all)
 
 statuses_read : (es : List (List ℕ × (ℕ × ℕ))) → AllByRecursion (λ e. FitsStatus e.0 e.1) es → AllByRecursion (λ m. reads (written m) ≡ Ok m) (map (λ state. status_message state 0) (map symbol_state es))
 statuses_read [] all = tt
-statuses_read (e ∷ es) all = (trading_status_back 0 e.0 e.1.0 e.1.1 (omega arith) all.0.symbol, statuses_read es all.1)
+statuses_read (e ∷ es) all = (message_back (TradingStatus 0 e.0 e.1.0 e.1.1) (omega arith, (all.0.symbol, (tt, (tt, (tt, tt))))), statuses_read es all.1)
 
 both_read : (ms ns : List Message) → AllByRecursion (λ m. reads (written m) ≡ Ok m) ms → AllByRecursion (λ m. reads (written m) ≡ Ok m) ns → AllByRecursion (λ m. reads (written m) ≡ Ok m) (ms ++ ns)
 both_read [] ns all more = more

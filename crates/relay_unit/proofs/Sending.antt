@@ -4,7 +4,7 @@ use Rattle.std.proofs.lemmas.List.{take-append-drop, take-take}
 use Rattle.std.specs.List.{AllByRecursion}
 use Rattle.pitch_messages.specs.declared.message.Message.TheVariants.{UnitClear}
 use Rattle.pitch_messages.specs.Writing.{written}
-use Rattle.pitch_messages.proofs.RoundTrip.{unit_clear_back}
+use Rattle.pitch_messages.proofs.RoundTrip.{message_back}
 use Rattle.pitch_model.specs.History.{Entry, Raw}
 use Rattle.pitch_model.specs.Book.{Book, cleared, after_read, after, book_after}
 use Rattle.pitch_model.specs.Image.{image}
@@ -23,7 +23,7 @@ take_then r t V le = sym (take-append-drop r (take t V)) ∙ ap (λ xs. xs ++ dr
 -- Unit Clear takes all orders out
 pub clears : (book : Book) → after book (written (UnitClear 0)) ≡ cleared book
 unfolding after
-clears book = ap (after_read book) (unit_clear_back 0 (omega arith))
+clears book = ap (after_read book) (message_back (UnitClear 0) (omega arith, tt))
 
 -- after Unit Clear, the image through t leaves the book of the messages up to t
 image_follows : (V : List Raw) (r t : ℕ) → AllByRecursion AreBytes V → r ≤ t → fold after (book_after (take r V)) (written (UnitClear 0) ∷ image V t) ≡ book_after (take t V)

@@ -1,19 +1,18 @@
 -- The messages of the plan are bytes, and each stands at its place.
-use Rattle.std.proofs.Common.{◌≡◌, ◌≢◌, ℕ, zero, suc, ◌+◌, ◌*◌, ◌/◌, ◌%◌, ◌^◌, ◌<◌, ◌≤◌, Bool, true, false, cond, ◌==◌, List, [], ◌∷◌, ◌++◌, length, take, codes, Option, None, Some, refl, sym, ap, ◌∙◌, subst, arith}
+use Rattle.std.proofs.Common.{◌≡◌, ◌≢◌, ℕ, zero, suc, ◌+◌, ◌*◌, ◌%◌, ◌<◌, ◌≤◌, Bool, true, false, cond, ◌==◌, List, [], ◌∷◌, ◌++◌, length, take, codes, Option, None, Some, refl, sym, ap, ◌∙◌, subst, arith}
 use Rattle.std.specs.Prelude.{IfSome}
 use Rattle.std.specs.List.{AllByRecursion, slice_get}
-use Rattle.std.specs.Int.{byte_at, bytes_low_first}
 use Rattle.std.proofs.lemmas.Bool.{eqb-true}
 use Rattle.std.proofs.lemmas.Bool.Decides.{nat_tests}
 use Rattle.std.proofs.lemmas.List.{take-append-le, take_all}
-use Rattle.pitch_fields.specs.Side.{byte_of}
 use Rattle.pitch_fields.specs.declared.side.Side.{Side}
 use Rattle.pitch_fields.specs.declared.side.Side.TheVariants.{Buy, Sell}
 use Rattle.pitch_messages.specs.declared.order.Order.{Order}
-use Rattle.pitch_messages.specs.Forms.{add_in_form, add_message, short_price, trade_in_form, trade_message, reduce_message, modify_in_form, modify_message}
+use Rattle.pitch_messages.specs.Forms.{flags_of, add_in_form, add_message, short_price, trade_in_form, trade_message, reduce_message, modify_in_form, modify_message}
 use Rattle.pitch_messages.specs.Writing.{written}
 use Rattle.pitch_fields.specs.Fields.{AreBytes}
-use Rattle.pitch_model.proofs.Widths.{bytes_append}
+use Rattle.pitch_messages.proofs.Widths.{message_bytes}
+use Rattle.pitch_messages.specs.declared.message.Message.TheVariants.{Time, AddLong, AddShort, Executed, ReduceShort, ModifyLong, ModifyShort, Delete, TradeLong, TradeShort, AddExpanded, TradeExpanded}
 use Rattle.pitch_text.specs.declared.command.Command.{Command}
 use Rattle.pitch_text.specs.declared.command.Command.TheVariants as commands
 use Rattle.venue_core.specs.Commands.{raw_of}
@@ -23,84 +22,40 @@ use Rattle.venue_core.proofs.PlanEffects.{symbol_case, alpha, beta, gamma, blank
 use Rattle.venue_core.proofs.PlanBooks.{plan_length, first_command, second_command, third_command, fourth_command, fifth_command, sixth_command, seventh_command, eighth_even, eighth_odd}
 use Rattle.venue_core.proofs.PlanAccepted.{OfRound, by_place}
 
--- ---- Bytes of fields
-small : (y : ℕ) → y % 256 < 256
-small y = omega arith
-
-byte_small : (j x : ℕ) → byte_at j x < 256
-byte_small zero x = small x
-byte_small (suc j) x = small (x / 256 ^ suc j)
-
-low_bytes : (j n x : ℕ) → AreBytes (bytes_low_first j n x)
-low_bytes j zero x = tt
-low_bytes j (suc n) x = (byte_small j x, low_bytes (suc j) n x)
-
--- a list of bytes
-abbrev Bytes : Type 0
-Bytes = (xs : List ℕ) × AreBytes xs
-
-abbrev then : Bytes → Bytes → Bytes
-then a b = (a.0 ++ b.0, bytes_append a.0 b.0 a.1 b.1)
-
-abbrev byte : (n : ℕ) → n < 256 → Bytes → Bytes
-byte n lt rest = (n ∷ rest.0, (lt, rest.1))
-
-abbrev none : Bytes
-none = ([], tt)
-
--- a number's bytes, the lowest first
-abbrev field : ℕ → ℕ → Bytes
-field n x = (bytes_low_first 0 n x, low_bytes 0 n x)
-
-side_byte : (side : Side) → byte_of side < 256
-side_byte Buy = omega arith
-side_byte Sell = omega arith
-
+-- ---- Bytes of messages
 flag_byte : (b : Bool) → cond b 1 0 < 256
 flag_byte true = omega arith
 flag_byte false = omega arith
 
--- how a message about an order begins
-abbrev head : (size kind : ℕ) → size < 256 → kind < 256 → ℕ → Bytes → Bytes
-head size kind s k id rest = byte size s (byte kind k (then (field 4 0) (then (field 8 id) rest)))
-
--- ---- Bytes of messages
 add_bytes : (six : Option (List ℕ)) (cents : Option ℕ) (order : Order) → IfSome six AreBytes → AreBytes order.symbol → AreBytes order.participant → AreBytes (written (add_in_form six cents order 0))
-unfolding written
 add_bytes None cents order six symbol participant =
-    let all : Bytes = head 40 0x2f (omega arith) (omega arith) order.id (byte (byte_of order.side) (side_byte order.side) (then (field 4 order.quantity) (then (order.symbol, symbol) (then (field 8 order.price) (byte (cond order.display 1 0) (flag_byte order.display) (order.participant, participant)))))) in
-    all.1
+    message_bytes (AddExpanded 0 order.id order.side order.quantity order.symbol order.price (flags_of order.display) order.participant)
+    (omega arith, (omega arith, (tt, (tt, (tt, (tt, (symbol, (tt, (flag_byte order.display, (participant, tt))))))))))
 add_bytes (Some s) None order six symbol participant =
-    let all : Bytes = head 34 0x21 (omega arith) (omega arith) order.id (byte (byte_of order.side) (side_byte order.side) (then (field 4 order.quantity) (then (s, six) (then (field 8 order.price) (byte (cond order.display 1 0) (flag_byte order.display) none))))) in
-    all.1
+    message_bytes (AddLong 0 order.id order.side order.quantity s order.price (flags_of order.display))
+    (omega arith, (omega arith, (tt, (tt, (tt, (tt, (six, (tt, (flag_byte order.display, tt)))))))))
 add_bytes (Some s) (Some cents) order six symbol participant =
-    let all : Bytes = head 26 0x22 (omega arith) (omega arith) order.id (byte (byte_of order.side) (side_byte order.side) (then (field 2 order.quantity) (then (s, six) (then (field 2 cents) (byte (cond order.display 1 0) (flag_byte order.display) none))))) in
-    all.1
+    message_bytes (AddShort 0 order.id order.side order.quantity s cents (flags_of order.display))
+    (omega arith, (omega arith, (tt, (tt, (tt, (tt, (six, (tt, (flag_byte order.display, tt)))))))))
 
 trade_bytes : (six : Option (List ℕ)) (cents : Option ℕ) (order : Order) (execution : ℕ) → IfSome six AreBytes → AreBytes order.symbol → AreBytes (written (trade_in_form six cents order execution 0))
-unfolding written
 trade_bytes None cents order execution six symbol =
-    let all : Bytes = head 43 0x30 (omega arith) (omega arith) order.id (byte (byte_of order.side) (side_byte order.side) (then (field 4 order.quantity) (then (order.symbol, symbol) (then (field 8 order.price) (field 8 execution))))) in
-    all.1
+    message_bytes (TradeExpanded 0 order.id order.side order.quantity order.symbol order.price execution) (omega arith, (omega arith, (tt, (tt, (tt, (tt, (symbol, (tt, (tt, tt)))))))))
 trade_bytes (Some s) None order execution six symbol =
-    let all : Bytes = head 41 0x2a (omega arith) (omega arith) order.id (byte (byte_of order.side) (side_byte order.side) (then (field 4 order.quantity) (then (s, six) (then (field 8 order.price) (field 8 execution))))) in
-    all.1
+    message_bytes (TradeLong 0 order.id order.side order.quantity s order.price execution) (omega arith, (omega arith, (tt, (tt, (tt, (tt, (six, (tt, (tt, tt)))))))))
 trade_bytes (Some s) (Some cents) order execution six symbol =
-    let all : Bytes = head 33 0x2b (omega arith) (omega arith) order.id (byte (byte_of order.side) (side_byte order.side) (then (field 2 order.quantity) (then (s, six) (then (field 2 cents) (field 8 execution))))) in
-    all.1
+    message_bytes (TradeShort 0 order.id order.side order.quantity s cents execution) (omega arith, (omega arith, (tt, (tt, (tt, (tt, (six, (tt, (tt, tt)))))))))
 
 modify_bytes : (cents : Option ℕ) (id quantity price : ℕ) → AreBytes (written (modify_in_form cents id quantity price true 0))
-unfolding written
-modify_bytes None id quantity price = let all : Bytes = head 27 0x27 (omega arith) (omega arith) id (then (field 4 quantity) (then (field 8 price) (byte 1 (omega arith) none))) in all.1
-modify_bytes (Some cents) id quantity price = let all : Bytes = head 19 0x28 (omega arith) (omega arith) id (then (field 2 quantity) (then (field 2 cents) (byte 1 (omega arith) none))) in all.1
+modify_bytes None id quantity price = message_bytes (ModifyLong 0 id quantity price 1) (omega arith, (omega arith, (tt, (tt, (tt, (tt, (omega arith, tt)))))))
+modify_bytes (Some cents) id quantity price = message_bytes (ModifyShort 0 id quantity cents 1) (omega arith, (omega arith, (tt, (tt, (tt, (tt, (omega arith, tt)))))))
 
 -- ---- Bytes of commands
 abbrev AreRaw : Command → Type 0
 AreRaw command = AreBytes (raw_of command)
 
 time_raw : (second : ℕ) → AreRaw (commands.Time second)
-unfolding written
-time_raw second = let all : Bytes = byte 6 (omega arith) (byte 0x20 (omega arith) (field 4 second)) in all.1
+time_raw second = message_bytes (Time second) (omega arith, (omega arith, (tt, tt)))
 
 add_raw : (number unit i : ℕ) (side : Side) (price : ℕ) → AreRaw (commands.Add (plan_order number unit i side price) 0)
 unfolding add_message
@@ -121,20 +76,18 @@ trade_raw number unit i price =
     (trade_bytes None (short_price quantity price) (record (plan_order number unit i Buy price) { symbol = codes "GAMMADLT" }) i tt gamma)
 
 exec_raw : (id quantity execution : ℕ) → AreRaw (commands.Exec id quantity execution 0)
-unfolding written
-exec_raw id quantity execution = let all : Bytes = head 26 0x23 (omega arith) (omega arith) id (then (field 4 quantity) (field 8 execution)) in all.1
+exec_raw id quantity execution = message_bytes (Executed 0 id quantity execution) (omega arith, (omega arith, (tt, (tt, (tt, (tt, tt))))))
 
 reduce_raw : (id : ℕ) → AreRaw (commands.Reduce id 20 0)
-unfolding written reduce_message
-reduce_raw id = let all : Bytes = head 16 0x26 (omega arith) (omega arith) id (field 2 20) in all.1
+unfolding reduce_message
+reduce_raw id = message_bytes (ReduceShort 0 id 20) (omega arith, (omega arith, (tt, (tt, (tt, tt)))))
 
 modify_raw : (id quantity price : ℕ) → AreRaw (commands.Modify id quantity price true 0)
 unfolding modify_message
 modify_raw id quantity price = modify_bytes (short_price quantity price) id quantity price
 
 delete_raw : (id : ℕ) → AreRaw (commands.Delete id 0)
-unfolding written
-delete_raw id = let all : Bytes = byte 14 (omega arith) (byte 0x29 (omega arith) (then (field 4 0) (field 8 id))) in all.1
+delete_raw id = message_bytes (Delete 0 id) (omega arith, (omega arith, (tt, (tt, tt))))
 
 -- ---- The plan
 abbrev InBytes : ℕ → ℕ → ℕ → Type 0

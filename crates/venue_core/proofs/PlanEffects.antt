@@ -9,11 +9,11 @@ use Rattle.pitch_fields.specs.declared.side.Side.{Side}
 use Rattle.pitch_fields.specs.declared.side.Side.TheVariants.{Buy}
 use Rattle.pitch_messages.specs.declared.order.Order.{Order}
 use Rattle.pitch_messages.specs.declared.message.Message.{Message}
-use Rattle.pitch_messages.specs.declared.message.Message.TheVariants.{ModifyShort, TradeShort, TradeExpanded}
+use Rattle.pitch_messages.specs.declared.message.Message.TheVariants.{ModifyShort, TradeShort, TradeExpanded, Time, Executed, ReduceShort, Delete}
 use Rattle.pitch_messages.specs.Forms.{short_price, trade_in_form, trade_message, reduce_message, modify_in_form, modify_message}
 use Rattle.pitch_messages.specs.Reading.{reads}
 use Rattle.pitch_messages.specs.Writing.{written}
-use Rattle.pitch_messages.proofs.RoundTrip.{time_back, executed_back, reduce_short_back, modify_short_back, delete_back, trade_short_back, trade_expanded_back}
+use Rattle.pitch_messages.proofs.RoundTrip.{message_back}
 use Rattle.pitch_model.specs.Book.{Book, at_second, added, changed, reduced_by, modified, without_order, long_price, after, after_read, after_message}
 use Rattle.pitch_model.specs.Widths.{FitsWire}
 use Rattle.pitch_model.proofs.Images.{add_message_adds, add_message_reads}
@@ -93,20 +93,20 @@ cheap quantity price few low cents =
 
 -- ---- Commands
 pub time_does : (second : ℕ) → second < 256 ^ 4 → Does (commands.Time second) (λ book. at_second book second)
-time_does second fits = record { known = time_back second fits; does = λ book. refl }
+time_does second fits = record { known = message_back (Time second) (fits, tt); does = λ book. refl }
 
 pub add_does : (order : Order) → FitsWire order → Does (commands.Add order 0) (λ book. added book order)
 add_does order fits = record { known = add_message_reads order fits; does = add_message_adds order fits }
 
 pub exec_does : (id quantity execution : ℕ) → id ≤ 400000 → quantity ≤ 499 → execution ≤ 400000 → Does (commands.Exec id quantity execution 0) (λ book. changed book id (reduced_by quantity))
 exec_does id quantity execution low few lower = record {
-  known = executed_back 0 id quantity execution (omega arith) (omega (arith, low)) (omega (arith, few)) (omega (arith, lower));
+  known = message_back (Executed 0 id quantity execution) (omega arith, (omega (arith, low), (omega (arith, few), (omega (arith, lower), tt))));
   does = λ book. refl;
 }
 
 pub reduce_does : (id : ℕ) → id ≤ 400000 → Does (commands.Reduce id 20 0) (λ book. changed book id (reduced_by 20))
 unfolding reduce_message
-reduce_does id low = record { known = reduce_short_back 0 id 20 (omega arith) (omega (arith, low)) (omega arith); does = λ book. refl }
+reduce_does id low = record { known = message_back (ReduceShort 0 id 20) (omega arith, (omega (arith, low), (omega arith, tt))); does = λ book. refl }
 
 pub modify_does : (id quantity price : ℕ) → id ≤ 400000 → quantity ≤ 499 → price ≤ 6553500 → price % 100 ≡ 0 → Does (commands.Modify id quantity price true 0) (λ book. changed book id (modified quantity price true))
 unfolding modify_message
@@ -114,12 +114,12 @@ modify_does id quantity price low few cheap_enough cents =
     let short : modify_message id quantity price true 0 ≡ ModifyShort 0 id quantity (price / 100) 1 = ap (λ (o : Option ℕ). modify_in_form o id quantity price true 0) (cheap quantity price (omega (arith, few)) cheap_enough cents) in
     let whole : long_price (price / 100) ≡ price = omega (arith, cents) in
     record {
-      known = subst (λ (m : Message). reads (written m) ≡ Ok m) (sym short) (modify_short_back 0 id quantity (price / 100) 1 (omega arith) (omega (arith, low)) (omega (arith, few)) (omega (arith, cheap_enough)));
+      known = subst (λ (m : Message). reads (written m) ≡ Ok m) (sym short) (message_back (ModifyShort 0 id quantity (price / 100) 1) (omega arith, (omega (arith, low), (omega (arith, few), (omega (arith, cheap_enough), (tt, tt))))));
       does = λ book. ap (after_message book) short ∙ ap (λ (p : ℕ). changed book id (modified quantity p true)) whole;
     }
 
 pub delete_does : (id : ℕ) → id ≤ 400000 → Does (commands.Delete id 0) (λ book. without_order book id)
-delete_does id low = record { known = delete_back 0 id (omega arith) (omega (arith, low)); does = λ book. refl }
+delete_does id low = record { known = message_back (Delete 0 id) (omega arith, (omega (arith, low), tt)); does = λ book. refl }
 
 -- a trade of an order with this symbol
 abbrev trade_of : ℕ → ℕ → ℕ → List ℕ → Command
@@ -138,7 +138,7 @@ trade_short_does number unit i symbol six low at size =
     ∙ ap (λ (o : Option ℕ). trade_in_form (Some six) o order i 0) (cheap quantity price (omega (arith, few)) (omega (arith, cheap_enough)) (price_cents number i)) in
     record {
       known = subst (λ (m : Message). reads (written m) ≡ Ok m) (sym short)
-          (trade_short_back 0 i Buy quantity six (price / 100) i (omega arith) (omega (arith, low)) (omega (arith, few)) (omega (arith, cheap_enough)) (omega (arith, low)) size);
+          (message_back (TradeShort 0 i Buy quantity six (price / 100) i) (omega arith, (omega (arith, low), (tt, (omega (arith, few), (size, (omega (arith, cheap_enough), (omega (arith, low), tt))))))));
       does = λ book. ap (after_message book) short;
     }
 
@@ -154,7 +154,7 @@ trade_expanded_does number unit i symbol low at size =
     ap (λ (s : Option (List ℕ)). trade_in_form s (short_price quantity price) order i 0) at in
     record {
       known = subst (λ (m : Message). reads (written m) ≡ Ok m) (sym expanded)
-          (trade_expanded_back 0 i Buy quantity symbol price i (omega arith) (omega (arith, low)) (omega (arith, few)) (omega (arith, cheap_enough)) (omega (arith, low)) size);
+          (message_back (TradeExpanded 0 i Buy quantity symbol price i) (omega arith, (omega (arith, low), (tt, (omega (arith, few), (size, (omega (arith, cheap_enough), (omega (arith, low), tt))))))));
       does = λ book. ap (after_message book) expanded;
     }
 

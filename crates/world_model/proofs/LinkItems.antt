@@ -5,7 +5,7 @@ use Rattle.std.specs.List.{AllByRecursion}
 use Rattle.std.proofs.lemmas.Bool.{eqb-true}
 use Rattle.pitch_messages.specs.Raw.{kind_of}
 use Rattle.pitch_fields.specs.Fields.{number_at}
-use Rattle.pitch_messages.specs.Session.{session_reads, session_row_of}
+use Rattle.pitch_messages.specs.Session.{session_reads, session_row_of, session_row_says}
 use Rattle.pitch_messages.specs.Table.{reads_by}
 use Rattle.pitch_messages.specs.declared.session.SessionMessage.{SessionMessage}
 use Rattle.pitch_messages.specs.declared.session.SessionMessage.TheVariants.{Login, LoginReply, GapRequest, GapReply, SpinAvailable, SpinRequest, SpinReply, SpinFinished}
@@ -70,7 +70,7 @@ read_told m e is true = tt
 read_told m e is false = is
 
 reads : List ℕ → ℕ → Result SessionMessage SessionError
-reads raw k = reads_by (λ other. Err (WrongType (kind_of other))) (λ needs has. Err (Short needs has)) (session_row_of k) raw
+reads raw k = reads_by (λ other. Err (WrongType (kind_of other))) (λ needs has. Err (Short needs has)) session_row_says (session_row_of k) raw
 
 gap_said : (raw : List ℕ) (k : ℕ) (b d : Bool) → eqb k 2 ≡ b → eqb k 4 ≡ d → AreGapTold (told_said GapLink (cond (b || d) (said_by (reads raw k)) Skipped))
 unfolding reads

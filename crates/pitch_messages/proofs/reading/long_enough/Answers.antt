@@ -1,13 +1,14 @@
 use Rattle.std.proofs.Common.{◌≡◌, ℕ, List, Option, length, sym, ap, ◌∙◌, arith}
 use Rattle.std.specs.Option.{option_map}
 use Rattle.pitch_messages.specs.Raw.{kind_of}
+use Rattle.pitch_messages.specs.Table.{needs}
 use Rattle.pitch_messages.specs.Reading.{MessageRow, row_of}
 use Rattle.pitch_messages.proofs.Rows.{row_long, row_unknown, short}
 use Rattle.pitch_messages.proofs.reading.long_enough.Goals as goal
 
 -- what the type of a raw needs, where the type is another name of its kind
-needed : (needs : Option ℕ) (kind : ℕ) (raw : List ℕ) → kind ≡ kind_of raw → needs ≡ option_map (λ (row : MessageRow). row.needs) (row_of kind) → needs ≡ option_map (λ (row : MessageRow). row.needs) (row_of (kind_of raw))
-needed needs kind raw is of = of ∙ ap (λ (k : ℕ). option_map (λ (row : MessageRow). row.needs) (row_of k)) is
+needed : (least : Option ℕ) (kind : ℕ) (raw : List ℕ) → kind ≡ kind_of raw → least ≡ option_map (λ (row : MessageRow). needs row) (row_of kind) → least ≡ option_map (λ (row : MessageRow). needs row) (row_of (kind_of raw))
+needed least kind raw is of = of ∙ ap (λ (k : ℕ). option_map (λ (row : MessageRow). needs row) (row_of k)) is
 
 pub returns-in-Some-clause-err : goal.returns-in-Some-clause-err
 returns-in-Some-clause-err c =
