@@ -1,23 +1,17 @@
 -- What the client hears on lines.
-use Rattle.std.proofs.Common.{◌≡◌, ℕ, ◌+◌, ◌≤◌, Bool, true, false, cond, eqb, List, [], ◌∷◌, ◌++◌, length, drop, Err, ◌⊎◌, inl, inr, Option, refl, sym, ap, ◌∙◌, subst, arith, append_assoc}
-use Rattle.std.proofs.lemmas.List.{append-nil, length-drop, drop-drop, drop_all}
+use Rattle.std.proofs.Common.{◌≡◌, ℕ, Bool, true, false, cond, eqb, List, [], ◌∷◌, ◌++◌, ◌⊎◌, inl, inr, Option, refl, sym, ap, ◌∙◌, subst, arith}
 use Rattle.pitch_io.specs.declared.line.Line.{Line}
 use Rattle.pitch_io.specs.declared.line.Line.TheVariants.{A, B, Gap}
 use Rattle.pitch_io.specs.declared.net.NetTaken.{NetTaken}
 use Rattle.pitch_io.specs.declared.net.NetTaken.TheVariants as taken
 use Rattle.pitch_io.specs.Nets.{Call, Next, ListsCall, NetTakeFailed}
 use Rattle.unit_packets.specs.Blocks.{Block}
-use Rattle.unit_packets.specs.Cutting.{blocks_of, blocks_by}
-use Rattle.unit_packets.specs.Judging.{judge}
-use Rattle.unit_packets.specs.Lending.{header_for, StandsFirst}
-use Rattle.unit_packets.specs.declared.header.BlockError.{BlockError}
-use Rattle.unit_packets.proofs.Cuts.{none_of}
-use Rattle.unit_packets.proofs.Streams.{leads}
 use Rattle.pitch_model.specs.Datagrams.{heard_blocks}
 use Rattle.pitch_model.specs.Heard.{heard_block}
 use Rattle.pitch_model.specs.History.{Entry, Raw}
 use Rattle.pitch_model.specs.Honest.{Honest}
 use Rattle.pitch_model.specs.Image.{image}
+use Rattle.pitch_model.proofs.Datagrams.{heard_both}
 use Rattle.pitch_model.proofs.Units.{honest_block}
 use Rattle.client_core.specs.Blocks.{Carries}
 use Rattle.client_core.specs.Tracks.{Tracks, Keeps}
@@ -33,14 +27,6 @@ use Rattle.net_edge.proofs.Breaking.{breaks_here, breaks_by}
 use Rattle.net_edge.proofs.Runs.{play_call}
 
 -- ---- Blocks
-no_blocks : blocks_of [] ≡ []
-unfolding blocks_of blocks_by
-no_blocks = refl
-
-heard_append : (xs ys : List Block) (E : List Entry) → heard_blocks (xs ++ ys) E ≡ heard_blocks ys (heard_blocks xs E)
-heard_append [] ys E = refl
-heard_append (x ∷ xs) ys E = heard_append xs ys (heard_block x E)
-
 ours_append : (xs ys : List Block) → ours (xs ++ ys) ≡ ours xs ++ ours ys
 ours_append [] ys = refl
 ours_append (x ∷ xs) ys = by (eqb x.unit demo_unit) (ours_append xs ys)
@@ -48,10 +34,6 @@ ours_append (x ∷ xs) ys = by (eqb x.unit demo_unit) (ours_append xs ys)
     by : (b : Bool) → ours (xs ++ ys) ≡ ours xs ++ ours ys → cond b (x ∷ ours (xs ++ ys)) (ours (xs ++ ys)) ≡ cond b (x ∷ ours xs) (ours xs) ++ ours ys
     by true same = ap (λ (l : List Block). x ∷ l) same
     by false same = same
-
-honest_blocks : (V : List Raw) (blocks : List Block) (E : List Entry) → Honest image V (heard_blocks blocks E) → Honest image V E
-honest_blocks V [] E h = h
-honest_blocks V (block ∷ blocks) E h = honest_block image V block E (honest_blocks V blocks (heard_block block E) h)
 
 -- a block of the unit, and one of another
 pub hears_ours : (one two : UnitClient) (block : Block) (sequence unit : ℕ) (raws : List Raw) (E : List Entry) → Carries block sequence raws → unit ≡ block.unit → unit ≡ demo_unit
@@ -71,42 +53,11 @@ hears_other one block unit E of other has =
     let not_mine : eqb block.unit demo_unit ≡ false = grind (arith, of, other) in
     subst (λ (bs : List Block). ClientHas one (heard_blocks bs E)) (sym (ap (λ (b : Bool). cond b (block ∷ []) []) not_mine)) has
 
--- ---- The blocks of some bytes
-pub record HeardTo (one two : UnitClient) (bytes : List ℕ) (at : ℕ) : Type 0 where
-  pub within : at ≤ length bytes
-  pub done : List Block
-  pub left : done ++ blocks_of (drop at bytes) ≡ blocks_of bytes
-  pub hears : (E : List Entry) → ClientHas one E → ClientHas two (heard_blocks (ours done) E)
-
-pub heard_nothing : (client : UnitClient) (bytes : List ℕ) → HeardTo client client bytes 0
-heard_nothing client bytes = record { within = omega arith; done = []; left = refl; hears = λ E has. has }
-
-pub heard_more : (one two three : UnitClient) (bytes rest : List ℕ) (at n : ℕ) (block : Block) → HeardTo one two bytes at → rest ≡ drop at bytes → StandsFirst rest block → n ≡ (header_for block).length
-    → ((E : List Entry) → ClientHas two E → ClientHas three (heard_blocks (ours (block ∷ [])) E)) → HeardTo one three bytes (at + n)
-heard_more one two three bytes rest at n block h is stands size more =
-    let l = leads (drop at bytes) block (subst (λ (r : List ℕ). StandsFirst r block) is stands) in
-    let cut : drop (header_for block).length (drop at bytes) ≡ drop (at + n) bytes = drop-drop (header_for block).length at bytes ∙ ap (λ (k : ℕ). drop (at + k) bytes) (sym size) in
-    record {
-      within = omega (arith, l.fits, length-drop at bytes, h.within, size);
-      done = h.done ++ block ∷ [];
-      left = append_assoc h.done (block ∷ []) (blocks_of (drop (at + n) bytes))
-          ∙ ap (λ (r : List ℕ). h.done ++ (block ∷ blocks_of r)) (sym cut)
-          ∙ ap (λ (bs : List Block). h.done ++ bs) (sym l.blocks)
-          ∙ h.left;
-      hears = λ E has. subst (ClientHas three) (sym (heard_append (ours h.done) (ours (block ∷ [])) E) ∙ ap (λ (bs : List Block). heard_blocks bs E) (sym (ours_append h.done (block ∷ []))))
-          (more (heard_blocks (ours h.done) E) (h.hears E has));
-    }
-
--- once no block follows, all were heard
-all_heard : (one two : UnitClient) (bytes : List ℕ) (at : ℕ) → HeardTo one two bytes at → blocks_of (drop at bytes) ≡ [] → (E : List Entry) → ClientHas one E → ClientHas two (heard_blocks (ours (blocks_of bytes)) E)
-all_heard one two bytes at h none E has =
-    subst (λ (bs : List Block). ClientHas two (heard_blocks (ours bs) E)) (sym (append-nil h.done) ∙ ap (λ (bs : List Block). h.done ++ bs) (sym none) ∙ h.left) (h.hears E has)
-
-pub heard_stop : (one two : UnitClient) (bytes rest : List ℕ) (at : ℕ) (e : BlockError) → HeardTo one two bytes at → rest ≡ drop at bytes → judge rest ≡ Err e → (E : List Entry) → ClientHas one E → ClientHas two (heard_blocks (ours (blocks_of bytes)) E)
-heard_stop one two bytes rest at e h is stop = all_heard one two bytes at h (none_of (drop at bytes) e (ap judge (sym is) ∙ stop)).blocks
-
-pub heard_end : (one two : UnitClient) (bytes : List ℕ) (at : ℕ) → HeardTo one two bytes at → length bytes ≤ at → (E : List Entry) → ClientHas one E → ClientHas two (heard_blocks (ours (blocks_of bytes)) E)
-heard_end one two bytes at h end = all_heard one two bytes at h (ap blocks_of (drop_all at bytes end) ∙ no_blocks)
+pub ours_more : (one two three : UnitClient) (done : List Block) (block : Block) (E : List Entry) → (ClientHas one E → ClientHas two (heard_blocks (ours done) E))
+    → ((F : List Entry) → ClientHas two F → ClientHas three (heard_blocks (ours (block ∷ [])) F)) → ClientHas one E → ClientHas three (heard_blocks (ours (done ++ block ∷ [])) E)
+ours_more one two three done block E so_far hears has =
+    subst (ClientHas three) (sym (heard_both E (ours done) (ours (block ∷ []))) ∙ ap (λ (bs : List Block). heard_blocks bs E) (sym (ours_append done (block ∷ []))))
+    (hears (heard_blocks (ours done) E) (so_far has))
 
 -- ---- Lines
 pub line_is : (line : Line) (on : OnLine) (now : Scene) → line_in line (with_line line on now) ≡ on

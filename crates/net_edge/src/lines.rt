@@ -17,7 +17,7 @@ use crate::error::DemoError;
 use client_core::UnitClient;
 use pitch_fields::OutOfMemory;
 use pitch_io::{Line, Net, NetTaken};
-use unit_packets::{BlockView, view_block};
+use unit_packets::{BlockView, Blocks};
 
 /// How often a line or an end is asked in a turn, while something comes.
 pub(crate) const MOST_CALLS: u32 = 100;
@@ -40,15 +40,8 @@ fn hear_datagram(client: &mut UnitClient, datagram: &[u8]) -> Result<(), OutOfMe
     ensures { OnOk result ((E : List Entry) → ClientHas client.old E
         → ClientHas client.new (heard_blocks (ours (blocks_of datagram.now)) E)) }
 {
-    let mut at = 0;
-    'next: while at < datagram.len() {
-        match view_block(&datagram[at..]) {
-            Ok(block) => {
-                hear_if_ours(client, &block)?;
-                at += usize::from(block.header().length);
-            }
-            Err(_) => return Ok(()),
-        }
+    'pieces: for block in Blocks::of_bytes(datagram) {
+        hear_if_ours(client, &block)?;
     }
     Ok(())
 }

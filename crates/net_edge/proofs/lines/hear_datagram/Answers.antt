@@ -1,16 +1,17 @@
-use Rattle.std.proofs.Common.{ap, ◌∙◌}
-use Rattle.std.proofs.lemmas.List.{take_rest}
-use Rattle.unit_packets.specs.declared.header.Header.{Header}
-use Rattle.net_edge.proofs.Hearing.{heard_more, heard_stop, heard_end}
+use Rattle.std.proofs.Common.{List, ◌∙◌, subst}
+use Rattle.unit_packets.specs.Blocks.{Block}
+use Rattle.unit_packets.proofs.Walking.{taken_all}
+use Rattle.pitch_model.specs.Datagrams.{heard_blocks}
+use Rattle.net_edge.specs.Acting.{ours}
+use Rattle.net_edge.specs.Playing.{ClientHas}
+use Rattle.net_edge.proofs.Hearing.{ours_more}
 use Rattle.net_edge.proofs.lines.hear_datagram.Goals as goal
 
-pub next-preserved : goal.next-preserved
-next-preserved c =
-    heard_more c.args.client.now c.next.client c.hear_if_ours.new.client c.args.datagram.now _ c.next.at c.from-at.result c.in-Ok.block c.next.invariant (take_rest c.args.datagram.now c.next.at) c.in-Ok.ensures.found
-    (c.from-at.ensures ∙ ap (λ (h : Header). h.length) c.header.ensures) c.in_ok-hear_if_ours-in-Ok.ensures
-
-pub returns-in-Err : goal.returns-in-Err
-returns-in-Err c = heard_stop c.args.client.now c.next.client c.args.datagram.now _ c.next.at c.in-Err.field-0 c.next.invariant (take_rest c.args.datagram.now c.next.at) c.in-Err.ensures.fault
+pub pieces-preserved : goal.pieces-preserved
+pieces-preserved c E has = ours_more _ _ _ c.pieces.yielded c.in-Some.block E (c.pieces.invariant E) c.in_ok-hear_if_ours.ensures has
 
 pub returns : goal.returns
-returns c = heard_end c.args.client.now c.next.client c.args.datagram.now c.next.at c.next.invariant c.next-test.false
+returns c E has =
+    subst (λ (bs : List Block). ClientHas c.pieces.client (heard_blocks (ours bs) E))
+    (taken_all c.args.datagram.now _ _ c.pieces.yielded (c.into_iter-block-iterator.ensures.into_iter_gives ∙ c.of_bytes-block-items.ensures) c.pieces.yielded_by c.in-None.ensures.steps.0)
+    (c.pieces.invariant E has)

@@ -1,9 +1,9 @@
-use Rattle.std.proofs.Common.{length, ◌-◌}
-use Rattle.net_edge.proofs.Hearing.{HeardTo}
+use Rattle.std.proofs.Common.{List}
+use Rattle.pitch_model.specs.Datagrams.{heard_blocks}
+use Rattle.pitch_model.specs.History.{Entry}
+use Rattle.net_edge.specs.Acting.{ours}
+use Rattle.net_edge.specs.Playing.{ClientHas}
 use Rattle.net_edge.proofs.lines.hear_datagram.Given as goal
 
-abbrev pub invariant-next : goal.invariant-next
-invariant-next l = HeardTo l.fn.client l.client l.datagram l.at
-
-abbrev pub decreases-next : goal.decreases-next
-decreases-next l = length l.datagram - l.at
+abbrev pub invariant-pieces : goal.invariant-pieces
+invariant-pieces l = (E : List Entry) → ClientHas l.fn.client E → ClientHas l.client (heard_blocks (ours l.yielded) E)
