@@ -7,12 +7,12 @@ use Rattle.std.proofs.lemmas.Bool.{ne_eqb, lt-ltb, le-ltb}
 use Rattle.std.proofs.lemmas.List.{append-nil, drop-drop, reverse-append, reverse-reverse}
 use Rattle.pitch_model.specs.History.{Raw}
 use Rattle.unit_packets.specs.Blocks.{Block}
-use Rattle.unit_packets.specs.Cutting.{blocks_of, blocks_by, rest_of, rest_by, place_of, fault_at_end}
+use Rattle.unit_packets.specs.Cutting.{blocks_of, rest_of, place_of, fault_at_end}
 use Rattle.unit_packets.specs.Judging.{judge}
 use Rattle.unit_packets.specs.Lending.{header_for, StandsFirst}
 use Rattle.unit_packets.specs.declared.header.BlockError.{BlockError}
 use Rattle.unit_packets.proofs.Cuts.{none_of}
-use Rattle.unit_packets.proofs.Streams.{leads, fault_rest, fault_no_rest}
+use Rattle.unit_packets.proofs.Streams.{leads, of_nothing, fault_rest, fault_no_rest}
 use Rattle.std.proofs.Common.{IfOk}
 use Rattle.std.proofs.Math.Path.{fun_ext}
 use Rattle.run_audit.specs.Input.{gap_at, may_follow, fault_behind, in_log, fault_in_log, input_fault, log_in, log_size, messages_in, report_in, Audits, IsRefused}
@@ -123,19 +123,11 @@ logs_bad log audit at e L lt bad =
     sym L.fault ∙ ap (fault_behind (end_of log) (8 + at) L.before) none.blocks
     ∙ ap (option_map in_log) (fault_rest log e some (ap judge rest ∙ bad)) ∙ ap (λ (p : ℕ). Some (Faulty (record { place = 8 + p; error = e }))) place
 
-no_blocks : blocks_of [] ≡ []
-unfolding blocks_of blocks_by
-no_blocks = refl
-
-rest_nothing : rest_of [] ≡ []
-unfolding rest_of rest_by
-rest_nothing = refl
-
 pub logs_end : (log : List ℕ) (audit : List (List Raw)) (at : ℕ) → LogsSo log audit at → length log ≤ at → LogsAll log audit
 logs_end log audit at L end =
     let nothing : drop at log ≡ [] = gone (drop at log) (let left = length-drop at log in omega (arith, left, end)) in
-    let none : blocks_of (drop at log) ≡ [] = ap blocks_of nothing ∙ no_blocks in
-    let no_rest : rest_of log ≡ [] = sym L.rest ∙ ap rest_of nothing ∙ rest_nothing in (
+    let none : blocks_of (drop at log) ≡ [] = ap blocks_of nothing ∙ of_nothing.blocks in
+    let no_rest : rest_of log ≡ [] = sym L.rest ∙ ap rest_of nothing ∙ of_nothing.rest in (
       sym L.fault ∙ ap (fault_behind (end_of log) (8 + at) L.before) none ∙ ap (option_map in_log) (fault_no_rest log no_rest),
       λ unit. L.has unit ∙ ap (λ (bs : List Block). logged bs unit) (back L.before (sym (append-nil (reverse L.before)) ∙ ap (λ (bs : List Block). reverse L.before ++ bs) (sym none) ∙ L.blocks)),
     )
