@@ -14,7 +14,7 @@ use Rattle.pitch_model.specs.Status.{status_of, top_of}
 use Rattle.pitch_model.specs.declared.status.Status.TheVariants.{Current}
 use Rattle.client_core.specs.Tracks.{Tracks, Keeps}
 use Rattle.client_core.specs.declared.client.UnitClient.{UnitClient}
-use Rattle.storm_plan.specs.StormText.{unit_line}
+use Rattle.feed_lines.specs.UnitLine.{unit_line}
 
 -- it was told of all messages and lacks some, and has just asked for the image of all
 pub record AsksForAll (client : UnitClient) (H : ℕ) (V : List Raw) : Type 0 where

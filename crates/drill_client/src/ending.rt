@@ -11,11 +11,11 @@ ghost use Rattle.drill_client.specs.Told.{is_behind, told_all};
 
 use crate::sure::{hear_sure, hear_whole};
 use client_core::{UnitClient, images_of_bytes_are_images};
+use feed_lines::append_unit_line;
 use pitch_fields::OutOfMemory;
 use pitch_messages::RawList;
 use pitch_model::laws::images_leave_their_books;
 use pitch_model::{Item, Status};
-use storm_plan::append_unit_line;
 
 fn is_behind(status: Status) -> bool
     ensures { result ≡ is_behind status }

@@ -5,3 +5,4 @@ pub mod Follow
 pub mod Show
 pub mod Terms
 pub mod LineSize
+pub mod UnitLine

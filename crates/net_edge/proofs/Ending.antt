@@ -16,7 +16,7 @@ use Rattle.pitch_model.specs.Status.{status_of}
 use Rattle.venue_core.specs.Plan.{plan}
 use Rattle.venue_core.proofs.PlanBytes.{plan_bytes}
 use Rattle.client_core.specs.Tracks.{current_book}
-use Rattle.storm_plan.specs.StormText.{unit_line}
+use Rattle.feed_lines.specs.UnitLine.{unit_line}
 use Rattle.net_edge.specs.Acting.{scene_of}
 use Rattle.net_edge.specs.Demo.{IsDemo, EndsDemo, IsLast, AddsCalls, all_messages, AreShort}
 use Rattle.net_edge.specs.Due.{Setting, demo_unit, hold_limit, accepted}

@@ -14,7 +14,7 @@ use Rattle.pitch_model.specs.Levels.{shares}
 use Rattle.pitch_model.specs.Reach.{reach}
 use Rattle.pitch_model.specs.declared.status.Status.TheVariants.{Current}
 use Rattle.venue_core.specs.Plan.{plan}
-use Rattle.storm_plan.specs.StormText.{unit_line}
+use Rattle.feed_lines.specs.UnitLine.{unit_line}
 use Rattle.net_edge.specs.Acting.{scene_of}
 use Rattle.net_edge.specs.Breaking.{Breaks}
 use Rattle.net_edge.specs.Due.{Setting, demo_unit, hold_limit}

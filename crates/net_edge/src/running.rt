@@ -12,7 +12,7 @@ ghost use Rattle.pitch_model.specs.History.{Entry};
 ghost use Rattle.pitch_model.specs.Levels.{shares};
 ghost use Rattle.pitch_model.specs.Status.{status_of};
 ghost use Rattle.client_core.specs.Tracks.{current_book};
-ghost use Rattle.storm_plan.specs.StormText.{unit_line};
+ghost use Rattle.feed_lines.specs.UnitLine.{unit_line};
 ghost use Rattle.world_model.specs.Ends.{the_account};
 ghost use Rattle.net_edge.specs.declared.error.DemoError.TheVariants as errors;
 ghost use Rattle.net_edge.specs.Breaking.{Breaks};
@@ -34,6 +34,7 @@ use crate::putting::put_whole;
 use crate::shared::SharedMarket;
 use client_core::UnitClient;
 use client_links::{Account, GapLink, SpinLink};
+use feed_lines::append_unit_line;
 use pitch_fields::OutOfMemory;
 use pitch_io::{LinkEnd, Net, NetDone};
 use pitch_model::Status;
@@ -43,7 +44,6 @@ use spin_server::SpinServer;
 use std::alloc::Global;
 use std::marker::Brand;
 use std::sync::Wait;
-use storm_plan::append_unit_line;
 
 // The account of both sessions.
 fn account() -> Account

@@ -3,7 +3,7 @@ use Rattle.std.proofs.Common.{◌≡◌, ◌≢◌, ℕ, List, [], Option, Resul
 use Rattle.pitch_io.specs.Causes.{HasCause}
 use Rattle.pitch_io.specs.Putting.{Grows}
 use Rattle.schedule_replay.specs.Worlds.{AddsWorlds}
-use Rattle.storm_plan.specs.Storm.{storm_schedule}
+use Rattle.storm_replay.specs.Storm.{storm_schedule}
 use Rattle.stream_print.specs.Putting.{PutsSome}
 use Rattle.stream_print.specs.Told.{TakesAtMost, between}
 use Rattle.stream_print.proofs.Feeding.{consumes_none}

@@ -2,7 +2,7 @@
 use Rattle.std.specs.Prelude.{◌≤◌, ℕ, List, Result, Ok, Err}
 use Rattle.pitch_io.specs.Putting.{Grows}
 use Rattle.schedule_replay.specs.Worlds.{AreRunThrough}
-use Rattle.storm_plan.specs.Storm.{most_steps, most_units, storm_schedule}
+use Rattle.storm_replay.specs.Storm.{most_steps, most_units, storm_schedule}
 use Rattle.storm_replay.specs.Summary.{storm_text}
 use Rattle.stream_print.specs.Putting.{PutsSome}
 use Rattle.stream_print.specs.Told.{Told, IsUntouched}

@@ -5,7 +5,7 @@ use crate::runs::run_over;
 use pitch_io::{FreeGate, MeetGate};
 use pitch_tool::ExitStatus;
 use std::test::*;
-use storm_plan::generate;
+use storm_replay::generate;
 
 // The words of a storm, and its summary. The orders and shares are those that as many commands of
 // the plan leave.

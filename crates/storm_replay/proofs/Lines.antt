@@ -7,7 +7,8 @@ use Rattle.pitch_model.specs.Book.{Book}
 use Rattle.pitch_model.specs.Status.{status_of}
 use Rattle.pitch_model.specs.declared.status.Status.{Status}
 use Rattle.pitch_text.specs.declared.verb.ScheduleEntry.{ScheduleEntry}
-use Rattle.storm_plan.specs.StormText.{storm_line, unit_line}
+use Rattle.feed_lines.specs.UnitLine.{unit_line}
+use Rattle.storm_replay.specs.StormText.{storm_line}
 use Rattle.storm_replay.specs.Summary.{state_line, ended_line, ended_lines, storm_lines, storm_text}
 use Rattle.world_model.specs.State.{State}
 use Rattle.world_model.specs.Verbs.{client_book}

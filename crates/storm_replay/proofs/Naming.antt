@@ -10,7 +10,7 @@ use Rattle.pitch_text.specs.declared.verb.Verb.{Verb}
 use Rattle.pitch_text.specs.declared.verb.Verb.TheVariants as verbs
 use Rattle.schedule_replay.specs.Replay.{verbs_of, default_limits, limits_at, limits_of}
 use Rattle.schedule_replay.specs.Worlds.{IsNamed}
-use Rattle.storm_plan.specs.Storm.{start_verbs, step_verbs, end_verbs, entries_for, by_each, storm_steps, storm_entries}
+use Rattle.storm_replay.specs.Storm.{start_verbs, step_verbs, end_verbs, entries_for, by_each, storm_steps, storm_entries}
 use Rattle.storm_replay.specs.Summary.{storm_lines}
 use Rattle.storm_replay.specs.Units.{unit_steps, unit_course}
 

@@ -15,7 +15,7 @@ use Rattle.text_lines.specs.Text.{TextFault, entries_of}
 use Rattle.pitch_text.specs.ScheduleGrammar.{entry as entry_grammar}
 use Rattle.schedule_replay.specs.Replay.{limits_of, schedule_on}
 use Rattle.schedule_replay.specs.Worlds.{IsWorldOf, AreWorldsOf, AreRunThrough}
-use Rattle.storm_plan.specs.Storm.{storm_entries, storm_schedule}
+use Rattle.storm_replay.specs.Storm.{storm_entries, storm_schedule}
 use Rattle.storm_replay.specs.Summary.{storm_lines, AreStormWorlds}
 use Rattle.storm_replay.specs.Units.{unit_course, counting, IsUnitDone, AreUnitsDone}
 use Rattle.storm_replay.proofs.Naming.{named_within, each_named, verbs_are, limits_are}

@@ -1,2 +1,5 @@
+pub mod Parts
+pub mod Storm
+pub mod StormText
 pub mod Summary
 pub mod Units

@@ -5,13 +5,14 @@ use Rattle.std.specs.Prelude.{slice_get}
 use Rattle.std.specs.List.{enumerate_from}
 use Rattle.std.specs.FinMap.{len}
 use Rattle.pitch_model.specs.Levels.{shares}
+use Rattle.feed_lines.specs.UnitLine.{unit_line}
 use Rattle.pitch_model.specs.Status.{status_of}
 use Rattle.pitch_text.specs.ScheduleGrammar.{schedule_entry}
 use Rattle.pitch_text.specs.declared.verb.ScheduleEntry.{ScheduleEntry}
 use Rattle.schedule_replay.specs.Replay.{verbs_of, limits_of}
 use Rattle.schedule_replay.specs.Worlds.{IsWorldOf}
-use Rattle.storm_plan.specs.Storm.{storm_entries}
-use Rattle.storm_plan.specs.StormText.{storm_line, unit_line}
+use Rattle.storm_replay.specs.Storm.{storm_entries}
+use Rattle.storm_replay.specs.StormText.{storm_line}
 use Rattle.world_model.specs.State.{State}
 use Rattle.world_model.specs.Verbs.{state_of, client_book}
 use Rattle.world_model.specs.declared.limits.Limits.{Limits}

@@ -4,19 +4,20 @@ ghost use Rattle.std.specs.Prelude.{◌≡◌, ◌≤◌, ◌++◌, List, ℕ, [
 ghost use Rattle.pitch_text.specs.declared.verb.ScheduleEntry.{ScheduleEntry as EntrySaid};
 ghost use Rattle.schedule_replay.specs.Apart.{most_workers};
 ghost use Rattle.schedule_replay.specs.Worlds.{AddsWorlds, AreRunThrough, IsWorldOf};
-ghost use Rattle.storm_plan.specs.Storm.{most_units, most_steps, storm_schedule};
-ghost use Rattle.storm_plan.specs.StormText.{storm_line};
+ghost use Rattle.storm_replay.specs.Storm.{most_units, most_steps, storm_schedule};
+ghost use Rattle.storm_replay.specs.StormText.{storm_line};
 ghost use Rattle.storm_replay.specs.Summary.{AreInTurn, AreStormWorlds, ended_line, ended_lines};
 ghost use Rattle.storm_replay.specs.Summary.{storm_text};
 
+use crate::laws::storms_are_read;
+use crate::summary::put_storm_line;
 use crate::units::run_units;
-use feed_lines::LINE;
+use feed_lines::{LINE, append_unit_line};
 use pitch_fields::OutOfMemory;
 use pitch_io::Gate;
 use schedule_replay::WorldList;
 use std::alloc::Global;
 use std::thread::Threads;
-use storm_plan::{append_unit_line, put_storm_line, storms_are_read};
 use world_model::World;
 
 // Appends the line that says what a storm was made of.

@@ -6,13 +6,14 @@ ghost use Rattle.std.specs.Fork.{slice_chunk};
 ghost use Rattle.std.specs.List.{AllByRecursion};
 ghost use Rattle.pitch_text.specs.WellFormed.{IsVerb};
 ghost use Rattle.pitch_text.specs.declared.verb.Verb.{Verb as VerbSaid};
-ghost use Rattle.storm_plan.specs.Parts.{IsPart, part_verbs};
-ghost use Rattle.storm_plan.specs.Storm.{most_steps};
+ghost use Rattle.storm_replay.specs.Parts.{IsPart, part_verbs};
+ghost use Rattle.storm_replay.specs.Storm.{most_steps};
 ghost use Rattle.storm_replay.specs.Units.{unit_steps, unit_course, counting, IsUnitDone};
 ghost use Rattle.storm_replay.specs.Units.{AreUnitsDone, AreGathered};
 ghost use Rattle.world_model.specs.Stands.{WorldStands};
 ghost use Rattle.world_model.specs.declared.limits.Limits.{Limits as LimitsSaid};
 
+use crate::verbs::{Part, append_part};
 use pitch_fields::OutOfMemory;
 use pitch_io::Gate;
 use pitch_text::Verb;
@@ -20,7 +21,6 @@ use schedule_replay::{WorldList, default_limits, replay_work};
 use std::alloc::Global;
 use std::thread;
 use std::thread::Threads;
-use storm_plan::{Part, append_part};
 use world_model::World;
 
 // Does a verb in a world.

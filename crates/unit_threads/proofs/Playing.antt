@@ -18,7 +18,7 @@ use Rattle.std.specs.FinMap.{len}
 use Rattle.pitch_model.specs.Book.{book_after}
 use Rattle.pitch_model.specs.Levels.{shares}
 use Rattle.pitch_model.specs.declared.status.Status.TheVariants.{Current}
-use Rattle.storm_plan.specs.StormText.{unit_line}
+use Rattle.feed_lines.specs.UnitLine.{unit_line}
 use Rattle.drill_client.specs.Ending.{whole_line}
 use Rattle.unit_threads.specs.DrillText.{drill_line}
 use Rattle.unit_threads.specs.Played.{command_datagrams}

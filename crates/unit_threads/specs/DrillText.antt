@@ -4,7 +4,7 @@ use Rattle.std.specs.FinMap.{len}
 use Rattle.pitch_model.specs.Book.{book_after}
 use Rattle.pitch_model.specs.Levels.{shares}
 use Rattle.pitch_model.specs.declared.status.Status.TheVariants.{Current}
-use Rattle.storm_plan.specs.StormText.{unit_line}
+use Rattle.feed_lines.specs.UnitLine.{unit_line}
 use Rattle.venue_core.specs.Plan.{plan}
 
 -- a drill has at most so many units

@@ -1,10 +1,10 @@
 ghost use Rattle.std.specs.Prelude.{◌≤◌};
 
-use feed_lines::LINE;
+use feed_lines::{LINE, put_unit_line};
 use pitch_model::Status;
 use std::alloc::Global;
 use std::test::*;
-use storm_plan::{generate, put_storm_line, put_unit_line};
+use storm_replay::{generate, put_storm_line};
 
 // The schedule of one unit and four steps for the number 0, whose first lost copy is that of
 // datagram 2 on line B.

@@ -4,7 +4,7 @@ use Rattle.std.specs.FinMap.{len}
 use Rattle.pitch_model.specs.Book.{Book, book_after}
 use Rattle.pitch_model.specs.Levels.{shares}
 use Rattle.pitch_model.specs.declared.status.Status.TheVariants.{Current}
-use Rattle.storm_plan.specs.StormText.{unit_line}
+use Rattle.feed_lines.specs.UnitLine.{unit_line}
 use Rattle.drill_client.proofs.Ends.{all_taken}
 use Rattle.drill_client.proofs.ending.append_end.Goals as goal
 

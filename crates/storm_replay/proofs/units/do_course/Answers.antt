@@ -1,7 +1,7 @@
 use Rattle.std.proofs.Common.{List, [], ◌++◌, reverse, subst}
 use Rattle.std.proofs.lemmas.Result.{on_ok_weaker}
 use Rattle.pitch_text.specs.declared.verb.Verb.{Verb}
-use Rattle.storm_plan.specs.Storm.{start_verbs, end_verbs}
+use Rattle.storm_replay.specs.Storm.{start_verbs, end_verbs}
 use Rattle.world_model.specs.Stands.{WorldStands}
 use Rattle.storm_replay.specs.Units.{unit_steps}
 use Rattle.storm_replay.proofs.Course.{course_whole}
