@@ -1,3 +1,5 @@
+//! How a client ends: told of all messages, it takes the image of all if it lacks some.
+
 ghost use Rattle.std.specs.Prelude.{◌≡◌, ◌≤◌, ◌++◌, ℕ, List, length, OnOk, OnErr, MatchBool};
 ghost use Rattle.pitch_fields.specs.Limits.{last_sequence};
 ghost use Rattle.pitch_model.specs.History.{Entry, Raw};
@@ -9,7 +11,7 @@ ghost use Rattle.drill_client.specs.Ending.{AsksForAll, IsAtEnd, whole_line};
 ghost use Rattle.drill_client.specs.Following.{FollowsOn, ImageParts, IsImageOf};
 ghost use Rattle.drill_client.specs.Told.{is_behind, told_all};
 
-use crate::sure::{hear_sure, hear_whole};
+use crate::items::{hear_whole, hear_without_memory};
 use client_core::{UnitClient, images_of_bytes_are_images};
 use feed_lines::append_unit_line;
 use pitch_fields::OutOfMemory;
@@ -29,17 +31,17 @@ fn hear_of_all(client: &mut UnitClient, count: u32)
     ensures tracks { Hears client.old client.new (told_all count) }
     ensures keeps { KeepsImaged client.old client.new (told_all count) }
 {
-    hear_sure(client, &Item::GrpDown);
-    hear_sure(client, &Item::SpinDown);
-    hear_sure(client, &Item::SpinUp);
-    hear_sure(client, &Item::Next { next: count + 1 });
-    hear_sure(client, &Item::Advertised { sequence: count });
+    hear_without_memory(client, &Item::GrpDown);
+    hear_without_memory(client, &Item::SpinDown);
+    hear_without_memory(client, &Item::SpinUp);
+    hear_without_memory(client, &Item::Next { next: count + 1 });
+    hear_without_memory(client, &Item::Advertised { sequence: count });
 }
 
 /// Tells a client of all the messages of its venue, which are `count`: its connections end, the
-/// Spin Server is up again, and the next sequence and the image of all are told of. Answers whether
-/// it lacks some; it has asked for that image then.
-pub fn ask_for_all(client: &mut UnitClient, count: u32) -> bool
+/// Spin Server is up again, and the next sequence and the image of all are told of. True if it
+/// lacks some, and so has asked for that image; false if it has all.
+pub fn asks_when_told_of_all(client: &mut UnitClient, count: u32) -> bool
     requires { count ≤ last_sequence }
     // Of every venue of so many messages that it followed.
     ensures { (H : ℕ) (V : List Raw) → length V ≡ count → FollowsOn client.old H V

@@ -1,3 +1,5 @@
+//! A client that goes on following each venue of which it hears only what is so.
+
 ghost use Rattle.std.specs.Prelude.{◌≡◌, ◌≤◌, ◌<◌, ◌+◌, ◌==◌, ◌∷◌, [], ℕ, List, length, drop};
 ghost use Rattle.std.specs.Prelude.{false, None, OnOk, IfOk};
 ghost use Rattle.std.specs.List.{AllByRecursion};
@@ -13,7 +15,7 @@ ghost use Rattle.pitch_model.specs.History.{SpinReply, Ticked};
 ghost use Rattle.drill_client.specs.Following.{Follows, heard_datagrams, imaged_whole, ImageParts};
 ghost use Rattle.drill_client.specs.Following.{IsImageOf};
 
-use crate::sure::{hear_sure, hear_whole};
+use crate::items::{hear_whole, hear_without_memory};
 use client_core::{UnitClient, images_of_bytes_are_images};
 use pitch_fields::OutOfMemory;
 use pitch_messages::{ByteList, RawList};
@@ -30,8 +32,8 @@ pub fn begin(alloc: Global, limit: u32) -> Result<UnitClient, OutOfMemory>
 {
     images_of_bytes_are_images();
     let mut client = UnitClient::make(alloc, limit)?;
-    hear_sure(&mut client, &Item::GrpUp);
-    hear_sure(&mut client, &Item::SpinUp);
+    hear_without_memory(&mut client, &Item::GrpUp);
+    hear_without_memory(&mut client, &Item::SpinUp);
     Ok(client)
 }
 
@@ -58,8 +60,11 @@ pub fn hear_datagram(client: &mut UnitClient, datagram: &[u8]) -> Result<(), Out
     Ok(())
 }
 
-/// Hears datagrams, one after another.
-pub fn hear_datagrams(client: &mut UnitClient, datagrams: &[ByteList]) -> Result<(), OutOfMemory>
+// Hears datagrams, one after another.
+pub(crate) fn hear_datagrams(
+    client: &mut UnitClient,
+    datagrams: &[ByteList],
+) -> Result<(), OutOfMemory>
     // Of every venue of whose feed all of them are pieces: the client goes on following it.
     ensures { OnOk result ((V : List Raw) (unit : ℕ) → AllByRecursion (IsPiece V unit)
         (bytes_in datagrams.now) → (H : ℕ) (E : List Entry) → Follows client.old H V E
@@ -71,14 +76,14 @@ pub fn hear_datagrams(client: &mut UnitClient, datagrams: &[ByteList]) -> Result
     Ok(())
 }
 
-/// Hears that an image through a sequence can be had ("Spin Image Available Message").
-pub fn hear_advertised(client: &mut UnitClient, sequence: u32)
+// Hears that an image through a sequence can be had ("Spin Image Available Message").
+pub(crate) fn hear_advertised(client: &mut UnitClient, sequence: u32)
     // Of every venue that has so many messages: the client goes on following it.
     ensures { (V : List Raw) → sequence ≤ length V → (H : ℕ) (E : List Entry)
         → Follows client.old H V E → Follows client.new H V (Advertised sequence ∷ E) }
 {
     images_of_bytes_are_images();
-    hear_sure(client, &Item::Advertised { sequence });
+    hear_without_memory(client, &Item::Advertised { sequence });
 }
 
 // The status of a reply ("Gap Response Message").
@@ -88,15 +93,15 @@ fn status_of(accepted: bool) -> u8
     if accepted { b'A' } else { b'O' }
 }
 
-/// Hears whether its gap request was accepted ("Gap Response Message").
-pub fn hear_gap_reply(client: &mut UnitClient, accepted: bool)
+// Hears whether its gap request was accepted ("Gap Response Message").
+pub(crate) fn hear_gap_reply(client: &mut UnitClient, accepted: bool)
     // Of every venue: the client goes on following it.
     ensures { (V : List Raw) (H : ℕ) (E : List Entry)
         → Follows client.old H V E → Follows client.new H V (GapReply accepted ∷ E) }
 {
     images_of_bytes_are_images();
     let status = status_of(accepted);
-    hear_sure(
+    hear_without_memory(
         client,
         &Item::GapReply {
             sequence: 0,
@@ -106,10 +111,10 @@ pub fn hear_gap_reply(client: &mut UnitClient, accepted: bool)
     );
 }
 
-/// Hears an image whole: that it comes and how many orders it has, its messages, and its end
-/// ("Spin Response Message", "Spin Finished Message"). After OutOfMemory it may have heard the
-/// first of these.
-pub fn hear_image(
+// Hears an image whole: that it comes and how many orders it has, its messages, and its end
+// ("Spin Response Message", "Spin Finished Message"). After OutOfMemory it may have heard the
+// first of these.
+pub(crate) fn hear_image(
     client: &mut UnitClient,
     sequence: u32,
     orders: u32,
@@ -128,14 +133,14 @@ pub fn hear_image(
     Ok(())
 }
 
-/// Hears that no image through that sequence comes ("Spin Response Message").
-pub fn hear_no_image(client: &mut UnitClient, sequence: u32)
+// Hears that no image through that sequence comes ("Spin Response Message").
+pub(crate) fn hear_no_image(client: &mut UnitClient, sequence: u32)
     // Of every venue: the client goes on following it.
     ensures { (V : List Raw) (H : ℕ) (E : List Entry)
         → Follows client.old H V E → Follows client.new H V (SpinReply sequence 0 false ∷ E) }
 {
     images_of_bytes_are_images();
-    hear_sure(
+    hear_without_memory(
         client,
         &Item::SpinReply {
             sequence,

@@ -1,5 +1,5 @@
 use client_core::UnitClient;
-use drill_client::{append_end, ask_for_all, begin, hear_all, hear_datagram};
+use drill_client::{append_end, asks_when_told_of_all, begin, hear_all, hear_datagram};
 use pitch_fields::OutOfMemory;
 use pitch_messages::RawList;
 use std::alloc::Global;
@@ -30,7 +30,7 @@ fn hears_a_datagram(
 ) -> Result<bool, OutOfMemory> {
     let mut client = begin(alloc, 4)?;
     hear_datagram(&mut client, datagram)?;
-    let asks = ask_for_all(&mut client, 1);
+    let asks = asks_when_told_of_all(&mut client, 1);
     append_end(&client, 1, out)?;
     Ok(asks)
 }
@@ -38,7 +38,7 @@ fn hears_a_datagram(
 // Whether the client that has heard nothing lacks something, and its line after the image.
 fn hears_an_image(alloc: Global, out: &mut Vec<u8>) -> Result<bool, OutOfMemory> {
     let mut client = begin(alloc, 4)?;
-    let asks = ask_for_all(&mut client, 1);
+    let asks = asks_when_told_of_all(&mut client, 1);
     hear_clock(alloc, &mut client)?;
     append_end(&client, 2, out)?;
     Ok(asks)

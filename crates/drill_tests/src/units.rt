@@ -1,5 +1,5 @@
+use drill_client::drill_plain;
 use std::test::*;
-use unit_threads::drill_plain;
 
 // Sixteen commands of the number 0 leave five orders in unit 1; four are a clock, a buy of 175
 // shares, a sale of 212, and an execution of 50 of the former. Of two hundred some are lost on both

@@ -1,8 +1,7 @@
 ghost use Rattle.std.specs.Prelude.{◌≡◌};
 
 use client_core::UnitClient;
-use drill_client::begin;
-use drill_values::{Datagram, DrillRun, Image, Reached, Reply, Word, hear_reply, hear_word};
+use drill_client::{Datagram, DrillRun, Image, Reached, Reply, Word, begin, hear_reply, hear_word};
 use pitch_fields::OutOfMemory;
 use pitch_messages::RawList;
 use pitch_model::Status;

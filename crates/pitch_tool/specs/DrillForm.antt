@@ -3,7 +3,7 @@ use Rattle.std.specs.Prelude.{◌≤◌, ℕ, Result, Ok, Err}
 use Rattle.pitch_io.specs.Putting.{Grows}
 use Rattle.stream_print.specs.Putting.{PutsSome}
 use Rattle.stream_print.specs.Told.{Told, IsUntouched}
-use Rattle.unit_threads.specs.DrillText.{drill_text, most_drill_units, most_drilled}
+use Rattle.drill_client.specs.DrillText.{drill_text, most_drill_units, most_drilled}
 use Rattle.pitch_tool.specs.declared.failure.Failure.{Failure}
 use Rattle.pitch_tool.specs.declared.failure.Failure.TheVariants.{Write, OutOfMemory}
 

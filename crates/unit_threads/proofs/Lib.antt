@@ -1,4 +1,5 @@
-pub mod Answered
-pub mod Answering
-pub mod Played
-pub mod Playing
+pub mod Publishing
+pub mod Saying
+pub mod Serving
+pub mod Telling
+pub mod Texts

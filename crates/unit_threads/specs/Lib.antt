@@ -1,4 +1,5 @@
-pub mod Answered
-pub mod DrillText
-pub mod Played
-pub mod Turns
+pub mod Listening
+pub mod Publishing
+pub mod Replying
+pub mod Saying
+pub mod Telling

@@ -4,13 +4,13 @@ ghost use Rattle.stream_print.specs.Told.{told};
 ghost use Rattle.pitch_tool.specs.DrillForm.{IsDrill, DrillEnds};
 
 use crate::failure::Failure;
-use drill_threads::drill;
 use pitch_io::{Gate, Sink};
 use std::alloc::Global;
 use std::sync::Wait;
 use std::thread::Threads;
 use std::time::Clock;
 use stream_print::put_all;
+use unit_threads::drill;
 
 /// Writes where the units of a drill ended, once all its threads have.
 #[tactic(auto, using(crate::proofs::Storms::writes_summary, crate::proofs::Storms::writes_some))]

@@ -5,9 +5,9 @@ pub returns : goal.returns
 returns c V within H E f =
     let law = c.images_of_bytes_are_images.ensures V f.bytes in
     record {
-      tracks = c.hear_sure.ensures.tracks H E f.tracks;
+      tracks = c.hear_without_memory.ensures.tracks H E f.tracks;
       honest = (within, f.honest);
-      keeps = c.hear_sure.ensures.keeps image V law H E f.tracks (within, f.honest) f.keeps;
+      keeps = c.hear_without_memory.ensures.keeps image V law H E f.tracks (within, f.honest) f.keeps;
       between = f.between;
       bytes = f.bytes;
     }

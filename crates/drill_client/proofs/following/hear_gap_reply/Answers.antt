@@ -8,9 +8,9 @@ pub returns : goal.returns
 returns c V H E f =
     let law = c.images_of_bytes_are_images.ensures V f.bytes in
     record {
-      tracks = subst (λ (b : Bool). Tracks c.hear_sure.new.client H (GapReply b ∷ E)) c.status_of-status.ensures (c.hear_sure.ensures.tracks H E f.tracks);
+      tracks = subst (λ (b : Bool). Tracks c.hear_without_memory.new.client H (GapReply b ∷ E)) c.status_of-status.ensures (c.hear_without_memory.ensures.tracks H E f.tracks);
       honest = (tt, f.honest);
-      keeps = c.hear_sure.ensures.keeps image V law H E f.tracks (tt, f.honest) f.keeps;
+      keeps = c.hear_without_memory.ensures.keeps image V law H E f.tracks (tt, f.honest) f.keeps;
       between = f.between;
       bytes = f.bytes;
     }

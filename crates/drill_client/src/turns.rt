@@ -1,0 +1,517 @@
+//! One unit's drill on one thread: a venue, a gap store and an image shelf serve the client in
+//! turns.
+
+ghost use Rattle.std.specs.Prelude.{◌≡◌, ◌-◌, ◌≤◌, ◌++◌, ℕ, List, [], length, Some, OnOk, OnErr};
+ghost use Rattle.std.specs.Prelude.{IfOk};
+ghost use Rattle.std.specs.List.{AllByRecursion};
+ghost use Rattle.pitch_model.specs.Advertising.{Operation};
+ghost use Rattle.pitch_model.specs.Datagrams.{IsPiece};
+ghost use Rattle.pitch_model.specs.History.{Entry, Raw as RawSaid};
+ghost use Rattle.unit_packets.specs.Packing.{bytes_in};
+ghost use Rattle.venue_core.specs.Plan.{plan, most_planned};
+ghost use Rattle.venue_core.specs.Stands.{Stands};
+ghost use Rattle.drill_client.specs.Ending.{IsAtEnd};
+ghost use Rattle.spin_server.specs.Stands.{seen_of};
+ghost use Rattle.drill_client.specs.Following.{Follows, ImageParts, IsImageOf};
+ghost use Rattle.drill_client.specs.DrillText.{most_drilled, drill_kept, drill_line};
+ghost use Rattle.drill_client.specs.Answered.{last_kept, heard_of_gap, heard_of_spin, heard_of_ask};
+ghost use Rattle.drill_client.specs.Answered.{heard_of_copy, heard_after_copy};
+ghost use Rattle.drill_client.specs.Played.{command_datagrams, is_round, round_operations};
+ghost use Rattle.drill_client.specs.Played.{plain_operations, operations_to, heard_of_round};
+ghost use Rattle.drill_client.specs.Played.{heard_of_command, counted_with, plain_history};
+ghost use Rattle.drill_client.specs.Turns.{KeepsLast, HasImages, Serves, HasPlayed, IsPlaying};
+
+use crate::ending::{append_end, asks_when_told_of_all, hear_all};
+use crate::following::{
+    begin, count_datagram, hear_advertised, hear_datagrams, hear_gap_reply, hear_image,
+    hear_no_image,
+};
+use client_core::UnitClient;
+use gap_store::{Found, GapLookup, GapStore, look_laws};
+use pitch_fields::OutOfMemory;
+use pitch_messages::{ByteList, RawList};
+use pitch_model::Ask;
+use pitch_model::laws::{
+    advertised_sequences_rise, operations_add_up, packed_messages_are_pieces,
+    slices_are_the_venues, venues_only_grow,
+};
+use spin_server::{ImageLookup, ImageShelf, Imaged, image_look_laws, shelves_show_what_was_pushed};
+use std::alloc::Global;
+use unit_packets::DatagramList;
+use venue_core::{Venue, VenueError, lost, plan_command, plan_is_accepted, plan_is_in_order};
+
+/// How many messages a drill's gap stores keep, and how many its clients hold.
+pub const KEPT: u32 = 4096;
+
+/// An image is advertised after every so many commands, and after the last.
+pub const ROUND: u32 = 1000;
+
+/// Which messages a unit's drill has: the first `count` of the plan of its number and unit.
+#[derive(Clone, Copy)]
+struct Course {
+    number: u64,
+    unit: u8,
+    count: u32,
+}
+
+/// A venue's side: the venue, what can be asked for again, and the images.
+#[derive(Drop)]
+struct Side {
+    venue: Venue,
+    store: GapStore,
+    shelf: ImageShelf,
+}
+
+impl Side {
+    // A side that has accepted nothing.
+    fn make(alloc: Global, unit: u8) -> Result<Side, OutOfMemory>
+        ensures { IfOk result (λ side. Serves side unit [] [] 0) }
+    {
+        Ok(Side {
+            venue: Venue::make(alloc, unit),
+            store: GapStore::make(alloc, KEPT)?,
+            shelf: ImageShelf::make(alloc),
+        })
+    }
+
+    // Accepts command `index` of the plan.
+    fn accept(&mut self, course: Course, index: u32) -> Result<(), OutOfMemory>
+        requires index { (1 ≤ index) × (index ≤ most_planned) }
+        requires serves { HasPlayed self.old course.number course.unit course.count (index - 1) }
+        ensures { OnOk result
+            (IsPlaying self.new course.number course.unit course.count index (index - 1)) }
+    {
+        accept_command(&mut self.venue, course.number, course.unit, index)?;
+        keep_last(&self.venue, &mut self.store, &mut self.shelf, course, index)?;
+        Ok(())
+    }
+
+    // Sends the message that was accepted last.
+    fn send(
+        &mut self,
+        alloc: Global,
+        course: Course,
+        index: u32,
+    ) -> Result<DatagramList, OutOfMemory>
+        requires index { 1 ≤ index }
+        requires serves { IsPlaying self.old course.number course.unit course.count index
+            (index - 1) }
+        ensures serves { OnOk result
+            (IsPlaying self.new course.number course.unit course.count index index) }
+        ensures datagrams { IfOk result
+            (λ list. bytes_in list.items ≡ command_datagrams course.number course.unit index) }
+        ensures pieces { IfOk result (λ list. AllByRecursion
+            (IsPiece (plan course.number course.unit index) course.unit) (bytes_in list.items)) }
+    {
+        plan_is_in_order();
+        let mut out = DatagramList::make(alloc);
+        self.venue.flush(&mut out)?;
+        Ok(out)
+    }
+}
+
+// The venue accepts command `index` of the plan.
+fn accept_command(venue: &mut Venue, number: u64, unit: u8, index: u32) -> Result<(), OutOfMemory>
+    requires index { (1 ≤ index) × (index ≤ most_planned) }
+    requires stands { Stands venue.old (plan number unit (index - 1)) (index - 1) }
+    ensures stands { OnOk result (Stands venue.new (plan number unit index) (index - 1)) }
+    ensures unit { venue.new.unit ≡ venue.old.unit }
+{
+    plan_is_accepted();
+    match venue.accept(&plan_command(number, unit, index)) {
+        Ok(_) => Ok(()),
+        Err(VenueError::OutOfMemory) => Err(OutOfMemory),
+        Err(_) => unreachable!(),
+    }
+}
+
+// The store and the shelf get the message of command `index`, which the venue accepted last.
+fn keep_last(
+    venue: &Venue,
+    store: &mut GapStore,
+    shelf: &mut ImageShelf,
+    course: Course,
+    index: u32,
+) -> Result<(), OutOfMemory>
+    requires index { (1 ≤ index) × (index ≤ most_planned) }
+    requires venue { Stands venue.now (plan course.number course.unit index) (index - 1) }
+    requires store { KeepsLast store.old (plan course.number course.unit (index - 1)) }
+    requires shelf { HasImages shelf.old (plain_operations course.number course.unit course.count
+        (index - 1)) (plan course.number course.unit (index - 1)) }
+    ensures store { OnOk result (KeepsLast store.new (plan course.number course.unit index)) }
+    ensures shelf { OnOk result (HasImages shelf.new (operations_to course.number
+        course.unit course.count index) (plan course.number course.unit index)) }
+{
+    operations_add_up();
+    let Some(raw) = venue.last_raw() else {
+        unreachable!();
+    };
+    store.push(raw);
+    shelf.push(raw)?;
+    Ok(())
+}
+
+// Answers a gap ask: with the range where all of it is kept.
+fn answer_gap(
+    alloc: Global,
+    store: &mut GapStore,
+    client: &mut UnitClient,
+    unit: u8,
+    first: u32,
+    count: u16,
+) -> Result<(), OutOfMemory>
+    ensures same { store.new ≡ store.old }
+    // Of every venue that begins with the messages of the store.
+    ensures heard { OnOk result ((messages more : List RawSaid) → KeepsLast store.old messages
+        → (H : ℕ) (E : List Entry) → Follows client.old H (messages ++ more) E → Follows
+        client.new H (messages ++ more) (heard_of_gap (last_kept messages) unit first count E)) }
+{
+    look_laws();
+    slices_are_the_venues();
+    packed_messages_are_pieces();
+    if first == 0 {
+        hear_gap_reply(client, false);
+        return Ok(());
+    }
+    if count == 0 {
+        hear_gap_reply(client, false);
+        return Ok(());
+    }
+    let mut out = DatagramList::make(alloc);
+    match store.pack(alloc, unit, first, count, &mut out)? {
+        Found::Kept => {
+            hear_gap_reply(client, true);
+            hear_datagrams(client, out.as_slice())?;
+            Ok(())
+        }
+        Found::Ahead { last: _ } => {
+            hear_gap_reply(client, false);
+            Ok(())
+        }
+        Found::NotKept { first: _ } => {
+            hear_gap_reply(client, false);
+            Ok(())
+        }
+    }
+}
+
+// Answers a spin ask: with the image where it is served.
+fn answer_spin(
+    alloc: Global,
+    shelf: &mut ImageShelf,
+    client: &mut UnitClient,
+    sequence: u32,
+) -> Result<(), OutOfMemory>
+    ensures same { shelf.new ≡ shelf.old }
+    // Of every venue that begins with the messages of the shelf.
+    ensures heard { OnOk result ((operations : List Operation) (messages more : List RawSaid)
+        → HasImages shelf.old operations messages
+        → (H : ℕ) (E : List Entry) → Follows client.old H (messages ++ more) E
+        → Follows client.new H (messages ++ more) (heard_of_spin (seen_of operations) sequence E)) }
+{
+    shelves_show_what_was_pushed();
+    image_look_laws();
+    advertised_sequences_rise();
+    venues_only_grow();
+    let mut raws = RawList::make(alloc);
+    match shelf.image(sequence, &mut raws)? {
+        Imaged::Image { orders } => {
+            hear_image(client, sequence, orders, raws)?;
+            Ok(())
+        }
+        Imaged::NotAdvertised => {
+            hear_no_image(client, sequence);
+            Ok(())
+        }
+    }
+}
+
+// Appends the image through the last message of a shelf, and answers how many orders it has.
+fn append_last(shelf: &mut ImageShelf, out: &mut RawList) -> Result<u32, OutOfMemory>
+    requires { (operations : List Operation)
+        × (messages : List RawSaid) × HasImages shelf.old operations messages }
+    // Of the messages of the shelf.
+    ensures { IfOk result (λ orders. (operations : List Operation) (messages : List RawSaid)
+        → HasImages shelf.old operations messages → out.old.items ≡ [] → IsImageOf messages
+        (record { sequence = length messages; orders = orders; raws = out.new.items })) }
+{
+    shelves_show_what_was_pushed();
+    image_look_laws();
+    advertised_sequences_rise();
+    operations_add_up();
+    let sequence = shelf.advertise()?;
+    match shelf.image(sequence, out)? {
+        Imaged::Image { orders } => Ok(orders),
+        Imaged::NotAdvertised => unreachable!(),
+    }
+}
+
+// Whether it is time to advertise: after every 1,000th command, and after the last.
+fn is_round(index: u32, count: u32) -> bool
+    ensures { result ≡ is_round index count }
+{
+    index % ROUND == 0 || index == count
+}
+
+// Advertises where it is time after command `index`, and the client hears of it.
+fn advertise(
+    shelf: &mut ImageShelf,
+    client: &mut UnitClient,
+    index: u32,
+    count: u32,
+) -> Result<(), OutOfMemory>
+    ensures shelf { OnOk result ((operations : List Operation) (messages : List RawSaid)
+        → HasImages shelf.old operations messages
+        → HasImages shelf.new (operations ++ round_operations index count) messages) }
+    // Of every venue that begins with the messages of the shelf, where these are those of `index`
+    // commands.
+    ensures heard { OnOk result ((operations : List Operation) (messages more : List RawSaid)
+        → HasImages shelf.old operations messages → length messages ≡ index
+        → (H : ℕ) (E : List Entry) → Follows client.old H (messages ++ more) E
+        → Follows client.new H (messages ++ more) (heard_of_round index count E)) }
+{
+    operations_add_up();
+    if !is_round(index, count) {
+        return Ok(());
+    }
+    let sequence = shelf.advertise()?;
+    hear_advertised(client, sequence);
+    Ok(())
+}
+
+// Answers what the client asks.
+fn answer_ask(
+    alloc: Global,
+    side: &mut Side,
+    client: &mut UnitClient,
+    unit: u8,
+    ask: Ask,
+) -> Result<(), OutOfMemory>
+    ensures same { side.new ≡ side.old }
+    // Of every venue that begins with the messages of the side.
+    ensures heard { OnOk result ((operations : List Operation) (messages more : List RawSaid)
+        (sent : ℕ) → Serves side.old unit operations messages sent → (H : ℕ) (E : List Entry)
+        → Follows client.old H (messages ++ more) E → Follows client.new H (messages ++ more)
+        (heard_of_ask (last_kept messages) (seen_of operations) unit (Some ask) E)) }
+{
+    match ask {
+        Ask::Gap { first, count } => {
+            answer_gap(alloc, &mut side.store, client, unit, first, count)?;
+            Ok(())
+        }
+        Ask::Spin { sequence } => {
+            answer_spin(alloc, &mut side.shelf, client, sequence)?;
+            Ok(())
+        }
+    }
+}
+
+// The same, if it asks anything.
+fn answer(
+    alloc: Global,
+    side: &mut Side,
+    client: &mut UnitClient,
+    unit: u8,
+    ask: Option<Ask>,
+) -> Result<(), OutOfMemory>
+    ensures same { side.new ≡ side.old }
+    // Of every venue that begins with the messages of the side.
+    ensures heard { OnOk result ((operations : List Operation) (messages more : List RawSaid)
+        (sent : ℕ) → Serves side.old unit operations messages sent → (H : ℕ) (E : List Entry)
+        → Follows client.old H (messages ++ more) E → Follows client.new H
+        (messages ++ more) (heard_of_ask (last_kept messages) (seen_of operations) unit ask E)) }
+{
+    match ask {
+        None => Ok(()),
+        Some(ask) => {
+            answer_ask(alloc, side, client, unit, ask)?;
+            Ok(())
+        }
+    }
+}
+
+// The client hears the copy of datagrams on one line, unless it is lost, and is answered.
+fn hear_copy(
+    alloc: Global,
+    side: &mut Side,
+    client: &mut UnitClient,
+    heard: &mut u8,
+    unit: u8,
+    datagrams: &[ByteList],
+    is_lost: bool,
+) -> Result<(), OutOfMemory>
+    ensures same { side.new ≡ side.old }
+    // Of every venue that begins with the messages of the side.
+    ensures heard { OnOk result ((operations : List Operation)
+        (messages more : List RawSaid) (sent : ℕ) → Serves side.old unit operations messages sent
+        → AllByRecursion (IsPiece messages unit) (bytes_in datagrams.now)
+        → (H : ℕ) (E : List Entry) → Follows client.old H (messages ++ more) E
+        → Follows client.new H (messages ++ more) (heard_of_copy (last_kept messages)
+        (seen_of operations) unit H heard.old is_lost (bytes_in datagrams.now) E)) }
+    ensures count { OnOk result (heard.new ≡ heard_after_copy is_lost heard.old) }
+{
+    if is_lost {
+        return Ok(());
+    }
+    hear_datagrams(client, datagrams)?;
+    let ask = count_datagram(client, heard);
+    answer(alloc, side, client, unit, ask)?;
+    Ok(())
+}
+
+// Command `index` of the plan: it is accepted and sent on both lines, and the client hears what is
+// not lost.
+fn play(
+    alloc: Global,
+    side: &mut Side,
+    client: &mut UnitClient,
+    heard: &mut u8,
+    course: Course,
+    index: u32,
+) -> Result<(), OutOfMemory>
+    requires index { (1 ≤ index) × (index ≤ course.count) }
+    requires count { course.count ≤ most_drilled }
+    requires serves { HasPlayed side.old course.number course.unit course.count (index - 1) }
+    ensures serves { OnOk result (HasPlayed side.new course.number course.unit course.count index) }
+    ensures count { OnOk result
+        (heard.new ≡ counted_with course.number course.unit index heard.old) }
+    ensures heard { OnOk result ((E : List Entry)
+        → Follows client.old drill_kept (plan course.number course.unit course.count) E
+        → Follows client.new drill_kept (plan course.number course.unit course.count)
+        (heard_of_command course.number course.unit course.count index heard.old E)) }
+{
+    let Course {
+        number,
+        unit,
+        count,
+    } = course;
+    side.accept(course, index)?;
+    let sent = side.send(alloc, course, index)?;
+    let datagrams = sent.as_slice();
+    hear_copy(
+        alloc,
+        side,
+        client,
+        heard,
+        unit,
+        datagrams,
+        lost(number, unit, index, 1),
+    )?;
+    hear_copy(
+        alloc,
+        side,
+        client,
+        heard,
+        unit,
+        datagrams,
+        lost(number, unit, index, 2),
+    )?;
+    advertise(&mut side.shelf, client, index, count)?;
+    Ok(())
+}
+
+// The client hears of all messages of the side, and takes the image of all where it lacks some.
+fn end(
+    alloc: Global,
+    side: &mut Side,
+    client: &mut UnitClient,
+    course: Course,
+) -> Result<(), OutOfMemory>
+    requires count { course.count ≤ most_drilled }
+    requires serves { HasPlayed side.old course.number course.unit course.count course.count }
+    requires heard { Follows client.old drill_kept (plan course.number course.unit course.count)
+        (plain_history course.number course.unit course.count course.count) }
+    ensures { OnOk result (IsAtEnd client.new drill_kept (plan course.number course.unit course.count)) }
+{
+    plan_is_in_order();
+    if !asks_when_told_of_all(client, course.count) {
+        return Ok(());
+    }
+    let mut raws = RawList::make(alloc);
+    let orders = append_last(&mut side.shelf, &mut raws)?;
+    hear_all(client, course.count, orders, raws)?;
+    Ok(())
+}
+
+// Plays all commands, with a side that has accepted nothing, and hands back the client.
+fn play_all(alloc: Global, side: &mut Side, course: Course) -> Result<UnitClient, OutOfMemory>
+    requires count { (1 ≤ course.count) × (course.count ≤ most_drilled) }
+    requires serves { Serves side.old course.unit [] [] 0 }
+    ensures serves { OnOk result
+        (HasPlayed side.new course.number course.unit course.count course.count) }
+    // It has heard just what the commands bring, and what it was answered.
+    ensures heard { IfOk result (λ client. Follows client drill_kept (plan course.number course.unit
+        course.count) (plain_history course.number course.unit course.count course.count)) }
+{
+    plan_is_in_order();
+    let mut client = begin(alloc, KEPT)?;
+    let mut heard = 0;
+    'commands: for before in 0..course.count {
+        play(alloc, side, &mut client, &mut heard, course, before + 1)?;
+    }
+    Ok(client)
+}
+
+// The client takes what it lacks after all commands, and the unit's line is appended.
+fn end_with(
+    alloc: Global,
+    side: &mut Side,
+    client: &mut UnitClient,
+    course: Course,
+    out: &mut Vec<u8>,
+) -> Result<(), OutOfMemory>
+    requires count { (1 ≤ course.count) × (course.count ≤ most_drilled) }
+    requires serves { HasPlayed side.old course.number course.unit course.count course.count }
+    requires heard { Follows client.old drill_kept (plan course.number course.unit course.count)
+        (plain_history course.number course.unit course.count course.count) }
+    ensures ok { OnOk result (out.new.items
+        ≡ out.old.items ++ drill_line course.number course.unit course.count) }
+    ensures err { OnErr result (out.new.items ≡ out.old.items) }
+{
+    end(alloc, side, client, course)?;
+    append_end(client, course.unit, out)?;
+    Ok(())
+}
+
+// The same from the first command on, with a side that has accepted nothing.
+fn play_to_end(
+    alloc: Global,
+    side: &mut Side,
+    course: Course,
+    out: &mut Vec<u8>,
+) -> Result<(), OutOfMemory>
+    requires count { (1 ≤ course.count) × (course.count ≤ most_drilled) }
+    requires serves { Serves side.old course.unit [] [] 0 }
+    ensures ok { OnOk result (out.new.items
+        ≡ out.old.items ++ drill_line course.number course.unit course.count) }
+    ensures err { OnErr result (out.new.items ≡ out.old.items) }
+{
+    let mut client = play_all(alloc, side, course)?;
+    end_with(alloc, side, &mut client, course, out)
+}
+
+/// Plays a unit's drill on one thread: a venue accepts the first `count` commands of the plan, and
+/// a client hears what is not lost of the datagrams on two lines, and asks for the rest. Appends
+/// the unit's line: its client is current at the last message, with the number of open orders and
+/// their shares.
+///
+/// A drill has 1 to 100,000 commands. `out` is as before after OutOfMemory.
+pub fn drill_plain(
+    alloc: Global,
+    number: u64,
+    unit: u8,
+    count: u32,
+    out: &mut Vec<u8>,
+) -> Result<(), OutOfMemory>
+    requires { (1 ≤ count) × (count ≤ most_drilled) }
+    ensures ok { OnOk result (out.new.items ≡ out.old.items ++ drill_line number unit count) }
+    ensures err { OnErr result (out.new.items ≡ out.old.items) }
+{
+    let course = Course {
+        number,
+        unit,
+        count,
+    };
+    let mut side = Side::make(alloc, unit)?;
+    play_to_end(alloc, &mut side, course, out)
+}
