@@ -31,6 +31,11 @@ pub record Follows (client : UnitClient) (H : ℕ) (V : List Raw) (E : List Entr
 abbrev pub FollowsOn : UnitClient → ℕ → List Raw → Type 0
 FollowsOn client H V = (E : List Entry) × Follows client H V E
 
+-- whatever history it followed V over, it then follows V over what `more` makes of that
+abbrev pub FollowsWith : UnitClient → UnitClient → List Raw → (List Entry → List Entry) → Type 0
+FollowsWith old new V more =
+    (H : ℕ) (E : List Entry) → Follows old H V E → Follows new H V (more E)
+
 -- where the one follows V, the other does
 abbrev pub KeepsFollowing : UnitClient → UnitClient → List Raw → Type 0
 KeepsFollowing old new V = (H : ℕ) → FollowsOn old H V → FollowsOn new H V

@@ -12,7 +12,8 @@ ghost use Rattle.pitch_model.specs.Datagrams.{IsVenueBlock, IsPiece, heard_block
 ghost use Rattle.pitch_model.specs.Heard.{heard_block};
 ghost use Rattle.pitch_model.specs.History.{Entry, Raw, GrpUp, SpinUp, Advertised, GapReply};
 ghost use Rattle.pitch_model.specs.History.{SpinReply, Ticked};
-ghost use Rattle.drill_client.specs.Following.{Follows, heard_datagrams, imaged_whole, ImageParts};
+ghost use Rattle.drill_client.specs.Following.{Follows, heard_datagrams};
+ghost use Rattle.drill_client.specs.Following.{imaged_whole, ImageParts, FollowsWith};
 ghost use Rattle.drill_client.specs.Following.{IsImageOf};
 
 use crate::items::{hear_whole, hear_without_memory};
@@ -39,9 +40,9 @@ pub fn begin(alloc: Global, limit: u32) -> Result<UnitClient, OutOfMemory>
 
 // Hears a block of the venue's feed.
 fn hear_block(client: &mut UnitClient, block: &BlockView<'_>) -> Result<(), OutOfMemory>
-    ensures { OnOk result ((V : List Raw) (unit : ℕ)
-        → IsVenueBlock V unit block.now → (H : ℕ) (E : List Entry)
-        → Follows client.old H V E → Follows client.new H V (heard_block block.now E)) }
+    ensures { OnOk result
+        ((V : List Raw) (unit : ℕ) → IsVenueBlock V unit block.now
+        → FollowsWith client.old client.new V (heard_block block.now)) }
 {
     client.hear_block(block.header().sequence, block.raws())?;
     Ok(())
@@ -50,9 +51,9 @@ fn hear_block(client: &mut UnitClient, block: &BlockView<'_>) -> Result<(), OutO
 /// Hears a datagram. After OutOfMemory it has heard the blocks before the one that wanted memory.
 pub fn hear_datagram(client: &mut UnitClient, datagram: &[u8]) -> Result<(), OutOfMemory>
     // Of every venue of whose feed the datagram is a piece: the client goes on following it.
-    ensures { OnOk result ((V : List Raw) (unit : ℕ)
-        → IsPiece V unit datagram.now → (H : ℕ) (E : List Entry) → Follows client.old H V E
-        → Follows client.new H V (heard_blocks (blocks_of datagram.now) E)) }
+    ensures { OnOk result
+        ((V : List Raw) (unit : ℕ) → IsPiece V unit datagram.now
+        → FollowsWith client.old client.new V (heard_blocks (blocks_of datagram.now))) }
 {
     'pieces: for block in Blocks::of_bytes(datagram) {
         hear_block(client, &block)?;
@@ -66,9 +67,9 @@ pub(crate) fn hear_datagrams(
     datagrams: &[ByteList],
 ) -> Result<(), OutOfMemory>
     // Of every venue of whose feed all of them are pieces: the client goes on following it.
-    ensures { OnOk result ((V : List Raw) (unit : ℕ) → AllByRecursion (IsPiece V unit)
-        (bytes_in datagrams.now) → (H : ℕ) (E : List Entry) → Follows client.old H V E
-        → Follows client.new H V (heard_datagrams (bytes_in datagrams.now) E)) }
+    ensures { OnOk result
+        ((V : List Raw) (unit : ℕ) → AllByRecursion (IsPiece V unit) (bytes_in datagrams.now)
+        → FollowsWith client.old client.new V (heard_datagrams (bytes_in datagrams.now))) }
 {
     'sent: for datagram in datagrams {
         hear_datagram(client, datagram.bytes())?;
@@ -79,8 +80,8 @@ pub(crate) fn hear_datagrams(
 // Hears that an image through a sequence can be had ("Spin Image Available Message").
 pub(crate) fn hear_advertised(client: &mut UnitClient, sequence: u32)
     // Of every venue that has so many messages: the client goes on following it.
-    ensures { (V : List Raw) → sequence ≤ length V → (H : ℕ) (E : List Entry)
-        → Follows client.old H V E → Follows client.new H V (Advertised sequence ∷ E) }
+    ensures { (V : List Raw) → sequence ≤ length V → FollowsWith client.old client.new V
+        (λ E. Advertised sequence ∷ E) }
 {
     images_of_bytes_are_images();
     hear_without_memory(client, &Item::Advertised { sequence });
@@ -96,8 +97,7 @@ fn status_of(accepted: bool) -> u8
 // Hears whether its gap request was accepted ("Gap Response Message").
 pub(crate) fn hear_gap_reply(client: &mut UnitClient, accepted: bool)
     // Of every venue: the client goes on following it.
-    ensures { (V : List Raw) (H : ℕ) (E : List Entry)
-        → Follows client.old H V E → Follows client.new H V (GapReply accepted ∷ E) }
+    ensures { (V : List Raw) → FollowsWith client.old client.new V (λ E. GapReply accepted ∷ E) }
 {
     images_of_bytes_are_images();
     let status = status_of(accepted);
@@ -121,12 +121,10 @@ pub(crate) fn hear_image(
     raws: RawList,
 ) -> Result<(), OutOfMemory>
     // Of every venue whose image it is: the client goes on following it.
-    ensures { OnOk result ((V : List Raw) → IsImageOf V (record {
-      sequence = sequence;
-      orders = orders;
-      raws = raws.items;
-    }) → (H : ℕ) (E : List Entry) → Follows client.old H V E
-        → Follows client.new H V (imaged_whole sequence orders raws.items E)) }
+    ensures { OnOk result
+        ((V : List Raw)
+        → IsImageOf V (record { sequence = sequence; orders = orders; raws = raws.items })
+        → FollowsWith client.old client.new V (imaged_whole sequence orders raws.items)) }
 {
     images_of_bytes_are_images();
     hear_whole(client, sequence, orders, raws)?;
@@ -136,8 +134,8 @@ pub(crate) fn hear_image(
 // Hears that no image through that sequence comes ("Spin Response Message").
 pub(crate) fn hear_no_image(client: &mut UnitClient, sequence: u32)
     // Of every venue: the client goes on following it.
-    ensures { (V : List Raw) (H : ℕ) (E : List Entry)
-        → Follows client.old H V E → Follows client.new H V (SpinReply sequence 0 false ∷ E) }
+    ensures { (V : List Raw) → FollowsWith client.old client.new V
+        (λ E. SpinReply sequence 0 false ∷ E) }
 {
     images_of_bytes_are_images();
     hear_without_memory(

@@ -5,7 +5,7 @@ ghost use Rattle.unit_packets.specs.Cutting.{blocks_of};
 ghost use Rattle.pitch_model.specs.Datagrams.{heard_blocks};
 ghost use Rattle.pitch_model.specs.History.{Entry, Advertised};
 ghost use Rattle.venue_core.specs.Plan.{plan};
-ghost use Rattle.drill_client.specs.Following.{Follows, imaged_whole};
+ghost use Rattle.drill_client.specs.Following.{imaged_whole, FollowsWith};
 ghost use Rattle.drill_client.specs.Words.{heard_word, heard_reply};
 
 use crate::following::{hear_advertised, hear_datagram, hear_gap_reply, hear_image, hear_no_image};
@@ -21,9 +21,9 @@ fn hear_piece<R: DrillRun>(
     client: &mut UnitClient,
     datagram: &Datagram<R>,
 ) -> Result<(), OutOfMemory>
-    ensures { OnOk result ((H : ℕ) (E : List Entry)
-        → Follows client.old H (plan R.number R.unit R.count) E → Follows client.new H
-        (plan R.number R.unit R.count) (heard_blocks (blocks_of datagram.now) E)) }
+    ensures { OnOk result
+        (FollowsWith client.old client.new (plan R.number R.unit R.count)
+        (heard_blocks (blocks_of datagram.now))) }
 {
     hear_datagram(client, datagram.bytes())?;
     Ok(())
@@ -31,8 +31,8 @@ fn hear_piece<R: DrillRun>(
 
 // The client hears of a sequence that the run has reached.
 fn hear_reached<R: DrillRun>(client: &mut UnitClient, reached: &Reached<R>)
-    ensures { (H : ℕ) (E : List Entry) → Follows client.old H (plan R.number R.unit R.count) E
-        → Follows client.new H (plan R.number R.unit R.count) (Advertised reached.now ∷ E) }
+    ensures { FollowsWith client.old client.new (plan R.number R.unit R.count)
+        (λ E. Advertised reached.now ∷ E) }
 {
     plan_is_in_order();
     hear_advertised(client, reached.sequence());
@@ -40,9 +40,9 @@ fn hear_reached<R: DrillRun>(client: &mut UnitClient, reached: &Reached<R>)
 
 // The client hears an image of the run, whole.
 fn hear_spin_image<R: DrillRun>(client: &mut UnitClient, image: Image<R>) -> Result<(), OutOfMemory>
-    ensures { OnOk result ((H : ℕ) (E : List Entry)
-        → Follows client.old H (plan R.number R.unit R.count) E → Follows client.new H
-        (plan R.number R.unit R.count) (imaged_whole image.sequence image.orders image.raws E)) }
+    ensures { OnOk result
+        (FollowsWith client.old client.new (plan R.number R.unit R.count)
+        (imaged_whole image.sequence image.orders image.raws)) }
 {
     let (sequence, orders, raws) = image.into_parts();
     hear_image(client, sequence, orders, raws)?;
@@ -52,8 +52,8 @@ fn hear_spin_image<R: DrillRun>(client: &mut UnitClient, image: Image<R>) -> Res
 /// The client hears a word of its publisher.
 pub fn hear_word<R: DrillRun>(client: &mut UnitClient, word: &Word<R>) -> Result<(), OutOfMemory>
     // It goes on following the run's messages.
-    ensures { OnOk result ((H : ℕ) (E : List Entry) → Follows client.old H (plan R.number R.unit
-        R.count) E → Follows client.new H (plan R.number R.unit R.count) (heard_word word.now E)) }
+    ensures { OnOk result
+        (FollowsWith client.old client.new (plan R.number R.unit R.count) (heard_word word.now)) }
 {
     match word {
         Word::Sent(datagram) => {
@@ -71,8 +71,8 @@ pub fn hear_word<R: DrillRun>(client: &mut UnitClient, word: &Word<R>) -> Result
 /// The client hears a word of its service.
 pub fn hear_reply<R: DrillRun>(client: &mut UnitClient, reply: Reply<R>) -> Result<(), OutOfMemory>
     // It goes on following the run's messages.
-    ensures { OnOk result ((H : ℕ) (E : List Entry) → Follows client.old H (plan R.number R.unit
-        R.count) E → Follows client.new H (plan R.number R.unit R.count) (heard_reply reply E)) }
+    ensures { OnOk result
+        (FollowsWith client.old client.new (plan R.number R.unit R.count) (heard_reply reply)) }
 {
     match reply {
         Reply::Gap { accepted } => {

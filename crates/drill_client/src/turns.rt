@@ -12,7 +12,7 @@ ghost use Rattle.venue_core.specs.Plan.{plan, most_planned};
 ghost use Rattle.venue_core.specs.Stands.{Stands};
 ghost use Rattle.drill_client.specs.Ending.{IsAtEnd};
 ghost use Rattle.spin_server.specs.Stands.{seen_of};
-ghost use Rattle.drill_client.specs.Following.{Follows, ImageParts, IsImageOf};
+ghost use Rattle.drill_client.specs.Following.{Follows, ImageParts, IsImageOf, FollowsWith};
 ghost use Rattle.drill_client.specs.DrillText.{most_drilled, drill_kept, drill_line};
 ghost use Rattle.drill_client.specs.Answered.{last_kept, heard_of_gap, heard_of_spin, heard_of_ask};
 ghost use Rattle.drill_client.specs.Answered.{heard_of_copy, heard_after_copy};
@@ -162,9 +162,10 @@ fn answer_gap(
 ) -> Result<(), OutOfMemory>
     ensures same { store.new ≡ store.old }
     // Of every venue that begins with the messages of the store.
-    ensures heard { OnOk result ((messages more : List RawSaid) → KeepsLast store.old messages
-        → (H : ℕ) (E : List Entry) → Follows client.old H (messages ++ more) E → Follows
-        client.new H (messages ++ more) (heard_of_gap (last_kept messages) unit first count E)) }
+    ensures heard { OnOk result
+        ((messages more : List RawSaid) → KeepsLast store.old messages
+        → FollowsWith client.old client.new (messages ++ more)
+        (heard_of_gap (last_kept messages) unit first count)) }
 {
     look_laws();
     slices_are_the_venues();
@@ -204,10 +205,11 @@ fn answer_spin(
 ) -> Result<(), OutOfMemory>
     ensures same { shelf.new ≡ shelf.old }
     // Of every venue that begins with the messages of the shelf.
-    ensures heard { OnOk result ((operations : List Operation) (messages more : List RawSaid)
+    ensures heard { OnOk result
+        ((operations : List Operation) (messages more : List RawSaid)
         → HasImages shelf.old operations messages
-        → (H : ℕ) (E : List Entry) → Follows client.old H (messages ++ more) E
-        → Follows client.new H (messages ++ more) (heard_of_spin (seen_of operations) sequence E)) }
+        → FollowsWith client.old client.new (messages ++ more)
+        (heard_of_spin (seen_of operations) sequence)) }
 {
     shelves_show_what_was_pushed();
     image_look_laws();
@@ -265,10 +267,10 @@ fn advertise(
         → HasImages shelf.new (operations ++ round_operations index count) messages) }
     // Of every venue that begins with the messages of the shelf, where these are those of `index`
     // commands.
-    ensures heard { OnOk result ((operations : List Operation) (messages more : List RawSaid)
+    ensures heard { OnOk result
+        ((operations : List Operation) (messages more : List RawSaid)
         → HasImages shelf.old operations messages → length messages ≡ index
-        → (H : ℕ) (E : List Entry) → Follows client.old H (messages ++ more) E
-        → Follows client.new H (messages ++ more) (heard_of_round index count E)) }
+        → FollowsWith client.old client.new (messages ++ more) (heard_of_round index count)) }
 {
     operations_add_up();
     if !is_round(index, count) {
@@ -289,10 +291,11 @@ fn answer_ask(
 ) -> Result<(), OutOfMemory>
     ensures same { side.new ≡ side.old }
     // Of every venue that begins with the messages of the side.
-    ensures heard { OnOk result ((operations : List Operation) (messages more : List RawSaid)
-        (sent : ℕ) → Serves side.old unit operations messages sent → (H : ℕ) (E : List Entry)
-        → Follows client.old H (messages ++ more) E → Follows client.new H (messages ++ more)
-        (heard_of_ask (last_kept messages) (seen_of operations) unit (Some ask) E)) }
+    ensures heard { OnOk result
+        ((operations : List Operation) (messages more : List RawSaid) (sent : ℕ)
+        → Serves side.old unit operations messages sent
+        → FollowsWith client.old client.new (messages ++ more)
+        (heard_of_ask (last_kept messages) (seen_of operations) unit (Some ask))) }
 {
     match ask {
         Ask::Gap { first, count } => {
@@ -316,10 +319,11 @@ fn answer(
 ) -> Result<(), OutOfMemory>
     ensures same { side.new ≡ side.old }
     // Of every venue that begins with the messages of the side.
-    ensures heard { OnOk result ((operations : List Operation) (messages more : List RawSaid)
-        (sent : ℕ) → Serves side.old unit operations messages sent → (H : ℕ) (E : List Entry)
-        → Follows client.old H (messages ++ more) E → Follows client.new H
-        (messages ++ more) (heard_of_ask (last_kept messages) (seen_of operations) unit ask E)) }
+    ensures heard { OnOk result
+        ((operations : List Operation) (messages more : List RawSaid) (sent : ℕ)
+        → Serves side.old unit operations messages sent
+        → FollowsWith client.old client.new (messages ++ more)
+        (heard_of_ask (last_kept messages) (seen_of operations) unit ask)) }
 {
     match ask {
         None => Ok(()),

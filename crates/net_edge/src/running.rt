@@ -39,7 +39,7 @@ use pitch_fields::OutOfMemory;
 use pitch_io::{LinkEnd, Net, NetDone};
 use pitch_model::Status;
 use pitch_text::{DEFAULT_HOLD, DEFAULT_KEPT};
-use shared_unit::{MakeError, Naming, Opened, Run};
+use shared_unit::{FixedRun, MakeError, Naming, Opened};
 use spin_server::SpinServer;
 use std::alloc::Global;
 use std::marker::Brand;
@@ -296,7 +296,7 @@ pub fn demo_plain<N: Net>(
 }
 
 // A demo whose servers answer from the pair that was opened, under its name.
-fn demo_of<J: Naming, R: Run, W: Wait, N: Net>(
+fn demo_of<J: Naming, R: FixedRun, W: Wait, N: Net>(
     rt: &W,
     alloc: Global,
     opened: Opened<R>,
@@ -322,7 +322,7 @@ fn demo_of<J: Naming, R: Run, W: Wait, N: Net>(
 }
 
 // Opens a pair with two servers, whose run fixes no messages.
-fn demo_opened<R: Run, W: Wait, N: Net>(
+fn demo_opened<R: FixedRun, W: Wait, N: Net>(
     rt: &W,
     alloc: Global,
     net: &mut N,

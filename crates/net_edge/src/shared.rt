@@ -9,7 +9,7 @@ use crate::market::Market;
 use grp_session::{GapBudget, GrpServer};
 use pitch_fields::OutOfMemory;
 use pitch_messages::Raw;
-use shared_unit::{LeftRightPlaces, MakeError, Naming, Opened, Run, Server, Writer, make};
+use shared_unit::{FixedRun, LeftRightPlaces, MakeError, Naming, Opened, Server, Writer, make};
 use spin_server::SpinServer;
 use std::alloc::Global;
 use std::marker::Model;
@@ -23,7 +23,7 @@ use venue_core::plan_command;
 /// seen no more than that: so it answered from just that. That it has seen more never comes, as
 /// nobody else writes; the answer would be OutOfMemory.
 #[derive(Drop)]
-pub(crate) struct SharedMarket<J: Naming, R: Run, W: Wait + Drop> {
+pub(crate) struct SharedMarket<J: Naming, R: FixedRun, W: Wait + Drop> {
     writer: Writer<J, R, W>,
     gaps: Server<J, R>,
     images: Server<J, R>,
@@ -31,7 +31,7 @@ pub(crate) struct SharedMarket<J: Naming, R: Run, W: Wait + Drop> {
     done: u32,
 }
 
-impl<J: Naming, R: Run, W: Wait + Drop> Model for SharedMarket<J, R, W> {
+impl<J: Naming, R: FixedRun, W: Wait + Drop> Model for SharedMarket<J, R, W> {
     ghost use Rattle.std.specs.Prelude.{◌≡◌, ◌≤◌, false, List, length};
     ghost use Rattle.pitch_model.specs.Advertising.{Operation};
     ghost use Rattle.shared_unit.specs.Coding.{history_code};
@@ -47,7 +47,7 @@ impl<J: Naming, R: Run, W: Wait + Drop> Model for SharedMarket<J, R, W> {
         × (J.kept ≡ kept_messages) × (R.fixed ≡ false) };
 }
 
-impl<J: Naming, R: Run, W: Wait + Drop> SharedMarket<J, R, W> {
+impl<J: Naming, R: FixedRun, W: Wait + Drop> SharedMarket<J, R, W> {
     /// The writer of a pair that was opened for two servers, which has done nothing, and the two.
     pub(crate) fn open(
         alloc: Global,
@@ -83,7 +83,7 @@ impl<J: Naming, R: Run, W: Wait + Drop> SharedMarket<J, R, W> {
     }
 }
 
-impl<J: Naming, R: Run, W: Wait + Drop> Market for SharedMarket<J, R, W> {
+impl<J: Naming, R: FixedRun, W: Wait + Drop> Market for SharedMarket<J, R, W> {
     ghost has = { SharedHas };
 
     fn accept(&mut self, number: u64, index: u32) -> Result<Raw, OutOfMemory> {

@@ -4,7 +4,9 @@ ghost use Rattle.std.specs.Prelude.{◌≡◌, ◌<◌, ◌≤◌, ◌+◌, ◌^
 use gap_store::{Found, GapLookup};
 use pitch_fields::OutOfMemory;
 use pitch_messages::RawList;
-use shared_unit::{LeftRightPlaces, MakeError, Naming, Opened, Places, Run, Server, Writer, make};
+use shared_unit::{
+    FixedRun, LeftRightPlaces, MakeError, Naming, Opened, Places, Server, Writer, make,
+};
 use spin_server::{ImageLookup, Imaged};
 use std::alloc::Global;
 use std::marker::Brand;
@@ -18,7 +20,7 @@ use venue_core::{VenueError, plan_command};
 const FIRST: &[u8] = b"\x06\x20\x98\x85\0\0";
 
 // Lets a writer accept a command of the plan.
-pub(crate) fn accept_one<J: Naming, R: Run, W: Wait + Drop>(
+pub(crate) fn accept_one<J: Naming, R: FixedRun, W: Wait + Drop>(
     writer: &mut Writer<J, R, W>,
     index: u32,
 ) -> Result<(), VenueError>
@@ -32,7 +34,7 @@ pub(crate) fn accept_one<J: Naming, R: Run, W: Wait + Drop>(
 }
 
 // Lets a new writer accept the first commands of the plan.
-pub(crate) fn accept_plan<J: Naming, R: Run, W: Wait + Drop>(
+pub(crate) fn accept_plan<J: Naming, R: FixedRun, W: Wait + Drop>(
     writer: &mut Writer<J, R, W>,
     count: u32,
 ) -> Result<(), VenueError>
@@ -47,7 +49,7 @@ pub(crate) fn accept_plan<J: Naming, R: Run, W: Wait + Drop>(
 }
 
 // The writer of a pair that was opened, and its servers.
-fn make_all<J: Naming, R: Run, W: Wait + Abort + AllocGlobal>(
+fn make_all<J: Naming, R: FixedRun, W: Wait + Abort + AllocGlobal>(
     rt: &W,
     opened: Opened<R>,
 ) -> Result<(Writer<J, R, &W>, Vec<Server<J, R>>), MakeError>
@@ -61,7 +63,7 @@ fn make_all<J: Naming, R: Run, W: Wait + Abort + AllocGlobal>(
 
 // The writer of a pair that was opened for one server, and that server. What is let go here and
 // below goes by a call of `drop`, which is cheaper to prove than a drop at each return.
-pub(crate) fn make_one<J: Naming, R: Run, W: Wait + Abort + AllocGlobal>(
+pub(crate) fn make_one<J: Naming, R: FixedRun, W: Wait + Abort + AllocGlobal>(
     rt: &W,
     opened: Opened<R>,
 ) -> Result<(Writer<J, R, &W>, Server<J, R>), Fail>
@@ -83,7 +85,10 @@ pub(crate) fn make_one<J: Naming, R: Run, W: Wait + Abort + AllocGlobal>(
 
 // Whether a server that was told nothing answers that message 1 is kept, and with it, or that none
 // came yet.
-pub(crate) fn answers_first<J: Naming, R: Run>(alloc: Global, server: &mut Server<J, R>) -> bool {
+pub(crate) fn answers_first<J: Naming, R: FixedRun>(
+    alloc: Global,
+    server: &mut Server<J, R>,
+) -> bool {
     let mut out = RawList::make(alloc);
     match server.gap(1, 1, &mut out) {
         Ok(Found::Kept) => out.get(0) == Some(FIRST),
@@ -98,14 +103,14 @@ fn one_server_answers(rt: HostRuntime) -> Result<(), Fail> {
 }
 
 // Picks the run, which fixes nothing.
-fn start_one<R: Run, W: Wait + Abort + AllocGlobal>(rt: &W) -> Result<(), Fail>
+fn start_one<R: FixedRun, W: Wait + Abort + AllocGlobal>(rt: &W) -> Result<(), Fail>
     requires free { R.fixed ≡ false }
 {
     let opened: Opened<R> = Opened::make(rt.alloc(), 1, 4096, 1)?;
     ask_one::<Brand, R, W>(rt, opened)
 }
 
-fn ask_one<J: Naming, R: Run, W: Wait + Abort + AllocGlobal>(
+fn ask_one<J: Naming, R: FixedRun, W: Wait + Abort + AllocGlobal>(
     rt: &W,
     opened: Opened<R>,
 ) -> Result<(), Fail>
@@ -125,7 +130,7 @@ fn ask_one<J: Naming, R: Run, W: Wait + Abort + AllocGlobal>(
 }
 
 // Whether there is no place for one server more.
-fn has_no_place<J: Naming, R: Run, H: Wait + Drop>(writer: &mut Writer<J, R, H>) -> bool
+fn has_no_place<J: Naming, R: FixedRun, H: Wait + Drop>(writer: &mut Writer<J, R, H>) -> bool
     ensures { writer.new ≡ writer.old }
 {
     match LeftRightPlaces::make().place(writer) {
@@ -135,7 +140,7 @@ fn has_no_place<J: Naming, R: Run, H: Wait + Drop>(writer: &mut Writer<J, R, H>)
 }
 
 // What a server answers of 100 commands, and of their image.
-fn hundred_is_right<J: Naming, R: Run, H: Wait + Drop>(
+fn hundred_is_right<J: Naming, R: FixedRun, H: Wait + Drop>(
     alloc: Global,
     writer: &mut Writer<J, R, H>,
     server: &mut Server<J, R>,
@@ -153,7 +158,7 @@ fn hundred_is_right<J: Naming, R: Run, H: Wait + Drop>(
 }
 
 // Whether a server has seen so many operations once it was told of all.
-pub(crate) fn hears<J: Naming, R: Run, H: Wait + Drop>(
+pub(crate) fn hears<J: Naming, R: FixedRun, H: Wait + Drop>(
     writer: &mut Writer<J, R, H>,
     server: &mut Server<J, R>,
     count: u64,
@@ -165,7 +170,7 @@ pub(crate) fn hears<J: Naming, R: Run, H: Wait + Drop>(
 }
 
 // Whether a server hands out this message.
-fn hands_out<J: Naming, R: Run>(
+fn hands_out<J: Naming, R: FixedRun>(
     alloc: Global,
     server: &mut Server<J, R>,
     sequence: u32,
@@ -181,7 +186,7 @@ fn hands_out<J: Naming, R: Run>(
 }
 
 // Whether there are so many messages, and no more.
-fn has_all<J: Naming, R: Run>(
+fn has_all<J: Naming, R: FixedRun>(
     alloc: Global,
     server: &mut Server<J, R>,
     last: u32,
@@ -194,7 +199,7 @@ fn has_all<J: Naming, R: Run>(
 }
 
 // Whether the first messages are kept, when a proxy looks for them.
-pub(crate) fn finds<J: Naming, R: Run>(
+pub(crate) fn finds<J: Naming, R: FixedRun>(
     server: &mut Server<J, R>,
     count: u16,
 ) -> Result<bool, OutOfMemory>
@@ -204,7 +209,7 @@ pub(crate) fn finds<J: Naming, R: Run>(
 }
 
 // Whether a proxy gets the first message, alone and packed.
-fn serves_a_proxy<J: Naming, R: Run>(
+fn serves_a_proxy<J: Naming, R: FixedRun>(
     alloc: Global,
     server: &mut Server<J, R>,
 ) -> Result<bool, OutOfMemory> {
@@ -216,7 +221,7 @@ fn serves_a_proxy<J: Naming, R: Run>(
 }
 
 // The messages of 100 commands, by each of the look-ups.
-fn gaps_are_right<J: Naming, R: Run, H: Wait + Drop>(
+fn gaps_are_right<J: Naming, R: FixedRun, H: Wait + Drop>(
     alloc: Global,
     writer: &Writer<J, R, H>,
     server: &mut Server<J, R>,
@@ -232,7 +237,7 @@ fn gaps_are_right<J: Naming, R: Run, H: Wait + Drop>(
 }
 
 // Advertises the image of 100 messages, and again.
-fn advertises_twice<J: Naming, R: Run, H: Wait + Drop>(
+fn advertises_twice<J: Naming, R: FixedRun, H: Wait + Drop>(
     writer: &mut Writer<J, R, H>,
 ) -> Result<bool, OutOfMemory>
     requires { length writer.old ≡ 100 }
@@ -241,7 +246,7 @@ fn advertises_twice<J: Naming, R: Run, H: Wait + Drop>(
 }
 
 // Whether the image of the first 100 messages, a second and 32 orders, is there, and no other.
-fn images_are_right<J: Naming, R: Run>(
+fn images_are_right<J: Naming, R: FixedRun>(
     alloc: Global,
     server: &mut Server<J, R>,
 ) -> Result<bool, OutOfMemory> {
@@ -253,7 +258,7 @@ fn images_are_right<J: Naming, R: Run>(
 }
 
 // Whether a Spin Server finds the image of the first 100 messages alone.
-fn serves_a_spin<J: Naming, R: Run>(server: &mut Server<J, R>) -> bool {
+fn serves_a_spin<J: Naming, R: FixedRun>(server: &mut Server<J, R>) -> bool {
     let newest = (server.available(), server.newest());
     let there = (server.has_image(100), server.has_image(99));
     (newest, there) == ((Some(100), Some(100)), (true, false))
@@ -265,14 +270,14 @@ fn two_servers_answer(rt: HostRuntime) -> Result<(), Fail> {
 }
 
 // Picks the run, which fixes nothing.
-fn start_two<R: Run, W: Wait + Abort + AllocGlobal>(rt: &W) -> Result<(), Fail>
+fn start_two<R: FixedRun, W: Wait + Abort + AllocGlobal>(rt: &W) -> Result<(), Fail>
     requires free { R.fixed ≡ false }
 {
     let opened: Opened<R> = Opened::make(rt.alloc(), 1, 4096, 2)?;
     ask_two::<Brand, R, W>(rt, opened)
 }
 
-fn ask_two<J: Naming, R: Run, W: Wait + Abort + AllocGlobal>(
+fn ask_two<J: Naming, R: FixedRun, W: Wait + Abort + AllocGlobal>(
     rt: &W,
     opened: Opened<R>,
 ) -> Result<(), Fail>
@@ -291,7 +296,7 @@ fn ask_two<J: Naming, R: Run, W: Wait + Abort + AllocGlobal>(
 }
 
 // Whether there are two servers, which answer as they should.
-fn both_are_right<J: Naming, R: Run, H: Wait + Drop>(
+fn both_are_right<J: Naming, R: FixedRun, H: Wait + Drop>(
     alloc: Global,
     writer: &mut Writer<J, R, H>,
     servers: &mut Vec<Server<J, R>>,
@@ -306,7 +311,7 @@ fn both_are_right<J: Naming, R: Run, H: Wait + Drop>(
 }
 
 // Whether no server has an answer.
-fn have_nothing<J: Naming, R: Run>(alloc: Global, servers: &mut Vec<Server<J, R>>) -> bool {
+fn have_nothing<J: Naming, R: FixedRun>(alloc: Global, servers: &mut Vec<Server<J, R>>) -> bool {
     match servers.as_mut_slice() {
         [one, two] => has_nothing(alloc, one) && has_nothing(alloc, two),
         _ => false,
@@ -314,7 +319,7 @@ fn have_nothing<J: Naming, R: Run>(alloc: Global, servers: &mut Vec<Server<J, R>
 }
 
 // What two servers answer of three commands and their image, told of them or not.
-fn three_are_right<J: Naming, R: Run, H: Wait + Drop>(
+fn three_are_right<J: Naming, R: FixedRun, H: Wait + Drop>(
     alloc: Global,
     writer: &mut Writer<J, R, H>,
     one: &mut Server<J, R>,
@@ -333,11 +338,11 @@ fn three_are_right<J: Naming, R: Run, H: Wait + Drop>(
 }
 
 // Whether a server that was told nothing sees three commands.
-fn sees_three<J: Naming, R: Run>(alloc: Global, server: &mut Server<J, R>) -> bool {
+fn sees_three<J: Naming, R: FixedRun>(alloc: Global, server: &mut Server<J, R>) -> bool {
     answers_first(alloc, server) && server.seen() == 3
 }
 
 // Whether a server has no memory for an answer, and names the image that it saw last.
-fn has_nothing<J: Naming, R: Run>(alloc: Global, server: &mut Server<J, R>) -> bool {
+fn has_nothing<J: Naming, R: FixedRun>(alloc: Global, server: &mut Server<J, R>) -> bool {
     hands_out(alloc, server, 1, FIRST).is_err() && server.available() == Some(3)
 }

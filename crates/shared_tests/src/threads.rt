@@ -3,7 +3,7 @@ ghost use Rattle.std.specs.Prelude.{◌≡◌, ◌≤◌, ◌<◌, ◌+◌, ◌^
 
 use crate::servers::{accept_one, accept_plan, answers_first, finds, hears, make_one};
 use crossbeam_channel::{Receiver, Sender, unbounded};
-use shared_unit::{Naming, Opened, Run, Server, Told, Writer};
+use shared_unit::{FixedRun, Naming, Opened, Server, Told, Writer};
 use std::alloc::Global;
 use std::marker::Brand;
 use std::process::Abort;
@@ -18,7 +18,7 @@ fn a_server_that_is_told_nothing_answers(rt: HostRuntime) -> Result<(), Fail> {
 }
 
 // Picks the run, which fixes nothing.
-fn start_untold<R: Run + Send + Sync, W: Threads + Wait + Abort + AllocGlobal + Sync>(
+fn start_untold<R: FixedRun + Send + Sync, W: Threads + Wait + Abort + AllocGlobal + Sync>(
     rt: &W,
 ) -> Result<(), Fail>
     requires free { R.fixed ≡ false }
@@ -29,7 +29,7 @@ fn start_untold<R: Run + Send + Sync, W: Threads + Wait + Abort + AllocGlobal + 
 
 fn play_untold<
     J: Naming + Send + Sync,
-    R: Run + Send + Sync,
+    R: FixedRun + Send + Sync,
     W: Threads + Wait + Abort + AllocGlobal + Sync,
 >(rt: &W, opened: Opened<R>) -> Result<(), Fail>
     requires book { opened.seen.book ≡ J.book }
@@ -49,7 +49,7 @@ fn play_untold<
 }
 
 // Accepts the plan's first three commands, and says whether none was refused.
-fn accept_first<J: Naming, R: Run, H: Wait + Drop>(
+fn accept_first<J: Naming, R: FixedRun, H: Wait + Drop>(
     mut writer: Writer<J, R, H>,
 ) -> (Writer<J, R, H>, bool)
     requires free { R.fixed ≡ false }
@@ -60,7 +60,7 @@ fn accept_first<J: Naming, R: Run, H: Wait + Drop>(
 }
 
 // Asks 1,000 times without being told, and counts the answers that are wrong.
-fn ask_untold<J: Naming, R: Run>(alloc: Global, mut server: Server<J, R>) -> u32 {
+fn ask_untold<J: Naming, R: FixedRun>(alloc: Global, mut server: Server<J, R>) -> u32 {
     let mut wrong = 0u32;
     for _ in 0..1000u32 {
         if !answers_first(alloc, &mut server) {
@@ -76,7 +76,7 @@ fn a_server_that_is_told_answers(rt: HostRuntime) -> Result<(), Fail> {
 }
 
 // Picks the run, which fixes nothing.
-fn start_told<R: Run + Send + Sync, W: Threads + Wait + Abort + AllocGlobal + Sync>(
+fn start_told<R: FixedRun + Send + Sync, W: Threads + Wait + Abort + AllocGlobal + Sync>(
     rt: &W,
 ) -> Result<(), Fail>
     requires free { R.fixed ≡ false }
@@ -87,7 +87,7 @@ fn start_told<R: Run + Send + Sync, W: Threads + Wait + Abort + AllocGlobal + Sy
 
 fn play_told<
     J: Naming + Send + Sync,
-    R: Run + Send + Sync,
+    R: FixedRun + Send + Sync,
     W: Threads + Wait + Abort + AllocGlobal + Sync,
 >(rt: &W, opened: Opened<R>) -> Result<(), Fail>
     requires book { opened.seen.book ≡ J.book }
@@ -101,7 +101,7 @@ fn play_told<
 }
 
 // The writer in a thread, and the server in another, which is told.
-fn talk<J: Naming + Send + Sync, R: Run + Send + Sync, W: Threads + Wait + AllocGlobal + Sync>(
+fn talk<J: Naming + Send + Sync, R: FixedRun + Send + Sync, W: Threads + Wait + AllocGlobal + Sync>(
     rt: &W,
     writer: Writer<J, R, &W>,
     server: Server<J, R>,
@@ -123,7 +123,7 @@ fn talk<J: Naming + Send + Sync, R: Run + Send + Sync, W: Threads + Wait + Alloc
 }
 
 // Whether a server has seen all 101 operations once it was told of them, and finds the messages.
-fn has_heard<J: Naming, R: Run, H: Wait + Drop>(
+fn has_heard<J: Naming, R: FixedRun, H: Wait + Drop>(
     writer: &mut Writer<J, R, H>,
     server: &mut Server<J, R>,
 ) -> bool {
@@ -131,12 +131,12 @@ fn has_heard<J: Naming, R: Run, H: Wait + Drop>(
 }
 
 // Sends what is told. Where nobody hears it, it is let go.
-fn send_told<J: Naming, R: Run, W: Wait>(rt: &W, to: &Sender<Told<J, R>>, told: Told<J, R>) {
+fn send_told<J: Naming, R: FixedRun, W: Wait>(rt: &W, to: &Sender<Told<J, R>>, told: Told<J, R>) {
     let _ = to.send(rt, told);
 }
 
 // Tells of what was done.
-fn tell_of<J: Naming, R: Run, H: Wait + Drop, W: Wait>(
+fn tell_of<J: Naming, R: FixedRun, H: Wait + Drop, W: Wait>(
     rt: &W,
     writer: &mut Writer<J, R, H>,
     to: &Sender<Told<J, R>>,
@@ -147,7 +147,7 @@ fn tell_of<J: Naming, R: Run, H: Wait + Drop, W: Wait>(
 }
 
 // Accepts a command of the plan, and tells of it.
-fn publish_one<J: Naming, R: Run, H: Wait + Drop, W: Wait>(
+fn publish_one<J: Naming, R: FixedRun, H: Wait + Drop, W: Wait>(
     rt: &W,
     writer: &mut Writer<J, R, H>,
     index: u32,
@@ -164,7 +164,7 @@ fn publish_one<J: Naming, R: Run, H: Wait + Drop, W: Wait>(
 }
 
 // Accepts the plan's first 100 commands, advertises, and tells of each.
-fn publish_all<J: Naming, R: Run, H: Wait + Drop, W: Wait>(
+fn publish_all<J: Naming, R: FixedRun, H: Wait + Drop, W: Wait>(
     rt: &W,
     writer: &mut Writer<J, R, H>,
     to: &Sender<Told<J, R>>,
@@ -181,7 +181,7 @@ fn publish_all<J: Naming, R: Run, H: Wait + Drop, W: Wait>(
 }
 
 // Publishes all, and says whether nothing was refused. Nothing more is told then.
-fn publish<J: Naming, R: Run, H: Wait + Drop, W: Wait>(
+fn publish<J: Naming, R: FixedRun, H: Wait + Drop, W: Wait>(
     rt: &W,
     mut writer: Writer<J, R, H>,
     to: Sender<Told<J, R>>,
@@ -194,7 +194,7 @@ fn publish<J: Naming, R: Run, H: Wait + Drop, W: Wait>(
 }
 
 // Hears what is told until no more comes, and counts the answers that lack a message told of.
-fn serve<J: Naming, R: Run, W: Wait>(
+fn serve<J: Naming, R: FixedRun, W: Wait>(
     rt: &W,
     mut server: Server<J, R>,
     from: Receiver<Told<J, R>>,

@@ -10,7 +10,7 @@ ghost use Rattle.shared_unit.specs.Rules.{length_word, published_word};
 ghost use Rattle.shared_unit.specs.Stored.{AreBlank, operation_of};
 
 use crate::published::{Shelves, What};
-use crate::run::{Naming, Run};
+use crate::run::{FixedRun, Naming};
 use logbook::{Gain, Offer, Plain, Play, Rule, Seen, Start, Word};
 use pitch_fields::OutOfMemory;
 use pitch_messages::Raw;
@@ -37,11 +37,11 @@ impl Model for Entry {
 
 /// The rule of what happens: the history is as long as the first shared word says, and legal for
 /// its run; so many of its operations were published as the second says.
-pub struct Law<R: Run> {
+pub struct Law<R: FixedRun> {
     of: PhantomData<R>,
 }
 
-impl<R: Run> Rule<Entry, u64> for Law<R> {
+impl<R: FixedRun> Rule<Entry, u64> for Law<R> {
     ghost use Rattle.std.specs.Prelude.{[]};
     ghost use base.Fml.{ftrue};
     ghost use Rattle.shared_unit.specs.Rules.{KeepsHistory};
@@ -69,18 +69,18 @@ impl Gain<Entry, u64> for Nothing {
 }
 
 // A step that adds an operation.
-pub(crate) struct Add<R: Run> {
+pub(crate) struct Add<R: FixedRun> {
     of: PhantomData<R>,
 }
 
-impl<R: Run> Play<Entry, u64> for Add<R> {
+impl<R: FixedRun> Play<Entry, u64> for Add<R> {
     ghost use Rattle.shared_unit.specs.Rules.{AddsOperation};
 
     ghost then = { AddsOperation R.fixed R.plan };
 }
 
 // It asks for the operation that is to be published.
-impl<R: Run> Plain<What, Entry, u64> for Add<R> {
+impl<R: FixedRun> Plain<What, Entry, u64> for Add<R> {
     ghost use Rattle.std.specs.Prelude.{None};
     ghost use Rattle.shared_unit.specs.Moments.{Doing};
     ghost use Rattle.shared_unit.specs.Stored.{operation_of};
@@ -131,7 +131,7 @@ impl Plain<u64, Entry, u64> for Begin {
 /// number of servers. It has no name yet: [`make`](crate::make) takes its name from the type
 /// parameter that its caller picks.
 #[derive(Drop)]
-pub struct Opened<R: Run> {
+pub struct Opened<R: FixedRun> {
     head: Word<Entry, u64, Law<R>>,
     published: Word<Entry, u64, Law<R>>,
     pub seen: Seen<Entry, u64, Law<R>>,
@@ -148,7 +148,7 @@ pub struct Opened<R: Run> {
     pub ghost other_blank: { AreBlank kept second },
 }
 
-impl<R: Run> Opened<R> {
+impl<R: FixedRun> Opened<R> {
     /// Takes the memory of both copies, and opens a history.
     ///
     /// `kept` is at least 1 and at most 65,536, `servers` at least 1 and at most 8.
@@ -218,7 +218,7 @@ impl<R: Run> Opened<R> {
 
 // What was opened, under its name.
 #[derive(Drop)]
-pub(crate) struct Named<J: Naming, R: Run> {
+pub(crate) struct Named<J: Naming, R: FixedRun> {
     pub(crate) book: Book<J, R>,
     pub(crate) eye: Eye<J, R>,
     pub(crate) front: Front<J, R>,
@@ -229,7 +229,7 @@ pub(crate) struct Named<J: Naming, R: Run> {
 // The words that all threads share: the length of the history, and how many of its operations were
 // published.
 #[derive(Drop)]
-pub(crate) struct Book<J: Naming, R: Run> {
+pub(crate) struct Book<J: Naming, R: FixedRun> {
     head: Word<Entry, u64, Law<R>>,
     published: Word<Entry, u64, Law<R>>,
     of: PhantomData<J>,
@@ -239,13 +239,13 @@ pub(crate) struct Book<J: Naming, R: Run> {
 
 // A beginning of the history that was seen. Contracts see it as that list.
 #[derive(Drop)]
-pub(crate) struct Front<J: Naming, R: Run> {
+pub(crate) struct Front<J: Naming, R: FixedRun> {
     count: u64,
     seen: Seen<Entry, u64, Law<R>>,
     of: PhantomData<J>,
 }
 
-impl<J: Naming, R: Run> Model for Front<J, R> {
+impl<J: Naming, R: FixedRun> Model for Front<J, R> {
     ghost use Rattle.std.specs.Prelude.{◌≡◌, List, length};
     ghost use Rattle.pitch_model.specs.Advertising.{Operation};
     ghost use Rattle.shared_unit.specs.Coding.{history_code};
@@ -262,7 +262,7 @@ impl<J: Naming, R: Run> Model for Front<J, R> {
         × (f.seen.book ≡ J.book) × IsLegal R.fixed R.plan (history_in f.seen.log) };
 }
 
-impl<J: Naming, R: Run> Front<J, R> {
+impl<J: Naming, R: FixedRun> Front<J, R> {
     // How many operations it has.
     pub(crate) fn len(&self) -> u64
         ensures length { result ≡ length self.now }
@@ -323,12 +323,12 @@ impl<J: Naming, R: Run> Front<J, R> {
 
 // All that an end has seen happen. Contracts see that list.
 #[derive(Drop)]
-pub(crate) struct Eye<J: Naming, R: Run> {
+pub(crate) struct Eye<J: Naming, R: FixedRun> {
     seen: Seen<Entry, u64, Law<R>>,
     of: PhantomData<J>,
 }
 
-impl<J: Naming, R: Run> Model for Eye<J, R> {
+impl<J: Naming, R: FixedRun> Model for Eye<J, R> {
     ghost use Rattle.std.specs.Prelude.{◌≡◌, List};
     ghost use Rattle.shared_unit.specs.Coding.{moments_code};
     ghost use Rattle.shared_unit.specs.Moments.{Moment};
@@ -342,7 +342,7 @@ impl<J: Naming, R: Run> Model for Eye<J, R> {
     ghost invariant = { λ e. e.seen.book ≡ J.book };
 }
 
-impl<J: Naming, R: Run> Eye<J, R> {
+impl<J: Naming, R: FixedRun> Eye<J, R> {
     // A copy.
     pub(crate) fn again(&self) -> Eye<J, R>
         ensures { result ≡ self.now }

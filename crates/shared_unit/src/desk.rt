@@ -9,7 +9,7 @@ use crate::book::{Book, Eye, Opened};
 use crate::holder::Holder;
 use crate::past::Past;
 use crate::published::What;
-use crate::run::{Naming, Run};
+use crate::run::{FixedRun, Naming};
 use crate::server::Server;
 use crate::store::{Published, Store};
 use crate::told::Told;
@@ -21,7 +21,7 @@ use std::sync::{Arc, Wait};
 // The pair of copies, the words that are shared and what is known of them. Contracts see the
 // history.
 #[derive(Drop)]
-pub(crate) struct Desk<J: Naming, R: Run, W: Wait + Drop> {
+pub(crate) struct Desk<J: Naming, R: FixedRun, W: Wait + Drop> {
     holder: Holder<Store<J, R>, Published<J, R>, W>,
     book: Arc<Book<J, R>>,
     past: Past<J, R>,
@@ -31,7 +31,7 @@ pub(crate) struct Desk<J: Naming, R: Run, W: Wait + Drop> {
     shut: Eye<J, R>,
 }
 
-impl<J: Naming, R: Run, W: Wait + Drop> Model for Desk<J, R, W> {
+impl<J: Naming, R: FixedRun, W: Wait + Drop> Model for Desk<J, R, W> {
     ghost use Rattle.std.specs.Prelude.{◌≡◌, ◌≤◌, List, [], length};
     ghost use Rattle.pitch_model.specs.Advertising.{Operation};
     ghost use Rattle.shared_unit.specs.Coding.{history_code};
@@ -47,7 +47,7 @@ impl<J: Naming, R: Run, W: Wait + Drop> Model for Desk<J, R, W> {
         × (d.none ≡ []) × (d.shut ≡ []) × (length d.past ≤ published_in d.eye) };
 }
 
-impl<J: Naming, R: Run, W: Wait + Drop> Desk<J, R, W> {
+impl<J: Naming, R: FixedRun, W: Wait + Drop> Desk<J, R, W> {
     // The pair that was opened, under its name.
     #[tactic(auto, using(crate::proofs::Growing::grown_none))]
     pub(crate) fn open(

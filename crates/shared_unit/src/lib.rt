@@ -26,7 +26,7 @@ mod writer;
 
 pub use crate::book::{Entry, Law, Opened};
 pub use crate::places::{LeftRightPlaces, MakeError, Places, make};
-pub use crate::run::{Naming, Run};
+pub use crate::run::{FixedRun, Naming};
 pub use crate::server::Server;
 pub use crate::told::Told;
 pub use crate::writer::Writer;

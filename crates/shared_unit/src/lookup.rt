@@ -7,7 +7,7 @@ ghost use Rattle.spin_server.specs.Served.{Served, LooksUpImage, SeesNewest, See
 ghost use Rattle.shared_unit.specs.Histories.{kept_at, served_at};
 ghost use Rattle.shared_unit.specs.Moments.{AnswersNewest};
 
-use crate::run::{Naming, Run};
+use crate::run::{FixedRun, Naming};
 use crate::server::Server;
 use gap_store::{Found, GapLookup};
 use pitch_fields::OutOfMemory;
@@ -16,7 +16,7 @@ use spin_server::{ImageLookup, Imaged};
 use std::alloc::Global;
 use unit_packets::DatagramList;
 
-impl<J: Naming, R: Run> GapLookup for Server<J, R> {
+impl<J: Naming, R: FixedRun> GapLookup for Server<J, R> {
     ghost shows = { λ s v. v ≡ kept_at J.kept s.history };
 
     ghost still = { false };
@@ -68,7 +68,7 @@ impl<J: Naming, R: Run> GapLookup for Server<J, R> {
     }
 }
 
-impl<J: Naming, R: Run> ImageLookup for Server<J, R> {
+impl<J: Naming, R: FixedRun> ImageLookup for Server<J, R> {
     ghost shows = { λ s v. v ≡ served_at s.history };
 
     ghost still = { false };

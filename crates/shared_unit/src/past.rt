@@ -8,19 +8,19 @@ ghost use Rattle.shared_unit.specs.Stored.{ComesAfter, operation_of, served_with
 
 use crate::book::{Book, Front};
 use crate::published::What;
-use crate::run::{Naming, Run};
+use crate::run::{FixedRun, Naming};
 use crate::sequences::Sequences;
 use std::marker::Model;
 
 // A beginning of the history that was seen, and the sequences whose images were served then.
 // Contracts see the beginning.
 #[derive(Drop)]
-pub(crate) struct Past<J: Naming, R: Run> {
+pub(crate) struct Past<J: Naming, R: FixedRun> {
     front: Front<J, R>,
     served: Sequences,
 }
 
-impl<J: Naming, R: Run> Model for Past<J, R> {
+impl<J: Naming, R: FixedRun> Model for Past<J, R> {
     ghost use Rattle.std.specs.Prelude.{◌≡◌, List};
     ghost use Rattle.pitch_model.specs.Advertising.{Operation, advertised_by, last_ten};
     ghost use Rattle.shared_unit.specs.Coding.{history_code};
@@ -34,7 +34,7 @@ impl<J: Naming, R: Run> Model for Past<J, R> {
     ghost invariant = { λ p. p.served ≡ last_ten (advertised_by p.front) };
 }
 
-impl<J: Naming, R: Run> Past<J, R> {
+impl<J: Naming, R: FixedRun> Past<J, R> {
     // Nothing was done.
     pub(crate) fn none(front: Front<J, R>) -> Past<J, R>
         requires { front ≡ [] }

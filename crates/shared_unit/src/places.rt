@@ -7,7 +7,7 @@ ghost use Rattle.shared_unit.specs.declared.places.MakeError.TheVariants.{NoPlac
 
 use crate::book::Opened;
 use crate::desk::Desk;
-use crate::run::{Naming, Run};
+use crate::run::{FixedRun, Naming};
 use crate::server::Server;
 use crate::writer::Writer;
 use pitch_fields::OutOfMemory;
@@ -60,7 +60,7 @@ impl From<AllocError> for MakeError {
 }
 
 /// Where the places of servers come from, with a count of refusals that never falls.
-pub trait Places<J: Naming, R: Run, W: Wait + Drop> {
+pub trait Places<J: Naming, R: FixedRun, W: Wait + Drop> {
     ghost refusals: { Self → ℕ };
 
     /// One more server of that writer, which has seen nothing. There is no place for more servers
@@ -101,7 +101,7 @@ impl LeftRightPlaces {
     }
 }
 
-impl<J: Naming, R: Run, W: Wait + Drop> Places<J, R, W> for LeftRightPlaces {
+impl<J: Naming, R: FixedRun, W: Wait + Drop> Places<J, R, W> for LeftRightPlaces {
     ghost refusals = { λ p. p };
 
     fn place(&mut self, writer: &mut Writer<J, R, W>) -> Result<Server<J, R>, MakeError> {
@@ -117,7 +117,7 @@ impl<J: Naming, R: Run, W: Wait + Drop> Places<J, R, W> for LeftRightPlaces {
 
 // Places of a writer for so many servers, which have seen nothing. The number of each is its place.
 #[tactic(auto, using(crate::proofs::Looking::numbered_more))]
-fn place_all<J: Naming, R: Run, W: Wait + Drop, P: Places<J, R, W>>(
+fn place_all<J: Naming, R: FixedRun, W: Wait + Drop, P: Places<J, R, W>>(
     places: &mut P,
     writer: &mut Writer<J, R, W>,
     count: u8,
@@ -144,7 +144,7 @@ fn place_all<J: Naming, R: Run, W: Wait + Drop, P: Places<J, R, W>>(
 
 /// The writer and as many servers as the pair was opened for, with the empty history. The error is
 /// that of `places`, or OutOfMemory; nothing is handed back then.
-pub fn make<J: Naming, R: Run, W: Wait + Drop, P: Places<J, R, W>>(
+pub fn make<J: Naming, R: FixedRun, W: Wait + Drop, P: Places<J, R, W>>(
     alloc: Global,
     rt: W,
     opened: Opened<R>,

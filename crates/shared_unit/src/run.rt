@@ -18,7 +18,7 @@ impl Naming for Brand {
 }
 
 /// What a run fixes of its messages: their list, where they are fixed.
-pub trait Run {
+pub trait FixedRun {
     ghost use Rattle.std.specs.Prelude.{ℕ, List, Bool};
 
     ghost fixed: { Bool };
@@ -26,7 +26,7 @@ pub trait Run {
     ghost plan: { List (List ℕ) };
 }
 
-impl Run for Brand {
+impl FixedRun for Brand {
     ghost use Rattle.std.specs.Prelude.{[], false};
 
     ghost fixed = { false };

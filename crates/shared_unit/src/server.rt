@@ -13,7 +13,7 @@ ghost use Rattle.shared_unit.specs.Moments.{IsNewest};
 
 use crate::book::{Book, Eye};
 use crate::past::Past;
-use crate::run::{Naming, Run};
+use crate::run::{FixedRun, Naming};
 use crate::store::Store;
 use crate::told::Told;
 use gap_store::Found;
@@ -31,7 +31,7 @@ use unit_packets::DatagramList;
 /// was cut off: whether [`Server::available`] or `has_image` could not have what is published. One
 /// that was cut off is out of memory for each look-up of messages or images from then on.
 #[derive(Drop)]
-pub struct Server<J: Naming, R: Run> {
+pub struct Server<J: Naming, R: FixedRun> {
     inner: ReadHandle<Store<J, R>>,
     book: Arc<Book<J, R>>,
     number: u64,
@@ -40,7 +40,7 @@ pub struct Server<J: Naming, R: Run> {
     eye: Eye<J, R>,
 }
 
-impl<J: Naming, R: Run> Model for Server<J, R> {
+impl<J: Naming, R: FixedRun> Model for Server<J, R> {
     ghost use Rattle.shared_unit.specs.Coding.{sight_code};
     ghost use Rattle.shared_unit.specs.Moments.{Sight};
 
@@ -54,13 +54,13 @@ impl<J: Naming, R: Run> Model for Server<J, R> {
 // An answer that began: all that its server has seen happen by then, and how many operations were
 // published.
 #[derive(Drop)]
-struct Begun<J: Naming, R: Run> {
+struct Begun<J: Naming, R: FixedRun> {
     eye: Eye<J, R>,
     published: u64,
 }
 
 // Begins an answer of the server with this number.
-fn begin<J: Naming, R: Run>(book: &Book<J, R>, eye: &Eye<J, R>, server: u64) -> Begun<J, R>
+fn begin<J: Naming, R: FixedRun>(book: &Book<J, R>, eye: &Eye<J, R>, server: u64) -> Begun<J, R>
     ensures { HappensAfter (Answering server) eye.now result.eye result.published }
 {
     let mut eye = eye.again();
@@ -70,7 +70,12 @@ fn begin<J: Naming, R: Run>(book: &Book<J, R>, eye: &Eye<J, R>, server: u64) -> 
 
 // Ends an answer from a history that has all that was published when it began.
 #[tactic(auto, using(crate::proofs::Looking::newest_is))]
-fn end<J: Naming, R: Run>(eye: &mut Eye<J, R>, begun: Begun<J, R>, past: &Past<J, R>, server: u64)
+fn end<J: Naming, R: FixedRun>(
+    eye: &mut Eye<J, R>,
+    begun: Begun<J, R>,
+    past: &Past<J, R>,
+    server: u64,
+)
     requires begun { HappensAfter (Answering server) eye.old begun.eye begun.published }
     requires enough { begun.published ≤ length past.now }
     ensures { IsNewest server eye.old eye.new past.now }
@@ -82,7 +87,7 @@ fn end<J: Naming, R: Run>(eye: &mut Eye<J, R>, begun: Begun<J, R>, past: &Past<J
 
 // The history of a copy, where that has all that was seen and so many operations. From a shorter
 // copy, which never comes, nothing is answered.
-fn history_of<J: Naming, R: Run>(
+fn history_of<J: Naming, R: FixedRun>(
     store: &Store<J, R>,
     seen: &Past<J, R>,
     published: u64,
@@ -98,7 +103,7 @@ fn history_of<J: Naming, R: Run>(
 }
 
 // Takes over the history of a copy, where that has all that was seen and so many operations.
-fn catch_up<J: Naming, R: Run>(store: &Store<J, R>, past: &mut Past<J, R>, published: u64)
+fn catch_up<J: Naming, R: FixedRun>(store: &Store<J, R>, past: &mut Past<J, R>, published: u64)
     ensures later { IsPrefix past.old past.new }
 {
     if let Ok(history) = history_of(store, past, published) {
@@ -107,7 +112,7 @@ fn catch_up<J: Naming, R: Run>(store: &Store<J, R>, past: &mut Past<J, R>, publi
 }
 
 // Looks messages up in a copy that has all that was seen and published.
-fn look_in<J: Naming, R: Run>(
+fn look_in<J: Naming, R: FixedRun>(
     store: &Store<J, R>,
     past: &mut Past<J, R>,
     published: u64,
@@ -133,7 +138,7 @@ fn look_in<J: Naming, R: Run>(
 }
 
 // Whether messages are in a copy that has all that was seen and published.
-fn find_in<J: Naming, R: Run>(
+fn find_in<J: Naming, R: FixedRun>(
     store: &Store<J, R>,
     past: &mut Past<J, R>,
     published: u64,
@@ -152,7 +157,7 @@ fn find_in<J: Naming, R: Run>(
 }
 
 // Looks messages up in a copy that has all that was seen and published, and packs them.
-fn pack_in<J: Naming, R: Run>(
+fn pack_in<J: Naming, R: FixedRun>(
     store: &Store<J, R>,
     past: &mut Past<J, R>,
     published: u64,
@@ -178,7 +183,7 @@ fn pack_in<J: Naming, R: Run>(
 }
 
 // Looks an image up in a copy that has all that was seen and published.
-fn image_in<J: Naming, R: Run>(
+fn image_in<J: Naming, R: FixedRun>(
     store: &Store<J, R>,
     past: &mut Past<J, R>,
     published: u64,
@@ -198,7 +203,7 @@ fn image_in<J: Naming, R: Run>(
     Ok(imaged)
 }
 
-impl<J: Naming, R: Run> Server<J, R> {
+impl<J: Naming, R: FixedRun> Server<J, R> {
     // It has the number 0, and has seen nothing.
     pub(crate) fn new(
         inner: ReadHandle<Store<J, R>>,

@@ -11,7 +11,7 @@ ghost use Rattle.shared_unit.specs.Stored.{AreBlank, EndsWith, sequence_of};
 
 use crate::past::Past;
 use crate::published::{Picture, Shelves, What};
-use crate::run::{Naming, Run};
+use crate::run::{FixedRun, Naming};
 use circular_buffer::HeapCircularBuffer;
 use gap_store::Found;
 use left_right::Absorb;
@@ -24,12 +24,12 @@ use unit_packets::DatagramList;
 
 // One of the two copies. Contracts see the history that it stands for.
 #[derive(Drop)]
-pub struct Store<J: Naming, R: Run> {
+pub struct Store<J: Naming, R: FixedRun> {
     shelves: Shelves,
     past: Past<J, R>,
 }
 
-impl<J: Naming, R: Run> Model for Store<J, R> {
+impl<J: Naming, R: FixedRun> Model for Store<J, R> {
     ghost use Rattle.std.specs.Prelude.{List};
     ghost use Rattle.pitch_model.specs.Advertising.{Operation};
     ghost use Rattle.shared_unit.specs.Coding.{history_code};
@@ -47,12 +47,12 @@ impl<J: Naming, R: Run> Model for Store<J, R> {
 // What is published, with the history that it ends; or nothing, with no history. Contracts see the
 // history.
 #[derive(Drop)]
-pub struct Published<J: Naming, R: Run> {
+pub struct Published<J: Naming, R: FixedRun> {
     what: Option<What>,
     past: Past<J, R>,
 }
 
-impl<J: Naming, R: Run> Model for Published<J, R> {
+impl<J: Naming, R: FixedRun> Model for Published<J, R> {
     ghost use Rattle.std.specs.Prelude.{List};
     ghost use Rattle.pitch_model.specs.Advertising.{Operation};
     ghost use Rattle.shared_unit.specs.Coding.{history_code};
@@ -67,7 +67,7 @@ impl<J: Naming, R: Run> Model for Published<J, R> {
     ghost invariant = { λ p. EndsOrIsNothing p.what p.past };
 }
 
-impl<J: Naming, R: Run> Published<J, R> {
+impl<J: Naming, R: FixedRun> Published<J, R> {
     pub(crate) fn new(what: What, past: Past<J, R>) -> Published<J, R>
         requires { EndsWith what past }
         ensures { result ≡ past }
@@ -127,7 +127,7 @@ fn place_of(pictures: &HeapCircularBuffer<Picture>, sequence: u32) -> Option<usi
     None
 }
 
-impl<J: Naming, R: Run> Store<J, R> {
+impl<J: Naming, R: FixedRun> Store<J, R> {
     // A copy of which nothing was done.
     pub(crate) fn new(shelves: Shelves, past: Past<J, R>) -> Store<J, R>
         requires none { past ≡ [] }
@@ -211,7 +211,7 @@ impl<J: Naming, R: Run> Store<J, R> {
     }
 }
 
-impl<J: Naming, R: Run> Absorb<Published<J, R>> for Store<J, R> {
+impl<J: Naming, R: FixedRun> Absorb<Published<J, R>> for Store<J, R> {
     ghost use Rattle.shared_unit.specs.Stored.{grown_by};
 
     type State = Store<J, R>;

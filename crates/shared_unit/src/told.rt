@@ -3,18 +3,18 @@ ghost use Rattle.std.specs.Prelude.{◌≡◌};
 
 use crate::book::Eye;
 use crate::past::Past;
-use crate::run::{Naming, Run};
+use crate::run::{FixedRun, Naming};
 use std::marker::Model;
 
 /// A history that was told, with all that its writer saw happen. Contracts see both. It may go to
 /// another thread.
 #[derive(Drop)]
-pub struct Told<J: Naming, R: Run> {
+pub struct Told<J: Naming, R: FixedRun> {
     pub(crate) past: Past<J, R>,
     pub(crate) eye: Eye<J, R>,
 }
 
-impl<J: Naming, R: Run> Model for Told<J, R> {
+impl<J: Naming, R: FixedRun> Model for Told<J, R> {
     ghost use Rattle.shared_unit.specs.Coding.{account_code};
     ghost use Rattle.shared_unit.specs.Moments.{Account};
 
@@ -25,7 +25,7 @@ impl<J: Naming, R: Run> Model for Told<J, R> {
     ghost view = { λ t. record { history = t.past; moments = t.eye } };
 }
 
-impl<J: Naming, R: Run> Told<J, R> {
+impl<J: Naming, R: FixedRun> Told<J, R> {
     pub(crate) fn new(past: Past<J, R>, eye: Eye<J, R>) -> Told<J, R>
         ensures history { result.history ≡ past }
         ensures moments { result.moments ≡ eye }

@@ -15,7 +15,7 @@ ghost use Rattle.shared_unit.specs.Stored.{ComesAfter, operation_of, raws_in};
 
 use crate::desk::Desk;
 use crate::published::{Picture, What};
-use crate::run::{Naming, Run};
+use crate::run::{FixedRun, Naming};
 use crate::server::Server;
 use crate::told::Told;
 use order_book::{UnitBook, image_of};
@@ -33,13 +33,13 @@ use venue_core::{Venue, VenueError};
 /// A call may wait until a server has left what it looks at. Once the writer was let go without
 /// [`Writer::close`], its servers are out of memory for each look-up.
 #[derive(Drop)]
-pub struct Writer<J: Naming, R: Run, W: Wait + Drop> {
+pub struct Writer<J: Naming, R: FixedRun, W: Wait + Drop> {
     alloc: Global,
     desk: Desk<J, R, W>,
     venue: Venue,
 }
 
-impl<J: Naming, R: Run, W: Wait + Drop> Model for Writer<J, R, W> {
+impl<J: Naming, R: FixedRun, W: Wait + Drop> Model for Writer<J, R, W> {
     ghost use Rattle.std.specs.Prelude.{List};
     ghost use Rattle.pitch_model.specs.Advertising.{Operation, accepted_by};
     ghost use Rattle.venue_core.specs.Stands.{Stands};
@@ -72,7 +72,7 @@ fn picture_of(alloc: Global, book: &UnitBook, sequence: u32) -> Result<Picture, 
     })
 }
 
-impl<J: Naming, R: Run, W: Wait + Drop> Writer<J, R, W> {
+impl<J: Naming, R: FixedRun, W: Wait + Drop> Writer<J, R, W> {
     pub(crate) fn new(alloc: Global, desk: Desk<J, R, W>, unit: u8) -> Writer<J, R, W>
         requires { desk ≡ [] }
         ensures { result ≡ [] }

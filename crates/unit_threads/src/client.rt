@@ -18,7 +18,7 @@ use crossbeam_channel::{Receiver, select};
 use drill_client::{DrillRun, KEPT, Reply, Word, begin, count_datagram, hear_reply, hear_word};
 use pitch_fields::OutOfMemory;
 use pitch_io::{Gate, Role, Work};
-use shared_unit::{Naming, Run};
+use shared_unit::{FixedRun, Naming};
 use std::alloc::Global;
 use std::sync::Wait;
 use std::time::Clock;
@@ -48,7 +48,7 @@ struct Counts {
 
 impl Counts {
     // The step of one datagram more.
-    fn next<R: DrillRun + Run>(&mut self, course: &Course<R>) -> Work
+    fn next<R: DrillRun + FixedRun>(&mut self, course: &Course<R>) -> Work
         ensures { self.new.heard ≡ self.old.heard }
     {
         self.step = self.step.saturating_add(1);
@@ -85,14 +85,14 @@ fn next_of_both<R: DrillRun, W: Wait + Clock>(
 
 // The client's ends, and whether its service is still there.
 #[derive(Drop)]
-struct Links<J: Naming, R: DrillRun + Run> {
+struct Links<J: Naming, R: DrillRun + FixedRun> {
     words: Receiver<Word<R>>,
     replies: Receiver<Reply<R>>,
     asks: Outbox<Request<J, R>>,
     served: bool,
 }
 
-impl<J: Naming, R: DrillRun + Run> Links<J, R> {
+impl<J: Naming, R: DrillRun + FixedRun> Links<J, R> {
     // Nothing was asked yet.
     fn make(alloc: Global, ends: ClientEnds<J, R>) -> Links<J, R> {
         let ClientEnds {
@@ -119,7 +119,7 @@ impl<J: Naming, R: DrillRun + Run> Links<J, R> {
 }
 
 // After a datagram: the client asks the service for what it lacks, at every tenth.
-fn tick<J: Naming, R: DrillRun + Run, W: Wait>(
+fn tick<J: Naming, R: DrillRun + FixedRun, W: Wait>(
     rt: &W,
     client: &mut UnitClient,
     counts: &mut Counts,
@@ -154,7 +154,7 @@ fn is_again<R: DrillRun>(reply: &Reply<R>) -> bool
 }
 
 // The client hears a word of its publisher.
-fn take_word<J: Naming, R: DrillRun + Run, W: Wait, G: Gate>(
+fn take_word<J: Naming, R: DrillRun + FixedRun, W: Wait, G: Gate>(
     rt: &W,
     gate: &G,
     course: &Course<R>,
@@ -184,7 +184,7 @@ fn take_word<J: Naming, R: DrillRun + Run, W: Wait, G: Gate>(
 }
 
 // The client hears a word of its service.
-fn take_reply<J: Naming, R: DrillRun + Run, W: Wait, G: Gate>(
+fn take_reply<J: Naming, R: DrillRun + FixedRun, W: Wait, G: Gate>(
     rt: &W,
     gate: &G,
     course: &Course<R>,
@@ -214,7 +214,7 @@ fn take_reply<J: Naming, R: DrillRun + Run, W: Wait, G: Gate>(
 }
 
 // The client hears what comes next. Says whether more may come.
-fn hear_next<J: Naming, R: DrillRun + Run, W: Wait + Clock, G: Gate>(
+fn hear_next<J: Naming, R: DrillRun + FixedRun, W: Wait + Clock, G: Gate>(
     rt: &W,
     gate: &G,
     course: &Course<R>,
@@ -243,7 +243,7 @@ fn hear_next<J: Naming, R: DrillRun + Run, W: Wait + Clock, G: Gate>(
 }
 
 // The client hears its publisher and its service until the publisher's last word or end.
-fn hear_to_end<J: Naming, R: DrillRun + Run, W: Wait + Clock, G: Gate>(
+fn hear_to_end<J: Naming, R: DrillRun + FixedRun, W: Wait + Clock, G: Gate>(
     rt: &W,
     gate: &G,
     course: &Course<R>,
@@ -263,7 +263,7 @@ fn hear_to_end<J: Naming, R: DrillRun + Run, W: Wait + Clock, G: Gate>(
 }
 
 // Makes a client, and has it hear all that comes through its links.
-fn follow_through<J: Naming, R: DrillRun + Run, W: Wait + Clock, G: Gate>(
+fn follow_through<J: Naming, R: DrillRun + FixedRun, W: Wait + Clock, G: Gate>(
     rt: &W,
     alloc: Global,
     gate: &G,
@@ -285,7 +285,7 @@ fn follow_through<J: Naming, R: DrillRun + Run, W: Wait + Clock, G: Gate>(
 
 /// Makes a client, and has it hear its publisher and its service until the publisher's last word or
 /// end. It ticks after every ten datagrams.
-pub(crate) fn follow<J: Naming, R: DrillRun + Run, W: Wait + Clock, G: Gate>(
+pub(crate) fn follow<J: Naming, R: DrillRun + FixedRun, W: Wait + Clock, G: Gate>(
     rt: &W,
     alloc: Global,
     gate: &G,

@@ -11,13 +11,13 @@ use crate::service::image_of_all;
 use client_core::UnitClient;
 use drill_client::{DrillRun, Image, asks_when_told_of_all, hear_all};
 use pitch_fields::OutOfMemory;
-use shared_unit::{Naming, Run, Server, Writer};
+use shared_unit::{FixedRun, Naming, Server, Writer};
 use std::alloc::Global;
 use std::sync::Wait;
 use venue_core::plan_is_in_order;
 
 // The client hears the image of all messages, for which it asked.
-fn take_image<R: DrillRun + Run>(
+fn take_image<R: DrillRun + FixedRun>(
     client: &mut UnitClient,
     course: &Course<R>,
     image: Image<R>,
@@ -34,7 +34,7 @@ fn take_image<R: DrillRun + Run>(
 
 /// The client hears of all messages, and takes the image of all where it lacks some. The server
 /// hears before of all that the writer did.
-pub(crate) fn close<J: Naming, R: DrillRun + Run, H: Wait + Drop>(
+pub(crate) fn close<J: Naming, R: DrillRun + FixedRun, H: Wait + Drop>(
     alloc: Global,
     course: &Course<R>,
     writer: &mut Writer<J, R, H>,

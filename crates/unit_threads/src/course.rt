@@ -6,12 +6,12 @@ ghost use Rattle.unit_threads.specs.Publishing.{IsPlanned};
 
 use drill_client::DrillRun;
 use pitch_io::{Role, Work};
-use shared_unit::Run;
+use shared_unit::FixedRun;
 use std::marker::PhantomData;
 
 /// The course of a unit's drill: the first `count` commands of the plan of its number and unit.
 #[derive(Drop)]
-pub(crate) struct Course<R: DrillRun + Run> {
+pub(crate) struct Course<R: DrillRun + FixedRun> {
     pub(crate) number: u64,
     pub(crate) unit: u8,
     pub(crate) count: u32,
@@ -23,7 +23,7 @@ pub(crate) struct Course<R: DrillRun + Run> {
     pub(crate) ghost planned: { IsPlanned R.fixed R.plan number unit count },
 }
 
-impl<R: DrillRun + Run> Course<R> {
+impl<R: DrillRun + FixedRun> Course<R> {
     /// The course of the run.
     pub(crate) fn make(number: u64, unit: u8, count: u32) -> Course<R>
         requires number { number ≡ R.number }

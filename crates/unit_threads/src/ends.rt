@@ -4,12 +4,12 @@ use crossbeam_channel::{Receiver, Sender, unbounded};
 use drill_client::{DrillRun, Reply, Word};
 use pitch_fields::OutOfMemory;
 use pitch_model::Ask;
-use shared_unit::{Naming, Run, Told};
+use shared_unit::{FixedRun, Naming, Told};
 use std::alloc::Global;
 
 /// What a service hears.
 #[derive(Drop)]
-pub(crate) enum Request<J: Naming, R: Run> {
+pub(crate) enum Request<J: Naming, R: FixedRun> {
     /// The client asks.
     Asked(Ask),
     /// The publisher tells of all that it did.
@@ -18,14 +18,14 @@ pub(crate) enum Request<J: Naming, R: Run> {
 
 /// The publisher's ends.
 #[derive(Drop)]
-pub(crate) struct PublisherEnds<J: Naming, R: DrillRun + Run> {
+pub(crate) struct PublisherEnds<J: Naming, R: DrillRun + FixedRun> {
     pub(crate) words: Sender<Word<R>>,
     pub(crate) told: Sender<Request<J, R>>,
 }
 
 /// The client's ends.
 #[derive(Drop)]
-pub(crate) struct ClientEnds<J: Naming, R: DrillRun + Run> {
+pub(crate) struct ClientEnds<J: Naming, R: DrillRun + FixedRun> {
     pub(crate) words: Receiver<Word<R>>,
     pub(crate) replies: Receiver<Reply<R>>,
     pub(crate) asks: Sender<Request<J, R>>,
@@ -33,20 +33,20 @@ pub(crate) struct ClientEnds<J: Naming, R: DrillRun + Run> {
 
 /// The service's ends.
 #[derive(Drop)]
-pub(crate) struct ServiceEnds<J: Naming, R: DrillRun + Run> {
+pub(crate) struct ServiceEnds<J: Naming, R: DrillRun + FixedRun> {
     pub(crate) requests: Receiver<Request<J, R>>,
     pub(crate) replies: Sender<Reply<R>>,
 }
 
 /// The ends of all three parties.
 #[derive(Drop)]
-pub(crate) struct Ends<J: Naming, R: DrillRun + Run> {
+pub(crate) struct Ends<J: Naming, R: DrillRun + FixedRun> {
     pub(crate) publisher: PublisherEnds<J, R>,
     pub(crate) client: ClientEnds<J, R>,
     pub(crate) service: ServiceEnds<J, R>,
 }
 
-impl<J: Naming, R: DrillRun + Run> Ends<J, R> {
+impl<J: Naming, R: DrillRun + FixedRun> Ends<J, R> {
     /// Three channels without a bound: words go to the client, replies go to the client, and what
     /// is told and asked goes to the service.
     pub(crate) fn make(alloc: Global) -> Result<Ends<J, R>, OutOfMemory> {

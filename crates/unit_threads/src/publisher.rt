@@ -22,7 +22,7 @@ use pitch_fields::OutOfMemory;
 use pitch_io::{Gate, Role};
 use pitch_messages::{ByteList, RawList};
 use pitch_model::laws::{operations_add_up, packed_messages_are_pieces};
-use shared_unit::{Naming, Run, Writer};
+use shared_unit::{FixedRun, Naming, Writer};
 use std::alloc::Global;
 use std::sync::Wait;
 use std::thread::yield_now;
@@ -37,12 +37,12 @@ const MOST_YIELDS: u32 = 20_000;
 
 // What the publisher sends on: words to its client, and what its service is told.
 #[derive(Drop)]
-struct Outgoing<J: Naming, R: DrillRun + Run> {
+struct Outgoing<J: Naming, R: DrillRun + FixedRun> {
     words: Outbox<Word<R>>,
     told: Outbox<Request<J, R>>,
 }
 
-impl<J: Naming, R: DrillRun + Run> Outgoing<J, R> {
+impl<J: Naming, R: DrillRun + FixedRun> Outgoing<J, R> {
     // Nothing was sent yet.
     fn make(alloc: Global, ends: PublisherEnds<J, R>) -> Outgoing<J, R>
         ensures { result.words ≡ [] }
@@ -56,7 +56,7 @@ impl<J: Naming, R: DrillRun + Run> Outgoing<J, R> {
 }
 
 // The writer accepts command `index` of the plan.
-fn accept<J: Naming, R: DrillRun + Run, H: Wait + Drop>(
+fn accept<J: Naming, R: DrillRun + FixedRun, H: Wait + Drop>(
     writer: &mut Writer<J, R, H>,
     course: &Course<R>,
     index: u32,
@@ -77,7 +77,7 @@ fn accept<J: Naming, R: DrillRun + Run, H: Wait + Drop>(
 }
 
 // The datagram of the message of command `index`, which was accepted last.
-fn packed_last<J: Naming, R: DrillRun + Run, H: Wait + Drop>(
+fn packed_last<J: Naming, R: DrillRun + FixedRun, H: Wait + Drop>(
     alloc: Global,
     writer: &Writer<J, R, H>,
     course: &Course<R>,
@@ -121,7 +121,7 @@ fn shared_copies<R: DrillRun>(
 
 // The datagrams of the message of command `index`, which was accepted last, as both lines share
 // them.
-fn shared_last<J: Naming, R: DrillRun + Run, H: Wait + Drop>(
+fn shared_last<J: Naming, R: DrillRun + FixedRun, H: Wait + Drop>(
     alloc: Global,
     writer: &Writer<J, R, H>,
     course: &Course<R>,
@@ -154,7 +154,7 @@ fn send_copies<R: DrillRun, W: Wait>(
 }
 
 // Sends the datagrams of command `index` on one line, unless this copy is lost.
-fn send_on<R: DrillRun + Run, W: Wait>(
+fn send_on<R: DrillRun + FixedRun, W: Wait>(
     rt: &W,
     course: &Course<R>,
     index: u32,
@@ -174,7 +174,7 @@ fn send_on<R: DrillRun + Run, W: Wait>(
 }
 
 // Sends the message of command `index` on both lines, but for the copies that are lost.
-fn send_last<J: Naming, R: DrillRun + Run, H: Wait + Drop, W: Wait>(
+fn send_last<J: Naming, R: DrillRun + FixedRun, H: Wait + Drop, W: Wait>(
     rt: &W,
     alloc: Global,
     writer: &Writer<J, R, H>,
@@ -202,7 +202,7 @@ fn is_round(index: u32, count: u32) -> bool
 }
 
 // The writer advertises all that it accepted, the commands up to `index`.
-fn advertise_all<J: Naming, R: DrillRun + Run, H: Wait + Drop>(
+fn advertise_all<J: Naming, R: DrillRun + FixedRun, H: Wait + Drop>(
     writer: &mut Writer<J, R, H>,
     course: &Course<R>,
     index: u32,
@@ -223,7 +223,7 @@ fn advertise_all<J: Naming, R: DrillRun + Run, H: Wait + Drop>(
 
 // Advertises where it is time. The client hears the sequence, and the service is told.
 #[tactic(auto, using(crate::proofs::Telling::told_more))]
-fn advertise<J: Naming, R: DrillRun + Run, H: Wait + Drop, W: Wait>(
+fn advertise<J: Naming, R: DrillRun + FixedRun, H: Wait + Drop, W: Wait>(
     rt: &W,
     writer: &mut Writer<J, R, H>,
     course: &Course<R>,
@@ -252,7 +252,7 @@ fn advertise<J: Naming, R: DrillRun + Run, H: Wait + Drop, W: Wait>(
 }
 
 // Command `index` of the plan: it is accepted and sent, and advertised where it is time.
-fn publish_one<J: Naming, R: DrillRun + Run, H: Wait + Drop, W: Wait>(
+fn publish_one<J: Naming, R: DrillRun + FixedRun, H: Wait + Drop, W: Wait>(
     rt: &W,
     alloc: Global,
     writer: &mut Writer<J, R, H>,
@@ -293,7 +293,7 @@ fn give_way<R: DrillRun>(index: u32, count: u32, words: &Outbox<Word<R>>, yields
 }
 
 // Publishes the commands of the course. The last word to the client comes after all else.
-fn publish_all<J: Naming, R: DrillRun + Run, H: Wait + Drop, W: Wait, G: Gate>(
+fn publish_all<J: Naming, R: DrillRun + FixedRun, H: Wait + Drop, W: Wait, G: Gate>(
     rt: &W,
     alloc: Global,
     gate: &G,
@@ -324,7 +324,7 @@ fn publish_all<J: Naming, R: DrillRun + Run, H: Wait + Drop, W: Wait, G: Gate>(
 }
 
 /// Publishes the commands of the course, and hands the writer back.
-pub(crate) fn publish<J: Naming, R: DrillRun + Run, H: Wait + Drop, W: Wait, G: Gate>(
+pub(crate) fn publish<J: Naming, R: DrillRun + FixedRun, H: Wait + Drop, W: Wait, G: Gate>(
     rt: &W,
     alloc: Global,
     gate: &G,

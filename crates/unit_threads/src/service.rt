@@ -27,14 +27,14 @@ use pitch_io::{Gate, Role};
 use pitch_messages::{ByteList, RawList};
 use pitch_model::Ask;
 use pitch_model::laws::{advertised_sequences_rise, operations_add_up};
-use shared_unit::{Naming, Run, Server};
+use shared_unit::{FixedRun, Naming, Server};
 use spin_server::{Imaged, shelves_show_what_was_pushed};
 use std::alloc::Global;
 use std::sync::Wait;
 use unit_packets::DatagramList;
 
 // The datagrams of a range, where all of it is kept.
-fn range<J: Naming, R: DrillRun + Run>(
+fn range<J: Naming, R: DrillRun + FixedRun>(
     alloc: Global,
     course: &Course<R>,
     server: &mut Server<J, R>,
@@ -68,7 +68,7 @@ fn range<J: Naming, R: DrillRun + Run>(
 }
 
 // The image through a sequence, where it is served.
-fn image<J: Naming, R: DrillRun + Run>(
+fn image<J: Naming, R: DrillRun + FixedRun>(
     alloc: Global,
     course: &Course<R>,
     server: &mut Server<J, R>,
@@ -96,7 +96,7 @@ fn image<J: Naming, R: DrillRun + Run>(
 }
 
 /// The image of all messages, of a server that was told of all.
-pub(crate) fn image_of_all<J: Naming, R: DrillRun + Run>(
+pub(crate) fn image_of_all<J: Naming, R: DrillRun + FixedRun>(
     alloc: Global,
     course: &Course<R>,
     server: &mut Server<J, R>,
@@ -132,7 +132,7 @@ fn send_again<R: DrillRun, W: Wait>(
 }
 
 // Answers a gap ask: with the range where all of it is kept.
-fn answer_gap<J: Naming, R: DrillRun + Run, W: Wait>(
+fn answer_gap<J: Naming, R: DrillRun + FixedRun, W: Wait>(
     rt: &W,
     alloc: Global,
     course: &Course<R>,
@@ -158,7 +158,7 @@ fn answer_gap<J: Naming, R: DrillRun + Run, W: Wait>(
 }
 
 // Answers a spin ask: with the image where it is served.
-fn answer_spin<J: Naming, R: DrillRun + Run, W: Wait>(
+fn answer_spin<J: Naming, R: DrillRun + FixedRun, W: Wait>(
     rt: &W,
     alloc: Global,
     course: &Course<R>,
@@ -182,7 +182,7 @@ fn answer_spin<J: Naming, R: DrillRun + Run, W: Wait>(
 }
 
 // Answers an ask.
-fn answer<J: Naming, R: DrillRun + Run, W: Wait>(
+fn answer<J: Naming, R: DrillRun + FixedRun, W: Wait>(
     rt: &W,
     alloc: Global,
     course: &Course<R>,
@@ -207,7 +207,7 @@ fn answer<J: Naming, R: DrillRun + Run, W: Wait>(
 }
 
 // Hears what is told, or answers what is asked.
-fn take_request<J: Naming, R: DrillRun + Run, W: Wait, G: Gate>(
+fn take_request<J: Naming, R: DrillRun + FixedRun, W: Wait, G: Gate>(
     rt: &W,
     alloc: Global,
     gate: &G,
@@ -234,7 +234,7 @@ fn take_request<J: Naming, R: DrillRun + Run, W: Wait, G: Gate>(
 }
 
 // Takes all requests, until none can come.
-fn serve_all<J: Naming, R: DrillRun + Run, W: Wait, G: Gate>(
+fn serve_all<J: Naming, R: DrillRun + FixedRun, W: Wait, G: Gate>(
     rt: &W,
     alloc: Global,
     gate: &G,
@@ -257,7 +257,7 @@ fn serve_all<J: Naming, R: DrillRun + Run, W: Wait, G: Gate>(
 
 /// Hears what is told and answers what is asked, until neither the publisher nor the client is
 /// left. Hands the server back.
-pub(crate) fn serve<J: Naming, R: DrillRun + Run, W: Wait, G: Gate>(
+pub(crate) fn serve<J: Naming, R: DrillRun + FixedRun, W: Wait, G: Gate>(
     rt: &W,
     alloc: Global,
     gate: &G,

@@ -17,7 +17,7 @@ use client_core::UnitClient;
 use drill_client::{DrillRun, KEPT, append_end, drill_plain};
 use pitch_fields::OutOfMemory;
 use pitch_io::Gate;
-use shared_unit::{LeftRightPlaces, MakeError, Naming, Opened, Run, Server, Writer, make};
+use shared_unit::{FixedRun, LeftRightPlaces, MakeError, Naming, Opened, Server, Writer, make};
 use std::alloc::Global;
 use std::marker::Brand;
 use std::sync::Wait;
@@ -25,7 +25,7 @@ use std::thread::{Threads, join};
 use std::time::Clock;
 
 // The line of a client at the end of its unit.
-fn line_of_client<R: DrillRun + Run>(
+fn line_of_client<R: DrillRun + FixedRun>(
     alloc: Global,
     course: &Course<R>,
     client: &UnitClient,
@@ -40,7 +40,10 @@ fn line_of_client<R: DrillRun + Run>(
 }
 
 // The line of a unit that is played in turns.
-fn plain_line<R: DrillRun + Run>(alloc: Global, course: &Course<R>) -> Result<Vec<u8>, OutOfMemory>
+fn plain_line<R: DrillRun + FixedRun>(
+    alloc: Global,
+    course: &Course<R>,
+) -> Result<Vec<u8>, OutOfMemory>
     ensures { IfOk result (λ line.
         line.items ≡ drill_line course.now.number course.now.unit course.now.count) }
 {
@@ -54,7 +57,7 @@ fn plain_line<R: DrillRun + Run>(alloc: Global, course: &Course<R>) -> Result<Ve
 // it, which ends only once the client has.
 fn run_receivers<
     J: Naming + Send + Sync,
-    R: DrillRun + Run + Send + Sync,
+    R: DrillRun + FixedRun + Send + Sync,
     W: Threads + Wait + Clock + Sync,
     G: Gate + Sync,
 >(
@@ -80,7 +83,7 @@ fn run_receivers<
 }
 
 // Where all three parties ended well, the client takes what it lacks.
-fn finish<J: Naming, R: DrillRun + Run, H: Wait + Drop>(
+fn finish<J: Naming, R: DrillRun + FixedRun, H: Wait + Drop>(
     alloc: Global,
     course: &Course<R>,
     published: Result<Writer<J, R, H>, OutOfMemory>,
@@ -107,7 +110,7 @@ fn finish<J: Naming, R: DrillRun + Run, H: Wait + Drop>(
 
 // The client takes what it lacks. Values are dropped by calls, which are cheaper to prove than a
 // drop at each return.
-fn finish_well<J: Naming, R: DrillRun + Run, H: Wait + Drop>(
+fn finish_well<J: Naming, R: DrillRun + FixedRun, H: Wait + Drop>(
     alloc: Global,
     course: &Course<R>,
     mut writer: Writer<J, R, H>,
@@ -136,7 +139,7 @@ fn finish_well<J: Naming, R: DrillRun + Run, H: Wait + Drop>(
 // lacks then.
 fn run_connected<
     J: Naming + Send + Sync,
-    R: DrillRun + Run + Send + Sync,
+    R: DrillRun + FixedRun + Send + Sync,
     W: Threads + Wait + Clock + Sync,
     G: Gate + Sync,
 >(
@@ -174,7 +177,7 @@ fn run_connected<
 // The three parties, over new channels.
 fn run_parties<
     J: Naming + Send + Sync,
-    R: DrillRun + Run + Send + Sync,
+    R: DrillRun + FixedRun + Send + Sync,
     W: Threads + Wait + Clock + Sync,
     G: Gate + Sync,
 >(
@@ -199,7 +202,7 @@ fn run_parties<
 }
 
 // The server of a unit that has one.
-fn only<J: Naming, R: Run>(mut servers: Vec<Server<J, R>>) -> Server<J, R>
+fn only<J: Naming, R: FixedRun>(mut servers: Vec<Server<J, R>>) -> Server<J, R>
     requires { length servers.items ≡ 1 }
 {
     let Some(server) = servers.pop() else {
@@ -212,7 +215,7 @@ fn only<J: Naming, R: Run>(mut servers: Vec<Server<J, R>>) -> Server<J, R>
 // The client's line, of the parties run with a writer and its server.
 fn line_of_parties<
     J: Naming + Send + Sync,
-    R: DrillRun + Run + Send + Sync,
+    R: DrillRun + FixedRun + Send + Sync,
     W: Threads + Wait + Clock + Sync,
     G: Gate + Sync,
 >(
@@ -236,7 +239,7 @@ fn line_of_parties<
 // The line of a unit that is run with threads, or where there is no place for a server in turns.
 fn run_unit<
     J: Naming + Send + Sync,
-    R: DrillRun + Run + Send + Sync,
+    R: DrillRun + FixedRun + Send + Sync,
     W: Threads + Wait + Clock + Sync,
     G: Gate + Sync,
 >(
@@ -264,7 +267,11 @@ fn run_unit<
 }
 
 // Runs a unit under a fresh name for its pair of copies.
-fn open_unit<R: DrillRun + Run + Send + Sync, W: Threads + Wait + Clock + Sync, G: Gate + Sync>(
+fn open_unit<
+    R: DrillRun + FixedRun + Send + Sync,
+    W: Threads + Wait + Clock + Sync,
+    G: Gate + Sync,
+>(
     rt: &W,
     alloc: Global,
     gate: &G,

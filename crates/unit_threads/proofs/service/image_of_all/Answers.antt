@@ -17,7 +17,7 @@ unreachable-requires g c =
     } in
     let served : Bool = is_served (served_at c.image.new.server.history) course.count in
     let none : served ≡ false = subst (λ o. IfNone o (served ≡ false)) c.in-None.is c.in_ok-image.ensures.none in
-    let prefix = planned_prefix g.R.Run.fixed g.R.Run.plan course.number course.unit course.count c.image.new.server.history course.planned c.in_ok-image.ensures.run in
+    let prefix = planned_prefix g.R.FixedRun.fixed g.R.FixedRun.plan course.number course.unit course.count c.image.new.server.history course.planned c.in_ok-image.ensures.run in
     let yes : served ≡ true = serves_all laws c.args.server.now.history c.image.new.server.history course.number course.unit course.count c.requires c.in_ok-image.ensures.later prefix in
     apart (sym yes ∙ none)
   where

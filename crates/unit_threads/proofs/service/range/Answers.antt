@@ -39,7 +39,7 @@ returns-in-Kept-clause-pieces g c =
     let V : List Raw = plan g.R.DrillRun.number g.R.DrillRun.unit g.R.DrillRun.count in
     let same = course_plan course.number g.R.DrillRun.number course.unit g.R.DrillRun.unit course.count g.R.DrillRun.count course.number_is course.unit_is course.count_is in
     let prefix : IsPrefix (accepted_by c.pack.new.self.history) V = subst (IsPrefix (accepted_by c.pack.new.self.history)) same
-    (planned_prefix g.R.Run.fixed g.R.Run.plan course.number course.unit course.count c.pack.new.self.history course.planned c.seen-seen.ensures.run) in
+    (planned_prefix g.R.FixedRun.fixed g.R.FixedRun.plan course.number course.unit course.count c.pack.new.self.history course.planned c.seen-seen.ensures.run) in
     let v : View = kept_at g.J.Naming.kept c.args.server.now.history in
     let before : List (List ℕ) = bytes_in c.make-out.result.items in
     let after : List (List ℕ) = bytes_in c.pack.new.out.items in

@@ -7,5 +7,5 @@ abbrev pub ghosts-open_unit-R-DrillRun : goal.ghosts-open_unit-R-DrillRun
 ghosts-open_unit-R-DrillRun g a = record { number = a.number; unit = a.unit; count = a.count }
 
 -- its messages are fixed
-abbrev pub ghosts-open_unit-R-Run : goal.ghosts-open_unit-R-Run
-ghosts-open_unit-R-Run g a = record { fixed = true; plan = plan a.number a.unit a.count }
+abbrev pub ghosts-open_unit-R-FixedRun : goal.ghosts-open_unit-R-FixedRun
+ghosts-open_unit-R-FixedRun g a = record { fixed = true; plan = plan a.number a.unit a.count }

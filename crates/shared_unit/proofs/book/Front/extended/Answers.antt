@@ -12,7 +12,7 @@ compare_exchange-found-requires g c =
     let pen = c.no_pen-pen.ensures in
     let again = c.again-seen.ensures in
     let book = ap (λ s. s.book) again ∙ c.self.invariant.1 in
-    let may : IsLegal g.R.Run.fixed g.R.Run.plan (then_done (history_in c.self.inside.seen.log) (operation_of c.args.what.now)) = rw c.self.view_is c.requires.legal in (
+    let may : IsLegal g.R.FixedRun.fixed g.R.FixedRun.plan (then_done (history_in c.self.inside.seen.log) (operation_of c.args.what.now)) = rw c.self.view_is c.requires.legal in (
       ap (λ w. w.tracked) h,
       book ∙ sym (ap (λ w. w.book) h),
       pen.0 ∙ (book ∙ sym (ap (λ w. w.book) h)),

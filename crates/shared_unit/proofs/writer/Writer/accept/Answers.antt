@@ -17,8 +17,8 @@ pub publish-requires-clause-legal : goal.publish-requires-clause-legal
 publish-requires-clause-legal g c =
     let d : List Operation = c.self.inside.desk in
     let same : c.in-Ok.raw ≡ raw_of c.args.command.now = (answer_ok (refusal (accepted_by d) c.args.command.now) (raw_of c.args.command.now) c.in-Ok.raw (c.in-Ok.ensures.answer (accepted_by d) 0 c.self.invariant)).1 in
-    subst (λ (x : List Operation). IsLegal g.R.Run.fixed g.R.Run.plan (then_done x (Accept c.in-Ok.raw))) (sym c.self.view_is)
-    (subst (λ (r : List ℕ). IsLegal g.R.Run.fixed g.R.Run.plan (then_done c.args.self.now (Accept r))) (sym same) c.requires.run)
+    subst (λ (x : List Operation). IsLegal g.R.FixedRun.fixed g.R.FixedRun.plan (then_done x (Accept c.in-Ok.raw))) (sym c.self.view_is)
+    (subst (λ (r : List ℕ). IsLegal g.R.FixedRun.fixed g.R.FixedRun.plan (then_done c.args.self.now (Accept r))) (sym same) c.requires.run)
 
 pub publish-requires-clause-few : goal.publish-requires-clause-few
 publish-requires-clause-few g c = sequences_left c.self.inside.desk c.in-Ok.raw (c.in-Ok.ensures.next (accepted_by c.self.inside.desk) 0 c.self.invariant)
