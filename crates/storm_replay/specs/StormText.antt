@@ -1,4 +1,4 @@
--- The summary of a storm: what it was made of, and where each unit ended.
+-- How the summary of a storm begins. The lines of its units are those of feed_lines.
 use Rattle.std.specs.Prelude.{ℕ, List, [], ◌∷◌, ◌++◌, codes}
 use Rattle.feed_lines.specs.Show.{number_field}
 

@@ -1,4 +1,4 @@
-//! Laws of a storm's schedule. These functions do nothing.
+//! The law of a storm's schedule. The function does nothing.
 
 ghost use Rattle.std.specs.Prelude.{◌≡◌, ◌≤◌, ℕ, Ok, length, map};
 ghost use Rattle.std.specs.List.{enumerate_from};
