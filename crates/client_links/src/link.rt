@@ -42,14 +42,14 @@ pub trait Peer {
 /// The client's end of a session: a [`GapLink`](crate::GapLink) or a
 /// [`SpinLink`](crate::SpinLink).
 #[derive(Drop)]
-pub struct Link<P: Peer> {
+pub struct Link<P> {
     alloc: Global,
     end: End,
     spin: bool,
     peer: PhantomData<P>,
 }
 
-impl<P: Peer> Model for Link<P> {
+impl<P> Model for Link<P> {
     ghost use Rattle.std.specs.Prelude.{◌≡◌};
     ghost use Rattle.session_ends.specs.Ending.{Ending};
     ghost use Rattle.client_links.specs.Telling.{hands_out};

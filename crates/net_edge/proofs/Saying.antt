@@ -13,7 +13,8 @@ use Rattle.spin_path.specs.Paths.{says_at}
 use Rattle.client_links.specs.Linking.{Lookups, LinkStands}
 use Rattle.world_model.specs.Ends.{grp_server, spin_server, link_says}
 use Rattle.world_model.specs.State.{Connection}
-use Rattle.world_model.specs.Verbs.{at_grp_server, at_spin_server, at_link}
+use Rattle.pitch_text.specs.declared.verb.Session.TheVariants.{Grp, Spin}
+use Rattle.world_model.specs.Verbs.{at_server_of, at_link}
 use Rattle.net_edge.specs.Acting.{where_stands}
 use Rattle.net_edge.specs.Due.{demo_unit}
 use Rattle.net_edge.specs.Playing.{ProxyHas, ProxySays, SpinHas, SpinSays, LinkHas, LinkSays}
@@ -30,11 +31,11 @@ spin_silent spin said c cut does is none has =
 
 pub spin_says_at : (old new : Serving) (said said' : List ℕ) (c : Connection (List Served)) (cut : Bool) (event : Event (List Served)) → cut ≡ false → said ≡ [] → SpinHas old c.server → new.end.setup ≡ old.end.setup
     → ((es : List (Event (List Served))) → SpinStands old es → SpinStands new (event ∷ es)) → ((es : List (Event (List Served))) → SpinStands old es → said' ≡ said ++ says_at old.end.setup event es)
-    → SpinSays new said' c (where_stands cut (λ k. at_spin_server demo_unit event k) c)
+    → SpinSays new said' c (where_stands cut (λ k. at_server_of demo_unit Spin event k) c)
 spin_says_at old new said said' c cut event is none has setup stands says =
     let said_is : said' ≡ says_at (spin_server demo_unit) event c.server =
     says c.server has.stands ∙ ap (λ (b : List ℕ). b ++ says_at old.end.setup event c.server) none ∙ ap (λ (m : Setup). says_at m event c.server) has.made in
-    subst (λ (b : Bool). SpinSays new said' c (where_stands b (λ k. at_spin_server demo_unit event k) c)) (sym is) (record {
+    subst (λ (b : Bool). SpinSays new said' c (where_stands b (λ k. at_server_of demo_unit Spin event k) c)) (sym is) (record {
       has = record { made = setup ∙ has.made; stands = stands c.server has.stands };
       says = ap (λ (b : List ℕ). c.down.put ++ b) (sym said_is);
       up_is = refl;
@@ -60,11 +61,11 @@ proxy_silent old new said c spent cut does is none same limits counts has =
 pub proxy_ticks : (old new : Proxy) (said said' : List ℕ) (c : Connection Source) (spent : Spent) (cut : Bool) → cut ≡ false → said ≡ [] → new.server.setup ≡ old.server.setup → new.budget.limits ≡ old.budget.limits
     → ((s : Spent) → Counted old.budget s → Counted new.budget (next_second s)) → ((es : List (Event Source)) → ProxyStands old.server es → ProxyStands new.server (Ticked ∷ es))
     → ((es : List (Event Source)) → ProxyStands old.server es → said' ≡ said ++ sent_at_tick (grp_sends old.server.setup) old.server.setup es)
-    → ProxyHas old c.server spent → ProxySays new said' c (where_stands cut (λ k. at_grp_server demo_unit Ticked k) c) (next_second spent)
+    → ProxyHas old c.server spent → ProxySays new said' c (where_stands cut (λ k. at_server_of demo_unit Grp Ticked k) c) (next_second spent)
 proxy_ticks old new said said' c spent cut is none setup limits counts stands says has =
     let said_is : said' ≡ sent_at_tick (grp_sends (grp_server demo_unit)) (grp_server demo_unit) c.server =
     says c.server has.stands ∙ ap (λ (b : List ℕ). b ++ sent_at_tick (grp_sends old.server.setup) old.server.setup c.server) none ∙ ap (λ (m : Setup). sent_at_tick (grp_sends m) m c.server) has.made in
-    subst (λ (b : Bool). ProxySays new said' c (where_stands b (λ k. at_grp_server demo_unit Ticked k) c) (next_second spent)) (sym is) (record {
+    subst (λ (b : Bool). ProxySays new said' c (where_stands b (λ k. at_server_of demo_unit Grp Ticked k) c) (next_second spent)) (sym is) (record {
       has = record { made = setup ∙ has.made; stands = stands c.server has.stands; limits_are = limits ∙ has.limits_are; counted = counts spent has.counted };
       says = ap (λ (b : List ℕ). c.down.put ++ b) (sym said_is);
       up_is = refl;

@@ -18,7 +18,8 @@ use Rattle.spin_server.specs.Served.{Served}
 use Rattle.spin_path.specs.Paths.{IsShown}
 use Rattle.world_model.specs.Ends.{spin_link}
 use Rattle.world_model.specs.State.{Connection}
-use Rattle.world_model.specs.Verbs.{at_spin_server, at_link, pumped_times, pumps}
+use Rattle.pitch_text.specs.declared.verb.Session.TheVariants.{Spin}
+use Rattle.world_model.specs.Verbs.{at_server_of, at_link, pumped_times, pumps}
 use Rattle.world_model.specs.Witness.{Witnessed}
 use Rattle.world_model.proofs.SpinWitness as spin
 use Rattle.world_model.proofs.Witness as witness
@@ -86,7 +87,7 @@ module _ (s : Setting) where
   abbrev pub Says : Connection (List Served) → Type 0
   Says c = Witnessed demo_unit V (Some (spoken c)) []
 
-  fed : (c : Connection (List Served)) (bytes : List ℕ) (turn : ℕ) → Says c → Says (at_spin_server demo_unit (Fed bytes (replicate (length (new_items c.server bytes)) (spin_view s turn))) c)
+  fed : (c : Connection (List Served)) (bytes : List ℕ) (turn : ℕ) → Says c → Says (at_server_of demo_unit Spin (Fed bytes (replicate (length (new_items c.server bytes)) (spin_view s turn))) c)
   fed c bytes turn w =
       let views : List Served = replicate (length (new_items c.server bytes)) (spin_view s turn) in
       spin.serves demo_unit V [] (spoken c) (Fed bytes views) (all_same (IsShown V) (length (new_items c.server bytes)) (spin_view s turn) (shown_at s turn)) w
@@ -110,11 +111,11 @@ module _ (s : Setting) where
   -- ---- A tick
   -- at its own end
   ticks : (cut : Bool) (turn : ℕ) (c : Connection (List Served)) → Says c
-      → Says (where_stands cut (λ k. at_spin_server demo_unit Ticked k) (where_stands cut (λ k. at_spin_server demo_unit (Told (accepted s turn)) k) c))
+      → Says (where_stands cut (λ k. at_server_of demo_unit Spin Ticked k) (where_stands cut (λ k. at_server_of demo_unit Spin (Told (accepted s turn)) k) c))
   ticks true turn c w = w
   ticks false turn c w =
       let all = all_many s in
-      let told : Connection (List Served) = at_spin_server demo_unit (Told (accepted s turn)) c in
+      let told : Connection (List Served) = at_server_of demo_unit Spin (Told (accepted s turn)) c in
       spin.serves demo_unit V [] (spoken told) Ticked tt (spin.serves demo_unit V [] (spoken c) (Told (accepted s turn)) (omega (arith, all)) w)
 
   -- at the client's

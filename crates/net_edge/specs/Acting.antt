@@ -32,7 +32,8 @@ use Rattle.spin_path.specs.Paths.{heard_all}
 use Rattle.client_links.specs.Linking.{NoLookup, link_tells}
 use Rattle.world_model.specs.Ends.{grp_server, gap_link, spin_link}
 use Rattle.world_model.specs.State.{Connection}
-use Rattle.world_model.specs.Verbs.{at_grp_server, at_spin_server, at_link, sent_whole}
+use Rattle.pitch_text.specs.declared.verb.Session.TheVariants.{Grp, Spin}
+use Rattle.world_model.specs.Verbs.{at_server_of, at_link, sent_whole}
 use Rattle.net_edge.specs.Due.{Setting, demo_unit, hold_limit, request_limits, accepted, gap_view}
 use Rattle.net_edge.specs.Due.{spin_view}
 use Rattle.net_edge.specs.Scene.{Scene, OnLine, AtEnd, line_in, with_line, at_end, with_end, is_got}
@@ -113,7 +114,7 @@ proxy_fed s bytes now =
     let source = source_at s bytes now in
     let answer = proxy_answer (grp_server demo_unit) now.grp.server bytes source in
     record now {
-      grp = at_grp_server demo_unit (Fed bytes source) now.grp;
+      grp = at_server_of demo_unit Grp (Fed bytes source) now.grp;
       replayed = now.replayed ++ answer.lines;
       spent = answer.knows;
     }
@@ -125,7 +126,7 @@ proxy_took s bytes answer now = now
 -- bytes come to the Spin Server
 abbrev pub spin_server_fed : Setting
     → List ℕ → NetTaken → ℕ → Connection (List Served) → Connection (List Served)
-spin_server_fed s bytes (taken.Got count) turn c = at_spin_server demo_unit
+spin_server_fed s bytes (taken.Got count) turn c = at_server_of demo_unit Spin
     (Fed bytes (replicate (length (new_items c.server bytes)) (spin_view s turn))) c
 spin_server_fed s bytes answer turn c = c
 
@@ -202,10 +203,11 @@ abbrev pub servers_tick : Setting → Scene → Scene
 servers_tick s now = record now {
   ticked = now.ticked + 1;
   spent = next_second now.spent;
-  grp = where_stands now.grp_cut (λ c. at_grp_server demo_unit Ticked c) now.grp;
+  grp = where_stands now.grp_cut (λ c. at_server_of demo_unit Grp Ticked c) now.grp;
   spin =
-      where_stands now.spin_cut (λ c. at_spin_server demo_unit Ticked c) (where_stands now.spin_cut
-      (λ c. at_spin_server demo_unit (Told (accepted s now.turn)) c) now.spin);
+      where_stands now.spin_cut (λ c. at_server_of demo_unit Spin Ticked c)
+      (where_stands now.spin_cut
+      (λ c. at_server_of demo_unit Spin (Told (accepted s now.turn)) c) now.spin);
 }
 
 -- then the links tick; one that closes is cut

@@ -12,7 +12,6 @@ use Rattle.pitch_text.specs.declared.verb.Verb.{Verb}
 use Rattle.unit_packets.specs.BlockBytes.{block_bytes, heartbeat_block}
 use Rattle.unit_packets.specs.Packing.{packed, bytes_in}
 use Rattle.pitch_model.specs.History.{Raw, Entry, Message, Next}
-use Rattle.pitch_model.specs.History as entry
 use Rattle.pitch_model.specs.Honest.{Honest}
 use Rattle.pitch_model.specs.Image.{image}
 use Rattle.pitch_fields.specs.Fields.{AreBytes}
@@ -31,11 +30,10 @@ use Rattle.world_model.specs.Sound.{Sound}
 use Rattle.spin_path.specs.Paths.{HasWholeImages}
 use Rattle.world_model.specs.Witness.{Witnessed}
 use Rattle.world_model.proofs.Witness.{accepted_more, hears_blocks, whole}
-use Rattle.world_model.proofs.Witness as witness
 use Rattle.world_model.proofs.HeardBlocks.{overflow_step}
 use Rattle.world_model.specs.Stands.{WorldHas, Keeping, Acts, WorldStands, Marks, Passes}
 use Rattle.world_model.specs.State.{State, Connection, datagrams_on, passed_on, passed_to}
-use Rattle.world_model.specs.Verbs.{Done, done, does, state_of, commanded_on, commanded, flushed, beaten, numbered, delivered, delivered_on, rest_delivered, hears, up_to, budget_ticks, connection, grp_connected, cut_on, grp_cut, grp_cut_where}
+use Rattle.world_model.specs.Verbs.{Done, done, does, state_of, commanded_on, commanded, flushed, beaten, numbered, delivered, delivered_on, rest_delivered, hears, up_to, budget_ticks}
 use Rattle.grp_session.specs.Budget as budget
 use Rattle.grp_session.specs.Budget.{Counts, Counted, Spent}
 use Rattle.gap_store.specs.Look.{Store, View, store_of}
@@ -44,13 +42,14 @@ use Rattle.pitch_model.specs.Advertising.{Operation, Accept, accepted_by, advert
 use Rattle.spin_server.specs.Stands.{ShelfStands}
 use Rattle.grp_session.specs.Serving.{Source}
 use Rattle.spin_server.specs.Served.{Served}
-use Rattle.session_ends.specs.declared.role.Role.TheVariants as roles
-use Rattle.client_core.specs.Items.{IsImage}
-use Rattle.pitch_model.proofs.Images.{image_book}
-use Rattle.client_links.specs.Linking.{login_bytes}
-use Rattle.world_model.specs.Connections.{IsGrpConnection, HasGrp, HasSpin}
-use Rattle.world_model.specs.declared.grp.GrpConnection.{GrpConnection}
-use Rattle.world_model.specs.Ends.{the_account}
+use Rattle.session_ends.specs.Ending.{Ending}
+use Rattle.pitch_text.specs.declared.verb.Session.{Session}
+use Rattle.pitch_text.specs.declared.verb.Session.TheVariants.{Grp, Spin}
+use Rattle.spin_server.specs.Serving.{Serving}
+use Rattle.client_links.specs.declared.gap_link.ProxyPeer.{ProxyPeer}
+use Rattle.client_links.specs.declared.spin_link.SpinPeer.{SpinPeer}
+use Rattle.world_model.specs.Connections.{HasGrp, HasSpin}
+use Rattle.world_model.specs.declared.connection.Connection.{Connection as Joined}
 use Rattle.world_model.specs.declared.limits.Limits.{Limits}
 use Rattle.world_model.specs.Hearing.{HearsBlocks, overflow_in}
 use Rattle.world_model.specs.declared.passed.Passed.{Passed}
@@ -65,7 +64,6 @@ use Rattle.pitch_model.proofs.Topmost.{reach_le_top}
 use Rattle.world_model.specs.declared.outcome.Outcome.{Outcome}
 use Rattle.world_model.specs.declared.outcome.Outcome.TheVariants as outcome
 use Rattle.world_model.specs.declared.world.Acted.{Acted}
-use Rattle.world_model.specs.declared.spin.SpinConnection.{SpinConnection}
 use Rattle.world_model.specs.declared.world.World.{World}
 
 -- ---- Nothing was heard
@@ -364,7 +362,12 @@ marks_then H E F G x y = record {
       ap (λ (n : ℕ). overflowed H n G) e ∙ y.marks (x.added + m) ∙ x.marks m;
 }
 
-pub with_grp : (w : World) (grp : Option GrpConnection) (s : State) (g : Option (Connection Source)) → WorldHas w s → HasGrp grp w.unit g → WorldHas (record w { grp = grp }) (record s { grp = g })
+-- a connection of a session in a world
+abbrev pub JoinedOf : Session → Type 0
+JoinedOf Grp = Joined Ending ProxyPeer
+JoinedOf Spin = Joined Serving SpinPeer
+
+pub with_grp : (w : World) (grp : Option (JoinedOf Grp)) (s : State) (g : Option (Connection Source)) → WorldHas w s → HasGrp grp w.unit g → WorldHas (record w { grp = grp }) (record s { grp = g })
 with_grp w grp s g has is = record {
   begun = has.begun;
   venue_unit = has.venue_unit;
@@ -399,7 +402,7 @@ with_budget w counter s has limited counts = record {
 }
 
 -- the client heard or asked something, beside what happened to the connection with the spin server
-pub with_spin : (w : World) (client : UnitClient) (spin : Option SpinConnection) (s : State) (g : Option (Connection (List Served))) (E : List Entry) → WorldHas w s → HasSpin spin w.unit g → Tracks client w.limits.hold E → Keeps client s.accepted
+pub with_spin : (w : World) (client : UnitClient) (spin : Option (JoinedOf Spin)) (s : State) (g : Option (Connection (List Served))) (E : List Entry) → WorldHas w s → HasSpin spin w.unit g → Tracks client w.limits.hold E → Keeps client s.accepted
     → Witnessed w.unit s.accepted g E → WorldHas (record w { client = client; spin = spin }) (record s { spin = g; heard = E })
 with_spin w client spin s g E has is tracks keeps came = record {
   begun = has.begun;
@@ -428,20 +431,6 @@ marks_one H entry E none = record {
   marks = λ m. let e : 1 + m ≡ suc m = omega arith in ap (λ (n : ℕ). overflowed H n (entry ∷ E)) e ∙ ap (λ (b : Bool). b || overflowed H m E) none;
 }
 
--- ---- A connection with the proxy ends
-pub passes_cut : (w : World) (client : UnitClient) (s : State) → WorldHas w s → Tracks client w.limits.hold (entry.GrpDown ∷ s.heard)
-    → ((V : List Raw) → IsImage image V → (H : ℕ) (E : List Entry) → Tracks w.client H E → Honest image V (entry.GrpDown ∷ E) → Keeps w.client V → Keeps client V)
-    → Passes w (record w { client = client; grp = None }) s (grp_cut s)
-passes_cut w client s has tracks keeps =
-    let came : Witnessed w.unit s.accepted s.spin (entry.GrpDown ∷ s.heard) = witness.hears w.unit s.accepted s.spin entry.GrpDown s.heard tt has.sound.witness in
-    let kept : Keeps client s.accepted = keeps s.accepted (λ n. image_book s.accepted n has.venue.bytes) w.limits.hold s.heard has.tracks (honest_of w s has s.spin (entry.GrpDown ∷ s.heard) came) has.keeps in
-    record {
-      unit_is = refl;
-      limits_are = refl;
-      quiet = marks_one w.limits.hold entry.GrpDown s.heard refl;
-      has = with_grp (record w { client = client }) None (record s { heard = entry.GrpDown ∷ s.heard }) None (with_heard w client s (entry.GrpDown ∷ s.heard) has tracks kept came) tt;
-    }
-
 pub passes_none : (w : World) (s : State) → WorldHas w s → Passes w w s s
 passes_none w s has = record { unit_is = refl; limits_are = refl; quiet = marks_none w.limits.hold s.heard; has = has }
 
@@ -453,43 +442,6 @@ acts_passed w new acted o s s' passes calm = record {
   overflow_is = ap (λ (a : Acted). a.overflow) calm ∙ marked w.limits.hold s.heard s'.heard false passes.quiet;
   has = passes.has;
 }
-
--- ---- Open and cut
-pub acts_connected : (w : World) (c : GrpConnection) (acted : Acted) (s : State) → WorldHas w s → w.grp ≡ None → IsGrpConnection c w.unit (connection (login_bytes roles.GapLink 0 the_account)) → acted ≡ calm_of outcome.Opened
-    → Acts w (record w { grp = Some c }) acted s (grp_connected s.grp s)
-acts_connected w c acted s has none is calm = by s.grp (subst (λ (g : Option GrpConnection). HasGrp g w.unit s.grp) none has.grp)
-  where
-    by : (g : Option (Connection Source)) → HasGrp None w.unit g → Acts w (record w { grp = Some c }) acted s (grp_connected g s)
-    by None z = acts_passed w (record w { grp = Some c }) acted outcome.Opened s (record s { grp = Some (connection (login_bytes roles.GapLink 0 the_account)) })
-        (record { unit_is = refl; limits_are = refl; quiet = marks_none w.limits.hold s.heard; has = with_grp w (Some c) s (Some (connection (login_bytes roles.GapLink 0 the_account))) has is }) calm
-    by (Some k) z = absurd z
-
-pub acts_open_already : (w : World) (old : GrpConnection) (acted : Acted) (s : State) → WorldHas w s → w.grp ≡ Some old → acted ≡ calm_of outcome.AlreadyOpen → Acts w w acted s (grp_connected s.grp s)
-acts_open_already w old acted s has some calm = by s.grp (subst (λ (g : Option GrpConnection). HasGrp g w.unit s.grp) some has.grp)
-  where
-    by : (g : Option (Connection Source)) → HasGrp (Some old) w.unit g → Acts w w acted s (grp_connected g s)
-    by None z = absurd z
-    by (Some k) z = acts_passed w w acted outcome.AlreadyOpen s s (passes_none w s has) calm
-
-pub acts_cut : (w new : World) (old : GrpConnection) (acted : Acted) (s : State) → WorldHas w s → w.grp ≡ Some old → Passes w new s (grp_cut s) → acted ≡ calm_of outcome.Cut → Acts w new acted s (cut_on s.grp (grp_cut s) s)
-acts_cut w new old acted s has some passes calm = by s.grp (subst (λ (g : Option GrpConnection). HasGrp g w.unit s.grp) some has.grp)
-  where
-    by : (g : Option (Connection Source)) → HasGrp (Some old) w.unit g → Acts w new acted s (cut_on g (grp_cut s) s)
-    by None z = absurd z
-    by (Some k) z = acts_passed w new acted outcome.Cut s (grp_cut s) passes calm
-
-pub acts_not_open : (w : World) (acted : Acted) (s : State) → WorldHas w s → w.grp ≡ None → acted ≡ calm_of outcome.NotOpen → Acts w w acted s (cut_on s.grp (grp_cut s) s)
-acts_not_open w acted s has none calm = by s.grp (subst (λ (g : Option GrpConnection). HasGrp g w.unit s.grp) none has.grp)
-  where
-    by : (g : Option (Connection Source)) → HasGrp None w.unit g → Acts w w acted s (cut_on g (grp_cut s) s)
-    by None z = acts_passed w w acted outcome.NotOpen s s (passes_none w s has) calm
-    by (Some k) z = absurd z
-
-pub passes_where : (w new : World) (s : State) (b : Bool) → b ≡ true → Passes w new s (grp_cut s) → Passes w new s (grp_cut_where b s)
-passes_where w new s b is passes = subst (λ (x : Bool). Passes w new s (grp_cut_where x s)) (sym is) passes
-
-pub passes_still : (w : World) (s : State) (b : Bool) → b ≡ false → WorldHas w s → Passes w w s (grp_cut_where b s)
-passes_still w s b is has = subst (λ (x : Bool). Passes w w s (grp_cut_where x s)) (sym is) (passes_none w s has)
 
 -- ---- A datagram by its number, and those behind the last
 numbered_at : (datagrams : List (List ℕ)) (n : ℕ) → 1 ≤ n → numbered datagrams n ≡ slice_get datagrams (n - 1)

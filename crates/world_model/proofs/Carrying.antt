@@ -3,6 +3,8 @@ use Rattle.std.proofs.Common.{◌≡◌, ℕ, ◌-◌, ◌≤◌, Bool, true, fa
 use Rattle.std.proofs.lemmas.List.{drop-append-le, length-drop}
 use Rattle.std.proofs.Math.Seq.{drop-drop}
 use Rattle.std.specs.Option.{option_map}
+use Rattle.pitch_text.specs.declared.verb.Session.{Session}
+use Rattle.pitch_text.specs.declared.verb.Session.TheVariants.{Grp}
 use Rattle.session_ends.specs.Answering.{Answer}
 use Rattle.session_ends.specs.Closing.{Setup, closed_of}
 use Rattle.session_ends.specs.Ending.{Ending}
@@ -13,12 +15,12 @@ use Rattle.grp_session.specs.Budget.{Counts, Counted, Spent}
 use Rattle.grp_session.specs.Budget as budget
 use Rattle.grp_session.specs.Serving.{Source, Answered, ProxyFeeds, StoreHasOneView, proxy_answer}
 use Rattle.client_links.specs.Linking.{LinkStands}
-use Rattle.world_model.specs.Connections.{IsPipe, IsGrpConnection, HasGrp, CarriedUp}
+use Rattle.world_model.specs.Connections.{IsPipe, IsProxy, IsConnection, HasConnection, CarriedUp}
 use Rattle.world_model.specs.Ends.{grp_server, grp_says}
-use Rattle.world_model.specs.State.{State, Connection, Pipe, waiting}
+use Rattle.world_model.specs.State.{State, Connection, Pipe, LooksIn, waiting}
 use Rattle.world_model.specs.Verbs.{put_in, took, source_of, shut}
 use Rattle.world_model.specs.declared.limits.Limits.{Limits}
-use Rattle.world_model.specs.declared.grp.GrpConnection.{GrpConnection}
+use Rattle.world_model.specs.declared.connection.Connection.{Connection as Joined}
 
 -- ---- Pipes
 pub piped_put : (bytes said : List ℕ) (pipe : Pipe) → IsPipe bytes pipe → IsPipe (bytes ++ said) (put_in said pipe)
@@ -36,8 +38,8 @@ piped_taken bytes n pipe is few =
     }
 
 -- ---- To the proxy
-pub carried_up : (old new : GrpConnection) (unit : ℕ) (limits : Limits) (s : State) (k : Connection Source) (n : ℕ) (piece : List ℕ) (store store' : Store) (counter counter' : Counts) (none said : List ℕ) (nothing packed before after : List (List ℕ))
-    → StoreHasOneView → IsGrpConnection old unit k → store ≡ store_of (record { messages = s.accepted; kept = limits.kept }) → counter.limits ≡ record { second = limits.second; minute = limits.minute; day = limits.day }
+pub carried_up : {P : Type 0} (old new : Joined Ending P) (unit : ℕ) (limits : Limits) (s : State) (k : Connection Source) (n : ℕ) (piece : List ℕ) (store store' : Store) (counter counter' : Counts) (none said : List ℕ) (nothing packed before after : List (List ℕ))
+    → StoreHasOneView → IsConnection Grp IsProxy old unit k → store ≡ store_of (record { messages = s.accepted; kept = limits.kept }) → counter.limits ≡ record { second = limits.second; minute = limits.minute; day = limits.day }
     → n ≤ length old.up → piece ≡ take n old.up → none ≡ [] → nothing ≡ []
     → new.up ≡ drop n old.up → new.down ≡ old.down ++ said → after ≡ before ++ packed → new.link ≡ old.link → new.server.setup ≡ old.server.setup → store' ≡ store → counter'.limits ≡ counter.limits
     → ProxyFeeds k.server piece old.server new.server true counter.limits s.spent (record { messages = s.accepted; kept = limits.kept }) (Counted counter') (λ v. store' ≡ store_of v) none said nothing packed
@@ -55,13 +57,12 @@ carried_up old new unit limits s k n piece store store' counter counter' none sa
     let there : Answered es P (source_of limits s es P) old.server new.server (Counted counter') none said nothing packed =
     subst (λ (p : List ℕ). Answered es p (source_of limits s es p) old.server new.server (Counted counter') none said nothing packed) are at_piece in
     let answer : Setup → Answer Spent = λ m. proxy_answer m es P (source_of limits s es P) in
-    let said_is : said ≡ grp_says unit (Fed P (source_of limits s es P)) es = there.replied ∙ ap (λ (r : List ℕ). r ++ (answer old.server.setup).reply) no_said ∙ ap (λ (m : Setup). (answer m).reply) is.server_made in
-    let packed_is : packed ≡ (answer (grp_server unit)).lines = there.lined ∙ ap (λ (ds : List (List ℕ)). ds ++ (answer old.server.setup).lines) no_lines ∙ ap (λ (m : Setup). (answer m).lines) is.server_made in
+    let said_is : said ≡ grp_says unit (Fed P (source_of limits s es P)) es = there.replied ∙ ap (λ (r : List ℕ). r ++ (answer old.server.setup).reply) no_said ∙ ap (λ (m : Setup). (answer m).reply) is.server.made in
+    let packed_is : packed ≡ (answer (grp_server unit)).lines = there.lined ∙ ap (λ (ds : List (List ℕ)). ds ++ (answer old.server.setup).lines) no_lines ∙ ap (λ (m : Setup). (answer m).lines) is.server.made in
     let replied : new.down ≡ old.down ++ grp_says unit (Fed P (source_of limits s es P)) es = put ∙ ap (λ (b : List ℕ). old.down ++ b) said_is in
     record {
       stands = record {
-        server_made = setup ∙ is.server_made;
-        server = there.stands;
+        server = record { made = setup ∙ is.server.made; stands = there.stands };
         link_made = ap (λ (e : Ending). e.setup) link ∙ is.link_made;
         link = subst (λ (e : Ending). LinkStands e k.link) (sym link) is.link;
         up = subst (λ (b : List ℕ). IsPipe b (took n k.up)) (sym rest) (piped_taken old.up n k.up is.up few);
@@ -69,7 +70,7 @@ carried_up old new unit limits s k n piece store store' counter counter' none sa
       };
       store_is = still;
       limits_are = counts;
-      counted = subst (λ (m : Setup). Counted counter' (answer m).knows) is.server_made there.counts;
+      counted = subst (λ (m : Setup). Counted counter' (answer m).knows) is.server.made there.counts;
       lined = appended ∙ ap (λ (ds : List (List ℕ)). before ++ ds) packed_is;
     }
   where
@@ -77,19 +78,32 @@ carried_up old new unit limits s k n piece store store' counter counter' none sa
     record_of m spent views = record { there = true; views = views; limits = m; spent = spent }
 
 -- ---- Where a connection may stand
-pub on_none : (unit : ℕ) (g : Option (Connection Source)) (f : Connection Source → Connection Source) → HasGrp None unit g → HasGrp None unit (option_map f g)
-on_none unit None f is = tt
-on_none unit (Some k) f is = absurd is
+abbrev Said : Session → Type 0
+Said session = Connection (LooksIn session)
 
-pub on_some : (old new : GrpConnection) (unit : ℕ) (g : Option (Connection Source)) (f : Connection Source → Connection Source) → ((k : Connection Source) → IsGrpConnection old unit k → IsGrpConnection new unit (f k)) → HasGrp (Some old) unit g
-    → HasGrp (Some new) unit (option_map f g)
-on_some old new unit None f does is = absurd is
-on_some old new unit (Some k) f does is = does k is
+module _ {S : Type 0} (P : Type 0) (session : Session) (is_server : S → ℕ → List (Event (LooksIn session)) → Type 0) (unit : ℕ) where
+  pub on_none : (g : Option (Said session)) (f : Said session → Said session) → HasConnection session {S = S} {P = P} is_server None unit g → HasConnection session {S = S} {P = P} is_server None unit (option_map f g)
+  on_none None f is = tt
+  on_none (Some k) f is = absurd is
 
-pub shut_none : (unit : ℕ) (g : Option (Connection Source)) (s : Setup) → HasGrp None unit g → false ≡ shut s g
-shut_none unit None s is = refl
-shut_none unit (Some k) s is = absurd is
+  pub shut_none : (g : Option (Said session)) (s : Setup) → HasConnection session {S = S} {P = P} is_server None unit g → false ≡ shut s g
+  shut_none None s is = refl
+  shut_none (Some k) s is = absurd is
 
-pub shut_some : (c : GrpConnection) (unit : ℕ) (g : Option (Connection Source)) (s : Setup) (b : Bool) → ((k : Connection Source) → IsGrpConnection c unit k → b ≡ is_some (closed_of s k.link)) → HasGrp (Some c) unit g → b ≡ shut s g
-shut_some c unit None s b does is = absurd is
-shut_some c unit (Some k) s b does is = does k is
+  pub waits_none : (g : Option (Said session)) (f : Said session → ℕ) → HasConnection session {S = S} {P = P} is_server None unit g → None ≡ option_map f g
+  waits_none None f is = refl
+  waits_none (Some k) f is = absurd is
+
+module _ {S P : Type 0} (session : Session) (is_server : S → ℕ → List (Event (LooksIn session)) → Type 0) (unit : ℕ) where
+  pub on_some : (old new : Joined S P) (g : Option (Said session)) (f : Said session → Said session) → ((k : Said session) → IsConnection session is_server old unit k → IsConnection session is_server new unit (f k)) → HasConnection session is_server (Some old) unit g
+      → HasConnection session is_server (Some new) unit (option_map f g)
+  on_some old new None f does is = absurd is
+  on_some old new (Some k) f does is = does k is
+
+  pub shut_some : (c : Joined S P) (g : Option (Said session)) (s : Setup) (b : Bool) → ((k : Said session) → IsConnection session is_server c unit k → b ≡ is_some (closed_of s k.link)) → HasConnection session is_server (Some c) unit g → b ≡ shut s g
+  shut_some c None s b does is = absurd is
+  shut_some c (Some k) s b does is = does k is
+
+  pub waits_some : (c : Joined S P) (g : Option (Said session)) (f : Said session → ℕ) (n : ℕ) → ((k : Said session) → IsConnection session is_server c unit k → n ≡ f k) → HasConnection session is_server (Some c) unit g → Some n ≡ option_map f g
+  waits_some c None f n does is = absurd is
+  waits_some c (Some k) f n does is = ap Some (does k is)

@@ -3,6 +3,7 @@ use Rattle.std.proofs.Common.{◌≡◌, ◌≢◌, ℕ, suc, ◌+◌, ◌/◌, 
 use Rattle.std.specs.Prelude.{nat_lt, nat_le, unwrap_or, is_some, ◌==◌, ◌||◌, if◌then◌else◌}
 use Rattle.std.specs.List.{AllByRecursion}
 use Rattle.std.proofs.lemmas.Bool.{cases_eq, ne_eqb, eq-eqb, leb-false}
+use Rattle.pitch_text.specs.declared.verb.Session.{Session}
 use Rattle.pitch_text.specs.declared.verb.Session.TheVariants.{Grp, Spin}
 use Rattle.pitch_text.specs.declared.verb.Verb.{Verb}
 use Rattle.pitch_text.specs.declared.verb.Verb.TheVariants as verbs
@@ -24,13 +25,12 @@ use Rattle.grp_session.specs.Asking.{gap_status, status_here, status_found, spen
 use Rattle.grp_session.specs.Budget.{Spent, how_many, this_second, this_minute, limit_reached, next_second, spending}
 use Rattle.grp_session.specs.Budget as budget
 use Rattle.grp_session.specs.Serving.{Source, grp_answer, said_answer, message_answer, request_answer}
-use Rattle.spin_server.specs.Served.{Served}
 use Rattle.venue_core.specs.declared.error.VenueError.{VenueError}
 use Rattle.venue_core.specs.Refusals.{refusal}
 use Rattle.world_model.specs.Ends.{grp_server}
 use Rattle.world_model.specs.Spending.{ticks_in, SpendsWithin}
-use Rattle.world_model.specs.State.{State, Connection, waiting, datagrams_on}
-use Rattle.world_model.specs.Verbs.{Done, does, state_of, commanded_on, delivered_on, numbered, grp_connected, spin_connected, cut_on, grp_cut, spin_cut, wanted, grp_fed, with_up, took, grp_up_on, spin_up_on, grp_down_on, spin_down_on, grp_cut_where, spin_cut_where, source_of}
+use Rattle.world_model.specs.State.{State, Connection, LooksIn, connection_of, with_connection, waiting, datagrams_on}
+use Rattle.world_model.specs.Verbs.{Done, does, state_of, commanded_on, delivered_on, numbered, connected_on, cut_on, ended, ended_where, wanted, source_of, grp_fed, server_fed, with_up, took, up_on, down_on}
 use Rattle.world_model.specs.declared.limits.Limits.{Limits}
 
 abbrev limits_of : Limits → budget.Limits
@@ -173,13 +173,13 @@ module _ (l : Limits) (n : ℕ) where
   delivers_on unit line number None s w = w
   delivers_on unit line number (Some datagram) s w = w
 
-  connects_grp : (o : Option (Connection Source)) (s : State) → Within s → Within (grp_connected o s).state
-  connects_grp None s w = w
-  connects_grp (Some c) s w = w
+  with_same : (session : Session) (g : Option (Connection (LooksIn session))) (s : State) → Within s → Within (with_connection session g s)
+  with_same Grp g s w = w
+  with_same Spin g s w = w
 
-  connects_spin : (unit : ℕ) (o : Option (Connection (List Served))) (s : State) → Within s → Within (spin_connected unit o s).state
-  connects_spin unit None s w = w
-  connects_spin unit (Some c) s w = w
+  connects : (unit : ℕ) (session : Session) (o : Option (Connection (LooksIn session))) (s : State) → Within s → Within (connected_on unit session o s).state
+  connects unit session None s w = with_same session _ s w
+  connects unit session (Some c) s w = w
 
   cuts : {X : Type 0} (o : Option X) (after s : State) → Within after → Within s → Within (cut_on o after s).state
   cuts None after s a w = w
@@ -189,31 +189,23 @@ module _ (l : Limits) (n : ℕ) where
   carries_on true few many w a = w
   carries_on false few many w a = a
 
-  grp_settles : (b : Bool) (s : State) → Within s → Within (grp_cut_where b s)
-  grp_settles false s w = w
-  grp_settles true s w = w
+  settles : (session : Session) (b : Bool) (s : State) → Within s → Within (ended_where b session s)
+  settles session false s w = w
+  settles session true s w = with_same session None _ w
 
-  spin_settles : (b : Bool) (s : State) → Within s → Within (spin_cut_where b s)
-  spin_settles false s w = w
-  spin_settles true s w = w
+  feeds : (unit : ℕ) (session : Session) (piece : List ℕ) (c : Connection (LooksIn session)) (s : State) → Within s → Within (server_fed unit l session piece c s)
+  feeds unit Grp piece c s w = fed unit l n piece c s w
+  feeds unit Spin piece c s w = w
 
-  ups_grp : (unit : ℕ) (bytes : Option ℕ) (o : Option (Connection Source)) (s : State) → Within s → Within (grp_up_on unit l bytes o s).state
-  ups_grp unit bytes None s w = w
-  ups_grp unit bytes (Some c) s w =
+  ups : (unit : ℕ) (session : Session) (bytes : Option ℕ) (o : Option (Connection (LooksIn session))) (s : State) → Within s → Within (up_on unit l session bytes o s).state
+  ups unit session bytes None s w = w
+  ups unit session bytes (Some c) s w =
       let m : ℕ = wanted bytes c.up in
-      carries_on (nat_lt (length (waiting c.up)) m) _ _ w (fed unit l n (take m (waiting c.up)) (with_up (took m c.up) c) s w)
+      carries_on (nat_lt (length (waiting c.up)) m) _ _ w (feeds unit session (take m (waiting c.up)) (with_up (took m c.up) c) s w)
 
-  ups_spin : (unit : ℕ) (bytes : Option ℕ) (o : Option (Connection (List Served))) (s : State) → Within s → Within (spin_up_on unit bytes o s).state
-  ups_spin unit bytes None s w = w
-  ups_spin unit bytes (Some c) s w = carries_on (nat_lt (length (waiting c.up)) (wanted bytes c.up)) _ _ w w
-
-  downs_grp : (bytes : Option ℕ) (o : Option (Connection Source)) (s : State) → Within s → Within (grp_down_on bytes o s).state
-  downs_grp bytes None s w = w
-  downs_grp bytes (Some c) s w = carries_on (nat_lt (length (waiting c.down)) (wanted bytes c.down)) _ _ w (grp_settles _ _ w)
-
-  downs_spin : (unit : ℕ) (bytes : Option ℕ) (o : Option (Connection (List Served))) (s : State) → Within s → Within (spin_down_on unit bytes o s).state
-  downs_spin unit bytes None s w = w
-  downs_spin unit bytes (Some c) s w = carries_on (nat_lt (length (waiting c.down)) (wanted bytes c.down)) _ _ w (spin_settles _ _ w)
+  downs : (unit : ℕ) (session : Session) (bytes : Option ℕ) (o : Option (Connection (LooksIn session))) (s : State) → Within s → Within (down_on unit session bytes o s).state
+  downs unit session bytes None s w = w
+  downs unit session bytes (Some c) s w = carries_on (nat_lt (length (waiting c.down)) (wanted bytes c.down)) _ _ w (settles session _ _ (with_same session _ _ w))
 
 verb_spends : (unit : ℕ) (l : Limits) (n : ℕ) (verb : Verb) (before : List Verb) (s : State) → SpendsWithin l (ticks_in before) s.spent → SpendsWithin l (ticks_in (verb ∷ before)) (does unit l verb s).state.spent
 verb_spends unit l n (verbs.Command command) before s w = command_on l (ticks_in before) (refusal s.accepted command) command s w
@@ -222,16 +214,12 @@ verb_spends unit l n verbs.Flush before s w = w
 verb_spends unit l n verbs.Beat before s w = w
 verb_spends unit l n (verbs.Deliver line number) before s w = delivers_on l (ticks_in before) unit line number (numbered (datagrams_on s line) number) s w
 verb_spends unit l n (verbs.Rest line) before s w = w
-verb_spends unit l n (verbs.Connect Grp) before s w = connects_grp l (ticks_in before) s.grp s w
-verb_spends unit l n (verbs.Connect Spin) before s w = connects_spin l (ticks_in before) unit s.spin s w
-verb_spends unit l n (verbs.Cut Grp) before s w = cuts l (ticks_in before) s.grp (grp_cut s) s w w
-verb_spends unit l n (verbs.Cut Spin) before s w = cuts l (ticks_in before) s.spin (spin_cut s) s w w
-verb_spends unit l n (verbs.Up Grp bytes) before s w = ups_grp l (ticks_in before) unit bytes s.grp s w
-verb_spends unit l n (verbs.Up Spin bytes) before s w = ups_spin l (ticks_in before) unit bytes s.spin s w
-verb_spends unit l n (verbs.Down Grp bytes) before s w = downs_grp l (ticks_in before) bytes s.grp s w
-verb_spends unit l n (verbs.Down Spin bytes) before s w = downs_spin l (ticks_in before) unit bytes s.spin s w
+verb_spends unit l n (verbs.Connect session) before s w = connects l (ticks_in before) unit session (connection_of session s) s w
+verb_spends unit l n (verbs.Cut session) before s w = cuts l (ticks_in before) (connection_of session s) (ended session s) s (with_same l (ticks_in before) session None _ w) w
+verb_spends unit l n (verbs.Up session bytes) before s w = ups l (ticks_in before) unit session bytes (connection_of session s) s w
+verb_spends unit l n (verbs.Down session bytes) before s w = downs l (ticks_in before) unit session bytes (connection_of session s) s w
 verb_spends unit l n verbs.Advertise before s w = w
-verb_spends unit l n verbs.Tick before s w = spin_settles l (ticks_in before + 1) _ _ (grp_settles l (ticks_in before + 1) _ _ (second_passes l (ticks_in before) s.spent w))
+verb_spends unit l n verbs.Tick before s w = settles l (ticks_in before + 1) Spin _ _ (settles l (ticks_in before + 1) Grp _ _ (second_passes l (ticks_in before) s.spent w))
 verb_spends unit l n verbs.Show before s w = w
 verb_spends unit l n (verbs.Quote symbol) before s w = w
 

@@ -1,10 +1,10 @@
 -- What carrying bytes does to a connection with the spin server.
-use Rattle.std.proofs.Common.{◌≡◌, ℕ, zero, suc, ◌≤◌, Bool, false, Option, Some, None, is_some, List, [], ◌∷◌, ◌++◌, length, take, drop, replicate, refl, sym, ap, ◌∙◌, subst}
-use Rattle.std.specs.Option.{option_map}
+use Rattle.std.proofs.Common.{◌≡◌, ℕ, zero, suc, ◌≤◌, List, [], ◌∷◌, ◌++◌, length, take, drop, replicate, refl, sym, ap, ◌∙◌, subst}
+use Rattle.pitch_text.specs.declared.verb.Session.TheVariants.{Spin}
 use Rattle.pitch_model.specs.Advertising.{advertised_by, last_ten}
 use Rattle.pitch_model.specs.History.{Raw}
 use Rattle.session_ends.specs.Answering.{Rises}
-use Rattle.session_ends.specs.Closing.{Setup, closed_of}
+use Rattle.session_ends.specs.Closing.{Setup}
 use Rattle.session_ends.specs.Ending.{Ending}
 use Rattle.session_ends.specs.Events.{Event, Fed}
 use Rattle.session_ends.specs.Sending.{new_items}
@@ -16,11 +16,11 @@ use Rattle.spin_server.specs.Stands.{ShelfShows, seen_of}
 use Rattle.spin_server.proofs.Serves.{later_order}
 use Rattle.spin_server.proofs.Shelving.{one_served, later_both, shelf_seen}
 use Rattle.client_links.specs.Linking.{Lookups, LinkStands}
-use Rattle.world_model.specs.Connections.{IsPipe, IsServed, IsSpinConnection, HasSpin, KeepsShelf}
+use Rattle.world_model.specs.Connections.{IsPipe, IsServed, IsSpinConnection, KeepsShelf}
 use Rattle.world_model.specs.Ends.{spin_server}
 use Rattle.world_model.specs.State.{State, Connection, Pipe, waiting}
-use Rattle.world_model.specs.Verbs.{put_in, took, with_up, at_spin_server, pumped_times, pumps, sent_whole, views_of, shut}
-use Rattle.world_model.specs.declared.spin.SpinConnection.{SpinConnection}
+use Rattle.world_model.specs.Verbs.{put_in, took, with_up, at_server_of, pumped_times, pumps, sent_whole, views_of}
+use Rattle.world_model.specs.declared.connection.Connection.{Connection as Joined}
 use Rattle.world_model.proofs.Carrying.{piped_put, piped_taken}
 
 -- ---- The shelf is seen at one view
@@ -46,7 +46,7 @@ shows_view shelf accepted advertised is =
 pub is_fed : (unit : ℕ) (accepted : List Raw) (advertised : List ℕ) (k : Connection (List Served)) (up : Pipe) (piece : List ℕ) (old new : Serving) (shelf : Shelf) (bytes bytes' : List ℕ)
     → KeepsShelf shelf accepted advertised → old.end.setup ≡ spin_server unit → new.end.setup ≡ old.end.setup → IsPipe bytes k.down
     → SpinFeeds k.server piece old new (spin_view accepted advertised) (λ v. ShelfShows shelf v) bytes bytes'
-    → IsServed new bytes' unit (at_spin_server unit (Fed piece (replicate (length (new_items k.server piece)) (spin_view accepted advertised))) (with_up up k))
+    → IsServed new bytes' unit (at_server_of unit Spin (Fed piece (replicate (length (new_items k.server piece)) (spin_view accepted advertised))) (with_up up k))
 is_fed unit accepted advertised k up piece old new shelf bytes bytes' is made still down f =
     let view : Served = spin_view accepted advertised in
     let views_are : f.views ≡ replicate (length (new_items k.server piece)) view = one_view shelf accepted advertised f.views f.now is f.rises f.shows ∙ ap (λ (n : ℕ). replicate n view) f.each in
@@ -82,45 +82,26 @@ pumped_link unit zero c = refl
 pumped_link unit (suc n) c = pumped_link unit n c
 
 -- ---- To the server
-pub carried_up : (old new : SpinConnection) (unit : ℕ) (s : State) (k : Connection (List Served)) (n : ℕ) (piece : List ℕ) (shelf shelf' : Shelf) (fed : Serving) (bytes : List ℕ)
+pub carried_up : {P : Type 0} (old new : Joined Serving P) (unit : ℕ) (s : State) (k : Connection (List Served)) (n : ℕ) (piece : List ℕ) (shelf shelf' : Shelf) (fed : Serving) (bytes : List ℕ)
     → IsSpinConnection old unit k → KeepsShelf shelf s.accepted s.advertised → n ≤ length old.up → piece ≡ take n old.up → new.up ≡ drop n old.up → new.link ≡ old.link → fed.end.setup ≡ old.server.end.setup → shelf' ≡ shelf
     → ((es : List (Event (List Served))) (view : Served) → SpinStands old.server es → ShelfShows shelf view → SpinFeeds es piece old.server fed view (λ v. ShelfShows shelf' v) old.down bytes)
     → ((unit : ℕ) (c : Connection (List Served)) → IsServed fed bytes unit c → IsServed new.server new.down unit (pumped_times unit (pumps unit c.server) c))
-    → IsSpinConnection new unit (sent_whole unit (at_spin_server unit (Fed (take n (waiting k.up)) (views_of s k.server (take n (waiting k.up)))) (with_up (took n k.up) k)))
+    → IsSpinConnection new unit (sent_whole unit (at_server_of unit Spin (Fed (take n (waiting k.up)) (views_of s k.server (take n (waiting k.up)))) (with_up (took n k.up) k)))
 carried_up old new unit s k n piece shelf shelf' fed bytes is keeps few piece_is rest link setup same feeds pump =
     let view : Served = spin_view s.accepted s.advertised in
     let P : List ℕ = take n (waiting k.up) in
-    let c : Connection (List Served) = at_spin_server unit (Fed P (replicate (length (new_items k.server P)) view)) (with_up (took n k.up) k) in
+    let c : Connection (List Served) = at_server_of unit Spin (Fed P (replicate (length (new_items k.server P)) view)) (with_up (took n k.up) k) in
     let at : piece ≡ P = piece_is ∙ ap (take n) is.up.are in
-    let first : SpinFeeds k.server piece old.server fed view (λ v. ShelfShows shelf' v) old.down bytes = feeds k.server view is.server (shows_view shelf s.accepted s.advertised keeps) in
+    let first : SpinFeeds k.server piece old.server fed view (λ v. ShelfShows shelf' v) old.down bytes = feeds k.server view is.server.stands (shows_view shelf s.accepted s.advertised keeps) in
     let there : SpinFeeds k.server P old.server fed view (λ v. ShelfShows shelf v) old.down bytes =
     subst (λ (p : List ℕ). SpinFeeds k.server p old.server fed view (λ v. ShelfShows shelf v) old.down bytes) at
     (subst (λ (x : Shelf). SpinFeeds k.server piece old.server fed view (λ v. ShelfShows x v) old.down bytes) same first) in
     let served : IsServed new.server new.down unit (pumped_times unit (pumps unit c.server) c) =
-    pump unit c (is_fed unit s.accepted s.advertised k (took n k.up) P old.server fed shelf old.down bytes keeps is.server_made setup is.down there) in
+    pump unit c (is_fed unit s.accepted s.advertised k (took n k.up) P old.server fed shelf old.down bytes keeps is.server.made setup is.down there) in
     record {
-      server_made = served.made;
-      server = served.stands;
+      server = record { made = served.made; stands = served.stands };
       link_made = ap (λ (e : Ending). e.setup) link ∙ is.link_made;
       link = subst (λ (es : List (Event Lookups)). LinkStands new.link es) (sym (pumped_link unit (pumps unit c.server) c)) (subst (λ (e : Ending). LinkStands e k.link) (sym link) is.link);
       up = subst (λ (p : Pipe). IsPipe new.up p) (sym (pumped_up unit (pumps unit c.server) c)) (subst (λ (b : List ℕ). IsPipe b (took n k.up)) (sym rest) (piped_taken old.up n k.up is.up few));
       down = served.down;
     }
-
--- ---- Where a connection may stand
-pub on_none : (unit : ℕ) (g : Option (Connection (List Served))) (f : Connection (List Served) → Connection (List Served)) → HasSpin None unit g → HasSpin None unit (option_map f g)
-on_none unit None f is = tt
-on_none unit (Some k) f is = absurd is
-
-pub on_some : (old new : SpinConnection) (unit : ℕ) (g : Option (Connection (List Served))) (f : Connection (List Served) → Connection (List Served)) → ((k : Connection (List Served)) → IsSpinConnection old unit k → IsSpinConnection new unit (f k)) → HasSpin (Some old) unit g
-    → HasSpin (Some new) unit (option_map f g)
-on_some old new unit None f does is = absurd is
-on_some old new unit (Some k) f does is = does k is
-
-pub shut_none : (unit : ℕ) (g : Option (Connection (List Served))) (s : Setup) → HasSpin None unit g → false ≡ shut s g
-shut_none unit None s is = refl
-shut_none unit (Some k) s is = absurd is
-
-pub shut_some : (c : SpinConnection) (unit : ℕ) (g : Option (Connection (List Served))) (s : Setup) (b : Bool) → ((k : Connection (List Served)) → IsSpinConnection c unit k → b ≡ is_some (closed_of s k.link)) → HasSpin (Some c) unit g → b ≡ shut s g
-shut_some c unit None s b does is = absurd is
-shut_some c unit (Some k) s b does is = does k is

@@ -4,6 +4,7 @@ use Rattle.std.proofs.lemmas.List.{take-append-le, take-append-drop, length-drop
 use Rattle.std.proofs.Math.Seq.{take-add}
 use Rattle.pitch_messages.specs.declared.session.SessionMessage.{SessionMessage}
 use Rattle.pitch_model.specs.declared.item.Item.{Item}
+use Rattle.pitch_text.specs.declared.verb.Session.TheVariants.{Spin}
 use Rattle.pitch_model.specs.History.{Entry, Raw, SpinDown}
 use Rattle.session_ends.specs.Closing.{Setup}
 use Rattle.session_ends.specs.Events.{Event, Fed, Ticked, Asked, Pumped, fed_of}
@@ -13,7 +14,7 @@ use Rattle.spin_path.specs.Paths.{Path, Move, Serves, Links, Cuts, path_of, move
 use Rattle.spin_path.proofs.Moves.{all_are_taken}
 use Rattle.world_model.specs.Ends.{spin_server, spin_link}
 use Rattle.world_model.specs.State.{Connection, Pipe, waiting}
-use Rattle.world_model.specs.Verbs.{took, connection, at_link, with_up, with_down, at_spin_server, pumped_times}
+use Rattle.world_model.specs.Verbs.{took, connection, at_link, with_up, with_down, at_server_of, pumped_times}
 use Rattle.world_model.specs.Witness.{Witnessed}
 
 -- ---- A connection begins and ends
@@ -30,7 +31,7 @@ ends unit V spin E small w = record {
 
 -- ---- Something happens at an end
 module _ (unit : ℕ) (V : List Raw) (E : List Entry) (c : Connection (List Served)) where
-  pub serves : (event : Event (List Served)) → MayServe V event → Witnessed unit V (Some c) E → Witnessed unit V (Some (at_spin_server unit event c)) E
+  pub serves : (event : Event (List Served)) → MayServe V event → Witnessed unit V (Some c) E → Witnessed unit V (Some (at_server_of unit Spin event c)) E
   serves event may w =
       let said : List ℕ = says_at (spin_server unit) event c.server in
       let within = w.down.within in

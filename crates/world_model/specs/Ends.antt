@@ -1,6 +1,8 @@
 -- The four ends of a unit's two sessions: how they are made, and what each sends at an event after
 -- others, which stand newest first.
 use Rattle.std.specs.Prelude.{ℕ, false, List, [], ◌∷◌, codes}
+use Rattle.pitch_text.specs.declared.verb.Session.{Session}
+use Rattle.pitch_text.specs.declared.verb.Session.TheVariants.{Grp, Spin}
 use Rattle.session_ends.specs.Closing.{Setup}
 use Rattle.session_ends.specs.Events.{Event, Ticked}
 use Rattle.session_ends.specs.Sending.{sent_at_tick}
@@ -10,6 +12,7 @@ use Rattle.grp_session.specs.Serving.{Source, grp_sends}
 use Rattle.spin_server.specs.Served.{Served}
 use Rattle.spin_path.specs.Paths.{says_at}
 use Rattle.client_links.specs.Linking.{Lookups, link_setup, link_sends}
+use Rattle.world_model.specs.State.{LooksIn}
 
 -- ---- How they are made
 -- the one account that both servers know, with which both links log in
@@ -30,6 +33,11 @@ gap_link = link_setup roles.GapLink 0
 abbrev pub spin_link : ℕ → Setup
 spin_link unit = link_setup roles.SpinLink unit
 
+-- the client's end of a session
+abbrev pub link_of : ℕ → Session → Setup
+link_of unit Grp = gap_link
+link_of unit Spin = spin_link unit
+
 -- ---- What they send
 -- at a tick a heartbeat, where one is due
 abbrev pub grp_says : ℕ → Event Source → List (Event Source) → List ℕ
@@ -38,6 +46,12 @@ grp_says unit event before = grp_sends (grp_server unit) event before
 
 abbrev pub spin_says : ℕ → Event (List Served) → List (Event (List Served)) → List ℕ
 spin_says unit event before = says_at (spin_server unit) event before
+
+-- the server's end of a session
+abbrev pub server_says : ℕ → (session : Session)
+    → Event (LooksIn session) → List (Event (LooksIn session)) → List ℕ
+server_says unit Grp event before = grp_says unit event before
+server_says unit Spin event before = spin_says unit event before
 
 abbrev pub link_says : Setup → Event Lookups → List (Event Lookups) → List ℕ
 link_says s Ticked before = sent_at_tick (link_sends s) s before

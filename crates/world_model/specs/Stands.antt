@@ -1,6 +1,9 @@
 -- What a world stands for.
 use Rattle.std.specs.Prelude.{◌≡◌, ◌+◌, ◌-◌, ◌||◌, ℕ, Bool, false, List, ◌∷◌, length, Option}
+use Rattle.std.specs.Option.{option_map}
 use Rattle.pitch_text.specs.WellFormed.{IsVerb}
+use Rattle.pitch_text.specs.declared.verb.Session.{Session}
+use Rattle.pitch_text.specs.declared.verb.Session.TheVariants.{Grp, Spin}
 use Rattle.pitch_text.specs.declared.verb.Verb.{Verb}
 use Rattle.pitch_text.specs.declared.verb.Verb.TheVariants as verbs
 use Rattle.unit_packets.specs.Packing.{bytes_in}
@@ -51,6 +54,16 @@ pub record WorldHas (w : World) (s : State) : Type 0 where
   pub grp : HasGrp w.grp w.unit s.grp
   pub spin : HasSpin w.spin w.unit s.spin
   pub sound : Sound w.unit s
+
+-- how many bytes wait for the server of a session, where its connection stands, and how many for
+-- the client
+abbrev pub waits_up : Session → World → Option ℕ
+waits_up Grp w = option_map (λ c. length c.up) w.grp
+waits_up Spin w = option_map (λ c. length c.up) w.spin
+
+abbrev pub waits_down : Session → World → Option ℕ
+waits_down Grp w = option_map (λ c. length c.down) w.grp
+waits_down Spin w = option_map (λ c. length c.down) w.spin
 
 -- the world of a unit with these limits, with which these verbs were done, the newest first
 pub record WorldStands (w : World) (unit : ℕ) (limits : Limits) (done : List Verb) : Type 0 where

@@ -3,6 +3,8 @@
 use Rattle.std.specs.Prelude.{ℕ, Bool, false, List, [], drop, max, Option, None}
 use Rattle.pitch_io.specs.declared.line.Line.{Line}
 use Rattle.pitch_io.specs.declared.line.Line.TheVariants.{A, B, Gap}
+use Rattle.pitch_text.specs.declared.verb.Session.{Session}
+use Rattle.pitch_text.specs.declared.verb.Session.TheVariants.{Grp, Spin}
 use Rattle.pitch_model.specs.History.{Entry, Raw}
 use Rattle.line_arbiter.specs.Noted.{Note}
 use Rattle.session_ends.specs.Events.{Event}
@@ -27,6 +29,11 @@ pub record Connection (X : Type 0) : Type 0 where
   pub down : Pipe
   pub server : List (Event X)
   pub link : List (Event Lookups)
+
+-- what the server of a session looks things up in
+abbrev pub LooksIn : Session → Type 0
+LooksIn Grp = Source
+LooksIn Spin = List Served
 
 pub record State : Type 0 where
   -- a verb was done
@@ -66,6 +73,17 @@ start = record {
   notes = [];
   passed = record { a = 0; b = 0; gap = 0 };
 }
+
+-- ---- Its parts, by session
+abbrev pub connection_of : (session : Session) → State → Option (Connection (LooksIn session))
+connection_of Grp s = s.grp
+connection_of Spin s = s.spin
+
+-- a state with another connection of a session
+abbrev pub with_connection : (session : Session)
+    → Option (Connection (LooksIn session)) → State → State
+with_connection Grp g s = record s { grp = g }
+with_connection Spin g s = record s { spin = g }
 
 -- ---- Its parts, by line
 abbrev pub datagrams_on : State → Line → List (List ℕ)

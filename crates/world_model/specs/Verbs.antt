@@ -35,7 +35,6 @@ use Rattle.pitch_messages.specs.declared.session.SessionMessage.TheVariants.{Spi
 use Rattle.session_ends.specs.Closing.{Setup, closed_of}
 use Rattle.session_ends.specs.Events.{Event, Fed, Ticked, Asked, Pumped, Told}
 use Rattle.session_ends.specs.Sending.{new_items}
-use Rattle.session_ends.specs.declared.role.Role.TheVariants as roles
 use Rattle.grp_session.specs.Budget.{next_second}
 use Rattle.grp_session.specs.Serving.{Source, proxy_answer}
 use Rattle.spin_server.specs.Served.{Served}
@@ -43,9 +42,9 @@ use Rattle.spin_server.specs.Serving.{running_spin, blocks_left, runs}
 use Rattle.spin_path.specs.Paths.{heard_all}
 use Rattle.client_links.specs.Linking.{Lookups, NoLookup, login_bytes, link_tells}
 use Rattle.world_model.specs.Ends.{the_account, grp_server, spin_server, gap_link, spin_link}
-use Rattle.world_model.specs.Ends.{grp_says, spin_says, link_says}
+use Rattle.world_model.specs.Ends.{link_of, server_says, link_says}
 use Rattle.world_model.specs.State.{State, Connection, Pipe, start, waiting, datagrams_on}
-use Rattle.world_model.specs.State.{passed_on, passed_to}
+use Rattle.world_model.specs.State.{passed_on, passed_to, LooksIn, connection_of, with_connection}
 use Rattle.world_model.specs.declared.limits.Limits.{Limits}
 use Rattle.world_model.specs.declared.outcome.Outcome.{Outcome}
 use Rattle.world_model.specs.declared.outcome.Outcome.TheVariants as outcome
@@ -174,19 +173,60 @@ with_up up c = record { up = up; down = c.down; server = c.server; link = c.link
 abbrev pub with_down : {X : Type 0} → Pipe → Connection X → Connection X
 with_down down c = record { up = c.up; down = down; server = c.server; link = c.link }
 
+-- something happens at its server
+abbrev pub at_server_of : ℕ → (session : Session)
+    → Event (LooksIn session) → Connection (LooksIn session) → Connection (LooksIn session)
+at_server_of unit session event c = at_server event (server_says unit session event c.server) c
+
+-- and where a connection of a session stands
+abbrev pub server_has : ℕ → (session : Session) → Event (LooksIn session) → State → State
+server_has unit session event s = with_connection session
+    (option_map (λ c. at_server_of unit session event c) (connection_of session s)) s
+
 -- the client's end of a connection that stands is closed
 abbrev pub shut : {X : Type 0} → Setup → Option (Connection X) → Bool
 shut setup None = false
 shut setup (Some c) = is_some (closed_of setup c.link)
 
+-- what the client hears when a connection ends
+abbrev pub down_of : Session → Entry
+down_of Grp = entry.GrpDown
+down_of Spin = entry.SpinDown
+
+-- a connection ends, and the client hears that
+abbrev pub ended : Session → State → State
+ended session s = with_connection session None (record s { heard = down_of session ∷ s.heard })
+
+abbrev pub ended_where : Bool → Session → State → State
+ended_where false session s = s
+ended_where true session s = ended session s
+
+-- a connection whose client's end closed is cut at once
+abbrev pub settled : ℕ → Session → State → State
+settled unit session s =
+    ended_where (shut (link_of unit session) (connection_of session s)) session s
+
+-- a second passes at the client's end
+abbrev pub link_ticked : ℕ → Session → State → State
+link_ticked unit session s = with_connection session
+    (option_map (λ c. at_link (link_of unit session) Ticked c) (connection_of session s)) s
+
+abbrev pub link_ticks : ℕ → Session → State → State
+link_ticks unit session s = settled unit session (link_ticked unit session s)
+
+-- bytes come to the client's end, and the client hears what that tells
+abbrev pub link_hears : ℕ → (session : Session)
+    → List ℕ → Connection (LooksIn session) → State → State
+link_hears unit session piece c s =
+    let setup = link_of unit session in
+    with_connection session (Some (at_link setup (Fed piece NoLookup) c))
+    (record s { heard = heard_all (link_tells setup c.link piece) s.heard })
+
+abbrev pub link_fed : ℕ → (session : Session)
+    → List ℕ → Connection (LooksIn session) → State → State
+link_fed unit session piece c s = settled unit session (link_hears unit session piece c s)
+
 -- ---- The Gap Request Proxy
--- something happens at its server
-abbrev pub at_grp_server : ℕ → Event Source → Connection Source → Connection Source
-at_grp_server unit event c = at_server event (grp_says unit event c.server) c
-
-abbrev pub grp_server_ticks : ℕ → State → State
-grp_server_ticks unit s = record s { grp = option_map (λ c. at_grp_server unit Ticked c) s.grp }
-
 -- what it has when it is fed: the messages that the venue accepted, of which so many of the last
 -- are kept; the limits; and the requests that it accepted before
 abbrev pub source_of : Limits → State → List (Event Source) → List ℕ → Source
@@ -204,45 +244,12 @@ grp_fed unit limits piece c s =
     let source = source_of limits s c.server piece in
     let answer = proxy_answer (grp_server unit) c.server piece source in
     record s {
-      grp = Some (at_grp_server unit (Fed piece source) c);
+      grp = Some (at_server_of unit Grp (Fed piece source) c);
       replayed = s.replayed ++ answer.lines;
       spent = answer.knows;
     }
 
--- the connection ends, and the client hears that
-abbrev pub grp_cut : State → State
-grp_cut s = record s { grp = None; heard = entry.GrpDown ∷ s.heard }
-
-abbrev pub grp_cut_where : Bool → State → State
-grp_cut_where false s = s
-grp_cut_where true s = grp_cut s
-
--- a connection whose client's end closed is cut at once
-abbrev pub grp_settled : State → State
-grp_settled s = grp_cut_where (shut gap_link s.grp) s
-
-abbrev pub gap_link_ticks : State → State
-gap_link_ticks s =
-    grp_settled (record s { grp = option_map (λ c. at_link gap_link Ticked c) s.grp })
-
--- bytes come to the client's end, and the client hears what that tells
-abbrev pub gap_link_fed : List ℕ → Connection Source → State → State
-gap_link_fed piece c s =
-    grp_settled (record s {
-      grp = Some (at_link gap_link (Fed piece NoLookup) c);
-      heard = heard_all (link_tells gap_link c.link piece) s.heard;
-    })
-
 -- ---- The Spin Server
--- something happens at its end
-abbrev pub at_spin_server : ℕ
-    → Event (List Served) → Connection (List Served) → Connection (List Served)
-at_spin_server unit event c = at_server event (spin_says unit event c.server) c
-
-abbrev pub spin_server_has : ℕ → Event (List Served) → State → State
-spin_server_has unit event s =
-    record s { spin = option_map (λ c. at_spin_server unit event c) s.spin }
-
 -- what it sees when it is fed: the messages that the venue accepted, and the sequences that are
 -- served
 abbrev pub views_of : State → List (Event (List Served)) → List ℕ → List Served
@@ -253,7 +260,7 @@ views_of s before piece =
 -- it is asked so many times for the next block of its image
 abbrev pub pumped_times : ℕ → ℕ → Connection (List Served) → Connection (List Served)
 pumped_times unit zero c = c
-pumped_times unit (suc n) c = at_spin_server unit Pumped (pumped_times unit n c)
+pumped_times unit (suc n) c = at_server_of unit Spin Pumped (pumped_times unit n c)
 
 -- how often that is: until Spin Finished, and once where no image runs
 abbrev pub pumps : ℕ → List (Event (List Served)) → ℕ
@@ -267,48 +274,28 @@ sent_whole unit c = pumped_times unit (pumps unit c.server) c
 -- bytes come to it; an image that it then accepts is sent at once
 abbrev pub spin_fed : ℕ → List ℕ → Connection (List Served) → State → State
 spin_fed unit piece c s = record s {
-  spin = Some (sent_whole unit (at_spin_server unit (Fed piece (views_of s c.server piece)) c));
+  spin =
+      Some (sent_whole unit (at_server_of unit Spin (Fed piece (views_of s c.server piece)) c));
 }
 
--- the connection ends, and the client hears that
-abbrev pub spin_cut : State → State
-spin_cut s = record s { spin = None; heard = entry.SpinDown ∷ s.heard }
-
-abbrev pub spin_cut_where : Bool → State → State
-spin_cut_where false s = s
-spin_cut_where true s = spin_cut s
-
--- a connection whose client's end closed is cut at once
-abbrev pub spin_settled : ℕ → State → State
-spin_settled unit s = spin_cut_where (shut (spin_link unit) s.spin) s
-
-abbrev pub spin_link_ticks : ℕ → State → State
-spin_link_ticks unit s = spin_settled unit
-    (record s { spin = option_map (λ c. at_link (spin_link unit) Ticked c) s.spin })
-
--- bytes come to the client's end, and the client hears what that tells
-abbrev pub spin_link_fed : ℕ → List ℕ → Connection (List Served) → State → State
-spin_link_fed unit piece c s =
-    spin_settled unit (record s {
-      spin = Some (at_link (spin_link unit) (Fed piece NoLookup) c);
-      heard = heard_all (link_tells (spin_link unit) c.link piece) s.heard;
-    })
-
 -- ---- The verbs of sessions
-abbrev pub grp_connected : Option (Connection Source) → State → Done
-grp_connected (Some c) s = done outcome.AlreadyOpen s
-grp_connected None s = done outcome.Opened
-    (record s { grp = Some (connection (login_bytes roles.GapLink 0 the_account)) })
+-- the login with which the client's end of a session begins
+abbrev pub login_of : ℕ → Session → List ℕ
+login_of unit session =
+    login_bytes (link_of unit session).role (link_of unit session).unit the_account
 
-abbrev pub spin_connected : ℕ → Option (Connection (List Served)) → State → Done
-spin_connected unit (Some c) s = done outcome.AlreadyOpen s
-spin_connected unit None s = done outcome.Opened
-    (record s { spin = Some (connection (login_bytes roles.SpinLink unit the_account)) })
+-- a connection opens
+abbrev pub opened : ℕ → Session → State → State
+opened unit session s = with_connection session (Some (connection (login_of unit session))) s
 
--- a connection opens, where none stands
+abbrev pub connected_on : ℕ → (session : Session)
+    → Option (Connection (LooksIn session)) → State → Done
+connected_on unit session (Some c) s = done outcome.AlreadyOpen s
+connected_on unit session None s = done outcome.Opened (opened unit session s)
+
+-- it does where none stands
 abbrev pub connected : ℕ → Session → State → Done
-connected unit Grp s = grp_connected s.grp s
-connected unit Spin s = spin_connected unit s.spin s
+connected unit session s = connected_on unit session (connection_of session s) s
 
 abbrev pub cut_on : {X : Type 0} → Option X → State → State → Done
 cut_on None after s = done outcome.NotOpen s
@@ -316,8 +303,7 @@ cut_on (Some c) after s = done outcome.Cut after
 
 -- a connection that stands is cut
 abbrev pub cut : Session → State → Done
-cut Grp s = cut_on s.grp (grp_cut s) s
-cut Spin s = cut_on s.spin (spin_cut s) s
+cut session s = cut_on (connection_of session s) (ended session s) s
 
 -- so many bytes of a pipe, or all that wait there
 abbrev pub wanted : Option ℕ → Pipe → ℕ
@@ -328,65 +314,57 @@ abbrev pub carried : ℕ → Pipe → State → State → Done
 carried n pipe after s = if nat_lt (length (waiting pipe)) n
     then done (outcome.TooFew n (length (waiting pipe))) s else done (outcome.Carried n) after
 
-abbrev pub grp_up_on : ℕ → Limits → Option ℕ → Option (Connection Source) → State → Done
-grp_up_on unit limits bytes None s = done outcome.NotOpen s
-grp_up_on unit limits bytes (Some c) s =
-    let n = wanted bytes c.up in
-    carried n c.up (grp_fed unit limits (take n (waiting c.up)) (with_up (took n c.up) c) s) s
+-- bytes come to a server
+abbrev pub server_fed : ℕ → Limits → (session : Session)
+    → List ℕ → Connection (LooksIn session) → State → State
+server_fed unit limits Grp piece c s = grp_fed unit limits piece c s
+server_fed unit limits Spin piece c s = spin_fed unit piece c s
 
-abbrev pub spin_up_on : ℕ → Option ℕ → Option (Connection (List Served)) → State → Done
-spin_up_on unit bytes None s = done outcome.NotOpen s
-spin_up_on unit bytes (Some c) s =
+abbrev pub up_on : ℕ → Limits → (session : Session)
+    → Option ℕ → Option (Connection (LooksIn session)) → State → Done
+up_on unit limits session bytes None s = done outcome.NotOpen s
+up_on unit limits session bytes (Some c) s =
     let n = wanted bytes c.up in
-    carried n c.up (spin_fed unit (take n (waiting c.up)) (with_up (took n c.up) c) s) s
+    carried n c.up
+    (server_fed unit limits session (take n (waiting c.up)) (with_up (took n c.up) c) s) s
 
 -- bytes are carried to a server
 abbrev pub up : ℕ → Limits → Session → Option ℕ → State → Done
-up unit limits Grp bytes s = grp_up_on unit limits bytes s.grp s
-up unit limits Spin bytes s = spin_up_on unit bytes s.spin s
+up unit limits session bytes s = up_on unit limits session bytes (connection_of session s) s
 
-abbrev pub grp_down_on : Option ℕ → Option (Connection Source) → State → Done
-grp_down_on bytes None s = done outcome.NotOpen s
-grp_down_on bytes (Some c) s =
-    let n = wanted bytes c.down in
-    carried n c.down (gap_link_fed (take n (waiting c.down)) (with_down (took n c.down) c) s) s
-
-abbrev pub spin_down_on : ℕ → Option ℕ → Option (Connection (List Served)) → State → Done
-spin_down_on unit bytes None s = done outcome.NotOpen s
-spin_down_on unit bytes (Some c) s =
+abbrev pub down_on : ℕ → (session : Session)
+    → Option ℕ → Option (Connection (LooksIn session)) → State → Done
+down_on unit session bytes None s = done outcome.NotOpen s
+down_on unit session bytes (Some c) s =
     let n = wanted bytes c.down in
     carried n c.down
-    (spin_link_fed unit (take n (waiting c.down)) (with_down (took n c.down) c) s) s
+    (link_fed unit session (take n (waiting c.down)) (with_down (took n c.down) c) s) s
 
 -- bytes are carried to the client
 abbrev pub down : ℕ → Session → Option ℕ → State → Done
-down unit Grp bytes s = grp_down_on bytes s.grp s
-down unit Spin bytes s = spin_down_on unit bytes s.spin s
+down unit session bytes s = down_on unit session bytes (connection_of session s) s
 
 -- the image of all that was accepted is advertised, and the Spin Server is told of it
 abbrev pub advertised : ℕ → State → Done
 advertised unit s =
     let sequence = length s.accepted in
-    done (outcome.Advertised sequence) (spin_server_has unit
+    done (outcome.Advertised sequence) (server_has unit Spin
     (Told sequence) (record s { advertised = with_sequence s.advertised sequence }))
 
 -- ---- A tick
--- the client asks the proxy through its connection, where one stands
-abbrev pub asked_grp : ℕ → Option Ask → Option (Connection Source) → Option (Connection Source)
-asked_grp unit (Some (asks.Gap first count)) g =
+-- the client asks through the connection of a session, where one stands: the proxy for messages,
+-- the Spin Server for an image
+abbrev pub asked : ℕ → (session : Session) → Option Ask
+    → Option (Connection (LooksIn session)) → Option (Connection (LooksIn session))
+asked unit Grp (Some (asks.Gap first count)) g =
     option_map (λ c. at_link gap_link (Asked (GapRequest unit first count)) c) g
-asked_grp unit ask g = g
-
--- and the Spin Server through its own
-abbrev pub asked_spin : ℕ
-    → Option Ask → Option (Connection (List Served)) → Option (Connection (List Served))
-asked_spin unit (Some (asks.Spin sequence)) g =
+asked unit Spin (Some (asks.Spin sequence)) g =
     option_map (λ c. at_link (spin_link unit) (Asked (SpinRequest sequence)) c) g
-asked_spin unit ask g = g
+asked unit session ask g = g
 
 abbrev pub asked_through : ℕ → Option Ask → State → State
 asked_through unit ask s =
-    record s { grp = asked_grp unit ask s.grp; spin = asked_spin unit ask s.spin }
+    record s { grp = asked unit Grp ask s.grp; spin = asked unit Spin ask s.spin }
 
 abbrev pub tick_outcome : Option Ask → Outcome
 tick_outcome None = outcome.Ticked
@@ -402,10 +380,14 @@ client_ticks unit limits s =
 abbrev pub budget_ticks : State → State
 budget_ticks s = record s { spent = next_second s.spent }
 
+-- a second passes at the servers
+abbrev pub servers_tick : ℕ → State → State
+servers_tick unit s = server_has unit Spin Ticked (server_has unit Grp Ticked (budget_ticks s))
+
 -- a second begins: the servers tick, then the client's ends of the connections, then the client
 abbrev pub ticked : ℕ → Limits → State → Done
-ticked unit limits s = client_ticks unit limits (spin_link_ticks unit
-    (gap_link_ticks (spin_server_has unit Ticked (grp_server_ticks unit (budget_ticks s)))))
+ticked unit limits s =
+    client_ticks unit limits (link_ticks unit Spin (link_ticks unit Grp (servers_tick unit s)))
 
 -- ---- The client's book
 -- what the venue's messages leave, up to the reach

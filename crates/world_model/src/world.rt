@@ -9,20 +9,17 @@ ghost use Rattle.venue_core.specs.declared.error.VenueError.TheVariants as error
 ghost use Rattle.world_model.specs.State.{State, datagrams_on};
 ghost use Rattle.world_model.specs.Verbs.{tick_outcome};
 
+use crate::connection::{carry_down, down_waits, is_shut, tick_link, tick_server, up_waits};
 use crate::datagrams::{append_copies, datagrams_after, datagrams_on};
-use crate::grp::{GrpConnection, ask_through, is_shut, tick_link, tick_server};
-use crate::hearing::{hear_all, hear_datagram, hear_told};
+use crate::grp::{GrpConnection, ask_through};
+use crate::hearing::{hear_all, hear_datagram};
 use crate::limits::Limits;
 use crate::outcome::{Outcome, Printed};
 use crate::passed::Passed;
 use crate::pipe::carry_count;
 use crate::showing::{append_book, append_counts};
-use crate::spin::{
-    SpinConnection, ask_spin_server, is_spin_shut, tell_spin_server, tick_spin_link,
-    tick_spin_server,
-};
+use crate::spin::{SpinConnection, ask_spin_server, tell_spin_server};
 use client_core::{UnitClient, keeping_lasts_while_a_venue_accepts};
-use client_links::ItemList;
 use gap_store::GapStore;
 use grp_session::GapBudget;
 use line_arbiter::Arbiter;
@@ -69,7 +66,8 @@ pub struct World {
 
 impl World {
     ghost use Rattle.std.specs.Prelude.{◌≡◌, ◌≤◌, ◌++◌, ℕ, List, [], ◌∷◌, true, false, length};
-    ghost use Rattle.std.specs.Prelude.{take, OnOk, OnErr, IfOk, IsErr};
+    ghost use Rattle.std.specs.Prelude.{take, is_some, None, Some, IfSome};
+    ghost use Rattle.std.specs.Prelude.{OnOk, OnErr, IfOk, IsErr};
     ghost use Rattle.client_core.specs.Tracks.{Tracks, Keeps};
     ghost use Rattle.pitch_text.specs.WellFormed.{IsVerb};
     ghost use Rattle.pitch_text.specs.declared.verb.Verb.{Verb as VerbSaid};
@@ -77,19 +75,21 @@ impl World {
     ghost use Rattle.std.specs.List.{AllByRecursion};
     ghost use Rattle.unit_packets.specs.Packing.{bytes_in};
     ghost use Rattle.pitch_model.specs.Datagrams.{IsPiece};
-    ghost use Rattle.world_model.specs.State.{State, datagrams_on};
+    ghost use Rattle.world_model.specs.State.{State, datagrams_on, Connection, LooksIn};
+    ghost use Rattle.world_model.specs.State.{connection_of, waiting};
+    ghost use Rattle.world_model.specs.Ends.{link_of};
+    ghost use Rattle.std.specs.Option.{option_map};
     ghost use Rattle.spin_path.specs.Paths.{HasWholeImages};
     ghost use Rattle.world_model.specs.Stands.{WorldHas, WorldStands, AreLimits, Acts, Passes};
-    ghost use Rattle.world_model.specs.Stands.{ClientTicks, has_failed};
+    ghost use Rattle.world_model.specs.Stands.{ClientTicks, has_failed, waits_up, waits_down};
     ghost use Rattle.session_ends.specs.Events.{Ticked};
     ghost use Rattle.world_model.specs.declared.limits.Limits.{Limits as LimitsSaid};
     ghost use Rattle.world_model.specs.Verbs.{state_of, does, set_up, commanded, flushed, beaten};
     ghost use Rattle.world_model.specs.Verbs.{delivered, rest_delivered, ticked, quoted};
-    ghost use Rattle.world_model.specs.Verbs.{grp_connected, grp_cut, cut_on, grp_settled};
-    ghost use Rattle.world_model.specs.Verbs.{grp_up_on, grp_down_on, spin_connected, spin_cut};
-    ghost use Rattle.world_model.specs.Verbs.{spin_settled, spin_up_on, spin_down_on, advertised};
-    ghost use Rattle.world_model.specs.Verbs.{budget_ticks, grp_server_ticks, spin_server_has};
-    ghost use Rattle.world_model.specs.Verbs.{gap_link_ticks, spin_link_ticks};
+    ghost use Rattle.world_model.specs.Verbs.{opened, connected, cut, ended, settled, shut, up};
+    ghost use Rattle.world_model.specs.Verbs.{server_fed, link_hears, link_ticked, link_ticks};
+    ghost use Rattle.world_model.specs.Verbs.{down};
+    ghost use Rattle.world_model.specs.Verbs.{took, with_up, with_down, advertised, servers_tick};
 
     /// The world of a unit with which nothing was done. Its limits are ones that an `open` line can
     /// set.
@@ -256,46 +256,22 @@ impl World {
             }
             Verb::Show => Ok(calm(Outcome::Shown)),
             Verb::Quote { symbol } => Ok(calm(self.quote(*symbol))),
-            Verb::Connect(session) => match session {
-                Session::Grp => {
-                    let acted = self.connect_grp()?;
-                    Ok(acted)
-                }
-                Session::Spin => {
-                    let acted = self.connect_spin()?;
-                    Ok(acted)
-                }
-            },
-            Verb::Cut(session) => match session {
-                Session::Grp => {
-                    let acted = self.cut_grp()?;
-                    Ok(acted)
-                }
-                Session::Spin => {
-                    let acted = self.cut_spin()?;
-                    Ok(acted)
-                }
-            },
-            Verb::Up { session, bytes } => match session {
-                Session::Grp => {
-                    let acted = self.up_grp(*bytes)?;
-                    Ok(acted)
-                }
-                Session::Spin => {
-                    let acted = self.up_spin(*bytes)?;
-                    Ok(acted)
-                }
-            },
-            Verb::Down { session, bytes } => match session {
-                Session::Grp => {
-                    let acted = self.down_grp(*bytes)?;
-                    Ok(acted)
-                }
-                Session::Spin => {
-                    let acted = self.down_spin(*bytes)?;
-                    Ok(acted)
-                }
-            },
+            Verb::Connect(session) => {
+                let acted = self.connect(*session)?;
+                Ok(acted)
+            }
+            Verb::Cut(session) => {
+                let acted = self.cut(*session)?;
+                Ok(acted)
+            }
+            Verb::Up { session, bytes } => {
+                let acted = self.up(*session, *bytes)?;
+                Ok(acted)
+            }
+            Verb::Down { session, bytes } => {
+                let acted = self.down(*session, *bytes)?;
+                Ok(acted)
+            }
             Verb::Advertise => {
                 let acted = self.advertise()?;
                 Ok(acted)
@@ -397,210 +373,208 @@ impl World {
         })
     }
 
-    // A new connection with the proxy.
-    fn connect_grp(&mut self) -> Result<Acted, OutOfMemory>
-        ensures { IfOk result (λ acted. (s : State)
-            → WorldHas self.old s → Acts self.old self.new acted s (grp_connected s.grp s)) }
+    // Whether a connection of a session stands.
+    fn has_connection(&self, session: Session) -> bool
+        ensures { (s : State)
+            → WorldHas self.now s → result ≡ is_some (connection_of session s) }
     {
-        match self.grp {
-            Some(_) => Ok(calm(Outcome::AlreadyOpen)),
-            None => {
+        match session {
+            Session::Grp => self.grp.is_some(),
+            Session::Spin => self.spin.is_some(),
+        }
+    }
+
+    // A new connection of a session, where none stands.
+    fn open(&mut self, session: Session) -> Result<(), OutOfMemory>
+        ensures { OnOk result ((s : State) → WorldHas self.old s → connection_of session s ≡ None
+            → Passes self.old self.new s (opened self.old.unit session s)) }
+    {
+        match session {
+            Session::Grp => {
                 let c = GrpConnection::make(self.alloc, self.unit)?;
                 self.grp = Some(c);
-                Ok(calm(Outcome::Opened))
+                Ok(())
             }
-        }
-    }
-
-    // The connection with the proxy ends, and the client hears it.
-    fn drop_grp(&mut self) -> Result<(), OutOfMemory>
-        ensures { OnOk result ((s : State)
-            → WorldHas self.old s → Passes self.old self.new s (grp_cut s)) }
-    {
-        let _change = self.client.hear(&Item::GrpDown)?;
-        self.grp = None;
-        Ok(())
-    }
-
-    // The connection with the proxy is cut.
-    fn cut_grp(&mut self) -> Result<Acted, OutOfMemory>
-        ensures { IfOk result (λ acted. (s : State)
-            → WorldHas self.old s → Acts self.old self.new acted s (cut_on s.grp (grp_cut s) s)) }
-    {
-        match self.grp {
-            None => Ok(calm(Outcome::NotOpen)),
-            Some(_) => {
-                self.drop_grp()?;
-                Ok(calm(Outcome::Cut))
-            }
-        }
-    }
-
-    // The connection with the proxy ends where the client's end of it is closed.
-    #[tactic(auto, using(crate::proofs::Acting::passes_where, crate::proofs::Acting::passes_still))]
-    fn drop_shut_grp(&mut self) -> Result<(), OutOfMemory>
-        ensures { OnOk result ((s : State)
-            → WorldHas self.old s → Passes self.old self.new s (grp_settled s)) }
-    {
-        if is_shut(&self.grp) {
-            self.drop_grp()?;
-        }
-        Ok(())
-    }
-
-    // Bytes are carried to the proxy.
-    fn up_grp(&mut self, bytes: Option<u32>) -> Result<Acted, OutOfMemory>
-        ensures { IfOk result (λ acted. (s : State) → WorldHas self.old s → Acts
-            self.old self.new acted s (grp_up_on self.old.unit self.old.limits bytes s.grp s)) }
-    {
-        match &mut self.grp {
-            None => Ok(calm(Outcome::NotOpen)),
-            Some(c) => {
-                let has = c.up_count();
-                match carry_count(bytes, has) {
-                    Err(asked) => Ok(calm(Outcome::TooFew {
-                        asked,
-                        has: has as u64,
-                    })),
-                    Ok(count) => {
-                        c.carry_up(count, &mut self.budget, &mut self.store, &mut self.replayed)?;
-                        Ok(calm(Outcome::Carried {
-                            bytes: count as u64,
-                        }))
-                    }
-                }
-            }
-        }
-    }
-
-    // Bytes are carried to the client from the proxy.
-    fn down_grp(&mut self, bytes: Option<u32>) -> Result<Acted, OutOfMemory>
-        ensures { IfOk result (λ acted. (s : State)
-            → WorldHas self.old s → Acts self.old self.new acted s (grp_down_on bytes s.grp s)) }
-    {
-        match &mut self.grp {
-            None => Ok(calm(Outcome::NotOpen)),
-            Some(c) => {
-                let has = c.down_count();
-                match carry_count(bytes, has) {
-                    Err(asked) => Ok(calm(Outcome::TooFew {
-                        asked,
-                        has: has as u64,
-                    })),
-                    Ok(count) => {
-                        let mut items = ItemList::make(self.alloc);
-                        c.carry_down(count, &mut items)?;
-                        hear_told(&mut self.client, items.as_slice())?;
-                        self.drop_shut_grp()?;
-                        Ok(calm(Outcome::Carried {
-                            bytes: count as u64,
-                        }))
-                    }
-                }
-            }
-        }
-    }
-
-    // A new connection with the spin server.
-    fn connect_spin(&mut self) -> Result<Acted, OutOfMemory>
-        ensures { IfOk result (λ acted. (s : State) → WorldHas self.old s
-            → Acts self.old self.new acted s (spin_connected self.old.unit s.spin s)) }
-    {
-        match self.spin {
-            Some(_) => Ok(calm(Outcome::AlreadyOpen)),
-            None => {
+            Session::Spin => {
                 let c = SpinConnection::make(self.alloc, self.unit)?;
                 self.spin = Some(c);
-                Ok(calm(Outcome::Opened))
+                Ok(())
             }
         }
     }
 
-    // The connection with the spin server ends, and the client hears it.
-    fn drop_spin(&mut self) -> Result<(), OutOfMemory>
-        ensures { OnOk result ((s : State)
-            → WorldHas self.old s → Passes self.old self.new s (spin_cut s)) }
+    // A session is to have a connection.
+    fn connect(&mut self, session: Session) -> Result<Acted, OutOfMemory>
+        ensures { IfOk result (λ acted. (s : State) → WorldHas self.old s
+            → Acts self.old self.new acted s (connected self.old.unit session s)) }
     {
-        let _change = self.client.hear(&Item::SpinDown)?;
-        self.spin = None;
-        Ok(())
+        if self.has_connection(session) {
+            return Ok(calm(Outcome::AlreadyOpen));
+        }
+        self.open(session)?;
+        Ok(calm(Outcome::Opened))
     }
 
-    // The connection with the spin server is cut.
-    fn cut_spin(&mut self) -> Result<Acted, OutOfMemory>
+    // The connection of a session ends, and the client hears it.
+    fn end(&mut self, session: Session) -> Result<(), OutOfMemory>
+        ensures { OnOk result ((s : State)
+            → WorldHas self.old s → Passes self.old self.new s (ended session s)) }
+    {
+        match session {
+            Session::Grp => {
+                let _change = self.client.hear(&Item::GrpDown)?;
+                self.grp = None;
+                Ok(())
+            }
+            Session::Spin => {
+                let _change = self.client.hear(&Item::SpinDown)?;
+                self.spin = None;
+                Ok(())
+            }
+        }
+    }
+
+    // The connection of a session is cut.
+    fn cut(&mut self, session: Session) -> Result<Acted, OutOfMemory>
         ensures { IfOk result (λ acted. (s : State)
-            → WorldHas self.old s → Acts self.old self.new acted s (cut_on s.spin (spin_cut s) s)) }
+            → WorldHas self.old s → Acts self.old self.new acted s (cut session s)) }
     {
-        match self.spin {
-            None => Ok(calm(Outcome::NotOpen)),
-            Some(_) => {
-                self.drop_spin()?;
-                Ok(calm(Outcome::Cut))
-            }
+        if self.has_connection(session) {
+            self.end(session)?;
+            return Ok(calm(Outcome::Cut));
+        }
+        Ok(calm(Outcome::NotOpen))
+    }
+
+    // Whether the client's end of a session's connection is closed.
+    fn is_shut(&self, session: Session) -> bool
+        ensures { (s : State) → WorldHas self.now s
+            → result ≡ shut (link_of self.now.unit session) (connection_of session s) }
+    {
+        match session {
+            Session::Grp => is_shut(&self.grp),
+            Session::Spin => is_shut(&self.spin),
         }
     }
 
-    // The connection with the spin server ends where the client's end of it is closed.
-    #[tactic(auto, using(crate::proofs::SpinActing::passes_spin_where, crate::proofs::SpinActing::passes_spin_still))]
-    fn drop_shut_spin(&mut self) -> Result<(), OutOfMemory>
-        ensures { OnOk result ((s : State)
-            → WorldHas self.old s → Passes self.old self.new s (spin_settled self.old.unit s)) }
+    // The connection of a session ends where the client's end of it is closed.
+    #[tactic(auto, using(crate::proofs::Sessions::passes_where, crate::proofs::Sessions::passes_still))]
+    fn settle(&mut self, session: Session) -> Result<(), OutOfMemory>
+        ensures { OnOk result ((s : State) → WorldHas self.old s
+            → Passes self.old self.new s (settled self.old.unit session s)) }
     {
-        if is_spin_shut(&self.spin) {
-            self.drop_spin()?;
+        if self.is_shut(session) {
+            self.end(session)?;
         }
         Ok(())
     }
 
-    // Bytes are carried to the spin server.
-    fn up_spin(&mut self, bytes: Option<u32>) -> Result<Acted, OutOfMemory>
-        ensures { IfOk result (λ acted. (s : State) → WorldHas self.old s
-            → Acts self.old self.new acted s (spin_up_on self.old.unit bytes s.spin s)) }
+    // How many bytes wait for the server of a session, where its connection stands.
+    fn up_waits(&self, session: Session) -> Option<usize>
+        ensures count { result ≡ waits_up session self.now }
+        ensures waits { (s : State) → WorldHas self.now s
+            → result ≡ option_map (λ c. length (waiting c.up)) (connection_of session s) }
     {
-        match &mut self.spin {
-            None => Ok(calm(Outcome::NotOpen)),
-            Some(c) => {
-                let has = c.up_count();
-                match carry_count(bytes, has) {
-                    Err(asked) => Ok(calm(Outcome::TooFew {
-                        asked,
-                        has: has as u64,
-                    })),
-                    Ok(count) => {
-                        c.carry_up(count, &mut self.shelf)?;
-                        Ok(calm(Outcome::Carried {
-                            bytes: count as u64,
-                        }))
-                    }
+        match session {
+            Session::Grp => up_waits(&self.grp),
+            Session::Spin => up_waits(&self.spin),
+        }
+    }
+
+    // How many bytes wait for the client, where the connection of a session stands.
+    fn down_waits(&self, session: Session) -> Option<usize>
+        ensures count { result ≡ waits_down session self.now }
+        ensures waits { (s : State) → WorldHas self.now s
+            → result ≡ option_map (λ c. length (waiting c.down)) (connection_of session s) }
+    {
+        match session {
+            Session::Grp => down_waits(&self.grp),
+            Session::Spin => down_waits(&self.spin),
+        }
+    }
+
+    // So many bytes are carried to the server of a session.
+    fn carry_up(&mut self, session: Session, count: usize) -> Result<(), OutOfMemory>
+        requires { IfSome (waits_up session self.old) (λ has. count ≤ has) }
+        ensures { OnOk result ((s : State) (k : Connection (LooksIn session)) → WorldHas self.old s
+            → connection_of session s ≡ Some k → Passes self.old self.new s
+            (server_fed self.old.unit self.old.limits session (take count (waiting k.up))
+            (with_up (took count k.up) k) s)) }
+    {
+        match session {
+            Session::Grp => match &mut self.grp {
+                None => Ok(()),
+                Some(c) => {
+                    c.carry_up(count, &mut self.budget, &mut self.store, &mut self.replayed)?;
+                    Ok(())
                 }
+            },
+            Session::Spin => match &mut self.spin {
+                None => Ok(()),
+                Some(c) => {
+                    c.carry_up(count, &mut self.shelf)?;
+                    Ok(())
+                }
+            },
+        }
+    }
+
+    // Bytes are carried to the server of a session.
+    fn up(&mut self, session: Session, bytes: Option<u32>) -> Result<Acted, OutOfMemory>
+        ensures { IfOk result (λ acted. (s : State) → WorldHas self.old s → Acts
+            self.old self.new acted s (up self.old.unit self.old.limits session bytes s)) }
+    {
+        let Some(has) = self.up_waits(session) else {
+            return Ok(calm(Outcome::NotOpen));
+        };
+        match carry_count(bytes, has) {
+            Err(asked) => Ok(calm(Outcome::TooFew {
+                asked,
+                has: has as u64,
+            })),
+            Ok(count) => {
+                self.carry_up(session, count)?;
+                Ok(calm(Outcome::Carried {
+                    bytes: count as u64,
+                }))
             }
         }
     }
 
-    // Bytes are carried to the client from the spin server.
-    fn down_spin(&mut self, bytes: Option<u32>) -> Result<Acted, OutOfMemory>
-        ensures { IfOk result (λ acted. (s : State) → WorldHas self.old s
-            → Acts self.old self.new acted s (spin_down_on self.old.unit bytes s.spin s)) }
+    // So many bytes of a session's connection are carried to the client, and it hears what they
+    // tell.
+    fn carry_down(&mut self, session: Session, count: usize) -> Result<(), OutOfMemory>
+        requires { IfSome (waits_down session self.old) (λ has. count ≤ has) }
+        ensures { OnOk result ((s : State) (k : Connection (LooksIn session)) → WorldHas self.old s
+            → connection_of session s ≡ Some k → count ≤ length (waiting k.down)
+            → Passes self.old self.new s (link_hears self.old.unit session
+            (take count (waiting k.down)) (with_down (took count k.down) k) s)) }
     {
-        match &mut self.spin {
-            None => Ok(calm(Outcome::NotOpen)),
-            Some(c) => {
-                let has = c.down_count();
-                match carry_count(bytes, has) {
-                    Err(asked) => Ok(calm(Outcome::TooFew {
-                        asked,
-                        has: has as u64,
-                    })),
-                    Ok(count) => {
-                        let mut items = ItemList::make(self.alloc);
-                        c.carry_down(count, &mut items)?;
-                        hear_told(&mut self.client, items.as_slice())?;
-                        self.drop_shut_spin()?;
-                        Ok(calm(Outcome::Carried {
-                            bytes: count as u64,
-                        }))
-                    }
-                }
+        match session {
+            Session::Grp => carry_down(&mut self.grp, &mut self.client, count),
+            Session::Spin => carry_down(&mut self.spin, &mut self.client, count),
+        }
+    }
+
+    // Bytes of a session's connection are carried to the client.
+    fn down(&mut self, session: Session, bytes: Option<u32>) -> Result<Acted, OutOfMemory>
+        ensures { IfOk result (λ acted. (s : State) → WorldHas self.old s
+            → Acts self.old self.new acted s (down self.old.unit session bytes s)) }
+    {
+        let Some(has) = self.down_waits(session) else {
+            return Ok(calm(Outcome::NotOpen));
+        };
+        match carry_count(bytes, has) {
+            Err(asked) => Ok(calm(Outcome::TooFew {
+                asked,
+                has: has as u64,
+            })),
+            Ok(count) => {
+                self.carry_down(session, count)?;
+                self.settle(session)?;
+                Ok(calm(Outcome::Carried {
+                    bytes: count as u64,
+                }))
             }
         }
     }
@@ -618,32 +592,32 @@ impl World {
     // A second passes for the proxy and the spin server.
     fn tick_servers(&mut self) -> Result<(), OutOfMemory>
         ensures { OnOk result ((s : State)
-            → WorldHas self.old s → Passes self.old self.new s (spin_server_has self.old.unit Ticked
-            (grp_server_ticks self.old.unit (budget_ticks s)))) }
+            → WorldHas self.old s → Passes self.old self.new s (servers_tick self.old.unit s)) }
     {
         self.budget.tick();
         tick_server(&mut self.grp)?;
-        tick_spin_server(&mut self.spin)?;
+        tick_server(&mut self.spin)?;
         Ok(())
     }
 
-    // A second passes at the client's end of the connection with the proxy.
-    fn tick_gap_link(&mut self) -> Result<(), OutOfMemory>
-        ensures { OnOk result ((s : State)
-            → WorldHas self.old s → Passes self.old self.new s (gap_link_ticks s)) }
+    // A second passes at the client's end of a session's connection.
+    fn pass_second(&mut self, session: Session) -> Result<(), OutOfMemory>
+        ensures { OnOk result ((s : State) → WorldHas self.old s
+            → Passes self.old self.new s (link_ticked self.old.unit session s)) }
     {
-        tick_link(&mut self.grp)?;
-        self.drop_shut_grp()?;
-        Ok(())
+        match session {
+            Session::Grp => tick_link(&mut self.grp),
+            Session::Spin => tick_link(&mut self.spin),
+        }
     }
 
-    // A second passes at the client's end of the connection with the spin server.
-    fn tick_spin_end(&mut self) -> Result<(), OutOfMemory>
-        ensures { OnOk result ((s : State)
-            → WorldHas self.old s → Passes self.old self.new s (spin_link_ticks self.old.unit s)) }
+    // The same, and it ends where the client's end closed by that.
+    fn tick_end(&mut self, session: Session) -> Result<(), OutOfMemory>
+        ensures { OnOk result ((s : State) → WorldHas self.old s
+            → Passes self.old self.new s (link_ticks self.old.unit session s)) }
     {
-        tick_spin_link(&mut self.spin)?;
-        self.drop_shut_spin()?;
+        self.pass_second(session)?;
+        self.settle(session)?;
         Ok(())
     }
 
@@ -664,8 +638,8 @@ impl World {
             → Acts self.old self.new acted s (ticked self.old.unit self.old.limits s)) }
     {
         self.tick_servers()?;
-        self.tick_gap_link()?;
-        self.tick_spin_end()?;
+        self.tick_end(Session::Grp)?;
+        self.tick_end(Session::Spin)?;
         let ask = self.tick_client()?;
         Ok(calm(tick_outcome(ask)))
     }

@@ -1,4 +1,4 @@
-use Rattle.std.proofs.Common.{◌≡◌, ℕ, List, length, ◌&&◌, not, refl, subst, ◌∙◌, []}
+use Rattle.std.proofs.Common.{◌≡◌, ℕ, List, length, ◌&&◌, not, refl, subst, []}
 use Rattle.pitch_io.specs.Nets.{came, NetTakeFailed, Take}
 use Rattle.pitch_io.specs.declared.net.NetTaken.{NetTaken}
 use Rattle.pitch_io.specs.declared.net.NetTaken.TheVariants as taken
