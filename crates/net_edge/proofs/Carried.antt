@@ -1,4 +1,5 @@
 -- Over a net that carried what it was given, the client's book is that of the venue's messages.
+use Rattle.pitch_text.specs.declared.verb.Session.TheVariants.{Grp}
 use Rattle.std.proofs.Common.{◌≡◌, ℕ, zero, suc, ◌≤◌, ◌||◌, Bool, true, false, not, ◌&&◌, cond, List, [], ◌∷◌, ◌++◌, length, take, Option, refl, sym, ap, ◌∙◌, subst, append_assoc, is_some, arith}
 use Rattle.std.specs.FinMap as map
 use Rattle.std.specs.List.{AllByRecursion, Contains}
@@ -39,7 +40,6 @@ use Rattle.net_edge.specs.Demo.{IsCarried, AreTotalsOf, all_messages, reached_bo
 use Rattle.net_edge.specs.Due.{Setting, demo_unit, hold_limit}
 use Rattle.net_edge.specs.Playing.{ClientHas, closes, told_down}
 use Rattle.net_edge.specs.Scene.{Scene, line_in, at_end, said_at}
-use Rattle.net_edge.specs.Peers.{ProxyPeer}
 use Rattle.net_edge.specs.Steps.{Step, Did, Beat, Turn}
 use Rattle.net_edge.specs.Turns.{AreSteps, MayCome}
 use Rattle.net_edge.proofs.Growing.{Begins, IsBefore, before_then, before_same, grows}
@@ -115,8 +115,8 @@ module _ (s : Setting) (R : Scene) (carried : IsCarried R) (puts : (at : LinkEnd
   beats n w =
       let served : Scene = servers_tick s n in
       let grp : Connection Source = where_stands n.grp_cut (λ k. at_link gap_link Ticked k) served.grp in
-      let E : List Entry = told_down ProxyPeer (closes ProxyPeer n.grp_cut grp.link) n.heard in
-      let down : Witnessed demo_unit V (stands n) E = hears_down V (stands n) (closes ProxyPeer n.grp_cut grp.link) n.heard w in
+      let E : List Entry = told_down Grp (closes Grp n.grp_cut grp.link) n.heard in
+      let down : Witnessed demo_unit V (stands n) E = hears_down V (stands n) (closes Grp n.grp_cut grp.link) n.heard w in
       let there : Witnessed demo_unit V (standing V R.spin.down.put R.spin.server n.spin_cut (length n.spin_client.came) served.spin.link) E =
       subst (λ (l : List (Event Lookups)). Witnessed demo_unit V (standing V R.spin.down.put R.spin.server n.spin_cut (length n.spin_client.came) l) E) (sym (served_link s n)) down in
       ticks V R.spin.down.put R.spin.server n.spin_cut (ask_of hold_limit (links_tick served).heard) (length n.spin_client.came) served.spin E there
@@ -151,7 +151,7 @@ module _ (s : Setting) (R : Scene) (carried : IsCarried R) (puts : (at : LinkEnd
       (sym (answered_link s bytes answer n.turn (is_group_open (answer ∷ n.spin_server.answers)) n.spin)) w
   came_more (Did (Take GrpClient room bytes (Got count))) n may before w =
       let E : List Entry = heard_all (link_tells gap_link n.grp.link bytes) n.heard in
-      hears_down V (stands n) (closes ProxyPeer n.grp_cut (Fed bytes NoLookup ∷ n.grp.link)) E (hears_gap V (stands n) n.grp.link bytes n.heard w)
+      hears_down V (stands n) (closes Grp n.grp_cut (Fed bytes NoLookup ∷ n.grp.link)) E (hears_gap V (stands n) n.grp.link bytes n.heard w)
   came_more (Did (Take GrpClient room bytes Quiet)) n may before w = w
   came_more (Did (Take GrpClient room bytes End)) n may before w = hears_down V (stands n) true n.heard w
   came_more (Did (Take GrpClient room bytes Failed)) n may before w = w

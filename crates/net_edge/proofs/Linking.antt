@@ -1,4 +1,7 @@
 -- What the client hears of its links.
+use Rattle.pitch_text.specs.declared.verb.Session.{Session}
+use Rattle.pitch_text.specs.declared.verb.Session.TheVariants.{Grp, Spin}
+use Rattle.world_model.specs.Verbs.{down_of}
 use Rattle.std.proofs.Common.{◌≡◌, ℕ, ◌∷◌, ◌++◌, ◌||◌, ◌&&◌, not, Bool, true, false, List, [], Option, is_some, map, refl, sym, ap, ◌∙◌, subst}
 use Rattle.std.proofs.lemmas.Bool.{false≢true}
 use Rattle.std.specs.List.{AllByRecursion}
@@ -29,7 +32,7 @@ use Rattle.net_edge.specs.Acting.{is_group_open, end_puts, end_took, taken_at}
 use Rattle.net_edge.specs.Due.{Setting, call_room, hold_limit}
 use Rattle.net_edge.specs.Playing.{Plays, ClientHas, LinkHas, LinkSays, LinkTells, HearsLink, closes, told_down}
 use Rattle.net_edge.specs.Scene.{Scene, AtEnd}
-use Rattle.net_edge.specs.Peers.{Peer, ProxyPeer, SpinPeer, end_of, peer_setup, down_of, with_client_end}
+use Rattle.net_edge.specs.Peers.{end_of, peer_setup, with_client_end}
 use Rattle.net_edge.specs.Turns.{MayCall}
 use Rattle.net_edge.specs.Breaking.{Breaks}
 use Rattle.net_edge.specs.declared.error.DemoError.TheVariants as errors
@@ -67,18 +70,18 @@ heard_entry client client' entry E before has tracks keeps = record {
 -- ---- Calls of `take` at the client's end of a connection that stands
 -- what each makes of a scene
 module _ (s : Setting) (end : AtEnd) (up : Pipe) (events : List (Event Lookups)) (E : List Entry) (now : Scene) where
-  took_some : (peer : Peer) (bytes : List ℕ) (count : ℕ) → taken_at s (end_of peer) bytes (taken.Got count) (with_client_end peer end up events false E now)
+  took_some : (peer : Session) (bytes : List ℕ) (count : ℕ) → taken_at s (end_of peer) bytes (taken.Got count) (with_client_end peer end up events false E now)
       ≡ with_client_end peer (end_took bytes (taken.Got count) end) (record { put = up.put ++ []; taken = up.taken }) (Fed bytes NoLookup ∷ events) (closes peer false (Fed bytes NoLookup ∷ events)) (told_down peer (closes peer false (Fed bytes NoLookup ∷ events)) (heard_all (link_tells (peer_setup peer) events bytes) E)) now
-  took_some ProxyPeer bytes count = refl
-  took_some SpinPeer bytes count = refl
+  took_some Grp bytes count = refl
+  took_some Spin bytes count = refl
 
-  took_none : (peer : Peer) → taken_at s (end_of peer) [] taken.Quiet (with_client_end peer end up events false E now) ≡ with_client_end peer (end_took [] taken.Quiet end) up events false E now
-  took_none ProxyPeer = refl
-  took_none SpinPeer = refl
+  took_none : (peer : Session) → taken_at s (end_of peer) [] taken.Quiet (with_client_end peer end up events false E now) ≡ with_client_end peer (end_took [] taken.Quiet end) up events false E now
+  took_none Grp = refl
+  took_none Spin = refl
 
-  took_end : (peer : Peer) → taken_at s (end_of peer) [] taken.End (with_client_end peer end up events false E now) ≡ with_client_end peer (end_took [] taken.End end) up events true (down_of peer ∷ E) now
-  took_end ProxyPeer = refl
-  took_end SpinPeer = refl
+  took_end : (peer : Session) → taken_at s (end_of peer) [] taken.End (with_client_end peer end up events false E now) ≡ with_client_end peer (end_took [] taken.End end) up events true (down_of peer ∷ E) now
+  took_end Grp = refl
+  took_end Spin = refl
 
 -- what is cut where it ended has not ended while it stands
 stands : (ended : Bool) → (ended ≡ true → false ≡ true) → (ended || false) ≡ false
@@ -86,13 +89,13 @@ stands true so = sym (so refl)
 stands false so = refl
 
 -- it may come while the turn's group is open
-may_take : (peer : Peer) (end : AtEnd) (up : Pipe) (events : List (Event Lookups)) (E : List Entry) (now : Scene) (room : ℕ) (bytes : List ℕ) (answer : NetTaken) → room ≡ call_room → is_group_open end.answers ≡ true → (end.ended ≡ true → false ≡ true)
+may_take : (peer : Session) (end : AtEnd) (up : Pipe) (events : List (Event Lookups)) (E : List Entry) (now : Scene) (room : ℕ) (bytes : List ℕ) (answer : NetTaken) → room ≡ call_room → is_group_open end.answers ≡ true → (end.ended ≡ true → false ≡ true)
     → (s : Setting) → MayCall s (Take (end_of peer) room bytes answer) (with_client_end peer end up events false E now)
-may_take ProxyPeer end up events E now room bytes answer roomy opened unended s = (roomy, opened, stands end.ended unended)
-may_take SpinPeer end up events E now room bytes answer roomy opened unended s = (roomy, opened, stands end.ended unended)
+may_take Grp end up events E now room bytes answer roomy opened unended s = (roomy, opened, stands end.ended unended)
+may_take Spin end up events E now room bytes answer roomy opened unended s = (roomy, opened, stands end.ended unended)
 
 -- what the client heard so far, and then of one call more
-module _ (peer : Peer) (s : Setting) (base : List Call) (calls calls' : Option (List Call)) (at : LinkEnd) (link link' : Ending) (client client' : UnitClient) (room : ℕ) (roomy : room ≡ call_room) (answers : List NetTaken) (now : Scene) where
+module _ (peer : Session) (s : Setting) (base : List Call) (calls calls' : Option (List Call)) (at : LinkEnd) (link link' : Ending) (client client' : UnitClient) (room : ℕ) (roomy : room ≡ call_room) (answers : List NetTaken) (now : Scene) where
   -- the call is a step
   took_so : (bytes : List ℕ) (answer : NetTaken) (after : Scene) → (h : HearsLink peer s base calls link client answers false now) → at ≡ end_of peer → is_group_open answers ≡ true → (NetTakeFailed answer → ⊥) → ListsCall calls calls' (Take at room bytes answer)
       → taken_at s (end_of peer) bytes answer (with_client_end peer h.end h.up h.events false h.heard now) ≡ after → Plays s base calls' after
@@ -170,7 +173,7 @@ closed_now : (setup : Setup) (link : Ending) (events : List (Event Lookups)) →
 closed_now setup link events is = is.stands.closed_is ∙ ap (λ (m : Setup). closed_of m events) is.made
 
 -- a link that was fed, of which the client heard whether it closed
-pub tells_settled : (peer : Peer) (link : Ending) (client : UnitClient) (bytes : List ℕ) (events : List (Event Lookups)) (E : List Entry) (shut : Bool) → LinkHas (peer_setup peer) link (Fed bytes NoLookup ∷ events) → shut ≡ closes peer false (Fed bytes NoLookup ∷ events)
+pub tells_settled : (peer : Session) (link : Ending) (client : UnitClient) (bytes : List ℕ) (events : List (Event Lookups)) (E : List Entry) (shut : Bool) → LinkHas (peer_setup peer) link (Fed bytes NoLookup ∷ events) → shut ≡ closes peer false (Fed bytes NoLookup ∷ events)
     → ClientHas client (told_down peer (closes peer false (Fed bytes NoLookup ∷ events)) (heard_all (link_tells (peer_setup peer) events bytes) E)) → LinkTells peer link client bytes events E shut
 tells_settled peer link client bytes events E shut is shut_is has = record {
   link_has = is;
@@ -179,19 +182,19 @@ tells_settled peer link client bytes events E shut is shut_is has = record {
 }
 
 -- whether its connection closes is what the link keeps
-closes_now : (peer : Peer) (link : Ending) (events : List (Event Lookups)) (cut shut : Bool) → LinkHas (peer_setup peer) link events → cut ≡ false → shut ≡ is_some link.closed → closes peer cut events ≡ shut
+closes_now : (peer : Session) (link : Ending) (events : List (Event Lookups)) (cut shut : Bool) → LinkHas (peer_setup peer) link events → cut ≡ false → shut ≡ is_some link.closed → closes peer cut events ≡ shut
 closes_now peer link events cut shut is whole closed = ap (λ (b : Bool). not b && is_some (closed_of (peer_setup peer) events)) whole ∙ sym (closed ∙ ap (λ o. is_some o) (closed_now (peer_setup peer) link events is))
 
-pub settled_cut : (peer : Peer) (link : Ending) (events : List (Event Lookups)) (cut shut : Bool) → LinkHas (peer_setup peer) link events → cut ≡ false → shut ≡ is_some link.closed → shut ≡ (cut || closes peer cut events)
+pub settled_cut : (peer : Session) (link : Ending) (events : List (Event Lookups)) (cut shut : Bool) → LinkHas (peer_setup peer) link events → cut ≡ false → shut ≡ is_some link.closed → shut ≡ (cut || closes peer cut events)
 settled_cut peer link events cut shut is whole closed = sym (ap (λ (b : Bool). b || closes peer cut events) whole ∙ closes_now peer link events cut shut is whole closed)
 
-pub settled_heard : (peer : Peer) (link : Ending) (client : UnitClient) (events : List (Event Lookups)) (E : List Entry) (cut shut is_shut : Bool) → LinkHas (peer_setup peer) link events → cut ≡ false → shut ≡ is_some link.closed → shut ≡ is_shut
+pub settled_heard : (peer : Session) (link : Ending) (client : UnitClient) (events : List (Event Lookups)) (E : List Entry) (cut shut is_shut : Bool) → LinkHas (peer_setup peer) link events → cut ≡ false → shut ≡ is_some link.closed → shut ≡ is_shut
     → ClientHas client (told_down peer is_shut E) → ClientHas client (told_down peer (closes peer cut events) E)
 settled_heard peer link client events E cut shut is_shut is whole closed same has =
     subst (λ (b : Bool). ClientHas client (told_down peer b E)) (sym (closes_now peer link events cut shut is whole closed ∙ same)) has
 
 -- where it was cut before
-pub settled_before : (peer : Peer) (client : UnitClient) (events : List (Event Lookups)) (E : List Entry) (cut : Bool) → cut ≡ true → ClientHas client E → ClientHas client (told_down peer (closes peer cut events) E)
+pub settled_before : (peer : Session) (client : UnitClient) (events : List (Event Lookups)) (E : List Entry) (cut : Bool) → cut ≡ true → ClientHas client E → ClientHas client (told_down peer (closes peer cut events) E)
 settled_before peer client events E cut is has = subst (λ (b : Bool). ClientHas client (told_down peer (not b && is_some (closed_of (peer_setup peer) events)) E)) (sym is) has
 
 -- ---- What is asked
@@ -199,5 +202,5 @@ pub asked_as : {X : Type 0} (setup : Setup) (link : Ending) (said : List ℕ) (c
 asked_as setup link said c other asked is says = subst (λ (k : Connection _). LinkSays setup link said c k) (sym is) says
 
 -- what was said was put at the client's end
-pub said_put : (peer : Peer) (s : Setting) (base : List Call) (calls : Option (List Call)) (at : LinkEnd) (bytes said : List ℕ) (now : Scene) → at ≡ end_of peer → bytes ≡ said → Plays s base calls (end_puts at bytes now) → Plays s base calls (end_puts (end_of peer) said now)
+pub said_put : (peer : Session) (s : Setting) (base : List Call) (calls : Option (List Call)) (at : LinkEnd) (bytes said : List ℕ) (now : Scene) → at ≡ end_of peer → bytes ≡ said → Plays s base calls (end_puts at bytes now) → Plays s base calls (end_puts (end_of peer) said now)
 said_put peer s base calls at bytes said now is same plays = subst (λ (e : LinkEnd). Plays s base calls (end_puts e said now)) is (subst (λ (b : List ℕ). Plays s base calls (end_puts at b now)) same plays)

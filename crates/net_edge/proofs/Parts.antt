@@ -1,5 +1,7 @@
 -- The parts of a turn in which the servers are served and the client hears: what stands before each
 -- and after it.
+use Rattle.pitch_text.specs.declared.verb.Session.{Session}
+use Rattle.pitch_text.specs.declared.verb.Session.TheVariants.{Grp, Spin}
 use Rattle.std.proofs.Common.{◌≡◌, ℕ, ◌||◌, Bool, true, false, List, [], Option, refl, sym, ap, ◌∙◌, subst}
 use Rattle.pitch_io.specs.declared.line.Line.{Line}
 use Rattle.pitch_io.specs.declared.line.Line.TheVariants.{A, B, Gap}
@@ -16,7 +18,7 @@ use Rattle.net_edge.specs.Due.{Setting}
 use Rattle.pitch_model.specs.History.{Entry}
 use Rattle.net_edge.specs.Playing.{ClientHas, EndsHave, DemoAt, Plays, ProxyServes, SpinServes, HearsOn, HearsLink, LinkAt, IsSentTo, IsUncalled, IsGroupOver, AreTaken, ServersDone, LinesDone, with_proxy}
 use Rattle.net_edge.specs.Scene.{Scene, OnLine, AtEnd, line_in, with_line, at_end, said_at}
-use Rattle.net_edge.specs.Peers.{Peer, ProxyPeer, SpinPeer, end_of, peer_setup, with_client_end}
+use Rattle.net_edge.specs.Peers.{end_of, peer_setup, with_client_end}
 use Rattle.net_edge.specs.Turns.{IsOver}
 use Rattle.net_edge.specs.declared.ends.Ends.{Ends}
 use Rattle.net_edge.specs.declared.proxy.Proxy.{Proxy}
@@ -128,19 +130,19 @@ module _ (s : Setting) (base : List Call) where
 
   -- ---- The links
   -- one of them in the code
-  abbrev pub link_of : Peer → Ends → Ending
-  link_of ProxyPeer e = e.gap_link
-  link_of SpinPeer e = e.spin_link
+  abbrev pub link_of : Session → Ends → Ending
+  link_of Grp e = e.gap_link
+  link_of Spin e = e.spin_link
 
-  abbrev pub cut_of : Peer → Ends → Bool
-  cut_of ProxyPeer e = e.grp_cut
-  cut_of SpinPeer e = e.spin_cut
+  abbrev pub cut_of : Session → Ends → Bool
+  cut_of Grp e = e.grp_cut
+  cut_of Spin e = e.spin_cut
 
-  abbrev pub with_link : Peer → Ending → UnitClient → Bool → Ends → Ends
-  with_link ProxyPeer link client cut e = record e { gap_link = link; client = client; grp_cut = cut }
-  with_link SpinPeer link client cut e = record e { spin_link = link; client = client; spin_cut = cut }
+  abbrev pub with_link : Session → Ending → UnitClient → Bool → Ends → Ends
+  with_link Grp link client cut e = record e { gap_link = link; client = client; grp_cut = cut }
+  with_link Spin link client cut e = record e { spin_link = link; client = client; spin_cut = cut }
 
-  link_begins : (peer : Peer) (calls : Option (List Call)) (link : Ending) (client : UnitClient) (cut cut' : Bool) (end : AtEnd) (up : Pipe) (events : List (Event Lookups)) (now : Scene)
+  link_begins : (peer : Session) (calls : Option (List Call)) (link : Ending) (client : UnitClient) (cut cut' : Bool) (end : AtEnd) (up : Pipe) (events : List (Event Lookups)) (now : Scene)
       → LinkAt (peer_setup peer) link cut end cut' events up.put → ClientHas client now.heard → end.answers ≡ [] → end.put ≡ (at_end (end_of peer) now).put → up.put ≡ said_at (end_of peer) now
       → Plays s base calls (with_client_end peer end up events cut' now.heard now) → HearsLink peer s base calls link client [] cut now
   link_begins peer calls link client cut cut' end up events now has heard none put_is up_is plays = record {
@@ -157,25 +159,25 @@ module _ (s : Setting) (base : List Call) where
     plays = subst (λ (b : Bool). Plays s base calls (with_client_end peer end up events b now.heard now)) (sym has.cut_is) plays;
   }
 
-  pub hears_begins : (peer : Peer) (calls : Option (List Call)) (e : Ends) (now : Scene) → DemoAt s base calls e now → (at_end (end_of peer) now).answers ≡ [] → HearsLink peer s base calls (link_of peer e) e.client [] (cut_of peer e) now
-  hears_begins ProxyPeer calls e now at none = link_begins ProxyPeer calls e.gap_link e.client e.grp_cut now.grp_cut now.grp_client now.grp.up now.grp.link now at.has.gap_link at.has.client none refl refl at.plays
-  hears_begins SpinPeer calls e now at none = link_begins SpinPeer calls e.spin_link e.client e.spin_cut now.spin_cut now.spin_client now.spin.up now.spin.link now at.has.spin_link at.has.client none refl refl at.plays
+  pub hears_begins : (peer : Session) (calls : Option (List Call)) (e : Ends) (now : Scene) → DemoAt s base calls e now → (at_end (end_of peer) now).answers ≡ [] → HearsLink peer s base calls (link_of peer e) e.client [] (cut_of peer e) now
+  hears_begins Grp calls e now at none = link_begins Grp calls e.gap_link e.client e.grp_cut now.grp_cut now.grp_client now.grp.up now.grp.link now at.has.gap_link at.has.client none refl refl at.plays
+  hears_begins Spin calls e now at none = link_begins Spin calls e.spin_link e.client e.spin_cut now.spin_cut now.spin_client now.spin.up now.spin.link now at.has.spin_link at.has.client none refl refl at.plays
 
-  abbrev pub link_heard : (peer : Peer) (calls : Option (List Call)) (link : Ending) (client : UnitClient) (answers : List NetTaken) (cut : Bool) (now : Scene) → HearsLink peer s base calls link client answers cut now → Scene
+  abbrev pub link_heard : (peer : Session) (calls : Option (List Call)) (link : Ending) (client : UnitClient) (answers : List NetTaken) (cut : Bool) (now : Scene) → HearsLink peer s base calls link client answers cut now → Scene
   link_heard peer calls link client answers cut now h = with_client_end peer h.end h.up h.events cut h.heard now
 
-  link_ends : (peer : Peer) (calls : Option (List Call)) (link : Ending) (client : UnitClient) (answers : List NetTaken) (cut : Bool) (now : Scene) → (h : HearsLink peer s base calls link client answers cut now)
+  link_ends : (peer : Session) (calls : Option (List Call)) (link : Ending) (client : UnitClient) (answers : List NetTaken) (cut : Bool) (now : Scene) → (h : HearsLink peer s base calls link client answers cut now)
       → (at_end (end_of peer) now).put ≡ said_at (end_of peer) now → LinkAt (peer_setup peer) link cut h.end cut h.events h.up.put
   link_ends peer calls link client answers cut now h put = record { has = h.link_has; cut_is = refl; ended = h.ended_is; put_is = h.put_is ∙ put ∙ sym h.up_is }
 
-  pub hears_ends : (peer : Peer) (calls : Option (List Call)) (e : Ends) (link : Ending) (client : UnitClient) (answers : List NetTaken) (cut : Bool) (now : Scene) → EndsHave e now → (h : HearsLink peer s base calls link client answers cut now)
+  pub hears_ends : (peer : Session) (calls : Option (List Call)) (e : Ends) (link : Ending) (client : UnitClient) (answers : List NetTaken) (cut : Bool) (now : Scene) → EndsHave e now → (h : HearsLink peer s base calls link client answers cut now)
       → DemoAt s base calls (with_link peer link client cut e) (link_heard peer calls link client answers cut now h)
-  hears_ends ProxyPeer calls e link client answers cut now has h = record {
+  hears_ends Grp calls e link client answers cut now has h = record {
     has = record {
       proxy = has.proxy;
       spin = has.spin;
       client = h.has;
-      gap_link = link_ends ProxyPeer calls link client answers cut now h has.gap_link.put_is;
+      gap_link = link_ends Grp calls link client answers cut now h has.gap_link.put_is;
       spin_link = has.spin_link;
       grp_server = has.grp_server;
       spin_server = has.spin_server;
@@ -183,13 +185,13 @@ module _ (s : Setting) (base : List Call) where
     };
     plays = h.plays;
   }
-  hears_ends SpinPeer calls e link client answers cut now has h = record {
+  hears_ends Spin calls e link client answers cut now has h = record {
     has = record {
       proxy = has.proxy;
       spin = has.spin;
       client = h.has;
       gap_link = has.gap_link;
-      spin_link = link_ends SpinPeer calls link client answers cut now h has.spin_link.put_is;
+      spin_link = link_ends Spin calls link client answers cut now h has.spin_link.put_is;
       grp_server = has.grp_server;
       spin_server = has.spin_server;
       replayed = has.replayed;
@@ -271,26 +273,26 @@ module _ (s : Setting) (base : List Call) where
       )
 
   pub links_over : (turn : ℕ) (c5 c6 c7 : Option (List Call)) (e : Ends) (gap_link spin_link : Ending) (down last : UnitClient) (grp_cut spin_cut : Bool) (now : Scene) → LinesDone s base c5 turn e now
-      → ((n : Scene) → HearsLink ProxyPeer s base c5 e.gap_link e.client [] e.grp_cut n → (answers : List NetTaken) × AreTaken answers grp_cut × HearsLink ProxyPeer s base c6 gap_link down answers grp_cut n)
+      → ((n : Scene) → HearsLink Grp s base c5 e.gap_link e.client [] e.grp_cut n → (answers : List NetTaken) × AreTaken answers grp_cut × HearsLink Grp s base c6 gap_link down answers grp_cut n)
       → (e.grp_cut ≡ true → grp_cut ≡ true)
-      → ((n : Scene) → HearsLink SpinPeer s base c6 e.spin_link down [] e.spin_cut n → (answers : List NetTaken) × AreTaken answers spin_cut × HearsLink SpinPeer s base c7 spin_link last answers spin_cut n)
+      → ((n : Scene) → HearsLink Spin s base c6 e.spin_link down [] e.spin_cut n → (answers : List NetTaken) × AreTaken answers spin_cut × HearsLink Spin s base c7 spin_link last answers spin_cut n)
       → (e.spin_cut ≡ true → spin_cut ≡ true)
       → (after : Scene) × (after.turn ≡ turn) × DemoAt s base c7 (record e { gap_link = gap_link; spin_link = spin_link; client = last; grp_cut = grp_cut; spin_cut = spin_cut }) after × IsOver s after
   links_over turn c5 c6 c7 e gap_link spin_link down last grp_cut spin_cut now so by_gap_link grp_stays by_spin_link spin_stays =
-      let g = by_gap_link now (hears_begins ProxyPeer c5 e now so.at so.grp_client) in
-      let n6 : Scene = link_heard ProxyPeer c6 gap_link down g.0 grp_cut now g.2 in
+      let g = by_gap_link now (hears_begins Grp c5 e now so.at so.grp_client) in
+      let n6 : Scene = link_heard Grp c6 gap_link down g.0 grp_cut now g.2 in
       let e6 : Ends = record e { gap_link = gap_link; client = down; grp_cut = grp_cut } in
-      let at6 : DemoAt s base c6 e6 n6 = hears_ends ProxyPeer c6 e gap_link down g.0 grp_cut now so.at.has g.2 in
-      let l = by_spin_link n6 (hears_begins SpinPeer c6 e6 n6 at6 so.spin_client) in
-      let n7 : Scene = link_heard SpinPeer c7 spin_link last l.0 spin_cut n6 l.2 in
+      let at6 : DemoAt s base c6 e6 n6 = hears_ends Grp c6 e gap_link down g.0 grp_cut now so.at.has g.2 in
+      let l = by_spin_link n6 (hears_begins Spin c6 e6 n6 at6 so.spin_client) in
+      let n7 : Scene = link_heard Spin c7 spin_link last l.0 spin_cut n6 l.2 in
       let all : IsSentTo s n7.turn n7 = subst (λ (t : ℕ). IsSentTo s t n7) (sym so.turn_is) (record { on_a = so.sent.on_a; on_b = so.sent.on_b; ticked = so.sent.ticked }) in (
         n7,
         so.turn_is,
-        hears_ends SpinPeer c7 e6 spin_link last l.0 spin_cut n6 at6.has l.2,
+        hears_ends Spin c7 e6 spin_link last l.0 spin_cut n6 at6.has l.2,
         over_is s n7 so.a so.b so.gap
             (client_over g.0 g.2.end.answers g.2.end.ended grp_cut g.2.answers_are g.1)
             (so.grp_server grp_cut grp_stays)
             (client_over l.0 l.2.end.answers l.2.end.ended spin_cut l.2.answers_are l.1)
             (so.spin_server spin_cut spin_stays)
-            all _ (hears_ends SpinPeer c7 e6 spin_link last l.0 spin_cut n6 at6.has l.2).has,
+            all _ (hears_ends Spin c7 e6 spin_link last l.0 spin_cut n6 at6.has l.2).has,
       )

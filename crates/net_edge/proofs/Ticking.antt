@@ -20,7 +20,6 @@ use Rattle.net_edge.specs.Acting.{where_stands, end_puts, all_tick, gap_asked, i
 use Rattle.net_edge.specs.Due.{Setting, demo_unit, hold_limit, accepted}
 use Rattle.net_edge.specs.Playing.{EndsHave, DemoAt, Plays, ProxyHas, ProxySays, ProxyActs, SpinHas, SpinSays, SpinActs, LinkHas, LinkSays, LinkActs, LinkTicks, ClientHas, closes, told_down}
 use Rattle.net_edge.specs.Scene.{Scene, all_put}
-use Rattle.net_edge.specs.Peers.{ProxyPeer, SpinPeer}
 use Rattle.net_edge.specs.declared.ends.Ends.{Ends}
 
 module _ (s : Setting) (now : Scene) where
@@ -41,16 +40,16 @@ module _ (s : Setting) (now : Scene) where
   spin_linked = where_stands now.spin_cut (λ k. at_link (spin_link demo_unit) Ticked k) spin_served
 
   abbrev pub grp_cut_then : Bool
-  grp_cut_then = now.grp_cut || closes ProxyPeer now.grp_cut grp_linked.link
+  grp_cut_then = now.grp_cut || closes Grp now.grp_cut grp_linked.link
 
   abbrev pub spin_cut_then : Bool
-  spin_cut_then = now.spin_cut || closes SpinPeer now.spin_cut spin_linked.link
+  spin_cut_then = now.spin_cut || closes Spin now.spin_cut spin_linked.link
 
   abbrev pub heard_gap : List Entry
-  heard_gap = told_down ProxyPeer (closes ProxyPeer now.grp_cut grp_linked.link) now.heard
+  heard_gap = told_down Grp (closes Grp now.grp_cut grp_linked.link) now.heard
 
   abbrev pub heard_both : List Entry
-  heard_both = told_down SpinPeer (closes SpinPeer now.spin_cut spin_linked.link) heard_gap
+  heard_both = told_down Spin (closes Spin now.spin_cut spin_linked.link) heard_gap
 
   abbrev pub grp_asked : Connection Source
   grp_asked = where_stands grp_cut_then (gap_asked (ask_of hold_limit heard_both)) grp_linked
@@ -86,13 +85,13 @@ module _ (s : Setting) (now : Scene) where
           gap_link = record {
             has = a6.link_has;
             cut_is = grp_cut;
-            ended = λ ended. ap (λ (b : Bool). b || closes ProxyPeer now.grp_cut grp_linked.link) (has.gap_link.ended ended);
+            ended = λ ended. ap (λ (b : Bool). b || closes Grp now.grp_cut grp_linked.link) (has.gap_link.ended ended);
             put_is = refl;
           };
           spin_link = record {
             has = a7.link_has;
             cut_is = spin_cut;
-            ended = λ ended. ap (λ (b : Bool). b || closes SpinPeer now.spin_cut spin_linked.link) (has.spin_link.ended ended);
+            ended = λ ended. ap (λ (b : Bool). b || closes Spin now.spin_cut spin_linked.link) (has.spin_link.ended ended);
             put_is = refl;
           };
           grp_server = record { ended_is = grp_ended ∙ has.grp_server.ended_is; put_is = refl };
@@ -115,12 +114,12 @@ module _ (s : Setting) (base : List Call) where
       → ((k : Connection Source) (spent : Spent) (n : Scene) → ProxyHas e.proxy k.server spent → Plays s base c1 n → ProxyActs s base c2 e'.proxy k (where_stands e.grp_cut (λ x. at_server_of demo_unit Grp Ticked x) k) (next_second spent) n)
       → ((k : Connection (List Served)) (n : Scene) → SpinHas spin1 k.server → Plays s base c2 n → SpinActs s base c3 e'.spin k (where_stands e.spin_cut (λ x. at_server_of demo_unit Spin Ticked x) k) n)
       → ((k : Connection Source) (E : List Entry) (n : Scene) → LinkHas gap_link e.gap_link k.link → ClientHas e.client E → Plays s base c3 n
-      → LinkTicks ProxyPeer s base c4 gap1 one k (where_stands e.grp_cut (λ x. at_link gap_link Ticked x) k) E e.grp_cut grp_cut n)
+      → LinkTicks Grp s base c4 gap1 one k (where_stands e.grp_cut (λ x. at_link gap_link Ticked x) k) E e.grp_cut grp_cut n)
       → ((k : Connection (List Served)) (E : List Entry) (n : Scene) → LinkHas (spin_link demo_unit) e.spin_link k.link → ClientHas one E → Plays s base c4 n
-      → LinkTicks SpinPeer s base c5 spl1 two k (where_stands e.spin_cut (λ x. at_link (spin_link demo_unit) Ticked x) k) E e.spin_cut spin_cut n)
+      → LinkTicks Spin s base c5 spl1 two k (where_stands e.spin_cut (λ x. at_link (spin_link demo_unit) Ticked x) k) E e.spin_cut spin_cut n)
       → ((E : List Entry) → ClientHas two E → (ask ≡ ask_of hold_limit E) × ClientHas e'.client (EntryTicked ask ∷ E))
-      → ((k : Connection Source) (n : Scene) → LinkHas gap_link gap1 k.link → Plays s base c5 n → LinkActs ProxyPeer s base c6 e'.gap_link k (where_stands grp_cut (gap_asked ask) k) n)
-      → ((k : Connection (List Served)) (n : Scene) → LinkHas (spin_link demo_unit) spl1 k.link → Plays s base c6 n → LinkActs SpinPeer s base c7 e'.spin_link k (where_stands spin_cut (image_asked ask) k) n)
+      → ((k : Connection Source) (n : Scene) → LinkHas gap_link gap1 k.link → Plays s base c5 n → LinkActs Grp s base c6 e'.gap_link k (where_stands grp_cut (gap_asked ask) k) n)
+      → ((k : Connection (List Served)) (n : Scene) → LinkHas (spin_link demo_unit) spl1 k.link → Plays s base c6 n → LinkActs Spin s base c7 e'.spin_link k (where_stands spin_cut (image_asked ask) k) n)
       → e'.grp_cut ≡ grp_cut → e'.spin_cut ≡ spin_cut → e'.grp_ended ≡ e.grp_ended → e'.spin_ended ≡ e.spin_ended
       → DemoAt s base c7 e' (all_put (all_tick s now))
   tick_is c0 c1 c2 c3 c4 c5 c6 c7 e e' sequence spin1 gap1 spl1 one two grp_cut spin_cut ask now has_now number plays_now tells proxy_ticks spin_ticks gap_ticks link_ticks client_ticks asks_proxy asks_spin cut_grp cut_spin ended_grp ended_spin =

@@ -1,63 +1,47 @@
 -- The client's two connections as one: what differs between the one to the proxy and the one to the
--- Spin Server.
+-- Spin Server, by the session (its peer).
 use Rattle.std.specs.Prelude.{Bool, List, Option}
 use Rattle.pitch_io.specs.declared.net.LinkEnd.{LinkEnd}
 use Rattle.pitch_io.specs.declared.net.LinkEnd.TheVariants.{GrpClient, SpinClient}
+use Rattle.pitch_text.specs.declared.verb.Session.{Session}
+use Rattle.pitch_text.specs.declared.verb.Session.TheVariants.{Grp, Spin}
 use Rattle.pitch_model.specs.declared.ask.Ask.{Ask}
-use Rattle.pitch_model.specs.History.{Entry, GrpDown, SpinDown}
+use Rattle.pitch_model.specs.History.{Entry}
 use Rattle.session_ends.specs.Closing.{Setup}
 use Rattle.session_ends.specs.Events.{Event}
-use Rattle.grp_session.specs.Serving.{Source}
-use Rattle.spin_server.specs.Served.{Served}
 use Rattle.client_links.specs.Linking.{Lookups}
-use Rattle.world_model.specs.Ends.{gap_link, spin_link}
-use Rattle.world_model.specs.State.{Connection, Pipe}
+use Rattle.world_model.specs.Ends.{link_of}
+use Rattle.world_model.specs.State.{Connection, Pipe, LooksIn}
 use Rattle.net_edge.specs.Acting.{gap_asked, image_asked}
 use Rattle.net_edge.specs.Due.{demo_unit}
 use Rattle.net_edge.specs.Scene.{Scene, AtEnd}
 
--- with whom the client is connected
-pub data Peer : Type 0 where
-  ProxyPeer : Peer
-  SpinPeer : Peer
-
--- what the server looks things up in
-abbrev pub LooksIn : Peer → Type 0
-LooksIn ProxyPeer = Source
-LooksIn SpinPeer = List Served
-
 -- the client's end of the connection, and its link's setup
-abbrev pub end_of : Peer → LinkEnd
-end_of ProxyPeer = GrpClient
-end_of SpinPeer = SpinClient
+abbrev pub end_of : Session → LinkEnd
+end_of Grp = GrpClient
+end_of Spin = SpinClient
 
-abbrev pub peer_setup : Peer → Setup
-peer_setup ProxyPeer = gap_link
-peer_setup SpinPeer = spin_link demo_unit
-
--- what the client hears when the connection is down
-abbrev pub down_of : Peer → Entry
-down_of ProxyPeer = GrpDown
-down_of SpinPeer = SpinDown
+abbrev pub peer_setup : Session → Setup
+peer_setup peer = link_of demo_unit peer
 
 -- what is asked goes through its link
-abbrev pub asked_of : (peer : Peer)
+abbrev pub asked_of : (peer : Session)
     → Option Ask → Connection (LooksIn peer) → Connection (LooksIn peer)
-asked_of ProxyPeer = gap_asked
-asked_of SpinPeer = image_asked
+asked_of Grp = gap_asked
+asked_of Spin = image_asked
 
 -- a scene with another end of the client: the end, what it says, what happened at it, and whether
 -- it is cut; and with what the client heard
-abbrev pub with_client_end : Peer
+abbrev pub with_client_end : Session
     → AtEnd → Pipe → List (Event Lookups) → Bool → List Entry → Scene → Scene
-with_client_end ProxyPeer end up link cut heard now =
+with_client_end Grp end up link cut heard now =
     record now {
       grp_client = end;
       grp = record now.grp { up = up; link = link };
       grp_cut = cut;
       heard = heard;
     }
-with_client_end SpinPeer end up link cut heard now =
+with_client_end Spin end up link cut heard now =
     record now {
       spin_client = end;
       spin = record now.spin { up = up; link = link };

@@ -1,4 +1,6 @@
 -- What the code knows of a run that is under way. No caller needs it.
+use Rattle.pitch_text.specs.declared.verb.Session.{Session}
+use Rattle.world_model.specs.Verbs.{down_of}
 use Rattle.std.specs.Prelude.{◌≡◌, ◌≤◌, ℕ, Bool, true, false, not, ◌||◌, ◌&&◌, List, [], ◌∷◌, ◌++◌}
 use Rattle.std.specs.Prelude.{Option, None, Some, is_some, Result, OnOk, IfErr, OnErr}
 use Rattle.std.specs.Prelude.{if◌then◌else◌}
@@ -28,13 +30,13 @@ use Rattle.client_links.specs.Linking.{Lookups, NoLookup, LinkStands, link_tells
 use Rattle.client_core.specs.Tracks.{Tracks, Keeps}
 use Rattle.client_core.specs.declared.client.UnitClient.{UnitClient}
 use Rattle.world_model.specs.Ends.{grp_server, spin_server, gap_link, spin_link}
-use Rattle.world_model.specs.State.{Connection, Pipe}
+use Rattle.world_model.specs.State.{Connection, Pipe, LooksIn}
 use Rattle.net_edge.specs.Acting.{scene_of, is_group_open, source_at, sent_on, end_puts, taken_at}
 use Rattle.net_edge.specs.Acting.{all_tick}
 use Rattle.net_edge.specs.Due.{Setting, demo_unit, hold_limit, request_limits, beat, due, is_tenth}
 use Rattle.net_edge.specs.Due.{ticks}
 use Rattle.net_edge.specs.Scene.{Scene, OnLine, AtEnd, line_in, with_line, at_end, said_at, all_put}
-use Rattle.net_edge.specs.Peers.{Peer, LooksIn, end_of, peer_setup, down_of, with_client_end}
+use Rattle.net_edge.specs.Peers.{end_of, peer_setup, with_client_end}
 use Rattle.net_edge.specs.Steps.{Step, calls_of}
 use Rattle.net_edge.specs.Breaking.{Breaks}
 use Rattle.net_edge.specs.Demo.{IsDemo, BreaksDemo}
@@ -194,15 +196,15 @@ pub record SpinSays (spin : Serving) (said : List ℕ) (before after : Connectio
   pub link_is : after.link ≡ before.link
 
 -- a connection that stands closes at its link
-abbrev pub closes : Peer → Bool → List (Event Lookups) → Bool
+abbrev pub closes : Session → Bool → List (Event Lookups) → Bool
 closes peer cut events = not cut && is_some (closed_of (peer_setup peer) events)
 
 -- where it closes, the client hears that it is down
-abbrev pub told_down : Peer → Bool → List Entry → List Entry
+abbrev pub told_down : Session → Bool → List Entry → List Entry
 told_down peer shut E = if shut then down_of peer ∷ E else E
 
 -- a link was fed bytes, and the client heard what it told, and that it is down where it closed
-pub record LinkTells (peer : Peer) (link : Ending) (client : UnitClient)
+pub record LinkTells (peer : Session) (link : Ending) (client : UnitClient)
     (bytes : List ℕ) (events : List (Event Lookups)) (E : List Entry) (shut : Bool) : Type 0 where
   pub link_has : LinkHas (peer_setup peer) link (Fed bytes NoLookup ∷ events)
   pub shut_is : shut ≡ closes peer false (Fed bytes NoLookup ∷ events)
@@ -210,7 +212,7 @@ pub record LinkTells (peer : Peer) (link : Ending) (client : UnitClient)
       (told_down peer shut (heard_all (link_tells (peer_setup peer) events bytes) E))
 
 -- the client heard what one of its links took
-pub record HearsLink (peer : Peer) (s : Setting) (base : List Call) (calls : Option (List Call))
+pub record HearsLink (peer : Session) (s : Setting) (base : List Call) (calls : Option (List Call))
     (link : Ending) (client : UnitClient) (answers : List NetTaken) (cut : Bool) (now : Scene) :
     Type 0 where
   pub end : AtEnd
@@ -253,14 +255,14 @@ pub record SpinActs (s : Setting) (base : List Call) (calls : Option (List Call)
   pub is : SpinSays spin said before after
   pub plays : Plays s base calls (end_puts SpinServer said now)
 
-pub record LinkActs (peer : Peer) (s : Setting) (base : List Call) (calls : Option (List Call))
+pub record LinkActs (peer : Session) (s : Setting) (base : List Call) (calls : Option (List Call))
     (link : Ending) (before after : Connection (LooksIn peer)) (now : Scene) : Type 0 where
   pub said : List ℕ
   pub is : LinkSays (peer_setup peer) link said before after
   pub plays : Plays s base calls (end_puts (end_of peer) said now)
 
 -- a link ticked where its connection stands; the client heard where it closed then, and it is cut
-pub record LinkTicks (peer : Peer) (s : Setting) (base : List Call) (calls : Option (List Call))
+pub record LinkTicks (peer : Session) (s : Setting) (base : List Call) (calls : Option (List Call))
     (link : Ending) (client : UnitClient) (before after : Connection (LooksIn peer))
     (E : List Entry) (cut cut' : Bool) (now : Scene) : Type 0 where
   pub acts : LinkActs peer s base calls link before after now

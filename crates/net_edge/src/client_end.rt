@@ -1,6 +1,9 @@
 //! The client's two ends as one: what differs between its end at the proxy and its end at the Spin
 //! Server.
 
+ghost use Rattle.pitch_text.specs.declared.verb.Session.{Session};
+ghost use Rattle.pitch_text.specs.declared.verb.Session.TheVariants.{Grp, Spin};
+ghost use Rattle.world_model.specs.Verbs.{down_of};
 ghost use Rattle.std.specs.Prelude.{◌≡◌, List, [], ◌∷◌, ◌++◌, map, is_some, OnOk};
 ghost use Rattle.pitch_model.specs.History.{Entry};
 ghost use Rattle.session_ends.specs.Ending.{Ending};
@@ -8,10 +11,10 @@ ghost use Rattle.session_ends.specs.Events.{Event, Fed, Ticked};
 ghost use Rattle.session_ends.specs.Sending.{sent_at_tick};
 ghost use Rattle.client_links.specs.Linking.{Lookups, NoLookup, LinkStands, link_sends, link_tells};
 ghost use Rattle.client_links.specs.Telling.{without_spare};
-ghost use Rattle.world_model.specs.State.{Connection};
+ghost use Rattle.world_model.specs.State.{Connection, LooksIn};
 ghost use Rattle.net_edge.specs.Playing.{ClientHas, LinkHas, LinkSays};
-ghost use Rattle.net_edge.specs.Peers.{Peer, ProxyPeer, SpinPeer, LooksIn, end_of, peer_setup};
-ghost use Rattle.net_edge.specs.Peers.{down_of, asked_of};
+ghost use Rattle.net_edge.specs.Peers.{end_of, peer_setup};
+ghost use Rattle.net_edge.specs.Peers.{asked_of};
 
 use client_core::UnitClient;
 use client_links::{GapLink, ItemList, SpinLink};
@@ -22,7 +25,7 @@ use pitch_model::{Ask, Item};
 /// A link at the client's end of a connection.
 pub(crate) trait ClientEnd {
     /// With whom it connects the client.
-    ghost peer: { Peer };
+    ghost peer: { Session };
 
     /// How it stands.
     ghost ending: { Self → Ending };
@@ -69,7 +72,7 @@ pub(crate) trait ClientEnd {
 }
 
 impl ClientEnd for GapLink {
-    ghost peer = { ProxyPeer };
+    ghost peer = { Grp };
 
     ghost ending = { λ l. l };
 
@@ -111,7 +114,7 @@ impl ClientEnd for GapLink {
 }
 
 impl ClientEnd for SpinLink {
-    ghost peer = { SpinPeer };
+    ghost peer = { Spin };
 
     ghost ending = { λ l. l };
 

@@ -7,7 +7,7 @@ ghost use Rattle.pitch_io.specs.declared.net.NetTaken.{NetTaken as TakenSaid};
 ghost use Rattle.pitch_model.specs.History.{Entry};
 ghost use Rattle.session_ends.specs.Events.{Event, Ticked};
 ghost use Rattle.client_links.specs.Linking.{Lookups};
-ghost use Rattle.world_model.specs.State.{Connection};
+ghost use Rattle.world_model.specs.State.{Connection, LooksIn};
 ghost use Rattle.world_model.specs.Verbs.{at_link};
 ghost use Rattle.net_edge.specs.Acting.{is_group_open, where_stands};
 ghost use Rattle.net_edge.specs.Breaking.{Breaks};
@@ -16,7 +16,7 @@ ghost use Rattle.net_edge.specs.Playing.{NetCounts, Plays, KeepsRun, BreaksRun, 
 ghost use Rattle.net_edge.specs.Playing.{LinkHas, LinkTells, LinkSays, LinkActs, LinkTicks, closes};
 ghost use Rattle.net_edge.specs.Playing.{told_down, HearsLink, AreTaken};
 ghost use Rattle.net_edge.specs.Scene.{Scene};
-ghost use Rattle.net_edge.specs.Peers.{LooksIn, peer_setup, asked_of};
+ghost use Rattle.net_edge.specs.Peers.{peer_setup, asked_of};
 
 use crate::client_end::ClientEnd;
 use crate::error::DemoError;

@@ -75,6 +75,7 @@ start = record {
 }
 
 -- ---- Its parts, by session
+-- the connection of a session
 abbrev pub connection_of : (session : Session) → State → Option (Connection (LooksIn session))
 connection_of Grp s = s.grp
 connection_of Spin s = s.spin

@@ -173,12 +173,12 @@ with_up up c = record { up = up; down = c.down; server = c.server; link = c.link
 abbrev pub with_down : {X : Type 0} → Pipe → Connection X → Connection X
 with_down down c = record { up = c.up; down = down; server = c.server; link = c.link }
 
--- something happens at its server
+-- something happens at the server of a session
 abbrev pub at_server_of : ℕ → (session : Session)
     → Event (LooksIn session) → Connection (LooksIn session) → Connection (LooksIn session)
 at_server_of unit session event c = at_server event (server_says unit session event c.server) c
 
--- and where a connection of a session stands
+-- and where its connection stands
 abbrev pub server_has : ℕ → (session : Session) → Event (LooksIn session) → State → State
 server_has unit session event s = with_connection session
     (option_map (λ c. at_server_of unit session event c) (connection_of session s)) s
@@ -197,6 +197,7 @@ down_of Spin = entry.SpinDown
 abbrev pub ended : Session → State → State
 ended session s = with_connection session None (record s { heard = down_of session ∷ s.heard })
 
+-- it does where this is so
 abbrev pub ended_where : Bool → Session → State → State
 ended_where false session s = s
 ended_where true session s = ended session s
@@ -211,6 +212,7 @@ abbrev pub link_ticked : ℕ → Session → State → State
 link_ticked unit session s = with_connection session
     (option_map (λ c. at_link (link_of unit session) Ticked c) (connection_of session s)) s
 
+-- and the connection is cut where its client's end closed by that
 abbrev pub link_ticks : ℕ → Session → State → State
 link_ticks unit session s = settled unit session (link_ticked unit session s)
 
@@ -222,6 +224,7 @@ link_hears unit session piece c s =
     with_connection session (Some (at_link setup (Fed piece NoLookup) c))
     (record s { heard = heard_all (link_tells setup c.link piece) s.heard })
 
+-- and the connection is cut where its client's end closed by them
 abbrev pub link_fed : ℕ → (session : Session)
     → List ℕ → Connection (LooksIn session) → State → State
 link_fed unit session piece c s = settled unit session (link_hears unit session piece c s)
@@ -288,12 +291,13 @@ login_of unit session =
 abbrev pub opened : ℕ → Session → State → State
 opened unit session s = with_connection session (Some (connection (login_of unit session))) s
 
+-- where one stands already, nothing happens
 abbrev pub connected_on : ℕ → (session : Session)
     → Option (Connection (LooksIn session)) → State → Done
 connected_on unit session (Some c) s = done outcome.AlreadyOpen s
 connected_on unit session None s = done outcome.Opened (opened unit session s)
 
--- it does where none stands
+-- a session is to have a connection
 abbrev pub connected : ℕ → Session → State → Done
 connected unit session s = connected_on unit session (connection_of session s) s
 
@@ -320,6 +324,7 @@ abbrev pub server_fed : ℕ → Limits → (session : Session)
 server_fed unit limits Grp piece c s = grp_fed unit limits piece c s
 server_fed unit limits Spin piece c s = spin_fed unit piece c s
 
+-- they are carried up, where a connection stands
 abbrev pub up_on : ℕ → Limits → (session : Session)
     → Option ℕ → Option (Connection (LooksIn session)) → State → Done
 up_on unit limits session bytes None s = done outcome.NotOpen s
@@ -332,6 +337,7 @@ up_on unit limits session bytes (Some c) s =
 abbrev pub up : ℕ → Limits → Session → Option ℕ → State → Done
 up unit limits session bytes s = up_on unit limits session bytes (connection_of session s) s
 
+-- bytes are carried down, where a connection stands
 abbrev pub down_on : ℕ → (session : Session)
     → Option ℕ → Option (Connection (LooksIn session)) → State → Done
 down_on unit session bytes None s = done outcome.NotOpen s

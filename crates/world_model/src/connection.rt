@@ -2,10 +2,9 @@
 //! each.
 
 ghost use Rattle.std.specs.Prelude.{◌≡◌, ◌≤◌, ◌++◌, ℕ, List, ◌∷◌, Option, length, take, map};
-ghost use Rattle.std.specs.Prelude.{is_some, OnOk, Some, IfSome};
+ghost use Rattle.std.specs.Prelude.{OnOk, Some, IfSome};
 ghost use Rattle.std.specs.Option.{option_map};
 ghost use Rattle.pitch_text.specs.declared.verb.Session.{Session};
-ghost use Rattle.session_ends.specs.Closing.{closed_of};
 ghost use Rattle.session_ends.specs.Events.{Event, Fed, Ticked};
 ghost use Rattle.client_links.specs.Linking.{NoLookup, link_tells};
 ghost use Rattle.client_links.specs.Telling.{without_spare};
@@ -50,33 +49,6 @@ pub(crate) struct Connection<S, P> {
 }
 
 impl<S: Server, P: Peer> Connection<S, P> {
-    /// How many bytes wait for the server.
-    pub(crate) fn up_count(&self) -> usize
-        ensures count { result ≡ length self.now.up }
-        ensures waits { (unit : ℕ) (k : ConnectionSaid (LooksIn S.session))
-            → IsConnection S.session S.stands self.now unit k → result ≡ length (waiting k.up) }
-    {
-        self.up.len()
-    }
-
-    /// How many bytes wait for the client.
-    pub(crate) fn down_count(&self) -> usize
-        ensures count { result ≡ length self.now.down }
-        ensures waits { (unit : ℕ) (k : ConnectionSaid (LooksIn S.session))
-            → IsConnection S.session S.stands self.now unit k → result ≡ length (waiting k.down) }
-    {
-        self.down.len()
-    }
-
-    /// Whether the client's end is closed.
-    pub(crate) fn is_closed(&self) -> bool
-        ensures { (unit : ℕ) (k : ConnectionSaid (LooksIn S.session))
-            → IsConnection S.session S.stands self.now unit k
-            → result ≡ is_some (closed_of (link_of unit S.session) k.link) }
-    {
-        self.link.closed().is_some()
-    }
-
     /// A second passes at the server's end.
     pub(crate) fn tick_server(&mut self) -> Result<(), OutOfMemory>
         ensures { OnOk result ((unit : ℕ) (k : ConnectionSaid (LooksIn S.session))
@@ -131,7 +103,7 @@ pub(crate) fn up_waits<S: Server, P: Peer>(place: &Option<Connection<S, P>>) -> 
 {
     match place {
         None => None,
-        Some(c) => Some(c.up_count()),
+        Some(c) => Some(c.up.len()),
     }
 }
 
@@ -145,7 +117,7 @@ pub(crate) fn down_waits<S: Server, P: Peer>(place: &Option<Connection<S, P>>) -
 {
     match place {
         None => None,
-        Some(c) => Some(c.down_count()),
+        Some(c) => Some(c.down.len()),
     }
 }
 
@@ -158,7 +130,7 @@ pub(crate) fn is_shut<S: Server, P: Peer>(place: &Option<Connection<S, P>>) -> b
 {
     match place {
         None => false,
-        Some(c) => c.is_closed(),
+        Some(c) => c.link.closed().is_some(),
     }
 }
 
