@@ -2,6 +2,7 @@
 
 ghost use Rattle.std.specs.Prelude.{◌≡◌, ◌≤◌, ℕ, Ok, length, map};
 ghost use Rattle.std.specs.List.{enumerate_from};
+ghost use Rattle.pitch_fields.specs.Limits.{text_limit};
 ghost use Rattle.pitch_text.specs.ScheduleGrammar.{entry as entry_grammar, schedule_entry};
 ghost use Rattle.text_lines.specs.Text.{entries_of, items_of};
 ghost use Rattle.storm_replay.specs.Storm.{most_units, most_steps, storm_entries, storm_schedule};
@@ -19,5 +20,5 @@ pub fn storms_are_read()
         ≡ map (λ e. Ok (schedule_entry e)) (enumerate_from 1 (storm_entries number units steps)) }
     // Whatever the number, it is no longer than the longest text that is read.
     ensures size { (number units steps : ℕ) → units ≤ most_units
-        → steps ≤ most_steps → length (storm_schedule number units steps) ≤ 67108864 }
+        → steps ≤ most_steps → length (storm_schedule number units steps) ≤ text_limit }
 {}
