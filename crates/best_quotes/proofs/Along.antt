@@ -6,7 +6,8 @@ use Rattle.pitch_model.specs.Book.{Book, after, book_after}
 use Rattle.pitch_model.specs.History.{Raw}
 use Rattle.pitch_model.proofs.Folding.{book_after-append}
 use Rattle.best_quotes.specs.Changes.{changes}
-use Rattle.best_quotes.specs.Quoting.{numbered, quoted, quotes_at, quotes_after}
+use Rattle.best_quotes.specs.Quoting.{numbered, quotes_at, quotes_after}
+use Rattle.best_quotes.specs.LastBest.{quoted}
 use Rattle.best_quotes.specs.declared.quote.Quote.{Quote}
 use Rattle.best_quotes.specs.declared.quote.QuoteLine.{QuoteLine}
 

@@ -5,7 +5,8 @@ use Rattle.pitch_model.specs.Book.{Book, book_after}
 use Rattle.pitch_model.specs.HeardBlocks.{heard_block}
 use Rattle.pitch_model.specs.History.{Entry, Raw}
 use Rattle.pitch_model.specs.Reach.{reach}
-use Rattle.best_quotes.specs.Quoting.{quoted, quotes_of_block}
+use Rattle.best_quotes.specs.Quoting.{quotes_of_block}
+use Rattle.best_quotes.specs.LastBest.{quoted}
 use Rattle.best_quotes.specs.declared.quote.QuoteLine.{QuoteLine}
 use Rattle.best_quotes.proofs.Along.{quoted_along}
 use Rattle.best_quotes.proofs.Lasting.{block_rises}

@@ -13,7 +13,8 @@ use Rattle.pitch_model.proofs.Rises.{reach_rises}
 use Rattle.best_quotes.specs.declared.quote.Quote.{Quote}
 use Rattle.best_quotes.specs.Changes.{changes}
 use Rattle.best_quotes.specs.declared.quote.QuoteLine.{QuoteLine}
-use Rattle.best_quotes.specs.Quoting.{quotes_at, quotes_after, quotes_of_block, unit_quotes, last_or, last_best}
+use Rattle.best_quotes.specs.Quoting.{quotes_at, quotes_after, quotes_of_block}
+use Rattle.best_quotes.specs.LastBest.{unit_quotes, last_or, last_best}
 use Rattle.best_quotes.proofs.Telling.{told, none_in_empty, changes_tell}
 
 -- ---- The reach along a block

@@ -10,7 +10,8 @@ use Rattle.pitch_model.specs.Levels.{level}
 use Rattle.pitch_model.proofs.Books.{after_book}
 use Rattle.best_quotes.specs.Changes.{changes}
 use Rattle.best_quotes.specs.Leveling.{Entries, Has}
-use Rattle.best_quotes.specs.Quoting.{numbered, quoted}
+use Rattle.best_quotes.specs.Quoting.{numbered}
+use Rattle.best_quotes.specs.LastBest.{quoted}
 use Rattle.best_quotes.specs.Turning.{TurnsLevels, IsTurned}
 use Rattle.best_quotes.specs.declared.quote.Quote.{Quote}
 use Rattle.best_quotes.specs.declared.quote.QuoteLine.{QuoteLine}

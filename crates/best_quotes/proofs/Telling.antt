@@ -20,7 +20,7 @@ use Rattle.pitch_model.specs.Book.{Book, empty_book}
 use Rattle.pitch_model.specs.Levels.{orders_of, same_side, best_of, best, with_level}
 use Rattle.best_quotes.specs.declared.quote.Quote.{Quote}
 use Rattle.best_quotes.specs.Changes.{symbols_of, same_best, change_on, changes}
-use Rattle.best_quotes.specs.Quoting.{is_for}
+use Rattle.best_quotes.specs.LastBest.{is_for}
 
 -- ---- Bests that are the same
 pub same_best-equal : (p q : Option (ℕ × ℕ)) → same_best p q ≡ true → p ≡ q

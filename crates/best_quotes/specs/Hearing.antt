@@ -5,7 +5,8 @@ use Rattle.pitch_model.specs.HeardBlocks.{heard_block}
 use Rattle.pitch_model.specs.History.{Entry, Raw}
 use Rattle.pitch_model.specs.Honest.{Honest}
 use Rattle.pitch_model.specs.Levels.{level}
-use Rattle.client_core.specs.Tracks.{Tracks, Keeps, current_book}
+use Rattle.client_core.specs.Tracks.{Tracks, Keeps}
+use Rattle.client_core.specs.Client.{current_book}
 use Rattle.client_core.specs.declared.client.UnitClient.{UnitClient}
 use Rattle.best_quotes.specs.Leveling.{Entries, Has}
 use Rattle.best_quotes.specs.Quoting.{quotes_of_block}

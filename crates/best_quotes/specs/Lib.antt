@@ -4,6 +4,7 @@ pub mod Hearing
 pub mod Ladders
 pub mod Leveling
 pub mod Quoting
+pub mod LastBest
 pub mod QuotesText
 pub mod Stands
 pub mod Turning

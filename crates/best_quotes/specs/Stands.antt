@@ -3,7 +3,8 @@ use Rattle.std.specs.Prelude.{ℕ, List}
 use Rattle.pitch_model.specs.History.{Entry, Raw}
 use Rattle.pitch_model.specs.Honest.{Honest}
 use Rattle.pitch_model.specs.Levels.{level}
-use Rattle.client_core.specs.Tracks.{Tracks, Keeps, current_book}
+use Rattle.client_core.specs.Tracks.{Tracks, Keeps}
+use Rattle.client_core.specs.Client.{current_book}
 use Rattle.best_quotes.specs.Leveling.{Has}
 use Rattle.best_quotes.specs.declared.unit.QuotedUnit.{QuotedUnit}
 

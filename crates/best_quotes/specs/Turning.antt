@@ -16,7 +16,7 @@ use Rattle.pitch_model.specs.Levels.{level, best}
 use Rattle.best_quotes.specs.Balance.{shares_of}
 use Rattle.best_quotes.specs.Changes.{changes, change_between}
 use Rattle.best_quotes.specs.Leveling.{Entries, Has, level_in}
-use Rattle.best_quotes.specs.Quoting.{quoted}
+use Rattle.best_quotes.specs.LastBest.{quoted}
 use Rattle.best_quotes.specs.declared.quote.Quote.{Quote}
 use Rattle.best_quotes.specs.declared.quote.QuoteLine.{QuoteLine}
 use Rattle.best_quotes.specs.declared.bests.Bests.{Bests}

@@ -17,7 +17,8 @@ ghost use Rattle.pitch_model.specs.Reach.{reach};
 ghost use Rattle.pitch_model.specs.Units.{unit_history};
 ghost use Rattle.best_quotes.specs.Changes.{changes, changes_for, same_best};
 ghost use Rattle.best_quotes.specs.Balance.{shares_at, shares_of};
-ghost use Rattle.best_quotes.specs.Quoting.{unit_quotes, last_best, quoted, quotes_after};
+ghost use Rattle.best_quotes.specs.Quoting.{quotes_after};
+ghost use Rattle.best_quotes.specs.LastBest.{unit_quotes, last_best, quoted};
 
 /// The last line of a symbol and side gives its best in the reached book, and where there is no
 /// line it has none.

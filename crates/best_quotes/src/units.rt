@@ -1,7 +1,7 @@
 ghost use Rattle.std.specs.Prelude.{◌≡◌, ◌≤◌, ◌++◌, ℕ, List, [], ◌∷◌, OnOk, IfOk};
 ghost use Rattle.pitch_fields.specs.Limits.{most_held};
 ghost use Rattle.unit_packets.specs.Blocks.{Block};
-ghost use Rattle.pitch_model.specs.Heard.{block_change};
+ghost use Rattle.pitch_model.specs.Changes.{block_change};
 ghost use Rattle.pitch_model.specs.HeardBlocks.{heard_block};
 ghost use Rattle.pitch_model.specs.History.{Raw};
 ghost use Rattle.pitch_model.specs.Honest.{Honest};

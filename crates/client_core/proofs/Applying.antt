@@ -8,7 +8,8 @@ use Rattle.pitch_model.specs.Book.{Book, after}
 use Rattle.hold_buffer.specs.HoldView.{HoldView}
 use Rattle.client_core.specs.Keeping.{KeepsAt}
 use Rattle.client_core.specs.Applying.{Applies}
-use Rattle.client_core.specs.Tracks.{Keeps, IsStill, reached, held_number, current_book}
+use Rattle.client_core.specs.Tracks.{Keeps}
+use Rattle.client_core.specs.Client.{IsStill, reached, held_number, current_book}
 use Rattle.client_core.specs.Bookkeeping.{NotesApplied, Notes, noted, turned, KeepsLogRoom}
 use Rattle.client_core.specs.declared.applied_log.AppliedLog.{AppliedLog}
 use Rattle.client_core.specs.declared.client.UnitClient.{UnitClient}

@@ -12,7 +12,8 @@ use Rattle.pitch_messages.specs.Reading.{reads}
 use Rattle.pitch_model.specs.Book.{after}
 use Rattle.pitch_model.specs.History.{Entry, Raw, SpinUp, Advertised, Ticked, SpinReply, ImageMessages, SpinFinished}
 use Rattle.pitch_model.specs.Honest.{Honest}
-use Rattle.pitch_model.specs.Heard.{heard, image_end}
+use Rattle.pitch_model.specs.Heard.{heard}
+use Rattle.pitch_model.specs.Changes.{image_end}
 use Rattle.pitch_model.specs.Image.{image, image_of}
 use Rattle.pitch_model.specs.Reach.{reach_of}
 use Rattle.pitch_fields.specs.Fields.{AreBytes}

@@ -2,7 +2,7 @@
 -- meant, and each venue whose messages its book and hold were.
 use Rattle.std.specs.Prelude.{◌≡◌, ℕ, List, drop, take}
 use Rattle.unit_packets.specs.Blocks.{Block}
-use Rattle.pitch_model.specs.Heard.{block_change}
+use Rattle.pitch_model.specs.Changes.{block_change}
 use Rattle.pitch_model.specs.HeardBlocks.{heard_block}
 use Rattle.pitch_model.specs.History.{Entry, Raw}
 use Rattle.pitch_model.specs.Honest.{Honest}

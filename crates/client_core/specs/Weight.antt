@@ -4,7 +4,7 @@ use Rattle.std.specs.Prelude.{ℕ, ◌+◌, length}
 use Rattle.pitch_model.specs.declared.item.Item.{Item}
 use Rattle.pitch_model.specs.declared.item.Item.TheVariants as item
 use Rattle.client_core.specs.Keeping.{book_size}
-use Rattle.client_core.specs.Tracks.{held_number}
+use Rattle.client_core.specs.Client.{held_number}
 use Rattle.client_core.specs.declared.client.UnitClient.{UnitClient}
 use Rattle.client_core.specs.declared.spinning.Finish.{Finish}
 use Rattle.client_core.specs.declared.spinning.Finish.TheVariants.{Nothing, Image, BadCount}

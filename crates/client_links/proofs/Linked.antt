@@ -9,7 +9,8 @@ use Rattle.session_ends.specs.declared.closed.Closed.{Closed}
 use Rattle.session_ends.specs.declared.inbox.Heard.{Heard}
 use Rattle.session_ends.specs.declared.role.Role.{Role}
 use Rattle.session_ends.specs.Closing.{Setup, cause_of, first_cause, logged_in, logs_in}
-use Rattle.session_ends.specs.Ending.{Ending, EndKnows, known_of, nothing_known, known_ticked}
+use Rattle.session_ends.specs.Ending.{Ending, EndKnows, known_of}
+use Rattle.session_ends.specs.Ticking.{nothing_known, known_ticked}
 use Rattle.session_ends.specs.Events.{Event, Fed, Ticked}
 use Rattle.session_ends.specs.Hearing.{reader_items, IsThrough}
 use Rattle.session_ends.specs.Inboxes.{Inboxed}

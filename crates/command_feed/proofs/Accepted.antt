@@ -8,7 +8,8 @@ use Rattle.pitch_messages.specs.Room.{Roomy}
 use Rattle.unit_packets.specs.Packing.{bytes_in}
 use Rattle.std.proofs.lemmas.Option.{get_or_from_slice_get, slice_get_within}
 use Rattle.pitch_text.specs.CommandGrammar.{command, command_entry}
-use Rattle.text_lines.specs.Text.{TextFault, entries_of, items_of, all_of, with_front}
+use Rattle.text_lines.specs.Text.{TextFault, entries_of, all_of, with_front}
+use Rattle.text_lines.specs.Items.{items_of}
 use Rattle.text_lines.proofs.TextLemmas.{answer_of, items_answer}
 use Rattle.pitch_text.specs.declared.command.Command.{Command}
 use Rattle.pitch_text.specs.declared.command.CommandEntry.{CommandEntry}

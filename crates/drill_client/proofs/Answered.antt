@@ -7,7 +7,8 @@ use Rattle.pitch_model.specs.Asking.{ask_of}
 use Rattle.pitch_model.specs.History.{Entry, Raw, Ticked, GapReply, SpinReply, adds}
 use Rattle.pitch_model.specs.Image.{image}
 use Rattle.pitch_model.specs.declared.ask.Ask.{Ask}
-use Rattle.gap_store.specs.Look.{View, Store, store_of, look, given, slice_of, OneView, IsLater, PacksRange}
+use Rattle.gap_store.specs.Look.{View, Store, store_of, look, slice_of}
+use Rattle.gap_store.specs.Looking.{given, OneView, IsLater, PacksRange}
 use Rattle.gap_store.specs.declared.found.Found.{Found}
 use Rattle.gap_store.specs.declared.found.Found.TheVariants.{Kept}
 use Rattle.spin_server.specs.Served.{Served, is_served}

@@ -13,12 +13,15 @@ use Rattle.pitch_model.specs.Honest.{AreVenues}
 use Rattle.pitch_model.specs.Image.{image}
 use Rattle.pitch_model.proofs.Datagrams.{packing_pieces, venues_slice, piece_more}
 use Rattle.pitch_model.proofs.Growing.{image_more}
-use Rattle.gap_store.specs.Look.{View, Store, store_of, look, given, slice_of, oldest, OneView, PacksAt}
+use Rattle.gap_store.specs.Look.{View, Store, store_of, look, slice_of, oldest}
+use Rattle.gap_store.specs.Looking.{given, OneView, PacksAt}
 use Rattle.gap_store.specs.declared.found.Found.{Found}
 use Rattle.gap_store.specs.declared.found.Found.TheVariants.{Kept, Ahead, NotKept}
-use Rattle.spin_server.specs.Served.{Served, LooksUpImage, is_served, imaged, image_given}
+use Rattle.spin_server.specs.Served.{Served, is_served}
+use Rattle.spin_server.specs.Looking.{LooksUpImage, imaged, image_given}
 use Rattle.spin_server.specs.Shelves.{Shelf}
-use Rattle.spin_server.specs.Stands.{ShelfStands, ShelfShows, OneServed, seen_of}
+use Rattle.spin_server.specs.Stands.{ShelfStands}
+use Rattle.spin_server.specs.ShelfViews.{ShelfShows, OneServed, seen_of}
 use Rattle.spin_server.specs.declared.lookup.Imaged.{Imaged}
 use Rattle.spin_server.specs.declared.lookup.Imaged.TheVariants as answers
 use Rattle.drill_client.specs.Following.{IsImageOf}

@@ -1,12 +1,14 @@
 //! What a client hears: an item for which it needs no memory, and an image as one thing.
 
 ghost use Rattle.std.specs.Prelude.{ℕ, List, OnOk};
-ghost use Rattle.pitch_model.specs.Heard.{heard, IsItem};
+ghost use Rattle.pitch_model.specs.Heard.{heard};
+ghost use Rattle.pitch_model.specs.Changes.{IsItem};
 ghost use Rattle.pitch_model.specs.History.{Entry, Raw};
 ghost use Rattle.pitch_model.specs.Honest.{Honest};
 ghost use Rattle.client_core.specs.Hearing.{Hears, KeepsImaged};
 ghost use Rattle.client_core.specs.Items.{IsImage, NeedsNoMemory};
-ghost use Rattle.client_core.specs.Tracks.{Tracks, Keeps, held_number, spare_of};
+ghost use Rattle.client_core.specs.Tracks.{Tracks, Keeps};
+ghost use Rattle.client_core.specs.Client.{held_number, spare_of};
 ghost use Rattle.drill_client.specs.Following.{imaged_whole};
 
 use client_core::UnitClient;

@@ -1,7 +1,8 @@
 -- Worked examples of what can be looked up, computed by the definitions.
 use Rattle.std.proofs.Common.{◌≡◌, ℕ, List, [], ◌∷◌, refl, Option, Some, None}
 use Rattle.circular_buffer.specs.Buffer.{keep_last}
-use Rattle.gap_store.specs.Look.{View, Store, look, slice_of, first_kept, store_of}
+use Rattle.gap_store.specs.Look.{View, Store, look, slice_of, store_of}
+use Rattle.gap_store.specs.Looking.{first_kept}
 use Rattle.gap_store.specs.declared.found.Found.TheVariants.{Kept, Ahead, NotKept}
 
 -- five messages, the last three of which are kept

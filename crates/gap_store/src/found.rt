@@ -1,7 +1,8 @@
 ghost use Rattle.std.specs.Prelude.{◌≡◌, ℕ, ◌+◌, ◌≤◌, Bool, true, List, length, OnErr, OnOk, IfOk};
 ghost use Rattle.pitch_fields.specs.Limits.{last_sequence};
 ghost use Rattle.unit_packets.specs.Packing.{bytes_in};
-ghost use Rattle.gap_store.specs.Look.{View, LooksAt, FindsAt, PacksAt};
+ghost use Rattle.gap_store.specs.Look.{View};
+ghost use Rattle.gap_store.specs.Looking.{LooksAt, FindsAt, PacksAt};
 
 use pitch_fields::OutOfMemory;
 use pitch_messages::RawList;

@@ -1,4 +1,4 @@
-ghost use Rattle.gap_store.specs.Look.{OneView};
+ghost use Rattle.gap_store.specs.Looking.{OneView};
 
 /// The law of looking up: of every two views, a later one with as many messages is the same view.
 /// So a store to which nobody pushes is seen as one.

@@ -3,14 +3,16 @@ use Rattle.std.proofs.Common.{◌≡◌, ℕ, ◌<◌, ◌≤◌, Bool, true, fa
 use Rattle.std.proofs.lemmas.List.{append-nil}
 use Rattle.std.proofs.lemmas.Bool.{ne_eqb, cond-true, cond-false, lt-ltb, le-ltb}
 use Rattle.unit_packets.specs.Packing.{packed, packed_on}
-use Rattle.gap_store.specs.Look.{View, IsLater, look, slice_of, given, FindsAt, PacksRange, PacksAt}
+use Rattle.gap_store.specs.Look.{View, look, slice_of}
+use Rattle.gap_store.specs.Looking.{IsLater, given, FindsAt, PacksRange, PacksAt}
 use Rattle.gap_store.specs.declared.found.Found.{Found}
 use Rattle.gap_store.specs.declared.found.Found.TheVariants.{Kept}
 use Rattle.session_ends.specs.Showing.{ShowsLater}
 use Rattle.session_ends.proofs.Runs.{IsOrder}
 use Rattle.session_ends.proofs.Showing.{shown_same}
 use Rattle.grp_session.specs.Budget.{Limits, Spent, limit_reached, spending}
-use Rattle.grp_session.specs.Asking.{status_found, status_here, IsAsked}
+use Rattle.grp_session.specs.Asking.{status_found, status_here}
+use Rattle.grp_session.specs.Ranges.{IsAsked}
 
 later_same : (v : View) → IsLater v v
 later_same v = record { more = []; messages = sym (append-nil v.messages); kept = refl }

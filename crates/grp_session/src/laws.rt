@@ -1,6 +1,8 @@
-ghost use Rattle.gap_store.specs.Look.{View, IsLater};
+ghost use Rattle.gap_store.specs.Look.{View};
+ghost use Rattle.gap_store.specs.Looking.{IsLater};
 ghost use Rattle.session_ends.specs.Laws.{ClosesOnce, RisesNowhere};
-ghost use Rattle.grp_session.specs.Serving.{Source, GrpAnswersOnce, StoreHasOneView};
+ghost use Rattle.grp_session.specs.Serving.{Source};
+ghost use Rattle.grp_session.specs.Feeding.{GrpAnswersOnce, StoreHasOneView};
 
 /// The laws of cutting a session's bytes into pieces: two pieces close the end exactly where both
 /// at once do, and what is answered to both at once is what is answered to the one, then to the

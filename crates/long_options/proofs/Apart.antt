@@ -8,7 +8,8 @@ use Rattle.std.proofs.lemmas.Slice.Eq.{bytes_eq-Decides}
 use Rattle.std.proofs.lemmas.Str.{encode_ascii, encodes-chars}
 use Rattle.std.specs.Str.{encode_utf8_all}
 use Rattle.clap.specs.Lexer.{long_of, long_of_rest, short_of, short_of_rest, strip_byte}
-use Rattle.long_options.specs.Words.{IsApart, Text, dashes}
+use Rattle.long_options.specs.Words.{IsApart, Text}
+use Rattle.long_options.specs.Plain.{dashes}
 
 -- a hyphen is followed by a character, or by nothing
 pub first_char : (x : ℕ) (xs : Text) → IsUtf8 (45 ∷ x ∷ xs) → slice_get (chars (x ∷ xs)) 0 ≡ None → ⊥

@@ -9,7 +9,9 @@ use Rattle.clap.specs.Simple.{Shape}
 use Rattle.clap.specs.Faults.{settle_fault, turn_fault, use_fault, walk_fault}
 use Rattle.clap.specs.Kinds.{or_else}
 use Rattle.clap.proofs.WalkLemmas.{both}
-use Rattle.long_options.specs.Words.{AreListed, Given, IsApart, IsWritten, Listed, Once, Text, Writes, long_flag, has_name, is_plain_name, listed}
+use Rattle.long_options.specs.Words.{AreListed, Given, IsApart, IsWritten, Listed, Once, Text}
+use Rattle.long_options.specs.Words.{Writes, long_flag, has_name, listed}
+use Rattle.long_options.specs.Plain.{is_plain_name}
 use Rattle.long_options.proofs.Apart.{no_option}
 use Rattle.long_options.proofs.LongWords.{long_of-attached, long_of-long_flag}
 use Rattle.long_options.proofs.Rows.{built_rule, built_rules, by_long, given_rows, left_fault, left_of, left_rows, listed_name, switch, switch_passes, use_passes, used_given, used_switch, valued}

@@ -10,8 +10,10 @@ use Rattle.std.proofs.lemmas.List.Folds.{list_any-append}
 use Rattle.std.proofs.lemmas.Slice.Eq.{bytes_eq-Decides}
 use Rattle.clap.specs.Walk.{Row, first_of}
 use Rattle.clap.proofs.WalkLemmas.{both}
-use Rattle.long_options.specs.Words.{AreListed, Given, Listed, Text, are_distinct, has_name, listed, value_of}
-use Rattle.long_options.specs.Found.{found_options, given_options, is_set}
+use Rattle.long_options.specs.Words.{AreListed, Given, Listed, Text, has_name, listed, value_of}
+use Rattle.long_options.specs.Plain.{are_distinct}
+use Rattle.long_options.specs.Found.{given_options}
+use Rattle.long_options.specs.Finding.{found_options, is_set}
 use Rattle.long_options.proofs.Rows.{given_row}
 use Rattle.long_options.proofs.Level.{all_rows, default_row, has_text, rows_left, unused_after, unused_of}
 

@@ -21,7 +21,8 @@ use Rattle.clap.proofs.WalkLemmas.{list_any-map}
 use Rattle.clap.specs.declared.builder.value_parser.Reading.TheVariants as reading
 use Rattle.clap.specs.declared.parser.matches.ValueSource.TheVariants.{DefaultValue}
 use Rattle.long_options.proofs.Rows.{has_given}
-use Rattle.long_options.specs.Words.{AreOptions, Given, Listed, Text, has_dashes, has_name, lacks_one}
+use Rattle.long_options.specs.Words.{AreOptions, Given, Listed, Text, has_name, lacks_one}
+use Rattle.long_options.specs.Plain.{has_dashes}
 use Rattle.long_options.proofs.Rows.{built_rule, built_rules, given_row, given_rows}
 use Rattle.long_options.proofs.Turns.{both_none, built_shape, left_none, right_none, some_fault}
 use Rattle.long_options.proofs.Sound.{Reads, end_of, sound}

@@ -13,14 +13,17 @@ use Rattle.clap.specs.Faults.{built_fault, check_fault, defaults_fault, entered_
 use Rattle.clap.specs.Kinds.{Kinds, or_else}
 use Rattle.clap.proofs.FaultLemmas.{stopped_fault}
 use Rattle.clap.specs.declared.error.kind.ErrorKind.TheVariants.{DisplayHelp, InvalidSubcommand}
-use Rattle.long_options.specs.Words.{are_distinct, Described, Given, IsCall, IsWritten, Listed, Text, Writes, AreListed, dashes, described, long_flag, has_dashes, is_plain, is_plain_name}
+use Rattle.long_options.specs.Words.{Described, Given, IsCall, IsWritten, Listed, Text, Writes}
+use Rattle.long_options.specs.Words.{AreListed, long_flag}
+use Rattle.long_options.specs.Plain.{are_distinct, dashes, described, has_dashes, is_plain}
+use Rattle.long_options.specs.Plain.{is_plain_name}
 use Rattle.long_options.specs.Apps.{command_shape, option_rule, program}
 use Rattle.long_options.proofs.Rows.{built_rule, built_rules, listed_name}
 use Rattle.long_options.proofs.Turns.{both_none, built_shape, flag_turn, left_none, shape_at, some_fault, stray_turn}
 use Rattle.long_options.proofs.Sound.{all_rest}
 use Rattle.long_options.proofs.LongWords.{not_dashes}
 use Rattle.long_options.proofs.Apart.{no_option}
-use Rattle.long_options.specs.Found.{CallsTaken, Finds, TakesCalls}
+use Rattle.long_options.specs.Finding.{CallsTaken, Finds, TakesCalls}
 use Rattle.long_options.proofs.Found.{distinct_found, found_is}
 use Rattle.long_options.proofs.Complete.{listed_plain, name_attached, name_flag, plain_names}
 use Rattle.long_options.proofs.Level.{rows_left, level_complete, level_sound}

@@ -8,7 +8,9 @@ use Rattle.clap.specs.Walk.{Held, Rule, Walk, arg_by_long, idle, option, reacted
 use Rattle.clap.specs.Simple.{Shape}
 use Rattle.clap.specs.Faults.{long_fault, react_fault, settle_fault, turn_fault, use_fault, walk_fault}
 use Rattle.clap.specs.Kinds.{Kinds, or_else}
-use Rattle.long_options.specs.Words.{AreListed, Given, IsApart, Listed, Once, Text, Writes, dashes, long_flag, has_dashes, has_name, listed}
+use Rattle.long_options.specs.Words.{AreListed, Given, IsApart, Listed, Once, Text, Writes}
+use Rattle.long_options.specs.Words.{long_flag, has_name, listed}
+use Rattle.long_options.specs.Plain.{dashes, has_dashes}
 use Rattle.long_options.proofs.Apart.{apart_of}
 use Rattle.long_options.proofs.LongWords.{word_of}
 use Rattle.long_options.proofs.Rows.{built_rule, built_rules, by_long, given_rows, left_fault, left_of, left_rows, listed_name, switch, switch_was_first, use_was_first, used_given, used_switch, valued}

@@ -12,7 +12,8 @@ use Rattle.clap.specs.Faults.{bundle_fault, bundle_step_fault, flag_word_fault, 
 use Rattle.clap.specs.Kinds.{Kinds, or_else}
 use Rattle.clap.specs.declared.error.kind.ErrorKind.{ErrorKind}
 use Rattle.std.specs.Str.{IsUtf8}
-use Rattle.long_options.specs.Words.{Text, Given, Listed, dashes, listed}
+use Rattle.long_options.specs.Words.{Text, Given, Listed, listed}
+use Rattle.long_options.specs.Plain.{dashes}
 use Rattle.long_options.proofs.Apart.{first_char, short_word}
 use Rattle.long_options.specs.Apps.{command_shape}
 use Rattle.long_options.proofs.LongWords.{not_dashes}

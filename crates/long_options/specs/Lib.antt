@@ -1,3 +1,5 @@
 pub mod Words
+pub mod Plain
 pub mod Apps
 pub mod Found
+pub mod Finding

@@ -1,8 +1,7 @@
 -- The words of a command line: a command's name, and then its options in any order.
-use Rattle.std.specs.Prelude.{◌≡◌, ◌⊎◌, ◌++◌, ◌&&◌, ◌==◌, ℕ, Bool, true, false, not, List, [], ◌∷◌}
-use Rattle.std.specs.Prelude.{Option}
-use Rattle.std.specs.Prelude.{Some, None, find, is_some, option_and_then, ⊤}
-use Rattle.std.specs.List.{list_all, list_any}
+use Rattle.std.specs.Prelude.{◌≡◌, ◌⊎◌, ◌++◌, ◌&&◌, ℕ, Bool, true, false, not, List, [], ◌∷◌}
+use Rattle.std.specs.Prelude.{Option, Some, None, find, is_some, option_and_then, ⊤}
+use Rattle.std.specs.List.{list_any}
 use Rattle.std.specs.Str.{bytes_eq}
 
 -- a text as its bytes
@@ -30,10 +29,6 @@ must_have name = (name, true, false)
 
 abbrev pub may_set : Text → Listed
 may_set name = (name, false, true)
-
--- `--`
-abbrev pub dashes : Text
-dashes = 45 ∷ 45 ∷ []
 
 -- `--name`
 abbrev pub long_flag : Text → Text
@@ -97,25 +92,3 @@ pub record IsCall (c : Described) (words : List Text) (given : List Given) : Typ
   pub rest : List Text
   pub words_are : words ≡ c.0 ∷ rest
   pub options : AreOptions c.1 rest given
-
--- the command of this name
-abbrev pub described : List Described → Text → Option Described
-described commands name = find (λ c. bytes_eq c.0 name) commands
-
--- a word is `--`
-abbrev pub has_dashes : List Text → Bool
-has_dashes words = list_any (λ w. bytes_eq w dashes) words
-
--- a name that `--name` and `--name=value` show: it isn't empty, and has no `=`
-abbrev pub is_plain_name : Text → Bool
-is_plain_name [] = false
-is_plain_name (x ∷ xs) = not (list_any (λ y. y == 61) (x ∷ xs))
-
--- no two options have the same name
-abbrev pub are_distinct : List Listed → Bool
-are_distinct [] = true
-are_distinct (o ∷ os) = not (list_any (λ x. bytes_eq o.0 x.0) os) && are_distinct os
-
--- a command that words can name: it isn't `--`, and its options' names differ and are plain
-abbrev pub is_plain : Described → Bool
-is_plain c = not (bytes_eq c.0 dashes) && list_all (λ o. is_plain_name o.0) c.1 && are_distinct c.1

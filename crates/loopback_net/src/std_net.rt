@@ -3,7 +3,8 @@
 ghost use Rattle.std.specs.Prelude.{◌≡◌, ◌<◌, [], None, false, true, length};
 ghost use Rattle.loopback_net.specs.Opening.{UsesOpen};
 ghost use Rattle.pitch_io.specs.Causes.{HasCause};
-ghost use Rattle.pitch_io.specs.Nets.{CameWithin, NetDoneFailed, NetTakeFailed};
+ghost use Rattle.pitch_io.specs.Nets.{NetDoneFailed, NetTakeFailed};
+ghost use Rattle.pitch_io.specs.Coming.{CameWithin};
 ghost use Rattle.pitch_io.specs.Putting.{PutFailed, PutsWithin};
 
 use crate::connection;

@@ -1,7 +1,8 @@
 -- Where a run breaks off.
 use Rattle.std.proofs.Common.{◌≡◌, List, [], ◌∷◌, Option, None, Some, Result, Ok, Err, sym, ap, ◌∙◌, subst}
 use Rattle.std.specs.Result.{IfErr, IsErr, IsErrAnd}
-use Rattle.pitch_io.specs.Nets.{Call, ListsCall}
+use Rattle.pitch_io.specs.Nets.{Call}
+use Rattle.pitch_io.specs.Coming.{ListsCall}
 use Rattle.net_edge.specs.Breaking.{HasFailed, ListsAdded, Breaks}
 use Rattle.net_edge.specs.Due.{Setting}
 use Rattle.net_edge.specs.Playing.{ListsCalls, Plays, Runs}

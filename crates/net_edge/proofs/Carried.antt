@@ -25,7 +25,8 @@ use Rattle.session_ends.specs.Closing.{closed_of}
 use Rattle.session_ends.specs.Events.{Event, Fed, Ticked}
 use Rattle.grp_session.specs.Serving.{Source}
 use Rattle.spin_server.specs.Served.{Served}
-use Rattle.client_core.specs.Tracks.{current_book, Keeps}
+use Rattle.client_core.specs.Tracks.{Keeps}
+use Rattle.client_core.specs.Client.{current_book}
 use Rattle.client_core.specs.declared.client.UnitClient.{UnitClient}
 use Rattle.client_links.specs.Linking.{Lookups, NoLookup, link_tells}
 use Rattle.spin_path.specs.Paths.{heard_all}

@@ -15,7 +15,7 @@ use Rattle.pitch_model.specs.Levels.{shares}
 use Rattle.pitch_model.specs.Status.{status_of}
 use Rattle.venue_core.specs.Plan.{plan}
 use Rattle.venue_core.proofs.PlanBytes.{plan_bytes}
-use Rattle.client_core.specs.Tracks.{current_book}
+use Rattle.client_core.specs.Client.{current_book}
 use Rattle.feed_lines.specs.UnitLine.{unit_line}
 use Rattle.net_edge.specs.Acting.{scene_of}
 use Rattle.net_edge.specs.Demo.{IsDemo, EndsDemo, IsLast, AddsCalls, all_messages, AreShort}

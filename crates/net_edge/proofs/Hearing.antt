@@ -4,7 +4,8 @@ use Rattle.pitch_io.specs.declared.line.Line.{Line}
 use Rattle.pitch_io.specs.declared.line.Line.TheVariants.{A, B, Gap}
 use Rattle.pitch_io.specs.declared.net.NetTaken.{NetTaken}
 use Rattle.pitch_io.specs.declared.net.NetTaken.TheVariants as taken
-use Rattle.pitch_io.specs.Nets.{Call, Next, ListsCall, NetTakeFailed}
+use Rattle.pitch_io.specs.Nets.{Call, Next, NetTakeFailed}
+use Rattle.pitch_io.specs.Coming.{ListsCall}
 use Rattle.unit_packets.specs.Blocks.{Block}
 use Rattle.pitch_model.specs.Datagrams.{heard_blocks}
 use Rattle.pitch_model.specs.Heard.{heard_block}

@@ -10,7 +10,8 @@ use Rattle.pitch_fields.specs.Fields.{AreBytes}
 use Rattle.pitch_io.specs.declared.net.LinkEnd.{LinkEnd}
 use Rattle.pitch_io.specs.declared.net.NetTaken.{NetTaken}
 use Rattle.pitch_io.specs.declared.net.NetTaken.TheVariants as taken
-use Rattle.pitch_io.specs.Nets.{Call, Take, ListsCall, NetTakeFailed}
+use Rattle.pitch_io.specs.Nets.{Call, Take, NetTakeFailed}
+use Rattle.pitch_io.specs.Coming.{ListsCall}
 use Rattle.pitch_model.specs.declared.item.Item.{Item}
 use Rattle.pitch_model.specs.History.{Entry, Raw}
 use Rattle.pitch_model.specs.Honest.{Honest}

@@ -21,12 +21,15 @@ use Rattle.gap_store.specs.Look.{View, Store, store_of}
 use Rattle.session_ends.specs.Events.{Event, Fed}
 use Rattle.session_ends.specs.Sending.{new_items}
 use Rattle.grp_session.specs.Budget.{Limits, Spent}
-use Rattle.grp_session.specs.Serving.{Source, Answered, ProxyFeeds, StoreHasOneView}
+use Rattle.grp_session.specs.Serving.{Source}
+use Rattle.grp_session.specs.Feeding.{Answered, ProxyFeeds, StoreHasOneView}
 use Rattle.session_ends.specs.Ending.{Ending}
 use Rattle.spin_server.specs.Served.{Served}
-use Rattle.spin_server.specs.Serving.{Serving, SpinStands, SpinFeeds, spin_sends}
+use Rattle.spin_server.specs.Serving.{Serving, SpinStands, spin_sends}
+use Rattle.spin_server.specs.Feeding.{SpinFeeds}
 use Rattle.spin_server.specs.Shelves.{Shelf}
-use Rattle.spin_server.specs.Stands.{ShelfStands, ShelfShows, ShelfHasOneView}
+use Rattle.spin_server.specs.Stands.{ShelfStands}
+use Rattle.spin_server.specs.ShelfViews.{ShelfShows, ShelfHasOneView}
 use Rattle.world_model.specs.Connections.{KeepsShelf}
 use Rattle.world_model.proofs.SpinCarrying.{shows_view}
 use Rattle.net_edge.specs.Due.{Setting, AreDuePieces, demo_unit, kept_messages, accepted, messages, new_datagrams, advertised_until}

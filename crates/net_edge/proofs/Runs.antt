@@ -9,7 +9,8 @@ use Rattle.pitch_io.specs.declared.line.Line.TheVariants.{A, B, Gap}
 use Rattle.pitch_io.specs.declared.net.LinkEnd.{LinkEnd}
 use Rattle.pitch_io.specs.declared.net.LinkEnd.TheVariants.{GrpClient, GrpServer, SpinClient, SpinServer}
 use Rattle.pitch_io.specs.declared.net.NetDone.{NetDone}
-use Rattle.pitch_io.specs.Nets.{Call, ListsCall, NetDoneFailed, Send}
+use Rattle.pitch_io.specs.Nets.{Call, NetDoneFailed, Send}
+use Rattle.pitch_io.specs.Coming.{ListsCall}
 use Rattle.pitch_messages.specs.Room.{Roomy}
 use Rattle.unit_packets.specs.Packing.{bytes_in}
 use Rattle.net_edge.specs.Acting.{called, scene_after, sent_on, end_puts, all_tick, next_turn}

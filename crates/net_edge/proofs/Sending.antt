@@ -3,7 +3,8 @@ use Rattle.std.proofs.Common.{◌≡◌, inl, inr, List, [], ◌∷◌, ◌++◌
 use Rattle.std.specs.List.{AllByRecursion}
 use Rattle.std.specs.Result.{IfErr}
 use Rattle.pitch_io.specs.declared.net.NetDone.TheVariants.{Done, Failed}
-use Rattle.pitch_io.specs.Nets.{Call, Begin, Send, Next, Put, Take, ListsCall}
+use Rattle.pitch_io.specs.Nets.{Call, Begin, Send, Next, Put, Take}
+use Rattle.pitch_io.specs.Coming.{ListsCall}
 use Rattle.net_edge.specs.Acting.{scene_of}
 use Rattle.net_edge.specs.Breaking.{Breaks, BreaksOff}
 use Rattle.net_edge.specs.Demo.{IsDemo, BreaksDemo, SendsPiece, SendsPieces, AddsCalls}

@@ -4,12 +4,14 @@ use Rattle.std.proofs.Math.Bool.{or-false}
 use Rattle.pitch_io.specs.declared.net.LinkEnd.TheVariants.{GrpServer}
 use Rattle.pitch_io.specs.declared.net.NetTaken.{NetTaken}
 use Rattle.pitch_io.specs.declared.net.NetTaken.TheVariants as taken
-use Rattle.pitch_io.specs.Nets.{Call, Take, ListsCall, came}
+use Rattle.pitch_io.specs.Nets.{Call, Take}
+use Rattle.pitch_io.specs.Coming.{ListsCall, came}
 use Rattle.session_ends.specs.Answering.{Answer}
 use Rattle.session_ends.specs.Closing.{Setup}
 use Rattle.session_ends.specs.Events.{Event, Fed}
 use Rattle.grp_session.specs.Budget.{Counted, Limits, Spent}
-use Rattle.grp_session.specs.Serving.{Source, Answered, proxy_answer}
+use Rattle.grp_session.specs.Serving.{Source, proxy_answer}
+use Rattle.grp_session.specs.Feeding.{Answered}
 use Rattle.net_edge.specs.Acting.{source_at, proxy_took, end_took, taken_at, is_group_open}
 use Rattle.net_edge.specs.Due.{Setting, call_room, messages}
 use Rattle.net_edge.specs.Markets.{gap_source}

@@ -7,9 +7,11 @@ use Rattle.pitch_messages.specs.declared.session.SessionMessage.TheVariants.{Log
 use Rattle.pitch_model.specs.Advertising.{Operation, Accept, Advertise, accepted_by, advertised_by, with_sequence, newest_of}
 use Rattle.pitch_model.specs.History.{Raw}
 use Rattle.pitch_model.proofs.Advertising.{accepted_more, advertised_accept, advertised_advertise}
-use Rattle.gap_store.specs.Look.{View, IsLater, look}
+use Rattle.gap_store.specs.Look.{View, look}
+use Rattle.gap_store.specs.Looking.{IsLater}
 use Rattle.gap_store.proofs.OneView.{one_view}
-use Rattle.session_ends.specs.Answering.{Answer, Answerer, no_answer, followed, answers, Rises}
+use Rattle.session_ends.specs.Answering.{Answer, Answerer, no_answer, followed, answers}
+use Rattle.session_ends.specs.Hearings.{Rises}
 use Rattle.session_ends.specs.Closing.{Setup, cause_of, closed_of, logged_in, logs_in, login_status}
 use Rattle.session_ends.specs.Ending.{Ending, EndKnows, Known, known_of}
 use Rattle.session_ends.specs.Events.{Event, Fed}
@@ -20,11 +22,16 @@ use Rattle.session_ends.specs.declared.role.Said.{Said}
 use Rattle.session_ends.specs.declared.role.Said.TheVariants.{Skipped, TooShort, Message}
 use Rattle.session_ends.proofs.Runs.{IsOrder, rises_nowhere, rises_to}
 use Rattle.grp_session.specs.Budget.{Limits, Spent}
-use Rattle.grp_session.specs.Serving.{Answered, ProxyFeeds, Source}
+use Rattle.grp_session.specs.Serving.{Source}
+use Rattle.grp_session.specs.Feeding.{Answered, ProxyFeeds}
 use Rattle.grp_session.proofs.Asked as asked
-use Rattle.spin_server.specs.Served.{Served, ServedLater, is_served}
-use Rattle.spin_server.specs.Serving.{Serving, Spin, SpinFeeds, SpinStands, after_login, refusal_answer, running_spin, served_answer, spin_answer, spin_fed_answer, spin_message_answer, spin_said_answer, spin_sends}
-use Rattle.spin_server.specs.Stands.{seen_of}
+use Rattle.spin_server.specs.Served.{Served, is_served}
+use Rattle.spin_server.specs.Looking.{ServedLater}
+use Rattle.spin_server.specs.Serving.{Serving, Spin, SpinStands, after_login, refusal_answer}
+use Rattle.spin_server.specs.Serving.{running_spin, served_answer, spin_answer, spin_fed_answer}
+use Rattle.spin_server.specs.Serving.{spin_message_answer, spin_said_answer, spin_sends}
+use Rattle.spin_server.specs.Feeding.{SpinFeeds}
+use Rattle.spin_server.specs.ShelfViews.{seen_of}
 use Rattle.spin_server.proofs.Serves as serves
 use Rattle.spin_server.proofs.Shelving.{later_both, seen_newest, seen_served}
 use Rattle.shared_unit.specs.Histories.{kept_at, served_at, then_done}

@@ -5,13 +5,14 @@ use Rattle.std.proofs.Math.Bool.{or-false}
 use Rattle.pitch_io.specs.declared.net.LinkEnd.TheVariants.{SpinServer}
 use Rattle.pitch_io.specs.declared.net.NetTaken.{NetTaken}
 use Rattle.pitch_io.specs.declared.net.NetTaken.TheVariants as taken
-use Rattle.pitch_io.specs.Nets.{Call, Take, ListsCall, NetTakeFailed, came}
+use Rattle.pitch_io.specs.Nets.{Call, Take, NetTakeFailed}
+use Rattle.pitch_io.specs.Coming.{ListsCall, came}
 use Rattle.session_ends.specs.Closing.{Setup}
 use Rattle.session_ends.specs.Events.{Event, Fed, Pumped}
 use Rattle.session_ends.specs.Sending.{new_items}
 use Rattle.spin_server.specs.Served.{Served}
 use Rattle.spin_server.specs.Serving.{Serving, SpinStands, spin_sends}
-use Rattle.world_model.specs.Connections.{IsServed}
+use Rattle.world_model.specs.Carried.{IsServed}
 use Rattle.world_model.specs.Ends.{spin_server, spin_says}
 use Rattle.world_model.specs.State.{Connection}
 use Rattle.world_model.specs.Verbs.{pumped_times, pumps, sent_whole}

@@ -2,7 +2,8 @@
 use Rattle.std.proofs.Common.{◌≡◌, ℕ, ◌+◌, ◌<◌, ◌≤◌, ◌⊎◌, inl, inr, List, [], Option, None, Some, refl, sym, ap, ◌∙◌, subst, arith}
 use Rattle.pitch_io.specs.declared.net.LinkEnd.TheVariants.{GrpClient, SpinClient}
 use Rattle.pitch_io.specs.declared.net.NetDone.TheVariants.{Done}
-use Rattle.pitch_io.specs.Nets.{Call, Begin, ListsCall, NetDoneFailed}
+use Rattle.pitch_io.specs.Nets.{Call, Begin, NetDoneFailed}
+use Rattle.pitch_io.specs.Coming.{ListsCall}
 use Rattle.pitch_model.specs.History.{Raw}
 use Rattle.pitch_model.specs.declared.status.Status.{Status}
 use Rattle.pitch_model.specs.declared.status.Status.TheVariants.{Current}

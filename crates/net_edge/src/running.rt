@@ -4,14 +4,15 @@ ghost use Rattle.std.specs.Prelude.{◌≡◌, ◌≤◌, ◌<◌, ◌+◌, ◌+
 ghost use Rattle.std.specs.Prelude.{IfOk, IfErr, MatchBool, false};
 ghost use Rattle.std.specs.FinMap as map;
 ghost use Rattle.pitch_io.specs.Causes.{Rose};
-ghost use Rattle.pitch_io.specs.Nets.{Call, Begin, ListsCall};
+ghost use Rattle.pitch_io.specs.Nets.{Call, Begin};
+ghost use Rattle.pitch_io.specs.Coming.{ListsCall};
 ghost use Rattle.pitch_io.specs.declared.net.NetDone.TheVariants.{Done, Failed};
 ghost use Rattle.pitch_io.specs.declared.net.LinkEnd.TheVariants.{GrpClient, SpinClient};
 ghost use Rattle.pitch_model.specs.declared.status.Status.TheVariants.{Current};
 ghost use Rattle.pitch_model.specs.History.{Entry};
 ghost use Rattle.pitch_model.specs.Levels.{shares};
 ghost use Rattle.pitch_model.specs.Status.{status_of};
-ghost use Rattle.client_core.specs.Tracks.{current_book};
+ghost use Rattle.client_core.specs.Client.{current_book};
 ghost use Rattle.feed_lines.specs.UnitLine.{unit_line};
 ghost use Rattle.world_model.specs.Ends.{the_account};
 ghost use Rattle.net_edge.specs.declared.error.DemoError.TheVariants as errors;

@@ -2,7 +2,8 @@
 
 ghost use Rattle.std.specs.Prelude.{◌≡◌, ◌≤◌, ◌<◌, ℕ, Bool, false, true, ◌||◌, ◌&&◌, not, List, []};
 ghost use Rattle.std.specs.Prelude.{◌∷◌, ◌++◌, length, OnOk, IfOk, IfErr, if◌then◌else◌};
-ghost use Rattle.pitch_io.specs.Nets.{Call, came, CameWithin};
+ghost use Rattle.pitch_io.specs.Nets.{Call};
+ghost use Rattle.pitch_io.specs.Coming.{came, CameWithin};
 ghost use Rattle.pitch_io.specs.declared.net.NetTaken.{NetTaken as TakenSaid};
 ghost use Rattle.pitch_io.specs.declared.net.NetTaken.TheVariants.{Got};
 ghost use Rattle.session_ends.specs.Events.{Ticked, Told};

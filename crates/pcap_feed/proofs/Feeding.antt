@@ -159,8 +159,8 @@ no_packets = (unread_of [] (Truncated 0 24) nothing_unread).packets
 packets_fed : (pieces : List (List ℕ)) (old new : Capturing) (before after : List Packet) → HoldsCapture old [] → FeedsPieces pieces old new before after → FedOn HoldsCapture packets_of [] (concat pieces) new before after
 packets_fed pieces = all_fed HoldsCapture packets_of _
     (λ old new fed piece before after answer stands feeds.
-        let did = feeds fed stands in
-        record { stands = did.stands; puts = λ was. did.given ∙ ap (λ (ps : List Packet). ps ++ did.added) was ∙ sym did.packets })
+    let did = feeds fed stands in
+    record { stands = did.stands; puts = λ was. did.given ∙ ap (λ (ps : List Packet). ps ++ did.added) was ∙ sym did.packets })
     pieces []
 
 pub pieces_are_cut : CapturePiecesAreCut

@@ -3,7 +3,7 @@ use Rattle.std.proofs.Common.{◌≡◌, ℕ, zero, suc, ◌+◌, ◌*◌, ◌<�
 use Rattle.std.proofs.lemmas.Bool.{cases_Bool, ltb-false, le-ltb, cond-false, cond-true}
 use Rattle.std.proofs.lemmas.List.{length-take-le, length-drop, get_or-drop, get_or_append_left, take-append-le, drop-append-le}
 use Rattle.byteorder.specs.Endian.{little_from, big_from}
-use Rattle.pcap_feed.specs.Stream.{IsFront}
+use Rattle.pcap_feed.specs.Items.{IsFront}
 use Rattle.pcap_feed.specs.Capture.{Packet, number_in, judge_record, front_on, front_of, packet_at, is_cut_off}
 use Rattle.pcap_feed.specs.Lent.{StandsAtFront, Captures, packet_of}
 use Rattle.pcap_feed.specs.declared.fault.ByteOrder.{ByteOrder}

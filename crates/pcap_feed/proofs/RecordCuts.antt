@@ -2,7 +2,7 @@
 use Rattle.std.proofs.Common.{◌≡◌, ℕ, ◌+◌, ◌≤◌, nat_lt, List, ◌++◌, length, drop, take, sym, ap, ◌∙◌, arith, Ok, subst}
 use Rattle.std.proofs.lemmas.Bool.{le-ltb, cond-false}
 use Rattle.std.proofs.lemmas.List.{length-drop, length-take-le, take-append-drop, take_all, drop-take}
-use Rattle.pcap_feed.specs.Stream.{JudgesItems}
+use Rattle.pcap_feed.specs.Items.{JudgesItems}
 use Rattle.pcap_feed.specs.Capture.{Packet, number_in, judge_record, front_of, packet_at, is_cut_off}
 use Rattle.pcap_feed.specs.Lent.{packet_of}
 use Rattle.pcap_feed.specs.Records.{IsRecord, RecordsAreComputed, RecordsAreOne}

@@ -2,7 +2,9 @@
 -- knows what an item is.
 use Rattle.std.proofs.Common.{◌≡◌, ℕ, zero, suc, ◌+◌, ◌<◌, ◌≤◌, ◌⊎◌, Bool, List, [], ◌∷◌, ◌++◌, length, drop, refl, sym, ap, ◌∙◌, arith, Ok, Err, Result, inl, inr, append_assoc, take}
 use Rattle.std.proofs.lemmas.List.{length-drop, append-nil, drop-append-le, drop-drop, take_at}
-use Rattle.pcap_feed.specs.Stream.{Front, items_found, left_over_found, items_within_by, left_over_by, items_within, left_over, IsFront}
+use Rattle.pcap_feed.specs.Stream.{Front, items_found, left_over_found, items_within_by}
+use Rattle.pcap_feed.specs.Stream.{left_over_by, items_within, left_over}
+use Rattle.pcap_feed.specs.Items.{IsFront}
 
 pub cases_Result : {A E : Type 0} (r : Result A E) → ((x : A) × (r ≡ Ok x)) ⊎ ((e : E) × (r ≡ Err e))
 cases_Result (Ok x) = inl (x, refl)

@@ -3,7 +3,7 @@ use Rattle.std.specs.Prelude.{◌≡◌, ℕ, ◌+◌, ◌≤◌, Bool, List, []
 use Rattle.std.specs.Prelude.{None, Some, Result, Ok, Err}
 use Rattle.std.specs.List.{concat}
 use Rattle.unit_packets.specs.Causes.{counted}
-use Rattle.unit_packets.specs.Feeding.{FeedsEach}
+use Rattle.unit_packets.specs.Pieces.{FeedsEach}
 use Rattle.pcap_feed.specs.Stream.{items_within, left_over}
 use Rattle.pcap_feed.specs.Capture.{Packet, judge_head, judge_record, front_of, packets_from}
 use Rattle.pcap_feed.specs.Capture.{left_from, order_told_from, packets_of, left_of, order_told}

@@ -1,4 +1,5 @@
 pub mod Stream
+pub mod Items
 pub mod Capture
 pub mod Records
 pub mod Causes

@@ -1,6 +1,7 @@
 -- The records of a capture file, by what their bytes are.
 use Rattle.std.specs.Prelude.{◌≡◌, ℕ, ◌≤◌, List, length, drop}
-use Rattle.pcap_feed.specs.Stream.{items_within, left_over, CutsItems}
+use Rattle.pcap_feed.specs.Stream.{items_within, left_over}
+use Rattle.pcap_feed.specs.Items.{CutsItems}
 use Rattle.pcap_feed.specs.Capture.{Packet, number_in, front_of}
 use Rattle.pcap_feed.specs.declared.fault.ByteOrder.{ByteOrder}
 

@@ -21,7 +21,8 @@ use Rattle.pitch_io.specs.declared.call_log.KeptCall.{KeptCall}
 use Rattle.pitch_io.specs.declared.call_log.KeptCall.TheVariants as kept
 use Rattle.pitch_io.specs.declared.call_log.CallLog.{CallLog}
 use Rattle.std.specs.List.{AllByRecursion}
-use Rattle.pitch_io.specs.Nets.{Call, Coming, other_end}
+use Rattle.pitch_io.specs.Nets.{Call, other_end}
+use Rattle.pitch_io.specs.Coming.{Coming}
 use Rattle.pitch_io.specs.Nets as call
 
 -- what is on its way on the three lines and to the four ends

@@ -1,4 +1,4 @@
-ghost use Rattle.pitch_messages.specs.Raw.{RawsAreLongest, LongestChainIsOne};
+ghost use Rattle.pitch_messages.specs.Chains.{RawsAreLongest, LongestChainIsOne};
 
 /// The laws of chains: the raws that the definitions compute are the longest chain at the start of
 /// the bytes, which is as many of them as are asked for unless no raw follows; and there is no

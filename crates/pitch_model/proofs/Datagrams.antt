@@ -18,8 +18,11 @@ use Rattle.unit_packets.proofs.Judged.{front_stands, front_judged}
 use Rattle.unit_packets.proofs.Packs.{after_known}
 use Rattle.unit_packets.proofs.Streams.{of_nothing}
 use Rattle.unit_packets.proofs.Written.{written_is}
-use Rattle.pitch_model.specs.Datagrams.{heard_blocks, block_messages, messages_in, fresh_in, overflows_in, changes_in, IsVenueBlock, IsPiece}
-use Rattle.pitch_model.specs.Heard.{heard_block, heard_messages, heard_sequenced, block_change, block_fresh, block_overflows, fresh_messages, overflowed_messages}
+use Rattle.pitch_model.specs.Datagrams.{heard_blocks, block_messages, IsVenueBlock, IsPiece}
+use Rattle.pitch_model.specs.DatagramCounts.{messages_in, fresh_in, overflows_in, changes_in}
+use Rattle.pitch_model.specs.Heard.{heard_block, heard_messages, heard_sequenced, block_fresh}
+use Rattle.pitch_model.specs.Heard.{block_overflows, fresh_messages, overflowed_messages}
+use Rattle.pitch_model.specs.Changes.{block_change}
 use Rattle.pitch_model.specs.History.{Entry, Raw, Message}
 use Rattle.pitch_model.specs.Honest.{message_at, AreVenues, Honest}
 use Rattle.pitch_model.specs.declared.change.Change.{Change}

@@ -19,7 +19,8 @@ use Rattle.pitch_model.specs.Book.{Book, symbol_cmp, empty_book, with_status, wi
 use Rattle.pitch_model.specs.History.{image_finished, Entry, Message, Next, GrpUp, GrpDown, GapReply, SpinUp, SpinDown, Advertised, SpinReply, ImageMessages, SpinFinished, Ticked, NoSpin, Asked, Running, spin_of}
 use Rattle.pitch_model.specs.Advertising.{Accept, Advertise, advertised_by, last_ten}
 use Rattle.pitch_model.specs.Asking.{ask_of, wants, gap_ask, owes, is_grp_up, is_spin_up, advertised_of}
-use Rattle.pitch_model.specs.Heard.{is_fresh, is_accepted, image_end_at, heard_block}
+use Rattle.pitch_model.specs.Heard.{is_fresh, is_accepted, heard_block}
+use Rattle.pitch_model.specs.Changes.{image_end_at}
 use Rattle.pitch_model.specs.Datagrams.{block_messages}
 use Rattle.pitch_model.specs.Levels.{best, best_of, same_side, level, shares, with_level}
 use Rattle.pitch_model.specs.declared.change.ImageEnd.TheVariants.{Stale, Taken, Bad}

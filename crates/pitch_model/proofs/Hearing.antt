@@ -8,7 +8,11 @@ use Rattle.pitch_messages.specs.Room.{Roomy}
 use Rattle.unit_packets.specs.Blocks.{Block, StaysWithin}
 use Rattle.pitch_model.specs.History.{Entry, Raw, Message}
 use Rattle.pitch_model.specs.Reach.{is_overflow}
-use Rattle.pitch_model.specs.Heard.{IsItem, IsItemOf, heard, heard_block, heard_sequenced, heard_messages, is_fresh, fresh_messages, overflowed_messages, fresh_of, overflows_of, image_end, block_fresh, block_overflows, change_of, block_change}
+use Rattle.pitch_model.specs.Heard.{heard, heard_block, heard_sequenced, heard_messages, is_fresh}
+use Rattle.pitch_model.specs.Heard.{fresh_messages, overflowed_messages, block_fresh}
+use Rattle.pitch_model.specs.Heard.{block_overflows}
+use Rattle.pitch_model.specs.Changes.{IsItem, IsItemOf, fresh_of, overflows_of, image_end}
+use Rattle.pitch_model.specs.Changes.{change_of, block_change}
 use Rattle.pitch_model.specs.Status.{status_of}
 use Rattle.pitch_model.specs.declared.change.ImageEnd.TheVariants.{NoImage}
 use Rattle.pitch_model.specs.declared.item.Item.{Item}

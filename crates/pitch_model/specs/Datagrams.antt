@@ -4,9 +4,8 @@ use Rattle.std.specs.List.{AllByRecursion}
 use Rattle.unit_packets.specs.Blocks.{Block}
 use Rattle.unit_packets.specs.Cutting.{blocks_of, rest_of}
 use Rattle.pitch_model.specs.History.{Entry, Raw}
-use Rattle.pitch_model.specs.Heard.{heard_block, block_fresh, block_overflows, block_change}
+use Rattle.pitch_model.specs.Heard.{heard_block}
 use Rattle.pitch_model.specs.Honest.{AreVenues}
-use Rattle.pitch_model.specs.declared.change.Change.{Change}
 
 -- ---- Blocks that are heard one after another
 -- a history with blocks that are heard after it
@@ -17,27 +16,6 @@ heard_blocks (block ∷ blocks) E = heard_blocks blocks (heard_block block E)
 -- how many of a block's messages are heard: none of an unsequenced block
 abbrev pub block_messages : Block → ℕ
 block_messages block = if block.sequence == 0 then 0 else length block.raws
-
--- how many messages of the blocks are heard
-abbrev pub messages_in : List Block → ℕ
-messages_in [] = 0
-messages_in (block ∷ blocks) = block_messages block + messages_in blocks
-
--- how many of them are fresh, each after those before it
-abbrev pub fresh_in : ℕ → List Entry → List Block → ℕ
-fresh_in H E [] = 0
-fresh_in H E (block ∷ blocks) = block_fresh H E block + fresh_in H (heard_block block E) blocks
-
--- with how many of them the hold overflows
-abbrev pub overflows_in : ℕ → List Entry → List Block → ℕ
-overflows_in H E [] = 0
-overflows_in H E (block ∷ blocks) =
-    block_overflows H E block + overflows_in H (heard_block block E) blocks
-
--- what each block changes
-abbrev pub changes_in : ℕ → List Entry → List Block → List Change
-changes_in H E [] = []
-changes_in H E (block ∷ blocks) = block_change H E block ∷ changes_in H (heard_block block E) blocks
 
 -- ---- Datagrams of a venue
 -- a block of a unit that has some of the venue's messages `V`, from its sequence on; or a

@@ -10,8 +10,10 @@ pub mod Steps
 pub mod Status
 pub mod HeardBlocks
 pub mod Heard
+pub mod Changes
 pub mod Honest
 pub mod Asking
 pub mod Units
 pub mod Datagrams
+pub mod DatagramCounts
 pub mod Advertising

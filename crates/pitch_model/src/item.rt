@@ -1,4 +1,4 @@
-ghost use Rattle.pitch_model.specs.Heard.{IsItem, IsItemOf};
+ghost use Rattle.pitch_model.specs.Changes.{IsItem, IsItemOf};
 
 use pitch_messages::RawList;
 use unit_packets::Block;

@@ -5,7 +5,8 @@ use Rattle.pitch_text.specs.ScheduleGrammar.{entry, schedule_entry}
 use Rattle.pitch_text.specs.WellFormed.{AreWellFormed}
 use Rattle.pitch_text.specs.declared.verb.Verb.{Verb}
 use Rattle.pitch_text.proofs.FoundLemmas.{some_line}
-use Rattle.text_lines.specs.Text.{TextFault, line_of, lines_of, said_on, said_from, said_of, item_of, items_of}
+use Rattle.text_lines.specs.Text.{TextFault, line_of, lines_of, said_on, said_from, said_of}
+use Rattle.text_lines.specs.Items.{item_of, items_of}
 use Rattle.text_lines.specs.declared.fault.Fault.{Fault}
 
 given_on : (n : ℕ) (line : List ℕ) (read : Result (Option (ℕ × Verb)) Fault) (rest : List (Result (ℕ × (ℕ × Verb)) TextFault)) → line_of entry line ≡ read

@@ -7,7 +7,9 @@ use Rattle.pitch_text.specs.Printing.{entry_text, lines_text}
 use Rattle.pitch_text.specs.ScheduleGrammar.{entry, schedule_entry}
 use Rattle.pitch_text.specs.WellFormed.{IsWellFormed}
 use Rattle.pitch_text.proofs.LineLemmas.{line_again, entry_before_others}
-use Rattle.text_lines.specs.Text.{TextFault, lines_of, said_from, said_of, all_of, entries_of, item_of, items_of, with_front}
+use Rattle.text_lines.specs.Text.{TextFault, lines_of, said_from, said_of, all_of, entries_of}
+use Rattle.text_lines.specs.Text.{with_front}
+use Rattle.text_lines.specs.Items.{item_of, items_of}
 use Rattle.text_lines.specs.declared.fault.TextError.{TextError}
 
 -- each entry is one that some line gives

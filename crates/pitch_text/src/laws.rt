@@ -7,7 +7,8 @@ ghost use Rattle.pitch_text.specs.declared.verb.Verb.{Verb};
 ghost use Rattle.pitch_text.specs.Printing.{lines_text};
 ghost use Rattle.pitch_text.specs.ScheduleGrammar.{entry, schedule_entry};
 ghost use Rattle.pitch_text.specs.WellFormed.{AreWellFormed, IsWellFormed};
-ghost use Rattle.text_lines.specs.Text.{entries_of, items_of};
+ghost use Rattle.text_lines.specs.Text.{entries_of};
+ghost use Rattle.text_lines.specs.Items.{items_of};
 
 /// Each entry that a schedule's text gives is well formed.
 #[tactic(auto, using(crate::proofs::GivenLemmas::schedule_given))]

@@ -1,5 +1,5 @@
 ghost use Rattle.std.specs.Prelude.{◌≡◌};
-ghost use Rattle.pitch_words.specs.Forms.{IsInRange};
+ghost use Rattle.pitch_words.specs.Commands.{IsInRange};
 ghost use Rattle.pitch_tool.specs.Jobs.{job_of as the_job, CanDo};
 
 use pitch_words::Form;

@@ -1,7 +1,9 @@
 //! The form that the program's words are.
 ghost use Rattle.std.specs.Prelude.{◌≡◌, List, IfOk, IfSome, MatchOption, map, string_bytes};
-ghost use Rattle.long_options.specs.Words.{Text, has_dashes as some_dashes};
-ghost use Rattle.pitch_words.specs.Forms.{IsForm, IsInRange};
+ghost use Rattle.long_options.specs.Words.{Text};
+ghost use Rattle.long_options.specs.Plain.{has_dashes as some_dashes};
+ghost use Rattle.pitch_words.specs.Forms.{IsForm};
+ghost use Rattle.pitch_words.specs.Commands.{IsInRange};
 ghost use Rattle.pitch_words.specs.declared.form.Form.{Form};
 
 use crate::form::Form;

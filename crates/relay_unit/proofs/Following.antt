@@ -8,7 +8,8 @@ use Rattle.pitch_model.specs.Book.{Book, empty_book, after, book_after}
 use Rattle.pitch_model.specs.Image.{image_of}
 use Rattle.unit_packets.specs.Blocks.{Block}
 use Rattle.unit_packets.specs.Packing.{packed}
-use Rattle.client_core.specs.Tracks.{Keeps, current_book}
+use Rattle.client_core.specs.Tracks.{Keeps}
+use Rattle.client_core.specs.Client.{current_book}
 use Rattle.client_core.specs.declared.client.UnitClient.{UnitClient}
 use Rattle.relay_unit.specs.Following.{IsStep, AreSteps, sent_in, Sends, HasSent, SendsMore}
 use Rattle.relay_unit.specs.Calls.{AppendsRelayed, AppendsAny}

@@ -6,7 +6,8 @@ use Rattle.unit_packets.specs.Blocks.{Block}
 use Rattle.pitch_messages.specs.declared.message.Message.TheVariants.{UnitClear}
 use Rattle.pitch_messages.specs.Writing.{written}
 use Rattle.pitch_model.specs.History.{Entry, Raw, Message, Spinning, NoSpin, Asked, Running, spin_of, image_finished, bad_image, adds, Ticked}
-use Rattle.pitch_model.specs.Heard.{heard, heard_messages, heard_sequenced, heard_block, image_end, image_end_at}
+use Rattle.pitch_model.specs.Heard.{heard, heard_messages, heard_sequenced, heard_block}
+use Rattle.pitch_model.specs.Changes.{image_end, image_end_at}
 use Rattle.pitch_model.specs.Image.{image, image_of}
 use Rattle.pitch_model.specs.Book.{Book, book_after}
 use Rattle.pitch_model.specs.Reach.{reach, sequences}

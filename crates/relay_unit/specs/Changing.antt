@@ -7,7 +7,7 @@ use Rattle.pitch_messages.specs.declared.session.SessionMessage.{SessionMessage}
 use Rattle.pitch_messages.specs.declared.session.SessionMessage.TheVariants.{SpinFinished}
 use Rattle.pitch_messages.specs.declared.session.SessionError.{SessionError}
 use Rattle.pitch_model.specs.History.{Entry, Raw, image_finished, bad_image, spin_of}
-use Rattle.pitch_model.specs.Heard.{image_end_at, block_change}
+use Rattle.pitch_model.specs.Changes.{image_end_at, block_change}
 use Rattle.pitch_model.specs.Reach.{reach}
 use Rattle.pitch_model.specs.Status.{status_of}
 use Rattle.pitch_model.specs.declared.change.Change.{Change}

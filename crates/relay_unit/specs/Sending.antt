@@ -5,9 +5,11 @@ use Rattle.unit_packets.specs.Packing.{packed}
 use Rattle.pitch_model.specs.Book.{Book, after}
 use Rattle.pitch_model.specs.History.{Entry, Raw}
 use Rattle.pitch_model.specs.declared.item.Item.{Item}
-use Rattle.pitch_model.specs.Heard.{IsItem, heard, image_end}
+use Rattle.pitch_model.specs.Heard.{heard}
+use Rattle.pitch_model.specs.Changes.{IsItem, image_end}
 use Rattle.pitch_model.specs.declared.change.ImageEnd.TheVariants as end
-use Rattle.client_core.specs.Tracks.{Tracks, Keeps, current_book}
+use Rattle.client_core.specs.Tracks.{Tracks, Keeps}
+use Rattle.client_core.specs.Client.{current_book}
 use Rattle.client_core.specs.Weight.{weight, told_by}
 use Rattle.client_core.specs.declared.client.UnitClient.{UnitClient}
 use Rattle.relay_unit.specs.Hearing.{heard_unsequenced, relay_heard}

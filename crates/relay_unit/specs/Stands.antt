@@ -3,7 +3,8 @@ use Rattle.std.specs.Prelude.{◌≡◌, ℕ, ◌+◌, ◌<◌, ◌≤◌, List,
 use Rattle.pitch_fields.specs.Limits.{last_sequence}
 use Rattle.pitch_model.specs.Book.{Book}
 use Rattle.pitch_model.specs.History.{Entry, Raw}
-use Rattle.client_core.specs.Tracks.{Tracks, Keeps, current_book}
+use Rattle.client_core.specs.Tracks.{Tracks, Keeps}
+use Rattle.client_core.specs.Client.{current_book}
 use Rattle.relay_unit.specs.Relayed.{relayed_count}
 use Rattle.relay_unit.specs.RelayText.{IsVenue}
 use Rattle.relay_unit.specs.declared.relay.Relay.{Relay}

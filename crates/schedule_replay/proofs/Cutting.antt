@@ -10,7 +10,8 @@ use Rattle.std.proofs.Math.Seq.{take-add}
 use Rattle.pitch_text.specs.ScheduleGrammar.{entry, schedule_entry}
 use Rattle.pitch_text.specs.declared.verb.ScheduleEntry.{ScheduleEntry}
 use Rattle.text_lines.specs.declared.fault.TextError.{TextError}
-use Rattle.text_lines.specs.Text.{said_on, line_of, lines_of, item_of}
+use Rattle.text_lines.specs.Text.{said_on, line_of, lines_of}
+use Rattle.text_lines.specs.Items.{item_of}
 use Rattle.text_lines.proofs.FieldLemmas.{split_first, parts_after}
 use Rattle.text_lines.proofs.TextLemmas.{is_feed, items_first}
 use Rattle.schedule_replay.specs.Stretches.{AreListed, AreWholeLines, IsCut, Owned, Splits, StretchPart, items_at, items_in, list_at, list_on, part_at, parts_of, stretches_of}

@@ -11,7 +11,8 @@ use Rattle.pitch_text.specs.ScheduleGrammar.{entry, schedule_entry}
 use Rattle.pitch_text.specs.WellFormed.{IsWellFormed, AreWellFormed}
 use Rattle.pitch_text.specs.declared.verb.ScheduleEntry.{ScheduleEntry}
 use Rattle.pitch_text.specs.declared.verb.Verb.{Verb}
-use Rattle.text_lines.specs.Text.{TextFault, said_on, said_from, line_of, lines_of, item_of}
+use Rattle.text_lines.specs.Text.{TextFault, said_on, said_from, line_of, lines_of}
+use Rattle.text_lines.specs.Items.{item_of}
 use Rattle.text_lines.specs.declared.fault.Fault.{Fault}
 use Rattle.text_lines.specs.declared.fault.TextError.{TextError}
 use Rattle.text_lines.specs.declared.fault.TextError.TheVariants as errors
@@ -19,7 +20,7 @@ use Rattle.world_model.specs.declared.world.World.{World}
 use Rattle.schedule_replay.specs.Replay.{replay_line}
 use Rattle.schedule_replay.specs.Runs.{later, entries_among, without_fault, AreOf, ArePartsOf, part_entries, part_texts, RunsLines, cut_by, lengths_total, Ran}
 use Rattle.schedule_replay.specs.Stretches.{AreListed, Owned, StretchPart, items_at, list_at, part_at, parts_of, stretches_of, unit_parts}
-use Rattle.schedule_replay.specs.Worlds.{IsPlace}
+use Rattle.schedule_replay.specs.Places.{IsPlace}
 use Rattle.schedule_replay.specs.declared.stretches.Stretch.{Stretch}
 use Rattle.schedule_replay.specs.declared.units.UnitRun.{UnitRun}
 use Rattle.schedule_replay.specs.declared.unrun.CantRunApart.{CantRunApart}

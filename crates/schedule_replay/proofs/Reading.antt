@@ -6,13 +6,14 @@ use Rattle.pitch_text.specs.ScheduleGrammar.{entry, schedule_entry}
 use Rattle.pitch_text.specs.WellFormed.{IsWellFormed, AreWellFormed}
 use Rattle.pitch_text.specs.declared.verb.ScheduleEntry.{ScheduleEntry}
 use Rattle.pitch_text.specs.declared.verb.Verb.{Verb}
-use Rattle.text_lines.specs.Text.{TextFault, entries_of, items_of, all_of}
+use Rattle.text_lines.specs.Text.{TextFault, entries_of, all_of}
+use Rattle.text_lines.specs.Items.{items_of}
 use Rattle.text_lines.specs.declared.fault.TextError.{TextError}
 use Rattle.text_lines.proofs.TextLemmas.{Taken, takes_none, takes_entry, answer_of, items_answer, with_all}
 use Rattle.world_model.specs.declared.world.World.{World}
 use Rattle.schedule_replay.specs.Causes.{replay_error}
 use Rattle.schedule_replay.specs.Replay.{replay_line, replay_text, schedule_on, schedule_of, replay_on, replay_of}
-use Rattle.schedule_replay.specs.Worlds.{ArePlaces, RunsText}
+use Rattle.schedule_replay.specs.Places.{ArePlaces, RunsText}
 use Rattle.schedule_replay.specs.declared.error.ReplayError.{ReplayError}
 
 -- the items of a text

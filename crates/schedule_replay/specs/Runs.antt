@@ -8,10 +8,10 @@ use Rattle.feed_lines.specs.Texts.{texts_after}
 use Rattle.pitch_text.specs.declared.verb.ScheduleEntry.{ScheduleEntry}
 use Rattle.text_lines.specs.declared.fault.TextError.{TextError}
 use Rattle.world_model.specs.declared.world.World.{World}
-use Rattle.schedule_replay.specs.Apart.{first_piece}
+use Rattle.schedule_replay.specs.Merging.{first_piece}
 use Rattle.schedule_replay.specs.Replay.{replay_line}
 use Rattle.schedule_replay.specs.Stretches.{AreListed, Owned, StretchPart, list_at, parts_of}
-use Rattle.schedule_replay.specs.Worlds.{IsPlace}
+use Rattle.schedule_replay.specs.Places.{IsPlace}
 use Rattle.schedule_replay.specs.declared.stretches.Stretch.{Stretch}
 use Rattle.schedule_replay.specs.declared.merging.Unmerged.{Unmerged}
 use Rattle.schedule_replay.specs.declared.units.UnitRun.{UnitRun}

@@ -4,7 +4,7 @@ use Rattle.std.specs.Prelude.{Some, Result, slice_get, if◌then◌else◌}
 use Rattle.std.specs.Global.{Vec}
 use Rattle.pitch_text.specs.ScheduleGrammar.{entry, schedule_entry}
 use Rattle.pitch_text.specs.declared.verb.ScheduleEntry.{ScheduleEntry}
-use Rattle.text_lines.specs.Text.{items_from}
+use Rattle.text_lines.specs.Items.{items_from}
 use Rattle.text_lines.specs.declared.fault.TextError.{TextError}
 use Rattle.schedule_replay.specs.declared.stretches.Stretch.{Stretch}
 

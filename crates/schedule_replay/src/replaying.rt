@@ -5,7 +5,7 @@ ghost use Rattle.std.specs.Prelude.{Ok, Err};
 ghost use Rattle.pitch_fields.specs.Limits.{text_limit};
 ghost use Rattle.schedule_replay.specs.Apart.{most_workers};
 ghost use Rattle.schedule_replay.specs.Replay.{replay_of};
-ghost use Rattle.schedule_replay.specs.Worlds.{AddsWorlds};
+ghost use Rattle.schedule_replay.specs.Places.{AddsWorlds};
 ghost use Rattle.schedule_replay.specs.declared.error.ReplayError.TheVariants as errors;
 
 use crate::apart::replay_apart;

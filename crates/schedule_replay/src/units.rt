@@ -8,7 +8,7 @@ ghost use Rattle.schedule_replay.specs.Replay.{replay_line};
 ghost use Rattle.schedule_replay.specs.Runs.{later, RunsLines, Ran, AreRun};
 ghost use Rattle.schedule_replay.specs.Stretches.{AreListed, Owned, StretchPart, items_at};
 ghost use Rattle.schedule_replay.specs.Stretches.{parts_of, unit_parts};
-ghost use Rattle.schedule_replay.specs.Worlds.{IsPlace};
+ghost use Rattle.schedule_replay.specs.Places.{IsPlace};
 
 use crate::running::run_in;
 use crate::stretches::Stretch;

@@ -7,7 +7,8 @@ use Rattle.unit_packets.specs.declared.header.Header.{Header}
 use Rattle.unit_packets.specs.declared.header.BlockFault.{BlockFault}
 use Rattle.unit_packets.specs.Judging.{judge}
 use Rattle.unit_packets.specs.Cutting.{blocks_of, blocks_by, rest_of, rest_by, place_of, fault_in}
-use Rattle.unit_packets.specs.Feeding.{Feeds, fed_answer, fed_fault, kept_fault}
+use Rattle.unit_packets.specs.Feeding.{fed_fault, kept_fault}
+use Rattle.unit_packets.specs.Pieces.{Feeds, fed_answer}
 use Rattle.unit_packets.proofs.Stable.{judge_found}
 use Rattle.unit_packets.proofs.Cuts.{first_of, none_of, cases_Result, rest_short, appends}
 use Rattle.unit_packets.proofs.Feeds.{stands_unread, stands_fault, fed_on}

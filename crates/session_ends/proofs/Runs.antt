@@ -4,7 +4,8 @@ use Rattle.std.specs.List.{list_any}
 use Rattle.std.proofs.lemmas.List.{append-nil}
 use Rattle.session_ends.specs.declared.closed.Closed.{Closed}
 use Rattle.session_ends.specs.declared.inbox.Heard.{Heard}
-use Rattle.session_ends.specs.Answering.{Answer, Answerer, no_answer, followed, answers, Rises, Hears, HearsAll}
+use Rattle.session_ends.specs.Answering.{Answer, Answerer, no_answer, followed, answers}
+use Rattle.session_ends.specs.Hearings.{Rises, Hears, HearsAll}
 use Rattle.session_ends.specs.Closing.{Setup, cause_of, first_cause, or_else, logs_in}
 use Rattle.session_ends.specs.Laws.{RisesNowhere}
 use Rattle.session_ends.proofs.Ends.{bool_assoc, bool_none}

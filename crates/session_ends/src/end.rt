@@ -9,8 +9,9 @@ ghost use Rattle.pitch_messages.specs.declared.session.SessionMessage.{SessionMe
 ghost use Rattle.session_ends.specs.declared.closed.CloseCause.TheVariants.{Memory};
 ghost use Rattle.session_ends.specs.Closing.{has_sub, is_theirs, login_status, cause_of};
 ghost use Rattle.session_ends.specs.Closing.{cause_of_said, logs_in, refused, too_early};
-ghost use Rattle.session_ends.specs.Ending.{EndKnows, Known, known_ticked, tick_bytes};
-ghost use Rattle.session_ends.specs.Ending.{nothing_known};
+ghost use Rattle.session_ends.specs.Ending.{EndKnows, Known};
+ghost use Rattle.session_ends.specs.Ticking.{known_ticked, tick_bytes};
+ghost use Rattle.session_ends.specs.Ticking.{nothing_known};
 ghost use Rattle.session_ends.specs.Items.{closed_at};
 ghost use Rattle.session_ends.specs.Saying.{heard_by};
 ghost use Rattle.session_ends.specs.Sending.{header_unit, sent_bytes, heartbeat_bytes, some_bytes};

@@ -4,7 +4,8 @@ ghost use Rattle.std.specs.Prelude.{slice_get, IfOk, OnOk, OnErr, IfSome, IfNone
 ghost use Rattle.std.specs.List.{list_any};
 ghost use Rattle.pitch_fields.specs.Limits.{last_sequence};
 ghost use Rattle.unit_packets.specs.Packing.{bytes_in};
-ghost use Rattle.gap_store.specs.Look.{look, AnswersLook, AnswersPack};
+ghost use Rattle.gap_store.specs.Look.{look};
+ghost use Rattle.gap_store.specs.Looking.{AnswersLook, AnswersPack};
 ghost use Rattle.shared_unit.specs.Answers.{AnswersImage};
 ghost use Rattle.shared_unit.specs.Histories.{kept_at, served_at};
 ghost use Rattle.shared_unit.specs.Stored.{AreBlank, EndsWith, sequence_of};

@@ -8,7 +8,8 @@ use Rattle.session_ends.specs.Events.{Fed, fed_of}
 use Rattle.client_links.specs.Linking.{NoLookup, LinkStands, link_setup, link_tells}
 use Rattle.session_ends.specs.Ending.{Ending}
 use Rattle.client_links.specs.Telling.{without_spare}
-use Rattle.spin_path.specs.Paths.{Path, Move, Links, path_of, all_said, heard_all, takes_all, IsFeed, AreMoves, HasWholeImages, CarriesOn}
+use Rattle.spin_path.specs.Paths.{Path, Move, Links, path_of, all_said, heard_all, AreMoves}
+use Rattle.spin_path.specs.PathLaws.{takes_all, IsFeed, HasWholeImages, CarriesOn}
 use Rattle.spin_path.proofs.Moves.{all_are_taken, spare_is_unheard}
 use Rattle.spin_path.proofs.Whole.{images_are_whole}
 

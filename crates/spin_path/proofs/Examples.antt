@@ -16,7 +16,9 @@ use Rattle.session_ends.specs.Events.{Event, Fed, Ticked, Told}
 use Rattle.session_ends.specs.Items.{stream_items}
 use Rattle.spin_server.specs.Served.{Served}
 use Rattle.client_links.specs.Linking.{NoLookup}
-use Rattle.spin_path.specs.Paths.{says_at, all_said, Path, begun, Move, Links, Takes, Cuts, moved, path_of, IsShown, MayServe, MayLink, MayHear, NoneBad}
+use Rattle.spin_path.specs.Paths.{says_at, all_said, Path, begun, Move, Links, Takes, Cuts, moved}
+use Rattle.spin_path.specs.Paths.{path_of, IsShown, MayServe, MayLink, MayHear}
+use Rattle.spin_path.specs.PathLaws.{NoneBad}
 
 -- the server of unit 1, and that of unit 2, to which nobody may log in
 abbrev one : Setup

@@ -11,7 +11,8 @@ use Rattle.pitch_model.specs.Heard.{heard, is_accepted}
 use Rattle.pitch_model.specs.History.{Entry, Raw, Message, Next, GrpUp, GrpDown, GapReply, SpinUp, SpinDown, Advertised, SpinReply, ImageMessages, SpinFinished, Ticked, Spinning, NoSpin, Asked, Running, adds, bad_image, image_finished, spin_of, spin_asked, spin_replied, spin_more, spin_finished, can_promise}
 use Rattle.pitch_model.specs.Honest.{Honest, AreImages}
 use Rattle.pitch_model.specs.Image.{image}
-use Rattle.spin_path.specs.Paths.{NoneBad, MayHear}
+use Rattle.spin_path.specs.Paths.{MayHear}
+use Rattle.spin_path.specs.PathLaws.{NoneBad}
 
 -- what a server has left to send of an image: its sequence, and its messages
 abbrev pub ImageLeft : Type 0

@@ -5,14 +5,17 @@ use Rattle.pitch_model.specs.declared.item.Item.{Item}
 use Rattle.pitch_model.specs.declared.item.Item.TheVariants as item
 use Rattle.pitch_model.specs.declared.change.ImageEnd.TheVariants as end
 use Rattle.pitch_model.specs.Reach.{reach}
-use Rattle.pitch_model.specs.Heard.{heard, image_end_at}
+use Rattle.pitch_model.specs.Heard.{heard}
+use Rattle.pitch_model.specs.Changes.{image_end_at}
 use Rattle.pitch_model.specs.History.{Entry, Raw, Message, Next, GrpUp, GrpDown, GapReply, SpinUp, SpinDown, Advertised, SpinReply, ImageMessages, SpinFinished, Ticked as TickedEntry, image_finished, bad_image, spin_of}
 use Rattle.pitch_model.specs.Honest.{message_at}
 use Rattle.session_ends.specs.Closing.{Setup}
 use Rattle.session_ends.specs.Events.{Event, Fed, Ticked, Asked, Pumped, Told}
 use Rattle.client_links.specs.Telling.{without_spare}
 use Rattle.spin_server.specs.Served.{Served}
-use Rattle.spin_path.specs.Paths.{Path, Move, Serves, Links, Takes, Cuts, Hears, path_of, IsShown, MayServe, MayHear, taken, MayMove, AreMoves, MovesStay, AllAreTaken, SpareIsUnheard, NeverAnswered, heard_all}
+use Rattle.spin_path.specs.Paths.{Path, Move, Serves, Links, Takes, Cuts, Hears, path_of, IsShown}
+use Rattle.spin_path.specs.Paths.{MayServe, MayHear, taken, MayMove, AreMoves, heard_all}
+use Rattle.spin_path.specs.PathLaws.{MovesStay, AllAreTaken, SpareIsUnheard, NeverAnswered}
 
 -- ---- More messages
 get_more : {A : Type 0} (xs ys : List A) (i : ℕ) (x : A) → slice_get xs i ≡ Some x → slice_get (xs ++ ys) i ≡ Some x

@@ -5,17 +5,21 @@ use Rattle.std.proofs.lemmas.List.{append-nil}
 use Rattle.pitch_model.specs.Advertising.{Operation, accepted_by, advertised_by}
 use Rattle.pitch_model.specs.History.{Raw}
 use Rattle.pitch_model.proofs.Advertising.{advertised_within}
-use Rattle.session_ends.specs.Answering.{Rises}
+use Rattle.session_ends.specs.Hearings.{Rises}
 use Rattle.session_ends.specs.Closing.{Setup}
 use Rattle.session_ends.specs.Events.{Event, Fed, Pumped}
 use Rattle.session_ends.proofs.Runs.{rises_to, rises_nowhere}
-use Rattle.spin_server.specs.Served.{Served, ServedLater}
-use Rattle.spin_server.specs.Serving.{Serving, SpinStands, SpinFeeds, runs, spin_sends}
+use Rattle.spin_server.specs.Served.{Served}
+use Rattle.spin_server.specs.Looking.{ServedLater}
+use Rattle.spin_server.specs.Serving.{Serving, SpinStands, runs, spin_sends}
+use Rattle.spin_server.specs.Feeding.{SpinFeeds}
 use Rattle.spin_server.specs.Shelves.{Shelf}
-use Rattle.spin_server.specs.Stands.{ShelfStands, ShelfShows, seen_of}
+use Rattle.spin_server.specs.Stands.{ShelfStands}
+use Rattle.spin_server.specs.ShelfViews.{ShelfShows, seen_of}
 use Rattle.spin_server.proofs.Serves.{later_order}
 use Rattle.spin_server.proofs.Shelving.{one_served, later_both, shelf_seen}
-use Rattle.spin_path.specs.Paths.{Move, path_of, all_said, IsShown, AreMoves, ServesOn}
+use Rattle.spin_path.specs.Paths.{Move, path_of, all_said, IsShown, AreMoves}
+use Rattle.spin_path.specs.PathLaws.{ServesOn}
 
 all_drop : (C : ℕ → Type 0) (n : ℕ) (ns : List ℕ) → AllByRecursion C ns → AllByRecursion C (drop n ns)
 all_drop C zero ns all = all

@@ -31,7 +31,7 @@ use Rattle.session_ends.proofs.Ends.{cause_append, or_parts}
 use Rattle.session_ends.proofs.Inboxes.{items_stay}
 use Rattle.client_links.specs.Telling.{tells, told_of}
 use Rattle.spin_server.specs.Serving.{Spin}
-use Rattle.spin_path.specs.Paths.{IsFeed}
+use Rattle.spin_path.specs.PathLaws.{IsFeed}
 use Rattle.spin_path.proofs.Flow.{ImageLeft, GoReply, Goes, rest_more as more_of, rests, rests_append, goes_both}
 use Rattle.spin_path.proofs.Links.{link_of, once, told_once, told_none}
 use Rattle.spin_path.proofs.Pieces.{rest_none, rest_more, block_told, block_untold, one_told, beat_told, IsOther, others_told}

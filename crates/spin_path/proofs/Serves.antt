@@ -19,7 +19,8 @@ use Rattle.session_ends.proofs.Ends.{or_parts}
 use Rattle.pitch_model.specs.Advertising.{last_ten, newest_of}
 use Rattle.spin_server.specs.Served.{Served, is_served}
 use Rattle.spin_server.specs.Serving.{Spin, available_bytes, next_block, spin_left, spin_login_answer, spin_message_answer, spin_said_answer, spin_answer, served_answer, spin_request_answer, refusal_answer, pump_bytes, pumped, tell_bytes, running_spin, spin_sends}
-use Rattle.spin_path.specs.Paths.{IsFeed, IsShown, MayServe, all_said, says_at}
+use Rattle.spin_path.specs.Paths.{IsShown, MayServe, all_said, says_at}
+use Rattle.spin_path.specs.PathLaws.{IsFeed}
 use Rattle.spin_path.proofs.Sending.{Sent, Serves, nothing_sent, serves_none, serves_beat, serves_login, serves_available, serves_refusal, serves_image, serves_finished, serves_datagram}
 
 -- ---- What a view shows

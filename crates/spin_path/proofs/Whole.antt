@@ -10,7 +10,10 @@ use Rattle.session_ends.specs.Events.{Event, Fed, Ticked, Asked, Pumped, Told, f
 use Rattle.session_ends.specs.Sending.{header_unit}
 use Rattle.client_links.specs.Linking.{Lookups}
 use Rattle.spin_server.specs.Served.{Served}
-use Rattle.spin_path.specs.Paths.{Takes, taken, Path, Move, Serves, Links, Cuts, Hears, moved, path_of, all_said, says_at, link_told_at, IsFeed, IsSpinServer, MayServe, MayMove, AreMoves, ImagesAreWhole}
+use Rattle.spin_path.specs.Paths.{Takes, taken, Path, Move, Serves, Links, Cuts, Hears, moved}
+use Rattle.spin_path.specs.Paths.{path_of, all_said, says_at, link_told_at, IsSpinServer, MayServe}
+use Rattle.spin_path.specs.Paths.{MayMove, AreMoves}
+use Rattle.spin_path.specs.PathLaws.{IsFeed, ImagesAreWhole}
 use Rattle.spin_path.proofs.Flow.{ImageLeft, Go, Goes, sound_item, rests, rests_append, goes_first, goes_last, Sound, sound_none, sound_cut, sound_entry}
 use Rattle.spin_path.proofs.Links.{told_once, told_more, told_over, begins}
 use Rattle.spin_path.proofs.Serves.{holds}

@@ -4,7 +4,8 @@ ghost use Rattle.session_ends.specs.declared.role.Role.TheVariants.{SpinLink as 
 ghost use Rattle.session_ends.specs.Closing.{Setup};
 ghost use Rattle.session_ends.specs.Events.{fed_of};
 ghost use Rattle.client_links.specs.Linking.{link_setup, LinkStands};
-ghost use Rattle.spin_path.specs.Paths.{Move, path_of, all_said, IsFeed, AreMoves, CarriesOn};
+ghost use Rattle.spin_path.specs.Paths.{Move, path_of, all_said, AreMoves};
+ghost use Rattle.spin_path.specs.PathLaws.{IsFeed, CarriesOn};
 
 use client_links::{ItemList, SpinLink};
 use pitch_fields::OutOfMemory;

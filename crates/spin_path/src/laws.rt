@@ -1,5 +1,5 @@
-ghost use Rattle.spin_path.specs.Paths.{ImagesAreWhole, NeverAnswered, MovesStay, AllAreTaken};
-ghost use Rattle.spin_path.specs.Paths.{SpareIsUnheard};
+ghost use Rattle.spin_path.specs.PathLaws.{ImagesAreWhole, NeverAnswered, MovesStay, AllAreTaken};
+ghost use Rattle.spin_path.specs.PathLaws.{SpareIsUnheard};
 
 /// The law of images over bytes: whatever a client asks for, and wherever its connections are cut,
 /// of a Spin Server's bytes no image is bad, each that is finished is the image of the unit's

@@ -3,7 +3,8 @@ ghost use Rattle.pitch_model.specs.Advertising.{Operation, accepted_by};
 ghost use Rattle.session_ends.specs.Closing.{Setup};
 ghost use Rattle.spin_server.specs.Serving.{SpinStands};
 ghost use Rattle.spin_server.specs.Stands.{ShelfStands};
-ghost use Rattle.spin_path.specs.Paths.{Move, path_of, AreMoves, ServesOn};
+ghost use Rattle.spin_path.specs.Paths.{Move, path_of, AreMoves};
+ghost use Rattle.spin_path.specs.PathLaws.{ServesOn};
 
 use pitch_fields::OutOfMemory;
 use spin_server::{ImageShelf, SpinServer};

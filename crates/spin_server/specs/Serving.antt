@@ -11,14 +11,14 @@ use Rattle.pitch_model.specs.Image.{image}
 use Rattle.unit_packets.specs.Packing.{packed}
 use Rattle.session_ends.specs.declared.role.Said.{Said}
 use Rattle.session_ends.specs.declared.role.Said.TheVariants.{Message}
-use Rattle.session_ends.specs.Answering.{Answer, Answerer, no_answer, followed, answers, Rises}
+use Rattle.session_ends.specs.Answering.{Answer, Answerer, no_answer, answers}
 use Rattle.session_ends.specs.Closing.{Setup, closed_of, logged_in, login_status}
 use Rattle.session_ends.specs.Ending.{Ending, EndKnows, known_of}
 use Rattle.session_ends.specs.Events.{Event, Fed, Pumped, Told}
 use Rattle.session_ends.specs.Saying.{heard_by}
 use Rattle.session_ends.specs.Sending.{header_unit, sent_bytes, new_items}
 use Rattle.pitch_model.specs.Advertising.{newest_of}
-use Rattle.spin_server.specs.Served.{Served, ServedLater, is_served}
+use Rattle.spin_server.specs.Served.{Served, is_served}
 
 -- ---- The spin
 -- an image that is being sent: its sequence, and the datagrams that are left
@@ -160,26 +160,3 @@ pub record Serving : Type 0 where
 pub record SpinStands (v : Serving) (es : List (Event (List Served))) : Type 0 where
   pub end_is : EndKnows v.end (known_of (spin_sends v.end.setup) v.end.setup es)
   pub spin_is : v.end.closed ≡ None → v.spin ≡ running_spin v.end.setup es
-
--- what feeding does: it stands for one event more, and what it answers was appended; the messages
--- were answered at views that rise from that of the call to that after it, one for each message and
--- each end of a block
-pub record SpinFeeds (es : List (Event (List Served))) (bytes : List ℕ) (old new : Serving)
-    (view : Served) (shown : Served → Type 0) (reply reply' : List ℕ) : Type 0 where
-  pub views : List Served
-  pub each : length views ≡ length (new_items es bytes)
-  pub now : Served
-  pub rises : Rises ServedLater view views now
-  pub shows : shown now
-  pub stands : SpinStands new (Fed bytes views ∷ es)
-  pub replied : reply' ≡ reply ++ spin_sends old.end.setup (Fed bytes views) es
-
--- ---- Laws
--- however the bytes are cut: what is answered to two pieces at once is what is answered to the one,
--- then to the other
-abbrev pub SpinAnswersOnce : Type 0
-SpinAnswersOnce = (s : Setup) (es : List (Event (List Served))) (a b : List ℕ)
-    (views more : List Served) (spin : Option Spin) → length views ≡ length (new_items es a)
-    → spin_fed_answer s es (a ++ b) (views ++ more) spin
-    ≡ followed (spin_fed_answer s es a views spin)
-    (spin_fed_answer s (Fed a views ∷ es) b more (spin_fed_answer s es a views spin).knows)

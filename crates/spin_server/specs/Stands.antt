@@ -1,39 +1,10 @@
 -- What an image shelf stands for.
-use Rattle.std.specs.Prelude.{◌≡◌, ℕ, ◌-◌, length, List, replicate}
+use Rattle.std.specs.Prelude.{◌≡◌, List}
 use Rattle.pitch_model.specs.Advertising.{Operation, accepted_by, advertised_by, last_ten}
-use Rattle.session_ends.specs.Answering.{Rises}
-use Rattle.spin_server.specs.Served.{Served, ServedLater}
-use Rattle.spin_server.specs.Shelves.{Shelf, ShelfKeeps, first_or}
+use Rattle.spin_server.specs.Shelves.{Shelf, ShelfKeeps}
 
 -- a shelf stands for what was pushed and advertised: it keeps the messages, and serves the last ten
 -- advertised sequences
 pub record ShelfStands (shelf : Shelf) (operations : List Operation) : Type 0 where
   pub keeps : ShelfKeeps shelf (accepted_by operations)
   pub served_is : shelf.served ≡ last_ten (advertised_by operations)
-
--- how many messages come after the oldest sequence that is served; none where none is
-abbrev pub retained : List Operation → ℕ
-retained operations = length (accepted_by operations)
-    - first_or (length (accepted_by operations)) (last_ten (advertised_by operations))
-
--- what can be seen of a shelf: of the sequences those that are served
-pub record ShelfShows (shelf : Shelf) (v : Served) : Type 0 where
-  pub keeps : ShelfKeeps shelf v.messages
-  pub advertised_is : v.advertised ≡ shelf.served
-
--- ---- Laws
--- the view of what was pushed and advertised
-abbrev pub seen_of : List Operation → Served
-seen_of operations =
-    record { messages = accepted_by operations; advertised = last_ten (advertised_by operations) }
-
--- a view that comes later is the same while the shelf is
-abbrev pub OneServed : Type 0
-OneServed = (shelf : Shelf) (view now : Served)
-    → ShelfShows shelf view → ShelfShows shelf now → ServedLater view now → now ≡ view
-
--- and all views at which a piece is answered are one
-abbrev pub ShelfHasOneView : Type 0
-ShelfHasOneView = (shelf : Shelf) (view now : Served) (views : List Served)
-    → ShelfShows shelf view → ShelfShows shelf now → Rises ServedLater view views now
-    → (now ≡ view) × (views ≡ replicate (length views) view)

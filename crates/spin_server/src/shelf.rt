@@ -7,8 +7,10 @@ ghost use Rattle.std.specs.FinMap as map;
 ghost use Rattle.pitch_model.specs.Book.{after, book_after};
 ghost use Rattle.pitch_model.specs.Advertising.{Operation, Accept, Advertise, accepted_by};
 ghost use Rattle.pitch_model.specs.Advertising.{newest_of};
-ghost use Rattle.spin_server.specs.Shelves.{ShelfKeeps, base_at, is_number};
-ghost use Rattle.spin_server.specs.Stands.{ShelfStands, retained};
+ghost use Rattle.spin_server.specs.Shelves.{ShelfKeeps, base_at};
+ghost use Rattle.spin_server.specs.ShelfCode.{is_number};
+ghost use Rattle.spin_server.specs.Stands.{ShelfStands};
+ghost use Rattle.spin_server.specs.ShelfViews.{retained};
 
 use crate::lookup::{ImageLookup, Imaged};
 use arrayvec::ArrayVec;
@@ -33,7 +35,8 @@ pub struct ImageShelf {
 }
 
 impl Model for ImageShelf {
-    ghost use Rattle.spin_server.specs.Shelves.{Shelf, shelf_code, IsShelf};
+    ghost use Rattle.spin_server.specs.Shelves.{Shelf};
+    ghost use Rattle.spin_server.specs.ShelfCode.{shelf_code, IsShelf};
 
     ghost Value = { Shelf };
 
@@ -252,7 +255,7 @@ impl ImageShelf {
 }
 
 impl ImageLookup for ImageShelf {
-    ghost use Rattle.spin_server.specs.Stands.{ShelfShows};
+    ghost use Rattle.spin_server.specs.ShelfViews.{ShelfShows};
 
     ghost shows = { λ s v. ShelfShows s v };
 

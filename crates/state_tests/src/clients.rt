@@ -1,5 +1,5 @@
 ghost use Rattle.std.specs.Prelude.{◌<◌};
-ghost use Rattle.pitch_model.specs.Heard.{IsItem};
+ghost use Rattle.pitch_model.specs.Changes.{IsItem};
 
 use client_core::{Item, UnitClient, item_of_block};
 use pitch_messages::{Raw, RawList};

@@ -3,7 +3,8 @@
 ghost use Rattle.std.specs.Prelude.{◌≡◌, ◌≤◌, ◌++◌, List, ℕ, [], length, OnOk, OnErr, IfOk};
 ghost use Rattle.pitch_text.specs.declared.verb.ScheduleEntry.{ScheduleEntry as EntrySaid};
 ghost use Rattle.schedule_replay.specs.Apart.{most_workers};
-ghost use Rattle.schedule_replay.specs.Worlds.{AddsWorlds, AreRunThrough, IsWorldOf};
+ghost use Rattle.schedule_replay.specs.Worlds.{AreRunThrough, IsWorldOf};
+ghost use Rattle.schedule_replay.specs.Places.{AddsWorlds};
 ghost use Rattle.storm_replay.specs.Storm.{most_units, most_steps, storm_schedule};
 ghost use Rattle.storm_replay.specs.StormText.{storm_line};
 ghost use Rattle.storm_replay.specs.Summary.{AreInTurn, AreStormWorlds, ended_line, ended_lines};

@@ -22,7 +22,10 @@ use Rattle.stream_print.specs.Page.{Prints, PrintsSuch}
 use Rattle.stream_print.specs.Printing.{PrintsPiece}
 use Rattle.stream_print.specs.Putting.{PutsSome, PutsSuch}
 use Rattle.stream_print.specs.Readers.{blocks_with}
-use Rattle.stream_print.specs.Texts.{AreVenuesOf, texts_by, AreTexts, BeginTexts, AreTextsAfter, BeginTextsAfter, Outruns, OutrunsAmong, IsText, IsPrefixOfText, IsEnd, IsPrefixOfEnd}
+use Rattle.stream_print.specs.Texts.{AreVenuesOf, texts_by, AreTexts, BeginTexts, IsText}
+use Rattle.stream_print.specs.Texts.{IsPrefixOfText}
+use Rattle.stream_print.specs.TextLaws.{AreTextsAfter, BeginTextsAfter, Outruns, OutrunsAmong}
+use Rattle.stream_print.specs.TextLaws.{IsEnd, IsPrefixOfEnd}
 use Rattle.stream_print.specs.declared.printer.Printer.{Printer}
 use Rattle.stream_print.specs.declared.reader.StreamReader.{StreamReader}
 use Rattle.stream_print.specs.declared.failure.StreamTrouble.{StreamTrouble}

@@ -12,7 +12,7 @@ use Rattle.stream_print.specs.Inputs.{lasting_trouble, end_trouble, StreamEnds, 
 use Rattle.stream_print.specs.Page.{PrintsSuch, Prints}
 use Rattle.stream_print.specs.Putting.{PutsSuch, PutsSome}
 use Rattle.stream_print.specs.Readers.{packets_text}
-use Rattle.stream_print.specs.Texts.{IsEnd, IsPrefixOfEnd}
+use Rattle.stream_print.specs.TextLaws.{IsEnd, IsPrefixOfEnd}
 use Rattle.stream_print.specs.declared.printer.Printer.{Printer}
 use Rattle.stream_print.specs.declared.reader.StreamReader.{StreamReader}
 use Rattle.stream_print.specs.declared.failure.StreamFailure.{StreamFailure}

@@ -1,5 +1,5 @@
 -- The books of all units, one after another.
-use Rattle.stream_print.specs.Texts.{IsEnd, IsPrefixOfEnd}
+use Rattle.stream_print.specs.TextLaws.{IsEnd, IsPrefixOfEnd}
 use Rattle.std.proofs.Common.{◌≡◌, ℕ, ◌+◌, ◌<◌, Bool, true, false, cond, List, [], ◌∷◌, ◌++◌, take, refl, sym, ap, ◌∙◌, subst, arith, Option, Some, None, slice_get, append_assoc}
 use Rattle.std.specs.List.{flat_map}
 use Rattle.std.proofs.lemmas.List.{append-nil}

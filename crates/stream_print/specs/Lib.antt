@@ -14,4 +14,5 @@ pub mod Readers
 pub mod Rising
 pub mod Sinks
 pub mod Texts
+pub mod TextLaws
 pub mod Told

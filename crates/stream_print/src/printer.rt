@@ -26,7 +26,7 @@ impl Printer {
     ghost use Rattle.stream_print.specs.Holding.{CanHold};
     ghost use Rattle.stream_print.specs.Knowing.{task_form, HasPrinted};
     ghost use Rattle.stream_print.specs.Printing.{PrintsBlocks, FailsBlocks};
-    ghost use Rattle.stream_print.specs.Texts.{IsEnd, IsPrefixOfEnd};
+    ghost use Rattle.stream_print.specs.TextLaws.{IsEnd, IsPrefixOfEnd};
 
     /// Nothing was printed yet of what the form asks for.
     pub fn make(alloc: Global, form: StreamForm) -> Result<Printer, OutOfMemory>

@@ -8,7 +8,7 @@ ghost use Rattle.stream_print.specs.Knowing.{task_form, Knows};
 ghost use Rattle.stream_print.specs.Printing.{PrintsBlock, FailsBlock};
 ghost use Rattle.stream_print.specs.Sinks.{PagePrints, PagePrintsSuch, PutsPrefix, PutsPrefixSuch};
 ghost use Rattle.stream_print.specs.Sinks.{CountsFault};
-ghost use Rattle.stream_print.specs.Texts.{IsEnd, IsPrefixOfEnd};
+ghost use Rattle.stream_print.specs.TextLaws.{IsEnd, IsPrefixOfEnd};
 
 use crate::books::print_books;
 use crate::failure::PrintError;

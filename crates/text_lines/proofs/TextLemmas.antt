@@ -7,7 +7,10 @@ use Rattle.std.proofs.lemmas.List.{append-nil, take_all}
 use Rattle.text_lines.specs.declared.fault.TextError.{TextError}
 use Rattle.text_lines.specs.declared.fault.TextError.TheVariants as errors
 use Rattle.text_lines.specs.Reading.{LineReading}
-use Rattle.text_lines.specs.Text.{TextFault, said_on, said_from, said_of, with_front, all_of, line_of, lines_of, entries_of, item_of, items_from, items_of, IsFirstLine, AppendsEntries, IsFirstFault}
+use Rattle.text_lines.specs.Text.{TextFault, said_on, said_from, said_of, with_front, all_of}
+use Rattle.text_lines.specs.Text.{line_of, lines_of, entries_of}
+use Rattle.text_lines.specs.Items.{item_of, items_from, items_of, IsFirstLine, AppendsEntries}
+use Rattle.text_lines.specs.Items.{IsFirstFault}
 use Rattle.text_lines.proofs.FieldLemmas.{split_first, parts_after}
 
 abbrev pub is_feed : ℕ → Bool

@@ -5,4 +5,5 @@ pub mod Reading
 pub mod Options
 pub mod Next
 pub mod Text
+pub mod Items
 pub mod Causes

@@ -5,8 +5,10 @@ ghost use Rattle.std.specs.Str.Lines.{strip_carriage_return};
 ghost use Rattle.pitch_fields.specs.Limits.{text_limit};
 ghost use Rattle.text_lines.specs.Fields.{Rest};
 ghost use Rattle.text_lines.specs.Reading.{Reads};
-ghost use Rattle.text_lines.specs.Text.{line_of, is_skipped, too_long, said_on, item_of, items_of};
-ghost use Rattle.text_lines.specs.Text.{entries_of, IsFirstLine, AppendsEntries, IsFirstFault};
+ghost use Rattle.text_lines.specs.Text.{line_of, is_skipped, too_long, said_on};
+ghost use Rattle.text_lines.specs.Items.{item_of, items_of};
+ghost use Rattle.text_lines.specs.Text.{entries_of};
+ghost use Rattle.text_lines.specs.Items.{IsFirstLine, AppendsEntries, IsFirstFault};
 
 use crate::fault::{Fault, TextCause, TextError};
 use crate::fields::{LineFields, length_before};
@@ -61,7 +63,7 @@ impl<'a, G: Grammar> Model for Lines<'a, G> {
 
     ghost Value = { List (Result G.Entry TextError) };
 
-    ghost use Rattle.text_lines.specs.Text.{items_from};
+    ghost use Rattle.text_lines.specs.Items.{items_from};
 
     ghost view = { λ l. items_from G.reading G.entry_of l.number l.rest.now };
 

@@ -7,7 +7,9 @@ use Rattle.unit_packets.specs.Causes.{counted}
 use Rattle.unit_packets.specs.Judging.{judge}
 use Rattle.unit_packets.specs.Cutting.{blocks_of, rest_of, place_of, fault_in}
 use Rattle.unit_packets.specs.Reading.{Reading, unread}
-use Rattle.unit_packets.specs.Feeding.{fed_fault, kept_fault, StandsFor, fed_answer, Feeds, WithMemory, FeedsEach, FeedsAll, PiecesAreCut, PiecesDoNotMatter}
+use Rattle.unit_packets.specs.Feeding.{fed_fault, kept_fault, StandsFor}
+use Rattle.unit_packets.specs.Pieces.{fed_answer, Feeds, WithMemory, FeedsEach, FeedsAll}
+use Rattle.unit_packets.specs.Pieces.{PiecesAreCut, PiecesDoNotMatter}
 use Rattle.unit_packets.specs.declared.header.BlockFault.{BlockFault}
 use Rattle.unit_packets.specs.declared.block.FeedError.{FeedError}
 use Rattle.unit_packets.specs.declared.block.FeedError.TheVariants.{Fault, OutOfMemory}
@@ -145,8 +147,8 @@ all_fed Stands cut does one (piece ∷ pieces) fed old new before after stands (
 blocks_fed : (pieces : List (List ℕ)) (old new : Reading) (before after : List Block) → StandsFor old [] → FeedsAll pieces old new before after → FedOn StandsFor blocks_of [] (concat pieces) new before after
 blocks_fed pieces = all_fed StandsFor blocks_of _
     (λ old new fed piece before after answer stands feeds.
-        let did = feeds fed stands in
-        record { stands = did.stands; puts = λ was. did.given ∙ ap (λ (bs : List Block). bs ++ did.added) was ∙ sym did.blocks })
+    let did = feeds fed stands in
+    record { stands = did.stands; puts = λ was. did.given ∙ ap (λ (bs : List Block). bs ++ did.added) was ∙ sym did.blocks })
     pieces []
 
 pub pieces_are_cut : PiecesAreCut

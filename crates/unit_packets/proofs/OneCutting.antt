@@ -3,7 +3,8 @@ use Rattle.std.proofs.Common.{◌≡◌, ℕ, zero, suc, ◌+◌, ◌<◌, ◌�
 use Rattle.std.proofs.lemmas.List.{length-drop, get_or-drop, take-append-drop, drop_at}
 use Rattle.pitch_fields.proofs.Bytes.{byte_at}
 use Rattle.pitch_messages.specs.Raw.{raws_of}
-use Rattle.unit_packets.specs.Blocks.{Block, IsBlock, AreBlocks, BeginsNoBlock, Cuts}
+use Rattle.unit_packets.specs.Blocks.{Block, IsBlock}
+use Rattle.unit_packets.specs.Cuts.{AreBlocks, BeginsNoBlock, Cuts}
 use Rattle.unit_packets.specs.declared.header.Header.{Header}
 use Rattle.unit_packets.specs.declared.header.BlockError.{BlockError}
 use Rattle.unit_packets.specs.Judging.{judge, block_at, header_of}

@@ -1,6 +1,6 @@
 -- The block that a packer has begun.
 use Rattle.std.specs.Prelude.{ℕ, ◌≤◌, ◌<◌, List, length, drop}
-use Rattle.pitch_messages.specs.Raw.{IsChain}
+use Rattle.pitch_messages.specs.Chains.{IsChain}
 use Rattle.unit_packets.specs.Blocks.{StaysWithin}
 use Rattle.unit_packets.specs.Packing.{datagram_size}
 

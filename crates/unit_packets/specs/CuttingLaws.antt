@@ -1,7 +1,8 @@
 -- Laws of cutting.
 use Rattle.std.specs.Prelude.{◌≡◌, ℕ, List}
 use Rattle.pitch_fields.specs.Fields.{AreBytes}
-use Rattle.unit_packets.specs.Blocks.{Block, Cuts}
+use Rattle.unit_packets.specs.Blocks.{Block}
+use Rattle.unit_packets.specs.Cuts.{Cuts}
 use Rattle.unit_packets.specs.Cutting.{blocks_of, rest_of}
 
 -- of bytes, the computed cutting is the longest list of blocks and its rest

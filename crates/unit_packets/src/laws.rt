@@ -1,8 +1,9 @@
 ghost use Rattle.std.specs.Prelude.{[]};
 ghost use Rattle.unit_packets.specs.CuttingLaws.{CutsAreComputed, CutsAreOne};
-ghost use Rattle.unit_packets.specs.Feeding.{StandsFor, PiecesAreCut, PiecesDoNotMatter};
+ghost use Rattle.unit_packets.specs.Feeding.{StandsFor};
+ghost use Rattle.unit_packets.specs.Pieces.{PiecesAreCut, PiecesDoNotMatter};
 ghost use Rattle.unit_packets.specs.Reading.{unread};
-ghost use Rattle.unit_packets.specs.Pushing.{PackingIsComputed, PackingIsOne};
+ghost use Rattle.unit_packets.specs.Packings.{PackingIsComputed, PackingIsOne};
 
 /// The laws of cutting a stream into blocks: the cutting that the definitions compute is a longest
 /// list of blocks with what follows it, and no other cutting of the same bytes is one.

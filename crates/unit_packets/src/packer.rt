@@ -5,8 +5,9 @@ ghost use Rattle.pitch_messages.specs.Raw.{IsRaw};
 ghost use Rattle.unit_packets.specs.BlockBytes.{header_bytes, block_bytes};
 ghost use Rattle.unit_packets.specs.Blocks.{most_messages, StaysWithin};
 ghost use Rattle.unit_packets.specs.Packing.{datagram_size, sequence_after, fits_datagram};
-ghost use Rattle.unit_packets.specs.Pushing.{unpacked, next_sequence, HasPacked, Pushes, Finishes};
-ghost use Rattle.unit_packets.specs.Pushing.{GivesPacking};
+ghost use Rattle.unit_packets.specs.Pushing.{next_sequence, HasPacked};
+ghost use Rattle.unit_packets.specs.Packings.{unpacked, Pushes, Finishes};
+ghost use Rattle.unit_packets.specs.Packings.{GivesPacking};
 
 use crate::header::Header;
 use crate::writing::header_bytes;

@@ -12,7 +12,8 @@ use Rattle.pitch_model.specs.History.{Raw, adds}
 use Rattle.pitch_model.specs.Honest.{AreVenues}
 use Rattle.pitch_model.specs.Image.{image}
 use Rattle.pitch_model.proofs.Datagrams.{packing_pieces, venues_slice}
-use Rattle.gap_store.specs.Look.{View, look, given, slice_of, PacksRange}
+use Rattle.gap_store.specs.Look.{View, look, slice_of}
+use Rattle.gap_store.specs.Looking.{given, PacksRange}
 use Rattle.gap_store.specs.declared.found.Found.{Found}
 use Rattle.gap_store.specs.declared.found.Found.TheVariants.{Kept}
 use Rattle.spin_server.specs.Served.{is_served}

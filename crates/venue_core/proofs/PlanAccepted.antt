@@ -15,7 +15,8 @@ use Rattle.pitch_text.specs.declared.command.Command.TheVariants as commands
 use Rattle.venue_core.specs.declared.error.VenueError.TheVariants.{Ended, ZeroQuantity, BadSymbol, KnownId, UnknownId, TooMuch, BookFull, SequencesSpent}
 use Rattle.venue_core.specs.Commands.{message_of, raw_of, ends_session}
 use Rattle.venue_core.specs.Refusals.{reads_end, is_ended, are_spent, has_no_shares, has_bad_name, adds_open_order, names_no_order, takes_too_much, shares_of, excess, overfills, refused_if, first_refusal, refusal}
-use Rattle.venue_core.specs.Plan.{plan_quantity, plan_price, plan_order, plan_command, plan, buy_left, sell_left, second_buy}
+use Rattle.venue_core.specs.Plan.{plan_quantity, plan_price, plan_order, plan_command, plan}
+use Rattle.venue_core.specs.Planned.{buy_left, sell_left, second_buy}
 use Rattle.venue_core.proofs.Accepting.{ends_by_message, or_false}
 use Rattle.venue_core.proofs.PlanEffects.{Does, quantity_least, quantity_most, price_most, price_cents, symbol_case, fits_wire, time_does, add_does, exec_does, reduce_does, modify_does, delete_does, trade_does}
 use Rattle.venue_core.proofs.PlanBooks.{Orders, plan_length, get_other, first_command, second_command, third_command, fourth_command, fifth_command, sixth_command, seventh_command, eighth_even, eighth_odd, first_order, second_order, orders_2, orders_3, orders_4, orders_5, orders_6, orders_7, clock, book_of, finds_first, finds_second, finds_reduced, finds_third, stands_1, stands_2, stands_3, stands_4, stands_5, stands_6, stands_7}

@@ -12,7 +12,9 @@ use Rattle.pitch_model.proofs.Folding.{book_after-append}
 use Rattle.pitch_text.specs.declared.command.Command.{Command}
 use Rattle.pitch_text.specs.declared.command.Command.TheVariants as commands
 use Rattle.venue_core.specs.Commands.{raw_of}
-use Rattle.venue_core.specs.Plan.{plan_quantity, plan_price, plan_order, plan_at, plan_command, plan, buy_left, sell_left, second_buy}
+use Rattle.venue_core.specs.Plan.{plan_quantity, plan_price, plan_order, plan_at, plan_command}
+use Rattle.venue_core.specs.Plan.{plan}
+use Rattle.venue_core.specs.Planned.{buy_left, sell_left, second_buy}
 use Rattle.venue_core.proofs.PlanEffects.{Does, done, quantity_least, quantity_most, price_most, price_cents, fits_wire, time_does, add_does, exec_does, reduce_does, modify_does, delete_does, trade_does}
 
 abbrev pub Orders : Type 0

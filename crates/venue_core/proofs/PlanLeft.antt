@@ -12,7 +12,8 @@ use Rattle.std.specs.FinMap.Entries.{put, find, by_order}
 use Rattle.pitch_messages.specs.declared.order.Order.{Order}
 use Rattle.pitch_model.specs.Book.{Book, reduced_by, book_after}
 use Rattle.pitch_model.specs.Levels.{shares}
-use Rattle.venue_core.specs.Plan.{plan, plan_quantity, plan_price, buy_left, sell_left, second_buy, second_buy_left, orders_left}
+use Rattle.venue_core.specs.Plan.{plan, plan_quantity, plan_price}
+use Rattle.venue_core.specs.Planned.{buy_left, sell_left, second_buy, second_buy_left, orders_left}
 use Rattle.venue_core.proofs.PlanBooks.{Orders, first_order, second_order, orders_2, orders_3, orders_4, orders_5, orders_6, orders_7, orders_8, book_of, stands_1, stands_2, stands_3, stands_4, stands_5, stands_6, stands_7, stands_8}
 
 -- ---- Maps that answer alike

@@ -27,11 +27,12 @@ use Rattle.world_model.specs.Printed.{overflowed}
 use Rattle.pitch_model.specs.Datagrams.{IsPiece, IsVenueBlock, heard_blocks}
 use Rattle.world_model.proofs.Pieces.{pieces_more, pieces_append, pieces_after, piece_at, blocks_of_pieces}
 use Rattle.world_model.specs.Sound.{Sound}
-use Rattle.spin_path.specs.Paths.{HasWholeImages}
+use Rattle.spin_path.specs.PathLaws.{HasWholeImages}
 use Rattle.world_model.specs.Witness.{Witnessed}
 use Rattle.world_model.proofs.Witness.{accepted_more, hears_blocks, whole}
 use Rattle.world_model.proofs.HeardBlocks.{overflow_step}
-use Rattle.world_model.specs.Stands.{WorldHas, Keeping, Acts, WorldStands, Marks, Passes}
+use Rattle.world_model.specs.Stands.{WorldHas, Keeping, WorldStands}
+use Rattle.world_model.specs.Steps.{Acts, Marks, Passes}
 use Rattle.world_model.specs.State.{State, Connection, datagrams_on, passed_on, passed_to}
 use Rattle.world_model.specs.Verbs.{Done, done, does, state_of, commanded_on, commanded, flushed, beaten, numbered, delivered, delivered_on, rest_delivered, hears, up_to, budget_ticks}
 use Rattle.grp_session.specs.Budget as budget

@@ -9,8 +9,10 @@ use Rattle.unit_packets.specs.Packing.{bytes_in}
 use Rattle.unit_packets.specs.Blocks.{Block}
 use Rattle.unit_packets.specs.Cutting.{blocks_of}
 use Rattle.pitch_io.specs.declared.line.Line.{Line}
-use Rattle.pitch_model.specs.Heard.{heard_block, block_change, block_overflows}
-use Rattle.pitch_model.specs.Datagrams.{heard_blocks, overflows_in, block_messages}
+use Rattle.pitch_model.specs.Heard.{heard_block, block_overflows}
+use Rattle.pitch_model.specs.Changes.{block_change}
+use Rattle.pitch_model.specs.Datagrams.{heard_blocks, block_messages}
+use Rattle.pitch_model.specs.DatagramCounts.{overflows_in}
 use Rattle.pitch_model.specs.declared.change.Change.{Change}
 use Rattle.pitch_model.specs.History.{Entry, Raw}
 use Rattle.pitch_model.specs.Honest.{Honest}

@@ -26,10 +26,12 @@ use Rattle.client_links.specs.Linking.{link_tells}
 use Rattle.client_links.specs.Telling.{without_spare}
 use Rattle.spin_path.specs.Paths.{heard_all}
 use Rattle.spin_path.proofs.Moves.{spare_is_unheard}
-use Rattle.world_model.specs.Connections.{IsProxy, IsSpinServer, IsGrpConnection, HasConnection, HasGrp, HasSpin, CarriedUp, CarriedDown}
+use Rattle.world_model.specs.Connections.{IsProxy, IsSpinServer, HasConnection, HasGrp, HasSpin}
+use Rattle.world_model.specs.Carried.{IsGrpConnection, CarriedUp, CarriedDown}
 use Rattle.world_model.specs.Ends.{grp_server, gap_link, spin_link, link_of}
 use Rattle.world_model.specs.Hearing.{HearsItems, IsTold}
-use Rattle.world_model.specs.Stands.{WorldHas, Acts, Marks, Passes}
+use Rattle.world_model.specs.Stands.{WorldHas}
+use Rattle.world_model.specs.Steps.{Acts, Marks, Passes}
 use Rattle.world_model.specs.State.{State, Connection, Pipe, LooksIn, connection_of, with_connection, waiting}
 use Rattle.world_model.specs.Verbs.{done, connection, shut, login_of, opened, ended, ended_where, down_of, settled, server_fed, up, up_on, link_hears, link_fed, link_ticked, down, down_on, grp_fed, carried, wanted, at_link, source_of, took, with_up, with_down}
 use Rattle.world_model.specs.Witness.{Witnessed}

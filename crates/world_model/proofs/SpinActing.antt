@@ -6,18 +6,22 @@ use Rattle.std.proofs.lemmas.List.{append-nil}
 use Rattle.pitch_model.specs.Advertising.{Operation, Advertise, accepted_by, advertised_by, with_sequence, last_ten}
 use Rattle.pitch_model.proofs.Advertising as operations
 use Rattle.pitch_model.specs.History.{Entry, Raw}
-use Rattle.session_ends.specs.Answering.{Rises}
+use Rattle.session_ends.specs.Hearings.{Rises}
 use Rattle.session_ends.specs.Events.{Event, Fed, Told}
 use Rattle.session_ends.specs.Sending.{new_items}
-use Rattle.spin_server.specs.Served.{Served, ServedLater}
+use Rattle.spin_server.specs.Served.{Served}
+use Rattle.spin_server.specs.Looking.{ServedLater}
 use Rattle.spin_server.specs.Shelves.{Shelf}
-use Rattle.spin_server.specs.Stands.{ShelfStands, seen_of}
+use Rattle.spin_server.specs.Stands.{ShelfStands}
+use Rattle.spin_server.specs.ShelfViews.{seen_of}
 use Rattle.spin_server.proofs.Shelving.{shelf_seen, later_same}
 use Rattle.spin_path.specs.Paths.{IsShown, MayServe}
 use Rattle.spin_path.proofs.Pumps.{views_are_shown}
 use Rattle.pitch_text.specs.declared.verb.Session.TheVariants.{Spin}
-use Rattle.world_model.specs.Connections.{IsSpinConnection, HasSpin, KeepsShelf}
-use Rattle.world_model.specs.Stands.{WorldHas, Acts, Passes}
+use Rattle.world_model.specs.Connections.{HasSpin, KeepsShelf}
+use Rattle.world_model.specs.Carried.{IsSpinConnection}
+use Rattle.world_model.specs.Stands.{WorldHas}
+use Rattle.world_model.specs.Steps.{Acts, Passes}
 use Rattle.world_model.specs.State.{State, Connection, waiting}
 use Rattle.world_model.specs.Verbs.{spin_fed, advertised, at_server_of, views_of, sent_whole, pumps, took, with_up}
 use Rattle.world_model.specs.Witness.{Witnessed}

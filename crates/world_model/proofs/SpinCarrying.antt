@@ -3,20 +3,23 @@ use Rattle.std.proofs.Common.{◌≡◌, ℕ, zero, suc, ◌≤◌, List, [], �
 use Rattle.pitch_text.specs.declared.verb.Session.TheVariants.{Spin}
 use Rattle.pitch_model.specs.Advertising.{advertised_by, last_ten}
 use Rattle.pitch_model.specs.History.{Raw}
-use Rattle.session_ends.specs.Answering.{Rises}
+use Rattle.session_ends.specs.Hearings.{Rises}
 use Rattle.session_ends.specs.Closing.{Setup}
 use Rattle.session_ends.specs.Ending.{Ending}
 use Rattle.session_ends.specs.Events.{Event, Fed}
 use Rattle.session_ends.specs.Sending.{new_items}
 use Rattle.session_ends.proofs.Runs.{rises_to, rises_nowhere}
-use Rattle.spin_server.specs.Served.{Served, ServedLater}
-use Rattle.spin_server.specs.Serving.{Serving, SpinStands, SpinFeeds, spin_sends}
+use Rattle.spin_server.specs.Served.{Served}
+use Rattle.spin_server.specs.Looking.{ServedLater}
+use Rattle.spin_server.specs.Serving.{Serving, SpinStands, spin_sends}
+use Rattle.spin_server.specs.Feeding.{SpinFeeds}
 use Rattle.spin_server.specs.Shelves.{Shelf}
-use Rattle.spin_server.specs.Stands.{ShelfShows, seen_of}
+use Rattle.spin_server.specs.ShelfViews.{ShelfShows, seen_of}
 use Rattle.spin_server.proofs.Serves.{later_order}
 use Rattle.spin_server.proofs.Shelving.{one_served, later_both, shelf_seen}
 use Rattle.client_links.specs.Linking.{Lookups, LinkStands}
-use Rattle.world_model.specs.Connections.{IsPipe, IsServed, IsSpinConnection, KeepsShelf}
+use Rattle.world_model.specs.Connections.{IsPipe, KeepsShelf}
+use Rattle.world_model.specs.Carried.{IsServed, IsSpinConnection}
 use Rattle.world_model.specs.Ends.{spin_server}
 use Rattle.world_model.specs.State.{State, Connection, Pipe, waiting}
 use Rattle.world_model.specs.Verbs.{put_in, took, with_up, at_server_of, pumped_times, pumps, sent_whole, views_of}

@@ -10,7 +10,9 @@ use Rattle.session_ends.specs.Closing.{Setup}
 use Rattle.session_ends.specs.Events.{Event, Fed, Ticked, Asked, Pumped, fed_of}
 use Rattle.spin_server.specs.Served.{Served}
 use Rattle.client_links.specs.Linking.{Lookups, NoLookup, link_tells}
-use Rattle.spin_path.specs.Paths.{Path, Move, Serves, Links, Cuts, path_of, moved, all_said, says_at, heard_all, takes_all, MayServe, MayLink}
+use Rattle.spin_path.specs.Paths.{Path, Move, Serves, Links, Cuts, path_of, moved, all_said}
+use Rattle.spin_path.specs.Paths.{says_at, heard_all, MayServe, MayLink}
+use Rattle.spin_path.specs.PathLaws.{takes_all}
 use Rattle.spin_path.proofs.Moves.{all_are_taken}
 use Rattle.world_model.specs.Ends.{spin_server, spin_link}
 use Rattle.world_model.specs.State.{Connection, Pipe, waiting}

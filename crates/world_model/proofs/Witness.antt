@@ -8,7 +8,8 @@ use Rattle.pitch_model.specs.Heard.{heard, heard_block, heard_messages, heard_se
 use Rattle.pitch_model.specs.History.{Entry, Raw, Message, Next, GrpUp, GapReply}
 use Rattle.pitch_model.specs.Honest.{AreVenues, message_at}
 use Rattle.spin_server.specs.Served.{Served}
-use Rattle.spin_path.specs.Paths.{Move, AreMoves, Hears, MayHear, IsFeed, HasWholeImages, moved, heard_all}
+use Rattle.spin_path.specs.Paths.{Move, AreMoves, Hears, MayHear, moved, heard_all}
+use Rattle.spin_path.specs.PathLaws.{IsFeed, HasWholeImages}
 use Rattle.session_ends.specs.Closing.{Setup}
 use Rattle.pitch_model.specs.declared.item.Item.{Item}
 use Rattle.pitch_model.specs.declared.item.Item.TheVariants as item

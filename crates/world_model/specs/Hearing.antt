@@ -7,7 +7,8 @@ use Rattle.pitch_model.specs.declared.item.Item.{Item}
 use Rattle.pitch_model.specs.declared.item.Item.TheVariants as item
 use Rattle.unit_packets.specs.Blocks.{Block}
 use Rattle.pitch_io.specs.declared.line.Line.{Line}
-use Rattle.pitch_model.specs.Datagrams.{heard_blocks, overflows_in}
+use Rattle.pitch_model.specs.Datagrams.{heard_blocks}
+use Rattle.pitch_model.specs.DatagramCounts.{overflows_in}
 use Rattle.pitch_model.specs.History.{Entry, Raw}
 use Rattle.pitch_model.specs.Honest.{Honest}
 use Rattle.pitch_model.specs.Image.{image}

@@ -5,6 +5,8 @@ pub mod Printed
 pub mod Witness
 pub mod Sound
 pub mod Connections
+pub mod Carried
 pub mod Hearing
 pub mod Stands
+pub mod Steps
 pub mod Spending

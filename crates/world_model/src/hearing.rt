@@ -5,7 +5,7 @@ ghost use Rattle.std.specs.List.{flat_map};
 ghost use Rattle.unit_packets.specs.Cutting.{blocks_of};
 ghost use Rattle.pitch_model.specs.Datagrams.{block_messages};
 ghost use Rattle.unit_packets.specs.Packing.{bytes_in};
-ghost use Rattle.pitch_model.specs.Heard.{IsItem};
+ghost use Rattle.pitch_model.specs.Changes.{IsItem};
 ghost use Rattle.world_model.specs.Hearing.{HearsBlocks, HearsItems, IsTold};
 
 use client_core::{UnitClient, images_of_bytes_are_images};

@@ -9,7 +9,7 @@ use Rattle.pitch_model.specs.Levels.{level}
 use Rattle.pitch_model.specs.Reach.{reach}
 use Rattle.pitch_model.proofs.Honesty.{honest_top}
 use Rattle.pitch_model.proofs.Topmost.{reach_le_top}
-use Rattle.client_core.specs.Tracks.{current_book}
+use Rattle.client_core.specs.Client.{current_book}
 use Rattle.best_quotes.specs.Leveling.{Has}
 use Rattle.best_quotes.proofs.Following.{lines_of_block}
 use Rattle.best_quotes.proofs.hearing.hear_block.Goals as goal

@@ -1,6 +1,6 @@
 use Rattle.std.proofs.Common.{List, ◌++◌, refl, subst}
 use Rattle.pitch_model.specs.History.{Raw}
-use Rattle.spin_server.specs.Stands.{seen_of}
+use Rattle.spin_server.specs.ShelfViews.{seen_of}
 use Rattle.drill_client.specs.Following.{IsImageOf}
 use Rattle.drill_client.proofs.Answered.{heard_image, heard_no_image}
 use Rattle.drill_client.proofs.Answering.{ShelfLaws, image_is, image_there, image_not_there, image_of_more}

@@ -2,7 +2,7 @@ use Rattle.std.proofs.Common.{◌≡◌, ℕ, List, ◌++◌, ◌∷◌, [], len
 use Rattle.pitch_model.specs.Advertising.{Operation, Advertise, advertised_by, last_ten, newest_of}
 use Rattle.pitch_model.specs.History.{Raw}
 use Rattle.spin_server.specs.Served.{is_served}
-use Rattle.spin_server.specs.Stands.{seen_of}
+use Rattle.spin_server.specs.ShelfViews.{seen_of}
 use Rattle.drill_client.specs.Following.{IsImageOf}
 use Rattle.drill_client.proofs.Answering.{ShelfLaws, image_is, served_is_there, newest_there}
 use Rattle.drill_client.proofs.Playing.{images_advertised, shelf_count}

@@ -1,6 +1,6 @@
 use Rattle.std.proofs.Common.{List, ◌++◌}
 use Rattle.pitch_model.specs.History.{Entry, Raw}
-use Rattle.spin_server.specs.Stands.{seen_of}
+use Rattle.spin_server.specs.ShelfViews.{seen_of}
 use Rattle.unit_packets.specs.Packing.{bytes_in}
 use Rattle.drill_client.specs.Following.{Follows, heard_datagrams}
 use Rattle.drill_client.specs.Answered.{last_kept}

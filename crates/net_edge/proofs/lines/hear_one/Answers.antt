@@ -1,5 +1,5 @@
 use Rattle.std.proofs.Common.{ℕ, List, length, take}
-use Rattle.pitch_io.specs.Nets.{came}
+use Rattle.pitch_io.specs.Coming.{came}
 use Rattle.pitch_io.specs.declared.net.NetTaken.TheVariants.{Got}
 use Rattle.net_edge.proofs.Hearing.{not_failed, hears_on, heard_nothing_of, line_stops, line_fails}
 use Rattle.net_edge.proofs.Breaking.{at_exit}

@@ -4,7 +4,7 @@ use Rattle.std.specs.FinMap.{len}
 use Rattle.pitch_model.specs.Book.{Book}
 use Rattle.pitch_model.specs.Levels.{shares}
 use Rattle.pitch_model.specs.Status.{status_of}
-use Rattle.client_core.specs.Tracks.{current_book}
+use Rattle.client_core.specs.Client.{current_book}
 use Rattle.feed_lines.specs.UnitLine.{unit_line}
 use Rattle.net_edge.specs.Due.{demo_unit, hold_limit}
 use Rattle.net_edge.proofs.running.append_end.Goals as goal

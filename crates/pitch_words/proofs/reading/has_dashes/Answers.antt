@@ -3,7 +3,7 @@ use Rattle.std.specs.Str.{bytes_eq}
 use Rattle.std.proofs.lemmas.Iterator.{YieldsList-from_slice}
 use Rattle.std.proofs.lemmas.Iterator.Search.{any_from_yields_List}
 use Rattle.clap.proofs.WalkLemmas.{list_any-map}
-use Rattle.long_options.specs.Words.{dashes}
+use Rattle.long_options.specs.Plain.{dashes}
 use Rattle.pitch_words.proofs.reading.has_dashes.Goals as goal
 
 pub returns : goal.returns

@@ -1,6 +1,6 @@
 use Rattle.std.proofs.Common.{◌≡◌, ℕ, ◌+◌, List, ap, sym, ◌∙◌, arith}
 use Rattle.pitch_messages.specs.Room.{Roomy}
-use Rattle.client_core.specs.Tracks.{current_book}
+use Rattle.client_core.specs.Client.{current_book}
 use Rattle.client_core.specs.Weight.{weight, told_by}
 use Rattle.pitch_model.specs.Image.{image}
 use Rattle.pitch_model.specs.Heard.{heard}

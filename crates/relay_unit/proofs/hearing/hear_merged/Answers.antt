@@ -5,7 +5,8 @@ use Rattle.unit_packets.specs.declared.header.Header.{Header}
 use Rattle.pitch_model.specs.Honest.{Honest}
 use Rattle.pitch_model.specs.Image.{image}
 use Rattle.client_core.specs.Blocks.{Carries}
-use Rattle.client_core.specs.Tracks.{Tracks, current_book}
+use Rattle.client_core.specs.Tracks.{Tracks}
+use Rattle.client_core.specs.Client.{current_book}
 use Rattle.client_core.proofs.Outcomes.{on_ok, if_ok}
 use Rattle.relay_unit.specs.Sending.{SendsOn}
 use Rattle.relay_unit.proofs.Following.{applied_sends}

@@ -2,7 +2,7 @@ use Rattle.std.proofs.Common.{rules, ◌≡◌, ℕ, List, Result, sym, ◌∙�
 use Rattle.pitch_text.specs.ScheduleGrammar.{entry, schedule_entry}
 use Rattle.pitch_text.specs.WellFormed.{AreWellFormed}
 use Rattle.pitch_text.specs.declared.verb.ScheduleEntry.{ScheduleEntry}
-use Rattle.text_lines.specs.Text.{items_of}
+use Rattle.text_lines.specs.Items.{items_of}
 use Rattle.text_lines.specs.declared.fault.TextError.{TextError}
 use Rattle.text_lines.proofs.TextLemmas.{items_all}
 use Rattle.schedule_replay.specs.Stretches.{items_at}

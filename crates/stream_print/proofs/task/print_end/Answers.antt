@@ -1,4 +1,4 @@
-use Rattle.stream_print.specs.Texts.{IsEnd, IsPrefixOfEnd}
+use Rattle.stream_print.specs.TextLaws.{IsEnd, IsPrefixOfEnd}
 use Rattle.stream_print.specs.Putting.{PutsSuch}
 use Rattle.stream_print.specs.Page.{PrintsSuch}
 use Rattle.std.proofs.Common.{List, Option, sym, subst}

@@ -1,5 +1,5 @@
 use Rattle.std.proofs.Common.{refl}
-use Rattle.text_lines.specs.Text.{items_of}
+use Rattle.text_lines.specs.Items.{items_of}
 use Rattle.text_lines.proofs.TextLemmas.{takes_all, takes_fault}
 use Rattle.text_lines.proofs.lines.take_lines.Goals as goal
 

@@ -1,4 +1,4 @@
-use Rattle.text_lines.specs.Text.{items_of}
+use Rattle.text_lines.specs.Items.{items_of}
 use Rattle.text_lines.proofs.TextLemmas.{Taken}
 use Rattle.text_lines.proofs.lines.take_lines.Given as goal
 

@@ -1,7 +1,8 @@
 use Rattle.std.proofs.Common.{◌≡◌, ◌≤◌, ℕ, List, refl, sym, ap, ◌∙◌, subst, arith}
 use Rattle.std.specs.List.{AllByRecursion}
 use mathlib.Core.List.{IsPrefix}
-use Rattle.gap_store.specs.Look.{View, PacksAt, look}
+use Rattle.gap_store.specs.Look.{View, look}
+use Rattle.gap_store.specs.Looking.{PacksAt}
 use Rattle.gap_store.specs.declared.found.Found.TheVariants.{Kept}
 use Rattle.pitch_messages.specs.Room.{Roomy}
 use Rattle.pitch_model.specs.Advertising.{accepted_by}

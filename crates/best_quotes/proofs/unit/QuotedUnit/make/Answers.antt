@@ -1,7 +1,7 @@
 use Rattle.std.proofs.Common.{◌≡◌, ℕ, zero, suc, [], take, refl, ap, ◌∙◌}
 use Rattle.pitch_model.specs.Book.{book_after}
 use Rattle.pitch_model.specs.History.{Raw}
-use Rattle.client_core.specs.Tracks.{current_book}
+use Rattle.client_core.specs.Client.{current_book}
 use Rattle.best_quotes.proofs.Stepping.{starts_with}
 use Rattle.best_quotes.proofs.unit.QuotedUnit.make.Goals as goal
 

@@ -3,7 +3,8 @@ use Rattle.pitch_model.specs.Book.{book_after}
 use Rattle.pitch_model.specs.History.{Entry, spin_of}
 use Rattle.pitch_model.specs.Honest.{AreImages}
 use Rattle.client_core.specs.Bookkeeping.{EndsSpin, FitsHeld}
-use Rattle.client_core.specs.Tracks.{Tracks, held_number}
+use Rattle.client_core.specs.Tracks.{Tracks}
+use Rattle.client_core.specs.Client.{held_number}
 use Rattle.client_core.specs.declared.spinning.Finish.{Finish}
 use Rattle.client_core.specs.declared.spinning.Finish.TheVariants.{Image}
 use Rattle.client_core.proofs.Tracking.{tracks_image}

@@ -1,6 +1,6 @@
 use Rattle.std.proofs.Common.{List, ℕ, ◌++◌, ap, ◌∙◌, take, drop, arith}
 use Rattle.pitch_messages.specs.Room.{Roomy}
-use Rattle.client_core.specs.Tracks.{reached}
+use Rattle.client_core.specs.Client.{reached}
 use Rattle.client_core.proofs.Listed.{listed, listed_room}
 use Rattle.client_core.proofs.client.UnitClient.hear_block_into.Goals as goal
 

@@ -2,7 +2,7 @@ use Rattle.std.proofs.Common.{List, ◌++◌, ap, ◌∙◌, take, drop, arith}
 use Rattle.pitch_messages.specs.Room.{Roomy}
 use Rattle.order_book.specs.Turns.{turns_of}
 use Rattle.order_book.specs.declared.turn.Turn.{Turn}
-use Rattle.client_core.specs.Tracks.{reached, current_book}
+use Rattle.client_core.specs.Client.{reached, current_book}
 use Rattle.client_core.proofs.Listed.{listed, turned_room}
 use Rattle.client_core.proofs.client.UnitClient.hear_block_turned.Goals as goal
 

@@ -1,5 +1,5 @@
 use Rattle.std.proofs.Common.{◌+◌, length, arith}
-use Rattle.client_core.specs.Tracks.{held_number}
+use Rattle.client_core.specs.Client.{held_number}
 use Rattle.client_core.proofs.Slices.{can_less}
 use Rattle.client_core.proofs.client.UnitClient.hear_messages.Goals as goal
 

@@ -1,6 +1,6 @@
 use Rattle.std.proofs.Common.{◌≡◌, ◌||◌, ◌∷◌, None, Some, Bool, List, ap, ◌∙◌, sym, subst, refl}
 use Rattle.unit_packets.specs.Packing.{bytes_in}
-use Rattle.gap_store.specs.Look.{IsLater}
+use Rattle.gap_store.specs.Looking.{IsLater}
 use Rattle.session_ends.specs.declared.inbox.Heard.{Heard}
 use Rattle.session_ends.specs.Closing.{Setup, cause_of, logs_in}
 use Rattle.session_ends.specs.Ending.{Ending}

@@ -1,5 +1,6 @@
 use Rattle.std.proofs.Common.{◌≡◌, ℕ, List, length, ◌&&◌, not, refl, subst, []}
-use Rattle.pitch_io.specs.Nets.{came, NetTakeFailed, Take}
+use Rattle.pitch_io.specs.Nets.{NetTakeFailed, Take}
+use Rattle.pitch_io.specs.Coming.{came}
 use Rattle.pitch_io.specs.declared.net.NetTaken.{NetTaken}
 use Rattle.pitch_io.specs.declared.net.NetTaken.TheVariants as taken
 use Rattle.pitch_io.specs.declared.net.LinkEnd.TheVariants.{SpinServer}

@@ -1,7 +1,8 @@
 use Rattle.std.proofs.Common.{ℕ, ◌+◌, List, ◌∷◌, length, drop, sym, ap, ◌∙◌, subst, arith}
 use Rattle.unit_packets.specs.Packing.{packed}
 use Rattle.pitch_model.specs.History.{Raw, Ticked}
-use Rattle.client_core.specs.Tracks.{Tracks, current_book}
+use Rattle.client_core.specs.Tracks.{Tracks}
+use Rattle.client_core.specs.Client.{current_book}
 use Rattle.order_book.specs.Standing.{Standing}
 use Rattle.relay_unit.specs.Hearing.{heard_merged, relay_heard}
 use Rattle.relay_unit.specs.Relayed.{relayed}

@@ -2,7 +2,8 @@ use Rattle.std.proofs.Common.{◌≡◌, length, true, None, [], Option}
 use Rattle.session_ends.specs.Hearing.{reader_items, says}
 use Rattle.session_ends.specs.Showing.{ShowsLater}
 use Rattle.session_ends.proofs.Runs.{Going, Left}
-use Rattle.spin_server.specs.Served.{Served, ServedLater}
+use Rattle.spin_server.specs.Served.{Served}
+use Rattle.spin_server.specs.Looking.{ServedLater}
 use Rattle.spin_server.specs.Serving.{Spin, spin_answer}
 use Rattle.spin_server.proofs.server.SpinServer.hear_all.Given as goal
 

@@ -1,5 +1,5 @@
 use Rattle.std.proofs.Common.{◌≡◌, ◌<◌, ◌+◌, ◌^◌, length}
-use Rattle.text_lines.specs.Text.{items_from}
+use Rattle.text_lines.specs.Items.{items_from}
 use Rattle.text_lines.proofs.lines.LinesIterator.next.Given as goal
 
 abbrev pub invariant-skipped : goal.invariant-skipped

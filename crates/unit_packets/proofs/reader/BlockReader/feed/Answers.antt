@@ -1,7 +1,8 @@
 use Rattle.std.proofs.Common.{◌≡◌, ℕ, ◌+◌, List, ◌++◌, false, drop, ap, sym, ◌∙◌, None, Some}
 use Rattle.unit_packets.specs.Causes.{counted}
 use Rattle.unit_packets.specs.Cutting.{fault_in}
-use Rattle.unit_packets.specs.Feeding.{fed_answer, kept_fault}
+use Rattle.unit_packets.specs.Feeding.{kept_fault}
+use Rattle.unit_packets.specs.Pieces.{fed_answer}
 use Rattle.unit_packets.specs.Reading.{Reading}
 use Rattle.unit_packets.proofs.Feeds.{fed_past, fed_on, with_memory}
 use Rattle.unit_packets.proofs.reader.BlockReader.feed.Goals as goal

@@ -1,6 +1,6 @@
 use Rattle.std.proofs.Common.{ℕ, true, ap, sym, ◌∙◌}
 use Rattle.unit_packets.specs.Cutting.{fault_in}
-use Rattle.unit_packets.specs.Feeding.{ended_answer}
+use Rattle.unit_packets.specs.Pieces.{ended_answer}
 use Rattle.unit_packets.proofs.Feeds.{stands_fault}
 use Rattle.unit_packets.proofs.reader.BlockReader.finish.Goals as goal
 

@@ -1,5 +1,5 @@
 use Rattle.std.proofs.Common.{ℕ, List, ◌++◌, ◌∙◌, refl, ap}
-use Rattle.spin_server.specs.Stands.{ShelfShows}
+use Rattle.spin_server.specs.ShelfViews.{ShelfShows}
 use Rattle.world_model.proofs.Acting.{JoinedOf}
 use Rattle.pitch_text.specs.declared.verb.Session.TheVariants.{Spin}
 use Rattle.world_model.proofs.SpinCarrying.{carried_up, feeds_behind}

@@ -1,0 +1,56 @@
+-- Where texts begin, and what is left where the sequences run out.
+use Rattle.std.specs.Prelude.{◌≡◌, ◌<◌, ℕ, List, [], ◌∷◌, ◌++◌, reverse}
+use Rattle.pitch_fields.specs.Limits.{last_sequence}
+use Rattle.unit_packets.specs.Blocks.{Block}
+use Rattle.pitch_model.specs.History.{Raw}
+use Rattle.pitch_model.specs.Units.{AllHonest}
+use Rattle.feed_lines.specs.Follow.{books_of}
+use Rattle.relay_unit.specs.Sparing.{messages_heard}
+use Rattle.stream_print.specs.declared.stream_form.StreamForm.{StreamForm}
+use Rattle.stream_print.specs.declared.stream_form.StreamForm.TheVariants.{Follow, Show, Relay}
+use Rattle.stream_print.specs.declared.stream_form.StreamForm.TheVariants.{Quotes}
+use Rattle.stream_print.specs.Texts.{AreVenuesOf, texts_by}
+
+-- likewise the texts of some blocks that come after others
+abbrev pub AreTextsAfter : StreamForm → List Block → List Block → List ℕ → Type 0
+AreTextsAfter form before blocks text =
+    (Vs : ℕ → List Raw) → AreVenuesOf form Vs (reverse blocks ++ before)
+    → text ≡ texts_by form Vs before blocks
+
+-- a prefix of them
+abbrev pub BeginTextsAfter : StreamForm → List Block → List Block → List ℕ → Type 0
+BeginTextsAfter form before blocks text =
+    (Vs : ℕ → List Raw) → AreVenuesOf form Vs (reverse blocks ++ before)
+    → (more : List ℕ) × (texts_by form Vs before blocks ≡ text ++ more)
+
+-- a block's text can't be made: of a relay, since its unit's blocks have more messages than there
+-- are sequences; of the other forms each can
+abbrev pub Outruns : StreamForm → List Block → Block → Type 0
+Outruns (Follow hold) before block = ⊥
+Outruns Show before block = ⊥
+Outruns (Relay hold) before block = last_sequence < messages_heard block.unit (block ∷ before)
+Outruns (Quotes hold) before block = ⊥
+
+-- one of some blocks that come after others can't
+pub record OutrunsAmong (form : StreamForm) (before blocks : List Block) : Type 0 where
+  pub done : List Block
+  pub block : Block
+  pub left : List Block
+  pub blocks_are : blocks ≡ done ++ (block ∷ left)
+  pub outruns : Outruns form (reverse done ++ before) block
+
+-- ---- The end of a stream
+-- what `follow` prints there: for every family of venues of which the blocks before speak, the
+-- books of all units; the others print nothing there
+abbrev pub IsEnd : StreamForm → List Block → List ℕ → Type 0
+IsEnd (Follow hold) before books =
+    (Image : List Raw → ℕ → List Raw) (Vs : ℕ → List Raw) → AllHonest Image Vs before
+    → books ≡ books_of hold Vs before
+IsEnd form before books = books ≡ []
+
+-- a prefix of it
+abbrev pub IsPrefixOfEnd : StreamForm → List Block → List ℕ → Type 0
+IsPrefixOfEnd (Follow hold) before books =
+    (Image : List Raw → ℕ → List Raw) (Vs : ℕ → List Raw) → AllHonest Image Vs before
+    → (more : List ℕ) × (books_of hold Vs before ≡ books ++ more)
+IsPrefixOfEnd form before books = books ≡ []
