@@ -1,3 +1,5 @@
+//! A symbol's bid and offer before and after a message, and a quote for each that changed.
+
 ghost use Rattle.std.specs.Prelude.{◌≡◌, ◌++◌, OnOk, OnErr};
 ghost use Rattle.pitch_model.specs.Book.{Book, IsBook};
 ghost use Rattle.pitch_model.specs.Levels.{level};

@@ -1,3 +1,5 @@
+//! One block heard by a unit's client, and the quotes of the messages that it applies.
+
 ghost use Rattle.std.specs.Prelude.{OnOk, IfOk, length};
 ghost use Rattle.unit_packets.specs.Blocks.{StaysWithin};
 ghost use Rattle.best_quotes.specs.Hearing.{LevelsStay, Tells};

@@ -1,3 +1,5 @@
+//! An order book with its price levels beside it, which tells each change of a best price.
+
 ghost use Rattle.std.specs.Prelude.{◌≡◌, ◌<◌, ◌++◌, ◌↔◌, true, false, OnOk, OnErr, IsErr, IsTrue};
 ghost use Rattle.std.specs.Prelude.{IsFalse};
 ghost use Rattle.std.specs.FinMap as map;

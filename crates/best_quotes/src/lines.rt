@@ -1,3 +1,5 @@
+//! Quotes numbered by the sequences of the messages that made them.
+
 ghost use Rattle.std.specs.Prelude.{◌≡◌, ◌≤◌, ◌+◌, ◌++◌, length, OnOk};
 ghost use Rattle.best_quotes.specs.Quoting.{numbered};
 ghost use Rattle.best_quotes.specs.Turning.{TurnsEach};

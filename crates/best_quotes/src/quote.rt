@@ -1,3 +1,5 @@
+//! A best price as it is told, with and without the sequence of its message.
+
 use pitch_fields::{Price, Side, Symbol};
 
 /// The best price of a symbol on a side, with its shares; None where the side is empty.

@@ -1,3 +1,5 @@
+//! One message applied to a book and its levels, and the best prices that it changed.
+
 ghost use Rattle.std.specs.Prelude.{◌≡◌, ◌<◌, OnOk};
 ghost use Rattle.std.specs.FinMap as map;
 ghost use Rattle.pitch_messages.specs.Raw.{IsRaw};

@@ -1,3 +1,5 @@
+//! How an order that becomes another moves shares between levels, sides and symbols.
+
 ghost use Rattle.std.specs.Prelude.{◌≡◌, OnOk, Some, None};
 ghost use Rattle.std.specs.Ordering.{nat_cmp};
 ghost use Rattle.std.specs.Cmp.Lexicographic.{slice_cmp};

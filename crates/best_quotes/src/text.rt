@@ -1,3 +1,5 @@
+//! The line that the command `quotes` prints of each quote.
+
 ghost use Rattle.std.specs.Prelude.{◌≡◌, ◌≤◌, ◌+◌, ◌++◌, take, length, OnOk};
 ghost use Rattle.std.specs.List.{flat_map};
 ghost use Rattle.feed_lines.specs.LineSize.{line_size};

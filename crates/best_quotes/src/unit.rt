@@ -1,3 +1,5 @@
+//! One unit with quotes: its client, and beside it the price levels of the client's book.
+
 ghost use Rattle.std.specs.Prelude.{◌≡◌, ◌≤◌, ℕ, List, [], OnOk, IfOk};
 ghost use Rattle.pitch_fields.specs.Limits.{most_held};
 ghost use Rattle.pitch_model.specs.Changes.{block_change};

@@ -1,3 +1,5 @@
+//! The quotes of a whole stream, with a unit's client and levels made at its first block.
+
 ghost use Rattle.std.specs.Prelude.{◌≡◌, ◌≤◌, ◌++◌, ℕ, List, [], ◌∷◌, OnOk, IfOk};
 ghost use Rattle.pitch_fields.specs.Limits.{most_held};
 ghost use Rattle.unit_packets.specs.Blocks.{Block};

@@ -1,3 +1,5 @@
+//! Everything that a client hears, from line blocks to spin images, and what each changes.
+
 ghost use Rattle.std.specs.Prelude.{◌≡◌, ◌+◌, ◌^◌, ◌<◌, ◌≤◌, ◌||◌, [], ◌∷◌, false, IsTrue};
 ghost use Rattle.std.specs.Prelude.{if◌then◌else◌};
 ghost use Rattle.pitch_fields.specs.Limits.{last_sequence};

@@ -1,3 +1,5 @@
+//! The client's side of a Gap Request Proxy session: login, gap requests and their replies.
+
 ghost use Rattle.std.specs.Prelude.{◌≡◌, List, [], ◌∷◌, ◌++◌, OnOk, OnErr, IsOk};
 ghost use Rattle.std.specs.Prelude.{IfOk, IfSome};
 ghost use Rattle.pitch_messages.specs.declared.session.SessionMessage.TheVariants.{GapRequest};

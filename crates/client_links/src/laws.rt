@@ -1,3 +1,5 @@
+//! The law that it makes no difference in which pieces a link's bytes come.
+
 ghost use Rattle.session_ends.specs.Laws.{ClosesOnce};
 ghost use Rattle.client_links.specs.Linking.{Lookups, TellsOnce};
 

@@ -1,3 +1,5 @@
+//! What the two links have in common: they read a stream, tell items, send requests, and tick.
+
 ghost use Rattle.std.specs.Prelude.{◌≡◌, ℕ, ◌||◌, List, [], ◌∷◌, ◌++◌, ◌+◌, length, map, OnOk};
 ghost use Rattle.std.specs.Prelude.{OnErr, IsOk, IfOk, IfSome, None, Some};
 ghost use Rattle.std.specs.List.{list_any};

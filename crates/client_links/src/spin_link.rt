@@ -1,3 +1,5 @@
+//! The client's side of a Spin Server session: login, spin requests, and images as they come.
+
 ghost use Rattle.std.specs.Prelude.{◌≡◌, List, [], ◌∷◌, ◌++◌, OnOk, OnErr, IsOk};
 ghost use Rattle.std.specs.Prelude.{IfOk, IfSome};
 ghost use Rattle.pitch_messages.specs.declared.session.SessionMessage.TheVariants.{SpinRequest};

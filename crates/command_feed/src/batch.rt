@@ -1,3 +1,5 @@
+//! Commands read 32 ahead of the venue, so that the look-ups of their orders overlap.
+
 ghost use Rattle.std.specs.Prelude.{◌≡◌, ◌<◌, ◌++◌, [], ◌∷◌, ◌⊎◌, List, ℕ, Err, OnOk, IfOk, IfErr};
 ghost use Rattle.std.specs.Prelude.{IsTrue, IsFalse, length};
 ghost use Rattle.text_lines.specs.Text.{all_of};

@@ -1,3 +1,5 @@
+//! What can be wrong with a text of commands: a fault in it, or a command that is refused.
+
 use pitch_fields::OutOfMemory;
 use pitch_text::{TextCause, TextError};
 use std::error::Error;

@@ -1,3 +1,5 @@
+//! From a text of commands to datagrams: commands are read, accepted by a venue, and packed.
+
 ghost use Rattle.std.specs.Prelude.{◌≡◌, ◌≤◌, ◌++◌, [], ◌⊎◌, List, ℕ, Result, Ok, Err, OnOk, OnErr};
 ghost use Rattle.std.specs.Prelude.{IfOk, IfErr, length, take};
 ghost use Rattle.std.specs.List.{concat};

@@ -1,3 +1,5 @@
+//! Gates: work that meets other work there, and a wait that gives up.
+
 use pitch_io::{FreeGate, Gate, MeetGate, Role, Work};
 use std::process::Abort;
 use std::thread::join;

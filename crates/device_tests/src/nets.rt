@@ -1,3 +1,5 @@
+//! The net in memory: it carries in order, and fails at the calls that are listed.
+
 use pitch_io::{Line, LinkEnd, MemoryNet, Net, NetCall, NetDone, NetTaken, NetVerb, Put};
 use std::process::Abort;
 

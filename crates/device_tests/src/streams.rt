@@ -1,3 +1,5 @@
+//! Sources and sinks, in memory and over std: small pieces, little room, failing calls.
+
 use pitch_io::{
     MemorySink, MemorySource, Put, Sink, Source, StdSink, StdSource, SteadySink, SteadySource,
     Taken,

@@ -1,3 +1,5 @@
+//! Clients that end with all messages, one by a datagram and one by an image alone.
+
 use client_core::UnitClient;
 use drill_client::{append_end, asks_when_told_of_all, begin, hear_all, hear_datagram};
 use pitch_fields::OutOfMemory;

@@ -1,3 +1,5 @@
+//! Units played in turns on one thread, and the lines that they end with.
+
 use drill_client::drill_plain;
 use std::test::*;
 

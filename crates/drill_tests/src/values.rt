@@ -1,3 +1,5 @@
+//! Every word and reply that may cross to a client before the first message.
+
 ghost use Rattle.std.specs.Prelude.{◌≡◌};
 
 use client_core::UnitClient;

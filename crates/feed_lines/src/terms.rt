@@ -1,3 +1,5 @@
+//! The terms of an order, brought to one shape from long, short and expanded forms.
+
 ghost use Rattle.std.specs.Prelude.{◌≡◌};
 ghost use Rattle.pitch_model.specs.Book.{long_price, long_symbol};
 

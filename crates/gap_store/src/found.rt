@@ -1,3 +1,5 @@
+//! The trait of a gap source, and what a look-up finds: a range kept, gone or not there yet.
+
 ghost use Rattle.std.specs.Prelude.{◌≡◌, ℕ, ◌+◌, ◌≤◌, Bool, true, List, length, OnErr, OnOk, IfOk};
 ghost use Rattle.pitch_fields.specs.Limits.{last_sequence};
 ghost use Rattle.unit_packets.specs.Packing.{bytes_in};

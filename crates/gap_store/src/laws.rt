@@ -1,3 +1,5 @@
+//! The law that a later view of a gap source with as many messages is the same view.
+
 ghost use Rattle.gap_store.specs.Looking.{OneView};
 
 /// The law of looking up: of every two views, a later one with as many messages is the same view.

@@ -1,3 +1,5 @@
+//! The gap store: a ring of a unit's last messages, from which ranges are copied or packed.
+
 ghost use Rattle.std.specs.Prelude.{◌≡◌, ℕ, ◌+◌, ◌-◌, ◌≤◌, ◌<◌, List, [], ◌∷◌, ◌++◌, true, OnOk};
 ghost use Rattle.std.specs.Prelude.{OnErr, IfOk, length, take, drop};
 ghost use Rattle.pitch_fields.specs.Limits.{last_sequence, most_held};

@@ -1,3 +1,5 @@
+//! The judgement of one gap request: its status, and its range packed for the gap line.
+
 ghost use Rattle.std.specs.Prelude.{◌≡◌, ℕ, true, IfOk, ◌==◌};
 ghost use Rattle.unit_packets.specs.Packing.{bytes_in};
 ghost use Rattle.gap_store.specs.Look.{View};

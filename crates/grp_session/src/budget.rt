@@ -1,3 +1,5 @@
+//! The budget of gap requests that sessions share, by the second, the minute and the day.
+
 ghost use Rattle.std.specs.Prelude.{◌≡◌, ℕ, ◌+◌, ◌<◌, ◌≤◌, List, [], IsNone, None};
 ghost use Rattle.grp_session.specs.Budget.{Spent, Counted, limit_reached, next_second, spending};
 

@@ -1,3 +1,5 @@
+//! Laws of the proxy's end: pieces make no difference, and a store that stays has one view.
+
 ghost use Rattle.gap_store.specs.Look.{View};
 ghost use Rattle.gap_store.specs.Looking.{IsLater};
 ghost use Rattle.session_ends.specs.Laws.{ClosesOnce, RisesNowhere};

@@ -1,3 +1,5 @@
+//! The Gap Request Proxy's side of a session: logins, gap requests, heartbeats and closing.
+
 ghost use Rattle.std.specs.Prelude.{◌≡◌, ℕ, ◌||◌, Bool, true, false, List, [], ◌∷◌, ◌++◌, ◌+◌};
 ghost use Rattle.std.specs.Prelude.{length, OnOk, OnErr, IsOk, IfOk, IfSome, None, Some, is_some};
 ghost use Rattle.std.specs.List.{list_any};

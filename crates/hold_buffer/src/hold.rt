@@ -1,3 +1,5 @@
+//! The hold: messages above the floor, each sequence once, up to a limit.
+
 ghost use Rattle.std.specs.Prelude.{◌≡◌, ℕ, ◌+◌, ◌<◌, ◌≤◌, ◌↔◌, IfOk, IsTrue, IsSome, MatchOption};
 ghost use Rattle.std.specs.Prelude.{None, nat_lt};
 ghost use Rattle.std.specs.Option.{option_copied};

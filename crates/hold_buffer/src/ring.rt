@@ -1,3 +1,5 @@
+//! The ring in which a hold keeps its messages, sorted by sequence.
+
 ghost use Rattle.std.specs.Prelude.{◌≡◌, ℕ, ◌<◌, ◌≤◌, ◌+◌, List, length, insert, filter, nat_lt};
 ghost use Rattle.std.specs.Prelude.{IfOk, IfErr, slice_get};
 ghost use Rattle.std.specs.Option.{option_map};

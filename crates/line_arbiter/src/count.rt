@@ -1,3 +1,5 @@
+//! The pair of counts that is kept for each line and unit.
+
 ghost use Rattle.std.specs.Prelude.{◌≡◌, ◌+◌};
 ghost use Rattle.line_arbiter.specs.Noted.{capped};
 

@@ -1,3 +1,5 @@
+//! What comes of a datagram: an item for each block, and the fault behind them.
+
 use pitch_messages::List;
 use pitch_model::Item;
 use unit_packets::BlockError;

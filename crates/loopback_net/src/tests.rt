@@ -1,3 +1,5 @@
+//! Sockets that carry, fill up, break off and end, and strangers that are not heard.
+
 use crate::StdNet;
 use crate::connection::{Connection, open_connection, put, take};
 use crate::line_sockets::LineSockets;

@@ -1,3 +1,5 @@
+//! Why a demo broke off: a fault of the net, or want of memory.
+
 use pitch_fields::OutOfMemory;
 
 /// Why a demo ends early.

@@ -1,3 +1,5 @@
+//! The order that an add opens, from the long, the short or the expanded form.
+
 ghost use Rattle.std.specs.Prelude.{◌≡◌};
 ghost use Rattle.pitch_model.specs.Book.{is_displayed, order_of_long, order_of_short};
 ghost use Rattle.pitch_model.specs.Book.{order_of_expanded};

@@ -1,3 +1,5 @@
+//! What an execution, a reduction or a modification does to an open order in its place.
+
 ghost use Rattle.std.specs.Prelude.{◌≡◌};
 ghost use Rattle.order_book.specs.Changes.{changed_by};
 

@@ -1,3 +1,5 @@
+//! Which open orders a message touches, told from its type and its order id alone.
+
 ghost use Rattle.std.specs.Prelude.{◌≡◌};
 ghost use Rattle.pitch_messages.specs.Raw.{IsRaw};
 ghost use Rattle.order_book.specs.Naming.{names_order, named_order, touched};

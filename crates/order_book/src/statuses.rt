@@ -1,3 +1,5 @@
+//! The trading statuses of a unit: a map by symbol, and its list in order.
+
 ghost use Rattle.std.specs.Prelude.{◌≡◌, ◌≤◌, ◌+◌, ◌++◌, map as mapped, IfOk, OnOk, OnErr, IsOk};
 ghost use Rattle.std.specs.List.Sorted.{IsPermutation, IsSortedByKey};
 ghost use Rattle.std.specs.FinMap as map;

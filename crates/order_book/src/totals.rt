@@ -1,3 +1,5 @@
+//! Totals over all open orders: shares, the level of a price, and the best price of a side.
+
 ghost use Rattle.std.specs.Prelude.{◌≡◌, ◌≤◌, ℕ, ◌&&◌, ◌==◌, bytes_eq, filter, map, sum_by};
 ghost use Rattle.indexmap.specs.IndexMap.{values, index_map_len};
 ghost use Rattle.pitch_model.specs.Levels.{same_side, better, best_of};

@@ -1,3 +1,5 @@
+//! What one message did to the open orders, for whoever keeps levels beside a book.
+
 use pitch_messages::{List, Order};
 
 /// What a message did to the open orders.

@@ -1,3 +1,5 @@
+//! The faults of a capture file, with their places and in words.
+
 ghost use Rattle.std.specs.Prelude.{◌≡◌};
 ghost use Rattle.pcap_feed.specs.Capture.{is_cut_off};
 

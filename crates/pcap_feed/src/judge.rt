@@ -1,3 +1,5 @@
+//! Judges a capture's header and the record that stands first, in either byte order.
+
 ghost use Rattle.std.specs.Prelude.{◌≡◌, ◌+◌, ◌≤◌, length, IfOk, OnOk};
 ghost use Rattle.pcap_feed.specs.Capture.{number_in, order_named, judge_named, judge_head};
 ghost use Rattle.pcap_feed.specs.Capture.{judge_record};

@@ -1,3 +1,5 @@
+//! Finds the UDP payload in an Ethernet frame over IPv4, with a tag or without.
+
 ghost use Rattle.std.specs.Prelude.{◌≡◌, ◌+◌, ◌≤◌, ◌<◌, ◌^◌, ℕ, length, IfSome};
 ghost use Rattle.pcap_feed.specs.Payload.{big_at, is_other, in_udp, in_ip, in_frame, type_place};
 ghost use Rattle.pcap_feed.specs.Payload.{payload};

@@ -1,3 +1,5 @@
+//! Reads a capture in pieces: first its header, then each record as it becomes whole.
+
 ghost use Rattle.std.specs.Prelude.{◌≡◌, ℕ, ◌≤◌, List, ◌++◌, [], ◌∷◌, length, IfOk, OnOk, OnErr};
 ghost use Rattle.std.specs.Prelude.{Ok, Err, Some, None, true};
 ghost use Rattle.pcap_feed.specs.Capture.{judge_head, ordered, capture_fault_from, capture_fault};

@@ -1,3 +1,5 @@
+//! Records of a capture, lent from the file's bytes or copied out of them.
+
 ghost use Rattle.std.specs.Prelude.{◌≡◌, ◌+◌, ◌≤◌, length, IfOk, IfErr, Err};
 ghost use Rattle.pcap_feed.specs.Capture.{judge_record};
 ghost use Rattle.pcap_feed.specs.Lent.{StandsAtFront};

@@ -1,3 +1,5 @@
+//! The width of a decimal number, which is known before the number is written.
+
 ghost use Rattle.std.specs.Prelude.{◌≡◌, ◌≤◌, length, decimal};
 
 // How many decimal digits a number has.

@@ -1,3 +1,5 @@
+//! Little-endian numbers of two, four and eight bytes, read and written in place.
+
 ghost use Rattle.std.specs.Prelude.{◌≡◌, ◌+◌, ◌≤◌, length};
 ghost use Rattle.byteorder.specs.Endian.{little_bytes};
 ghost use Rattle.pitch_fields.specs.Fields.{number_at, put_at};

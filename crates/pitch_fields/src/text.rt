@@ -1,3 +1,5 @@
+//! Numbers, prices and names, written as text at a place of a lent buffer.
+
 ghost use Rattle.std.specs.Prelude.{◌≡◌, ◌≤◌, ◌<◌, ◌+◌, ◌++◌, [], ◌∷◌, take, drop, length, decimal};
 ghost use Rattle.pitch_fields.specs.Fields.{Begins};
 ghost use Rattle.pitch_fields.specs.Name.{hex_digit, hex_text, name_shown, shown_byte};

@@ -1,3 +1,5 @@
+//! The list that a net in memory keeps of its calls, until memory is refused.
+
 ghost use Rattle.std.specs.Prelude.{◌≡◌, [], false, None, Some};
 ghost use Rattle.pitch_io.specs.Nets.{Begin, Send, Next, Put as PutCall, Take};
 ghost use Rattle.pitch_io.specs.MemoryNets.{LogsCall, call_of, listed_calls};

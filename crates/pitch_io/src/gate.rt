@@ -1,3 +1,5 @@
+//! Gates, at which a test sees and steers which work runs beside which.
+
 use std::sync::atomic::{AtomicBool, AtomicU32, Ordering};
 use std::thread::yield_now;
 

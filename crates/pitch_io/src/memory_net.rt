@@ -1,3 +1,5 @@
+//! A net for tests that stays in memory, lists its calls, and fails where it is told to.
+
 ghost use Rattle.std.specs.Prelude.{◌≡◌, ◌↔◌, ◌<◌, [], Some, None, true, length, drop, take, ◌++◌};
 ghost use Rattle.std.specs.Prelude.{Contains};
 ghost use Rattle.pitch_io.specs.declared.memory_net.NetVerb.TheVariants as verb;

@@ -1,3 +1,5 @@
+//! The trait of a net, over which datagrams go on lines and bytes between ends.
+
 ghost use Rattle.pitch_io.specs.declared.line.Line.{Line as LineOf};
 ghost use Rattle.pitch_io.specs.declared.net.LinkEnd.{LinkEnd as EndOf};
 ghost use Rattle.std.specs.Prelude.{◌≡◌, ℕ, ◌<◌, List, length, Option};

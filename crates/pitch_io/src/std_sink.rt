@@ -1,3 +1,5 @@
+//! A sink over any writer of std, such as standard output.
+
 ghost use Rattle.std.specs.Prelude.{◌≡◌, None};
 
 use crate::sink::{Put, Sink};

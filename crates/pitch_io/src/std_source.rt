@@ -1,3 +1,5 @@
+//! A source over any reader of std, such as standard input.
+
 ghost use Rattle.std.specs.Prelude.{◌≡◌, None};
 
 use crate::source::{Source, Taken};

@@ -1,3 +1,5 @@
+//! What is on its way in a net in memory: datagrams by line, and bytes by end.
+
 ghost use Rattle.std.specs.Prelude.{◌≡◌, ◌<◌, ◌++◌, [], length, take, drop, min, true};
 ghost use Rattle.pitch_io.specs.MemoryNets.{AreFull, ComesFirst, as_carried, datagram_items};
 ghost use Rattle.pitch_io.specs.MemoryNets.{end_changed, line_changed, nothing_coming, on_line};

@@ -1,3 +1,5 @@
+//! Lists of bytes, in which datagrams are kept.
+
 ghost use Rattle.std.specs.Prelude.{◌≡◌, ◌+◌, ◌≤◌, ◌++◌, length, OnOk, OnErr, IfOk, IsOk};
 
 use crate::list::List;

@@ -1,3 +1,5 @@
+//! Laws of chains: there is one way to cut the front of some bytes into raw messages.
+
 ghost use Rattle.pitch_messages.specs.Chains.{RawsAreLongest, LongestChainIsOne};
 
 /// The laws of chains: the raws that the definitions compute are the longest chain at the start of

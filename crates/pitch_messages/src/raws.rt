@@ -1,3 +1,5 @@
+//! Raw messages that are lent, gone over one after another without a copy.
+
 ghost use Rattle.std.specs.Prelude.{◌≡◌, ℕ, List, [], ◌∷◌, length, drop, MatchOption};
 ghost use Rattle.std.specs.List.{concat, AllByRecursion};
 ghost use Rattle.std.specs.Iterator.{YieldsFirstRef, item_count};

@@ -1,3 +1,5 @@
+//! From the bytes of a raw message to its fields, type by type.
+
 ghost use Rattle.std.specs.Prelude.{◌≡◌, ℕ, ◌+◌, ◌≤◌, Some, length, slice_index, IfOk, IfErr, OnOk};
 ghost use Rattle.std.specs.Option.{option_map};
 ghost use Rattle.pitch_fields.specs.Side.{side_of};

@@ -1,3 +1,5 @@
+//! A symbol with the two bytes of its trading status.
+
 use pitch_fields::Symbol;
 
 /// What trading in a symbol is at, as a Trading Status says it. No meaning is given to either byte.

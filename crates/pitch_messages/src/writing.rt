@@ -1,3 +1,5 @@
+//! From a message's fields to its bytes, type by type; it undoes the reading.
+
 ghost use Rattle.std.specs.Prelude.{◌≡◌, length};
 ghost use Rattle.pitch_messages.specs.Reading.{reads};
 ghost use Rattle.pitch_messages.specs.Writing.{written, HasItsVariant};

@@ -1,3 +1,5 @@
+//! The two asks of a client: a gap request, or a spin request.
+
 /// What a client asks for at a tick.
 #[derive(Clone, Copy, Debug, PartialEq, Eq)]
 pub enum Ask {

@@ -1,3 +1,5 @@
+//! What hearing an item changed: status, fresh messages, overflows, an image's end.
+
 use crate::status::Status;
 
 /// What became of an image when Spin Finished came.

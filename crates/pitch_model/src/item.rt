@@ -1,3 +1,5 @@
+//! The items that a client hears, from blocks on the lines and from both its sessions.
+
 ghost use Rattle.pitch_model.specs.Changes.{IsItem, IsItemOf};
 
 use pitch_messages::RawList;

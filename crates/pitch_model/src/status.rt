@@ -1,3 +1,5 @@
+//! The status of a client: silent, current, or behind.
+
 /// How far a client is.
 #[derive(Clone, Copy, Debug, PartialEq, Eq)]
 pub enum Status {

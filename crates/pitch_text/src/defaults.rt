@@ -1,3 +1,5 @@
+//! The sizes of hold and gap store, and the limits of requests, where a text gives none.
+
 /// How many messages a client holds of those that came too early, where nothing else is said.
 pub const DEFAULT_HOLD: u32 = 4096;
 

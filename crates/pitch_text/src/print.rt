@@ -1,3 +1,5 @@
+//! Prints an entry of a schedule in its canonical words, with no field that has its default.
+
 ghost use Rattle.std.specs.Prelude.{◌≡◌, ◌++◌, ◌∷◌, [], OnOk, OnErr, Ok, decimal, map};
 ghost use Rattle.pitch_fields.specs.Price.{price_digits};
 ghost use Rattle.pitch_text.specs.Printing.{spaced, hidden_words, mpid_words, number_words};

@@ -1,3 +1,5 @@
+//! Why a command stops short of its whole text, gathered from the errors of the crates below.
+
 use command_feed::CommandError;
 use net_edge::DemoError;
 use pitch_fields::OutOfMemory;

@@ -1,3 +1,5 @@
+//! From a form of the words to the job that it asks for.
+
 ghost use Rattle.std.specs.Prelude.{◌≡◌};
 ghost use Rattle.pitch_words.specs.Commands.{IsInRange};
 ghost use Rattle.pitch_tool.specs.Jobs.{job_of as the_job, CanDo};

@@ -1,3 +1,5 @@
+//! The whole program: it reads the words, does their job, and says on `err` what failed.
+
 ghost use Rattle.std.specs.Prelude.{◌≡◌, ◌≢◌, ◌⊎◌, List, ℕ, false, IfOk, Some, None, Err, map};
 ghost use Rattle.std.specs.Prelude.{string_bytes};
 ghost use Rattle.pitch_io.specs.Causes.{HasCause, Rose};

@@ -1,3 +1,5 @@
+//! The exit statuses of the program and their numbers.
+
 ghost use Rattle.std.specs.Prelude.{◌≡◌};
 ghost use Rattle.pitch_tool.specs.Statuses.{status_number};
 

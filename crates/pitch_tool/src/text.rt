@@ -1,3 +1,5 @@
+//! The job of `pack` and `replay`: read a text whole, and write what it makes.
+
 ghost use Rattle.std.specs.Prelude.{◌≡◌, ◌≤◌, ◌+◌, IfOk, IfErr, Err, Ok, length};
 ghost use Rattle.pitch_fields.specs.Limits.{text_limit};
 ghost use Rattle.pitch_io.specs.Causes.{HasCause};

@@ -1,3 +1,5 @@
+//! Nets for these tests: one that carries nothing, and one that loses what it is told to.
+
 use pitch_io::{Line, LinkEnd, Net, NetDone, NetTaken, Put};
 
 /// A net for commands that use none: it carries nothing and never fails.

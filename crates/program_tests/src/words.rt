@@ -1,3 +1,5 @@
+//! Command lines: the form that each is, and those that are none.
+
 use pitch_fields::OutOfMemory;
 use pitch_words::{Form, read};
 use std::alloc::Global;

@@ -1,3 +1,5 @@
+//! How a relay hears line blocks and Spin Server messages, and what it sends for them.
+
 ghost use Rattle.std.specs.Prelude.{◌≡◌, ◌≢◌, true, OnOk, IfOk, IsTrue, IsFalse, length};
 ghost use Rattle.pitch_messages.specs.Raw.{IsRaw, kind_of};
 ghost use Rattle.pitch_messages.specs.Session.{session_reads};

@@ -1,3 +1,5 @@
+//! The trait of what a relay sends into: a list of datagrams, or bytes end to end.
+
 ghost use Rattle.std.specs.Prelude.{◌≡◌, ℕ, List, length, OnOk, OnErr, refl};
 ghost use Rattle.unit_packets.specs.Blocks.{StaysWithin};
 ghost use Rattle.unit_packets.specs.Packing.{packed};

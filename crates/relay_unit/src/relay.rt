@@ -1,3 +1,5 @@
+//! The relay of a unit: a client that follows, and the sequences under which it sends.
+
 ghost use Rattle.std.specs.Prelude.{◌≤◌};
 ghost use Rattle.pitch_fields.specs.Limits.{last_sequence};
 

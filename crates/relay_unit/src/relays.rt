@@ -1,3 +1,5 @@
+//! The relays of a whole stream, one for each unit that a block names.
+
 ghost use Rattle.std.specs.Prelude.{◌≡◌, ◌≤◌, ◌++◌, [], OnOk, OnErr, IfOk, IfErr};
 ghost use Rattle.pitch_fields.specs.Limits.{most_held};
 ghost use Rattle.relay_unit.specs.AnyRelays.{HaveSent, AppendAny, AppendsAnyAt};

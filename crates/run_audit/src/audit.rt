@@ -1,3 +1,5 @@
+//! The log of an audit: every message of each unit, by which reports are judged.
+
 ghost use Rattle.std.specs.Prelude.{◌≡◌, ◌⊎◌, ℕ, ◌+◌, ◌<◌, ◌≤◌, ◌==◌, ◌++◌, List, [], length, OnOk};
 ghost use Rattle.std.specs.Prelude.{OnErr, IfOk, IfErr, if◌then◌else◌};
 ghost use Rattle.unit_packets.specs.Blocks.{StaysWithin};

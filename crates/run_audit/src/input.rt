@@ -1,3 +1,5 @@
+//! Takes an audit's input apart into log and report, and names what is wrong with it.
+
 ghost use Rattle.std.specs.Prelude.{◌≡◌, ◌≤◌, ◌<◌, Err, IfOk, IfErr, OnErr, length};
 ghost use Rattle.run_audit.specs.Log.{messages_at};
 ghost use Rattle.run_audit.specs.Report.{Judges, lines_of};

@@ -1,3 +1,5 @@
+//! The lines of a report, and how far they agree with those that are wanted.
+
 ghost use Rattle.std.specs.Prelude.{◌≡◌, ℕ, ◌<◌, List, [], ◌∷◌, drop, length, MatchOption};
 ghost use Rattle.run_audit.specs.Report.{is_inner, lines_of};
 ghost use Rattle.run_audit.specs.Lines.{Compares};

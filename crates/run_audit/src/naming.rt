@@ -1,3 +1,5 @@
+//! Reads the unit and the sequence in the first line of a printed book.
+
 ghost use Rattle.std.specs.Prelude.{◌≡◌, ℕ, ◌<◌, ◌^◌, ◌++◌, ◌∷◌, List, Some, MatchOption, decimal};
 ghost use Rattle.run_audit.specs.Lines.{book_front};
 

@@ -1,3 +1,5 @@
+//! Judges a report book by book, up to its first wrong line.
+
 ghost use Rattle.std.specs.Prelude.{◌≡◌, ℕ, ◌≤◌, ◌<◌, length, IfOk, OnOk};
 ghost use Rattle.std.specs.List.{Contains};
 ghost use Rattle.feed_lines.specs.BookText.{book_text};

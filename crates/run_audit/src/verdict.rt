@@ -1,3 +1,5 @@
+//! The two verdicts on a report: yes, or the first wrong line.
+
 /// What is said of a report.
 #[derive(Clone, Copy, Debug, PartialEq, Eq)]
 pub enum Verdict {

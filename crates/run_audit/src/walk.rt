@@ -1,3 +1,5 @@
+//! A walk along a unit's log, with the book at each point of it.
+
 ghost use Rattle.std.specs.Prelude.{◌≡◌, ℕ, ◌≤◌, List, length, drop, take, IfOk, OnOk};
 ghost use Rattle.pitch_model.specs.History.{Raw};
 ghost use Rattle.run_audit.specs.Walking.{AreAt, IsAt};

@@ -1,3 +1,5 @@
+//! Why a schedule is not replayed: its text has a fault, or memory ran out.
+
 use pitch_fields::OutOfMemory;
 use pitch_text::{TextCause, TextError};
 use std::error::Error;

@@ -1,3 +1,5 @@
+//! What keeps units from being run apart: a faulty line, or want of memory.
+
 use pitch_fields::OutOfMemory;
 use std::alloc::{AllocError, AllocFailed};
 

@@ -1,3 +1,5 @@
+//! The account that a login names: sub id, user and password, filled up with spaces.
+
 /// Who may log in: a sub id, a user and a password, each with spaces up to its length ("Login
 /// Message").
 #[derive(Clone, Copy, Debug, PartialEq, Eq)]

@@ -1,3 +1,5 @@
+//! The causes that close an end of a session, and the place in its stream.
+
 use unit_packets::BlockError;
 
 /// Why an end of a session closed.

@@ -1,3 +1,5 @@
+//! One end of a session, whatever its role: logins, closing, silence and heartbeats.
+
 ghost use Rattle.std.specs.Prelude.{◌≡◌, ℕ, ◌+◌, ◌≤◌, ◌||◌, Bool, List, ◌++◌, OnOk, OnErr, IsOk};
 ghost use Rattle.std.specs.Prelude.{IfOk, length, IfSome, None, Some, is_some, if◌then◌else◌};
 ghost use Rattle.std.specs.List.{list_any};

@@ -1,3 +1,5 @@
+//! The bytes of a session as they come in, in pieces, and counted.
+
 ghost use Rattle.std.specs.Prelude.{◌≡◌, ◌+◌, ◌≤◌, length, IfOk, OnOk};
 ghost use Rattle.unit_packets.specs.Causes.{counted};
 ghost use Rattle.unit_packets.specs.Reading.{unread, loaded, passed};

@@ -1,3 +1,5 @@
+//! A raw message of a session, lent from the reader's bytes.
+
 ghost use Rattle.std.specs.Prelude.{◌≡◌};
 ghost use Rattle.pitch_messages.specs.Raw.{IsRaw, kind_of};
 

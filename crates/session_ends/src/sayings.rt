@@ -1,3 +1,5 @@
+//! Goes through what a stream says: messages, the ends of blocks, and what breaks it.
+
 ghost use Rattle.std.specs.Prelude.{◌≡◌, ◌∷◌, [], true, false, None, Some, Err, is_some, drop};
 ghost use Rattle.std.specs.Prelude.{MatchOption};
 ghost use Rattle.unit_packets.specs.Cutting.{fault_from};

@@ -1,3 +1,5 @@
+//! Ends of sessions: a refused login, a message in its own block, a heartbeat's unit.
+
 use pitch_messages::session::SessionMessage;
 use session_ends::{CloseCause, Closed, End, Role, Said, Sayings};
 use std::alloc::Global;

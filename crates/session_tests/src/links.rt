@@ -1,3 +1,5 @@
+//! Links: what they tell their client, what closes them, and when they send heartbeats.
+
 use client_links::{Account, CloseCause, Closed, GapLink, ItemList, SpinLink};
 use pitch_model::Item;
 use std::alloc::Global;

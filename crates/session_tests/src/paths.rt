@@ -1,3 +1,5 @@
+//! An image that goes from a shelf over a server and a link to a client's items.
+
 use client_links::{Account, ItemList, SpinLink};
 use pitch_messages::Raw;
 use pitch_model::Item;

@@ -1,3 +1,5 @@
+//! Proxies: logins, each status of a gap request, each limit, and hostile bytes.
+
 use crate::stores::filled;
 use gap_store::GapStore;
 use grp_session::{Account, CloseCause, Closed, GapBudget, GrpServer};

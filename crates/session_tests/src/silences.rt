@@ -1,3 +1,5 @@
+//! Silence: five ticks in a row close an end, and a closed end says no more.
+
 use crate::links::ACCOUNT;
 use crate::proxies::{LOGIN, NO_STORE, server};
 use client_links::GapLink;

@@ -1,3 +1,5 @@
+//! Spin Servers: requests and their replies, an image sent whole, and hostile bytes.
+
 use order_book::{UnitBook, image_of};
 use pitch_messages::{Raw, RawList};
 use spin_server::{Account, CloseCause, Closed, ImageShelf, SpinServer};

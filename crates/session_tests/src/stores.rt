@@ -1,3 +1,5 @@
+//! Gap stores: ranges that are kept, gone or not there yet, and a copy of a store.
+
 ghost use Rattle.std.specs.Prelude.{◌≤◌};
 
 use gap_store::{Found, GapLookup, GapStore};

@@ -1,3 +1,5 @@
+//! The traits by which a type names a shared unit, and may fix the messages of its run.
+
 use std::marker::Brand;
 
 /// Which pair of writer and servers it is, and how many of the last messages it keeps. Each call of

@@ -1,3 +1,5 @@
+//! The advertised sequences whose images are served, the last ten of all.
+
 ghost use Rattle.std.specs.Prelude.{◌≡◌, ◌==◌, ◌++◌, [], ◌∷◌};
 ghost use Rattle.std.specs.List.{list_any};
 ghost use Rattle.pitch_model.specs.Advertising.{last_ten, newest_of};

@@ -1,3 +1,5 @@
+//! The client's side of a spin connection: its link is fed what the server said next.
+
 ghost use Rattle.std.specs.Prelude.{◌≡◌, ℕ, List, [], ◌++◌, OnOk};
 ghost use Rattle.pitch_model.specs.History.{Raw};
 ghost use Rattle.session_ends.specs.declared.role.Role.TheVariants.{SpinLink as LinkRole};

@@ -1,3 +1,5 @@
+//! Laws of images over bytes: however these are delayed or cut, no image is bad.
+
 ghost use Rattle.spin_path.specs.PathLaws.{ImagesAreWhole, NeverAnswered, MovesStay, AllAreTaken};
 ghost use Rattle.spin_path.specs.PathLaws.{SpareIsUnheard};
 

@@ -1,3 +1,5 @@
+//! The server's side of a spin connection: it answers a piece, and sends a block.
+
 ghost use Rattle.std.specs.Prelude.{◌≡◌, IfOk, OnOk, List};
 ghost use Rattle.pitch_model.specs.Advertising.{Operation, accepted_by};
 ghost use Rattle.session_ends.specs.Closing.{Setup};

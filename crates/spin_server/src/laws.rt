@@ -1,3 +1,5 @@
+//! Laws of pieces, of look-ups, and of what a shelf shows of all that was pushed.
+
 ghost use Rattle.std.specs.Prelude.{◌≡◌, ℕ, ◌==◌, List, [], None};
 ghost use Rattle.std.specs.List.{list_any};
 ghost use Rattle.pitch_model.specs.Advertising.{Operation, advertised_by, last_ten, newest_of};

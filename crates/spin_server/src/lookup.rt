@@ -1,3 +1,5 @@
+//! The trait of an image source: its newest sequence, and images by their sequences.
+
 ghost use Rattle.std.specs.Prelude.{OnErr, IfOk, Bool, true, ◌≡◌};
 ghost use Rattle.spin_server.specs.Served.{Served};
 ghost use Rattle.spin_server.specs.Looking.{SeesNewest, SeesServed, LooksUpImage};

@@ -1,3 +1,5 @@
+//! The Spin Server's side of a session: logins, spin requests, images block by block, ticks.
+
 ghost use Rattle.std.specs.Prelude.{◌≡◌, ◌<◌, ℕ, ◌||◌, Bool, true, false, List, [], ◌∷◌, ◌++◌, ◌+◌};
 ghost use Rattle.std.specs.Prelude.{length, OnOk, OnErr, IsOk, IfOk, IfSome, None, Some, is_some};
 ghost use Rattle.std.specs.Prelude.{is_none, if◌then◌else◌};

@@ -1,3 +1,5 @@
+//! The shelf: a base book and the messages after it, from which ten images can be made.
+
 ghost use Rattle.std.specs.Prelude.{◌≡◌, ℕ, ◌+◌, ◌-◌, ◌<◌, ◌≤◌, ◌++◌, List, [], ◌∷◌, Some, true};
 ghost use Rattle.std.specs.Prelude.{length, take, drop, OnOk, OnErr, IfOk, ◌==◌, nat_eq};
 ghost use Rattle.pitch_fields.specs.Limits.{last_sequence};

@@ -1,3 +1,5 @@
+//! A spin under way: an image packed into blocks, and how many were sent.
+
 ghost use Rattle.std.specs.Prelude.{◌≡◌, ℕ, ◌<◌, List, [], ◌∷◌, drop, length, IfOk, MatchOption};
 ghost use Rattle.unit_packets.specs.Packing.{packed};
 

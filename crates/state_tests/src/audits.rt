@@ -1,3 +1,5 @@
+//! Audits: verdicts on reports, a gap in a log, and inputs that are refused.
+
 use pitch_fields::OutOfMemory;
 use run_audit::{Audit, AuditError, AuditFault, FoundGap, InputError, Verdict, audit_input};
 use std::alloc::{AllocError, Global};

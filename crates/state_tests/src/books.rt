@@ -1,3 +1,5 @@
+//! Books: what messages leave, levels and best prices, copies, and trading statuses.
+
 use order_book::{OrderList, StatusList, UnitBook};
 use pitch_fields::{Price, Side, Symbol};
 use pitch_messages::{Order, Raw};

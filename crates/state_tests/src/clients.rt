@@ -1,3 +1,5 @@
+//! A client that hears its second message first, and tells both once they are applied.
+
 ghost use Rattle.std.specs.Prelude.{◌<◌};
 ghost use Rattle.pitch_model.specs.Changes.{IsItem};
 

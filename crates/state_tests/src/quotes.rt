@@ -1,3 +1,5 @@
+//! Ladders: which best prices a message changes, and the order in which they are told.
+
 ghost use Rattle.std.specs.Prelude.{◌≡◌, false};
 
 use best_quotes::{Ladder, Quote, QuoteList};

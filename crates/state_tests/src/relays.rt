@@ -1,3 +1,5 @@
+//! A relay that takes an image, and the datagrams that it sends from there on.
+
 use relay_unit::{Outlet, Relay};
 use std::process::Abort;
 use std::test::Fail;

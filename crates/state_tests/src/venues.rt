@@ -1,3 +1,5 @@
+//! Venues: answers to commands, what a flush sends, the plan, and lost copies.
+
 use pitch_fields::{Price, Side, Symbol};
 use pitch_messages::{Order, Raw};
 use pitch_text::{Command, CommandList, read_commands};

@@ -1,3 +1,5 @@
+//! Cuts the whole blocks off the front of a buffer, and prints them.
+
 ghost use Rattle.std.specs.Prelude.{◌≡◌, ◌≤◌, ◌+◌, ◌*◌, length, IfErr, IfOk, Err};
 ghost use Rattle.unit_packets.specs.Cutting.{blocks_of};
 ghost use Rattle.stream_print.specs.Sinks.{CountsFault};

@@ -1,3 +1,5 @@
+//! The books that stand at the end of `follow`, with their orders and statuses.
+
 ghost use Rattle.std.specs.Prelude.{◌≡◌, ◌≢◌, ◌++◌, [], List, ℕ, OnOk, OnErr, Err, length};
 ghost use Rattle.unit_packets.specs.Blocks.{Block};
 ghost use Rattle.unit_clients.specs.Clients.{AreUnits, IsClient, Clients};

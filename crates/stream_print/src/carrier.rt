@@ -1,3 +1,5 @@
+//! How the blocks of a stream come: back to back, or in the datagrams of a capture.
+
 /// What carries the blocks of a stream.
 #[derive(Clone, Copy, Debug, PartialEq, Eq)]
 pub enum Carrier {

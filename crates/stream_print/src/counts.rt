@@ -1,3 +1,5 @@
+//! Counts of a capture's packets, by what became of each, and their line.
+
 ghost use Rattle.std.specs.Prelude.{◌≡◌, ◌+◌, ◌≤◌, ◌++◌, take, length};
 ghost use Rattle.feed_lines.specs.LineSize.{line_size};
 ghost use Rattle.stream_print.specs.Carriers.{counts_line};

@@ -1,3 +1,5 @@
+//! What can end the printing of a stream early: the stream, a relay, a device, or memory.
+
 use crate::putting::PutFailed;
 use pcap_feed::CaptureFault;
 use pitch_fields::OutOfMemory;

@@ -1,3 +1,5 @@
+//! The lines of `quotes`, put on the page one after another.
+
 ghost use Rattle.std.specs.Prelude.{◌≡◌, ◌++◌, OnOk, OnErr, IsErr};
 ghost use Rattle.std.specs.List.{flat_map};
 ghost use Rattle.best_quotes.specs.QuotesText.{quote_line};

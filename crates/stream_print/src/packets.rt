@@ -1,3 +1,5 @@
+//! Reads a capture packet by packet, and prints the blocks of each datagram.
+
 ghost use Rattle.std.specs.Prelude.{◌≡◌, ◌≤◌, ◌+◌, ◌*◌, ◌++◌, [], ◌∷◌, List, ℕ, length, OnOk};
 ghost use Rattle.std.specs.Prelude.{IfErr, IfOk, IfSome, Err, Some};
 ghost use Rattle.std.specs.List.{flat_map};

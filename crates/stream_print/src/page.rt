@@ -1,3 +1,5 @@
+//! The page, a buffer in which lines gather before they go to the sink.
+
 ghost use Rattle.std.specs.Prelude.{◌≡◌, ◌≤◌, ◌<◌, ◌+◌, ◌++◌, [], ◌∷◌, length, OnOk, OnErr, IfOk};
 ghost use Rattle.std.specs.Prelude.{IsErr};
 ghost use Rattle.pitch_io.specs.Putting.{Grows};

@@ -1,3 +1,5 @@
+//! The pieces in which a source is read: their size, a buffer, and a take within a limit.
+
 ghost use Rattle.std.specs.Prelude.{◌≡◌, ◌<◌, IfOk, length};
 ghost use Rattle.stream_print.specs.Sinks.{CountsFault};
 ghost use Rattle.pitch_io.specs.Taking.{Takes, TakeFailed};

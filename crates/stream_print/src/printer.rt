@@ -1,3 +1,5 @@
+//! What printing carries from block to block: a count, the task's state and the page.
+
 use crate::failure::PrintError;
 use crate::page::Page;
 use crate::pieces::PIECE;

@@ -1,3 +1,5 @@
+//! Writes all of some bytes to a sink, in as many puts as it takes.
+
 ghost use Rattle.std.specs.Prelude.{OnOk, OnErr, IsErr};
 ghost use Rattle.stream_print.specs.Sinks.{PutsPrefix, CountsFault};
 ghost use Rattle.pitch_io.specs.Putting.{Grows};

@@ -1,3 +1,5 @@
+//! Reads a stream by its carrier, and finds what is wrong behind its whole blocks.
+
 ghost use Rattle.std.specs.Prelude.{◌≡◌, ◌≤◌, ◌+◌, ◌*◌, ◌++◌, length, OnOk, OnErr, IfErr, Err};
 ghost use Rattle.std.specs.Prelude.{option_map};
 ghost use Rattle.unit_packets.specs.Cutting.{blocks_of, fault_in};

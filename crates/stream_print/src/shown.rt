@@ -1,3 +1,5 @@
+//! The lines of `show` for the messages of a block, put on the page.
+
 ghost use Rattle.std.specs.Prelude.{◌≡◌, ◌≤◌, ◌++◌, length, OnOk, OnErr, IsErr};
 ghost use Rattle.unit_packets.specs.Blocks.{StaysWithin};
 ghost use Rattle.stream_print.specs.Sinks.{PagePrints, PutsPrefix, CountsFault};

@@ -1,3 +1,5 @@
+//! The loop from source to sink: it takes pieces, prints their blocks, and then the end.
+
 ghost use Rattle.std.specs.Prelude.{◌≡◌, ◌≢◌, Option, None, ◌≤◌, ◌+◌, ◌*◌, ◌++◌, ℕ, List, length};
 ghost use Rattle.std.specs.Prelude.{Err};
 ghost use Rattle.std.specs.Io.KnownBytes.{Consumes, Keeps, IsAtEnd};

@@ -1,3 +1,5 @@
+//! The forms in which a stream is printed: `follow`, `show`, `relay` and `quotes`.
+
 /// What is printed of a stream of blocks. A hold of a unit has 1 to 65,536 places.
 #[derive(Clone, Copy, Debug, PartialEq, Eq)]
 pub enum StreamForm {

@@ -1,3 +1,5 @@
+//! What each form keeps and prints for a block, and at the end of the stream.
+
 ghost use Rattle.std.specs.Prelude.{◌≡◌, ◌≢◌, ◌+◌, [], ◌∷◌, List, length, OnOk, OnErr, IfOk, IfErr};
 ghost use Rattle.std.specs.Prelude.{Err};
 ghost use Rattle.unit_packets.specs.Blocks.{Block};

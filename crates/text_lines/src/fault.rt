@@ -1,3 +1,5 @@
+//! What can be wrong with a text: the line, the column and the cause.
+
 use pitch_fields::OutOfMemory;
 use std::error::Error;
 use std::fmt;

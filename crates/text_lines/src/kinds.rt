@@ -1,3 +1,5 @@
+//! What the bytes of a field say as a number, price, side, byte, symbol or participant.
+
 ghost use Rattle.std.specs.Prelude.{◌≡◌, ◌+◌, ◌*◌, ◌≤◌, ◌<◌, ◌^◌, ◌&&◌, IfSome, Some, None};
 ghost use Rattle.std.specs.Prelude.{if◌then◌else◌, length, nat_lt, nat_le};
 ghost use Rattle.std.specs.List.{list_all};

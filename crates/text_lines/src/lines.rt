@@ -1,3 +1,5 @@
+//! The trait of a grammar, and texts read by one, line by line or whole.
+
 ghost use Rattle.std.specs.Prelude.{◌≡◌, ◌≤◌, ◌<◌, ◌^◌, OnOk, OnErr, IfErr, length, take};
 ghost use Rattle.std.specs.Prelude.{option_map};
 ghost use Rattle.std.specs.Iterator.{YieldsFirst, item_count};

@@ -1,3 +1,5 @@
+//! Reads the optional fields of a line: a word, a named number, and the end after them.
+
 ghost use Rattle.std.specs.Prelude.{◌≡◌, Ok};
 ghost use Rattle.text_lines.specs.Kinds.{number_of};
 ghost use Rattle.text_lines.specs.Next.{word_next, value_next, end_next};

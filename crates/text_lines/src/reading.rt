@@ -1,3 +1,5 @@
+//! Reads the required fields of a line, each by its kind or with its fault.
+
 ghost use Rattle.std.specs.Prelude.{◌≡◌, if◌then◌else◌};
 ghost use Rattle.text_lines.specs.Kinds.{begins_with_digit};
 ghost use Rattle.text_lines.specs.Options.{ends};

@@ -1,3 +1,5 @@
+//! A grammar of single digits, and what a text of such lines gives.
+
 use pitch_messages::List;
 use std::test::*;
 use text_lines::{Fault, Grammar, LineFields, TextCause, TextError, read_number, read_text};

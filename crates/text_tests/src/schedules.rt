@@ -1,3 +1,5 @@
+//! Schedules: the first fault of faulty lines, canonical lines, and a text line by line.
+
 use pitch_text::{
     Command, CommandEntry, Commands, ScheduleList, TextCause, TextError, print_entry, read_schedule,
 };

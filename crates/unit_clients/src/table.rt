@@ -1,3 +1,5 @@
+//! A table with a place for each of the 256 units that a header can name.
+
 ghost use Rattle.std.specs.Prelude.{◌≡◌, ◌≤◌, ℕ, Option, Some, None, IfOk, length, slice_get};
 ghost use Rattle.std.specs.Borrow.{sem};
 ghost use Rattle.pitch_fields.specs.Limits.{most_held};

@@ -1,3 +1,5 @@
+//! The clients of a whole stream, each made at the first block of its unit.
+
 ghost use Rattle.std.specs.Prelude.{◌≡◌, ◌≤◌, ℕ, List, [], ◌∷◌, OnOk, OnErr, IfOk, length};
 ghost use Rattle.pitch_fields.specs.Limits.{most_held};
 ghost use Rattle.unit_packets.specs.Blocks.{Block};

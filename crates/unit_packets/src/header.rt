@@ -1,3 +1,5 @@
+//! The Sequenced Unit Header, and what can be wrong with a block that it begins.
+
 ghost use Rattle.std.specs.Prelude.{◌≡◌};
 ghost use Rattle.unit_packets.specs.Causes.{inner_place};
 ghost use Rattle.unit_packets.specs.Cutting.{is_truncated};

@@ -1,3 +1,5 @@
+//! Laws of blocks: one way to cut a stream, in whatever pieces, and one way to pack messages.
+
 ghost use Rattle.std.specs.Prelude.{[]};
 ghost use Rattle.unit_packets.specs.CuttingLaws.{CutsAreComputed, CutsAreOne};
 ghost use Rattle.unit_packets.specs.Feeding.{StandsFor};

@@ -1,3 +1,5 @@
+//! Packs messages as they come into datagrams of at most 1,400 bytes, a block in each.
+
 ghost use Rattle.std.specs.Prelude.{◌≡◌, ◌+◌, ◌≤◌, ◌<◌, ◌++◌, [], ◌∷◌, length, drop, IfOk, OnOk};
 ghost use Rattle.std.specs.Prelude.{OnErr, IsTrue, ◌↔◌};
 ghost use Rattle.pitch_fields.specs.Limits.{last_sequence};

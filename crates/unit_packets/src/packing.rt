@@ -1,3 +1,5 @@
+//! Packs the messages of a whole list in one call.
+
 ghost use Rattle.std.specs.Prelude.{◌≡◌, ◌++◌, OnOk, OnErr, length};
 ghost use Rattle.unit_packets.specs.Blocks.{StaysWithin};
 ghost use Rattle.unit_packets.specs.Packing.{IsPacking, packed, bytes_in};

@@ -1,3 +1,5 @@
+//! Cuts a stream into blocks as its pieces come, up to its first fault.
+
 ghost use Rattle.std.specs.Prelude.{◌≡◌, ℕ, ◌≤◌, List, ◌++◌, [], ◌∷◌, length, take, drop, vec_len};
 ghost use Rattle.std.specs.Prelude.{IfOk, OnOk, OnErr, Err, true};
 ghost use Rattle.unit_packets.specs.Cutting.{blocks_of, place_of, fault_in, fault_from};

@@ -1,3 +1,5 @@
+//! Blocks that are lent, read where they stand with no copy of their messages.
+
 ghost use Rattle.std.specs.Prelude.{◌≡◌, length, IfOk, IfErr, Err};
 ghost use Rattle.unit_packets.specs.Blocks.{StaysWithin};
 ghost use Rattle.unit_packets.specs.Judging.{judge};

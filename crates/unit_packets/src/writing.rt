@@ -1,3 +1,5 @@
+//! Writes the blocks that need no packer: heartbeats, and single session messages.
+
 ghost use Rattle.std.specs.Prelude.{◌≡◌, ◌++◌, OnOk, OnErr};
 ghost use Rattle.unit_packets.specs.Blocks.{IsBlock};
 ghost use Rattle.unit_packets.specs.BlockBytes.{header_bytes, block_bytes, heartbeat_block};

@@ -1,3 +1,5 @@
+//! Which copies of datagrams are lost, about one in twenty, drawn from a number.
+
 ghost use Rattle.std.specs.Prelude.{◌≡◌};
 ghost use Rattle.venue_core.specs.Losses.{mix, draw_of_copy, state_after, is_lost};
 

@@ -1,3 +1,5 @@
+//! The plan: commands in rounds of eight, made from a number, and laws of what they leave.
+
 ghost use Rattle.std.specs.Prelude.{◌≡◌, ℕ, ◌≤◌, ◌+◌, ◌-◌, ◌*◌, ◌/◌, ◌<◌, None, Some, Ok, length};
 ghost use Rattle.std.specs.Prelude.{take, slice_get, sum_by};
 ghost use Rattle.std.specs.List.{AllByRecursion};

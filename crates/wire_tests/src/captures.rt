@@ -1,3 +1,5 @@
+//! Captures: records in pieces and where they stand, both byte orders, and faults.
+
 use pcap_feed::{
     CaptureError, CaptureFault, CaptureFeedError, CaptureReader, RecordList, payload_in,
     payload_of, view_record,

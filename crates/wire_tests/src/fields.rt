@@ -1,3 +1,5 @@
+//! Fields as text: numbers, prices, names, and how they are shown.
+
 use pitch_fields::{OutOfMemory, Price, Side, Symbol, name_text, number_text, price_text};
 use std::alloc::AllocError;
 

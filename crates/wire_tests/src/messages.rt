@@ -1,3 +1,5 @@
+//! Messages: fields at their places, the form that fits an order, lists, and a login.
+
 use pitch_fields::{Price, Side, Symbol};
 use pitch_messages::session::{self, SessionError, SessionMessage};
 use pitch_messages::{

@@ -1,3 +1,5 @@
+//! Blocks and datagrams: streams in pieces with their faults, and messages that are packed.
+
 use pitch_messages::{Raw, RawList};
 use std::alloc::Global;
 use std::process::Abort;

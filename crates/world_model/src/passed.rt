@@ -1,3 +1,5 @@
+//! How far the client has come on each line, by the numbers of its datagrams.
+
 ghost use Rattle.std.specs.Prelude.{◌≡◌};
 
 use pitch_io::Line;

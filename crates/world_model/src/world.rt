@@ -1,3 +1,5 @@
+//! Does each verb of a schedule with a unit's venue, lines, proxy, Spin Server and client.
+
 ghost use Rattle.std.specs.Prelude.{◌≡◌, ◌≤◌, ℕ, List, [], ◌∷◌, false, drop, Some, IsTrue, ◌↔◌};
 ghost use Rattle.std.specs.Prelude.{◌++◌, OnOk};
 ghost use Rattle.pitch_model.specs.Advertising.{Operation, Accept};

@@ -1,3 +1,5 @@
+//! Arbiters: datagrams that are cut into items, and counts of each line and unit.
+
 use line_arbiter::{Arbiter, DatagramFault, HeardList, Line, LineCount};
 use pitch_model::Item;
 use std::process::Abort;

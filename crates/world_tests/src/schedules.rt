@@ -1,3 +1,5 @@
+//! Schedules that are replayed: a world for each unit, and a fault that refuses the text.
+
 ghost use Rattle.std.specs.Prelude.{◌≤◌, length};
 
 use pitch_io::FreeGate;

@@ -1,3 +1,5 @@
+//! Storms as they are made: a short one written out, sums of longer ones, summary lines.
+
 ghost use Rattle.std.specs.Prelude.{◌≤◌};
 
 use feed_lines::{LINE, put_unit_line};

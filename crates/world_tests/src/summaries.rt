@@ -1,3 +1,5 @@
+//! Storms as they end: summaries, the worlds behind them, and two units side by side.
+
 ghost use Rattle.std.specs.Prelude.{◌≤◌};
 
 use pitch_io::{FreeGate, MeetGate};

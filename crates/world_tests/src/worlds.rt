@@ -1,3 +1,5 @@
+//! Worlds: a gap that the proxy fills, and an image that is cut off and then carried.
+
 use line_arbiter::Line;
 use pitch_model::Status;
 use pitch_text::{ScheduleList, read_schedule};

@@ -1,3 +1,5 @@
+//! The command `audit`: a log and a report come in, and a verdict goes out.
+
 ghost use Rattle.std.specs.Prelude.{◌≡◌, ◌+◌, IfOk, Err, string_bytes};
 ghost use Rattle.pitch_io.specs.Causes.{HasCause};
 ghost use Rattle.run_audit.specs.Causes.{verdict_line};

@@ -1,3 +1,5 @@
+//! The command `demo`: it runs both ends of a unit over the net, and says how they ended.
+
 ghost use Rattle.std.specs.Prelude.{◌≡◌, ◌≢◌, Err};
 ghost use Rattle.pitch_io.specs.Causes.{HasCause};
 ghost use Rattle.stream_print.specs.Told.{told};

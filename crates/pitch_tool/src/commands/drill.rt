@@ -1,3 +1,5 @@
+//! The command `drill`: it runs the threads of all units, and says where each client ended.
+
 ghost use Rattle.std.specs.Prelude.{◌≡◌, ◌≢◌, Err};
 ghost use Rattle.pitch_io.specs.Causes.{HasCause};
 ghost use Rattle.stream_print.specs.Told.{told};

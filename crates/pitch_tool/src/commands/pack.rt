@@ -1,3 +1,5 @@
+//! The command `pack`: venue commands come in, and the datagrams of a feed go out.
+
 ghost use Rattle.std.specs.Prelude.{◌≡◌, ◌≤◌, [], IfOk, IfErr, length};
 ghost use Rattle.pitch_fields.specs.Limits.{text_limit};
 ghost use Rattle.command_feed.specs.Feed.{AppendsPacking};

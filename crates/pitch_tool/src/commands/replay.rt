@@ -1,3 +1,5 @@
+//! The command `replay`: a schedule comes in, and the text of each of its lines goes out.
+
 ghost use Rattle.std.specs.Prelude.{◌≡◌, ◌≤◌, Ok, IfOk, IfErr, length};
 ghost use Rattle.pitch_fields.specs.Limits.{text_limit};
 ghost use Rattle.pitch_tool.specs.TextForms.{AreWorkers, made, IsMadeOf, IsUnmade};

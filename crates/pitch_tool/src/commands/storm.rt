@@ -1,3 +1,5 @@
+//! The command `storm`: it makes a schedule from a number, replays it, and sums it up.
+
 ghost use Rattle.std.specs.Prelude.{◌≡◌, ◌≢◌, Err};
 ghost use Rattle.pitch_io.specs.Causes.{HasCause};
 ghost use Rattle.stream_print.specs.Told.{told};
