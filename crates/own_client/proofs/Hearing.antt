@@ -3,7 +3,7 @@ use Rattle.std.proofs.Common.{◌≡◌, ℕ, List, [], ◌∷◌, ◌++◌, rev
 use Rattle.std.proofs.lemmas.List.{reverse-append}
 use Rattle.unit_packets.specs.Blocks.{Block}
 use Rattle.unit_packets.specs.Cutting.{blocks_of, rest_of}
-use Rattle.unit_packets.proofs.Walking.{Walked, walked_none, walked_more, walked_all}
+use Rattle.unit_packets.proofs.Walking.{Walked, walked_more, walked_all}
 use Rattle.unit_clients.specs.Clients.{Units, HaveHeard}
 
 -- the clients have heard the blocks that were taken
@@ -11,9 +11,6 @@ pub record HeardTo (old now : Units) (bytes left : List ℕ) : Type 0 where
   pub done : List Block
   pub heard : (before : List Block) → HaveHeard old before → HaveHeard now (reverse done ++ before)
   pub walked : Walked bytes left done
-
-pub heard_none : (units : Units) (bytes left : List ℕ) → left ≡ bytes → HeardTo units units bytes left
-heard_none units bytes left same = record { done = []; heard = λ before h. h; walked = walked_none bytes left same }
 
 reverse_then : (xs : List Block) (b : Block) (before : List Block) → reverse (xs ++ b ∷ []) ++ before ≡ b ∷ (reverse xs ++ before)
 reverse_then xs b before = ap (λ (bs : List Block). bs ++ before) (reverse-append xs (b ∷ []))

@@ -1,7 +1,7 @@
 -- What a reader stands for after a piece.
-use Rattle.std.proofs.Common.{◌≡◌, ℕ, ◌+◌, ◌⊎◌, Bool, true, false, List, [], ◌∷◌, ◌++◌, length, take, drop, refl, sym, ap, ◌∙◌, subst, arith, Option, Some, None, Ok, Err, Result, length-append, append_assoc, inl, inr, is_some}
+use Rattle.std.proofs.Common.{◌≡◌, ℕ, ◌+◌, ◌⊎◌, Bool, true, false, List, [], ◌∷◌, ◌++◌, length, drop, refl, sym, ap, ◌∙◌, subst, arith, Option, Some, None, Ok, Err, Result, length-append, append_assoc, inl, inr, is_some}
 use Rattle.std.specs.List.{concat}
-use Rattle.std.proofs.lemmas.List.{append-nil, take_at}
+use Rattle.std.proofs.lemmas.List.{append-nil}
 use Rattle.unit_packets.specs.Blocks.{Block}
 use Rattle.unit_packets.specs.Causes.{counted}
 use Rattle.unit_packets.specs.Judging.{judge}
@@ -16,7 +16,7 @@ use Rattle.unit_packets.specs.declared.block.FeedError.TheVariants.{Fault, OutOf
 use Rattle.unit_packets.proofs.Cuts.{appends, rest_short, rest_stands}
 use Rattle.unit_packets.specs.Cutting.{rest_by}
 use Rattle.unit_packets.proofs.Stable.{IsFinal, judge_more}
-use Rattle.unit_packets.proofs.Walking.{Walked, walked_none, walked_more, walked_all}
+use Rattle.unit_packets.proofs.Walking.{Walked, walked_more}
 use Rattle.unit_packets.proofs.Streams.{of_nothing, lasting_of, lasting_more, fault_stays}
 
 -- ---- Cutting a piece
@@ -26,12 +26,6 @@ pub record Cutting (bytes left : List ℕ) (before so_far : List Block) : Type 0
   pub are : so_far ≡ before ++ added
   pub walked : Walked bytes left added
 
-pub cutting_none : (bytes left : List ℕ) (before : List Block) → left ≡ bytes → Cutting bytes left before before
-cutting_none bytes left before is = record { added = []; are = sym (append-nil before); walked = walked_none bytes left is }
-
-pub cutting_kept : (bytes left : List ℕ) (n : ℕ) (before so_far : List Block) → Cutting bytes left before so_far → n ≡ length before → take n so_far ≡ before
-cutting_kept bytes left n before so_far c is = ap (λ (k : ℕ). take k so_far) is ∙ ap (take (length before)) c.are ∙ take_at before c.added (length before) refl
-
 pub cutting_more : (bytes left less : List ℕ) (before so_far longer : List Block) (block : Block) → Cutting bytes left before so_far → blocks_of left ≡ block ∷ blocks_of less → rest_of less ≡ rest_of left → longer ≡ so_far ++ block ∷ []
     → Cutting bytes less before longer
 cutting_more bytes left less before so_far longer block c first rest more = record {
@@ -39,9 +33,6 @@ cutting_more bytes left less before so_far longer block c first rest more = reco
   are = more ∙ ap (λ (bs : List Block). bs ++ block ∷ []) c.are ∙ append_assoc before c.added (block ∷ []);
   walked = walked_more bytes left less c.added block c.walked first rest;
 }
-
-pub cutting_end : (bytes left : List ℕ) (before so_far : List Block) → Cutting bytes left before so_far → blocks_of left ≡ [] → so_far ≡ before ++ blocks_of bytes
-cutting_end bytes left before so_far c none = c.are ∙ ap (λ (bs : List Block). before ++ bs) (walked_all bytes left c.added c.walked none)
 
 -- ---- Standing for bytes
 counted_on : (a b : ℕ) → counted (counted a + b) ≡ counted (a + b)
