@@ -1,5 +1,5 @@
 -- What a message moves: the levels change by the orders of the id that it names, before and after.
-use Rattle.std.proofs.Common.{◌≡◌, ℕ, ◌+◌, ◌≤◌, ◌==◌, ◌&&◌, Bool, true, false, cond, nat_le, List, length, Option, None, Some, Ok, Err, Result, IfOk, refl, sym, ap, ◌∙◌, subst, arith}
+use Rattle.std.proofs.Common.{◌≡◌, ℕ, ◌+◌, ◌==◌, ◌&&◌, Bool, true, false, cond, nat_le, List, length, Option, None, Some, refl, sym, ap, ◌∙◌, subst, arith}
 use Rattle.std.specs.Option.{option_map}
 use Rattle.std.specs.Ordering.{nat_cmp, is_eq, eq_by_cmp}
 use Rattle.std.specs.FinMap as finite
@@ -7,19 +7,13 @@ use Rattle.std.proofs.lemmas.Bool.{eqb-true}
 use Rattle.std.proofs.lemmas.Bool.Decides.{nat_tests}
 use Rattle.std.proofs.lemmas.Cmp.{nat_cmp_total, tied_itself}
 use Rattle.pitch_messages.specs.declared.order.Order.{Order}
-use Rattle.pitch_messages.specs.declared.message.Message.{Message}
-use Rattle.pitch_messages.specs.declared.message.Message.TheVariants.{Time, AddLong, AddShort, Executed, ExecutedAt, ReduceLong, ReduceShort, ModifyLong, ModifyShort, Delete, TradeLong, TradeShort, TradeBreak, EndOfSession, AddExpanded, TradeExpanded, TradingStatus, UnitClear, Other}
-use Rattle.pitch_messages.specs.declared.message.ReadError.{ReadError}
 use Rattle.pitch_fields.specs.Fields.{number_at}
 use Rattle.pitch_messages.specs.Raw.{kind_of}
-use Rattle.pitch_messages.specs.Reading.{reads, row_of, unit_clear_row}
-use Rattle.pitch_messages.specs.Writing.{in_row}
-use Rattle.pitch_messages.proofs.Rows.{said}
-use Rattle.pitch_messages.proofs.Rewriting.{ReadAt, read_at}
-use Rattle.pitch_model.specs.Book.{Book, with_order, without_order, added, changed, reformed, reduced_by, left_with, modified, is_displayed, long_price, order_of_long, order_of_short, order_of_expanded, after_message, after_read, after}
+use Rattle.pitch_model.specs.Book.{Book, at_second, cleared, with_order, without_order, with_status, added, changed, reformed, changed_by, Effect, ShowsSecond, ClearsOrders, AddsOrder, ChangesOrder, RemovesOrder, GivesStatus, DoesNothing, after_effect, after}
 use Rattle.pitch_model.specs.Levels.{level}
 use Rattle.best_quotes.specs.Balance.{shares_of}
 use Rattle.order_book.specs.Naming.{names_order, named_order, touches_as, touched}
+use Rattle.order_book.proofs.Telling.{Names, IsClear, Tells, after_told}
 use Rattle.best_quotes.specs.Turning.{Moves}
 use Rattle.order_book.specs.declared.naming.Touches.{Touches}
 use Rattle.order_book.specs.declared.naming.Touches.TheVariants as touches
@@ -30,6 +24,11 @@ itself k = ap is_eq (tied_itself nat_cmp_total k)
 
 stays : (book : Book) (id : ℕ) → Moves book book id
 stays book id symbol side price = refl
+
+-- levels are those of the orders
+keeps : (book new : Book) (id : ℕ) → new.orders ≡ book.orders → Moves book new id
+unfolding level
+keeps book new id same symbol side price = λ i. level (record new { orders = same i }) symbol side price + shares_of symbol side price (finite.get (sym same i) id)
 
 puts : (book : Book) (id : ℕ) (order : Order) → Moves book (with_order book id order) id
 puts book id order symbol side price =
@@ -68,90 +67,57 @@ IsTouched old new touches.None = new.orders ≡ old.orders
 IsTouched old new (touches.One id) = Moves old new id
 IsTouched old new touches.All = new.orders ≡ finite.empty
 
--- what a raw of a type touches
-module _ (raw : List ℕ) (kind : ℕ) (is : kind_of raw ≡ kind) where
-  touches_named : names_order kind ≡ true → 14 ≤ length raw → touched raw ≡ touches.One (number_at 8 6 raw)
-  touches_named names long =
-      let enough : nat_le 14 (length raw) ≡ true = grind (arith, nat_tests, long) in
+-- what a raw touches
+module _ (raw : List ℕ) where
+  touches_named : (id : ℕ) → Names raw id → touched raw ≡ touches.One id
+  touches_named id names =
+      let enough : nat_le 14 (length raw) ≡ true = (let long = names.long in grind (arith, nat_tests, long)) in
       ap (λ (t : Bool). touches_as (cond t (Some (number_at 8 6 raw)) None) (kind_of raw) (length raw))
-      (ap (λ (t : Bool). t && names_order (kind_of raw)) enough ∙ ap names_order is ∙ names)
+      (ap (λ (t : Bool). t && names_order (kind_of raw)) enough ∙ names.kind) ∙ ap (λ (n : ℕ). touches.One n) (sym names.id)
 
-  names_none : names_order kind ≡ false → named_order raw ≡ None
-  names_none names =
-      ap (λ (t : Bool). cond t (Some (number_at 8 6 raw)) None)
-      (ap (λ (t : Bool). nat_le 14 (length raw) && t) (ap names_order is ∙ names) ∙ and_false (nat_le 14 (length raw)))
+  touches_all : IsClear raw → touched raw ≡ touches.All
+  touches_all clear =
+      let enough : nat_le 6 (length raw) ≡ true = (let long = clear.long in grind (arith, nat_tests, long)) in
+      ap (λ (o : Option ℕ). touches_as o (kind_of raw) (length raw)) names_none
+      ∙ ap (λ (t : Bool). cond (t && nat_le 6 (length raw)) touches.All touches.None) (ap (λ (k : ℕ). k == 0x97) clear.kind)
+      ∙ ap (λ (t : Bool). cond t touches.All touches.None) enough
     where
       and_false : (t : Bool) → (t && false) ≡ false
       and_false true = refl
       and_false false = refl
 
-  touches_none : names_order kind ≡ false → (kind == 151) ≡ false → touched raw ≡ touches.None
-  touches_none names other =
-      ap (λ (o : Option ℕ). touches_as o (kind_of raw) (length raw)) (names_none names)
-      ∙ ap (λ (t : Bool). cond (t && nat_le 6 (length raw)) touches.All touches.None) (ap (λ (k : ℕ). k == 151) is ∙ other)
-
-  touches_all : names_order kind ≡ false → (kind == 151) ≡ true → 6 ≤ length raw → touched raw ≡ touches.All
-  touches_all names clear long =
-      let enough : nat_le 6 (length raw) ≡ true = grind (arith, nat_tests, long) in
-      ap (λ (o : Option ℕ). touches_as o (kind_of raw) (length raw)) (names_none names)
-      ∙ ap (λ (t : Bool). cond (t && nat_le 6 (length raw)) touches.All touches.None) (ap (λ (k : ℕ). k == 151) is ∙ clear)
-      ∙ ap (λ (t : Bool). cond t touches.All touches.None) enough
+      names_none : named_order raw ≡ None
+      names_none =
+          ap (λ (t : Bool). cond t (Some (number_at 8 6 raw)) None)
+          (ap (λ (t : Bool). nat_le 14 (length raw) && t) (ap names_order clear.kind) ∙ and_false (nat_le 14 (length raw)))
 
 -- ---- All raw messages
 module _ (book : Book) (raw : List ℕ) where
-  -- what is no message, or is too short for one, changes nothing
-  still : (kind_of raw ≡ 151 → 6 ≤ length raw → ⊥) → (o : Option ℕ) → IsTouched book book (touches_as o (kind_of raw) (length raw))
-  still apart (Some id) = stays book id
-  still apart None = by (kind_of raw == 151) refl (nat_le 6 (length raw)) refl
+  -- what leaves the orders
+  still : (new : Book) → new.orders ≡ book.orders → (IsClear raw → ⊥) → IsTouched book new (touched raw)
+  still new same other = by (named_order raw)
     where
-      by : (t : Bool) → (kind_of raw == 151) ≡ t → (u : Bool) → nat_le 6 (length raw) ≡ u → IsTouched book book (cond (t && u) touches.All touches.None)
-      by false e u f = refl
-      by true e false f = refl
-      by true e true f = absurd (apart (eqb-true (kind_of raw) 151 e) (grind (arith, nat_tests, f)))
+      none : (t : Bool) → (kind_of raw == 0x97) ≡ t → (u : Bool) → nat_le 6 (length raw) ≡ u → IsTouched book new (cond (t && u) touches.All touches.None)
+      none false e u f = same
+      none true e false f = same
+      none true e true f = absurd (other (record { kind = eqb-true (kind_of raw) 0x97 e; long = grind (arith, nat_tests, f) }))
 
-  -- a message that names an order
-  one : (new : Book) (id kind : ℕ) → kind_of raw ≡ kind → names_order kind ≡ true → 14 ≤ length raw → id ≡ number_at 8 6 raw → Moves book new id → IsTouched book new (touched raw)
-  one new id kind is names long named moves =
-      subst (IsTouched book new) (sym (touches_named raw kind is names long)) (subst (Moves book new) named moves)
+      by : (o : Option ℕ) → IsTouched book new (touches_as o (kind_of raw) (length raw))
+      by (Some id) = keeps book new id same
+      by None = none (kind_of raw == 0x97) refl (nat_le 6 (length raw)) refl
 
-  -- one that leaves the orders
-  none : (new : Book) (kind : ℕ) → kind_of raw ≡ kind → names_order kind ≡ false → (kind == 151) ≡ false → new.orders ≡ book.orders → IsTouched book new (touched raw)
-  none new kind is names other same = subst (IsTouched book new) (sym (touches_none raw kind is names other)) same
+  -- what moves the order that is named
+  one : (new : Book) (id : ℕ) → Names raw id → Moves book new id → IsTouched book new (touched raw)
+  one new id names moves = subst (IsTouched book new) (sym (touches_named raw id names)) moves
 
-  -- a raw that says nothing is no Unit Clear of six bytes or more
-  unsaid : (error : ReadError) → reads raw ≡ Err error → kind_of raw ≡ 151 → 6 ≤ length raw → ⊥
-  unsaid error e is long = absurd (let same : Ok (UnitClear (number_at 4 2 raw)) ≡ Err error = said unit_clear_row raw 151 is refl long ∙ e in cc)
-
-  message_touches : (message : Message) → ReadAt raw (in_row message) → IsTouched book (after_message book message) (touched raw)
-  message_touches (Time second) at = none _ 32 at.kind refl refl refl
-  message_touches (AddLong offset id side quantity symbol price flags) at =
-      one _ id 33 at.kind refl (omega (arith, at.long)) at.all.1.0 (adds book (order_of_long id side quantity symbol price flags))
-  message_touches (AddShort offset id side quantity symbol price flags) at =
-      one _ id 34 at.kind refl (omega (arith, at.long)) at.all.1.0 (adds book (order_of_short id side quantity symbol price flags))
-  message_touches (Executed offset id executed execution) at = one _ id 35 at.kind refl (omega (arith, at.long)) at.all.1.0 (changes_one book id (reduced_by executed))
-  message_touches (ExecutedAt offset id executed remaining execution price) at = one _ id 36 at.kind refl (omega (arith, at.long)) at.all.1.0 (changes_one book id (left_with remaining))
-  message_touches (ReduceLong offset id quantity) at = one _ id 37 at.kind refl (omega (arith, at.long)) at.all.1.0 (changes_one book id (reduced_by quantity))
-  message_touches (ReduceShort offset id quantity) at = one _ id 38 at.kind refl (omega (arith, at.long)) at.all.1.0 (changes_one book id (reduced_by quantity))
-  message_touches (ModifyLong offset id quantity price flags) at =
-      one _ id 39 at.kind refl (omega (arith, at.long)) at.all.1.0 (changes_one book id (modified quantity price (is_displayed flags)))
-  message_touches (ModifyShort offset id quantity price flags) at =
-      one _ id 40 at.kind refl (omega (arith, at.long)) at.all.1.0 (changes_one book id (modified quantity (long_price price) (is_displayed flags)))
-  message_touches (Delete offset id) at = one _ id 41 at.kind refl (omega (arith, at.long)) at.all.1.0 (takes book id)
-  message_touches (TradeLong offset id side quantity symbol price execution) at = none _ 42 at.kind refl refl refl
-  message_touches (TradeShort offset id side quantity symbol price execution) at = none _ 43 at.kind refl refl refl
-  message_touches (TradeBreak offset execution) at = none _ 44 at.kind refl refl refl
-  message_touches (EndOfSession offset) at = none _ 45 at.kind refl refl refl
-  message_touches (AddExpanded offset id side quantity symbol price flags participant) at =
-      one _ id 47 at.kind refl (omega (arith, at.long)) at.all.1.0 (adds book (order_of_expanded id side quantity symbol price flags participant))
-  message_touches (TradeExpanded offset id side quantity symbol price execution) at = none _ 48 at.kind refl refl refl
-  message_touches (TradingStatus offset symbol halt sho) at = none _ 49 at.kind refl refl refl
-  message_touches (UnitClear offset) at = subst (IsTouched book (after_message book (UnitClear offset))) (sym (touches_all raw 151 at.kind refl refl at.long)) refl
-  message_touches (Other other) at = still (λ is long. absurd (let e : Some unit_clear_row ≡ None = ap row_of (sym is) ∙ at.0 in cc)) (named_order raw)
+  effect_touches : (effect : Effect) → Tells raw effect → IsTouched book (after_effect book effect) (touched raw)
+  effect_touches (ShowsSecond second) other = still (at_second book second) refl other
+  effect_touches ClearsOrders clear = subst (IsTouched book (cleared book)) (sym (touches_all raw clear)) refl
+  effect_touches (AddsOrder order) tells = one (added book order) order.id tells.0 (adds book order)
+  effect_touches (ChangesOrder id change) names = one (changed book id (changed_by change)) id names (changes_one book id (changed_by change))
+  effect_touches (RemovesOrder id) names = one (without_order book id) id names (takes book id)
+  effect_touches (GivesStatus symbol status) other = still (with_status book symbol status) refl other
+  effect_touches DoesNothing other = still book refl other
 
 pub touches_orders : (book : Book) (raw : List ℕ) → IsTouched book (after book raw) (touched raw)
-unfolding after
-touches_orders book raw = by (reads raw) refl (read_at raw)
-  where
-    by : (read : Result Message ReadError) → reads raw ≡ read → IfOk read (λ message. ReadAt raw (in_row message)) → IsTouched book (after_read book read) (touched raw)
-    by (Err error) e at = still book raw (unsaid book raw error e) (named_order raw)
-    by (Ok message) e at = message_touches book raw message at
+touches_orders book raw = after_told (λ (new : Book). IsTouched book new (touched raw)) book raw (effect_touches book raw)

@@ -1,4 +1,3 @@
-pub mod Changes
 pub mod Naming
 pub mod Standing
 pub mod Symbols

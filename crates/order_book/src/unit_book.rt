@@ -6,17 +6,16 @@ ghost use Rattle.pitch_messages.specs.Raw.{IsRaw, kind_of};
 ghost use Rattle.std.specs.FinMap as map;
 ghost use Rattle.pitch_model.specs.Book.{IsBook, empty_book, at_second, cleared, without_order};
 ghost use Rattle.pitch_model.specs.Book.{with_order, with_status, added, changed, after_message};
-ghost use Rattle.pitch_model.specs.Book.{after_read, after};
+ghost use Rattle.pitch_model.specs.Book.{after_read, after, changed_by};
 ghost use Rattle.pitch_model.specs.Levels.{IsBestOf, orders_of, orders_on, prices_on, shares};
 ghost use Rattle.pitch_model.specs.Levels.{level, best};
 ghost use Rattle.pitch_model.specs.Statuses.{statuses_of};
-ghost use Rattle.order_book.specs.Changes.{changed_by};
 ghost use Rattle.order_book.specs.Naming.{names_open};
 ghost use Rattle.order_book.specs.Standing.{most_orders};
 ghost use Rattle.order_book.specs.Turns.{turn_of};
 
 use crate::adding::{is_displayed, order_of_expanded, order_of_long, order_of_short};
-use crate::change::Change;
+use crate::change::{make_change, shares_left};
 use crate::naming::{Touches, named_order, touched};
 use crate::order_list::{OrderList, append_by_id};
 use crate::statuses::{StatusList, Statuses};
@@ -26,6 +25,7 @@ use arrayvec::ArrayVec;
 use indexmap::IndexMap;
 use pitch_fields::{OutOfMemory, Price, Side, Symbol};
 use pitch_messages::{Message, Order, Raw, Raws, ReadError, read_as, read_bytes};
+use pitch_model::OrderChange::{self, Left, Modified, Reduced};
 use std::alloc::Global;
 use std::marker::Model;
 
@@ -450,11 +450,11 @@ impl UnitBook {
             }
             Message::Time { second } => self.set_second(second),
             Message::UnitClear { .. } => self.clear(),
-            Message::Executed { id, executed, .. } => self.change(id, Change::Reduced(executed)),
-            Message::ExecutedAt { id, remaining, .. } => self.change(id, Change::Left(remaining)),
-            Message::ReduceLong { id, quantity, .. } => self.change(id, Change::Reduced(quantity)),
+            Message::Executed { id, executed, .. } => self.change(id, Reduced(executed)),
+            Message::ExecutedAt { id, remaining, .. } => self.change(id, Left(remaining)),
+            Message::ReduceLong { id, quantity, .. } => self.change(id, Reduced(quantity)),
             Message::ReduceShort { id, quantity, .. } => {
-                self.change(id, Change::Reduced(u32::from(quantity)))
+                self.change(id, Reduced(u32::from(quantity)))
             }
             Message::ModifyLong {
                 id,
@@ -464,7 +464,7 @@ impl UnitBook {
                 ..
             } => self.change(
                 id,
-                Change::Modified {
+                Modified {
                     quantity,
                     price: Price::from_long(price),
                     display: is_displayed(flags),
@@ -478,7 +478,7 @@ impl UnitBook {
                 ..
             } => self.change(
                 id,
-                Change::Modified {
+                Modified {
                     quantity: u32::from(quantity),
                     price: Price::from_short(price),
                     display: is_displayed(flags),
@@ -560,19 +560,19 @@ impl UnitBook {
     }
 
     // Changes the order of an id, and removes it where it has no shares left.
-    fn change(&mut self, id: u64, change: Change)
+    fn change(&mut self, id: u64, change: OrderChange)
         ensures book { self.new.book ≡ changed self.old.book id (changed_by change) }
         ensures spare { self.old.spare ≤ self.new.spare }
     {
         let Some((index, _, order)) = self.orders.get_full(&id) else {
             return;
         };
-        if change.shares_left(order) == 0 {
+        if shares_left(&change, order) == 0 {
             self.orders.swap_remove_index(index);
             return;
         }
         let (_, place) = self.orders.pair_mut(index);
-        change.make(place);
+        make_change(&change, place);
     }
 
     // How many of the ids are those of open orders.

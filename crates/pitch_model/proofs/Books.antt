@@ -10,11 +10,12 @@ use Rattle.std.proofs.lemmas.Bool.{cond_both, eqb-true, cond-true}
 use Rattle.std.proofs.lemmas.Bool.Decides.{nat_tests}
 use Rattle.pitch_messages.specs.declared.order.Order.{Order}
 use Rattle.pitch_messages.specs.declared.message.Message.{Message}
-use Rattle.pitch_messages.specs.declared.message.Message.TheVariants.{Time, AddLong, AddShort, Executed, ExecutedAt, ReduceLong, ReduceShort, ModifyLong, ModifyShort, Delete, TradeLong, TradeShort, TradeBreak, EndOfSession, AddExpanded, TradeExpanded, TradingStatus, UnitClear, Other}
 use Rattle.pitch_messages.specs.declared.message.ReadError.{ReadError}
 use Rattle.pitch_messages.specs.Reading.{reads}
 use Rattle.pitch_model.specs.History.{Raw}
-use Rattle.pitch_model.specs.Book.{Book, IsBook, empty_book, at_second, cleared, without_order, with_order, added, reformed, changed, reduced_by, left_with, modified, is_displayed, long_price, after_message, after_read, after, book_after}
+use Rattle.pitch_model.specs.declared.order_change.OrderChange.{OrderChange}
+use Rattle.pitch_model.specs.declared.order_change.OrderChange.TheVariants.{Reduced, Left, Modified}
+use Rattle.pitch_model.specs.Book.{Book, IsBook, empty_book, at_second, cleared, without_order, with_order, added, reformed, changed, changed_by, Effect, ShowsSecond, ClearsOrders, AddsOrder, ChangesOrder, RemovesOrder, GivesStatus, DoesNothing, after_effect, effect_of, after_read, after, book_after}
 
 same_test : (q x : ℕ) → is_eq (nat_cmp q x) ≡ eqb q x
 same_test q x = grind (arith, nat_tests)
@@ -61,6 +62,22 @@ module _ (C : ℕ → Order → Type 0) where
           (λ t. without_order_all book id all)
           (λ f. with_order_all book id (change order) all (keeps order (all id order e) (open_from_test (change order).quantity f)))
 
+-- ---- What leaves the clock and the statuses as they are
+pub record SameElse (old new : Book) : Type 0 where
+  pub second : new.second ≡ old.second
+  pub statuses : new.statuses ≡ old.statuses
+
+pub added_else : (book : Book) (order : Order) → SameElse book (added book order)
+added_else book order = cond_both (order.quantity == 0) book (with_order book order.id order) (SameElse book) (λ t. record { second = refl; statuses = refl }) (λ f. record { second = refl; statuses = refl })
+
+pub changed_else : (book : Book) (id : ℕ) (change : Order → Order) → SameElse book (changed book id change)
+changed_else book id change = by (option_map change (map.get book.orders id))
+  where
+    by : (o : Option Order) → SameElse book (reformed book id o)
+    by None = record { second = refl; statuses = refl }
+    by (Some order) = cond_both (order.quantity == 0) (without_order book id) (with_order book id order) (SameElse book) (λ t. record { second = refl; statuses = refl }) (λ f. record { second = refl; statuses = refl })
+
+-- ---- Orders that stand
 -- an order stands under its id, and has shares
 abbrev Stands : ℕ → Order → Type 0
 Stands id order = (order.id ≡ id) × (0 < order.quantity)
@@ -97,35 +114,33 @@ without_order_book book id is = book_from (without_order book id) (without_order
 pub changed_book : (book : Book) (id : ℕ) (change : Order → Order) → ((order : Order) → (change order).id ≡ order.id) → IsBook book → IsBook (changed book id change)
 changed_book book id change keeps is = book_from (changed book id change) (changed_stands book id change keeps (all_from book is))
 
--- ---- Each message leaves a book
-after_message_stands : (book : Book) (message : Message) → AllOrders Stands book → AllOrders Stands (after_message book message)
-after_message_stands book (Time second) B = B
-after_message_stands book (TradingStatus offset symbol halt sho) B = B
-after_message_stands book (UnitClear offset) B = none_all Stands book
-after_message_stands book (AddLong offset id side quantity symbol price flags) B = added_stands book _ B
-after_message_stands book (AddShort offset id side quantity symbol price flags) B = added_stands book _ B
-after_message_stands book (AddExpanded offset id side quantity symbol price flags participant) B = added_stands book _ B
-after_message_stands book (Executed offset id executed execution) B = changed_stands book id (reduced_by executed) (λ order. refl) B
-after_message_stands book (ExecutedAt offset id executed remaining execution price) B = changed_stands book id (left_with remaining) (λ order. refl) B
-after_message_stands book (ReduceLong offset id quantity) B = changed_stands book id (reduced_by quantity) (λ order. refl) B
-after_message_stands book (ReduceShort offset id quantity) B = changed_stands book id (reduced_by quantity) (λ order. refl) B
-after_message_stands book (ModifyLong offset id quantity price flags) B = changed_stands book id (modified quantity price (is_displayed flags)) (λ order. refl) B
-after_message_stands book (ModifyShort offset id quantity price flags) B = changed_stands book id (modified quantity (long_price price) (is_displayed flags)) (λ order. refl) B
-after_message_stands book (Delete offset id) B = without_order_all Stands book id B
-after_message_stands book (TradeLong offset id side quantity symbol price execution) B = B
-after_message_stands book (TradeShort offset id side quantity symbol price execution) B = B
-after_message_stands book (TradeExpanded offset id side quantity symbol price execution) B = B
-after_message_stands book (TradeBreak offset execution) B = B
-after_message_stands book (EndOfSession offset) B = B
-after_message_stands book (Other raw) B = B
+-- no change touches the id
+pub keeps_id : (change : OrderChange) (order : Order) → (changed_by change order).id ≡ order.id
+keeps_id (Reduced quantity) order = refl
+keeps_id (Left quantity) order = refl
+keeps_id (Modified quantity price display) order = refl
+
+effect_stands : (book : Book) (effect : Effect) → AllOrders Stands book → AllOrders Stands (after_effect book effect)
+effect_stands book (ShowsSecond second) B = B
+effect_stands book ClearsOrders B = none_all Stands book
+effect_stands book (AddsOrder order) B = added_stands book order B
+effect_stands book (ChangesOrder id change) B = changed_stands book id (changed_by change) (keeps_id change) B
+effect_stands book (RemovesOrder id) B = without_order_all Stands book id B
+effect_stands book (GivesStatus symbol status) B = B
+effect_stands book DoesNothing B = B
+
+-- ---- Each raw message leaves a book
+-- what holds of a book after each effect holds of it after each raw message
+pub after_raw : (P : Book → Type 0) (book : Book) (raw : Raw) → ((effect : Effect) → P (after_effect book effect)) → P (after book raw)
+unfolding after
+after_raw P book raw each = by (reads raw)
+  where
+    by : (read : Result Message ReadError) → P (after_read book read)
+    by (Err error) = each DoesNothing
+    by (Ok message) = each (effect_of message)
 
 pub after_book : (book : Book) (raw : Raw) → IsBook book → IsBook (after book raw)
-unfolding after
-after_book book raw is = by (reads raw)
-  where
-    by : (read : Result Message ReadError) → IsBook (after_read book read)
-    by (Err error) = is
-    by (Ok message) = book_from (after_message book message) (after_message_stands book message (all_from book is))
+after_book book raw is = after_raw IsBook book raw (λ effect. book_from (after_effect book effect) (effect_stands book effect (all_from book is)))
 
 folded_book : (raws : List Raw) (book : Book) → IsBook book → IsBook (fold after book raws)
 folded_book [] book B = B
@@ -166,35 +181,19 @@ changed_len book id change = by (map.get book.orders id) refl
         (λ t. without_order_len book id)
         (λ f. let same = replaced_len book id (change order) (ap is_some e) in omega arith)
 
-after_message_len : (book : Book) (message : Message) → map.len (after_message book message).orders ≤ map.len book.orders + 1
-after_message_len book (Time second) = omega arith
-after_message_len book (TradingStatus offset symbol halt sho) = omega arith
-after_message_len book (UnitClear offset) = let l = cleared_len book in omega arith
-after_message_len book (AddLong offset id side quantity symbol price flags) = added_len book _
-after_message_len book (AddShort offset id side quantity symbol price flags) = added_len book _
-after_message_len book (AddExpanded offset id side quantity symbol price flags participant) = added_len book _
-after_message_len book (Executed offset id executed execution) = let l = changed_len book id (reduced_by executed) in omega arith
-after_message_len book (ExecutedAt offset id executed remaining execution price) = let l = changed_len book id (left_with remaining) in omega arith
-after_message_len book (ReduceLong offset id quantity) = let l = changed_len book id (reduced_by quantity) in omega arith
-after_message_len book (ReduceShort offset id quantity) = let l = changed_len book id (reduced_by quantity) in omega arith
-after_message_len book (ModifyLong offset id quantity price flags) = let l = changed_len book id (modified quantity price (is_displayed flags)) in omega arith
-after_message_len book (ModifyShort offset id quantity price flags) = let l = changed_len book id (modified quantity (long_price price) (is_displayed flags)) in omega arith
-after_message_len book (Delete offset id) = let l = without_order_len book id in omega arith
-after_message_len book (TradeLong offset id side quantity symbol price execution) = omega arith
-after_message_len book (TradeShort offset id side quantity symbol price execution) = omega arith
-after_message_len book (TradeExpanded offset id side quantity symbol price execution) = omega arith
-after_message_len book (TradeBreak offset execution) = omega arith
-after_message_len book (EndOfSession offset) = omega arith
-after_message_len book (Other raw) = omega arith
+-- an effect adds at most one order
+pub effect_len : (book : Book) (effect : Effect) → map.len (after_effect book effect).orders ≤ map.len book.orders + 1
+effect_len book (ShowsSecond second) = omega arith
+effect_len book ClearsOrders = let l = cleared_len book in omega arith
+effect_len book (AddsOrder order) = added_len book order
+effect_len book (ChangesOrder id change) = let l = changed_len book id (changed_by change) in omega arith
+effect_len book (RemovesOrder id) = let l = without_order_len book id in omega arith
+effect_len book (GivesStatus symbol status) = omega arith
+effect_len book DoesNothing = omega arith
 
 -- a message adds at most one order
 pub after_len : (book : Book) (raw : Raw) → map.len (after book raw).orders ≤ map.len book.orders + 1
-unfolding after
-after_len book raw = by (reads raw)
-  where
-    by : (read : Result Message ReadError) → map.len (after_read book read).orders ≤ map.len book.orders + 1
-    by (Err error) = omega arith
-    by (Ok message) = after_message_len book message
+after_len book raw = after_raw (λ (b : Book). map.len b.orders ≤ map.len book.orders + 1) book raw (effect_len book)
 
 folded_len : (raws : List Raw) (book : Book) → map.len (fold after book raws).orders ≤ map.len book.orders + length raws
 folded_len [] book = omega arith

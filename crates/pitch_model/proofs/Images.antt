@@ -19,7 +19,7 @@ use Rattle.pitch_fields.specs.Price.{short_of}
 use Rattle.pitch_messages.specs.Forms.{status_message, add_message, add_in_form, plain_symbol, short_price, flags_of}
 use Rattle.pitch_messages.proofs.RoundTrip.{message_back}
 use Rattle.pitch_messages.specs.Writing.{written}
-use Rattle.pitch_model.specs.Book.{Book, symbol_cmp, IsBook, empty_book, with_order, with_status, added, long_symbol, long_price, is_displayed, order_of_long, order_of_expanded, after_message, after_read, after, book_after}
+use Rattle.pitch_model.specs.Book.{Book, symbol_cmp, IsBook, empty_book, with_order, with_status, AddsOrder, after_effect, long_symbol, long_price, is_displayed, order_of_long, order_of_expanded, effect_of, after_message, after_read, after, book_after}
 use Rattle.pitch_fields.specs.Fields.{AreBytes}
 use Rattle.pitch_fields.specs.Name.{no_participant}
 use Rattle.pitch_model.specs.Levels.{orders_of}
@@ -31,9 +31,9 @@ use Rattle.pitch_model.proofs.Widths.{book_after_fits}
 use Rattle.pitch_model.proofs.Putting.{put_all, put_entries, all_entries}
 
 -- ---- The messages of an image
--- the message adds the order to any book
+-- the message adds the order
 abbrev pub Adds : Order → Type 0
-Adds order = (book : Book) → after_message book (add_message order 0) ≡ added book order
+Adds order = effect_of (add_message order 0) ≡ AddsOrder order
 
 fold_adds : (book : Book) (es : List (ℕ × Order)) → AllByRecursion (λ e. (e.1.id ≡ e.0) × (0 < e.1.quantity) × Adds e.1) es
     → fold after_message book (map (λ order. add_message order 0) (map (λ e. e.1) es)) ≡ record book { orders = put_all book.orders es }
@@ -41,7 +41,7 @@ fold_adds book [] all = refl
 fold_adds book (e ∷ es) all =
     let filled : (e.1.quantity == 0) ≡ false = (let some = all.0.1 in grind (arith, nat_tests, some)) in
     let step : after_message book (add_message e.1 0) ≡ with_order book e.0 e.1 =
-    all.0.2 book ∙ cond-false (e.1.quantity == 0) book (with_order book e.1.id e.1) filled ∙ ap (λ (id : ℕ). with_order book id e.1) all.0.0 in
+    ap (after_effect book) all.0.2 ∙ cond-false (e.1.quantity == 0) book (with_order book e.1.id e.1) filled ∙ ap (λ (id : ℕ). with_order book id e.1) all.0.0 in
     ap (λ (b : Book). fold after_message b (map (λ order. add_message order 0) (map (λ e. e.1) es))) step ∙ fold_adds (with_order book e.0 e.1) es all.1
 
 -- the statuses of a map, one after another
@@ -175,18 +175,18 @@ long_order order six price s p q = λ i. record {
   participant = p i;
 }
 
--- the add of an order adds it to any book, and is read back
+-- the add of an order adds it, and is read back
 pub add_message_adds : (order : Order) → FitsWire order → Adds order
 unfolding add_message
-add_message_adds order fits book = by (plain_symbol order) (short_price order.quantity order.price) refl refl
+add_message_adds order fits = by (plain_symbol order) (short_price order.quantity order.price) refl refl
   where
-    by : (six : Option (List ℕ)) (cents : Option ℕ) → plain_symbol order ≡ six → short_price order.quantity order.price ≡ cents → after_message book (add_in_form six cents order 0) ≡ added book order
-    by None cents s c = ap (added book) (expanded_order order)
-    by (Some six) None s c = let plain = plain_is order six fits s in ap (added book) (long_order order six order.price plain.0.padded plain.1 refl)
+    by : (six : Option (List ℕ)) (cents : Option ℕ) → plain_symbol order ≡ six → short_price order.quantity order.price ≡ cents → effect_of (add_in_form six cents order 0) ≡ AddsOrder order
+    by None cents s c = ap AddsOrder (expanded_order order)
+    by (Some six) None s c = let plain = plain_is order six fits s in ap AddsOrder (long_order order six order.price plain.0.padded plain.1 refl)
     by (Some six) (Some cents) s c =
         let plain = plain_is order six fits s in
         let short = short_is order.quantity order.price cents c in
-        ap (added book) (long_order order six (long_price cents) plain.0.padded plain.1 short.whole)
+        ap AddsOrder (long_order order six (long_price cents) plain.0.padded plain.1 short.whole)
 
 pub add_message_reads : (order : Order) → FitsWire order → reads (written (add_message order 0)) ≡ Ok (add_message order 0)
 unfolding add_message

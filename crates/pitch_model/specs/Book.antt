@@ -20,6 +20,8 @@ use Rattle.pitch_messages.specs.declared.message.Message.TheVariants.{TradingSta
 use Rattle.pitch_messages.specs.declared.message.Message.TheVariants.{Other}
 use Rattle.pitch_messages.specs.declared.message.ReadError.{ReadError}
 use Rattle.pitch_messages.specs.Reading.{reads}
+use Rattle.pitch_model.specs.declared.order_change.OrderChange.{OrderChange}
+use Rattle.pitch_model.specs.declared.order_change.OrderChange.TheVariants.{Reduced, Left, Modified}
 
 -- symbols by their bytes, the first of them first
 abbrev pub symbol_cmp : List ℕ → List ℕ → Ordering
@@ -40,6 +42,26 @@ pub record IsBook (book : Book) : Type 0 where
 -- before any message
 abbrev pub empty_book : Book
 empty_book = record { second = None; orders = map.empty; statuses = map.empty }
+
+-- ---- Changes of an order
+-- so many shares fewer, or none where it has no more than these
+abbrev pub reduced_by : ℕ → Order → Order
+reduced_by quantity order = record order { quantity = order.quantity - quantity }
+
+-- so many shares are left
+abbrev pub left_with : ℕ → Order → Order
+left_with quantity order = record order { quantity = quantity }
+
+-- quantity, price and display are replaced; side, symbol and participant stay
+abbrev pub modified : ℕ → ℕ → Bool → Order → Order
+modified quantity price display order =
+    record order { quantity = quantity; price = price; display = display }
+
+-- what a change makes of an order
+abbrev pub changed_by : OrderChange → Order → Order
+changed_by (Reduced quantity) = reduced_by quantity
+changed_by (Left quantity) = left_with quantity
+changed_by (Modified quantity price display) = modified quantity price display
 
 -- ---- Effects on the book
 -- the clock shows another second
@@ -76,19 +98,25 @@ reformed book id (Some order) =
 abbrev pub changed : Book → ℕ → (Order → Order) → Book
 changed book id change = reformed book id (option_map change (map.get book.orders id))
 
--- ---- Changes of an order
--- so many shares fewer, or none where it has no more than these
-abbrev pub reduced_by : ℕ → Order → Order
-reduced_by quantity order = record order { quantity = order.quantity - quantity }
+-- what a message can do to a book: six things, or nothing
+pub data Effect : Type 0 where
+  ShowsSecond : (second : ℕ) → Effect
+  ClearsOrders : Effect
+  AddsOrder : (order : Order) → Effect
+  ChangesOrder : (id : ℕ) → (change : OrderChange) → Effect
+  RemovesOrder : (id : ℕ) → Effect
+  GivesStatus : (symbol : List ℕ) → (status : ℕ × ℕ) → Effect
+  DoesNothing : Effect
 
--- so many shares are left
-abbrev pub left_with : ℕ → Order → Order
-left_with quantity order = record order { quantity = quantity }
-
--- quantity, price and display are replaced; side, symbol and participant stay
-abbrev pub modified : ℕ → ℕ → Bool → Order → Order
-modified quantity price display order =
-    record order { quantity = quantity; price = price; display = display }
+-- what an effect makes of a book
+abbrev pub after_effect : Book → Effect → Book
+after_effect book (ShowsSecond second) = at_second book second
+after_effect book ClearsOrders = cleared book
+after_effect book (AddsOrder order) = added book order
+after_effect book (ChangesOrder id change) = changed book id (changed_by change)
+after_effect book (RemovesOrder id) = without_order book id
+after_effect book (GivesStatus symbol status) = with_status book symbol status
+after_effect book DoesNothing = book
 
 -- ---- What messages do
 -- bit 0 of the flags says that an order is displayed
@@ -132,43 +160,47 @@ order_of_expanded id side quantity symbol price flags participant =
       participant = participant;
     }
 
+-- what each message does
+abbrev pub effect_of : Message → Effect
+-- "Time Message"
+effect_of (Time second) = ShowsSecond second
+-- "Unit Clear Message"
+effect_of (UnitClear offset) = ClearsOrders
+-- "Trading Status Message"
+effect_of (TradingStatus offset symbol halt sho) = GivesStatus symbol (halt, sho)
+-- "Add Order Message", long, short and expanded form
+effect_of (AddLong offset id side quantity symbol price flags) =
+    AddsOrder (order_of_long id side quantity symbol price flags)
+effect_of (AddShort offset id side quantity symbol price flags) =
+    AddsOrder (order_of_short id side quantity symbol price flags)
+effect_of (AddExpanded offset id side quantity symbol price flags participant) =
+    AddsOrder (order_of_expanded id side quantity symbol price flags participant)
+-- "Order Executed Message"
+effect_of (Executed offset id executed execution) = ChangesOrder id (Reduced executed)
+-- "Order Executed at Price/Size Message"
+effect_of (ExecutedAt offset id executed remaining execution price) =
+    ChangesOrder id (Left remaining)
+-- "Reduce Size Message", long and short form
+effect_of (ReduceLong offset id quantity) = ChangesOrder id (Reduced quantity)
+effect_of (ReduceShort offset id quantity) = ChangesOrder id (Reduced quantity)
+-- "Modify Order Message", long and short form
+effect_of (ModifyLong offset id quantity price flags) =
+    ChangesOrder id (Modified quantity price (is_displayed flags))
+effect_of (ModifyShort offset id quantity price flags) =
+    ChangesOrder id (Modified quantity (long_price price) (is_displayed flags))
+-- "Delete Order Message"
+effect_of (Delete offset id) = RemovesOrder id
+-- trades, trade breaks, the end of the session and other types do nothing
+effect_of (TradeLong offset id side quantity symbol price execution) = DoesNothing
+effect_of (TradeShort offset id side quantity symbol price execution) = DoesNothing
+effect_of (TradeExpanded offset id side quantity symbol price execution) = DoesNothing
+effect_of (TradeBreak offset execution) = DoesNothing
+effect_of (EndOfSession offset) = DoesNothing
+effect_of (Other raw) = DoesNothing
+
 -- what a message does to a book
 abbrev pub after_message : Book → Message → Book
--- "Time Message"
-after_message book (Time second) = at_second book second
--- "Unit Clear Message"
-after_message book (UnitClear offset) = cleared book
--- "Trading Status Message"
-after_message book (TradingStatus offset symbol halt sho) = with_status book symbol (halt, sho)
--- "Add Order Message", long, short and expanded form
-after_message book (AddLong offset id side quantity symbol price flags) =
-    added book (order_of_long id side quantity symbol price flags)
-after_message book (AddShort offset id side quantity symbol price flags) =
-    added book (order_of_short id side quantity symbol price flags)
-after_message book (AddExpanded offset id side quantity symbol price flags participant) =
-    added book (order_of_expanded id side quantity symbol price flags participant)
--- "Order Executed Message"
-after_message book (Executed offset id executed execution) = changed book id (reduced_by executed)
--- "Order Executed at Price/Size Message"
-after_message book (ExecutedAt offset id executed remaining execution price) =
-    changed book id (left_with remaining)
--- "Reduce Size Message", long and short form
-after_message book (ReduceLong offset id quantity) = changed book id (reduced_by quantity)
-after_message book (ReduceShort offset id quantity) = changed book id (reduced_by quantity)
--- "Modify Order Message", long and short form
-after_message book (ModifyLong offset id quantity price flags) =
-    changed book id (modified quantity price (is_displayed flags))
-after_message book (ModifyShort offset id quantity price flags) =
-    changed book id (modified quantity (long_price price) (is_displayed flags))
--- "Delete Order Message"
-after_message book (Delete offset id) = without_order book id
--- trades, trade breaks, the end of the session and other types do nothing
-after_message book (TradeLong offset id side quantity symbol price execution) = book
-after_message book (TradeShort offset id side quantity symbol price execution) = book
-after_message book (TradeExpanded offset id side quantity symbol price execution) = book
-after_message book (TradeBreak offset execution) = book
-after_message book (EndOfSession offset) = book
-after_message book (Other raw) = book
+after_message book message = after_effect book (effect_of message)
 
 -- a message of a known type that is too short, or that names no side, does nothing
 abbrev pub after_read : Book → Result Message ReadError → Book

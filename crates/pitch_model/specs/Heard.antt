@@ -1,4 +1,4 @@
--- What an item adds to a history, and what it changes.
+-- What an item adds to a history, and how many of its messages are fresh.
 use Rattle.std.specs.Prelude.{ℕ, ◌+◌, Bool, ◌&&◌, not, List, [], ◌∷◌, ◌==◌, nat_lt, if◌then◌else◌}
 use Rattle.unit_packets.specs.Blocks.{Block}
 use Rattle.pitch_model.specs.History.{Entry, Raw}

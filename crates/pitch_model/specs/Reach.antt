@@ -66,7 +66,7 @@ unfoldable pub held_count : SinceOverflow → ℕ
 held_count P = distinct_count nat_eq (held_of P)
 
 -- ---- Along a history
--- the part with one more entry's image and message
+-- what was heard, with one more entry's images and messages
 abbrev pub grown : SinceOverflow → List ℕ → List ℕ → SinceOverflow
 grown P images messages =
     record { base = P.base; images = images ++ P.images; seen = messages ++ P.seen }
@@ -84,7 +84,7 @@ settled H P messages =
 abbrev pub sequences : {X : Type 0} → List (ℕ × X) → List ℕ
 sequences xs = map (λ x. x.0) xs
 
--- the part with an entry that comes after a history
+-- what was heard, with an entry that comes after a history
 abbrev pub grown_at : SinceOverflow → List Entry → Entry → SinceOverflow
 grown_at P E entry =
     grown P (sequences (images_at entry (spin_of E))) (sequences (messages_at entry))

@@ -16,7 +16,7 @@ pub record Leaves (H : ℕ)
   pub reach_is : reach H (entry ∷ E) ≡ n
   pub held_are : (k : ℕ) → is_held H (entry ∷ E) k ≡ held k
 
--- the reach of a part is at least `from`; all that is between was held, and what follows was not;
+-- the reach is at least `from`; all that is between was held, and what follows was not;
 -- those beyond are still held
 pub record RunsOn (P : SinceOverflow) (from : ℕ) (held : ℕ → Bool) : Type 0 where
   pub up : from ≤ reach_of P

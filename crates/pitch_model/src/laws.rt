@@ -18,10 +18,8 @@ ghost use Rattle.unit_packets.specs.Packing.{IsPacking};
 ghost use Rattle.pitch_model.specs.declared.item.Item.{Item};
 ghost use Rattle.pitch_model.specs.Book.{Book, IsBook, book_after};
 ghost use Rattle.pitch_model.specs.Image.{IsOfImage, image_of, image};
-ghost use Rattle.pitch_model.specs.Datagrams.{heard_blocks};
-ghost use Rattle.pitch_model.specs.DatagramCounts.{messages_in, fresh_in, overflows_in};
-ghost use Rattle.pitch_model.specs.Datagrams.{IsPiece};
-ghost use Rattle.pitch_model.specs.DatagramCounts.{changes_in};
+ghost use Rattle.pitch_model.specs.Datagrams.{heard_blocks, IsPiece};
+ghost use Rattle.pitch_model.specs.DatagramCounts.{messages_in, fresh_in, overflows_in, changes_in};
 ghost use Rattle.pitch_model.specs.Advertising.{Operation, Accept, Advertise, accepted_at};
 ghost use Rattle.pitch_model.specs.Advertising.{accepted_by, with_sequence, advertised_by};
 ghost use Rattle.pitch_model.specs.Advertising.{last_ten, newest_of};
@@ -35,12 +33,12 @@ ghost use Rattle.pitch_model.specs.Changes.{IsItem, IsItemOf, change_of};
 ghost use Rattle.pitch_model.specs.Changes.{block_change};
 ghost use Rattle.pitch_model.specs.Honest.{AreVenues, Honest};
 ghost use Rattle.pitch_model.specs.Units.{unit_history, units_of};
-ghost use Rattle.pitch_model.specs.Reach.{SinceOverflow, IsReach, is_anchor, is_seen, reach_of, held_count};
-ghost use Rattle.pitch_model.specs.Reach.{since_overflow, reach, is_held};
+ghost use Rattle.pitch_model.specs.Reach.{SinceOverflow, IsReach, is_anchor, is_seen, reach_of};
+ghost use Rattle.pitch_model.specs.Reach.{held_count, since_overflow, reach, is_held};
 ghost use Rattle.pitch_model.specs.Status.{top_of};
 ghost use Rattle.pitch_model.specs.Steps.{SameReach, Leaves, Drains};
 
-/// The reach of a part is the greatest number that is joined to an anchor, and no other number is
+/// The reach is the greatest number that is joined to an anchor, and no other number is
 /// that.
 pub fn reach_is_the_greatest_joined()
     ensures greatest { (P : SinceOverflow) → IsReach P (reach_of P) }

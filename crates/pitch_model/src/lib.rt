@@ -10,9 +10,11 @@ mod ask;
 mod change;
 mod item;
 pub mod laws;
+mod order_change;
 mod status;
 
 pub use crate::ask::Ask;
 pub use crate::change::{Change, ImageEnd};
 pub use crate::item::Item;
+pub use crate::order_change::OrderChange;
 pub use crate::status::Status;

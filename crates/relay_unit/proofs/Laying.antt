@@ -8,11 +8,10 @@ use Rattle.std.proofs.lemmas.Cmp.{nat_list_cmp_total}
 use Rattle.std.proofs.lemmas.Option.{none-some}
 use Rattle.pitch_messages.specs.declared.order.Order.{Order}
 use Rattle.pitch_messages.specs.declared.message.Message.{Message}
-use Rattle.pitch_messages.specs.declared.message.Message.TheVariants.{Time, AddLong, AddShort, Executed, ExecutedAt, ReduceLong, ReduceShort, ModifyLong, ModifyShort, Delete, TradeLong, TradeShort, TradeBreak, EndOfSession, AddExpanded, TradeExpanded, TradingStatus, UnitClear, Other}
 use Rattle.pitch_messages.specs.declared.message.ReadError.{ReadError}
 use Rattle.pitch_messages.specs.Reading.{reads}
 use Rattle.pitch_model.specs.History.{Raw}
-use Rattle.pitch_model.specs.Book.{Book, symbol_cmp, empty_book, cleared, without_order, with_order, with_status, added, reformed, changed, order_of_long, order_of_short, order_of_expanded, reduced_by, left_with, modified, is_displayed, long_price, after_message, after_read, after}
+use Rattle.pitch_model.specs.Book.{Book, symbol_cmp, empty_book, cleared, without_order, with_order, with_status, added, reformed, changed, changed_by, Effect, ShowsSecond, ClearsOrders, AddsOrder, ChangesOrder, RemovesOrder, GivesStatus, DoesNothing, after_effect, effect_of, after_read, after}
 use Rattle.relay_unit.specs.Following.{KnowsAllOf}
 
 -- the whole is what is on top, with the clock and the statuses below where the top has none
@@ -21,7 +20,7 @@ pub record LaidOver (below top whole : Book) : Type 0 where
   pub second_is : whole.second ≡ option_or top.second below.second
   pub statuses_are : (symbol : List ℕ) → map.get whole.statuses symbol ≡ option_or (map.get top.statuses symbol) (map.get below.statuses symbol)
 
--- ---- A message does the same to the top and to the whole
+-- ---- An effect does the same to the top and to the whole
 module _ (below top whole : Book) (L : LaidOver below top whole) where
   with_laid : (id : ℕ) (order : Order) → LaidOver below (with_order top id order) (with_order whole id order)
   with_laid id order = record {
@@ -71,34 +70,22 @@ module _ (below top whole : Book) (L : LaidOver below top whole) where
       by q true = refl
       by q false = L.statuses_are q
 
-  message_laid : (m : Message) → LaidOver below (after_message top m) (after_message whole m)
-  message_laid (Time second) = record { orders_are = L.orders_are; second_is = refl; statuses_are = L.statuses_are }
-  message_laid (UnitClear offset) = record { orders_are = refl; second_is = L.second_is; statuses_are = L.statuses_are }
-  message_laid (TradingStatus offset symbol halt sho) = status_laid symbol (halt, sho)
-  message_laid (AddLong offset id side quantity symbol price flags) = added_laid (order_of_long id side quantity symbol price flags)
-  message_laid (AddShort offset id side quantity symbol price flags) = added_laid (order_of_short id side quantity symbol price flags)
-  message_laid (AddExpanded offset id side quantity symbol price flags participant) = added_laid (order_of_expanded id side quantity symbol price flags participant)
-  message_laid (Executed offset id executed execution) = changed_laid id (reduced_by executed)
-  message_laid (ExecutedAt offset id executed remaining execution price) = changed_laid id (left_with remaining)
-  message_laid (ReduceLong offset id quantity) = changed_laid id (reduced_by quantity)
-  message_laid (ReduceShort offset id quantity) = changed_laid id (reduced_by quantity)
-  message_laid (ModifyLong offset id quantity price flags) = changed_laid id (modified quantity price (is_displayed flags))
-  message_laid (ModifyShort offset id quantity price flags) = changed_laid id (modified quantity (long_price price) (is_displayed flags))
-  message_laid (Delete offset id) = without_laid id
-  message_laid (TradeLong offset id side quantity symbol price execution) = L
-  message_laid (TradeShort offset id side quantity symbol price execution) = L
-  message_laid (TradeExpanded offset id side quantity symbol price execution) = L
-  message_laid (TradeBreak offset execution) = L
-  message_laid (EndOfSession offset) = L
-  message_laid (Other raw) = L
-
-  read_laid : (r : Result Message ReadError) → LaidOver below (after_read top r) (after_read whole r)
-  read_laid (Ok m) = message_laid m
-  read_laid (Err e) = L
+  effect_laid : (effect : Effect) → LaidOver below (after_effect top effect) (after_effect whole effect)
+  effect_laid (ShowsSecond second) = record { orders_are = L.orders_are; second_is = refl; statuses_are = L.statuses_are }
+  effect_laid ClearsOrders = record { orders_are = refl; second_is = L.second_is; statuses_are = L.statuses_are }
+  effect_laid (AddsOrder order) = added_laid order
+  effect_laid (ChangesOrder id change) = changed_laid id (changed_by change)
+  effect_laid (RemovesOrder id) = without_laid id
+  effect_laid (GivesStatus symbol status) = status_laid symbol status
+  effect_laid DoesNothing = L
 
   after_laid : (raw : Raw) → LaidOver below (after top raw) (after whole raw)
   unfolding after
-  after_laid raw = read_laid (reads raw)
+  after_laid raw = by (reads raw)
+    where
+      by : (read : Result Message ReadError) → LaidOver below (after_read top read) (after_read whole read)
+      by (Ok message) = effect_laid (effect_of message)
+      by (Err error) = L
 
 pub fold_laid : (below top whole : Book) (raws : List Raw) → LaidOver below top whole → LaidOver below (fold after top raws) (fold after whole raws)
 fold_laid below top whole [] L = L

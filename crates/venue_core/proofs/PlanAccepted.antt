@@ -8,7 +8,7 @@ use Rattle.pitch_fields.specs.declared.side.Side.TheVariants.{Buy, Sell}
 use Rattle.pitch_messages.specs.Reading.{reads}
 use Rattle.pitch_messages.specs.declared.order.Order.{Order}
 use Rattle.pitch_fields.specs.Name.{is_well_formed, is_participant}
-use Rattle.pitch_model.specs.Book.{Book, reduced_by, book_after}
+use Rattle.pitch_model.specs.Book.{Book, Effect, reduced_by, book_after}
 use Rattle.pitch_model.proofs.Books.{book_after_len}
 use Rattle.pitch_text.specs.declared.command.Command.{Command}
 use Rattle.pitch_text.specs.declared.command.Command.TheVariants as commands
@@ -55,7 +55,7 @@ by_place P all i some few =
 abbrev IsKnown : ℕ → ℕ → ℕ → Type 0
 IsKnown number unit i = reads (raw_of (plan_command number unit i)) ≡ Ok (message_of (plan_command number unit i))
 
-known_as : (number unit i : ℕ) (command : Command) (effect : Book → Book) → plan_command number unit i ≡ command → Does command effect → IsKnown number unit i
+known_as : (number unit i : ℕ) (command : Command) (effect : Effect) → plan_command number unit i ≡ command → Does command effect → IsKnown number unit i
 known_as number unit i command effect is does = subst (λ (c : Command). reads (raw_of c) ≡ Ok (message_of c)) (sym is) does.known
 
 round_known : (number unit j : ℕ) → 8 * j + 8 ≤ 400000 → OfRound (IsKnown number unit) j

@@ -7,7 +7,8 @@ use Rattle.std.specs.Ordering.{nat_cmp, eq_by_cmp}
 use Rattle.std.specs.FinMap as finite
 use Rattle.pitch_fields.specs.declared.side.Side.TheVariants.{Buy, Sell}
 use Rattle.pitch_messages.specs.declared.order.Order.{Order}
-use Rattle.pitch_model.specs.Book.{Book, symbol_cmp, at_second, added, with_order, changed, reformed, reduced_by, modified, without_order, after, book_after}
+use Rattle.pitch_model.specs.Book.{Book, symbol_cmp, added, with_order, changed, reformed, reduced_by, modified, without_order, Effect, ShowsSecond, AddsOrder, ChangesOrder, RemovesOrder, DoesNothing, after_effect, after, book_after}
+use Rattle.pitch_model.specs.declared.order_change.OrderChange.TheVariants.{Reduced, Modified}
 use Rattle.pitch_model.proofs.Folding.{book_after-append}
 use Rattle.pitch_text.specs.declared.command.Command.{Command}
 use Rattle.pitch_text.specs.declared.command.Command.TheVariants as commands
@@ -83,8 +84,8 @@ plan_length number unit zero = refl
 plan_length number unit (suc n) = let l = plan_length number unit n in omega (arith, l, length-append (plan number unit n) (raw_of (plan_command number unit (suc n)) ∷ []))
 
 -- the book after command i, which has this effect
-pub book_next : (number unit n i : ℕ) (command : Command) (effect : Book → Book) (book : Book) → i ≡ suc n → plan_command number unit i ≡ command → Does command effect
-    → book_after (plan number unit n) ≡ book → book_after (plan number unit i) ≡ effect book
+pub book_next : (number unit n i : ℕ) (command : Command) (effect : Effect) (book : Book) → i ≡ suc n → plan_command number unit i ≡ command → Does command effect
+    → book_after (plan number unit n) ≡ book → book_after (plan number unit i) ≡ after_effect book effect
 book_next number unit n i command effect book e is it at =
     ap book_after (plan_next number unit n i e)
     ∙ book_after-append (plan number unit n) (raw_of (plan_command number unit i) ∷ [])
@@ -176,29 +177,29 @@ module _ (number unit j : ℕ) (m : Orders) where
   -- ---- The book after each of its commands
   pub stands_1 : (second : Option ℕ) → 8 * j + 8 ≤ 400000 → book_after (plan number unit (8 * j)) ≡ record { second = second; orders = m; statuses = statuses } → Stands 1 m
   stands_1 second low at =
-      book_next number unit (8 * j) (8 * j + 1) (commands.Time clock) (λ book. at_second book clock) (record { second = second; orders = m; statuses = statuses }) (omega arith) (first_command number unit j) (time_does clock (omega arith)) at
+      book_next number unit (8 * j) (8 * j + 1) (commands.Time clock) (ShowsSecond clock) (record { second = second; orders = m; statuses = statuses }) (omega arith) (first_command number unit j) (time_does clock (omega arith)) at
 
   pub stands_2 : 8 * j + 8 ≤ 400000 → Stands 1 m → Stands 2 orders_2
   stands_2 low at =
-      book_next number unit (8 * j + 1) (8 * j + 2) (commands.Add first_order 0) (λ book. added book first_order) (book_of m) (omega arith) (second_command number unit j)
+      book_next number unit (8 * j + 1) (8 * j + 2) (commands.Add first_order 0) (AddsOrder first_order) (book_of m) (omega arith) (second_command number unit j)
       (add_does first_order (fits_wire number unit (8 * j + 2) Buy (plan_price number (8 * j + 2)) (omega (arith, low)) (let p = price_most number (8 * j + 2) in omega (arith, p)))) at
       ∙ added_order (book_of m) first_order (let q = quantity_least number unit (8 * j + 2) in omega (arith, q))
 
   pub stands_3 : 8 * j + 8 ≤ 400000 → Stands 2 orders_2 → Stands 3 orders_3
   stands_3 low at =
-      book_next number unit (8 * j + 2) (8 * j + 3) (commands.Add second_order 0) (λ book. added book second_order) (book_of orders_2) (omega arith) (third_command number unit j)
+      book_next number unit (8 * j + 2) (8 * j + 3) (commands.Add second_order 0) (AddsOrder second_order) (book_of orders_2) (omega arith) (third_command number unit j)
       (add_does second_order (fits_wire number unit (8 * j + 3) Sell (plan_price number (8 * j + 3) + 10000) (omega (arith, low)) (let p = price_most number (8 * j + 3) in omega (arith, p)))) at
       ∙ added_order (book_of orders_2) second_order (let q = quantity_least number unit (8 * j + 3) in omega (arith, q))
 
   pub stands_4 : 8 * j + 8 ≤ 400000 → Stands 3 orders_3 → Stands 4 orders_4
   stands_4 low at =
-      book_next number unit (8 * j + 3) (8 * j + 4) (commands.Exec (8 * j + 2) 50 (8 * j + 4) 0) (λ book. changed book (8 * j + 2) (reduced_by 50)) (book_of orders_3) (omega arith) (fourth_command number unit j)
+      book_next number unit (8 * j + 3) (8 * j + 4) (commands.Exec (8 * j + 2) 50 (8 * j + 4) 0) (ChangesOrder (8 * j + 2) (Reduced 50)) (book_of orders_3) (omega arith) (fourth_command number unit j)
       (exec_does (8 * j + 2) 50 (8 * j + 4) (omega (arith, low)) (omega arith) (omega (arith, low))) at
       ∙ changed_order (book_of orders_3) (8 * j + 2) (reduced_by 50) first_order finds_first (let q = quantity_least number unit (8 * j + 2) in omega (arith, q))
 
   pub stands_5 : 8 * j + 8 ≤ 400000 → Stands 4 orders_4 → Stands 5 orders_5
   stands_5 low at =
-      book_next number unit (8 * j + 4) (8 * j + 5) (commands.Reduce (8 * j + 3) 20 0) (λ book. changed book (8 * j + 3) (reduced_by 20)) (book_of orders_4) (omega arith) (fifth_command number unit j)
+      book_next number unit (8 * j + 4) (8 * j + 5) (commands.Reduce (8 * j + 3) 20 0) (ChangesOrder (8 * j + 3) (Reduced 20)) (book_of orders_4) (omega arith) (fifth_command number unit j)
       (reduce_does (8 * j + 3) (omega (arith, low))) at
       ∙ changed_order (book_of orders_4) (8 * j + 3) (reduced_by 20) second_order finds_second (let q = quantity_least number unit (8 * j + 3) in omega (arith, q))
 
@@ -207,26 +208,26 @@ module _ (number unit j : ℕ) (m : Orders) where
 
   pub stands_6 : 8 * j + 8 ≤ 400000 → Stands 5 orders_5 → Stands 6 orders_6
   stands_6 low at =
-      book_next number unit (8 * j + 5) (8 * j + 6) (commands.Modify (8 * j + 2) (plan_quantity number unit (8 * j + 6)) (plan_price number (8 * j + 6)) true 0) (λ book. changed book (8 * j + 2) modification)
+      book_next number unit (8 * j + 5) (8 * j + 6) (commands.Modify (8 * j + 2) (plan_quantity number unit (8 * j + 6)) (plan_price number (8 * j + 6)) true 0) (ChangesOrder (8 * j + 2) (Modified (plan_quantity number unit (8 * j + 6)) (plan_price number (8 * j + 6)) true))
       (book_of orders_5) (omega arith) (sixth_command number unit j)
       (modify_does (8 * j + 2) (plan_quantity number unit (8 * j + 6)) (plan_price number (8 * j + 6)) (omega (arith, low)) (quantity_most number unit (8 * j + 6)) (let p = price_most number (8 * j + 6) in omega (arith, p)) (price_cents number (8 * j + 6))) at
       ∙ changed_order (book_of orders_5) (8 * j + 2) modification (reduced_by 50 first_order) finds_reduced (let q = quantity_least number unit (8 * j + 6) in omega (arith, q))
 
   pub stands_7 : 8 * j + 8 ≤ 400000 → Stands 6 orders_6 → Stands 7 orders_7
   stands_7 low at =
-      book_next number unit (8 * j + 6) (8 * j + 7) (commands.Add (second_buy number unit j) 0) (λ book. added book (second_buy number unit j)) (book_of orders_6) (omega arith) (seventh_command number unit j)
+      book_next number unit (8 * j + 6) (8 * j + 7) (commands.Add (second_buy number unit j) 0) (AddsOrder (second_buy number unit j)) (book_of orders_6) (omega arith) (seventh_command number unit j)
       (add_does (second_buy number unit j) (fits_wire number unit (8 * j + 7) Buy (plan_price number (8 * j + 7) + 1) (omega (arith, low)) (let p = price_most number (8 * j + 7) in omega (arith, p)))) at
       ∙ added_order (book_of orders_6) (second_buy number unit j) (let q = quantity_least number unit (8 * j + 7) in omega (arith, q))
 
   stands_even : 8 * j + 8 ≤ 400000 → (j % 2 == 0) ≡ true → Stands 7 orders_7 → Stands 8 orders_8
   stands_even low t at =
-      book_next number unit (8 * j + 7) (8 * j + 8) (commands.Delete (8 * j + 7) 0) (λ book. without_order book (8 * j + 7)) (book_of orders_7) (omega arith) (eighth_even number unit j t)
+      book_next number unit (8 * j + 7) (8 * j + 8) (commands.Delete (8 * j + 7) 0) (RemovesOrder (8 * j + 7)) (book_of orders_7) (omega arith) (eighth_even number unit j t)
       (delete_does (8 * j + 7) (omega (arith, low))) at
       ∙ ap book_of (sym (cond-true (j % 2 == 0) (finite.remove orders_7 (8 * j + 7)) orders_7 t))
 
   stands_odd : 8 * j + 8 ≤ 400000 → (j % 2 == 0) ≡ false → Stands 7 orders_7 → Stands 8 orders_8
   stands_odd low f at =
-      book_next number unit (8 * j + 7) (8 * j + 8) (commands.Trade (plan_order number unit (8 * j + 8) Buy (plan_price number (8 * j + 8))) (8 * j + 8) 0) (λ book. book) (book_of orders_7) (omega arith) (eighth_odd number unit j f)
+      book_next number unit (8 * j + 7) (8 * j + 8) (commands.Trade (plan_order number unit (8 * j + 8) Buy (plan_price number (8 * j + 8))) (8 * j + 8) 0) DoesNothing (book_of orders_7) (omega arith) (eighth_odd number unit j f)
       (trade_does number unit (8 * j + 8) low) at
       ∙ ap book_of (sym (cond-false (j % 2 == 0) (finite.remove orders_7 (8 * j + 7)) orders_7 f))
 

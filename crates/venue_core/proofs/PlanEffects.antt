@@ -14,7 +14,8 @@ use Rattle.pitch_messages.specs.Forms.{short_price, trade_in_form, trade_message
 use Rattle.pitch_messages.specs.Reading.{reads}
 use Rattle.pitch_messages.specs.Writing.{written}
 use Rattle.pitch_messages.proofs.RoundTrip.{message_back}
-use Rattle.pitch_model.specs.Book.{Book, at_second, added, changed, reduced_by, modified, without_order, long_price, after, after_read, after_message}
+use Rattle.pitch_model.specs.Book.{Book, Effect, ShowsSecond, AddsOrder, ChangesOrder, RemovesOrder, DoesNothing, long_price, after, after_read, after_effect, effect_of}
+use Rattle.pitch_model.specs.declared.order_change.OrderChange.TheVariants.{Reduced, Modified}
 use Rattle.pitch_model.specs.Widths.{FitsWire}
 use Rattle.pitch_model.proofs.Images.{add_message_adds, add_message_reads}
 use Rattle.pitch_text.specs.declared.command.Command.{Command}
@@ -22,14 +23,14 @@ use Rattle.pitch_text.specs.declared.command.Command.TheVariants as commands
 use Rattle.venue_core.specs.Commands.{message_of, raw_of}
 use Rattle.venue_core.specs.Plan.{plan_quantity, plan_price, plan_symbol, plan_order}
 
--- the message of a command is read as such, and has this effect on a book
-pub record Does (command : Command) (effect : Book → Book) : Type 0 where
+-- the message of a command is read as such, and has this effect
+pub record Does (command : Command) (effect : Effect) : Type 0 where
   pub known : reads (raw_of command) ≡ Ok (message_of command)
-  pub does : (book : Book) → after_message book (message_of command) ≡ effect book
+  pub does : effect_of (message_of command) ≡ effect
 
-pub done : (command : Command) (effect : Book → Book) (book : Book) → Does command effect → after book (raw_of command) ≡ effect book
+pub done : (command : Command) (effect : Effect) (book : Book) → Does command effect → after book (raw_of command) ≡ after_effect book effect
 unfolding after
-done command effect book it = ap (after_read book) it.known ∙ it.does book
+done command effect book it = ap (after_read book) it.known ∙ ap (after_effect book) it.does
 
 -- ---- Numbers and symbols of the plan
 pub quantity_least : (number unit i : ℕ) → 100 ≤ plan_quantity number unit i
@@ -92,40 +93,40 @@ cheap quantity price few low cents =
     ∙ ap (λ (b : Bool). cond b (Some (price / 100)) None) low_true
 
 -- ---- Commands
-pub time_does : (second : ℕ) → second < 256 ^ 4 → Does (commands.Time second) (λ book. at_second book second)
-time_does second fits = record { known = message_back (Time second) (fits, tt); does = λ book. refl }
+pub time_does : (second : ℕ) → second < 256 ^ 4 → Does (commands.Time second) (ShowsSecond second)
+time_does second fits = record { known = message_back (Time second) (fits, tt); does = refl }
 
-pub add_does : (order : Order) → FitsWire order → Does (commands.Add order 0) (λ book. added book order)
+pub add_does : (order : Order) → FitsWire order → Does (commands.Add order 0) (AddsOrder order)
 add_does order fits = record { known = add_message_reads order fits; does = add_message_adds order fits }
 
-pub exec_does : (id quantity execution : ℕ) → id ≤ 400000 → quantity ≤ 499 → execution ≤ 400000 → Does (commands.Exec id quantity execution 0) (λ book. changed book id (reduced_by quantity))
+pub exec_does : (id quantity execution : ℕ) → id ≤ 400000 → quantity ≤ 499 → execution ≤ 400000 → Does (commands.Exec id quantity execution 0) (ChangesOrder id (Reduced quantity))
 exec_does id quantity execution low few lower = record {
   known = message_back (Executed 0 id quantity execution) (omega arith, (omega (arith, low), (omega (arith, few), (omega (arith, lower), tt))));
-  does = λ book. refl;
+  does = refl;
 }
 
-pub reduce_does : (id : ℕ) → id ≤ 400000 → Does (commands.Reduce id 20 0) (λ book. changed book id (reduced_by 20))
+pub reduce_does : (id : ℕ) → id ≤ 400000 → Does (commands.Reduce id 20 0) (ChangesOrder id (Reduced 20))
 unfolding reduce_message
-reduce_does id low = record { known = message_back (ReduceShort 0 id 20) (omega arith, (omega (arith, low), (omega arith, tt))); does = λ book. refl }
+reduce_does id low = record { known = message_back (ReduceShort 0 id 20) (omega arith, (omega (arith, low), (omega arith, tt))); does = refl }
 
-pub modify_does : (id quantity price : ℕ) → id ≤ 400000 → quantity ≤ 499 → price ≤ 6553500 → price % 100 ≡ 0 → Does (commands.Modify id quantity price true 0) (λ book. changed book id (modified quantity price true))
+pub modify_does : (id quantity price : ℕ) → id ≤ 400000 → quantity ≤ 499 → price ≤ 6553500 → price % 100 ≡ 0 → Does (commands.Modify id quantity price true 0) (ChangesOrder id (Modified quantity price true))
 unfolding modify_message
 modify_does id quantity price low few cheap_enough cents =
     let short : modify_message id quantity price true 0 ≡ ModifyShort 0 id quantity (price / 100) 1 = ap (λ (o : Option ℕ). modify_in_form o id quantity price true 0) (cheap quantity price (omega (arith, few)) cheap_enough cents) in
     let whole : long_price (price / 100) ≡ price = omega (arith, cents) in
     record {
       known = subst (λ (m : Message). reads (written m) ≡ Ok m) (sym short) (message_back (ModifyShort 0 id quantity (price / 100) 1) (omega arith, (omega (arith, low), (omega (arith, few), (omega (arith, cheap_enough), (tt, tt))))));
-      does = λ book. ap (after_message book) short ∙ ap (λ (p : ℕ). changed book id (modified quantity p true)) whole;
+      does = ap effect_of short ∙ ap (λ (p : ℕ). ChangesOrder id (Modified quantity p true)) whole;
     }
 
-pub delete_does : (id : ℕ) → id ≤ 400000 → Does (commands.Delete id 0) (λ book. without_order book id)
-delete_does id low = record { known = message_back (Delete 0 id) (omega arith, (omega (arith, low), tt)); does = λ book. refl }
+pub delete_does : (id : ℕ) → id ≤ 400000 → Does (commands.Delete id 0) (RemovesOrder id)
+delete_does id low = record { known = message_back (Delete 0 id) (omega arith, (omega (arith, low), tt)); does = refl }
 
 -- a trade of an order with this symbol
 abbrev trade_of : ℕ → ℕ → ℕ → List ℕ → Command
 trade_of number unit i symbol = commands.Trade (record (plan_order number unit i Buy (plan_price number i)) { symbol = symbol }) i 0
 
-trade_short_does : (number unit i : ℕ) (symbol six : List ℕ) → i ≤ 400000 → six_of symbol ≡ Some six → length six ≡ 6 → Does (trade_of number unit i symbol) (λ book. book)
+trade_short_does : (number unit i : ℕ) (symbol six : List ℕ) → i ≤ 400000 → six_of symbol ≡ Some six → length six ≡ 6 → Does (trade_of number unit i symbol) DoesNothing
 unfolding trade_message
 trade_short_does number unit i symbol six low at size =
     let order : Order = record (plan_order number unit i Buy (plan_price number i)) { symbol = symbol } in
@@ -139,10 +140,10 @@ trade_short_does number unit i symbol six low at size =
     record {
       known = subst (λ (m : Message). reads (written m) ≡ Ok m) (sym short)
           (message_back (TradeShort 0 i Buy quantity six (price / 100) i) (omega arith, (omega (arith, low), (tt, (omega (arith, few), (size, (omega (arith, cheap_enough), (omega (arith, low), tt))))))));
-      does = λ book. ap (after_message book) short;
+      does = ap effect_of short;
     }
 
-trade_expanded_does : (number unit i : ℕ) (symbol : List ℕ) → i ≤ 400000 → six_of symbol ≡ None → length symbol ≡ 8 → Does (trade_of number unit i symbol) (λ book. book)
+trade_expanded_does : (number unit i : ℕ) (symbol : List ℕ) → i ≤ 400000 → six_of symbol ≡ None → length symbol ≡ 8 → Does (trade_of number unit i symbol) DoesNothing
 unfolding trade_message
 trade_expanded_does number unit i symbol low at size =
     let order : Order = record (plan_order number unit i Buy (plan_price number i)) { symbol = symbol } in
@@ -155,12 +156,12 @@ trade_expanded_does number unit i symbol low at size =
     record {
       known = subst (λ (m : Message). reads (written m) ≡ Ok m) (sym expanded)
           (message_back (TradeExpanded 0 i Buy quantity symbol price i) (omega arith, (omega (arith, low), (tt, (omega (arith, few), (size, (omega (arith, cheap_enough), (omega (arith, low), tt))))))));
-      does = λ book. ap (after_message book) expanded;
+      does = ap effect_of expanded;
     }
 
-pub trade_does : (number unit i : ℕ) → i ≤ 400000 → Does (commands.Trade (plan_order number unit i Buy (plan_price number i)) i 0) (λ book. book)
+pub trade_does : (number unit i : ℕ) → i ≤ 400000 → Does (commands.Trade (plan_order number unit i Buy (plan_price number i)) i 0) DoesNothing
 trade_does number unit i low =
-    symbol_case (λ symbol. Does (trade_of number unit i symbol) (λ book. book)) i
+    symbol_case (λ symbol. Does (trade_of number unit i symbol) DoesNothing) i
     (trade_short_does number unit i (codes "ALPHA   ") (codes "ALPHA ") low refl refl)
     (trade_short_does number unit i (codes "BETA    ") (codes "BETA  ") low refl refl)
     (trade_expanded_does number unit i (codes "GAMMADLT") low refl refl)

@@ -1,4 +1,4 @@
--- How many orders a plan leaves open.
+-- Which orders a plan leaves open, and how many of its commands are promised.
 use Rattle.std.specs.Prelude.{ℕ, zero, suc, ◌+◌, ◌*◌, ◌%◌, true, ◌==◌, List, [], ◌∷◌, ◌++◌}
 use Rattle.std.specs.Prelude.{if◌then◌else◌}
 use Rattle.pitch_fields.specs.declared.side.Side.TheVariants.{Buy, Sell}

@@ -3,11 +3,10 @@ use Rattle.std.specs.Option.{IfSome}
 use Rattle.std.specs.Cmp.{nat_eq_equiv}
 use Rattle.std.specs.List.{IsDistinct}
 use Rattle.pitch_messages.specs.declared.order.Order.{Order}
-use Rattle.pitch_model.specs.Book.{Book, changed}
+use Rattle.pitch_model.specs.Book.{Book, changed, changed_by}
 use Rattle.indexmap.specs.IndexMap.{Updates, set_value_at}
 use Rattle.indexmap.proofs.CallerLemmas.{keys-with_value_at, updates-with_value_at, index_map_len-with_value_at}
 use Rattle.order_book.specs.Standing.{Standing, book_of}
-use Rattle.order_book.specs.Changes.{changed_by}
 use Rattle.order_book.proofs.Changing.{same_value, nothing_changed, rewritten, taken_out}
 use Rattle.order_book.proofs.Keeping.{kept_change}
 use Rattle.order_book.proofs.unit_book.UnitBook.change.Goals as goal
@@ -32,12 +31,12 @@ pub returns-clause-book : goal.returns-clause-book
 returns-clause-book c =
     let old = ap (λ (s : Standing). s.book) c.self.view_is in
     let place = c.pair_mut-place.ensures in
-    let made : c.make.new.order ≡ changed_by c.args.change c.in-Some.order.now = c.make.ensures ∙ ap (changed_by c.args.change) (same_value _ _ (sym place.value ∙ c.in-Some.ensures.entry)) in
-    let written = set_value_at c.self.inside.orders.entries c.in-Some.index c.make.new.order in
-    let updates = updates-with_value_at c.self.inside.orders c.in-Some.index c.make.new.order nat_eq_equiv place.unique c.in-Some.field-0-1.now c.in-Some.order.now c.in-Some.ensures.entry in
+    let made : c.make_change.new.order ≡ changed_by c.args.change c.in-Some.order.now = c.make_change.ensures ∙ ap (changed_by c.args.change) (same_value _ _ (sym place.value ∙ c.in-Some.ensures.entry)) in
+    let written = set_value_at c.self.inside.orders.entries c.in-Some.index c.make_change.new.order in
+    let updates = updates-with_value_at c.self.inside.orders c.in-Some.index c.make_change.new.order nat_eq_equiv place.unique c.in-Some.field-0-1.now c.in-Some.order.now c.in-Some.ensures.entry in
     subst (λ (b : Book). book_of c.self.inside.second written c.self.inside.statuses.statuses ≡ changed b c.args.id (changed_by c.args.change)) old
     (rewritten c.self.inside.second c.self.inside.orders.entries c.self.inside.statuses.statuses c.args.id (changed_by c.args.change) written
-    c.in-Some.field-0-1.now c.in-Some.order.now c.make.new.order (sym c.in-Some.ensures.value) (sym c.in-Some.ensures.key) made
+    c.in-Some.field-0-1.now c.in-Some.order.now c.make_change.new.order (sym c.in-Some.ensures.value) (sym c.in-Some.ensures.key) made
     (λ none. c.if-shares_left-eq0.false (c.shares_left.ensures ∙ sym (ap (λ (o : Order). o.quantity) made) ∙ none)) updates.0)
 
 pub invariant_of-self : goal.invariant_of-self
@@ -53,20 +52,20 @@ invariant_of-self c =
 pub invariant_of-self-2 : goal.invariant_of-self-2
 invariant_of-self-2 c =
     let place = c.pair_mut-place.ensures in
-    let made : c.make.new.order ≡ changed_by c.args.change c.in-Some.order.now = c.make.ensures ∙ ap (changed_by c.args.change) (same_value _ _ (sym place.value ∙ c.in-Some.ensures.entry)) in
-    let written = set_value_at c.self.inside.orders.entries c.in-Some.index c.make.new.order in
-    let count = index_map_len-with_value_at c.self.inside.orders c.in-Some.index c.make.new.order in
-    let keys = keys-with_value_at c.self.inside.orders c.in-Some.index c.make.new.order in
+    let made : c.make_change.new.order ≡ changed_by c.args.change c.in-Some.order.now = c.make_change.ensures ∙ ap (changed_by c.args.change) (same_value _ _ (sym place.value ∙ c.in-Some.ensures.entry)) in
+    let written = set_value_at c.self.inside.orders.entries c.in-Some.index c.make_change.new.order in
+    let count = index_map_len-with_value_at c.self.inside.orders c.in-Some.index c.make_change.new.order in
+    let keys = keys-with_value_at c.self.inside.orders c.in-Some.index c.make_change.new.order in
     let unique = subst (IsDistinct nat_eq) (sym keys) place.unique in
     let fewer : length written ≤ length c.self.inside.orders.entries = omega arith in
-    let updates = updates-with_value_at c.self.inside.orders c.in-Some.index c.make.new.order nat_eq_equiv place.unique c.in-Some.field-0-1.now c.in-Some.order.now c.in-Some.ensures.entry in
+    let updates = updates-with_value_at c.self.inside.orders c.in-Some.index c.make_change.new.order nat_eq_equiv place.unique c.in-Some.field-0-1.now c.in-Some.order.now c.in-Some.ensures.entry in
     kept_change c.self.inside.second c.self.inside.orders.entries c.self.inside.statuses.statuses c.self.invariant written c.args.id c.args.change unique fewer
     (rewritten c.self.inside.second c.self.inside.orders.entries c.self.inside.statuses.statuses c.args.id (changed_by c.args.change) written
-    c.in-Some.field-0-1.now c.in-Some.order.now c.make.new.order (sym c.in-Some.ensures.value) (sym c.in-Some.ensures.key) made
+    c.in-Some.field-0-1.now c.in-Some.order.now c.make_change.new.order (sym c.in-Some.ensures.value) (sym c.in-Some.ensures.key) made
     (λ none. c.if-shares_left-eq0.false (c.shares_left.ensures ∙ sym (ap (λ (o : Order). o.quantity) made) ∙ none)) updates.0)
 
 pub returns-clause-spare : goal.returns-clause-spare
 returns-clause-spare c =
     let spare = ap (λ (s : Standing). s.spare) c.self.view_is in
-    let count = index_map_len-with_value_at c.self.inside.orders c.in-Some.index c.make.new.order in
+    let count = index_map_len-with_value_at c.self.inside.orders c.in-Some.index c.make_change.new.order in
     omega arith
