@@ -26,7 +26,6 @@ use Rattle.spin_server.specs.declared.lookup.Imaged.{Imaged}
 use Rattle.spin_server.specs.declared.lookup.Imaged.TheVariants as answers
 use Rattle.drill_client.specs.Following.{IsImageOf}
 use Rattle.drill_client.specs.Answered.{last_kept}
-use Rattle.drill_client.specs.Turns.{KeepsLast}
 
 -- ---- Gaps
 abbrev view_of : List Raw → View
@@ -44,7 +43,7 @@ kept_within v first count e = by (nat_lt (length v.messages) (first + count - 1)
     by false f = grind (arith, nat_tests, f)
 
 -- the datagrams of a range that is kept are pieces
-pub kept_pieces : (s s' : Store) (messages : List Raw) (unit first count : ℕ) (before after : List (List ℕ)) → OneView → KeepsLast s messages → s' ≡ s → 1 ≤ first → 1 ≤ count
+pub kept_pieces : (s s' : Store) (messages : List Raw) (unit first count : ℕ) (before after : List (List ℕ)) → OneView → s ≡ store_of (last_kept messages) → s' ≡ s → 1 ≤ first → 1 ≤ count
     → PacksAt (λ v. s' ≡ store_of v) (record { messages = messages; kept = 4096 }) unit first count Kept before after → before ≡ [] → AllByRecursion (IsPiece messages unit) after
 kept_pieces s s' messages unit first count before after one keeps same low some at none =
     let v : View = last_kept messages in

@@ -1,28 +1,22 @@
 -- What a drill on one thread does with each command, step by step.
-use Rattle.std.proofs.Common.{◌≡◌, ℕ, zero, suc, ◌+◌, ◌-◌, ◌≤◌, Bool, true, false, cond, List, [], ◌∷◌, ◌++◌, refl, sym, ap, ◌∙◌, subst, arith}
-use Rattle.std.proofs.lemmas.List.{append-nil}
-use Rattle.pitch_model.specs.Advertising.{Operation, Accept, Advertise}
+use Rattle.std.proofs.Common.{◌≡◌, ℕ, zero, suc, ◌+◌, ◌-◌, ◌≤◌, Bool, true, false, cond, List, [], ◌∷◌, refl, sym, ap, ◌∙◌, subst, arith}
+use Rattle.pitch_model.specs.Advertising.{with_sequence}
 use Rattle.pitch_model.specs.History.{Entry, Raw, GrpUp, SpinUp, Advertised}
-use Rattle.spin_server.specs.Shelves.{Shelf}
-use Rattle.spin_server.specs.ShelfViews.{seen_of}
-use Rattle.venue_core.specs.Commands.{raw_of}
+use Rattle.unit_market.specs.Markets.{image_view}
 use Rattle.venue_core.specs.Losses.{is_lost}
-use Rattle.venue_core.specs.Plan.{plan, plan_command}
+use Rattle.venue_core.specs.Plan.{plan}
 use Rattle.client_core.specs.declared.client.UnitClient.{UnitClient}
 use Rattle.drill_client.specs.Following.{Follows}
 use Rattle.drill_client.specs.Answered.{last_kept, heard_of_copy}
-use Rattle.drill_client.specs.Played.{command_datagrams, is_round, round_operations, plain_operations, operations_to, heard_on_line, heard_of_round, heard_of_command, counted_with, counted_through, plain_history}
-use Rattle.drill_client.specs.Turns.{HasImages}
+use Rattle.drill_client.specs.Played.{command_datagrams, is_round, with_round, advertised_through, heard_on_line, heard_of_round, heard_of_command, counted_with, counted_through, plain_history}
 
 -- ---- Rounds
 module _ (index count : ℕ) where
-  pub no_round : (shelf : Shelf) (operations : List Operation) (messages : List Raw) → is_round index count ≡ false → HasImages shelf operations messages → HasImages shelf (operations ++ round_operations index count) messages
-  no_round shelf operations messages off has =
-      subst (λ (o : List Operation). HasImages shelf o messages) (sym (ap (λ (b : Bool). operations ++ cond b (Advertise ∷ []) []) off ∙ append-nil operations)) has
+  pub no_round : (advertised : List ℕ) → is_round index count ≡ false → with_round advertised index count ≡ advertised
+  no_round advertised off = ap (λ (b : Bool). cond b (with_sequence advertised index) advertised) off
 
-  pub round_done : (shelf : Shelf) (operations : List Operation) (messages : List Raw) → is_round index count ≡ true → HasImages shelf (operations ++ Advertise ∷ []) messages → HasImages shelf (operations ++ round_operations index count) messages
-  round_done shelf operations messages on has =
-      subst (λ (o : List Operation). HasImages shelf o messages) (sym (ap (λ (b : Bool). operations ++ cond b (Advertise ∷ []) []) on)) has
+  pub round_done : (advertised : List ℕ) → is_round index count ≡ true → with_round advertised index count ≡ with_sequence advertised index
+  round_done advertised on = ap (λ (b : Bool). cond b (with_sequence advertised index) advertised) on
 
   pub round_unheard : (client : UnitClient) (H : ℕ) (V : List Raw) (E : List Entry) → is_round index count ≡ false → Follows client H V E → Follows client H V (heard_of_round index count E)
   round_unheard client H V E off f = subst (λ (b : Bool). Follows client H V (cond b (Advertised index ∷ E) E)) (sym off) f
@@ -33,25 +27,25 @@ module _ (index count : ℕ) where
 
 -- ---- Lines
 pub on_line : (client : UnitClient) (V : List Raw) (E : List Entry) (number unit count index line heard : ℕ) (lost : Bool) (datagrams : List (List ℕ)) → lost ≡ is_lost number unit index line → datagrams ≡ command_datagrams number unit index
-    → Follows client 4096 V (heard_of_copy (last_kept (plan number unit index)) (seen_of (operations_to number unit count index)) unit 4096 heard lost datagrams E)
+    → Follows client 4096 V (heard_of_copy (last_kept (plan number unit index)) (image_view (plan number unit index) (advertised_through count (index - 1))) unit 4096 heard lost datagrams E)
     → Follows client 4096 V (heard_on_line number unit count index line heard E)
 unfolding heard_on_line
 on_line client V E number unit count index line heard lost datagrams is are f =
-    let copy : Bool → List (List ℕ) → List Entry = λ (b : Bool) (ds : List (List ℕ)). heard_of_copy (last_kept (plan number unit index)) (seen_of (operations_to number unit count index)) unit 4096 heard b ds E in
+    let copy : Bool → List (List ℕ) → List Entry = λ (b : Bool) (ds : List (List ℕ)). heard_of_copy (last_kept (plan number unit index)) (image_view (plan number unit index) (advertised_through count (index - 1))) unit 4096 heard b ds E in
     subst (λ (b : Bool). Follows client 4096 V (copy b (command_datagrams number unit index))) is
     (subst (λ (ds : List (List ℕ)). Follows client 4096 V (copy lost ds)) are f)
 
 -- ---- Commands
-pub operations_begin : (number unit count : ℕ) → plain_operations number unit count 0 ≡ []
-unfolding plain_operations
-operations_begin number unit count = refl
+pub rounds_begin : (count : ℕ) → advertised_through count 0 ≡ []
+unfolding advertised_through
+rounds_begin count = refl
 
-pub operations_next : (number unit count index : ℕ) → 1 ≤ index → operations_to number unit count index ++ round_operations index count ≡ plain_operations number unit count index
-unfolding plain_operations
-operations_next number unit count (suc index) low =
+pub rounds_next : (count index : ℕ) → 1 ≤ index → with_round (advertised_through count (index - 1)) index count ≡ advertised_through count index
+unfolding advertised_through
+rounds_next count (suc index) low =
     let e : suc index - 1 ≡ index = omega arith in
-    ap (λ (n : ℕ). (plain_operations number unit count n ++ Accept (raw_of (plan_command number unit (suc index))) ∷ []) ++ round_operations (suc index) count) e
-operations_next number unit count zero low = absurd (omega (arith, low))
+    ap (λ (n : ℕ). with_round (advertised_through count n) (suc index) count) e
+rounds_next count zero low = absurd (omega (arith, low))
 
 pub count_begins : (number unit : ℕ) → counted_through number unit 0 ≡ 0
 unfolding counted_through

@@ -1,4 +1,5 @@
--- What a client hears of what it asked for. No caller needs this file.
+-- What a client hears of what it asked for. No public
+-- clause needs this file.
 use Rattle.std.specs.Prelude.{ℕ, ◌+◌, Bool, false, true, ◌&&◌, nat_lt, List, ◌∷◌, Option, None}
 use Rattle.std.specs.Prelude.{Some, if◌then◌else◌}
 use Rattle.unit_packets.specs.Packing.{packed}

@@ -1,11 +1,11 @@
--- What a drill on one thread does with each command, and what its client hears of it. No caller
--- needs this file.
-use Rattle.std.specs.Prelude.{ℕ, zero, suc, ◌-◌, ◌%◌, Bool, ◌||◌, ◌==◌, List, [], ◌∷◌, ◌++◌}
+-- What a drill on one thread does with each command, and what its client hears of it. No public
+-- clause needs this file.
+use Rattle.std.specs.Prelude.{ℕ, zero, suc, ◌-◌, ◌%◌, Bool, ◌||◌, ◌==◌, List, [], ◌∷◌}
 use Rattle.std.specs.Prelude.{if◌then◌else◌}
 use Rattle.unit_packets.specs.Packing.{packed}
-use Rattle.pitch_model.specs.Advertising.{Operation, Accept, Advertise}
+use Rattle.pitch_model.specs.Advertising.{with_sequence}
 use Rattle.pitch_model.specs.History.{Entry, GrpUp, SpinUp, Advertised}
-use Rattle.spin_server.specs.ShelfViews.{seen_of}
+use Rattle.unit_market.specs.Markets.{image_view}
 use Rattle.venue_core.specs.Commands.{raw_of}
 use Rattle.venue_core.specs.Losses.{is_lost}
 use Rattle.venue_core.specs.Plan.{plan, plan_command}
@@ -22,23 +22,17 @@ command_datagrams number unit index =
 abbrev pub is_round : ℕ → ℕ → Bool
 is_round index count = index % 1000 == 0 || index == count
 
--- ---- The shelf
--- an image is advertised where it is time
-abbrev pub round_operations : ℕ → ℕ → List Operation
-round_operations index count = if is_round index count then Advertise ∷ [] else []
+-- ---- Rounds
+-- the sequence of a command is advertised where it is time
+abbrev pub with_round : List ℕ → ℕ → ℕ → List ℕ
+with_round advertised index count =
+    if is_round index count then with_sequence advertised index else advertised
 
--- the first commands of a plan of `count`: each one's message is accepted, then comes its round
-unfoldable pub plain_operations : ℕ → ℕ → ℕ → ℕ → List Operation
-plain_operations number unit count zero = []
-plain_operations number unit count (suc index) =
-    (plain_operations number unit count index ++ Accept
-    (raw_of (plan_command number unit (suc index))) ∷ []) ++ round_operations (suc index) count
-
--- those before the round of a command
-abbrev pub operations_to : ℕ → ℕ → ℕ → ℕ → List Operation
-operations_to number unit count index =
-    plain_operations number unit count (index - 1)
-    ++ Accept (raw_of (plan_command number unit index)) ∷ []
+-- the sequences that the first commands of a plan of `count` advertise
+unfoldable pub advertised_through : ℕ → ℕ → List ℕ
+advertised_through count zero = []
+advertised_through count (suc index) =
+    with_round (advertised_through count index) (suc index) count
 
 -- ---- The client
 -- the copy of a command's datagrams on a line comes, unless it is lost, so many datagrams having
@@ -46,10 +40,11 @@ operations_to number unit count index =
 unfoldable pub heard_on_line : ℕ → ℕ → ℕ → ℕ → ℕ → ℕ → List Entry → List Entry
 heard_on_line number unit count index line heard E =
     heard_of_copy (last_kept (plan number unit index))
-    (seen_of (operations_to number unit count index)) unit drill_kept heard
+    (image_view (plan number unit index) (advertised_through count (index - 1)))
+    unit drill_kept heard
     (is_lost number unit index line) (command_datagrams number unit index) E
 
--- the sequence of a command is advertised where it is time
+-- it hears of the sequence of a command where it is time
 abbrev pub heard_of_round : ℕ → ℕ → List Entry → List Entry
 heard_of_round index count E = if is_round index count then Advertised index ∷ E else E
 

@@ -1,26 +1,23 @@
-//! One unit's drill on one thread: a venue, a gap store and an image shelf serve the client in
-//! turns.
+//! One unit's drill on one thread: a market serves the client in turns.
 
 ghost use Rattle.std.specs.Prelude.{◌≡◌, ◌-◌, ◌≤◌, ◌++◌, ℕ, List, [], length, Some, OnOk, OnErr};
 ghost use Rattle.std.specs.Prelude.{IfOk};
 ghost use Rattle.std.specs.List.{AllByRecursion};
-ghost use Rattle.pitch_model.specs.Advertising.{Operation};
 ghost use Rattle.pitch_model.specs.Datagrams.{IsPiece};
 ghost use Rattle.pitch_model.specs.History.{Entry, Raw as RawSaid};
 ghost use Rattle.unit_packets.specs.Packing.{bytes_in};
 ghost use Rattle.venue_core.specs.Plan.{plan};
 ghost use Rattle.venue_core.specs.Planned.{most_planned};
-ghost use Rattle.venue_core.specs.Stands.{Stands};
 ghost use Rattle.drill_client.specs.Ending.{IsAtEnd};
-ghost use Rattle.spin_server.specs.ShelfViews.{seen_of};
+ghost use Rattle.unit_market.specs.Markets.{MarketHas, image_view};
 ghost use Rattle.drill_client.specs.Following.{Follows, ImageParts, IsImageOf, FollowsWith};
 ghost use Rattle.drill_client.specs.DrillText.{most_drilled, drill_kept, drill_line};
 ghost use Rattle.drill_client.specs.Answered.{last_kept, heard_of_gap, heard_of_spin, heard_of_ask};
 ghost use Rattle.drill_client.specs.Answered.{heard_of_copy, heard_after_copy};
-ghost use Rattle.drill_client.specs.Played.{command_datagrams, is_round, round_operations};
-ghost use Rattle.drill_client.specs.Played.{plain_operations, operations_to, heard_of_round};
+ghost use Rattle.drill_client.specs.Played.{command_datagrams, is_round, with_round};
+ghost use Rattle.drill_client.specs.Played.{heard_of_round};
 ghost use Rattle.drill_client.specs.Played.{heard_of_command, counted_with, plain_history};
-ghost use Rattle.drill_client.specs.Turns.{KeepsLast, HasImages, Serves, HasPlayed, IsPlaying};
+ghost use Rattle.drill_client.specs.Turns.{HasPlayed, IsPlaying};
 
 use crate::ending::{append_end, asks_when_told_of_all, hear_all};
 use crate::following::{
@@ -28,18 +25,18 @@ use crate::following::{
     hear_no_image,
 };
 use client_core::UnitClient;
-use gap_store::{Found, GapLookup, GapStore, look_laws};
+use gap_store::{Found, GapLookup, look_laws};
 use pitch_fields::OutOfMemory;
 use pitch_messages::{ByteList, RawList};
 use pitch_model::Ask;
 use pitch_model::laws::{
-    advertised_sequences_rise, operations_add_up, packed_messages_are_pieces,
-    slices_are_the_venues, venues_only_grow,
+    advertised_sequences_rise, packed_messages_are_pieces, slices_are_the_venues, venues_only_grow,
 };
-use spin_server::{ImageLookup, ImageShelf, Imaged, image_look_laws, shelves_show_what_was_pushed};
+use spin_server::{ImageLookup, Imaged, image_look_laws, shelves_show_what_was_pushed};
 use std::alloc::Global;
+use unit_market::Market;
 use unit_packets::DatagramList;
-use venue_core::{Venue, VenueError, lost, plan_command, plan_is_accepted, plan_is_in_order};
+use venue_core::{VenueError, lost, plan_command, plan_is_accepted, plan_is_in_order};
 
 /// How many messages a drill's gap stores keep, and how many its clients hold.
 pub const KEPT: u32 = 4096;
@@ -55,116 +52,56 @@ struct Course {
     count: u32,
 }
 
-/// A venue's side: the venue, what can be asked for again, and the images.
-#[derive(Drop)]
-struct Side {
-    venue: Venue,
-    store: GapStore,
-    shelf: ImageShelf,
-}
-
-impl Side {
-    // A side that has accepted nothing.
-    fn make(alloc: Global, unit: u8) -> Result<Side, OutOfMemory>
-        ensures { IfOk result (λ side. Serves side unit [] [] 0) }
-    {
-        Ok(Side {
-            venue: Venue::make(alloc, unit),
-            store: GapStore::make(alloc, KEPT)?,
-            shelf: ImageShelf::make(alloc),
-        })
-    }
-
-    // Accepts command `index` of the plan.
-    fn accept(&mut self, course: Course, index: u32) -> Result<(), OutOfMemory>
-        requires index { (1 ≤ index) × (index ≤ most_planned) }
-        requires serves { HasPlayed self.old course.number course.unit course.count (index - 1) }
-        ensures { OnOk result
-            (IsPlaying self.new course.number course.unit course.count index (index - 1)) }
-    {
-        accept_command(&mut self.venue, course.number, course.unit, index)?;
-        keep_last(&self.venue, &mut self.store, &mut self.shelf, course, index)?;
-        Ok(())
-    }
-
-    // Sends the message that was accepted last.
-    fn send(
-        &mut self,
-        alloc: Global,
-        course: Course,
-        index: u32,
-    ) -> Result<DatagramList, OutOfMemory>
-        requires index { 1 ≤ index }
-        requires serves { IsPlaying self.old course.number course.unit course.count index
-            (index - 1) }
-        ensures serves { OnOk result
-            (IsPlaying self.new course.number course.unit course.count index index) }
-        ensures datagrams { IfOk result
-            (λ list. bytes_in list.items ≡ command_datagrams course.number course.unit index) }
-        ensures pieces { IfOk result (λ list. AllByRecursion
-            (IsPiece (plan course.number course.unit index) course.unit) (bytes_in list.items)) }
-    {
-        plan_is_in_order();
-        let mut out = DatagramList::make(alloc);
-        self.venue.flush(&mut out)?;
-        Ok(out)
-    }
-}
-
-// The venue accepts command `index` of the plan.
-fn accept_command(venue: &mut Venue, number: u64, unit: u8, index: u32) -> Result<(), OutOfMemory>
+// The market accepts command `index` of the plan.
+fn accept(market: &mut Market, course: Course, index: u32) -> Result<(), OutOfMemory>
     requires index { (1 ≤ index) × (index ≤ most_planned) }
-    requires stands { Stands venue.old (plan number unit (index - 1)) (index - 1) }
-    ensures stands { OnOk result (Stands venue.new (plan number unit index) (index - 1)) }
-    ensures unit { venue.new.unit ≡ venue.old.unit }
+    requires played { HasPlayed market.old course.number course.unit course.count (index - 1) }
+    ensures { OnOk result
+        (IsPlaying market.new course.number course.unit course.count index (index - 1)) }
 {
     plan_is_accepted();
-    match venue.accept(&plan_command(number, unit, index)) {
+    match market.accept(&plan_command(course.number, course.unit, index)) {
         Ok(_) => Ok(()),
         Err(VenueError::OutOfMemory) => Err(OutOfMemory),
         Err(_) => unreachable!(),
     }
 }
 
-// The store and the shelf get the message of command `index`, which the venue accepted last.
-fn keep_last(
-    venue: &Venue,
-    store: &mut GapStore,
-    shelf: &mut ImageShelf,
+// Sends the message that was accepted last.
+fn send(
+    alloc: Global,
+    market: &mut Market,
     course: Course,
     index: u32,
-) -> Result<(), OutOfMemory>
-    requires index { (1 ≤ index) × (index ≤ most_planned) }
-    requires venue { Stands venue.now (plan course.number course.unit index) (index - 1) }
-    requires store { KeepsLast store.old (plan course.number course.unit (index - 1)) }
-    requires shelf { HasImages shelf.old (plain_operations course.number course.unit course.count
-        (index - 1)) (plan course.number course.unit (index - 1)) }
-    ensures store { OnOk result (KeepsLast store.new (plan course.number course.unit index)) }
-    ensures shelf { OnOk result (HasImages shelf.new (operations_to course.number
-        course.unit course.count index) (plan course.number course.unit index)) }
+) -> Result<DatagramList, OutOfMemory>
+    requires index { 1 ≤ index }
+    requires playing { IsPlaying market.old course.number course.unit course.count index (index - 1) }
+    ensures playing { OnOk result
+        (IsPlaying market.new course.number course.unit course.count index index) }
+    ensures datagrams { IfOk result
+        (λ list. bytes_in list.items ≡ command_datagrams course.number course.unit index) }
+    ensures pieces { IfOk result (λ list. AllByRecursion
+        (IsPiece (plan course.number course.unit index) course.unit) (bytes_in list.items)) }
 {
-    operations_add_up();
-    let Some(raw) = venue.last_raw() else {
-        unreachable!();
-    };
-    store.push(raw);
-    shelf.push(raw)?;
-    Ok(())
+    plan_is_in_order();
+    let mut out = DatagramList::make(alloc);
+    market.flush(&mut out)?;
+    Ok(out)
 }
 
 // Answers a gap ask: with the range where all of it is kept.
 fn answer_gap(
     alloc: Global,
-    store: &mut GapStore,
+    market: &mut Market,
     client: &mut UnitClient,
     unit: u8,
     first: u32,
     count: u16,
 ) -> Result<(), OutOfMemory>
-    ensures same { store.new ≡ store.old }
-    // Of every venue that begins with the messages of the store.
-    ensures heard { OnOk result
-        ((messages more : List RawSaid) → KeepsLast store.old messages
+    ensures same { market.new ≡ market.old }
+    // Of every venue that begins with the messages of the market.
+    ensures heard { OnOk result ((messages more : List RawSaid) (sent : ℕ) (advertised : List ℕ)
+        → MarketHas market.old unit drill_kept messages sent advertised
         → FollowsWith client.old client.new (messages ++ more)
         (heard_of_gap (last_kept messages) unit first count)) }
 {
@@ -180,7 +117,7 @@ fn answer_gap(
         return Ok(());
     }
     let mut out = DatagramList::make(alloc);
-    match store.pack(alloc, unit, first, count, &mut out)? {
+    match market.pack(alloc, unit, first, count, &mut out)? {
         Found::Kept => {
             hear_gap_reply(client, true);
             hear_datagrams(client, out.as_slice())?;
@@ -200,24 +137,24 @@ fn answer_gap(
 // Answers a spin ask: with the image where it is served.
 fn answer_spin(
     alloc: Global,
-    shelf: &mut ImageShelf,
+    market: &mut Market,
     client: &mut UnitClient,
     sequence: u32,
 ) -> Result<(), OutOfMemory>
-    ensures same { shelf.new ≡ shelf.old }
-    // Of every venue that begins with the messages of the shelf.
+    ensures same { market.new ≡ market.old }
+    // Of every venue that begins with the messages of the market.
     ensures heard { OnOk result
-        ((operations : List Operation) (messages more : List RawSaid)
-        → HasImages shelf.old operations messages
+        ((unit : ℕ) (messages more : List RawSaid) (sent : ℕ) (advertised : List ℕ)
+        → MarketHas market.old unit drill_kept messages sent advertised
         → FollowsWith client.old client.new (messages ++ more)
-        (heard_of_spin (seen_of operations) sequence)) }
+        (heard_of_spin (image_view messages advertised) sequence)) }
 {
     shelves_show_what_was_pushed();
     image_look_laws();
     advertised_sequences_rise();
     venues_only_grow();
     let mut raws = RawList::make(alloc);
-    match shelf.image(sequence, &mut raws)? {
+    match market.image(sequence, &mut raws)? {
         Imaged::Image { orders } => {
             hear_image(client, sequence, orders, raws)?;
             Ok(())
@@ -229,21 +166,22 @@ fn answer_spin(
     }
 }
 
-// Appends the image through the last message of a shelf, and answers how many orders it has.
-fn append_last(shelf: &mut ImageShelf, out: &mut RawList) -> Result<u32, OutOfMemory>
-    requires { (operations : List Operation)
-        × (messages : List RawSaid) × HasImages shelf.old operations messages }
-    // Of the messages of the shelf.
-    ensures { IfOk result (λ orders. (operations : List Operation) (messages : List RawSaid)
-        → HasImages shelf.old operations messages → out.old.items ≡ [] → IsImageOf messages
+// Appends the image through the last message of a market, and answers how many orders it has.
+fn append_last(market: &mut Market, out: &mut RawList) -> Result<u32, OutOfMemory>
+    requires { (unit : ℕ) × (messages : List RawSaid) × (sent : ℕ) × (advertised : List ℕ)
+        × MarketHas market.old unit drill_kept messages sent advertised }
+    // Of the messages of the market.
+    ensures { IfOk result (λ orders. (unit : ℕ)
+        (messages : List RawSaid) (sent : ℕ) (advertised : List ℕ)
+        → MarketHas market.old unit drill_kept messages sent advertised
+        → out.old.items ≡ [] → IsImageOf messages
         (record { sequence = length messages; orders = orders; raws = out.new.items })) }
 {
     shelves_show_what_was_pushed();
     image_look_laws();
     advertised_sequences_rise();
-    operations_add_up();
-    let sequence = shelf.advertise()?;
-    match shelf.image(sequence, out)? {
+    let sequence = market.advertise()?;
+    match market.image(sequence, out)? {
         Imaged::Image { orders } => Ok(orders),
         Imaged::NotAdvertised => unreachable!(),
     }
@@ -258,26 +196,28 @@ fn is_round(index: u32, count: u32) -> bool
 
 // Advertises where it is time after command `index`, and the client hears of it.
 fn advertise(
-    shelf: &mut ImageShelf,
+    market: &mut Market,
     client: &mut UnitClient,
     index: u32,
     count: u32,
 ) -> Result<(), OutOfMemory>
-    ensures shelf { OnOk result ((operations : List Operation) (messages : List RawSaid)
-        → HasImages shelf.old operations messages
-        → HasImages shelf.new (operations ++ round_operations index count) messages) }
-    // Of every venue that begins with the messages of the shelf, where these are those of `index`
+    // Where its messages are those of `index` commands.
+    ensures market { OnOk result ((unit : ℕ)
+        (messages : List RawSaid) (sent : ℕ) (advertised : List ℕ)
+        → MarketHas market.old unit drill_kept messages sent advertised → length messages ≡ index
+        → MarketHas market.new unit drill_kept messages sent
+        (with_round advertised index count)) }
+    // Of every venue that begins with the messages of the market, where these are those of `index`
     // commands.
     ensures heard { OnOk result
-        ((operations : List Operation) (messages more : List RawSaid)
-        → HasImages shelf.old operations messages → length messages ≡ index
+        ((unit : ℕ) (messages more : List RawSaid) (sent : ℕ) (advertised : List ℕ)
+        → MarketHas market.old unit drill_kept messages sent advertised → length messages ≡ index
         → FollowsWith client.old client.new (messages ++ more) (heard_of_round index count)) }
 {
-    operations_add_up();
     if !is_round(index, count) {
         return Ok(());
     }
-    let sequence = shelf.advertise()?;
+    let sequence = market.advertise()?;
     hear_advertised(client, sequence);
     Ok(())
 }
@@ -285,26 +225,25 @@ fn advertise(
 // Answers what the client asks.
 fn answer_ask(
     alloc: Global,
-    side: &mut Side,
+    market: &mut Market,
     client: &mut UnitClient,
     unit: u8,
     ask: Ask,
 ) -> Result<(), OutOfMemory>
-    ensures same { side.new ≡ side.old }
-    // Of every venue that begins with the messages of the side.
-    ensures heard { OnOk result
-        ((operations : List Operation) (messages more : List RawSaid) (sent : ℕ)
-        → Serves side.old unit operations messages sent
+    ensures same { market.new ≡ market.old }
+    // Of every venue that begins with the messages of the market.
+    ensures heard { OnOk result ((messages more : List RawSaid) (sent : ℕ) (advertised : List ℕ)
+        → MarketHas market.old unit drill_kept messages sent advertised
         → FollowsWith client.old client.new (messages ++ more)
-        (heard_of_ask (last_kept messages) (seen_of operations) unit (Some ask))) }
+        (heard_of_ask (last_kept messages) (image_view messages advertised) unit (Some ask))) }
 {
     match ask {
         Ask::Gap { first, count } => {
-            answer_gap(alloc, &mut side.store, client, unit, first, count)?;
+            answer_gap(alloc, market, client, unit, first, count)?;
             Ok(())
         }
         Ask::Spin { sequence } => {
-            answer_spin(alloc, &mut side.shelf, client, sequence)?;
+            answer_spin(alloc, market, client, sequence)?;
             Ok(())
         }
     }
@@ -313,23 +252,22 @@ fn answer_ask(
 // The same, if it asks anything.
 fn answer(
     alloc: Global,
-    side: &mut Side,
+    market: &mut Market,
     client: &mut UnitClient,
     unit: u8,
     ask: Option<Ask>,
 ) -> Result<(), OutOfMemory>
-    ensures same { side.new ≡ side.old }
-    // Of every venue that begins with the messages of the side.
-    ensures heard { OnOk result
-        ((operations : List Operation) (messages more : List RawSaid) (sent : ℕ)
-        → Serves side.old unit operations messages sent
+    ensures same { market.new ≡ market.old }
+    // Of every venue that begins with the messages of the market.
+    ensures heard { OnOk result ((messages more : List RawSaid) (sent : ℕ) (advertised : List ℕ)
+        → MarketHas market.old unit drill_kept messages sent advertised
         → FollowsWith client.old client.new (messages ++ more)
-        (heard_of_ask (last_kept messages) (seen_of operations) unit ask)) }
+        (heard_of_ask (last_kept messages) (image_view messages advertised) unit ask)) }
 {
     match ask {
         None => Ok(()),
         Some(ask) => {
-            answer_ask(alloc, side, client, unit, ask)?;
+            answer_ask(alloc, market, client, unit, ask)?;
             Ok(())
         }
     }
@@ -338,21 +276,21 @@ fn answer(
 // The client hears the copy of datagrams on one line, unless it is lost, and is answered.
 fn hear_copy(
     alloc: Global,
-    side: &mut Side,
+    market: &mut Market,
     client: &mut UnitClient,
     heard: &mut u8,
     unit: u8,
     datagrams: &[ByteList],
     is_lost: bool,
 ) -> Result<(), OutOfMemory>
-    ensures same { side.new ≡ side.old }
-    // Of every venue that begins with the messages of the side.
-    ensures heard { OnOk result ((operations : List Operation)
-        (messages more : List RawSaid) (sent : ℕ) → Serves side.old unit operations messages sent
+    ensures same { market.new ≡ market.old }
+    // Of every venue that begins with the messages of the market.
+    ensures heard { OnOk result ((messages more : List RawSaid) (sent : ℕ) (advertised : List ℕ)
+        → MarketHas market.old unit drill_kept messages sent advertised
         → AllByRecursion (IsPiece messages unit) (bytes_in datagrams.now)
         → (H : ℕ) (E : List Entry) → Follows client.old H (messages ++ more) E
-        → Follows client.new H (messages ++ more) (heard_of_copy (last_kept messages)
-        (seen_of operations) unit H heard.old is_lost (bytes_in datagrams.now) E)) }
+        → Follows client.new H (messages ++ more) (heard_of_copy (last_kept messages) (image_view
+        messages advertised) unit H heard.old is_lost (bytes_in datagrams.now) E)) }
     ensures count { OnOk result (heard.new ≡ heard_after_copy is_lost heard.old) }
 {
     if is_lost {
@@ -360,7 +298,7 @@ fn hear_copy(
     }
     hear_datagrams(client, datagrams)?;
     let ask = count_datagram(client, heard);
-    answer(alloc, side, client, unit, ask)?;
+    answer(alloc, market, client, unit, ask)?;
     Ok(())
 }
 
@@ -368,7 +306,7 @@ fn hear_copy(
 // not lost.
 fn play(
     alloc: Global,
-    side: &mut Side,
+    market: &mut Market,
     client: &mut UnitClient,
     heard: &mut u8,
     course: Course,
@@ -376,8 +314,9 @@ fn play(
 ) -> Result<(), OutOfMemory>
     requires index { (1 ≤ index) × (index ≤ course.count) }
     requires count { course.count ≤ most_drilled }
-    requires serves { HasPlayed side.old course.number course.unit course.count (index - 1) }
-    ensures serves { OnOk result (HasPlayed side.new course.number course.unit course.count index) }
+    requires played { HasPlayed market.old course.number course.unit course.count (index - 1) }
+    ensures played { OnOk result
+        (HasPlayed market.new course.number course.unit course.count index) }
     ensures count { OnOk result
         (heard.new ≡ counted_with course.number course.unit index heard.old) }
     ensures heard { OnOk result ((E : List Entry)
@@ -390,12 +329,12 @@ fn play(
         unit,
         count,
     } = course;
-    side.accept(course, index)?;
-    let sent = side.send(alloc, course, index)?;
+    accept(market, course, index)?;
+    let sent = send(alloc, market, course, index)?;
     let datagrams = sent.as_slice();
     hear_copy(
         alloc,
-        side,
+        market,
         client,
         heard,
         unit,
@@ -404,26 +343,26 @@ fn play(
     )?;
     hear_copy(
         alloc,
-        side,
+        market,
         client,
         heard,
         unit,
         datagrams,
         lost(number, unit, index, 2),
     )?;
-    advertise(&mut side.shelf, client, index, count)?;
+    advertise(market, client, index, count)?;
     Ok(())
 }
 
-// The client hears of all messages of the side, and takes the image of all where it lacks some.
+// The client hears of all messages of the market, and takes the image of all where it lacks some.
 fn end(
     alloc: Global,
-    side: &mut Side,
+    market: &mut Market,
     client: &mut UnitClient,
     course: Course,
 ) -> Result<(), OutOfMemory>
     requires count { course.count ≤ most_drilled }
-    requires serves { HasPlayed side.old course.number course.unit course.count course.count }
+    requires played { HasPlayed market.old course.number course.unit course.count course.count }
     requires heard { Follows client.old drill_kept (plan course.number course.unit course.count)
         (plain_history course.number course.unit course.count course.count) }
     ensures { OnOk result (IsAtEnd client.new drill_kept (plan course.number course.unit course.count)) }
@@ -433,17 +372,17 @@ fn end(
         return Ok(());
     }
     let mut raws = RawList::make(alloc);
-    let orders = append_last(&mut side.shelf, &mut raws)?;
+    let orders = append_last(market, &mut raws)?;
     hear_all(client, course.count, orders, raws)?;
     Ok(())
 }
 
-// Plays all commands, with a side that has accepted nothing, and hands back the client.
-fn play_all(alloc: Global, side: &mut Side, course: Course) -> Result<UnitClient, OutOfMemory>
+// Plays all commands, with a market that has accepted nothing, and hands back the client.
+fn play_all(alloc: Global, market: &mut Market, course: Course) -> Result<UnitClient, OutOfMemory>
     requires count { (1 ≤ course.count) × (course.count ≤ most_drilled) }
-    requires serves { Serves side.old course.unit [] [] 0 }
-    ensures serves { OnOk result
-        (HasPlayed side.new course.number course.unit course.count course.count) }
+    requires new { MarketHas market.old course.unit drill_kept [] 0 [] }
+    ensures played { OnOk result
+        (HasPlayed market.new course.number course.unit course.count course.count) }
     // It has heard just what the commands bring, and what it was answered.
     ensures heard { IfOk result (λ client. Follows client drill_kept (plan course.number course.unit
         course.count) (plain_history course.number course.unit course.count course.count)) }
@@ -452,7 +391,7 @@ fn play_all(alloc: Global, side: &mut Side, course: Course) -> Result<UnitClient
     let mut client = begin(alloc, KEPT)?;
     let mut heard = 0;
     'commands: for before in 0..course.count {
-        play(alloc, side, &mut client, &mut heard, course, before + 1)?;
+        play(alloc, market, &mut client, &mut heard, course, before + 1)?;
     }
     Ok(client)
 }
@@ -460,39 +399,39 @@ fn play_all(alloc: Global, side: &mut Side, course: Course) -> Result<UnitClient
 // The client takes what it lacks after all commands, and the unit's line is appended.
 fn end_with(
     alloc: Global,
-    side: &mut Side,
+    market: &mut Market,
     client: &mut UnitClient,
     course: Course,
     out: &mut Vec<u8>,
 ) -> Result<(), OutOfMemory>
     requires count { (1 ≤ course.count) × (course.count ≤ most_drilled) }
-    requires serves { HasPlayed side.old course.number course.unit course.count course.count }
+    requires played { HasPlayed market.old course.number course.unit course.count course.count }
     requires heard { Follows client.old drill_kept (plan course.number course.unit course.count)
         (plain_history course.number course.unit course.count course.count) }
     ensures ok { OnOk result (out.new.items
         ≡ out.old.items ++ drill_line course.number course.unit course.count) }
     ensures err { OnErr result (out.new.items ≡ out.old.items) }
 {
-    end(alloc, side, client, course)?;
+    end(alloc, market, client, course)?;
     append_end(client, course.unit, out)?;
     Ok(())
 }
 
-// The same from the first command on, with a side that has accepted nothing.
+// The same from the first command on, with a market that has accepted nothing.
 fn play_to_end(
     alloc: Global,
-    side: &mut Side,
+    market: &mut Market,
     course: Course,
     out: &mut Vec<u8>,
 ) -> Result<(), OutOfMemory>
     requires count { (1 ≤ course.count) × (course.count ≤ most_drilled) }
-    requires serves { Serves side.old course.unit [] [] 0 }
+    requires new { MarketHas market.old course.unit drill_kept [] 0 [] }
     ensures ok { OnOk result (out.new.items
         ≡ out.old.items ++ drill_line course.number course.unit course.count) }
     ensures err { OnErr result (out.new.items ≡ out.old.items) }
 {
-    let mut client = play_all(alloc, side, course)?;
-    end_with(alloc, side, &mut client, course, out)
+    let mut client = play_all(alloc, market, course)?;
+    end_with(alloc, market, &mut client, course, out)
 }
 
 /// Plays a unit's drill on one thread: a venue accepts the first `count` commands of the plan, and
@@ -517,6 +456,6 @@ pub fn drill_plain(
         unit,
         count,
     };
-    let mut side = Side::make(alloc, unit)?;
-    play_to_end(alloc, &mut side, course, out)
+    let mut market = Market::make(alloc, unit, KEPT)?;
+    play_to_end(alloc, &mut market, course, out)
 }

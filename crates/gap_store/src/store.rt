@@ -7,9 +7,8 @@ ghost use Rattle.unit_packets.specs.Blocks.{StaysWithin};
 ghost use Rattle.unit_packets.specs.Packing.{bytes_in};
 ghost use Rattle.unit_packets.specs.Packings.{unpacked};
 ghost use Rattle.gap_store.specs.declared.found.Found.TheVariants.{Kept};
-ghost use Rattle.gap_store.specs.Look.{View};
+ghost use Rattle.gap_store.specs.Look.{View, Store, store_of, look};
 ghost use Rattle.gap_store.specs.Looking.{LooksAt, FindsAt, PacksAt, PacksRange, AnswersLook};
-ghost use Rattle.gap_store.specs.Look.{Store, store_of, look};
 ghost use Rattle.gap_store.specs.Looking.{AnswersPack, first_kept};
 
 use crate::found::{Found, GapLookup};

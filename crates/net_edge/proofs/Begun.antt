@@ -6,7 +6,7 @@ use Rattle.pitch_model.specs.declared.status.Status.{Status}
 use Rattle.pitch_model.specs.declared.status.Status.TheVariants.{Current}
 use Rattle.net_edge.specs.Breaking.{Breaks}
 use Rattle.net_edge.specs.Due.{Setting}
-use Rattle.net_edge.specs.Markets.{MarketAt}
+use Rattle.net_edge.specs.Markets.{SideAt}
 use Rattle.net_edge.specs.Playing.{EndsHave, DemoAt, IsSentTo, IsUncalled}
 use Rattle.net_edge.specs.Scene.{Scene}
 use Rattle.net_edge.specs.Turns.{IsOver, client_status}
@@ -17,8 +17,8 @@ use Rattle.net_edge.proofs.Turning.{turn_again}
 
 pub turn_breaks : {M : Type 0} (has : M → List Raw → List ℕ → Type 0) (s : Setting) (base : List Call) (turn : ℕ) (calls calls' : Option (List Call)) (e : Ends) (market : M) (status : Status) (error : DemoError) → (s.count < turn → status ≡ Current s.count → ⊥)
     → ((now : Scene) → EndsHave e now → status ≡ client_status now)
-    → ((now : Scene) × (now.turn ≡ turn) × DemoAt s base calls e now × MarketAt has s market turn × IsOver s now)
-    → ((n : Scene) → n.turn ≡ turn + 1 → DemoAt s base calls e n → MarketAt has s market ((turn + 1) - 1) → IsSentTo s ((turn + 1) - 1) n → IsUncalled n → Breaks s base calls' error)
+    → ((now : Scene) × (now.turn ≡ turn) × DemoAt s base calls e now × SideAt has s market turn × IsOver s now)
+    → ((n : Scene) → n.turn ≡ turn + 1 → DemoAt s base calls e n → SideAt has s market ((turn + 1) - 1) → IsSentTo s ((turn + 1) - 1) n → IsUncalled n → Breaks s base calls' error)
     → Breaks s base calls' error
 turn_breaks has s base turn calls calls' e market status error on is so broke =
     let goes = goes_on s so.0 turn status so.1 (is so.0 so.2.has) on in

@@ -20,7 +20,7 @@ use Rattle.feed_lines.specs.UnitLine.{unit_line}
 use Rattle.net_edge.specs.Acting.{scene_of}
 use Rattle.net_edge.specs.Demo.{IsDemo, EndsDemo, IsLast, AddsCalls, all_messages, AreShort}
 use Rattle.net_edge.specs.Due.{Setting, demo_unit, hold_limit, accepted}
-use Rattle.net_edge.specs.Markets.{MarketAt}
+use Rattle.net_edge.specs.Markets.{SideAt}
 use Rattle.net_edge.specs.Playing.{DemoAt, DoesDemo, EndsHave, ListsCalls, calls_before}
 use Rattle.net_edge.specs.Scene.{Scene, line_in}
 use Rattle.net_edge.specs.Steps.{Step}
@@ -40,7 +40,7 @@ record AreMessages (V : List Raw) : Type 0 where
   few : length V ≤ last_sequence
 
 -- after the last message all were accepted
-all_accepted : {M : Type 0} (has : M → List Raw → List ℕ → Type 0) (s : Setting) (market : M) (turn : ℕ) → s.count ≤ 1000 → s.count < turn → MarketAt has s market turn → AreMessages (all_messages s)
+all_accepted : {M : Type 0} (has : M → List Raw → List ℕ → Type 0) (s : Setting) (market : M) (turn : ℕ) → s.count ≤ 1000 → s.count < turn → SideAt has s market turn → AreMessages (all_messages s)
 all_accepted has s market turn few above at =
     let every : accepted s turn ≡ s.count = omega (arith, above) in
     record {
@@ -60,7 +60,7 @@ all_are_short s ends run are has over A = subst AreShort (sym over.on_a) (due_sh
 all_are_short s ends run are has over B = subst AreShort (sym over.on_b) (due_short s are.raws B (scene_of s run).turn)
 all_are_short s ends run are has over Gap = subst AreShort (sym has.replayed) (replied_short s are.raws run)
 
-run_ends : {M : Type 0} (has : M → List Raw → List ℕ → Type 0) (s : Setting) (ends : Ends) (market : M) (run : List Step) → s.count ≤ 1000 → AreSteps s run → EndsHave ends (scene_of s run) → IsOver s (scene_of s run) → IsLast s (scene_of s run) → MarketAt has s market (scene_of s run).turn
+run_ends : {M : Type 0} (has : M → List Raw → List ℕ → Type 0) (s : Setting) (ends : Ends) (market : M) (run : List Step) → s.count ≤ 1000 → AreSteps s run → EndsHave ends (scene_of s run) → IsOver s (scene_of s run) → IsLast s (scene_of s run) → SideAt has s market (scene_of s run).turn
     → EndsDemo s (scene_of s run) (map.len (current_book ends.client).orders) (shares (current_book ends.client))
 run_ends has s ends market run few steps ends_have over last at =
     let R : Scene = scene_of s run in
@@ -74,7 +74,7 @@ run_ends has s ends market run few steps ends_have over last at =
       book = λ carried. carried_book s run carried over.put pieces ends.client are.bytes are.few steps ends_have.client;
     }
 
-pub demo_is : {M : Type 0} (has : M → List Raw → List ℕ → Type 0) (s : Setting) (before after : Option (List Call)) (text text' : List ℕ) (ends : Ends) (market : M) (now : Scene) → s.count ≤ 1000 → DemoAt s (calls_before before) after ends now → IsOver s now → IsLast s now → MarketAt has s market now.turn
+pub demo_is : {M : Type 0} (has : M → List Raw → List ℕ → Type 0) (s : Setting) (before after : Option (List Call)) (text text' : List ℕ) (ends : Ends) (market : M) (now : Scene) → s.count ≤ 1000 → DemoAt s (calls_before before) after ends now → IsOver s now → IsLast s now → SideAt has s market now.turn
     → text' ≡ text ++ unit_line demo_unit (status_of hold_limit now.heard) (map.len (current_book ends.client).orders) (shares (current_book ends.client)) → IsDemo s before after text text'
 demo_is has s before after text text' ends market now few at over last stands printed =
     let run : List Step = at.plays.0 in
@@ -88,7 +88,7 @@ demo_is has s before after text text' ends market now few at over last stands pr
       steps = led.steps;
       orders = orders;
       quantity = quantity;
-      end = run_ends has s ends market run few led.steps (subst (EndsHave ends) back at.has) (subst (IsOver s) back over) (subst (IsLast s) back last) (subst (λ (n : Scene). MarketAt has s market n.turn) back stands);
+      end = run_ends has s ends market run few led.steps (subst (EndsHave ends) back at.has) (subst (IsOver s) back over) (subst (IsLast s) back last) (subst (λ (n : Scene). SideAt has s market n.turn) back stands);
       printed = printed ∙ ap (λ (n : Scene). text ++ unit_line demo_unit (client_status n) orders quantity) back;
     }
 

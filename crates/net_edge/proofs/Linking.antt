@@ -33,7 +33,7 @@ use Rattle.net_edge.specs.Acting.{is_group_open, end_puts, end_took, taken_at}
 use Rattle.net_edge.specs.Due.{Setting, call_room, hold_limit}
 use Rattle.net_edge.specs.Playing.{Plays, ClientHas, LinkHas, LinkSays, LinkTells, HearsLink, closes, told_down}
 use Rattle.net_edge.specs.Scene.{Scene, AtEnd}
-use Rattle.net_edge.specs.Peers.{end_of, peer_setup, with_client_end}
+use Rattle.net_edge.specs.Sessions.{end_of, session_setup, with_client_end}
 use Rattle.net_edge.specs.Turns.{MayCall}
 use Rattle.net_edge.specs.Breaking.{Breaks}
 use Rattle.net_edge.specs.declared.error.DemoError.TheVariants as errors
@@ -71,16 +71,16 @@ heard_entry client client' entry E before has tracks keeps = record {
 -- ---- Calls of `take` at the client's end of a connection that stands
 -- what each makes of a scene
 module _ (s : Setting) (end : AtEnd) (up : Pipe) (events : List (Event Lookups)) (E : List Entry) (now : Scene) where
-  took_some : (peer : Session) (bytes : List ℕ) (count : ℕ) → taken_at s (end_of peer) bytes (taken.Got count) (with_client_end peer end up events false E now)
-      ≡ with_client_end peer (end_took bytes (taken.Got count) end) (record { put = up.put ++ []; taken = up.taken }) (Fed bytes NoLookup ∷ events) (closes peer false (Fed bytes NoLookup ∷ events)) (told_down peer (closes peer false (Fed bytes NoLookup ∷ events)) (heard_all (link_tells (peer_setup peer) events bytes) E)) now
+  took_some : (session : Session) (bytes : List ℕ) (count : ℕ) → taken_at s (end_of session) bytes (taken.Got count) (with_client_end session end up events false E now)
+      ≡ with_client_end session (end_took bytes (taken.Got count) end) (record { put = up.put ++ []; taken = up.taken }) (Fed bytes NoLookup ∷ events) (closes session false (Fed bytes NoLookup ∷ events)) (told_down session (closes session false (Fed bytes NoLookup ∷ events)) (heard_all (link_tells (session_setup session) events bytes) E)) now
   took_some Grp bytes count = refl
   took_some Spin bytes count = refl
 
-  took_none : (peer : Session) → taken_at s (end_of peer) [] taken.Quiet (with_client_end peer end up events false E now) ≡ with_client_end peer (end_took [] taken.Quiet end) up events false E now
+  took_none : (session : Session) → taken_at s (end_of session) [] taken.Quiet (with_client_end session end up events false E now) ≡ with_client_end session (end_took [] taken.Quiet end) up events false E now
   took_none Grp = refl
   took_none Spin = refl
 
-  took_end : (peer : Session) → taken_at s (end_of peer) [] taken.End (with_client_end peer end up events false E now) ≡ with_client_end peer (end_took [] taken.End end) up events true (down_of peer ∷ E) now
+  took_end : (session : Session) → taken_at s (end_of session) [] taken.End (with_client_end session end up events false E now) ≡ with_client_end session (end_took [] taken.End end) up events true (down_of session ∷ E) now
   took_end Grp = refl
   took_end Spin = refl
 
@@ -90,54 +90,54 @@ stands true so = sym (so refl)
 stands false so = refl
 
 -- it may come while the turn's group is open
-may_take : (peer : Session) (end : AtEnd) (up : Pipe) (events : List (Event Lookups)) (E : List Entry) (now : Scene) (room : ℕ) (bytes : List ℕ) (answer : NetTaken) → room ≡ call_room → is_group_open end.answers ≡ true → (end.ended ≡ true → false ≡ true)
-    → (s : Setting) → MayCall s (Take (end_of peer) room bytes answer) (with_client_end peer end up events false E now)
+may_take : (session : Session) (end : AtEnd) (up : Pipe) (events : List (Event Lookups)) (E : List Entry) (now : Scene) (room : ℕ) (bytes : List ℕ) (answer : NetTaken) → room ≡ call_room → is_group_open end.answers ≡ true → (end.ended ≡ true → false ≡ true)
+    → (s : Setting) → MayCall s (Take (end_of session) room bytes answer) (with_client_end session end up events false E now)
 may_take Grp end up events E now room bytes answer roomy opened unended s = (roomy, opened, stands end.ended unended)
 may_take Spin end up events E now room bytes answer roomy opened unended s = (roomy, opened, stands end.ended unended)
 
 -- what the client heard so far, and then of one call more
-module _ (peer : Session) (s : Setting) (base : List Call) (calls calls' : Option (List Call)) (at : LinkEnd) (link link' : Ending) (client client' : UnitClient) (room : ℕ) (roomy : room ≡ call_room) (answers : List NetTaken) (now : Scene) where
+module _ (session : Session) (s : Setting) (base : List Call) (calls calls' : Option (List Call)) (at : LinkEnd) (link link' : Ending) (client client' : UnitClient) (room : ℕ) (roomy : room ≡ call_room) (answers : List NetTaken) (now : Scene) where
   -- the call is a step
-  took_so : (bytes : List ℕ) (answer : NetTaken) (after : Scene) → (h : HearsLink peer s base calls link client answers false now) → at ≡ end_of peer → is_group_open answers ≡ true → (NetTakeFailed answer → ⊥) → ListsCall calls calls' (Take at room bytes answer)
-      → taken_at s (end_of peer) bytes answer (with_client_end peer h.end h.up h.events false h.heard now) ≡ after → Plays s base calls' after
+  took_so : (bytes : List ℕ) (answer : NetTaken) (after : Scene) → (h : HearsLink session s base calls link client answers false now) → at ≡ end_of session → is_group_open answers ≡ true → (NetTakeFailed answer → ⊥) → ListsCall calls calls' (Take at room bytes answer)
+      → taken_at s (end_of session) bytes answer (with_client_end session h.end h.up h.events false h.heard now) ≡ after → Plays s base calls' after
   took_so bytes answer after h is opened well lists makes =
-      let listed : ListsCall calls calls' (Take (end_of peer) room bytes answer) = subst (λ (e : LinkEnd). ListsCall calls calls' (Take e room bytes answer)) is lists in
-      let may : MayCall s (Take (end_of peer) room bytes answer) (with_client_end peer h.end h.up h.events false h.heard now) = may_take peer h.end h.up h.events h.heard now room bytes answer roomy (ap is_group_open h.answers_are ∙ opened) h.ended_is s in
-      subst (Plays s base calls') makes (play_call s base calls calls' (with_client_end peer h.end h.up h.events false h.heard now) (Take (end_of peer) room bytes answer) listed well may h.plays)
+      let listed : ListsCall calls calls' (Take (end_of session) room bytes answer) = subst (λ (e : LinkEnd). ListsCall calls calls' (Take e room bytes answer)) is lists in
+      let may : MayCall s (Take (end_of session) room bytes answer) (with_client_end session h.end h.up h.events false h.heard now) = may_take session h.end h.up h.events h.heard now room bytes answer roomy (ap is_group_open h.answers_are ∙ opened) h.ended_is s in
+      subst (Plays s base calls') makes (play_call s base calls calls' (with_client_end session h.end h.up h.events false h.heard now) (Take (end_of session) room bytes answer) listed well may h.plays)
 
   -- memory ran out with what came
-  pub link_stops : (bytes : List ℕ) (answer : NetTaken) → (h : HearsLink peer s base calls link client answers false now) → at ≡ end_of peer → is_group_open answers ≡ true → (NetTakeFailed answer → ⊥) → ListsCall calls calls' (Take at room bytes answer) → Breaks s base calls' errors.OutOfMemory
+  pub link_stops : (bytes : List ℕ) (answer : NetTaken) → (h : HearsLink session s base calls link client answers false now) → at ≡ end_of session → is_group_open answers ≡ true → (NetTakeFailed answer → ⊥) → ListsCall calls calls' (Take at room bytes answer) → Breaks s base calls' errors.OutOfMemory
   link_stops bytes answer h is opened well lists =
-      let after : Scene = taken_at s (end_of peer) bytes answer (with_client_end peer h.end h.up h.events false h.heard now) in
+      let after : Scene = taken_at s (end_of session) bytes answer (with_client_end session h.end h.up h.events false h.heard now) in
       breaks_here s base calls' after (took_so bytes answer after h is opened well lists refl)
 
   -- or the net failed it
-  pub link_fails : (h : HearsLink peer s base calls link client answers false now) → at ≡ end_of peer → is_group_open answers ≡ true → ListsCall calls calls' (Take at room [] taken.Failed) → Breaks s base calls' errors.NetFault
+  pub link_fails : (h : HearsLink session s base calls link client answers false now) → at ≡ end_of session → is_group_open answers ≡ true → ListsCall calls calls' (Take at room [] taken.Failed) → Breaks s base calls' errors.NetFault
   link_fails h is opened lists =
-      let listed : ListsCall calls calls' (Take (end_of peer) room [] taken.Failed) = subst (λ (e : LinkEnd). ListsCall calls calls' (Take e room [] taken.Failed)) is lists in
-      let scene : Scene = with_client_end peer h.end h.up h.events false h.heard now in
-      breaks_by s base calls calls' scene (Take (end_of peer) room [] taken.Failed) listed tt (may_take peer h.end h.up h.events h.heard now room [] taken.Failed roomy (ap is_group_open h.answers_are ∙ opened) h.ended_is s) h.plays
+      let listed : ListsCall calls calls' (Take (end_of session) room [] taken.Failed) = subst (λ (e : LinkEnd). ListsCall calls calls' (Take e room [] taken.Failed)) is lists in
+      let scene : Scene = with_client_end session h.end h.up h.events false h.heard now in
+      breaks_by s base calls calls' scene (Take (end_of session) room [] taken.Failed) listed tt (may_take session h.end h.up h.events h.heard now room [] taken.Failed roomy (ap is_group_open h.answers_are ∙ opened) h.ended_is s) h.plays
 
-  pub link_got : (bytes : List ℕ) (count : ℕ) (shut : Bool) → (h : HearsLink peer s base calls link client answers false now) → at ≡ end_of peer → is_group_open answers ≡ true → ListsCall calls calls' (Take at room bytes (taken.Got count))
-      → LinkTells peer link' client' bytes h.events h.heard shut → HearsLink peer s base calls' link' client' (taken.Got count ∷ answers) shut now
+  pub link_got : (bytes : List ℕ) (count : ℕ) (shut : Bool) → (h : HearsLink session s base calls link client answers false now) → at ≡ end_of session → is_group_open answers ≡ true → ListsCall calls calls' (Take at room bytes (taken.Got count))
+      → LinkTells session link' client' bytes h.events h.heard shut → HearsLink session s base calls' link' client' (taken.Got count ∷ answers) shut now
   link_got bytes count shut h is opened lists tells =
-      let told : List Entry = heard_all (link_tells (peer_setup peer) h.events bytes) h.heard in
-      let cut : Bool = closes peer false (Fed bytes NoLookup ∷ h.events) in
-      subst (λ (b : Bool). HearsLink peer s base calls' link' client' (taken.Got count ∷ answers) b now) (sym tells.shut_is) (record {
+      let told : List Entry = heard_all (link_tells (session_setup session) h.events bytes) h.heard in
+      let cut : Bool = closes session false (Fed bytes NoLookup ∷ h.events) in
+      subst (λ (b : Bool). HearsLink session s base calls' link' client' (taken.Got count ∷ answers) b now) (sym tells.shut_is) (record {
         end = end_took bytes (taken.Got count) h.end;
         events = Fed bytes NoLookup ∷ h.events;
         up = record { put = h.up.put ++ []; taken = h.up.taken };
-        heard = told_down peer cut told;
+        heard = told_down session cut told;
         answers_are = ap (λ (l : List NetTaken). taken.Got count ∷ l) h.answers_are;
         ended_is = λ e. absurd (false≢true (h.ended_is e));
         put_is = h.put_is;
         up_is = append-nil h.up.put ∙ h.up_is;
         link_has = tells.link_has;
-        has = subst (λ (b : Bool). ClientHas client' (told_down peer b told)) tells.shut_is tells.has;
-        plays = took_so bytes (taken.Got count) _ h is opened (λ f. f) lists (took_some s h.end h.up h.events h.heard now peer bytes count);
+        has = subst (λ (b : Bool). ClientHas client' (told_down session b told)) tells.shut_is tells.has;
+        plays = took_so bytes (taken.Got count) _ h is opened (λ f. f) lists (took_some s h.end h.up h.events h.heard now session bytes count);
       })
 
-  pub link_quiet : (h : HearsLink peer s base calls link client answers false now) → at ≡ end_of peer → is_group_open answers ≡ true → ListsCall calls calls' (Take at room [] taken.Quiet) → HearsLink peer s base calls' link client (taken.Quiet ∷ answers) false now
+  pub link_quiet : (h : HearsLink session s base calls link client answers false now) → at ≡ end_of session → is_group_open answers ≡ true → ListsCall calls calls' (Take at room [] taken.Quiet) → HearsLink session s base calls' link client (taken.Quiet ∷ answers) false now
   link_quiet h is opened lists = record {
     end = end_took [] taken.Quiet h.end;
     events = h.events;
@@ -149,23 +149,23 @@ module _ (peer : Session) (s : Setting) (base : List Call) (calls calls' : Optio
     up_is = h.up_is;
     link_has = h.link_has;
     has = h.has;
-    plays = took_so [] taken.Quiet _ h is opened (λ f. f) lists (took_none s h.end h.up h.events h.heard now peer);
+    plays = took_so [] taken.Quiet _ h is opened (λ f. f) lists (took_none s h.end h.up h.events h.heard now session);
   }
 
-  pub link_end : (h : HearsLink peer s base calls link client answers false now) → at ≡ end_of peer → is_group_open answers ≡ true → ListsCall calls calls' (Take at room [] taken.End) → ClientHas client' (down_of peer ∷ h.heard)
-      → HearsLink peer s base calls' link client' (taken.End ∷ answers) true now
+  pub link_end : (h : HearsLink session s base calls link client answers false now) → at ≡ end_of session → is_group_open answers ≡ true → ListsCall calls calls' (Take at room [] taken.End) → ClientHas client' (down_of session ∷ h.heard)
+      → HearsLink session s base calls' link client' (taken.End ∷ answers) true now
   link_end h is opened lists has = record {
     end = end_took [] taken.End h.end;
     events = h.events;
     up = h.up;
-    heard = down_of peer ∷ h.heard;
+    heard = down_of session ∷ h.heard;
     answers_are = ap (λ (l : List NetTaken). taken.End ∷ l) h.answers_are;
     ended_is = λ e. refl;
     put_is = h.put_is;
     up_is = h.up_is;
     link_has = h.link_has;
     has = has;
-    plays = took_so [] taken.End _ h is opened (λ f. f) lists (took_end s h.end h.up h.events h.heard now peer);
+    plays = took_so [] taken.End _ h is opened (λ f. f) lists (took_end s h.end h.up h.events h.heard now session);
   }
 
 -- ---- Whether the link closed
@@ -174,34 +174,34 @@ closed_now : (setup : Setup) (link : Ending) (events : List (Event Lookups)) →
 closed_now setup link events is = is.stands.closed_is ∙ ap (λ (m : Setup). closed_of m events) is.made
 
 -- a link that was fed, of which the client heard whether it closed
-pub tells_settled : (peer : Session) (link : Ending) (client : UnitClient) (bytes : List ℕ) (events : List (Event Lookups)) (E : List Entry) (shut : Bool) → LinkHas (peer_setup peer) link (Fed bytes NoLookup ∷ events) → shut ≡ closes peer false (Fed bytes NoLookup ∷ events)
-    → ClientHas client (told_down peer (closes peer false (Fed bytes NoLookup ∷ events)) (heard_all (link_tells (peer_setup peer) events bytes) E)) → LinkTells peer link client bytes events E shut
-tells_settled peer link client bytes events E shut is shut_is has = record {
+pub tells_settled : (session : Session) (link : Ending) (client : UnitClient) (bytes : List ℕ) (events : List (Event Lookups)) (E : List Entry) (shut : Bool) → LinkHas (session_setup session) link (Fed bytes NoLookup ∷ events) → shut ≡ closes session false (Fed bytes NoLookup ∷ events)
+    → ClientHas client (told_down session (closes session false (Fed bytes NoLookup ∷ events)) (heard_all (link_tells (session_setup session) events bytes) E)) → LinkTells session link client bytes events E shut
+tells_settled session link client bytes events E shut is shut_is has = record {
   link_has = is;
   shut_is = shut_is;
-  has = subst (λ (b : Bool). ClientHas client (told_down peer b (heard_all (link_tells (peer_setup peer) events bytes) E))) (sym shut_is) has;
+  has = subst (λ (b : Bool). ClientHas client (told_down session b (heard_all (link_tells (session_setup session) events bytes) E))) (sym shut_is) has;
 }
 
 -- whether its connection closes is what the link keeps
-closes_now : (peer : Session) (link : Ending) (events : List (Event Lookups)) (cut shut : Bool) → LinkHas (peer_setup peer) link events → cut ≡ false → shut ≡ is_some link.closed → closes peer cut events ≡ shut
-closes_now peer link events cut shut is whole closed = ap (λ (b : Bool). not b && is_some (closed_of (peer_setup peer) events)) whole ∙ sym (closed ∙ ap (λ o. is_some o) (closed_now (peer_setup peer) link events is))
+closes_now : (session : Session) (link : Ending) (events : List (Event Lookups)) (cut shut : Bool) → LinkHas (session_setup session) link events → cut ≡ false → shut ≡ is_some link.closed → closes session cut events ≡ shut
+closes_now session link events cut shut is whole closed = ap (λ (b : Bool). not b && is_some (closed_of (session_setup session) events)) whole ∙ sym (closed ∙ ap (λ o. is_some o) (closed_now (session_setup session) link events is))
 
-pub settled_cut : (peer : Session) (link : Ending) (events : List (Event Lookups)) (cut shut : Bool) → LinkHas (peer_setup peer) link events → cut ≡ false → shut ≡ is_some link.closed → shut ≡ (cut || closes peer cut events)
-settled_cut peer link events cut shut is whole closed = sym (ap (λ (b : Bool). b || closes peer cut events) whole ∙ closes_now peer link events cut shut is whole closed)
+pub settled_cut : (session : Session) (link : Ending) (events : List (Event Lookups)) (cut shut : Bool) → LinkHas (session_setup session) link events → cut ≡ false → shut ≡ is_some link.closed → shut ≡ (cut || closes session cut events)
+settled_cut session link events cut shut is whole closed = sym (ap (λ (b : Bool). b || closes session cut events) whole ∙ closes_now session link events cut shut is whole closed)
 
-pub settled_heard : (peer : Session) (link : Ending) (client : UnitClient) (events : List (Event Lookups)) (E : List Entry) (cut shut is_shut : Bool) → LinkHas (peer_setup peer) link events → cut ≡ false → shut ≡ is_some link.closed → shut ≡ is_shut
-    → ClientHas client (told_down peer is_shut E) → ClientHas client (told_down peer (closes peer cut events) E)
-settled_heard peer link client events E cut shut is_shut is whole closed same has =
-    subst (λ (b : Bool). ClientHas client (told_down peer b E)) (sym (closes_now peer link events cut shut is whole closed ∙ same)) has
+pub settled_heard : (session : Session) (link : Ending) (client : UnitClient) (events : List (Event Lookups)) (E : List Entry) (cut shut is_shut : Bool) → LinkHas (session_setup session) link events → cut ≡ false → shut ≡ is_some link.closed → shut ≡ is_shut
+    → ClientHas client (told_down session is_shut E) → ClientHas client (told_down session (closes session cut events) E)
+settled_heard session link client events E cut shut is_shut is whole closed same has =
+    subst (λ (b : Bool). ClientHas client (told_down session b E)) (sym (closes_now session link events cut shut is whole closed ∙ same)) has
 
 -- where it was cut before
-pub settled_before : (peer : Session) (client : UnitClient) (events : List (Event Lookups)) (E : List Entry) (cut : Bool) → cut ≡ true → ClientHas client E → ClientHas client (told_down peer (closes peer cut events) E)
-settled_before peer client events E cut is has = subst (λ (b : Bool). ClientHas client (told_down peer (not b && is_some (closed_of (peer_setup peer) events)) E)) (sym is) has
+pub settled_before : (session : Session) (client : UnitClient) (events : List (Event Lookups)) (E : List Entry) (cut : Bool) → cut ≡ true → ClientHas client E → ClientHas client (told_down session (closes session cut events) E)
+settled_before session client events E cut is has = subst (λ (b : Bool). ClientHas client (told_down session (not b && is_some (closed_of (session_setup session) events)) E)) (sym is) has
 
 -- ---- What is asked
 pub asked_as : {X : Type 0} (setup : Setup) (link : Ending) (said : List ℕ) (c other asked : Connection X) → other ≡ asked → LinkSays setup link said c asked → LinkSays setup link said c other
 asked_as setup link said c other asked is says = subst (λ (k : Connection _). LinkSays setup link said c k) (sym is) says
 
 -- what was said was put at the client's end
-pub said_put : (peer : Session) (s : Setting) (base : List Call) (calls : Option (List Call)) (at : LinkEnd) (bytes said : List ℕ) (now : Scene) → at ≡ end_of peer → bytes ≡ said → Plays s base calls (end_puts at bytes now) → Plays s base calls (end_puts (end_of peer) said now)
-said_put peer s base calls at bytes said now is same plays = subst (λ (e : LinkEnd). Plays s base calls (end_puts e said now)) is (subst (λ (b : List ℕ). Plays s base calls (end_puts at b now)) same plays)
+pub said_put : (session : Session) (s : Setting) (base : List Call) (calls : Option (List Call)) (at : LinkEnd) (bytes said : List ℕ) (now : Scene) → at ≡ end_of session → bytes ≡ said → Plays s base calls (end_puts at bytes now) → Plays s base calls (end_puts (end_of session) said now)
+said_put session s base calls at bytes said now is same plays = subst (λ (e : LinkEnd). Plays s base calls (end_puts e said now)) is (subst (λ (b : List ℕ). Plays s base calls (end_puts at b now)) same plays)

@@ -1,19 +1,14 @@
 -- What the venue's side does in a turn.
-use Rattle.std.proofs.Common.{◌≡◌, ℕ, zero, suc, ◌+◌, ◌-◌, ◌≤◌, ◌<◌, true, List, [], ◌∷◌, ◌++◌, length, drop, replicate, Option, None, Some, Ok, refl, sym, ap, ◌∙◌, subst, arith}
+use Rattle.std.proofs.Common.{◌≡◌, ℕ, zero, suc, ◌+◌, ◌-◌, ◌≤◌, ◌<◌, true, List, [], ◌∷◌, ◌++◌, length, drop, replicate, Some, refl, sym, ap, ◌∙◌, subst, arith}
 use Rattle.std.specs.List.{AllByRecursion, slice_get}
 use Rattle.std.proofs.lemmas.List.{drop_all, drop_at}
 use Rattle.pitch_messages.specs.Raw.{IsRaw}
 use Rattle.unit_packets.specs.Packing.{IsPacking, packed, packed_on}
-use Rattle.pitch_model.specs.Advertising.{Operation, Accept, accepted_by, advertised_by, accepted_at}
 use Rattle.pitch_model.specs.Datagrams.{IsPiece}
 use Rattle.pitch_model.specs.History.{Raw}
 use Rattle.pitch_model.specs.Honest.{AreVenues, message_at}
-use Rattle.pitch_text.specs.declared.command.Command.{Command}
 use Rattle.venue_core.specs.Commands.{raw_of}
 use Rattle.venue_core.specs.Plan.{plan, plan_command}
-use Rattle.venue_core.specs.Refusals.{IsAnswer}
-use Rattle.venue_core.specs.Stands.{Stands}
-use Rattle.venue_core.specs.declared.error.VenueError.{VenueError}
 use Rattle.venue_core.proofs.Accepting.{all_more}
 use Rattle.venue_core.proofs.PlanBooks.{plan_length, plan_next}
 use Rattle.venue_core.proofs.PlanBytes.{plan_at_place}
@@ -28,14 +23,12 @@ use Rattle.spin_server.specs.Served.{Served}
 use Rattle.spin_server.specs.Serving.{Serving, SpinStands, spin_sends}
 use Rattle.spin_server.specs.Feeding.{SpinFeeds}
 use Rattle.spin_server.specs.Shelves.{Shelf}
-use Rattle.spin_server.specs.Stands.{ShelfStands}
 use Rattle.spin_server.specs.ShelfViews.{ShelfShows, ShelfHasOneView}
-use Rattle.world_model.specs.Connections.{KeepsShelf}
-use Rattle.world_model.proofs.SpinCarrying.{shows_view}
+use Rattle.unit_market.specs.Markets.{KeepsShelf, image_view}
+use Rattle.unit_market.proofs.Showing.{shows_view}
 use Rattle.net_edge.specs.Due.{Setting, AreDuePieces, demo_unit, kept_messages, accepted, messages, new_datagrams, advertised_until}
-use Rattle.net_edge.specs.Markets.{StillHas, MarketHas, MarketAt, HasAccepted, PlainHas, SpinFed, gap_source, image_view}
+use Rattle.net_edge.specs.Markets.{StillHas, SideHas, SideAt, HasAccepted, SpinFed, gap_source}
 use Rattle.net_edge.specs.Scene.{Scene}
-use Rattle.net_edge.specs.declared.plain.PlainMarket.{PlainMarket}
 use Rattle.net_edge.proofs.Feeding.{messages_many}
 
 -- the plan's messages of one command more
@@ -44,31 +37,7 @@ plan_step number unit index some =
     let e : index ≡ suc (index - 1) = omega (arith, some) in
     plan_next number unit (index - 1) index e
 
-pub same_answer : (o : Option VenueError) (wanted given : Raw) → IsAnswer o wanted (Ok given) → given ≡ wanted
-same_answer None wanted given is = is
-same_answer (Some error) wanted given is = absurd cc
-
 -- ---- The plain side
--- a message was accepted, and proxy and Spin Server can look it up
-pub accepts : (old new : PlainMarket) (command : Command) (raw : Raw) (refused : Option VenueError) (before : List Raw) (advertised : List ℕ) → PlainHas old before advertised
-    → IsAnswer refused (raw_of command) (Ok raw) → Stands new.venue (before ++ raw ∷ []) 0
-    → ((v : View) → old.store ≡ store_of v → new.store ≡ store_of (record { messages = v.messages ++ raw ∷ []; kept = v.kept }))
-    → ((operations : List Operation) → ShelfStands old.shelf operations → ShelfStands new.shelf (operations ++ Accept raw ∷ []))
-    → ((operations : List Operation) (operation : Operation) → accepted_by (operations ++ operation ∷ []) ≡ accepted_by operations ++ accepted_at operation)
-    → ((operations : List Operation) (raw : Raw) → advertised_by (operations ++ Accept raw ∷ []) ≡ advertised_by operations)
-    → PlainHas new (before ++ raw_of command ∷ []) advertised
-accepts old new command raw refused before advertised has answer stands stores shelves adds still =
-    subst (λ (r : Raw). PlainHas new (before ++ r ∷ []) advertised) (same_answer refused (raw_of command) raw answer) (record {
-      venue = stands;
-      store_is = stores _ has.store_is;
-      shelf = record {
-        operations = has.shelf.operations ++ Accept raw ∷ [];
-        accepted_is = adds has.shelf.operations (Accept raw) ∙ ap (λ (rs : List Raw). rs ++ raw ∷ []) has.shelf.accepted_is;
-        advertised_is = still has.shelf.operations raw ∙ has.shelf.advertised_is;
-        stands = shelves has.shelf.operations has.shelf.stands;
-      };
-    })
-
 -- its store is seen at one view by all messages of a piece
 pub plain_answered : (messages : List Raw) (store store' : Store) (limits : Limits) (spent : Spent) (es : List (Event Source)) (piece : List ℕ) (old new : Ending) (counted : Spent → Type 0) (said said' : List ℕ) (lines lines' : List (List ℕ))
     → StoreHasOneView → store ≡ store_of (record { messages = messages; kept = kept_messages }) → store' ≡ store
@@ -98,17 +67,17 @@ plain_fed messages advertised shelf shelf' es piece old new said said' one keeps
 
 -- ---- Any venue's side in a turn
 -- what it had, in whatever way, it still has
-pub still_at : {M : Type 0} (has : M → List Raw → List ℕ → Type 0) (s : Setting) (turn : ℕ) (old new : M) → StillHas has old new → MarketAt has s old turn → MarketAt has s new turn
+pub still_at : {M : Type 0} (has : M → List Raw → List ℕ → Type 0) (s : Setting) (turn : ℕ) (old new : M) → StillHas has old new → SideAt has s old turn → SideAt has s new turn
 still_at has s turn old new still at = record { is = still (messages s turn) (advertised_until s turn) at.is; raws = at.raws; few = at.few }
 
 -- as a scene of the turn has it
-pub at_turn : {M : Type 0} (has : M → List Raw → List ℕ → Type 0) (s : Setting) (turn : ℕ) (market : M) (now : Scene) → MarketAt has s market turn → now.turn ≡ turn → MarketAt has s market now.turn
-at_turn has s turn market now at same = subst (MarketAt has s market) (sym same) at
+pub at_turn : {M : Type 0} (has : M → List Raw → List ℕ → Type 0) (s : Setting) (turn : ℕ) (market : M) (now : Scene) → SideAt has s market turn → now.turn ≡ turn → SideAt has s market now.turn
+at_turn has s turn market now at same = subst (SideAt has s market) (sym same) at
 
 -- in a turn up to the count the plan's next message is said
 pub said_at : {M : Type 0} (has : M → List Raw → List ℕ → Type 0) (s : Setting) (turn : ℕ) (old : M) (raw : Raw) → 1 ≤ turn → turn ≤ s.count
     → ((advertised : List ℕ) → has old (plan s.number demo_unit (turn - 1)) advertised → raw ≡ raw_of (plan_command s.number demo_unit turn))
-    → MarketAt has s old (turn - 1) → raw ≡ raw_of (plan_command s.number demo_unit turn)
+    → SideAt has s old (turn - 1) → raw ≡ raw_of (plan_command s.number demo_unit turn)
 said_at has s turn old raw some within said at =
     let before : accepted s (turn - 1) ≡ turn - 1 = omega (arith, some, within) in
     said (advertised_until s (turn - 1)) (subst (λ (k : ℕ). has old (plan s.number demo_unit k) (advertised_until s (turn - 1))) before at.is)
@@ -117,7 +86,7 @@ said_at has s turn old raw some within said at =
 pub accepted_more : {M : Type 0} (has : M → List Raw → List ℕ → Type 0) (s : Setting) (turn : ℕ) (old new : M) (raw : Raw) → 1 ≤ turn → turn ≤ s.count → s.count ≤ 1000 → IsRaw raw
     → ((advertised : List ℕ) → has old (plan s.number demo_unit (turn - 1)) advertised → raw ≡ raw_of (plan_command s.number demo_unit turn))
     → ((advertised : List ℕ) → has old (plan s.number demo_unit (turn - 1)) advertised → has new (plan s.number demo_unit turn) advertised)
-    → MarketAt has s old (turn - 1) → HasAccepted has s new turn
+    → SideAt has s old (turn - 1) → HasAccepted has s new turn
 accepted_more has s turn old new raw some within few is_raw said keeps at =
     let before : accepted s (turn - 1) ≡ turn - 1 = omega (arith, some, within) in
     let now : accepted s turn ≡ turn = omega (arith, within) in
@@ -133,10 +102,10 @@ accepted_more has s turn old new raw some within few is_raw said keeps at =
     }
 
 -- after it none
-pub accepted_all : {M : Type 0} (has : M → List Raw → List ℕ → Type 0) (s : Setting) (turn : ℕ) (market : M) → s.count < turn → MarketAt has s market (turn - 1) → HasAccepted has s market turn
+pub accepted_all : {M : Type 0} (has : M → List Raw → List ℕ → Type 0) (s : Setting) (turn : ℕ) (market : M) → s.count < turn → SideAt has s market (turn - 1) → HasAccepted has s market turn
 accepted_all has s turn market all at =
     let same : accepted s (turn - 1) ≡ accepted s turn = omega (arith, all) in
-    subst (λ (k : ℕ). MarketHas has market (plan s.number demo_unit k) (advertised_until s (turn - 1))) same at
+    subst (λ (k : ℕ). SideHas has market (plan s.number demo_unit k) (advertised_until s (turn - 1))) same at
 
 -- ---- A turn's datagrams
 -- the message of a turn is the last that was accepted

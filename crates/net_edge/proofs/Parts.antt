@@ -18,7 +18,7 @@ use Rattle.net_edge.specs.Due.{Setting}
 use Rattle.pitch_model.specs.History.{Entry}
 use Rattle.net_edge.specs.Playing.{ClientHas, EndsHave, DemoAt, Plays, ProxyServes, SpinServes, HearsOn, HearsLink, LinkAt, IsSentTo, IsUncalled, IsGroupOver, AreTaken, ServersDone, LinesDone, with_proxy}
 use Rattle.net_edge.specs.Scene.{Scene, OnLine, AtEnd, line_in, with_line, at_end, said_at}
-use Rattle.net_edge.specs.Peers.{end_of, peer_setup, with_client_end}
+use Rattle.net_edge.specs.Sessions.{end_of, session_setup, with_client_end}
 use Rattle.net_edge.specs.Turns.{IsOver}
 use Rattle.net_edge.specs.declared.ends.Ends.{Ends}
 use Rattle.net_edge.specs.declared.proxy.Proxy.{Proxy}
@@ -142,10 +142,10 @@ module _ (s : Setting) (base : List Call) where
   with_link Grp link client cut e = record e { gap_link = link; client = client; grp_cut = cut }
   with_link Spin link client cut e = record e { spin_link = link; client = client; spin_cut = cut }
 
-  link_begins : (peer : Session) (calls : Option (List Call)) (link : Ending) (client : UnitClient) (cut cut' : Bool) (end : AtEnd) (up : Pipe) (events : List (Event Lookups)) (now : Scene)
-      → LinkAt (peer_setup peer) link cut end cut' events up.put → ClientHas client now.heard → end.answers ≡ [] → end.put ≡ (at_end (end_of peer) now).put → up.put ≡ said_at (end_of peer) now
-      → Plays s base calls (with_client_end peer end up events cut' now.heard now) → HearsLink peer s base calls link client [] cut now
-  link_begins peer calls link client cut cut' end up events now has heard none put_is up_is plays = record {
+  link_begins : (session : Session) (calls : Option (List Call)) (link : Ending) (client : UnitClient) (cut cut' : Bool) (end : AtEnd) (up : Pipe) (events : List (Event Lookups)) (now : Scene)
+      → LinkAt (session_setup session) link cut end cut' events up.put → ClientHas client now.heard → end.answers ≡ [] → end.put ≡ (at_end (end_of session) now).put → up.put ≡ said_at (end_of session) now
+      → Plays s base calls (with_client_end session end up events cut' now.heard now) → HearsLink session s base calls link client [] cut now
+  link_begins session calls link client cut cut' end up events now has heard none put_is up_is plays = record {
     end = end;
     events = events;
     up = up;
@@ -156,22 +156,22 @@ module _ (s : Setting) (base : List Call) where
     up_is = up_is;
     link_has = has.has;
     has = heard;
-    plays = subst (λ (b : Bool). Plays s base calls (with_client_end peer end up events b now.heard now)) (sym has.cut_is) plays;
+    plays = subst (λ (b : Bool). Plays s base calls (with_client_end session end up events b now.heard now)) (sym has.cut_is) plays;
   }
 
-  pub hears_begins : (peer : Session) (calls : Option (List Call)) (e : Ends) (now : Scene) → DemoAt s base calls e now → (at_end (end_of peer) now).answers ≡ [] → HearsLink peer s base calls (link_of peer e) e.client [] (cut_of peer e) now
+  pub hears_begins : (session : Session) (calls : Option (List Call)) (e : Ends) (now : Scene) → DemoAt s base calls e now → (at_end (end_of session) now).answers ≡ [] → HearsLink session s base calls (link_of session e) e.client [] (cut_of session e) now
   hears_begins Grp calls e now at none = link_begins Grp calls e.gap_link e.client e.grp_cut now.grp_cut now.grp_client now.grp.up now.grp.link now at.has.gap_link at.has.client none refl refl at.plays
   hears_begins Spin calls e now at none = link_begins Spin calls e.spin_link e.client e.spin_cut now.spin_cut now.spin_client now.spin.up now.spin.link now at.has.spin_link at.has.client none refl refl at.plays
 
-  abbrev pub link_heard : (peer : Session) (calls : Option (List Call)) (link : Ending) (client : UnitClient) (answers : List NetTaken) (cut : Bool) (now : Scene) → HearsLink peer s base calls link client answers cut now → Scene
-  link_heard peer calls link client answers cut now h = with_client_end peer h.end h.up h.events cut h.heard now
+  abbrev pub link_heard : (session : Session) (calls : Option (List Call)) (link : Ending) (client : UnitClient) (answers : List NetTaken) (cut : Bool) (now : Scene) → HearsLink session s base calls link client answers cut now → Scene
+  link_heard session calls link client answers cut now h = with_client_end session h.end h.up h.events cut h.heard now
 
-  link_ends : (peer : Session) (calls : Option (List Call)) (link : Ending) (client : UnitClient) (answers : List NetTaken) (cut : Bool) (now : Scene) → (h : HearsLink peer s base calls link client answers cut now)
-      → (at_end (end_of peer) now).put ≡ said_at (end_of peer) now → LinkAt (peer_setup peer) link cut h.end cut h.events h.up.put
-  link_ends peer calls link client answers cut now h put = record { has = h.link_has; cut_is = refl; ended = h.ended_is; put_is = h.put_is ∙ put ∙ sym h.up_is }
+  link_ends : (session : Session) (calls : Option (List Call)) (link : Ending) (client : UnitClient) (answers : List NetTaken) (cut : Bool) (now : Scene) → (h : HearsLink session s base calls link client answers cut now)
+      → (at_end (end_of session) now).put ≡ said_at (end_of session) now → LinkAt (session_setup session) link cut h.end cut h.events h.up.put
+  link_ends session calls link client answers cut now h put = record { has = h.link_has; cut_is = refl; ended = h.ended_is; put_is = h.put_is ∙ put ∙ sym h.up_is }
 
-  pub hears_ends : (peer : Session) (calls : Option (List Call)) (e : Ends) (link : Ending) (client : UnitClient) (answers : List NetTaken) (cut : Bool) (now : Scene) → EndsHave e now → (h : HearsLink peer s base calls link client answers cut now)
-      → DemoAt s base calls (with_link peer link client cut e) (link_heard peer calls link client answers cut now h)
+  pub hears_ends : (session : Session) (calls : Option (List Call)) (e : Ends) (link : Ending) (client : UnitClient) (answers : List NetTaken) (cut : Bool) (now : Scene) → EndsHave e now → (h : HearsLink session s base calls link client answers cut now)
+      → DemoAt s base calls (with_link session link client cut e) (link_heard session calls link client answers cut now h)
   hears_ends Grp calls e link client answers cut now has h = record {
     has = record {
       proxy = has.proxy;

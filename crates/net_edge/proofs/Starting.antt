@@ -11,7 +11,7 @@ use Rattle.venue_core.specs.Plan.{plan}
 use Rattle.net_edge.specs.Acting.{end_puts}
 use Rattle.net_edge.specs.Demo.{IsLast}
 use Rattle.net_edge.specs.Due.{Setting, demo_unit, accepted, messages}
-use Rattle.net_edge.specs.Markets.{MarketHas, MarketAt}
+use Rattle.net_edge.specs.Markets.{SideHas, SideAt}
 use Rattle.net_edge.specs.Playing.{Plays, IsSentTo, IsUncalled, calls_before}
 use Rattle.net_edge.specs.Scene.{Scene, first_scene, all_put, said_at}
 use Rattle.net_edge.specs.Turns.{MayGoOn, client_status}
@@ -42,11 +42,11 @@ none_planned : (number unit : ℕ) → plan number unit 0 ≡ []
 unfolding plan
 none_planned number unit = refl
 
-pub market_first : {M : Type 0} (has : M → List Raw → List ℕ → Type 0) (s : Setting) (market : M) → has market [] [] → MarketAt has s market 0
+pub market_first : {M : Type 0} (has : M → List Raw → List ℕ → Type 0) (s : Setting) (market : M) → has market [] [] → SideAt has s market 0
 market_first has s market is =
     let none : accepted s 0 ≡ 0 = omega arith in
     let empty : [] ≡ messages s 0 = sym (ap (plan s.number demo_unit) none ∙ none_planned s.number demo_unit) in
-    subst (λ (V : List Raw). MarketHas has market V []) empty (record { is = is; raws = tt; few = omega arith })
+    subst (λ (V : List Raw). SideHas has market V []) empty (record { is = is; raws = tt; few = omega arith })
 
 pub sent_first : (s : Setting) → IsSentTo s 0 (all_put first_scene)
 sent_first s = record { on_a = refl; on_b = refl; ticked = refl }

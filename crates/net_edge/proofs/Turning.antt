@@ -19,7 +19,7 @@ use Rattle.pitch_model.specs.History.{Raw}
 use Rattle.venue_core.specs.Losses.{is_lost}
 use Rattle.net_edge.specs.Acting.{is_group_open, sent_on, all_tick, next_turn}
 use Rattle.net_edge.specs.Due.{Setting, IsDuePiece, AreDuePieces, demo_unit, accepted, advertised_until, beat, beats, copies, due, is_tenth, messages, new_datagrams, ticks}
-use Rattle.net_edge.specs.Markets.{MarketHas, MarketAt, HasAccepted}
+use Rattle.net_edge.specs.Markets.{SideHas, SideAt, HasAccepted}
 use Rattle.net_edge.specs.Playing.{EndsHave, DemoAt, Plays, IsSentTo, IsUncalled, after_beat, after_due_beat}
 use Rattle.net_edge.specs.Scene.{Scene, OnLine, line_in, at_end, said_at, all_put}
 use Rattle.net_edge.specs.Turns.{IsOver, MayGoOn, IsEndOver}
@@ -170,8 +170,8 @@ module _ (s : Setting) (base : List Call) where
       → lost_a ≡ is_lost s.number demo_unit turn 1 → lost_b ≡ is_lost s.number demo_unit turn 2 → given_a ≡ new_datagrams s turn → given_b ≡ new_datagrams s turn → HasAccepted has s market turn
       → ((n : Scene) → n.turn ≡ turn → Plays s base c0 n → Plays s base c1 (sent_on A (cond lost_a [] given_a) n))
       → ((n : Scene) → n.turn ≡ turn → Plays s base c1 n → Plays s base c2 (sent_on B (cond lost_b [] given_b) n))
-      → ((n : Scene) → n.turn ≡ turn → DemoAt s base c2 e n → HasAccepted has s market turn → DemoAt s base c3 e' (after_due_beat s n) × MarketAt has s market' turn)
-      → (after : Scene) × (after.turn ≡ turn) × DemoAt s base c3 e' after × MarketAt has s market' turn × IsSentTo s turn after × IsUncalled after
+      → ((n : Scene) → n.turn ≡ turn → DemoAt s base c2 e n → HasAccepted has s market turn → DemoAt s base c3 e' (after_due_beat s n) × SideAt has s market' turn)
+      → (after : Scene) × (after.turn ≡ turn) × DemoAt s base c3 e' after × SideAt has s market' turn × IsSentTo s turn after × IsUncalled after
   published has turn c0 c1 c2 c3 e e' market market' lost_a lost_b given_a given_b now some turn_is at before none by_a by_b are_a are_b flushed send_a send_b beat_on =
       let on_a : cond lost_a [] given_a ≡ copies s A turn = ap (λ (b : Bool). cond b [] given_a) by_a ∙ ap (λ (ds : List (List ℕ)). cond (is_lost s.number demo_unit turn 1) [] ds) are_a in
       let on_b : cond lost_b [] given_b ≡ copies s B turn = ap (λ (b : Bool). cond b [] given_b) by_b ∙ ap (λ (ds : List (List ℕ)). cond (is_lost s.number demo_unit turn 2) [] ds) are_b in
@@ -190,15 +190,15 @@ module _ (s : Setting) (base : List Call) where
       )
 
   -- ---- Another turn
-  pub turn_again : {M : Type 0} (has : M → List Raw → List ℕ → Type 0) (turn next : ℕ) (calls : Option (List Call)) (e : Ends) (market : M) (now : Scene) → next ≡ turn + 1 → now.turn ≡ turn → DemoAt s base calls e now → MarketAt has s market turn → IsOver s now → MayGoOn s now
-      → (n : Scene) × (n.turn ≡ next) × DemoAt s base calls e n × MarketAt has s market (next - 1) × IsSentTo s (next - 1) n × IsUncalled n
+  pub turn_again : {M : Type 0} (has : M → List Raw → List ℕ → Type 0) (turn next : ℕ) (calls : Option (List Call)) (e : Ends) (market : M) (now : Scene) → next ≡ turn + 1 → now.turn ≡ turn → DemoAt s base calls e now → SideAt has s market turn → IsOver s now → MayGoOn s now
+      → (n : Scene) × (n.turn ≡ next) × DemoAt s base calls e n × SideAt has s market (next - 1) × IsSentTo s (next - 1) n × IsUncalled n
   turn_again has turn next calls e market now next_is turn_is at stands over goes =
       let back : turn ≡ next - 1 = omega (arith, next_is) in
       let begins : suc now.turn ≡ next = omega (arith, next_is, turn_is) in (
         next_turn now,
         begins,
         turn_next s base calls e now at over goes,
-        subst (MarketAt has s market) back stands,
+        subst (SideAt has s market) back stands,
         subst (λ (t : ℕ). IsSentTo s t (next_turn now)) (turn_is ∙ back) (sent_so s now over),
         uncalled_so now,
       )
@@ -229,15 +229,15 @@ pieces_in_turn s turn flushed pieces list now at_turn is =
 -- at a tenth turn it is advertised
 pub advertised_is : {M : Type 0} (has : M → List Raw → List ℕ → Type 0) (s : Setting) (turn : ℕ) (old new : M) → 1 ≤ turn → is_tenth turn ≡ true → HasAccepted has s old turn
     → (has old (messages s turn) (advertised_until s (turn - 1)) → has new (messages s turn) (with_sequence (advertised_until s (turn - 1)) (length (messages s turn))))
-    → MarketAt has s new turn
+    → SideAt has s new turn
 advertised_is has s turn old new some tenth at advertises = record {
   is = subst (has new (messages s turn)) (ap (with_sequence (advertised_until s (turn - 1))) (messages_many s turn) ∙ advertised_tenth s turn some tenth) (advertises at.is);
   raws = at.raws;
   few = at.few;
 }
 
-pub advertised_still : {M : Type 0} (has : M → List Raw → List ℕ → Type 0) (s : Setting) (turn : ℕ) (market : M) → is_tenth turn ≡ false → HasAccepted has s market turn → MarketAt has s market turn
-advertised_still has s turn market other at = subst (MarketHas has market (messages s turn)) (advertised_other s turn other) at
+pub advertised_still : {M : Type 0} (has : M → List Raw → List ℕ → Type 0) (s : Setting) (turn : ℕ) (market : M) → is_tenth turn ≡ false → HasAccepted has s market turn → SideAt has s market turn
+advertised_still has s turn market other at = subst (SideHas has market (messages s turn)) (advertised_other s turn other) at
 
 -- the heartbeat of a tenth turn tells the sequence after all that was accepted, and is a piece
 pub heartbeat_is : (s : Setting) (turn sequence next : ℕ) (heartbeat : List ℕ) → length (messages s turn) ≤ last_sequence → sequence ≡ length (messages s turn) → next ≡ min (sequence + 1) (2 ^ 32 - 1) → heartbeat ≡ block_bytes (heartbeat_block demo_unit next) → heartbeat ≡ beat s turn

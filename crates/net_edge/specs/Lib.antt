@@ -6,5 +6,5 @@ pub mod Acting
 pub mod Turns
 pub mod Breaking
 pub mod Demo
-pub mod Peers
+pub mod Sessions
 pub mod Playing

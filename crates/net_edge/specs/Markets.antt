@@ -3,7 +3,7 @@ use Rattle.std.specs.Prelude.{◌≡◌, ◌≤◌, ◌-◌, ◌++◌, ℕ, true
 use Rattle.std.specs.List.{AllByRecursion}
 use Rattle.pitch_fields.specs.Limits.{last_sequence}
 use Rattle.pitch_messages.specs.Raw.{IsRaw}
-use Rattle.pitch_model.specs.Advertising.{Operation, accepted_by, advertised_by, last_ten}
+use Rattle.pitch_model.specs.Advertising.{Operation, accepted_by, advertised_by}
 use Rattle.pitch_model.specs.History.{Raw}
 use Rattle.session_ends.specs.Events.{Event, Fed}
 use Rattle.session_ends.specs.Sending.{new_items}
@@ -11,11 +11,10 @@ use Rattle.grp_session.specs.Budget.{Limits, Spent}
 use Rattle.grp_session.specs.Serving.{Source}
 use Rattle.spin_server.specs.Served.{Served}
 use Rattle.spin_server.specs.Serving.{Serving, SpinStands, spin_sends}
-use Rattle.gap_store.specs.Look.{store_of}
-use Rattle.venue_core.specs.Stands.{Stands}
-use Rattle.world_model.specs.Connections.{KeepsShelf}
-use Rattle.net_edge.specs.Due.{Setting, kept_messages, messages, advertised_until}
-use Rattle.net_edge.specs.declared.plain.PlainMarket.{PlainMarket}
+use Rattle.unit_market.specs.Markets.{MarketHas}
+use Rattle.unit_market.specs.Standing.{MarketState}
+use Rattle.net_edge.specs.Due.{Setting, demo_unit, kept_messages, messages}
+use Rattle.net_edge.specs.Due.{advertised_until}
 
 -- ---- Any venue's side
 -- it has all that it had
@@ -26,23 +25,23 @@ StillHas has old new =
 
 -- it has these messages, which are raws and no more than have sequences, and these sequences were
 -- advertised
-pub record MarketHas {M : Type 0} (has : M → List Raw → List ℕ → Type 0)
+pub record SideHas {M : Type 0} (has : M → List Raw → List ℕ → Type 0)
     (market : M) (messages : List Raw) (advertised : List ℕ) : Type 0 where
   pub is : has market messages advertised
   pub raws : AllByRecursion IsRaw messages
   pub few : length messages ≤ last_sequence
 
 -- so it is at a turn's end
-abbrev pub MarketAt : {M : Type 0}
+abbrev pub SideAt : {M : Type 0}
     → (M → List Raw → List ℕ → Type 0) → Setting → M → ℕ → Type 0
-MarketAt has s market turn =
-    MarketHas has market (messages s turn) (advertised_until s turn)
+SideAt has s market turn =
+    SideHas has market (messages s turn) (advertised_until s turn)
 
 -- and in a turn, when its message was accepted and nothing advertised yet
 abbrev pub HasAccepted : {M : Type 0}
     → (M → List Raw → List ℕ → Type 0) → Setting → M → ℕ → Type 0
 HasAccepted has s market turn =
-    MarketHas has market (messages s turn) (advertised_until s (turn - 1))
+    SideHas has market (messages s turn) (advertised_until s (turn - 1))
 
 -- ---- What the servers answer from
 -- the proxy, each message of a piece: all messages, of which so many of the last are kept
@@ -55,11 +54,6 @@ gap_source messages limits spent es piece = record {
   spent = spent;
 }
 
--- the Spin Server: all messages, and of the sequences the last ten
-abbrev pub image_view : List Raw → List ℕ → Served
-image_view messages advertised =
-    record { messages = messages; advertised = last_ten advertised }
-
 -- it was fed a piece, each message of which was answered at this view
 pub record SpinFed (es : List (Event (List Served))) (piece : List ℕ) (view : Served)
     (old new : Serving) (said said' : List ℕ) : Type 0 where
@@ -68,12 +62,10 @@ pub record SpinFed (es : List (Event (List Served))) (piece : List ℕ) (view : 
       (Fed piece (replicate (length (new_items es piece)) view)) es
 
 -- ---- The plain side
--- the venue accepted these messages, and its store and its shelf have them
-pub record PlainHas (market : PlainMarket) (messages : List Raw) (advertised : List ℕ) :
-    Type 0 where
-  pub venue : Stands market.venue messages 0
-  pub store_is : market.store ≡ store_of (record { messages = messages; kept = kept_messages })
-  pub shelf : KeepsShelf market.shelf messages advertised
+-- the market of the demo's unit has these messages, of which none was sent, and these sequences
+abbrev pub PlainHas : MarketState → List Raw → List ℕ → Type 0
+PlainHas market messages advertised =
+    MarketHas market demo_unit kept_messages messages 0 advertised
 
 -- ---- The shared side
 -- these were accepted and advertised in its history

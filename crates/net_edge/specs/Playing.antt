@@ -36,7 +36,7 @@ use Rattle.net_edge.specs.Acting.{all_tick}
 use Rattle.net_edge.specs.Due.{Setting, demo_unit, hold_limit, request_limits, beat, due, is_tenth}
 use Rattle.net_edge.specs.Due.{ticks}
 use Rattle.net_edge.specs.Scene.{Scene, OnLine, AtEnd, line_in, with_line, at_end, said_at, all_put}
-use Rattle.net_edge.specs.Peers.{end_of, peer_setup, with_client_end}
+use Rattle.net_edge.specs.Sessions.{end_of, session_setup, with_client_end}
 use Rattle.net_edge.specs.Steps.{Step, calls_of}
 use Rattle.net_edge.specs.Breaking.{Breaks}
 use Rattle.net_edge.specs.Demo.{IsDemo, BreaksDemo}
@@ -197,35 +197,35 @@ pub record SpinSays (spin : Serving) (said : List ℕ) (before after : Connectio
 
 -- a connection that stands closes at its link
 abbrev pub closes : Session → Bool → List (Event Lookups) → Bool
-closes peer cut events = not cut && is_some (closed_of (peer_setup peer) events)
+closes session cut events = not cut && is_some (closed_of (session_setup session) events)
 
 -- where it closes, the client hears that it is down
 abbrev pub told_down : Session → Bool → List Entry → List Entry
-told_down peer shut E = if shut then down_of peer ∷ E else E
+told_down session shut E = if shut then down_of session ∷ E else E
 
 -- a link was fed bytes, and the client heard what it told, and that it is down where it closed
-pub record LinkTells (peer : Session) (link : Ending) (client : UnitClient)
+pub record LinkTells (session : Session) (link : Ending) (client : UnitClient)
     (bytes : List ℕ) (events : List (Event Lookups)) (E : List Entry) (shut : Bool) : Type 0 where
-  pub link_has : LinkHas (peer_setup peer) link (Fed bytes NoLookup ∷ events)
-  pub shut_is : shut ≡ closes peer false (Fed bytes NoLookup ∷ events)
+  pub link_has : LinkHas (session_setup session) link (Fed bytes NoLookup ∷ events)
+  pub shut_is : shut ≡ closes session false (Fed bytes NoLookup ∷ events)
   pub has : ClientHas client
-      (told_down peer shut (heard_all (link_tells (peer_setup peer) events bytes) E))
+      (told_down session shut (heard_all (link_tells (session_setup session) events bytes) E))
 
 -- the client heard what one of its links took
-pub record HearsLink (peer : Session) (s : Setting) (base : List Call) (calls : Option (List Call))
-    (link : Ending) (client : UnitClient) (answers : List NetTaken) (cut : Bool) (now : Scene) :
-    Type 0 where
+pub record HearsLink (session : Session) (s : Setting) (base : List Call)
+    (calls : Option (List Call)) (link : Ending) (client : UnitClient)
+    (answers : List NetTaken) (cut : Bool) (now : Scene) : Type 0 where
   pub end : AtEnd
   pub events : List (Event Lookups)
   pub up : Pipe
   pub heard : List Entry
   pub answers_are : end.answers ≡ answers
   pub ended_is : end.ended ≡ true → cut ≡ true
-  pub put_is : end.put ≡ (at_end (end_of peer) now).put
-  pub up_is : up.put ≡ said_at (end_of peer) now
-  pub link_has : LinkHas (peer_setup peer) link events
+  pub put_is : end.put ≡ (at_end (end_of session) now).put
+  pub up_is : up.put ≡ said_at (end_of session) now
+  pub link_has : LinkHas (session_setup session) link events
   pub has : ClientHas client heard
-  pub plays : Plays s base calls (with_client_end peer end up events cut heard now)
+  pub plays : Plays s base calls (with_client_end session end up events cut heard now)
 
 -- ---- Ticks: an end made a connection of another, and what it said by that
 pub record ProxySays (proxy : Proxy)
@@ -255,19 +255,21 @@ pub record SpinActs (s : Setting) (base : List Call) (calls : Option (List Call)
   pub is : SpinSays spin said before after
   pub plays : Plays s base calls (end_puts SpinServer said now)
 
-pub record LinkActs (peer : Session) (s : Setting) (base : List Call) (calls : Option (List Call))
-    (link : Ending) (before after : Connection (LooksIn peer)) (now : Scene) : Type 0 where
+pub record LinkActs (session : Session) (s : Setting) (base : List Call)
+    (calls : Option (List Call)) (link : Ending)
+    (before after : Connection (LooksIn session)) (now : Scene) : Type 0 where
   pub said : List ℕ
-  pub is : LinkSays (peer_setup peer) link said before after
-  pub plays : Plays s base calls (end_puts (end_of peer) said now)
+  pub is : LinkSays (session_setup session) link said before after
+  pub plays : Plays s base calls (end_puts (end_of session) said now)
 
 -- a link ticked where its connection stands; the client heard where it closed then, and it is cut
-pub record LinkTicks (peer : Session) (s : Setting) (base : List Call) (calls : Option (List Call))
-    (link : Ending) (client : UnitClient) (before after : Connection (LooksIn peer))
-    (E : List Entry) (cut cut' : Bool) (now : Scene) : Type 0 where
-  pub acts : LinkActs peer s base calls link before after now
-  pub cut_is : cut' ≡ (cut || closes peer cut after.link)
-  pub has : ClientHas client (told_down peer (closes peer cut after.link) E)
+pub record LinkTicks (session : Session) (s : Setting) (base : List Call)
+    (calls : Option (List Call)) (link : Ending) (client : UnitClient)
+    (before after : Connection (LooksIn session)) (E : List Entry) (cut cut' : Bool) (now : Scene) :
+    Type 0 where
+  pub acts : LinkActs session s base calls link before after now
+  pub cut_is : cut' ≡ (cut || closes session cut after.link)
+  pub has : ClientHas client (told_down session (closes session cut after.link) E)
 
 -- a link in the code is that of a scene: it is cut where its connection is, an end that got End is
 -- cut, and all that it said was put

@@ -6,7 +6,7 @@ ghost use Rattle.pitch_io.specs.Nets.{Call};
 ghost use Rattle.net_edge.specs.Acting.{all_tick};
 ghost use Rattle.net_edge.specs.Breaking.{Breaks};
 ghost use Rattle.net_edge.specs.Due.{Setting, setting, call_room, accepted, is_tenth};
-ghost use Rattle.net_edge.specs.Markets.{MarketAt, HasAccepted};
+ghost use Rattle.net_edge.specs.Markets.{SideAt, HasAccepted};
 ghost use Rattle.net_edge.specs.Playing.{NetCounts, Plays, BreaksRun, EndsHave};
 ghost use Rattle.net_edge.specs.Playing.{IsUncalled, IsSentTo, DemoAt, VenueDone};
 ghost use Rattle.net_edge.specs.Playing.{ServersDone, LinesDone, after_beat, after_due_beat};
@@ -16,7 +16,7 @@ ghost use Rattle.net_edge.specs.Turns.{IsOver};
 use crate::error::DemoError;
 use crate::lines::hear_line;
 use crate::links::{ask_link, hear_link, tick_link};
-use crate::market::{Market, accept_next};
+use crate::market::{VenueSide, accept_next};
 use crate::proxy::{Proxy, tick_proxy};
 use crate::putting::{send, send_unless};
 use crate::server_end::serve_end;
@@ -82,13 +82,13 @@ impl Ends {
     }
 
     // An image is advertised, the turn's heartbeat is sent, and a second passes.
-    fn beat<N: Net, M: Market>(&mut self, net: &mut N, market: &mut M) -> Result<(), DemoError>
+    fn beat<N: Net, M: VenueSide>(&mut self, net: &mut N, market: &mut M) -> Result<(), DemoError>
         ensures beaten { OnOk result ((s : Setting) (base : List Call) (now : Scene)
             → DemoAt s base (N.calls net.old) self.old now
             → HasAccepted M.has s market.old now.turn
             → 1 ≤ now.turn → is_tenth now.turn ≡ true
             → DemoAt s base (N.calls net.new) self.new (after_beat s now)
-            × MarketAt M.has s market.new now.turn) }
+            × SideAt M.has s market.new now.turn) }
         ensures broke { IfErr result (λ error. (s : Setting) (base : List Call) (now : Scene)
             → Plays s base (N.calls net.old) now → HasAccepted M.has s market.old now.turn
             → Breaks s base (N.calls net.new) error) }
@@ -108,7 +108,7 @@ impl Ends {
     }
 
     // Does what `beat` does, in every tenth turn.
-    fn beat_if_tenth<N: Net, M: Market>(
+    fn beat_if_tenth<N: Net, M: VenueSide>(
         &mut self,
         net: &mut N,
         market: &mut M,
@@ -119,7 +119,7 @@ impl Ends {
             → now.turn ≡ turn → DemoAt s base (N.calls net.old) self.old now
             → HasAccepted M.has s market.old turn
             → DemoAt s base (N.calls net.new) self.new (after_due_beat s now)
-            × MarketAt M.has s market.new turn) }
+            × SideAt M.has s market.new turn) }
         ensures broke { IfErr result (λ error. (s : Setting) (base : List Call) (now : Scene)
             → now.turn ≡ turn → Plays s base (N.calls net.old) now
             → HasAccepted M.has s market.old turn → Breaks s base (N.calls net.new) error) }
@@ -134,7 +134,7 @@ impl Ends {
 
     // What the venue does in a turn: a message of the plan is accepted and sent, and every tenth
     // turn has a heartbeat and a tick.
-    fn publish<N: Net, M: Market>(
+    fn publish<N: Net, M: VenueSide>(
         &mut self,
         net: &mut N,
         market: &mut M,
@@ -146,15 +146,15 @@ impl Ends {
         requires few { count ≤ 1000 }
         ensures published { OnOk result ((base : List Call) (now : Scene) → now.turn ≡ turn
             → DemoAt (setting number count) base (N.calls net.old) self.old now
-            → MarketAt M.has (setting number count) market.old (turn - 1)
+            → SideAt M.has (setting number count) market.old (turn - 1)
             → IsSentTo (setting number count) (turn - 1) now → IsUncalled now
             → (after : Scene) × (after.turn ≡ turn)
             × DemoAt (setting number count) base (N.calls net.new) self.new after
-            × MarketAt M.has (setting number count) market.new turn
+            × SideAt M.has (setting number count) market.new turn
             × IsSentTo (setting number count) turn after × IsUncalled after) }
         ensures broke { IfErr result (λ error. (base : List Call) (now : Scene) → now.turn ≡ turn
             → Plays (setting number count) base (N.calls net.old) now
-            → MarketAt M.has (setting number count) market.old (turn - 1)
+            → SideAt M.has (setting number count) market.old (turn - 1)
             → Breaks (setting number count) base (N.calls net.new) error) }
         ensures faults { NetCounts result (N.faults net.old) (N.faults net.new) }
     {
@@ -168,7 +168,7 @@ impl Ends {
     }
 
     // In a turn both servers take what came to them.
-    fn serve<N: Net, M: Market>(
+    fn serve<N: Net, M: VenueSide>(
         &mut self,
         net: &mut N,
         market: &mut M,
@@ -177,13 +177,13 @@ impl Ends {
         requires { length into.old ≡ call_room }
         ensures served { OnOk result ((s : Setting) (base : List Call) (turn : ℕ) (now : Scene)
             → VenueDone s base (N.calls net.old) turn self.old now
-            → MarketAt M.has s market.old turn
+            → SideAt M.has s market.old turn
             → (after : Scene) × ServersDone s base (N.calls net.new) turn self.new after) }
         ensures broke { IfErr result (λ error. (s : Setting) (base : List Call) (turn : ℕ)
             (now : Scene) → VenueDone s base (N.calls net.old) turn self.old now
-            → MarketAt M.has s market.old turn → Breaks s base (N.calls net.new) error) }
+            → SideAt M.has s market.old turn → Breaks s base (N.calls net.new) error) }
         ensures market { OnOk result ((s : Setting) (turn : ℕ)
-            → MarketAt M.has s market.old turn → MarketAt M.has s market.new turn) }
+            → SideAt M.has s market.old turn → SideAt M.has s market.new turn) }
         ensures room { length into.new ≡ length into.old }
         ensures faults { NetCounts result (N.faults net.old) (N.faults net.new) }
     {
@@ -259,7 +259,7 @@ impl Ends {
     }
 
     /// One turn.
-    pub(crate) fn turn<N: Net, M: Market>(
+    pub(crate) fn turn<N: Net, M: VenueSide>(
         &mut self,
         net: &mut N,
         market: &mut M,
@@ -273,16 +273,16 @@ impl Ends {
         requires room { length into.old ≡ call_room }
         ensures over { OnOk result ((base : List Call) (now : Scene) → now.turn ≡ turn
             → DemoAt (setting number count) base (N.calls net.old) self.old now
-            → MarketAt M.has (setting number count) market.old (turn - 1)
+            → SideAt M.has (setting number count) market.old (turn - 1)
             → IsSentTo (setting number count) (turn - 1) now → IsUncalled now
             → (after : Scene) × (after.turn ≡ turn)
             × DemoAt (setting number count) base (N.calls net.new) self.new after
-            × MarketAt M.has (setting number count) market.new turn
+            × SideAt M.has (setting number count) market.new turn
             × IsOver (setting number count) after) }
         ensures room { length into.new ≡ length into.old }
         ensures broke { IfErr result (λ error. (base : List Call) (now : Scene) → now.turn ≡ turn
             → DemoAt (setting number count) base (N.calls net.old) self.old now
-            → MarketAt M.has (setting number count) market.old (turn - 1)
+            → SideAt M.has (setting number count) market.old (turn - 1)
             → IsSentTo (setting number count) (turn - 1) now → IsUncalled now
             → Breaks (setting number count) base (N.calls net.new) error) }
         ensures faults { NetCounts result (N.faults net.old) (N.faults net.new) }

@@ -7,13 +7,13 @@
 //! is.
 #![tactic(auto)]
 
-mod client_end;
 mod ends;
 mod error;
 mod in_memory;
 mod lines;
 mod links;
 mod market;
+mod net_peer;
 mod plain;
 mod proxy;
 mod putting;

@@ -15,8 +15,8 @@ ghost use Rattle.grp_session.specs.Feeding.{Answered};
 ghost use Rattle.spin_server.specs.Served.{Served};
 ghost use Rattle.spin_server.specs.Serving.{SpinStands};
 ghost use Rattle.net_edge.specs.Due.{AreDuePieces, setting, demo_unit, new_datagrams};
-ghost use Rattle.net_edge.specs.Markets.{StillHas, MarketAt, HasAccepted, gap_source, SpinFed};
-ghost use Rattle.net_edge.specs.Markets.{image_view};
+ghost use Rattle.net_edge.specs.Markets.{StillHas, SideAt, HasAccepted, gap_source, SpinFed};
+ghost use Rattle.unit_market.specs.Markets.{image_view};
 
 use grp_session::{GapBudget, GrpServer};
 use pitch_fields::OutOfMemory;
@@ -28,7 +28,7 @@ use unit_packets::{DatagramList, pack};
 
 /// The venue's side: it accepts messages and advertises images, and the proxy and the Spin Server
 /// look them up there.
-pub(crate) trait Market {
+pub(crate) trait VenueSide {
     /// These messages were accepted, and the images through these sequences advertised.
     ghost has: { Self → List RawSaid → List ℕ → Type 0 };
 
@@ -107,7 +107,7 @@ fn pack_one(
 
 /// In a turn the next command of the plan is accepted, until all were accepted. Answers the
 /// datagrams of its message.
-pub(crate) fn accept_next<M: Market>(
+pub(crate) fn accept_next<M: VenueSide>(
     alloc: Global,
     market: &mut M,
     number: u64,
@@ -116,11 +116,11 @@ pub(crate) fn accept_next<M: Market>(
 ) -> Result<DatagramList, OutOfMemory>
     requires some { 1 ≤ turn }
     requires few { count ≤ 1000 }
-    ensures datagrams { IfOk result (λ list. MarketAt M.has (setting number count) market.old
+    ensures datagrams { IfOk result (λ list. SideAt M.has (setting number count) market.old
         (turn - 1) → bytes_in list.items ≡ new_datagrams (setting number count) turn) }
-    ensures pieces { IfOk result (λ list. MarketAt M.has (setting number count) market.old
+    ensures pieces { IfOk result (λ list. SideAt M.has (setting number count) market.old
         (turn - 1) → AreDuePieces (setting number count) turn (bytes_in list.items)) }
-    ensures accepted { OnOk result (MarketAt M.has (setting number count) market.old (turn - 1)
+    ensures accepted { OnOk result (SideAt M.has (setting number count) market.old (turn - 1)
         → HasAccepted M.has (setting number count) market.new turn) }
 {
     packed_messages_are_pieces();

@@ -16,14 +16,14 @@ ghost use Rattle.world_model.specs.Verbs.{at_server_of};
 ghost use Rattle.net_edge.specs.Acting.{taken_at, where_stands, is_group_open};
 ghost use Rattle.net_edge.specs.Breaking.{Breaks};
 ghost use Rattle.net_edge.specs.Due.{Setting, demo_unit};
-ghost use Rattle.net_edge.specs.Markets.{StillHas, MarketAt};
+ghost use Rattle.net_edge.specs.Markets.{StillHas, SideAt};
 ghost use Rattle.net_edge.specs.Playing.{NetCounts, Plays, KeepsRun, BreaksRun};
 ghost use Rattle.net_edge.specs.Playing.{ProxyHas, ProxyFed, ProxyAnswers, ProxyServes, ProxySays};
 ghost use Rattle.net_edge.specs.Playing.{ProxyActs, AreTaken};
 ghost use Rattle.net_edge.specs.Scene.{Scene, got_end};
 
 use crate::error::DemoError;
-use crate::market::Market;
+use crate::market::VenueSide;
 use crate::putting::{put_whole, send_all};
 use crate::server_end::ServerEnd;
 use client_links::Account;
@@ -58,7 +58,7 @@ impl Proxy {
     }
 
     // Bytes come to it.
-    fn feed<M: Market>(
+    fn feed<M: VenueSide>(
         &mut self,
         market: &mut M,
         piece: &[u8],
@@ -68,7 +68,7 @@ impl Proxy {
         requires no_said { said.old.items ≡ [] }
         requires no_lines { lines.old.items ≡ [] }
         ensures fed { OnOk result ((s : Setting) (now : Scene)
-            → ProxyHas self.old now.grp.server now.spent → MarketAt M.has s market.old now.turn
+            → ProxyHas self.old now.grp.server now.spent → SideAt M.has s market.old now.turn
             → ProxyFed s piece.now now self.new said.new.items (bytes_in lines.new.items)) }
         ensures market { OnOk result (StillHas M.has market.old market.new) }
     {
@@ -116,7 +116,7 @@ pub(crate) fn tick_proxy<N: Net>(
 }
 
 // What came to the proxy is fed, and what it says is put and sent.
-fn serve_piece<N: Net, M: Market>(
+fn serve_piece<N: Net, M: VenueSide>(
     alloc: Global,
     net: &mut N,
     proxy: &mut Proxy,
@@ -125,14 +125,14 @@ fn serve_piece<N: Net, M: Market>(
 ) -> Result<(), DemoError>
     ensures served { OnOk result ((s : Setting) (base : List Call) (count : ℕ) (now : Scene)
         → ProxyHas proxy.old now.grp.server now.spent
-        → MarketAt M.has s market.old now.turn
+        → SideAt M.has s market.old now.turn
         → Plays s base (N.calls net.old) (taken_at s ServerEnd piece.now (Got count) now)
         → ProxyAnswers s base (N.calls net.new) proxy.new piece.now count now) }
     ensures market { OnOk result (StillHas M.has market.old market.new) }
     ensures broke { IfErr result (λ error. (s : Setting) (base : List Call)
         (count : ℕ) (now : Scene)
         → ProxyHas proxy.old now.grp.server now.spent
-        → MarketAt M.has s market.old now.turn
+        → SideAt M.has s market.old now.turn
         → Plays s base (N.calls net.old) (taken_at s ServerEnd piece.now (Got count) now)
         → Breaks s base (N.calls net.new) error) }
     ensures faults { NetCounts result (N.faults net.old) (N.faults net.new) }
@@ -152,7 +152,7 @@ impl ServerEnd for Proxy {
     ghost is_cut = { λ now. now.grp_cut };
 
     // It says all at once, at the last call as at any other.
-    fn serve_one<N: Net, M: Market>(
+    fn serve_one<N: Net, M: VenueSide>(
         &mut self,
         alloc: Global,
         net: &mut N,

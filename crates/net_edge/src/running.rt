@@ -20,7 +20,7 @@ ghost use Rattle.net_edge.specs.Breaking.{Breaks};
 ghost use Rattle.net_edge.specs.Demo.{IsDemo, IsLast, BreaksDemo, SendsPieces};
 ghost use Rattle.net_edge.specs.Due.{Setting, setting, demo_unit, call_room, hold_limit};
 ghost use Rattle.net_edge.specs.Due.{kept_messages};
-ghost use Rattle.net_edge.specs.Markets.{MarketAt};
+ghost use Rattle.net_edge.specs.Markets.{SideAt};
 ghost use Rattle.net_edge.specs.Playing.{NetCounts, ClientHas, SpinHas, EndsHave, DemoAt};
 ghost use Rattle.net_edge.specs.Playing.{DoesDemo, Plays, calls_before};
 ghost use Rattle.net_edge.specs.Scene.{Scene, first_scene, all_put, said_at};
@@ -28,8 +28,7 @@ ghost use Rattle.net_edge.specs.Turns.{IsOver};
 
 use crate::ends::Ends;
 use crate::error::DemoError;
-use crate::market::Market;
-use crate::plain::PlainMarket;
+use crate::market::VenueSide;
 use crate::proxy::Proxy;
 use crate::putting::put_whole;
 use crate::shared::SharedMarket;
@@ -45,6 +44,7 @@ use spin_server::SpinServer;
 use std::alloc::Global;
 use std::marker::Brand;
 use std::sync::Wait;
+use unit_market::Market;
 
 // The account of both sessions.
 fn account() -> Account
@@ -150,7 +150,7 @@ fn ends_with(turn: u32, count: u32, status: Status) -> bool
 }
 
 // The turns of a run, until it ends.
-fn run<N: Net, M: Market>(
+fn run<N: Net, M: VenueSide>(
     net: &mut N,
     ends: &mut Ends,
     market: &mut M,
@@ -164,7 +164,7 @@ fn run<N: Net, M: Market>(
         → DemoAt (setting number count) base (N.calls net.old) ends.old (all_put first_scene)
         → M.has market.old [] []
         → (now : Scene) × DemoAt (setting number count) base (N.calls net.new) ends.new now
-        × MarketAt M.has (setting number count) market.new now.turn
+        × SideAt M.has (setting number count) market.new now.turn
         × IsOver (setting number count) now × IsLast (setting number count) now) }
     ensures broke { IfErr result (λ error. (base : List Call)
         → DemoAt (setting number count) base (N.calls net.old) ends.old (all_put first_scene)
@@ -222,7 +222,7 @@ fn make_parts(alloc: Global) -> Result<Parts, OutOfMemory>
 }
 
 // A run of these from the start, and the unit's line.
-fn play<N: Net, M: Market>(
+fn play<N: Net, M: VenueSide>(
     net: &mut N,
     market: &mut M,
     parts: &mut Parts,
@@ -253,7 +253,7 @@ fn play<N: Net, M: Market>(
 }
 
 // A demo whose venue's side is this one, which has done nothing.
-fn demo_over<N: Net, M: Market>(
+fn demo_over<N: Net, M: VenueSide>(
     alloc: Global,
     net: &mut N,
     market: &mut M,
@@ -292,7 +292,7 @@ pub fn demo_plain<N: Net>(
     ensures still { OnOk result (N.faults net.new ≡ N.faults net.old) }
     ensures err { OnErr result (out.new.items ≡ out.old.items) }
 {
-    let mut market = PlainMarket::make(alloc)?;
+    let mut market = Market::make(alloc, 1, DEFAULT_KEPT)?;
     demo_over(alloc, net, &mut market, number, count, out)
 }
 

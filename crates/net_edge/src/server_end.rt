@@ -8,13 +8,13 @@ ghost use Rattle.pitch_io.specs.declared.net.NetTaken.{NetTaken as TakenSaid};
 ghost use Rattle.net_edge.specs.Acting.{is_group_open};
 ghost use Rattle.net_edge.specs.Breaking.{Breaks};
 ghost use Rattle.net_edge.specs.Due.{Setting, call_room};
-ghost use Rattle.net_edge.specs.Markets.{StillHas, MarketAt};
+ghost use Rattle.net_edge.specs.Markets.{StillHas, SideAt};
 ghost use Rattle.net_edge.specs.Playing.{NetCounts, AreTaken};
 ghost use Rattle.net_edge.specs.Scene.{Scene, is_got, got_end};
 
 use crate::error::DemoError;
 use crate::lines::MOST_CALLS;
-use crate::market::Market;
+use crate::market::VenueSide;
 use pitch_io::{Net, NetTaken};
 use std::alloc::Global;
 
@@ -28,7 +28,7 @@ pub(crate) trait ServerEnd {
     ghost is_cut: { Scene → Bool };
 
     /// One call of `take`, which may be the turn's last; what comes is served.
-    fn serve_one<N: Net, M: Market>(
+    fn serve_one<N: Net, M: VenueSide>(
         &mut self,
         alloc: Global,
         net: &mut N,
@@ -40,7 +40,7 @@ pub(crate) trait ServerEnd {
         ensures served { IfOk result (λ answer. (s : Setting) (base : List Call)
             (answers : List TakenSaid) (now : Scene)
             → serves self.old s base (N.calls net.old) answers false now → is_cut now ≡ false
-            → MarketAt M.has s market.old now.turn
+            → SideAt M.has s market.old now.turn
             → is_group_open answers ≡ true
             → is_group_open (answer ∷ answers) ≡ (is_got answer && not last)
             → serves self.new s base (N.calls net.new) (answer ∷ answers) (got_end answer) now) }
@@ -49,14 +49,14 @@ pub(crate) trait ServerEnd {
         ensures broke { IfErr result (λ error. (s : Setting) (base : List Call)
             (answers : List TakenSaid) (now : Scene)
             → serves self.old s base (N.calls net.old) answers false now → is_cut now ≡ false
-            → MarketAt M.has s market.old now.turn → is_group_open answers ≡ true
+            → SideAt M.has s market.old now.turn → is_group_open answers ≡ true
             → Breaks s base (N.calls net.new) error) }
         ensures faults { NetCounts result (N.faults net.old) (N.faults net.new) };
 }
 
 /// A turn's calls of `take` at a server's end, where its connection stands and it did not get End
 /// before. Answers whether it got End so far.
-pub(crate) fn serve_end<N: Net, E: ServerEnd, M: Market>(
+pub(crate) fn serve_end<N: Net, E: ServerEnd, M: VenueSide>(
     alloc: Global,
     net: &mut N,
     server: &mut E,
@@ -68,14 +68,14 @@ pub(crate) fn serve_end<N: Net, E: ServerEnd, M: Market>(
     requires { length into.old ≡ call_room }
     ensures served { IfOk result (λ ends. (s : Setting) (base : List Call) (now : Scene)
         → E.serves server.old s base (N.calls net.old) [] ended now → E.is_cut now ≡ cut
-        → MarketAt M.has s market.old now.turn
+        → SideAt M.has s market.old now.turn
         → (answers : List TakenSaid) × AreTaken answers (ends || cut)
         × E.serves server.new s base (N.calls net.new) answers ends now) }
     ensures market { OnOk result (StillHas M.has market.old market.new) }
     ensures room { length into.new ≡ length into.old }
     ensures broke { IfErr result (λ error. (s : Setting) (base : List Call) (now : Scene)
         → E.serves server.old s base (N.calls net.old) [] ended now → E.is_cut now ≡ cut
-        → MarketAt M.has s market.old now.turn → Breaks s base (N.calls net.new) error) }
+        → SideAt M.has s market.old now.turn → Breaks s base (N.calls net.new) error) }
     ensures faults { NetCounts result (N.faults net.old) (N.faults net.new) }
 {
     if cut || ended {

@@ -5,7 +5,7 @@ ghost use Rattle.std.specs.Prelude.{◌≡◌, [], false, IfOk};
 ghost use Rattle.net_edge.specs.Due.{kept_messages};
 ghost use Rattle.net_edge.specs.Markets.{SharedHas};
 
-use crate::market::Market;
+use crate::market::VenueSide;
 use grp_session::{GapBudget, GrpServer};
 use pitch_fields::OutOfMemory;
 use pitch_messages::Raw;
@@ -83,7 +83,7 @@ impl<J: Naming, R: FixedRun, W: Wait + Drop> SharedMarket<J, R, W> {
     }
 }
 
-impl<J: Naming, R: FixedRun, W: Wait + Drop> Market for SharedMarket<J, R, W> {
+impl<J: Naming, R: FixedRun, W: Wait + Drop> VenueSide for SharedMarket<J, R, W> {
     ghost has = { SharedHas };
 
     fn accept(&mut self, number: u64, index: u32) -> Result<Raw, OutOfMemory> {

@@ -14,13 +14,13 @@ ghost use Rattle.world_model.specs.Verbs.{at_server_of, sent_whole};
 ghost use Rattle.net_edge.specs.Acting.{where_stands, is_group_open, spin_server_fed};
 ghost use Rattle.net_edge.specs.Acting.{spin_answered};
 ghost use Rattle.net_edge.specs.Due.{Setting, demo_unit};
-ghost use Rattle.net_edge.specs.Markets.{StillHas, MarketAt};
+ghost use Rattle.net_edge.specs.Markets.{StillHas, SideAt};
 ghost use Rattle.net_edge.specs.Playing.{NetCounts, Plays, KeepsRun, BreaksRun, SpinHas};
 ghost use Rattle.net_edge.specs.Playing.{SpinSays, SpinActs, SpinServes, AreTaken};
 ghost use Rattle.net_edge.specs.Scene.{Scene, is_got, got_end};
 
 use crate::error::DemoError;
-use crate::market::Market;
+use crate::market::VenueSide;
 use crate::putting::put_whole;
 use crate::server_end::ServerEnd;
 use pitch_fields::OutOfMemory;
@@ -29,7 +29,7 @@ use spin_server::SpinServer;
 use std::alloc::Global;
 
 // It is fed bytes; what it says is appended to an empty list.
-fn feed<M: Market>(
+fn feed<M: VenueSide>(
     spin: &mut SpinServer,
     market: &mut M,
     piece: &[u8],
@@ -38,7 +38,7 @@ fn feed<M: Market>(
     requires { said.old.items ≡ [] }
     ensures fed { OnOk result ((s : Setting) (count turn : ℕ) (c : Connection (List Served))
         → SpinHas spin.old c.server
-        → MarketAt M.has s market.old turn
+        → SideAt M.has s market.old turn
         → SpinSays spin.new said.new.items c (spin_server_fed s piece.now (Got count) turn c)) }
     ensures market { OnOk result (StillHas M.has market.old market.new) }
 {
@@ -61,7 +61,7 @@ fn pump_whole(spin: &mut SpinServer, said: &mut Vec<u8>) -> Result<(), OutOfMemo
 
 // What it says of an answer of `take`, to an empty list: it is fed what came, and sends a running
 // image to its end where the turn's calls are over.
-fn answer<M: Market>(
+fn answer<M: VenueSide>(
     spin: &mut SpinServer,
     market: &mut M,
     taken: NetTaken,
@@ -73,7 +73,7 @@ fn answer<M: Market>(
     requires within { CameWithin taken into.now }
     ensures says { OnOk result ((s : Setting) (turn : ℕ) (c : Connection (List Served))
         → SpinHas spin.old c.server
-        → MarketAt M.has s market.old turn
+        → SideAt M.has s market.old turn
         → SpinSays spin.new said.new.items c
         (spin_answered s (came taken into.now) taken turn (is_got taken && not last) c)) }
     ensures market { OnOk result (StillHas M.has market.old market.new) }
@@ -101,7 +101,7 @@ impl ServerEnd for SpinServer {
     ghost is_cut = { λ now. now.spin_cut };
 
     // Where the turn's calls are over it sends a running image to its end.
-    fn serve_one<N: Net, M: Market>(
+    fn serve_one<N: Net, M: VenueSide>(
         &mut self,
         alloc: Global,
         net: &mut N,

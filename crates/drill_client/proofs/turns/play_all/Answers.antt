@@ -1,11 +1,11 @@
 use Rattle.std.proofs.Common.{◌≡◌, ℕ, List, [], ◌+◌, ◌-◌, ◌≤◌, sym, ◌∙◌, subst, arith}
-use Rattle.pitch_model.specs.Advertising.{Operation}
 use Rattle.pitch_model.specs.History.{Entry, Raw}
+use Rattle.unit_market.specs.Markets.{MarketHas}
 use Rattle.venue_core.specs.Plan.{plan}
 use Rattle.drill_client.specs.Following.{Follows}
 use Rattle.drill_client.specs.Played.{plain_history}
-use Rattle.drill_client.specs.Turns.{Serves, HasPlayed}
-use Rattle.drill_client.proofs.Played.{operations_begin, count_begins, count_next, history_begins, history_next}
+use Rattle.drill_client.specs.Turns.{HasPlayed}
+use Rattle.drill_client.proofs.Played.{rounds_begin, count_begins, count_next, history_begins, history_next}
 use Rattle.drill_client.proofs.Playing.{plan_begins}
 use Rattle.drill_client.proofs.turns.play_all.Goals as goal
 
@@ -16,15 +16,15 @@ commands-init c =
     let count : ℕ = c.args.course.count in
     let few : count ≤ 400000 = omega (arith, c.requires.count.1) in
     record {
-      serves = subst (λ (o : List Operation). Serves c.args.side.now unit o (plan number unit 0) 0) (sym (operations_begin number unit count)) (subst (λ (V : List Raw). Serves c.args.side.now unit [] V 0) (sym (plan_begins number unit)) c.requires.serves);
+      played = subst (λ (ns : List ℕ). MarketHas c.args.market.now unit 4096 (plan number unit 0) 0 ns) (sym (rounds_begin count)) (subst (λ (V : List Raw). MarketHas c.args.market.now unit 4096 V 0 []) (sym (plan_begins number unit)) c.requires.new);
       count = sym (count_begins number unit);
       follows = subst (λ (E : List Entry). Follows c.in_ok-client.client 4096 (plan number unit count) E) (sym (history_begins number unit count)) (c.in_ok-client.ensures (plan number unit count) (c.plan_is_in_order.ensures.bytes number unit count few));
     }
 
-pub play-requires-clause-serves : goal.play-requires-clause-serves
-play-requires-clause-serves c =
+pub play-requires-clause-played : goal.play-requires-clause-played
+play-requires-clause-played c =
     let e : c.commands.before ≡ c.commands.before + 1 - 1 = omega arith in
-    subst (λ (n : ℕ). HasPlayed c.commands.side c.args.course.number c.args.course.unit c.args.course.count n) e c.commands.invariant.serves
+    subst (λ (n : ℕ). HasPlayed c.commands.market c.args.course.number c.args.course.unit c.args.course.count n) e c.commands.invariant.played
 
 pub commands-preserved : goal.commands-preserved
 commands-preserved c =
@@ -33,17 +33,17 @@ commands-preserved c =
     let count : ℕ = c.args.course.count in
     let index : ℕ = c.commands.before in
     record {
-      serves = c.in_ok-play.ensures.serves;
+      played = c.in_ok-play.ensures.played;
       count = c.in_ok-play.ensures.count ∙ count_next number unit index c.commands.heard c.commands.invariant.count;
       follows =
           subst (λ (E : List Entry). Follows c.play.new.client 4096 (plan number unit count) E) (history_next number unit count index c.commands.heard c.commands.invariant.count)
           (c.in_ok-play.ensures.heard (plain_history number unit count index) c.commands.invariant.follows);
     }
 
-pub returns-clause-serves : goal.returns-clause-serves
-returns-clause-serves c =
+pub returns-clause-played : goal.returns-clause-played
+returns-clause-played c =
     let e : c.commands.before ≡ c.args.course.count = omega (arith, c.commands-test.false, c.commands.auto.before-end) in
-    subst (λ (n : ℕ). HasPlayed c.commands.side c.args.course.number c.args.course.unit c.args.course.count n) e c.commands.invariant.serves
+    subst (λ (n : ℕ). HasPlayed c.commands.market c.args.course.number c.args.course.unit c.args.course.count n) e c.commands.invariant.played
 
 pub returns-clause-heard : goal.returns-clause-heard
 returns-clause-heard c =

@@ -7,7 +7,7 @@ use Rattle.drill_client.proofs.turns.play_all.Given as goal
 
 abbrev pub invariant-commands : goal.invariant-commands
 invariant-commands l = record {
-  serves : HasPlayed l.side l.course.number l.course.unit l.course.count l.before;
+  played : HasPlayed l.market l.course.number l.course.unit l.course.count l.before;
   count : l.heard ≡ counted_through l.course.number l.course.unit l.before;
   follows : Follows l.client 4096 (plan l.course.number l.course.unit l.course.count) (plain_history l.course.number l.course.unit l.course.count l.before);
 }

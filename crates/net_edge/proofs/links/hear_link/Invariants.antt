@@ -12,6 +12,6 @@ invariant-takes g l = record {
   room : length l.into ≡ length l.fn.into;
   later : g.N.Net.faults l.fn.net ≤ g.N.Net.faults l.net;
   still : g.N.Net.faults l.net ≡ g.N.Net.faults l.fn.net;
-  heard : (s : Setting) (base : List Call) (now : Scene) → HearsLink g.L.ClientEnd.peer s base (g.N.Net.calls l.fn.net) (g.L.ClientEnd.ending l.fn.link) l.fn.client [] false now
-      → (answers : List NetTaken) × Gots answers l._index × HearsLink g.L.ClientEnd.peer s base (g.N.Net.calls l.net) (g.L.ClientEnd.ending l.link) l.client answers false now;
+  heard : (s : Setting) (base : List Call) (now : Scene) → HearsLink g.P.NetPeer.session s base (g.N.Net.calls l.fn.net) l.fn.link l.fn.client [] false now
+      → (answers : List NetTaken) × Gots answers l._index × HearsLink g.P.NetPeer.session s base (g.N.Net.calls l.net) l.link l.client answers false now;
 }

@@ -1,7 +1,7 @@
 use Rattle.session_ends.specs.Events.{Ticked}
 use Rattle.world_model.specs.Verbs.{at_link}
 use Rattle.net_edge.specs.Acting.{where_stands}
-use Rattle.net_edge.specs.Peers.{peer_setup}
+use Rattle.net_edge.specs.Sessions.{session_setup}
 use Rattle.net_edge.proofs.Linking.{said_put}
 use Rattle.net_edge.proofs.Breaking.{at_exit, stops_here}
 use Rattle.net_edge.proofs.links.tick_link.Goals as goal
@@ -9,12 +9,12 @@ use Rattle.net_edge.proofs.links.tick_link.Goals as goal
 pub returns-clause-ticked : goal.returns-clause-ticked
 returns-clause-ticked g c = λ s base k E now is has plays.
     let says = c.in_ok-say_ticked.ensures k is in
-    let after = where_stands c.args.cut (λ x. at_link (peer_setup g.L.ClientEnd.peer) Ticked x) k in
+    let after = where_stands c.args.cut (λ x. at_link (session_setup g.P.NetPeer.session) Ticked x) k in
     record {
       acts = record {
         said = c.say_ticked.new.said.items;
         is = says;
-        plays = said_put g.L.ClientEnd.peer s base _ _ _ _ now c.net_end.ensures c.deref.ensures.value (c.in_ok-put_whole.ensures.put s base now plays);
+        plays = said_put g.P.NetPeer.session s base _ _ _ _ now c.net_end.ensures c.deref.ensures.value (c.in_ok-put_whole.ensures.put s base now plays);
       };
       cut_is = c.in_ok-after.ensures.cut after.link says.link_has;
       has = c.in_ok-after.ensures.heard after.link E says.link_has has;

@@ -14,12 +14,12 @@ returns-then-turn-count-clause-pieces g c = λ at.
     subst (λ (l : List (Roomy _)). AreDuePieces (setting c.args.number c.args.count) c.args.turn (bytes_in l)) (sym c.make-datagrams.ensures) tt
 
 pub returns-then-turn-count-clause-accepted : goal.returns-then-turn-count-clause-accepted
-returns-then-turn-count-clause-accepted g c = λ at. accepted_all g.M.Market.has (setting c.args.number c.args.count) c.args.turn c.args.market.now c.if-turn-count.true at
+returns-then-turn-count-clause-accepted g c = λ at. accepted_all g.M.VenueSide.has (setting c.args.number c.args.count) c.args.turn c.args.market.now c.if-turn-count.true at
 
 pub returns-clause-datagrams : goal.returns-clause-datagrams
 returns-clause-datagrams g c = λ at.
     let s : Setting = setting c.args.number c.args.count in
-    let is = said_at g.M.Market.has s c.args.turn c.args.market.now c.in_ok-raw.raw c.requires.some c.if-turn-count.false c.in_ok-raw.ensures.raw at in
+    let is = said_at g.M.VenueSide.has s c.args.turn c.args.market.now c.in_ok-raw.raw c.requires.some c.if-turn-count.false c.in_ok-raw.ensures.raw at in
     c.in_ok-pack_one.ensures.ok
     ∙ ap (λ (l : List (Roomy _)). bytes_in l ++ packed demo_unit c.args.turn (c.in_ok-raw.raw ∷ [])) c.make-datagrams.ensures
     ∙ turn_datagrams s c.args.turn c.in_ok-raw.raw c.requires.some c.if-turn-count.false is
@@ -27,11 +27,11 @@ returns-clause-datagrams g c = λ at.
 pub returns-clause-pieces : goal.returns-clause-pieces
 returns-clause-pieces g c = λ at.
     let s : Setting = setting c.args.number c.args.count in
-    let is = said_at g.M.Market.has s c.args.turn c.args.market.now c.in_ok-raw.raw c.requires.some c.if-turn-count.false c.in_ok-raw.ensures.raw at in
+    let is = said_at g.M.VenueSide.has s c.args.turn c.args.market.now c.in_ok-raw.raw c.requires.some c.if-turn-count.false c.in_ok-raw.ensures.raw at in
     subst (AreDuePieces s c.args.turn) (sym (c.in_ok-pack_one.ensures.ok ∙ ap (λ (l : List (Roomy _)). bytes_in l ++ packed demo_unit c.args.turn (c.in_ok-raw.raw ∷ [])) c.make-datagrams.ensures))
     (turn_pieces s c.args.turn c.in_ok-raw.raw _ c.requires.some c.if-turn-count.false is c.in_ok-pack_one.ensures.packing c.packed_messages_are_pieces.ensures.packed)
 
 pub returns-clause-accepted : goal.returns-clause-accepted
 returns-clause-accepted g c = λ at.
-    accepted_more g.M.Market.has (setting c.args.number c.args.count) c.args.turn c.args.market.now c.accept.new.self c.in_ok-raw.raw c.requires.some c.if-turn-count.false c.requires.few c.pack_one.ensures.raw
+    accepted_more g.M.VenueSide.has (setting c.args.number c.args.count) c.args.turn c.args.market.now c.accept.new.self c.in_ok-raw.raw c.requires.some c.if-turn-count.false c.requires.few c.pack_one.ensures.raw
     c.in_ok-raw.ensures.raw c.in_ok-raw.ensures.keeps at

@@ -1,7 +1,7 @@
 use Rattle.std.proofs.Common.{◌≡◌, ◌+◌, ◌-◌, ◌≤◌, List, [], length}
 use Rattle.pitch_io.specs.Nets.{Call}
 use Rattle.net_edge.specs.Due.{setting}
-use Rattle.net_edge.specs.Markets.{MarketAt}
+use Rattle.net_edge.specs.Markets.{SideAt}
 use Rattle.net_edge.specs.Playing.{DemoAt}
 use Rattle.net_edge.specs.Scene.{Scene, first_scene, all_put}
 use Rattle.net_edge.specs.Turns.{IsOver}
@@ -14,8 +14,8 @@ invariant-turns g l = record {
   room : length l.into ≡ length l.fn.into;
   later : g.N.Net.faults l.fn.net ≤ g.N.Net.faults l.net;
   still : g.N.Net.faults l.net ≡ g.N.Net.faults l.fn.net;
-  ran : (base : List Call) → DemoAt (setting l.number l.count) base (g.N.Net.calls l.fn.net) l.fn.ends (all_put first_scene) → g.M.Market.has l.fn.market [] []
-      → (now : Scene) × (now.turn ≡ l.turn) × DemoAt (setting l.number l.count) base (g.N.Net.calls l.net) l.ends now × MarketAt g.M.Market.has (setting l.number l.count) l.market l.turn × IsOver (setting l.number l.count) now;
+  ran : (base : List Call) → DemoAt (setting l.number l.count) base (g.N.Net.calls l.fn.net) l.fn.ends (all_put first_scene) → g.M.VenueSide.has l.fn.market [] []
+      → (now : Scene) × (now.turn ≡ l.turn) × DemoAt (setting l.number l.count) base (g.N.Net.calls l.net) l.ends now × SideAt g.M.VenueSide.has (setting l.number l.count) l.market l.turn × IsOver (setting l.number l.count) now;
 }
 
 abbrev pub decreases-turns : goal.decreases-turns

@@ -35,7 +35,7 @@ takes-preserved g c = record {
       call_more c.in_ok-serve_one.field-0 c.takes.index (omega arith) (c.takes.invariant.served s base now h whole stored)
       (λ answers gots opened is.
       subst (λ (b : Bool). g.E.ServerEnd.serves c.serve_one.new.self s base (g.N.Net.calls c.serve_one.new.net) (c.in_ok-serve_one.field-0 ∷ answers) b now) (ap got_end c.in-Got.is)
-      (c.in_ok-serve_one.ensures.served s base answers now is whole (still_at g.M.Market.has s now.turn c.args.market.now c.takes.market c.takes.invariant.market stored) opened (open_then c.in_ok-serve_one.field-0 answers c.takes.index gots (omega arith))))
+      (c.in_ok-serve_one.ensures.served s base answers now is whole (still_at g.M.VenueSide.has s now.turn c.args.market.now c.takes.market c.takes.invariant.market stored) opened (open_then c.in_ok-serve_one.field-0 answers c.takes.index gots (omega arith))))
       (ap is_got c.in-Got.is);
 }
 
@@ -46,7 +46,7 @@ returns-in-End-clause-served g c = λ s base now h whole stored.
     take_last c.in_ok-serve_one.field-0 c.takes.index (omega arith) (c.takes.invariant.served s base now begun stands stored)
     (λ answers gots opened is.
     subst (λ (b : Bool). g.E.ServerEnd.serves c.serve_one.new.self s base (g.N.Net.calls c.serve_one.new.net) (c.in_ok-serve_one.field-0 ∷ answers) b now) (ap got_end c.in-End.is)
-    (c.in_ok-serve_one.ensures.served s base answers now is stands (still_at g.M.Market.has s now.turn c.args.market.now c.takes.market c.takes.invariant.market stored) opened (open_then c.in_ok-serve_one.field-0 answers c.takes.index gots (omega arith))))
+    (c.in_ok-serve_one.ensures.served s base answers now is stands (still_at g.M.VenueSide.has s now.turn c.args.market.now c.takes.market c.takes.invariant.market stored) opened (open_then c.in_ok-serve_one.field-0 answers c.takes.index gots (omega arith))))
     (true || c.args.cut) (inl (ap is_got c.in-End.is))
 
 nothing : (answer : NetTaken) → (answer ≡ taken.Quiet) ⊎ (answer ≡ taken.Failed) → is_got answer ≡ false
@@ -64,7 +64,7 @@ returns-in-Quiet-clause-served g c = λ s base now h whole stored.
     take_last c.in_ok-serve_one.field-0 c.takes.index (omega arith) (c.takes.invariant.served s base now begun stands stored)
     (λ answers gots opened is.
     subst (λ (b : Bool). g.E.ServerEnd.serves c.serve_one.new.self s base (g.N.Net.calls c.serve_one.new.net) (c.in_ok-serve_one.field-0 ∷ answers) b now) (no_end c.in_ok-serve_one.field-0 c.in-Quiet.is)
-    (c.in_ok-serve_one.ensures.served s base answers now is stands (still_at g.M.Market.has s now.turn c.args.market.now c.takes.market c.takes.invariant.market stored) opened (open_then c.in_ok-serve_one.field-0 answers c.takes.index gots (omega arith))))
+    (c.in_ok-serve_one.ensures.served s base answers now is stands (still_at g.M.VenueSide.has s now.turn c.args.market.now c.takes.market c.takes.invariant.market stored) opened (open_then c.in_ok-serve_one.field-0 answers c.takes.index gots (omega arith))))
     (false || c.args.cut) (inl (nothing c.in_ok-serve_one.field-0 c.in-Quiet.is))
 
 pub returns-clause-served : goal.returns-clause-served
@@ -78,4 +78,4 @@ returns-in_err-serve_one-clause-broke g c = at_exit _ c.from_residual.result _ c
     let stands = whole ∙ c.if-cut.false in
     let begun = subst (λ (b : Bool). g.E.ServerEnd.serves c.args.server.now s base (g.N.Net.calls c.args.net.now) [] b now) c.if-ended.false h in
     let so = c.takes.invariant.served s base now begun stands stored in
-    c.in_err-serve_one.ensures.broke s base so.0 now so.2 stands (still_at g.M.Market.has s now.turn c.args.market.now c.takes.market c.takes.invariant.market stored) (open_by so.0 c.takes.index so.1 (omega arith)))
+    c.in_err-serve_one.ensures.broke s base so.0 now so.2 stands (still_at g.M.VenueSide.has s now.turn c.args.market.now c.takes.market c.takes.invariant.market stored) (open_by so.0 c.takes.index so.1 (omega arith)))

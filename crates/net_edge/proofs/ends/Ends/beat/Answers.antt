@@ -19,7 +19,7 @@ returns-clause-beaten g c = λ s base now at market some tenth.
     let number : c.in_ok-sequence.sequence ≡ accepted s now.turn = many ∙ messages_many s now.turn in (
       beats_then s base _ _ _ _ c.args.self.now c.tick.new.self c.heartbeat-heartbeat.result c.send-2.result c.in_ok-sequence.sequence now at tenth heartbeat number
           piece (λ plays. c.in_ok-send.ensures.sent s base now plays piece) c.send-2.ensures.calls (subst (λ (a : NetDone). NetDoneFailed a → ⊥) (sym c.in-Done.is) (λ f. f)) (λ n. c.in_ok-tick.ensures.ticked s base n),
-      advertised_is g.M.Market.has s now.turn c.args.market.now c.advertise.new.self some tenth market (λ has. c.in_ok-sequence.ensures.keeps (messages s now.turn) (advertised_until s (now.turn - 1)) has),
+      advertised_is g.M.VenueSide.has s now.turn c.args.market.now c.advertise.new.self some tenth market (λ has. c.in_ok-sequence.ensures.keeps (messages s now.turn) (advertised_until s (now.turn - 1)) has),
     )
 
 pub returns-in_err-sequence-clause-broke : goal.returns-in_err-sequence-clause-broke

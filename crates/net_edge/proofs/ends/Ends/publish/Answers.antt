@@ -16,7 +16,7 @@ returns-clause-published g c = λ base now turn_is at market sent none.
     let given : bytes_in c.in_ok-datagrams.datagrams.items ≡ new_datagrams s turn = c.in_ok-datagrams.ensures.datagrams market in
     let pieces : (list : List (Roomy ℕ)) (n : Scene) → n.turn ≡ turn → list ≡ c.in_ok-datagrams.datagrams.items → AreDuePieces s n.turn (bytes_in list) =
     pieces_in_turn s turn c.in_ok-datagrams.datagrams.items (c.in_ok-datagrams.ensures.pieces market) in
-    published s base g.M.Market.has turn _ _ _ _ c.args.self.now c.beat_if_tenth.new.self c.accept_next.new.market c.beat_if_tenth.new.market c.lost-lost_on_a.result c.lost-lost_on_b.result (bytes_in c.as_slice.result.now) (bytes_in c.as_slice-2.result.now) now
+    published s base g.M.VenueSide.has turn _ _ _ _ c.args.self.now c.beat_if_tenth.new.self c.accept_next.new.market c.beat_if_tenth.new.market c.lost-lost_on_a.result c.lost-lost_on_b.result (bytes_in c.as_slice.result.now) (bytes_in c.as_slice-2.result.now) now
     c.requires.some turn_is at sent none c.lost-lost_on_a.ensures c.lost-lost_on_b.ensures
     (ap (λ (ls : List (Roomy ℕ)). bytes_in ls) c.as_slice.ensures ∙ given) (ap (λ (ls : List (Roomy ℕ)). bytes_in ls) c.as_slice-2.ensures ∙ given)
     (c.in_ok-datagrams.ensures.accepted market)

@@ -1,5 +1,5 @@
 use Rattle.std.proofs.Common.{ℕ, length, take, sym, subst, []}
-use Rattle.net_edge.specs.Markets.{MarketAt}
+use Rattle.net_edge.specs.Markets.{SideAt}
 use Rattle.net_edge.proofs.Serving.{serves_got, serves_none, proxy_scene, proxy_may}
 use Rattle.net_edge.proofs.Breaking.{at_exit, breaks_by}
 use Rattle.net_edge.proofs.Runs.{play_call}
@@ -11,7 +11,7 @@ use Rattle.net_edge.proofs.proxy.ProxyServerEnd.serve_one.Goals as goal
 pub returns-in_ok-serve_piece-in-Got-clause-served : goal.returns-in_ok-serve_piece-in-Got-clause-served
 returns-in_ok-serve_piece-in-Got-clause-served g c = λ s base answers now h whole stored opened more.
     serves_got s base _ _ _ c.args.self.now c.serve_piece.new.proxy (length c.args.into.now) (take c.in-Got.count c.take-answer.new.into) c.in-Got.count answers now h whole opened c.in-Got.ensures.calls c.requires
-    (λ scene has same plays. c.in_ok-serve_piece-in-Got.ensures.served s base c.in-Got.count scene has (subst (λ (t : ℕ). MarketAt g.M.Market.has s c.args.market.now t) (sym same) stored) plays)
+    (λ scene has same plays. c.in_ok-serve_piece-in-Got.ensures.served s base c.in-Got.count scene has (subst (λ (t : ℕ). SideAt g.M.VenueSide.has s c.args.market.now t) (sym same) stored) plays)
 
 pub returns-in-Quiet-clause-served : goal.returns-in-Quiet-clause-served
 returns-in-Quiet-clause-served g c = λ s base answers now h whole stored opened more.

@@ -1,0 +1,9 @@
+use Rattle.std.proofs.Common.{◌∙◌, List, ap}
+use Rattle.pitch_model.specs.Advertising.{Operation, Advertise}
+use Rattle.shared_unit.specs.Histories.{then_done}
+use Rattle.net_edge.proofs.Sharing.{advertises}
+use Rattle.net_edge.proofs.shared.SharedMarketVenueSide.advertise.Goals as goal
+
+pub returns-clause-keeps : goal.returns-clause-keeps
+returns-clause-keeps g c = λ messages advertised has.
+    advertises c.args.self.now c.advertise.new.self messages advertised (c.in_ok-sequence.ensures.history ∙ ap (λ (h : List Operation). then_done h Advertise) c.self.view_is) has
