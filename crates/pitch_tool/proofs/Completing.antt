@@ -51,7 +51,7 @@ not_refused (Stream carrier form) SequencesSpent input out net sound r = r
 not_refused (Stream carrier form) (faults.Audit fault) input out net sound r = r
 not_refused Audit trouble input out net sound r =
     clash (audit_trouble stream_limit r.bytes) trouble (ap (audit_trouble stream_limit) (same_bytes input.old sound.0 r.bytes sound.1 r.has) ∙ sound.2) r.trouble_is
-not_refused (Storm number units steps workers) trouble input out net sound r = r.1
+not_refused (Storm storm workers) trouble input out net sound r = r.1
 not_refused (Drill number units count) trouble input out net sound r = r.1
 not_refused (Demo number count) trouble input out net sound r = r.1
 not_refused (Text form) trouble input out net sound r =
@@ -74,7 +74,7 @@ not_done : (job : Job) (trouble : Trouble) (input out : Told) (net : Wires) → 
 not_done (Stream carrier form) trouble input out net wrong r =
     clash (blocks_trouble (trouble_of carrier stream_limit r.bytes)) trouble (ap blocks_trouble r.sound)
     (ap (λ (l : List ℕ). blocks_trouble (trouble_of carrier stream_limit l)) (all_bytes input.old input.new wrong.0 r.bytes wrong.1 r.read) ∙ wrong.2)
-not_done (Storm number units steps workers) trouble input out net wrong r = clash None trouble refl (sym wrong)
+not_done (Storm storm workers) trouble input out net wrong r = clash None trouble refl (sym wrong)
 not_done (Drill number units count) trouble input out net wrong r = clash None trouble refl (sym wrong)
 not_done (Demo number count) trouble input out net wrong r = clash None trouble refl (sym wrong)
 not_done Audit trouble input out net wrong (verdict, reads, grows) =

@@ -14,7 +14,7 @@ use Rattle.pitch_tool.specs.declared.job.Job.TheVariants.{Stream, Text, Storm, D
 untaken : (job : Job) (left : Option (List ℕ)) → StopsInTime job (between left left)
 untaken (Stream carrier form) left = stops_none carrier left
 untaken (Text form) left = tt
-untaken (Storm number units steps workers) left = tt
+untaken (Storm storm workers) left = tt
 untaken (Drill number units count) left = tt
 untaken (Demo number count) left = tt
 untaken Audit left = tt

@@ -35,7 +35,8 @@ job_of (form.FollowCapture port hold) = Stream (Capture port) (Follow hold)
 job_of form.Show = Stream Bare Show
 job_of (form.Pack unit) = Text (Pack unit)
 job_of (form.Replay workers) = Text (Replay workers)
-job_of (form.Storm number units steps workers) = Storm number units steps workers
+job_of (form.Storm number units steps workers) =
+    Storm (record { number = number; units = units; steps = steps }) workers
 job_of (form.Drill number units count) = Drill number units count
 job_of (form.Demo number count) = Demo number count
 job_of (form.Relay hold) = Stream Bare (Relay hold)
@@ -46,7 +47,7 @@ job_of form.Audit = Audit
 abbrev pub CanDo : Job → Type 0
 CanDo (Stream carrier form) = CanHold form × Suits carrier form
 CanDo (Text form) = CanMake form
-CanDo (Storm number units steps workers) = IsStorm units steps × AreWorkers workers
+CanDo (Storm storm workers) = IsStorm storm.units storm.steps × AreWorkers workers
 CanDo (Drill number units count) = IsDrill units count
 CanDo (Demo number count) = IsDemoCount count
 CanDo Audit = Unit {0}
@@ -55,7 +56,7 @@ CanDo Audit = Unit {0}
 abbrev pub most_taken : Job → ℕ
 most_taken (Stream carrier form) = stream_limit + 1
 most_taken (Text form) = text_limit + 1
-most_taken (Storm number units steps workers) = 0
+most_taken (Storm storm workers) = 0
 most_taken (Drill number units count) = 0
 most_taken (Demo number count) = 0
 most_taken Audit = stream_limit + 1
@@ -75,7 +76,7 @@ blocks_trouble (Some trouble) = Some (Blocks trouble)
 abbrev pub trouble_in : Job → List ℕ → Option Trouble
 trouble_in (Stream carrier form) bytes = blocks_trouble (trouble_of carrier stream_limit bytes)
 trouble_in (Text form) bytes = text_trouble form text_limit bytes
-trouble_in (Storm number units steps workers) bytes = None
+trouble_in (Storm storm workers) bytes = None
 trouble_in (Drill number units count) bytes = None
 trouble_in (Demo number count) bytes = None
 trouble_in Audit bytes = audit_trouble stream_limit bytes
@@ -87,7 +88,7 @@ Judges (Stream carrier form) left trouble =
     (bytes : List ℕ) × (left ≡ Some bytes) × (trouble_in (Stream carrier form) bytes ≡ trouble)
 Judges (Text form) left trouble =
     (bytes : List ℕ) × (left ≡ Some bytes) × (trouble_in (Text form) bytes ≡ trouble)
-Judges (Storm number units steps workers) left trouble = trouble ≡ None
+Judges (Storm storm workers) left trouble = trouble ≡ None
 Judges (Drill number units count) left trouble = trouble ≡ None
 Judges (Demo number count) left trouble = trouble ≡ None
 Judges Audit left trouble =
@@ -117,8 +118,8 @@ JobEnds (Stream carrier form) (Err OutOfMemory) input out net =
     StreamEnds carrier form stream_limit (Err stream.OutOfMemory) input out
 JobEnds (Stream carrier form) (Err _) input out net = ⊥
 JobEnds (Text form) result input out net = TextEnds form text_limit result input out
-JobEnds (Storm number units steps workers) result input out net =
-    IsUntouched input × StormEnds number units steps result out
+JobEnds (Storm storm workers) result input out net =
+    IsUntouched input × StormEnds storm.number storm.units storm.steps result out
 JobEnds (Drill number units count) result input out net =
     IsUntouched input × DrillEnds number units count result out
 JobEnds (Demo number count) result input out net =

@@ -5,6 +5,7 @@ ghost use Rattle.pitch_words.specs.Commands.{IsInRange};
 ghost use Rattle.pitch_tool.specs.Jobs.{job_of as the_job, CanDo};
 
 use pitch_words::Form;
+use storm_replay::Storm;
 use stream_print::{Carrier, StreamForm};
 
 /// What is made of a whole text.
@@ -26,23 +27,11 @@ pub enum Job {
     /// A log and a report are read, and whether they agree is written.
     Audit,
     /// Nothing is read, and the summary of a storm is written.
-    Storm {
-        number: u64,
-        units: u8,
-        steps: u32,
-        workers: u8,
-    },
+    Storm { storm: Storm, workers: u8 },
     /// Nothing is read, and where the units of a drill ended is written.
-    Drill {
-        number: u64,
-        units: u8,
-        count: u32,
-    },
+    Drill { number: u64, units: u8, count: u32 },
     /// Nothing is read, and where a demo over the net ended is written.
-    Demo {
-        number: u64,
-        count: u32,
-    },
+    Demo { number: u64, count: u32 },
 }
 
 /// The job of a form.
@@ -64,12 +53,14 @@ pub fn job_of(form: Form) -> Job
             units,
             steps,
             workers,
-        } => Job::Storm {
-            number,
-            units,
-            steps,
-            workers,
-        },
+        } => {
+            let storm = Storm {
+                number,
+                units,
+                steps,
+            };
+            Job::Storm { storm, workers }
+        }
         Form::Drill {
             number,
             units,

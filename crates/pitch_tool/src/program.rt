@@ -62,12 +62,7 @@ fn do_job<R: Threads + Wait + Clock + Sync, I: Source, O: Sink, N: Net, G: Gate 
         }
         Job::Text(form) => print_text(rt, alloc, form, input, out, gate),
         Job::Audit => print_audit(alloc, input, out),
-        Job::Storm {
-            number,
-            units,
-            steps,
-            workers,
-        } => print_storm(rt, alloc, number, units, steps, workers, out, gate),
+        Job::Storm { storm, workers } => print_storm(rt, alloc, storm, workers, out, gate),
         Job::Drill {
             number,
             units,

@@ -5,7 +5,7 @@ use crate::runs::run_over;
 use pitch_io::{FreeGate, MeetGate};
 use pitch_tool::ExitStatus;
 use std::test::*;
-use storm_replay::generate;
+use storm_replay::{Storm, generate};
 
 // The words of a storm, and its summary. The orders and shares are those that as many commands of
 // the plan leave.
@@ -46,7 +46,12 @@ fn a_storm_reads_nothing(rt: HostRuntime) -> Result<(), Fail> {
 #[test]
 fn workers_change_no_byte_of_a_schedule(rt: HostRuntime) -> Result<(), Fail> {
     let mut schedule = Vec::new(rt.alloc());
-    generate(1, 2, 200, &mut schedule)?;
+    let storm = Storm {
+        number: 1,
+        units: 2,
+        steps: 200,
+    };
+    generate(storm, &mut schedule)?;
     let alone = run_over(&rt, rt.alloc(), "replay", &schedule, &mut NoNet, &FreeGate)?;
     assert!(rt; alone.written().len() > 10_000);
     for line in [
@@ -89,7 +94,12 @@ fn two_workers_of_a_storm_meet(rt: HostRuntime) -> Result<(), Fail> {
 #[test]
 fn two_workers_of_a_schedule_meet(rt: HostRuntime) -> Result<(), Fail> {
     let mut schedule = Vec::new(rt.alloc());
-    generate(1, 2, 2000, &mut schedule)?;
+    let storm = Storm {
+        number: 1,
+        units: 2,
+        steps: 2000,
+    };
+    generate(storm, &mut schedule)?;
     let gate = MeetGate::make();
     let line = "replay --workers 2";
     let outcome = run_over(&rt, rt.alloc(), line, &schedule, &mut NoNet, &gate)?;

@@ -1,4 +1,4 @@
--- Each unit's lines apart, and what they write put together again in the schedule's order.
+-- Into how many pieces of work a schedule's units are parted.
 use Rattle.std.specs.Prelude.{ℕ}
 
 -- the most pieces of work into which a schedule's units are parted

@@ -2,11 +2,11 @@
 //!
 //! Each unit's venue gets the plan, some copies of its datagrams are lost and those on line B come
 //! late, and what was lost on both lines is asked of the Gap Request Proxy. At the end comes an
-//! image. `generate` appends the schedule of a storm as a text that `read_schedule` reads.
+//! image. `generate` appends the schedule of a [`Storm`] as a text that `read_schedule` reads.
 //!
-//! `storm` does all its lines in the worlds of its units, and appends a line for the storm and one
-//! for each unit: the status of its client, and the orders and the shares of that client's book. It
-//! hands the worlds back.
+//! `run_storm` does all its lines in the worlds of its units, and appends a line for the storm and
+//! one for each unit: the status of its client, and the orders and the shares of that client's
+//! book. It hands the worlds back.
 #![tactic(auto)]
 
 mod laws;
@@ -17,6 +17,6 @@ mod units;
 mod verbs;
 
 pub use crate::laws::storms_are_read;
-pub use crate::running::storm;
-pub use crate::schedule::generate;
+pub use crate::running::run_storm;
+pub use crate::schedule::{Storm, generate};
 pub use crate::summary::put_storm_line;

@@ -11,6 +11,7 @@ ghost use Rattle.storm_replay.specs.Summary.{AreInTurn, AreStormWorlds, ended_li
 ghost use Rattle.storm_replay.specs.Summary.{storm_text};
 
 use crate::laws::storms_are_read;
+use crate::schedule::Storm;
 use crate::summary::put_storm_line;
 use crate::units::run_units;
 use feed_lines::{LINE, append_unit_line};
@@ -22,11 +23,12 @@ use std::thread::Threads;
 use world_model::World;
 
 // Appends the line that says what a storm was made of.
-fn append_made(number: u64, units: u8, steps: u32, out: &mut Vec<u8>) -> Result<(), OutOfMemory>
-    ensures { OnOk result (out.new.items ≡ out.old.items ++ storm_line number units steps) }
+fn append_made(storm: Storm, out: &mut Vec<u8>) -> Result<(), OutOfMemory>
+    ensures { OnOk result (out.new.items ≡ out.old.items
+        ++ storm_line storm.number storm.units storm.steps) }
 {
     let mut line = [0u8; LINE];
-    let end = put_storm_line(&mut line, 0, number, units, steps);
+    let end = put_storm_line(&mut line, 0, storm);
     out.extend_from_slice(&line[..end])?;
     Ok(())
 }
@@ -56,19 +58,14 @@ fn append_worlds(worlds: &[World], units: u8, out: &mut Vec<u8>) -> Result<(), O
 }
 
 // The summary of a storm by its worlds.
-fn summary_of(
-    alloc: Global,
-    number: u64,
-    units: u8,
-    steps: u32,
-    worlds: &WorldList,
-) -> Result<Vec<u8>, OutOfMemory>
-    requires { AreStormWorlds number units steps worlds.now.items }
-    ensures { IfOk result (λ text. text.items ≡ storm_text number units steps) }
+fn summary_of(alloc: Global, storm: Storm, worlds: &WorldList) -> Result<Vec<u8>, OutOfMemory>
+    requires { AreStormWorlds storm.number storm.units storm.steps worlds.now.items }
+    ensures { IfOk result
+        (λ text. text.items ≡ storm_text storm.number storm.units storm.steps) }
 {
     let mut text = Vec::new(alloc);
-    append_made(number, units, steps, &mut text)?;
-    append_worlds(worlds.as_slice(), units, &mut text)?;
+    append_made(storm, &mut text)?;
+    append_worlds(worlds.as_slice(), storm.units, &mut text)?;
     Ok(text)
 }
 
@@ -77,21 +74,20 @@ fn summary_of(
 fn worlds_of<R: Threads + Sync, G: Gate + Sync>(
     rt: &R,
     alloc: Global,
-    number: u64,
-    units: u8,
-    steps: u32,
+    storm: Storm,
     workers: u8,
     gate: &G,
 ) -> Result<WorldList, OutOfMemory>
-    requires units { (1 ≤ units) × (units ≤ most_units) }
-    requires steps { (1 ≤ steps) × (steps ≤ most_steps) }
+    requires units { (1 ≤ storm.units) × (storm.units ≤ most_units) }
+    requires steps { (1 ≤ storm.steps) × (storm.steps ≤ most_steps) }
     requires workers { (1 ≤ workers) × (workers ≤ most_workers) }
-    ensures run { IfOk result
-        (λ worlds. AreRunThrough (storm_schedule number units steps) worlds.items) }
-    ensures each { IfOk result (λ worlds. AreStormWorlds number units steps worlds.items) }
+    ensures run { IfOk result (λ worlds.
+        AreRunThrough (storm_schedule storm.number storm.units storm.steps) worlds.items) }
+    ensures each { IfOk result (λ worlds.
+        AreStormWorlds storm.number storm.units storm.steps worlds.items) }
 {
     storms_are_read();
-    match run_units(rt, alloc, gate, number, units, steps, workers) {
+    match run_units(rt, alloc, gate, storm, workers) {
         Ok(worlds) => Ok(worlds),
         Err(error) => Err(error),
     }
@@ -102,31 +98,30 @@ fn worlds_of<R: Threads + Sync, G: Gate + Sync>(
 /// unit's client and the orders and shares of its book. Appends the worlds to `worlds`, as `replay`
 /// does for the same schedule.
 ///
-/// A storm has 1 to 16 units and 1 to 10,000 steps, and its summary is the same at each run. As
-/// with `replay`, its units run in up to 64 pieces of work, and the gate is told of each unit.
-/// After OutOfMemory `out` and `worlds` are as before.
-pub fn storm<R: Threads + Sync, G: Gate + Sync>(
+/// The summary of a storm is the same at each run. As with `replay`, its units run in up to 64
+/// pieces of work, and the gate is told of each unit. After OutOfMemory `out` and `worlds` are as
+/// before.
+pub fn run_storm<R: Threads + Sync, G: Gate + Sync>(
     rt: &R,
     alloc: Global,
-    number: u64,
-    units: u8,
-    steps: u32,
+    storm: Storm,
     workers: u8,
     gate: &G,
     worlds: &mut WorldList,
     out: &mut Vec<u8>,
 ) -> Result<(), OutOfMemory>
-    requires units { (1 ≤ units) × (units ≤ most_units) }
-    requires steps { (1 ≤ steps) × (steps ≤ most_steps) }
+    requires units { (1 ≤ storm.units) × (storm.units ≤ most_units) }
+    requires steps { (1 ≤ storm.steps) × (storm.steps ≤ most_steps) }
     requires workers { (1 ≤ workers) × (workers ≤ most_workers) }
-    ensures written { OnOk result (out.new.items ≡ out.old.items ++ storm_text number units steps) }
-    ensures worlds { OnOk result
-        (AddsWorlds (storm_schedule number units steps) worlds.old.items worlds.new.items) }
+    ensures written { OnOk result (out.new.items ≡ out.old.items
+        ++ storm_text storm.number storm.units storm.steps) }
+    ensures worlds { OnOk result (AddsWorlds (storm_schedule storm.number storm.units storm.steps)
+        worlds.old.items worlds.new.items) }
     ensures kept_text { OnErr result (out.new.items ≡ out.old.items) }
     ensures kept_worlds { OnErr result (worlds.new.items ≡ worlds.old.items) }
 {
-    let run = worlds_of(rt, alloc, number, units, steps, workers, gate)?;
-    let summary = summary_of(alloc, number, units, steps, &run)?;
+    let run = worlds_of(rt, alloc, storm, workers, gate)?;
+    let summary = summary_of(alloc, storm, &run)?;
     let start = out.len();
     out.extend_from_slice(&summary)?;
     match worlds.append(run.into_vec()) {

@@ -13,6 +13,17 @@ use crate::verbs::{Part, append_part};
 use pitch_fields::OutOfMemory;
 use pitch_text::{ScheduleEntry, Verb, print_entry};
 
+/// What a storm is made of.
+#[derive(Clone, Copy, Debug, PartialEq, Eq)]
+pub struct Storm {
+    /// The number that its losses and its plan are made from.
+    pub number: u64,
+    /// How many units it has: 1 to 16.
+    pub units: u8,
+    /// How many steps each unit takes: 1 to 10,000.
+    pub steps: u32,
+}
+
 // Appends the line of a verb, and a line feed.
 fn push_line(text: &mut Vec<u8>, unit: u8, verb: Verb) -> Result<(), OutOfMemory>
     requires { IsWellFormed unit verb }
@@ -52,45 +63,47 @@ fn push_part(text: &mut Vec<u8>, number: u64, unit: u8, part: Part) -> Result<()
 }
 
 // Appends a part of each unit.
-fn push_units(text: &mut Vec<u8>, number: u64, units: u8, part: Part) -> Result<(), OutOfMemory>
-    requires units { units ≤ most_units }
+fn push_units(text: &mut Vec<u8>, storm: Storm, part: Part) -> Result<(), OutOfMemory>
+    requires units { storm.units ≤ most_units }
     requires part { IsPart part }
-    ensures { OnOk result
-        (text.new.items ≡ text.old.items ++ lines_text (part_by_each number units part)) }
+    ensures { OnOk result (text.new.items ≡ text.old.items
+        ++ lines_text (part_by_each storm.number storm.units part)) }
 {
-    'units: for index in 0..units {
-        push_part(text, number, index + 1, part)?;
+    'units: for index in 0..storm.units {
+        push_part(text, storm.number, index + 1, part)?;
     }
     Ok(())
 }
 
 // Appends all steps.
-fn push_steps(text: &mut Vec<u8>, number: u64, units: u8, steps: u32) -> Result<(), OutOfMemory>
-    requires units { units ≤ most_units }
-    requires steps { steps ≤ most_steps }
-    ensures { OnOk result
-        (text.new.items ≡ text.old.items ++ lines_text (storm_steps number units steps)) }
+fn push_steps(text: &mut Vec<u8>, storm: Storm) -> Result<(), OutOfMemory>
+    requires units { storm.units ≤ most_units }
+    requires steps { storm.steps ≤ most_steps }
+    ensures { OnOk result (text.new.items ≡ text.old.items
+        ++ lines_text (storm_steps storm.number storm.units storm.steps)) }
 {
-    'steps: for index in 0..steps {
-        push_units(text, number, units, Part::Step { index: index + 1 })?;
+    'steps: for index in 0..storm.steps {
+        push_units(text, storm, Part::Step { index: index + 1 })?;
     }
     Ok(())
 }
 
 /// Appends the schedule of a storm: canonical lines, each ended by a line feed.
 ///
-/// A storm has 1 to 16 units and 1 to 10,000 steps. Its schedule has at most 67,108,864 bytes, and
-/// is made of the number, the units and the steps alone. After OutOfMemory `out` is as before.
-pub fn generate(number: u64, units: u8, steps: u32, out: &mut Vec<u8>) -> Result<(), OutOfMemory>
-    requires units { (1 ≤ units) × (units ≤ most_units) }
-    requires steps { (1 ≤ steps) × (steps ≤ most_steps) }
-    ensures ok { OnOk result (out.new.items ≡ out.old.items ++ storm_schedule number units steps) }
+/// It has at most 67,108,864 bytes, and is made of the number, the units and the steps alone. After
+/// OutOfMemory `out` is as before.
+pub fn generate(storm: Storm, out: &mut Vec<u8>) -> Result<(), OutOfMemory>
+    requires units { (1 ≤ storm.units) × (storm.units ≤ most_units) }
+    requires steps { (1 ≤ storm.steps) × (storm.steps ≤ most_steps) }
+    ensures ok { OnOk result (out.new.items ≡ out.old.items
+        ++ storm_schedule storm.number storm.units storm.steps) }
     ensures err { OnErr result (out.new.items ≡ out.old.items) }
 {
     let mut text = Vec::new(*out.allocator());
-    push_units(&mut text, number, units, Part::Start)?;
-    push_steps(&mut text, number, units, steps)?;
-    push_units(&mut text, number, units, Part::End { steps })?;
+    push_units(&mut text, storm, Part::Start)?;
+    push_steps(&mut text, storm)?;
+    let end = Part::End { steps: storm.steps };
+    push_units(&mut text, storm, end)?;
     out.extend_from_slice(&text)?;
     Ok(())
 }

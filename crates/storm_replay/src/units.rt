@@ -13,6 +13,7 @@ ghost use Rattle.storm_replay.specs.Units.{AreUnitsDone, AreGathered};
 ghost use Rattle.world_model.specs.Stands.{WorldStands};
 ghost use Rattle.world_model.specs.declared.limits.Limits.{Limits as LimitsSaid};
 
+use crate::schedule::Storm;
 use crate::verbs::{Part, append_part};
 use pitch_fields::OutOfMemory;
 use pitch_io::Gate;
@@ -217,18 +218,17 @@ pub(crate) fn run_units<R: Threads + Sync, G: Gate + Sync>(
     rt: &R,
     alloc: Global,
     gate: &G,
-    number: u64,
-    units: u8,
-    steps: u32,
+    storm: Storm,
     workers: u8,
 ) -> Result<WorldList, OutOfMemory>
-    requires steps { steps ≤ most_steps }
+    requires steps { storm.steps ≤ most_steps }
     requires workers { 0 < workers }
-    ensures { IfOk result (λ worlds. AreUnitsDone number steps (counting 1 units) worlds.items) }
+    ensures { IfOk result (λ worlds.
+        AreUnitsDone storm.number storm.steps (counting 1 storm.units) worlds.items) }
 {
-    let all = all_units(alloc, units)?;
+    let all = all_units(alloc, storm.units)?;
     let size = all.len().saturating_sub(1) / usize::from(workers) + 1;
-    let pieces = run_pieces(rt, alloc, gate, number, steps, &all, size)?;
+    let pieces = run_pieces(rt, alloc, gate, storm.number, storm.steps, &all, size)?;
     let worlds = gather(alloc, pieces)?;
     Ok(worlds)
 }

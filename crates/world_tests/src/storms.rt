@@ -6,7 +6,7 @@ use feed_lines::{LINE, put_unit_line};
 use pitch_model::Status;
 use std::alloc::Global;
 use std::test::*;
-use storm_replay::{generate, put_storm_line};
+use storm_replay::{Storm, generate, put_storm_line};
 
 // The schedule of one unit and four steps for the number 0, whose first lost copy is that of
 // datagram 2 on line B.
@@ -18,25 +18,24 @@ const SHORT: &str = "1 grp open\n1 grp up all\n1 grp down all\n\
     1 beat\n1 a 5\n1 grp cut\n1 spin open\n1 spin up all\n1 advertise\n1 spin down all\n\
     1 tick\n1 spin up all\n1 spin down all\n";
 
-// Whether this is generated for a number, units and steps.
-fn is_generated(
-    alloc: Global,
-    number: u64,
-    units: u8,
-    steps: u32,
-    expected: &[u8],
-) -> Result<bool, Fail>
-    requires units { (1 ≤ units) × (units ≤ 16) }
-    requires steps { (1 ≤ steps) × (steps ≤ 10000) }
+// Whether this is generated for a storm.
+fn is_generated(alloc: Global, storm: Storm, expected: &[u8]) -> Result<bool, Fail>
+    requires units { (1 ≤ storm.units) × (storm.units ≤ 16) }
+    requires steps { (1 ≤ storm.steps) × (storm.steps ≤ 10000) }
 {
     let mut text = Vec::new(alloc);
-    generate(number, units, steps, &mut text)?;
+    generate(storm, &mut text)?;
     Ok(text.as_slice() == expected)
 }
 
 #[test]
 fn a_short_storm_is_written_out(rt: HostRuntime) -> Result<(), Fail> {
-    let right = is_generated(rt.alloc(), 0, 1, 4, SHORT.as_bytes())?;
+    let storm = Storm {
+        number: 0,
+        units: 1,
+        steps: 4,
+    };
+    let right = is_generated(rt.alloc(), storm, SHORT.as_bytes())?;
     assert!(rt; right);
     Ok(())
 }
@@ -64,12 +63,12 @@ fn summed(text: &[u8]) -> (usize, u64, u64) {
 }
 
 // The sums of what is generated.
-fn sums_of(alloc: Global, number: u64, units: u8, steps: u32) -> Result<(usize, u64, u64), Fail>
-    requires units { (1 ≤ units) × (units ≤ 16) }
-    requires steps { (1 ≤ steps) × (steps ≤ 10000) }
+fn sums_of(alloc: Global, storm: Storm) -> Result<(usize, u64, u64), Fail>
+    requires units { (1 ≤ storm.units) × (storm.units ≤ 16) }
+    requires steps { (1 ≤ storm.steps) × (storm.steps ≤ 10000) }
 {
     let mut text = Vec::new(alloc);
-    generate(number, units, steps, &mut text)?;
+    generate(storm, &mut text)?;
     Ok(summed(text.as_slice()))
 }
 
@@ -77,7 +76,12 @@ fn sums_of(alloc: Global, number: u64, units: u8, steps: u32) -> Result<(usize, 
 fn a_storm_is_made_of_its_numbers_alone(rt: HostRuntime) -> Result<(), Fail> {
     for (number, units, steps, expected) in CASES {
         assert!(rt; units >= 1 && units <= 16 && steps >= 1 && steps <= 10_000);
-        let sums = sums_of(rt.alloc(), number, units, steps)?;
+        let storm = Storm {
+            number,
+            units,
+            steps,
+        };
+        let sums = sums_of(rt.alloc(), storm)?;
         assert!(rt; sums == expected);
     }
     Ok(())
@@ -91,7 +95,12 @@ fn a_summary_says_where_each_unit_ended(rt: HostRuntime) {
 
 fn is_storm_line(expected: &[u8]) -> bool {
     let mut line = [0u8; LINE];
-    let end = put_storm_line(&mut line, 0, 7, 16, 10_000);
+    let storm = Storm {
+        number: 7,
+        units: 16,
+        steps: 10_000,
+    };
+    let end = put_storm_line(&mut line, 0, storm);
     &line[..end] == expected
 }
 

@@ -8,7 +8,7 @@ use schedule_replay::WorldList;
 use std::alloc::Global;
 use std::test::*;
 use std::thread::Threads;
-use storm_replay::storm;
+use storm_replay::{Storm, run_storm};
 use world_model::World;
 
 // The number, units and steps of a storm, and its summary. Four steps of the number 0 are a clock,
@@ -46,7 +46,12 @@ fn a_storm_tells_where_its_units_ended(rt: HostRuntime) -> Result<(), Fail> {
     let mut worlds = WorldList::make(rt.alloc());
     for (number, units, steps, text) in STORMS {
         assert!(rt; units >= 1 && units <= 16 && steps >= 1 && steps <= 10_000);
-        let right = is_summed_up(&rt, rt.alloc(), number, units, steps, text, &mut worlds)?;
+        let storm = Storm {
+            number,
+            units,
+            steps,
+        };
+        let right = is_summed_up(&rt, rt.alloc(), storm, text, &mut worlds)?;
         assert!(rt; right);
     }
     for (index, n, shares) in ENDS {
@@ -60,19 +65,15 @@ fn a_storm_tells_where_its_units_ended(rt: HostRuntime) -> Result<(), Fail> {
 fn is_summed_up<W: Threads + Sync>(
     rt: &W,
     alloc: Global,
-    number: u64,
-    units: u8,
-    steps: u32,
+    storm: Storm,
     text: &[u8],
     worlds: &mut WorldList,
 ) -> Result<bool, Fail>
-    requires units { (1 ≤ units) × (units ≤ 16) }
-    requires steps { (1 ≤ steps) × (steps ≤ 10000) }
+    requires units { (1 ≤ storm.units) × (storm.units ≤ 16) }
+    requires steps { (1 ≤ storm.steps) × (storm.steps ≤ 10000) }
 {
     let mut out = Vec::new(alloc);
-    storm(
-        rt, alloc, number, units, steps, units, &FreeGate, worlds, &mut out,
-    )?;
+    run_storm(rt, alloc, storm, storm.units, &FreeGate, worlds, &mut out)?;
     Ok(out.as_slice() == text)
 }
 
@@ -94,7 +95,12 @@ fn two_units_of_a_storm_meet(rt: HostRuntime) -> Result<(), Fail> {
     let gate = MeetGate::make();
     let mut worlds = WorldList::make(rt.alloc());
     let mut out = Vec::new(rt.alloc());
-    storm(&rt, rt.alloc(), 0, 2, 16, 2, &gate, &mut worlds, &mut out)?;
+    let storm = Storm {
+        number: 0,
+        units: 2,
+        steps: 16,
+    };
+    run_storm(&rt, rt.alloc(), storm, 2, &gate, &mut worlds, &mut out)?;
     assert!(rt; out.as_slice() == STORMS[2].3);
     assert!(rt; (gate.spent(), gate.met()) == (false, 2));
     Ok(())

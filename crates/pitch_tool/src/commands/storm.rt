@@ -11,7 +11,7 @@ use pitch_io::{Gate, Sink};
 use schedule_replay::WorldList;
 use std::alloc::Global;
 use std::thread::Threads;
-use storm_replay::storm;
+use storm_replay::{Storm, run_storm};
 use stream_print::put_all;
 
 /// Writes the summary of a storm, once all its units have ended.
@@ -19,33 +19,22 @@ use stream_print::put_all;
 pub fn print_storm<R: Threads + Sync, O: Sink, G: Gate + Sync>(
     rt: &R,
     alloc: Global,
-    number: u64,
-    units: u8,
-    steps: u32,
+    storm: Storm,
     workers: u8,
     out: &mut O,
     gate: &G,
 ) -> Result<(), Failure>
-    requires storm { IsStorm units steps }
+    requires storm { IsStorm storm.units storm.steps }
     requires workers { AreWorkers workers }
-    ensures ends { StormEnds number units steps result (told O.written out.old out.new) }
+    ensures ends { StormEnds storm.number storm.units storm.steps
+        result (told O.written out.old out.new) }
     ensures unread { result ≢ Err Failure.Read }
     ensures write_cause { HasCause
         (O.faults out.old) (O.faults out.new) (result ≡ Err Failure.Write) }
 {
     let mut worlds = WorldList::make(alloc);
     let mut summary = Vec::new(alloc);
-    storm(
-        rt,
-        alloc,
-        number,
-        units,
-        steps,
-        workers,
-        gate,
-        &mut worlds,
-        &mut summary,
-    )?;
+    run_storm(rt, alloc, storm, workers, gate, &mut worlds, &mut summary)?;
     put_all(out, &summary)?;
     Ok(())
 }

@@ -7,6 +7,6 @@ use Rattle.storm_replay.proofs.running.summary_of.Goals as goal
 
 pub returns : goal.returns
 returns c =
-    let before : List ScheduleEntry = reverse (storm_lines c.args.number c.args.units c.args.steps) in
+    let before : List ScheduleEntry = reverse (storm_lines c.args.storm.number c.args.storm.units c.args.storm.steps) in
     let each : AreInTurn before c.as_slice.result.now = subst (λ (ws : List World). AreInTurn before ws) (sym c.as_slice.ensures) c.requires.each in
-    summary_is c.args.number c.args.units c.args.steps c.new-text.result.items c.append_made.new.out.items c.append_worlds.new.out.items c.new-text.ensures.items c.in_ok-append_made.ensures (c.in_ok-append_worlds.ensures before each)
+    summary_is c.args.storm.number c.args.storm.units c.args.storm.steps c.new-text.result.items c.append_made.new.out.items c.append_worlds.new.out.items c.new-text.ensures.items c.in_ok-append_made.ensures (c.in_ok-append_worlds.ensures before each)
