@@ -108,11 +108,9 @@ impl UnitClient {
     ghost use Rattle.pitch_model.specs.History.{ImageMessages, SpinFinished, image_finished};
     ghost use Rattle.pitch_model.specs.History.{bad_image, spin_of};
     ghost use Rattle.pitch_model.specs.Heard.{heard_messages, heard_block, heard, is_fresh};
-    ghost use Rattle.pitch_model.specs.Changes.{IsItem};
     ghost use Rattle.pitch_model.specs.Heard.{fresh_messages, overflowed_messages, block_fresh};
     ghost use Rattle.pitch_model.specs.Heard.{block_overflows};
-    ghost use Rattle.pitch_model.specs.Changes.{block_change, image_end_at};
-    ghost use Rattle.pitch_model.specs.Changes.{change_of};
+    ghost use Rattle.pitch_model.specs.Changes.{IsItem, block_change, image_end_at, change_of};
     ghost use Rattle.pitch_model.specs.Honest.{Honest, IsHonestAt, AreVenues, message_at};
     ghost use Rattle.pitch_model.specs.Reach.{is_overflow, reach};
     ghost use Rattle.pitch_model.specs.Status.{status_of};
@@ -126,8 +124,8 @@ impl UnitClient {
     ghost use Rattle.client_core.specs.Hearing.{Changes, KeepsBlock, KeepsImaged, OfReached};
     ghost use Rattle.client_core.specs.Items.{IsImage, NeedsNoMemory, message_count};
     ghost use Rattle.client_core.specs.Bookkeeping.{HasRoom, IsImageReady, noted, turned, Notes};
-    ghost use Rattle.client_core.specs.Bookkeeping.{CanNote, CanNoteItem, KeepsLogRoom, NotesVenues};
-    ghost use Rattle.client_core.specs.Bookkeeping.{NotesApplied, Tells};
+    ghost use Rattle.client_core.specs.Bookkeeping.{CanNote, CanNoteItem, KeepsLogRoom};
+    ghost use Rattle.client_core.specs.Bookkeeping.{NotesVenues, NotesApplied, Tells};
     ghost use Rattle.client_core.specs.Keeping.{book_size};
     ghost use Rattle.client_core.specs.Weight.{weight, told_by};
 

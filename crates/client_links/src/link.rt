@@ -1,4 +1,4 @@
-//! What the two links have in common: they read a stream, tell items, send requests, and tick.
+//! A link, whoever its peer is: it reads a stream, tells items, sends requests, and ticks.
 
 ghost use Rattle.std.specs.Prelude.{◌≡◌, ℕ, ◌||◌, List, [], ◌∷◌, ◌++◌, ◌+◌, length, map, OnOk};
 ghost use Rattle.std.specs.Prelude.{OnErr, IsOk, IfOk, IfSome, None, Some};

@@ -7,10 +7,8 @@ use Rattle.std.specs.Str.{IsUtf8, bytes_eq}
 use Rattle.clap.specs.Walk.{Row, first_of}
 use Rattle.clap.specs.Simple.{App, subcommand_of}
 use Rattle.clap.specs.Faults.{fault_of}
-use Rattle.long_options.specs.Words.{Described, Given, IsCall, Listed, Text}
-use Rattle.long_options.specs.Plain.{described, has_dashes}
-use Rattle.long_options.specs.Words.{listed}
-use Rattle.long_options.specs.Plain.{is_plain}
+use Rattle.long_options.specs.Words.{Described, Given, IsCall, Listed, Text, listed}
+use Rattle.long_options.specs.Plain.{described, has_dashes, is_plain}
 use Rattle.long_options.specs.Apps.{program}
 use Rattle.long_options.specs.Found.{Options, given_options}
 

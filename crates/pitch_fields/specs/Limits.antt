@@ -1,4 +1,4 @@
--- The limits of the feed's numbers.
+-- The limits of the feed's numbers, of what a client may hold, and of a text.
 use Rattle.std.specs.Prelude.{ℕ}
 
 -- the last sequence that a message can have: 2^32 - 2, so that the next sequence still has four

@@ -1,4 +1,4 @@
-//! Where the sequences of a unit end, so that the one after the last still fits its field.
+//! The last sequence of a unit, and the most bytes of a text.
 
 /// The last sequence that a message can have: the next one still fits into four bytes.
 pub const LAST_SEQUENCE: u32 = 4294967294;

@@ -1,4 +1,4 @@
--- The calls of a net, and what is on its way.
+-- The calls of a net.
 use Rattle.std.specs.Prelude.{ℕ, List}
 use Rattle.pitch_io.specs.declared.line.Line.{Line}
 use Rattle.pitch_io.specs.declared.sink.Put.{Put as PutAnswer}

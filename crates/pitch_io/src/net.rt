@@ -5,11 +5,9 @@ ghost use Rattle.pitch_io.specs.declared.net.LinkEnd.{LinkEnd as EndOf};
 ghost use Rattle.std.specs.Prelude.{◌≡◌, ℕ, ◌<◌, List, length, Option};
 ghost use Rattle.pitch_io.specs.Causes.{HasCause};
 ghost use Rattle.pitch_io.specs.Putting.{PutsWithin, PutFailed};
-ghost use Rattle.pitch_io.specs.Nets.{Call, Begin, Send, Next, Put as PutCall, Take};
-ghost use Rattle.pitch_io.specs.Coming.{Coming};
-ghost use Rattle.pitch_io.specs.Nets.{NetTakeFailed, NetDoneFailed};
-ghost use Rattle.pitch_io.specs.Coming.{ListsCall, came, CameWithin};
-ghost use Rattle.pitch_io.specs.Coming.{AnswersWhereListed};
+ghost use Rattle.pitch_io.specs.Nets.{Call, Begin, Send, Next, Put as PutCall, Take, NetTakeFailed};
+ghost use Rattle.pitch_io.specs.Nets.{NetDoneFailed};
+ghost use Rattle.pitch_io.specs.Coming.{Coming, ListsCall, came, CameWithin, AnswersWhereListed};
 
 use crate::line::Line;
 use crate::sink::Put;

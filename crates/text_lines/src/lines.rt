@@ -7,10 +7,9 @@ ghost use Rattle.std.specs.Str.Lines.{strip_carriage_return};
 ghost use Rattle.pitch_fields.specs.Limits.{text_limit};
 ghost use Rattle.text_lines.specs.Fields.{Rest};
 ghost use Rattle.text_lines.specs.Reading.{Reads};
-ghost use Rattle.text_lines.specs.Text.{line_of, is_skipped, too_long, said_on};
-ghost use Rattle.text_lines.specs.Items.{item_of, items_of};
-ghost use Rattle.text_lines.specs.Text.{entries_of};
-ghost use Rattle.text_lines.specs.Items.{IsFirstLine, AppendsEntries, IsFirstFault};
+ghost use Rattle.text_lines.specs.Text.{line_of, is_skipped, too_long, said_on, entries_of};
+ghost use Rattle.text_lines.specs.Items.{item_of, items_of, IsFirstLine, AppendsEntries};
+ghost use Rattle.text_lines.specs.Items.{IsFirstFault};
 
 use crate::fault::{Fault, TextCause, TextError};
 use crate::fields::{LineFields, length_before};

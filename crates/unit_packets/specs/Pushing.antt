@@ -1,4 +1,4 @@
--- What a packer knows, and laws of packings.
+-- What a packer knows.
 use Rattle.std.specs.Prelude.{◌≡◌, ℕ, List, ◌++◌, length}
 use Rattle.unit_packets.specs.Packing.{sequence_after, packed_on, packed}
 

@@ -3,10 +3,9 @@
 ghost use Rattle.std.specs.Prelude.{◌≡◌, ℕ, ◌≤◌, List, ◌++◌, [], ◌∷◌, length, take, drop, vec_len};
 ghost use Rattle.std.specs.Prelude.{IfOk, OnOk, OnErr, Err, true};
 ghost use Rattle.unit_packets.specs.Cutting.{blocks_of, place_of, fault_in, fault_from};
-ghost use Rattle.unit_packets.specs.Feeding.{StandsFor};
-ghost use Rattle.unit_packets.specs.Pieces.{Feeds, WithMemory, IsRepeated};
-ghost use Rattle.unit_packets.specs.Feeding.{kept_fault};
-ghost use Rattle.unit_packets.specs.Pieces.{fed_answer, ended_answer, ended_fault};
+ghost use Rattle.unit_packets.specs.Feeding.{StandsFor, kept_fault};
+ghost use Rattle.unit_packets.specs.Pieces.{Feeds, WithMemory, IsRepeated, fed_answer};
+ghost use Rattle.unit_packets.specs.Pieces.{ended_answer, ended_fault};
 ghost use Rattle.unit_packets.specs.Reading.{unread, loaded, passed, kept};
 
 use crate::block::{BlockList, FeedError};

@@ -9,10 +9,9 @@ ghost use Rattle.pitch_model.specs.Book.{book_after};
 ghost use Rattle.pitch_model.specs.Levels.{shares};
 ghost use Rattle.pitch_fields.specs.Fields.{AreBytes};
 ghost use Rattle.venue_core.specs.Commands.{message_of, raw_of};
-ghost use Rattle.venue_core.specs.Plan.{plan_quantity, plan_price, plan_symbol};
-ghost use Rattle.venue_core.specs.Planned.{most_planned};
-ghost use Rattle.venue_core.specs.Plan.{plan_order, plan_at, plan_command, plan};
-ghost use Rattle.venue_core.specs.Planned.{orders_left};
+ghost use Rattle.venue_core.specs.Plan.{plan_quantity, plan_price, plan_symbol, plan_order};
+ghost use Rattle.venue_core.specs.Plan.{plan_at, plan_command, plan};
+ghost use Rattle.venue_core.specs.Planned.{most_planned, orders_left};
 ghost use Rattle.venue_core.specs.Refusals.{refusal};
 
 use pitch_fields::{Price, Side, Symbol};

@@ -47,7 +47,7 @@ grp_says unit event before = grp_sends (grp_server unit) event before
 abbrev pub spin_says : ℕ → Event (List Served) → List (Event (List Served)) → List ℕ
 spin_says unit event before = says_at (spin_server unit) event before
 
--- the server's end of a session
+-- what the server of a session sends at an event
 abbrev pub server_says : ℕ → (session : Session)
     → Event (LooksIn session) → List (Event (LooksIn session)) → List ℕ
 server_says unit Grp event before = grp_says unit event before

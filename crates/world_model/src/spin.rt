@@ -6,10 +6,8 @@ ghost use Rattle.pitch_messages.specs.declared.session.SessionMessage.TheVariant
 ghost use Rattle.pitch_text.specs.declared.verb.Session.TheVariants.{Spin};
 ghost use Rattle.session_ends.specs.Events.{Fed, Asked, Told};
 ghost use Rattle.spin_server.specs.Served.{Served};
-ghost use Rattle.world_model.specs.Connections.{IsSpinServer, HasSpin};
-ghost use Rattle.world_model.specs.Carried.{IsSpinConnection};
-ghost use Rattle.world_model.specs.Connections.{KeepsShelf};
-ghost use Rattle.world_model.specs.Carried.{IsServed};
+ghost use Rattle.world_model.specs.Connections.{IsSpinServer, HasSpin, KeepsShelf};
+ghost use Rattle.world_model.specs.Carried.{IsSpinConnection, IsServed};
 ghost use Rattle.world_model.specs.Ends.{spin_link};
 ghost use Rattle.world_model.specs.State.{State, Connection as ConnectionSaid, waiting};
 ghost use Rattle.world_model.specs.Verbs.{connection, login_of, at_server_of, at_link, asked};
