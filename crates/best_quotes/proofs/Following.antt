@@ -2,9 +2,9 @@
 use Rattle.std.proofs.Common.{◌≡◌, ℕ, ◌+◌, ◌-◌, ◌≤◌, List, ◌++◌, length, take, drop, sym, ap, ◌∙◌, arith}
 use Rattle.unit_packets.specs.Blocks.{Block}
 use Rattle.pitch_model.specs.Book.{Book, book_after}
-use Rattle.pitch_model.specs.HeardBlocks.{heard_block}
 use Rattle.pitch_model.specs.History.{Entry, Raw}
 use Rattle.pitch_model.specs.Reach.{reach}
+use Rattle.heard_items.specs.HeardBlocks.{heard_block}
 use Rattle.best_quotes.specs.Quoting.{quotes_of_block}
 use Rattle.best_quotes.specs.LastBest.{quoted}
 use Rattle.best_quotes.specs.declared.quote.QuoteLine.{QuoteLine}

@@ -7,9 +7,9 @@ use Rattle.pitch_model.specs.Book.{book_after}
 use Rattle.pitch_model.specs.History.{Entry, Raw, Message, Next}
 use Rattle.pitch_model.specs.Levels.{best}
 use Rattle.pitch_model.specs.Reach.{reach, reach_of}
-use Rattle.pitch_model.specs.HeardBlocks.{heard_messages, heard_sequenced, heard_block}
-use Rattle.pitch_model.specs.Units.{unit_history}
 use Rattle.pitch_model.proofs.Rises.{reach_rises}
+use Rattle.heard_items.specs.HeardBlocks.{heard_messages, heard_sequenced, heard_block}
+use Rattle.heard_items.specs.Units.{unit_history}
 use Rattle.best_quotes.specs.declared.quote.Quote.{Quote}
 use Rattle.best_quotes.specs.Changes.{changes}
 use Rattle.best_quotes.specs.declared.quote.QuoteLine.{QuoteLine}

@@ -3,9 +3,9 @@ use Rattle.std.proofs.Common.{◌≡◌, ◌≢◌, ℕ, List, [], ◌∷◌, sy
 use Rattle.std.proofs.Math.ListN.{set}
 use Rattle.unit_packets.specs.Blocks.{Block}
 use Rattle.pitch_model.specs.History.{Entry}
-use Rattle.pitch_model.specs.HeardBlocks.{heard_block}
-use Rattle.pitch_model.specs.Units.{unit_history}
-use Rattle.pitch_model.proofs.Units.{history_same, history_other}
+use Rattle.heard_items.specs.HeardBlocks.{heard_block}
+use Rattle.heard_items.specs.Units.{unit_history}
+use Rattle.heard_items.proofs.Units.{history_same, history_other}
 use Rattle.unit_clients.specs.Tables.{AtEach}
 use Rattle.unit_clients.proofs.Placing.{each_set}
 use Rattle.best_quotes.specs.Stands.{Stands}

@@ -6,7 +6,7 @@ use Rattle.pitch_fields.specs.declared.side.Side.{Side}
 use Rattle.pitch_model.specs.Book.{Book, after}
 use Rattle.pitch_model.specs.History.{Raw}
 use Rattle.pitch_model.specs.Levels.{same_side}
-use Rattle.pitch_model.specs.Units.{unit_history}
+use Rattle.heard_items.specs.Units.{unit_history}
 use Rattle.best_quotes.specs.declared.quote.Quote.{Quote}
 use Rattle.best_quotes.specs.declared.quote.QuoteLine.{QuoteLine}
 use Rattle.best_quotes.specs.Changes.{changes}

@@ -6,7 +6,7 @@ use Rattle.pitch_fields.specs.Price.{price_digits}
 use Rattle.pitch_fields.specs.Name.{name_shown}
 use Rattle.unit_packets.specs.Blocks.{Block}
 use Rattle.pitch_model.specs.History.{Raw}
-use Rattle.pitch_model.specs.Units.{unit_history}
+use Rattle.heard_items.specs.Units.{unit_history}
 use Rattle.feed_lines.specs.Texts.{texts_after}
 use Rattle.best_quotes.specs.declared.quote.Quote.{Quote}
 use Rattle.best_quotes.specs.declared.quote.QuoteLine.{QuoteLine}

@@ -4,7 +4,7 @@ use Rattle.unit_packets.specs.Blocks.{Block}
 use Rattle.pitch_model.specs.Book.{book_after}
 use Rattle.pitch_model.specs.History.{Entry, Raw}
 use Rattle.pitch_model.specs.Reach.{reach}
-use Rattle.pitch_model.specs.HeardBlocks.{heard_block}
+use Rattle.heard_items.specs.HeardBlocks.{heard_block}
 use Rattle.best_quotes.specs.declared.quote.Quote.{Quote}
 use Rattle.best_quotes.specs.declared.quote.QuoteLine.{QuoteLine}
 use Rattle.best_quotes.specs.Changes.{changes}

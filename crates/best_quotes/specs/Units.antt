@@ -3,7 +3,7 @@
 use Rattle.std.specs.Prelude.{◌≡◌, ℕ, List, [], Option, Some, None}
 use Rattle.unit_packets.specs.Blocks.{Block}
 use Rattle.pitch_model.specs.History.{Entry}
-use Rattle.pitch_model.specs.Units.{unit_history}
+use Rattle.heard_items.specs.Units.{unit_history}
 use Rattle.unit_clients.specs.Tables.{UnitTable, AtEach}
 use Rattle.best_quotes.specs.Stands.{Stands}
 use Rattle.best_quotes.specs.declared.unit.QuotedUnit.{QuotedUnit}

@@ -14,7 +14,7 @@ ghost use Rattle.pitch_model.specs.Book.{Book, book_after, with_order, without_o
 ghost use Rattle.pitch_model.specs.History.{Raw};
 ghost use Rattle.pitch_model.specs.Levels.{best, level};
 ghost use Rattle.pitch_model.specs.Reach.{reach};
-ghost use Rattle.pitch_model.specs.Units.{unit_history};
+ghost use Rattle.heard_items.specs.Units.{unit_history};
 ghost use Rattle.best_quotes.specs.Changes.{changes, changes_for, same_best};
 ghost use Rattle.best_quotes.specs.Balance.{shares_at, shares_of};
 ghost use Rattle.best_quotes.specs.Quoting.{quotes_after};

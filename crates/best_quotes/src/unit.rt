@@ -2,8 +2,8 @@
 
 ghost use Rattle.std.specs.Prelude.{◌≡◌, ◌≤◌, ℕ, List, [], OnOk, IfOk};
 ghost use Rattle.pitch_fields.specs.Limits.{most_held};
-ghost use Rattle.pitch_model.specs.Changes.{block_change};
 ghost use Rattle.pitch_model.specs.History.{Entry};
+ghost use Rattle.heard_items.specs.Changes.{block_change};
 ghost use Rattle.best_quotes.specs.Hearing.{StandsOn, Quotes};
 ghost use Rattle.best_quotes.specs.Stands.{Stands};
 

@@ -3,11 +3,11 @@
 ghost use Rattle.std.specs.Prelude.{◌≡◌, ◌≤◌, ◌++◌, ℕ, List, [], ◌∷◌, OnOk, IfOk};
 ghost use Rattle.pitch_fields.specs.Limits.{most_held};
 ghost use Rattle.unit_packets.specs.Blocks.{Block};
-ghost use Rattle.pitch_model.specs.Changes.{block_change};
-ghost use Rattle.pitch_model.specs.HeardBlocks.{heard_block};
 ghost use Rattle.pitch_model.specs.History.{Raw};
 ghost use Rattle.pitch_model.specs.Honest.{Honest};
-ghost use Rattle.pitch_model.specs.Units.{unit_history, AllHonest};
+ghost use Rattle.heard_items.specs.Changes.{block_change};
+ghost use Rattle.heard_items.specs.HeardBlocks.{heard_block};
+ghost use Rattle.heard_items.specs.Units.{unit_history, AllHonest};
 ghost use Rattle.best_quotes.specs.Quoting.{quotes_of_block};
 ghost use Rattle.best_quotes.specs.Units.{StandsAt, IsQuoted, HaveQuoted};
 

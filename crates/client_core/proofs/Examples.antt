@@ -12,17 +12,17 @@ use Rattle.pitch_messages.specs.Reading.{reads}
 use Rattle.pitch_model.specs.Book.{after}
 use Rattle.pitch_model.specs.History.{Entry, Raw, SpinUp, Advertised, Ticked, SpinReply, ImageMessages, SpinFinished}
 use Rattle.pitch_model.specs.Honest.{Honest}
-use Rattle.pitch_model.specs.Heard.{heard}
-use Rattle.pitch_model.specs.Changes.{image_end}
 use Rattle.pitch_model.specs.Image.{image, image_of}
 use Rattle.pitch_model.specs.Reach.{reach_of}
 use Rattle.pitch_fields.specs.Fields.{AreBytes}
 use Rattle.pitch_model.specs.declared.ask.Ask.TheVariants.{Spin}
-use Rattle.pitch_model.specs.declared.change.ImageEnd.TheVariants.{Taken, Bad}
-use Rattle.pitch_model.specs.declared.item.Item.TheVariants as item
 use Rattle.pitch_model.specs.Statuses.{symbol_state}
 use Rattle.pitch_model.proofs.Examples.{no_statuses}
 use Rattle.pitch_model.proofs.Images.{image_book}
+use Rattle.heard_items.specs.Heard.{heard}
+use Rattle.heard_items.specs.Changes.{image_end}
+use Rattle.heard_items.specs.declared.change.ImageEnd.TheVariants.{Taken, Bad}
+use Rattle.heard_items.specs.declared.item.Item.TheVariants as item
 use Rattle.client_core.specs.Items.{IsImage}
 use Rattle.client_core.specs.Tracks.{Tracks, Keeps}
 use Rattle.client_core.specs.declared.client.UnitClient.{UnitClient}

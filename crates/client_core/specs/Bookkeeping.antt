@@ -11,8 +11,8 @@ use Rattle.pitch_model.specs.Book.{Book, book_after}
 use Rattle.pitch_model.specs.History.{Entry, Raw, Spinning, adds, image_finished, bad_image}
 use Rattle.pitch_model.specs.Reach.{SinceOverflow, grown, settled, overflows, reach_of, is_seen}
 use Rattle.pitch_model.specs.Settling.{Settled}
-use Rattle.pitch_model.specs.Changes.{fresh_of, overflows_of, image_end}
-use Rattle.pitch_model.specs.declared.item.Item.{Item}
+use Rattle.heard_items.specs.Changes.{fresh_of, overflows_of, image_end}
+use Rattle.heard_items.specs.declared.item.Item.{Item}
 use Rattle.client_core.specs.Keeping.{holds, order_count}
 use Rattle.client_core.specs.Applying.{Applies}
 use Rattle.client_core.specs.Items.{NeedsNoMemory}

@@ -2,12 +2,12 @@
 -- meant, and each venue whose messages its book and hold were.
 use Rattle.std.specs.Prelude.{◌≡◌, ℕ, List, drop, take}
 use Rattle.unit_packets.specs.Blocks.{Block}
-use Rattle.pitch_model.specs.Changes.{block_change}
-use Rattle.pitch_model.specs.HeardBlocks.{heard_block}
 use Rattle.pitch_model.specs.History.{Entry, Raw}
 use Rattle.pitch_model.specs.Honest.{Honest}
 use Rattle.pitch_model.specs.Reach.{reach}
-use Rattle.pitch_model.specs.declared.change.Change.{Change}
+use Rattle.heard_items.specs.Changes.{block_change}
+use Rattle.heard_items.specs.HeardBlocks.{heard_block}
+use Rattle.heard_items.specs.declared.change.Change.{Change}
 use Rattle.client_core.specs.Blocks.{Carries}
 use Rattle.client_core.specs.Items.{IsImage}
 use Rattle.client_core.specs.Tracks.{Tracks, Keeps}

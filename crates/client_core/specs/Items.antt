@@ -2,8 +2,8 @@
 use Rattle.std.specs.Prelude.{◌≡◌, ℕ, ◌+◌, ◌≤◌, List, length, take}
 use Rattle.pitch_model.specs.Book.{book_after}
 use Rattle.pitch_model.specs.History.{Raw}
-use Rattle.pitch_model.specs.declared.item.Item.{Item}
-use Rattle.pitch_model.specs.declared.item.Item.TheVariants as item
+use Rattle.heard_items.specs.declared.item.Item.{Item}
+use Rattle.heard_items.specs.declared.item.Item.TheVariants as item
 
 -- `Image V s` leaves the book that the first s of the messages V leave
 abbrev pub IsImage : (List Raw → ℕ → List Raw) → List Raw → Type 0

@@ -1,8 +1,8 @@
 -- How many of the messages that a client heard it may still have to pass on: the most that a
 -- follower which sends on what is applied, or the whole book where an image was taken, sends later.
 use Rattle.std.specs.Prelude.{ℕ, ◌+◌, length}
-use Rattle.pitch_model.specs.declared.item.Item.{Item}
-use Rattle.pitch_model.specs.declared.item.Item.TheVariants as item
+use Rattle.heard_items.specs.declared.item.Item.{Item}
+use Rattle.heard_items.specs.declared.item.Item.TheVariants as item
 use Rattle.client_core.specs.Keeping.{book_size}
 use Rattle.client_core.specs.Client.{held_number}
 use Rattle.client_core.specs.declared.client.UnitClient.{UnitClient}

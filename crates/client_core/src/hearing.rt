@@ -9,10 +9,11 @@ use crate::applied_log::AppliedLog;
 use crate::client::UnitClient;
 use crate::spinning::{Finish, SpinState};
 use crate::taking::{Taken, take_image, take_in};
+use heard_items::{Change, ImageEnd, Item};
 use order_book::TurnList;
 use pitch_fields::OutOfMemory;
 use pitch_messages::{RawList, Raws};
-use pitch_model::{Change, ImageEnd, Item, Status};
+use pitch_model::Status;
 use std::mem::replace;
 
 // How messages were classified.
@@ -107,10 +108,10 @@ impl UnitClient {
     ghost use Rattle.pitch_model.specs.History.{GapReply, SpinUp, SpinDown, Advertised, SpinReply};
     ghost use Rattle.pitch_model.specs.History.{ImageMessages, SpinFinished, image_finished};
     ghost use Rattle.pitch_model.specs.History.{bad_image, spin_of};
-    ghost use Rattle.pitch_model.specs.Heard.{heard_messages, heard_block, heard, is_fresh};
-    ghost use Rattle.pitch_model.specs.Heard.{fresh_messages, overflowed_messages, block_fresh};
-    ghost use Rattle.pitch_model.specs.Heard.{block_overflows};
-    ghost use Rattle.pitch_model.specs.Changes.{IsItem, block_change, image_end_at, change_of};
+    ghost use Rattle.heard_items.specs.Heard.{heard_messages, heard_block, heard, is_fresh};
+    ghost use Rattle.heard_items.specs.Heard.{fresh_messages, overflowed_messages, block_fresh};
+    ghost use Rattle.heard_items.specs.Heard.{block_overflows};
+    ghost use Rattle.heard_items.specs.Changes.{IsItem, block_change, image_end_at, change_of};
     ghost use Rattle.pitch_model.specs.Honest.{Honest, IsHonestAt, AreVenues, message_at};
     ghost use Rattle.pitch_model.specs.Reach.{is_overflow, reach};
     ghost use Rattle.pitch_model.specs.Status.{status_of};

@@ -5,8 +5,8 @@ use Rattle.std.specs.Prelude.{codes}
 use Rattle.pitch_messages.specs.Raw.{raws_of}
 use Rattle.pitch_messages.specs.Session.{session_reads, session_written}
 use Rattle.pitch_messages.specs.declared.session.SessionMessage.TheVariants.{GapRequest, SpinRequest}
-use Rattle.pitch_model.specs.declared.item.Item.{Item}
-use Rattle.pitch_model.specs.declared.item.Item.TheVariants as item
+use Rattle.heard_items.specs.declared.item.Item.{Item}
+use Rattle.heard_items.specs.declared.item.Item.TheVariants as item
 use Rattle.unit_packets.specs.BlockBytes.{block_bytes}
 use Rattle.unit_packets.specs.Cutting.{blocks_of, blocks_by, rest_of, rest_by}
 use Rattle.unit_packets.specs.Judging.{judge, messages_end}

@@ -4,7 +4,7 @@ use Rattle.std.specs.List.{list_any}
 use Rattle.std.proofs.lemmas.List.{append-nil}
 use Rattle.unit_packets.specs.Causes.{counted}
 use Rattle.unit_packets.specs.Reading.{Reading, loaded, passed}
-use Rattle.pitch_model.specs.declared.item.Item.{Item}
+use Rattle.heard_items.specs.declared.item.Item.{Item}
 use Rattle.session_ends.specs.declared.closed.Closed.{Closed}
 use Rattle.session_ends.specs.declared.inbox.Heard.{Heard}
 use Rattle.session_ends.specs.declared.role.Role.{Role}

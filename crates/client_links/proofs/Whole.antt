@@ -9,7 +9,7 @@ use Rattle.unit_packets.specs.Cutting.{blocks_of, rest_of, place_of}
 use Rattle.unit_packets.specs.Feeding.{fed_fault}
 use Rattle.unit_packets.specs.declared.header.BlockFault.{BlockFault}
 use Rattle.unit_packets.proofs.Cuts.{appends}
-use Rattle.pitch_model.specs.declared.item.Item.{Item}
+use Rattle.heard_items.specs.declared.item.Item.{Item}
 use Rattle.session_ends.specs.declared.closed.Closed.{Closed}
 use Rattle.session_ends.specs.declared.inbox.Heard.{Heard}
 use Rattle.session_ends.specs.declared.closed.CloseCause.TheVariants.{Sequenced}

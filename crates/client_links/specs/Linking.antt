@@ -1,7 +1,7 @@
 -- What a client's end of a session sends and tells.
 use Rattle.std.specs.Prelude.{◌≡◌, ℕ, false, List, [], ◌∷◌, ◌++◌, is_some, if◌then◌else◌}
 use Rattle.pitch_messages.specs.declared.session.SessionMessage.TheVariants.{Login}
-use Rattle.pitch_model.specs.declared.item.Item.{Item}
+use Rattle.heard_items.specs.declared.item.Item.{Item}
 use Rattle.session_ends.specs.declared.account.Account.{Account}
 use Rattle.session_ends.specs.declared.role.Role.{Role}
 use Rattle.session_ends.specs.Closing.{Setup, closed_of, logged_in}

@@ -7,8 +7,8 @@ use Rattle.pitch_messages.specs.declared.session.SessionMessage.TheVariants.{Gap
 use Rattle.pitch_messages.specs.declared.session.SessionMessage.TheVariants.{SpinAvailable}
 use Rattle.pitch_messages.specs.declared.session.SessionMessage.TheVariants.{SpinRequest, SpinReply}
 use Rattle.pitch_messages.specs.declared.session.SessionMessage.TheVariants.{SpinFinished}
-use Rattle.pitch_model.specs.declared.item.Item.{Item}
-use Rattle.pitch_model.specs.declared.item.Item.TheVariants as item
+use Rattle.heard_items.specs.declared.item.Item.{Item}
+use Rattle.heard_items.specs.declared.item.Item.TheVariants as item
 use Rattle.session_ends.specs.declared.inbox.Heard.{Heard}
 use Rattle.session_ends.specs.declared.inbox.Heard.TheVariants as heard
 use Rattle.session_ends.specs.declared.role.Role.{Role}

@@ -20,10 +20,10 @@ ghost use Rattle.client_links.specs.Telling.{without_spare, run_of, told_of, tel
 ghost use Rattle.client_links.specs.Telling.{message_tells, tells};
 
 use crate::items::ItemList;
+use heard_items::Item;
 use pitch_fields::OutOfMemory;
 use pitch_messages::RawList;
 use pitch_messages::session::SessionMessage;
-use pitch_model::Item;
 use session_ends::{Account, Closed, End, Heard, LentRaw, Role, Said, Sayings};
 use std::alloc::Global;
 use std::marker::{Model, PhantomData};

@@ -7,12 +7,12 @@ use Rattle.std.specs.List.{AllByRecursion, list_any}
 use Rattle.std.specs.Set.{is_member}
 use Rattle.unit_packets.specs.Packing.{IsPacking, packed}
 use Rattle.pitch_model.specs.Advertising.{Operation, accepted_by, advertised_by, last_ten}
-use Rattle.pitch_model.specs.Datagrams.{IsPiece}
 use Rattle.pitch_model.specs.History.{Raw, adds}
 use Rattle.pitch_model.specs.Honest.{AreVenues}
 use Rattle.pitch_model.specs.Image.{image}
-use Rattle.pitch_model.proofs.Datagrams.{packing_pieces, venues_slice, piece_more}
 use Rattle.pitch_model.proofs.Growing.{image_more}
+use Rattle.heard_items.specs.Datagrams.{IsPiece}
+use Rattle.heard_items.proofs.Datagrams.{packing_pieces, venues_slice, piece_more}
 use Rattle.gap_store.specs.Look.{View, Store, store_of, look, slice_of, oldest}
 use Rattle.gap_store.specs.Looking.{given, OneView, PacksAt}
 use Rattle.gap_store.specs.declared.found.Found.{Found}

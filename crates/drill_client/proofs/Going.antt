@@ -13,11 +13,11 @@ use Rattle.pitch_model.specs.declared.ask.Ask.{Ask}
 use Rattle.pitch_model.specs.declared.ask.Ask.TheVariants.{Gap, Spin}
 use Rattle.unit_packets.specs.Cutting.{blocks_of}
 use Rattle.client_core.specs.declared.client.UnitClient.{UnitClient}
-use Rattle.pitch_model.specs.Datagrams.{IsVenueBlock, IsPiece, heard_blocks}
-use Rattle.pitch_model.specs.Heard.{heard_block, heard_messages, heard_sequenced}
 use Rattle.pitch_model.specs.History.{Entry, Raw, Spinning, NoSpin, Asked, Running, Ticked, Message, SpinReply, spin_of, spin_asked, spin_more, spin_replied, spin_finished, image_finished, can_promise, adds}
 use Rattle.pitch_model.specs.Honest.{Honest, AreVenues, AreImages, message_at}
 use Rattle.pitch_model.specs.Image.{image}
+use Rattle.heard_items.specs.Datagrams.{IsVenueBlock, IsPiece, heard_blocks}
+use Rattle.heard_items.specs.Heard.{heard_block, heard_messages, heard_sequenced}
 use Rattle.drill_client.specs.Following.{NoImageRuns, Follows, heard_datagrams, ImageParts, IsImageOf, imaged_whole}
 
 -- ---- Blocks

@@ -4,11 +4,11 @@ use Rattle.std.specs.List.{AllByRecursion}
 use Rattle.std.specs.Coded.{Coded, code_by, coded×, coded_ℕ, coded_list}
 use Rattle.pitch_fields.specs.Fields.{AreBytes}
 use Rattle.unit_packets.specs.Cutting.{blocks_of}
-use Rattle.pitch_model.specs.Datagrams.{heard_blocks}
 use Rattle.pitch_model.specs.History.{Entry, Raw, Spinning, NoSpin, Asked, Running, SpinReply}
 use Rattle.pitch_model.specs.History.{ImageMessages, SpinFinished, spin_of, adds}
 use Rattle.pitch_model.specs.Honest.{Honest}
 use Rattle.pitch_model.specs.Image.{image}
+use Rattle.heard_items.specs.Datagrams.{heard_blocks}
 use Rattle.client_core.specs.Tracks.{Tracks, Keeps}
 use Rattle.client_core.specs.declared.client.UnitClient.{UnitClient}
 

@@ -1,9 +1,9 @@
 -- What the words that cross add to what a client heard.
 use Rattle.std.specs.Prelude.{List, ◌∷◌, false}
 use Rattle.unit_packets.specs.Cutting.{blocks_of}
-use Rattle.pitch_model.specs.Datagrams.{heard_blocks}
 use Rattle.pitch_model.specs.History.{Entry, GapReply, SpinReply}
 use Rattle.pitch_model.specs.History as entry
+use Rattle.heard_items.specs.Datagrams.{heard_blocks}
 use Rattle.drill_client.specs.Following.{imaged_whole}
 use Rattle.drill_client.specs.declared.words.Word.{Word}
 use Rattle.drill_client.specs.declared.words.Word.TheVariants.{Sent, Advertised, Last}

@@ -14,10 +14,11 @@ ghost use Rattle.drill_client.specs.Told.{is_behind, told_all};
 use crate::items::{hear_whole, hear_without_memory};
 use client_core::{UnitClient, images_of_bytes_are_images};
 use feed_lines::append_unit_line;
+use heard_items::Item;
 use pitch_fields::OutOfMemory;
 use pitch_messages::RawList;
 use pitch_model::laws::images_leave_their_books;
-use pitch_model::{Item, Status};
+use pitch_model::Status;
 
 fn is_behind(status: Status) -> bool
     ensures { result ≡ is_behind status }

@@ -8,19 +8,20 @@ ghost use Rattle.pitch_fields.specs.Limits.{most_held};
 ghost use Rattle.unit_packets.specs.Cutting.{blocks_of};
 ghost use Rattle.unit_packets.specs.Packing.{bytes_in};
 ghost use Rattle.pitch_model.specs.Asking.{ask_of};
-ghost use Rattle.pitch_model.specs.Datagrams.{IsVenueBlock, IsPiece, heard_blocks};
-ghost use Rattle.pitch_model.specs.Heard.{heard_block};
 ghost use Rattle.pitch_model.specs.History.{Entry, Raw, GrpUp, SpinUp, Advertised, GapReply};
 ghost use Rattle.pitch_model.specs.History.{SpinReply, Ticked};
+ghost use Rattle.heard_items.specs.Datagrams.{IsVenueBlock, IsPiece, heard_blocks};
+ghost use Rattle.heard_items.specs.Heard.{heard_block};
 ghost use Rattle.drill_client.specs.Following.{Follows, heard_datagrams};
 ghost use Rattle.drill_client.specs.Following.{imaged_whole, ImageParts, FollowsWith};
 ghost use Rattle.drill_client.specs.Following.{IsImageOf};
 
 use crate::items::{hear_whole, hear_without_memory};
 use client_core::{UnitClient, images_of_bytes_are_images};
+use heard_items::Item;
 use pitch_fields::OutOfMemory;
 use pitch_messages::{ByteList, RawList};
-use pitch_model::{Ask, Item};
+use pitch_model::Ask;
 use std::alloc::Global;
 use unit_packets::{BlockView, Blocks};
 

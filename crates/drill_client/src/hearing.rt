@@ -2,8 +2,8 @@
 
 ghost use Rattle.std.specs.Prelude.{◌∷◌, ℕ, List, OnOk};
 ghost use Rattle.unit_packets.specs.Cutting.{blocks_of};
-ghost use Rattle.pitch_model.specs.Datagrams.{heard_blocks};
 ghost use Rattle.pitch_model.specs.History.{Entry, Advertised};
+ghost use Rattle.heard_items.specs.Datagrams.{heard_blocks};
 ghost use Rattle.venue_core.specs.Plan.{plan};
 ghost use Rattle.drill_client.specs.Following.{imaged_whole, FollowsWith};
 ghost use Rattle.drill_client.specs.Words.{heard_word, heard_reply};

@@ -1,10 +1,10 @@
 //! What a client hears: an item for which it needs no memory, and an image as one thing.
 
 ghost use Rattle.std.specs.Prelude.{ℕ, List, OnOk};
-ghost use Rattle.pitch_model.specs.Heard.{heard};
-ghost use Rattle.pitch_model.specs.Changes.{IsItem};
 ghost use Rattle.pitch_model.specs.History.{Entry, Raw};
 ghost use Rattle.pitch_model.specs.Honest.{Honest};
+ghost use Rattle.heard_items.specs.Heard.{heard};
+ghost use Rattle.heard_items.specs.Changes.{IsItem};
 ghost use Rattle.client_core.specs.Hearing.{Hears, KeepsImaged};
 ghost use Rattle.client_core.specs.Items.{IsImage, NeedsNoMemory};
 ghost use Rattle.client_core.specs.Tracks.{Tracks, Keeps};
@@ -12,9 +12,9 @@ ghost use Rattle.client_core.specs.Client.{held_number, spare_of};
 ghost use Rattle.drill_client.specs.Following.{imaged_whole};
 
 use client_core::UnitClient;
+use heard_items::Item;
 use pitch_fields::OutOfMemory;
 use pitch_messages::RawList;
-use pitch_model::Item;
 
 // Hears an item for which no memory is needed.
 pub(crate) fn hear_without_memory(client: &mut UnitClient, item: &Item)

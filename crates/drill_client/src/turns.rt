@@ -3,8 +3,8 @@
 ghost use Rattle.std.specs.Prelude.{◌≡◌, ◌-◌, ◌≤◌, ◌++◌, ℕ, List, [], length, Some, OnOk, OnErr};
 ghost use Rattle.std.specs.Prelude.{IfOk};
 ghost use Rattle.std.specs.List.{AllByRecursion};
-ghost use Rattle.pitch_model.specs.Datagrams.{IsPiece};
 ghost use Rattle.pitch_model.specs.History.{Entry, Raw as RawSaid};
+ghost use Rattle.heard_items.specs.Datagrams.{IsPiece};
 ghost use Rattle.unit_packets.specs.Packing.{bytes_in};
 ghost use Rattle.venue_core.specs.Plan.{plan};
 ghost use Rattle.venue_core.specs.Planned.{most_planned};
@@ -26,12 +26,11 @@ use crate::following::{
 };
 use client_core::UnitClient;
 use gap_store::{Found, GapLookup, look_laws};
+use heard_items::laws::{packed_messages_are_pieces, slices_are_the_venues};
 use pitch_fields::OutOfMemory;
 use pitch_messages::{ByteList, RawList};
 use pitch_model::Ask;
-use pitch_model::laws::{
-    advertised_sequences_rise, packed_messages_are_pieces, slices_are_the_venues, venues_only_grow,
-};
+use pitch_model::laws::{advertised_sequences_rise, venues_only_grow};
 use spin_server::{ImageLookup, Imaged, image_look_laws, shelves_show_what_was_pushed};
 use std::alloc::Global;
 use unit_market::Market;

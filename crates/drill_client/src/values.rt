@@ -2,7 +2,7 @@
 //! messages of its run.
 
 ghost use Rattle.std.specs.Prelude.{◌≡◌, ◌≤◌, length, IfOk};
-ghost use Rattle.pitch_model.specs.Datagrams.{IsPiece};
+ghost use Rattle.heard_items.specs.Datagrams.{IsPiece};
 ghost use Rattle.venue_core.specs.Plan.{plan};
 ghost use Rattle.drill_client.specs.Following.{ImageParts, IsImageOf};
 
@@ -23,7 +23,7 @@ pub struct Datagram<R: DrillRun> {
 impl<R: DrillRun> Model for Datagram<R> {
     ghost use Rattle.std.specs.Prelude.{ℕ, List};
     ghost use Rattle.std.specs.Arc.{arc_slice_items};
-    ghost use Rattle.pitch_model.specs.Datagrams.{IsPiece};
+    ghost use Rattle.heard_items.specs.Datagrams.{IsPiece};
     ghost use Rattle.venue_core.specs.Plan.{plan};
 
     ghost Value = { List ℕ };

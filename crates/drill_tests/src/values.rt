@@ -4,10 +4,11 @@ ghost use Rattle.std.specs.Prelude.{◌≡◌};
 
 use client_core::UnitClient;
 use drill_client::{Datagram, DrillRun, Image, Reached, Reply, Word, begin, hear_reply, hear_word};
+use heard_items::laws::pieces_are_honest;
 use pitch_fields::OutOfMemory;
 use pitch_messages::RawList;
 use pitch_model::Status;
-use pitch_model::laws::{images_leave_their_books, pieces_are_honest};
+use pitch_model::laws::images_leave_their_books;
 use std::alloc::Global;
 use std::marker::Brand;
 use std::process::Abort;

@@ -13,7 +13,8 @@ use Rattle.pitch_messages.specs.Reading.{reads}
 use Rattle.pitch_model.specs.Book.{Book, symbol_cmp, after, book_after}
 use Rattle.pitch_model.specs.Reach.{reach_of, held_count}
 use Rattle.pitch_model.specs.Statuses.{symbol_state, statuses_of}
-use Rattle.pitch_model.proofs.Examples.{block, stream, venue, clock, order, deletion, unknown, grown, sold, no_orders, one_sold, one_order, no_entries, no_statuses, book_of_a_grown_add}
+use Rattle.pitch_model.proofs.Examples.{clock, order, deletion, unknown, grown, sold, no_orders, one_sold, one_order, no_entries, no_statuses, book_of_a_grown_add}
+use Rattle.heard_items.proofs.Examples.{block, stream, venue}
 use Rattle.feed_lines.specs.BookText.{book_head, book_orders, book_text, order_line, status_line}
 use Rattle.feed_lines.specs.Follow.{block_line, lines_after, books_of, follow_text}
 use Rattle.feed_lines.specs.Texts.{texts_after}

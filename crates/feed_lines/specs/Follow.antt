@@ -7,10 +7,10 @@ use Rattle.unit_packets.specs.Blocks.{Block}
 use Rattle.pitch_model.specs.declared.status.Status.{Status}
 use Rattle.pitch_model.specs.Book.{book_after}
 use Rattle.pitch_model.specs.History.{Entry, Raw}
-use Rattle.pitch_model.specs.HeardBlocks.{heard_block, block_overflows}
 use Rattle.pitch_model.specs.Reach.{reach}
 use Rattle.pitch_model.specs.Status.{status_of}
-use Rattle.pitch_model.specs.Units.{unit_history, units_of}
+use Rattle.heard_items.specs.HeardBlocks.{heard_block, block_overflows}
+use Rattle.heard_items.specs.Units.{unit_history, units_of}
 use Rattle.feed_lines.specs.StatusText.{status_text}
 use Rattle.feed_lines.specs.BookText.{book_text}
 use Rattle.feed_lines.specs.Texts.{block_head, texts_after}

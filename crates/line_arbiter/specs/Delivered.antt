@@ -5,7 +5,7 @@ use Rattle.unit_packets.specs.Cutting.{place_of, rest_of}
 use Rattle.unit_packets.specs.Judging.{judge}
 use Rattle.unit_packets.specs.declared.header.Header.{Header}
 use Rattle.unit_packets.specs.declared.header.BlockError.{BlockError}
-use Rattle.pitch_model.specs.Changes.{IsItem, IsItemOf}
+use Rattle.heard_items.specs.Changes.{IsItem, IsItemOf}
 use Rattle.line_arbiter.specs.declared.heard.Heard.{Heard}
 use Rattle.line_arbiter.specs.declared.heard.DatagramFault.{DatagramFault}
 

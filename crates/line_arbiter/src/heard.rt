@@ -1,7 +1,7 @@
 //! What comes of a datagram: an item for each block, and the fault behind them.
 
+use heard_items::Item;
 use pitch_messages::List;
-use pitch_model::Item;
 use unit_packets::BlockError;
 
 /// The item of a block of a datagram, and the block's unit.

@@ -16,11 +16,11 @@ use Rattle.pitch_io.specs.declared.net.NetTaken.TheVariants.{Got, Quiet, End, Fa
 use Rattle.pitch_io.specs.Nets.{Begin, Send, Next, Put, Take}
 use Rattle.pitch_model.specs.Asking.{ask_of}
 use Rattle.pitch_model.specs.Book.{Book, book_after}
-use Rattle.pitch_model.specs.Datagrams.{IsPiece}
 use Rattle.pitch_model.specs.History.{Entry, Raw, SpinDown}
 use Rattle.pitch_model.specs.Honest.{Honest}
 use Rattle.pitch_model.specs.Image.{image}
 use Rattle.pitch_model.specs.Levels.{shares}
+use Rattle.heard_items.specs.Datagrams.{IsPiece}
 use Rattle.session_ends.specs.Closing.{closed_of}
 use Rattle.session_ends.specs.Events.{Event, Fed, Ticked}
 use Rattle.grp_session.specs.Serving.{Source}

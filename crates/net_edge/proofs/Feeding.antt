@@ -9,9 +9,9 @@ use Rattle.pitch_io.specs.declared.net.LinkEnd.TheVariants.{GrpClient, GrpServer
 use Rattle.pitch_io.specs.declared.net.NetTaken.TheVariants.{Got, Quiet, End, Failed}
 use Rattle.pitch_io.specs.Nets.{Begin, Send, Next, Put, Take}
 use Rattle.pitch_messages.specs.Raw.{IsRaw}
-use Rattle.pitch_model.specs.Datagrams.{IsPiece}
 use Rattle.pitch_model.specs.History.{Raw}
-use Rattle.pitch_model.proofs.Datagrams.{piece_more}
+use Rattle.heard_items.specs.Datagrams.{IsPiece}
+use Rattle.heard_items.proofs.Datagrams.{piece_more}
 use Rattle.venue_core.specs.Plan.{plan}
 use Rattle.venue_core.proofs.PlanBooks.{plan_length}
 use Rattle.venue_core.proofs.PlanBytes.{plan_prefix}

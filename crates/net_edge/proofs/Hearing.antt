@@ -7,13 +7,13 @@ use Rattle.pitch_io.specs.declared.net.NetTaken.TheVariants as taken
 use Rattle.pitch_io.specs.Nets.{Call, Next, NetTakeFailed}
 use Rattle.pitch_io.specs.Coming.{ListsCall}
 use Rattle.unit_packets.specs.Blocks.{Block}
-use Rattle.pitch_model.specs.Datagrams.{heard_blocks}
-use Rattle.pitch_model.specs.Heard.{heard_block}
 use Rattle.pitch_model.specs.History.{Entry, Raw}
 use Rattle.pitch_model.specs.Honest.{Honest}
 use Rattle.pitch_model.specs.Image.{image}
-use Rattle.pitch_model.proofs.Datagrams.{heard_both}
-use Rattle.pitch_model.proofs.Units.{honest_block}
+use Rattle.heard_items.specs.Datagrams.{heard_blocks}
+use Rattle.heard_items.specs.Heard.{heard_block}
+use Rattle.heard_items.proofs.Datagrams.{heard_both}
+use Rattle.heard_items.proofs.Units.{honest_block}
 use Rattle.client_core.specs.Blocks.{Carries}
 use Rattle.client_core.specs.Tracks.{Tracks, Keeps}
 use Rattle.client_core.specs.declared.client.UnitClient.{UnitClient}

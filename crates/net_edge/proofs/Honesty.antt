@@ -10,8 +10,8 @@ use Rattle.unit_packets.specs.Cutting.{blocks_of}
 use Rattle.pitch_messages.specs.declared.session.SessionMessage.TheVariants.{SpinRequest}
 use Rattle.pitch_model.specs.declared.ask.Ask.{Ask}
 use Rattle.pitch_model.specs.declared.ask.Ask.TheVariants as asks
-use Rattle.pitch_model.specs.Datagrams.{IsPiece, IsVenueBlock, heard_blocks}
 use Rattle.pitch_model.specs.History.{Entry, Raw, GrpDown, SpinDown, Ticked as EntryTicked}
+use Rattle.heard_items.specs.Datagrams.{IsPiece, IsVenueBlock, heard_blocks}
 use Rattle.session_ends.specs.Closing.{closed_of}
 use Rattle.session_ends.specs.Events.{Event, Fed, Ticked}
 use Rattle.spin_server.specs.Served.{Served}

@@ -4,9 +4,9 @@ use Rattle.std.specs.List.{AllByRecursion, slice_get}
 use Rattle.std.proofs.lemmas.List.{drop_all, drop_at}
 use Rattle.pitch_messages.specs.Raw.{IsRaw}
 use Rattle.unit_packets.specs.Packing.{IsPacking, packed, packed_on}
-use Rattle.pitch_model.specs.Datagrams.{IsPiece}
 use Rattle.pitch_model.specs.History.{Raw}
 use Rattle.pitch_model.specs.Honest.{AreVenues, message_at}
+use Rattle.heard_items.specs.Datagrams.{IsPiece}
 use Rattle.venue_core.specs.Commands.{raw_of}
 use Rattle.venue_core.specs.Plan.{plan, plan_command}
 use Rattle.venue_core.proofs.Accepting.{all_more}

@@ -14,8 +14,8 @@ use Rattle.unit_packets.specs.Packing.{bytes_in}
 use Rattle.pitch_fields.specs.Limits.{last_sequence}
 use Rattle.unit_packets.specs.BlockBytes.{block_bytes, heartbeat_block}
 use Rattle.pitch_model.specs.Advertising.{with_sequence}
-use Rattle.pitch_model.specs.Datagrams.{IsPiece}
 use Rattle.pitch_model.specs.History.{Raw}
+use Rattle.heard_items.specs.Datagrams.{IsPiece}
 use Rattle.venue_core.specs.Losses.{is_lost}
 use Rattle.net_edge.specs.Acting.{is_group_open, sent_on, all_tick, next_turn}
 use Rattle.net_edge.specs.Due.{Setting, IsDuePiece, AreDuePieces, demo_unit, accepted, advertised_until, beat, beats, copies, due, is_tenth, messages, new_datagrams, ticks}

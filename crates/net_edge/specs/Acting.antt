@@ -17,9 +17,9 @@ use Rattle.unit_packets.specs.Cutting.{blocks_of}
 use Rattle.pitch_model.specs.declared.ask.Ask.{Ask}
 use Rattle.pitch_model.specs.declared.ask.Ask.TheVariants as asks
 use Rattle.pitch_model.specs.Asking.{ask_of}
-use Rattle.pitch_model.specs.Datagrams.{heard_blocks}
 use Rattle.pitch_model.specs.History.{Entry, GrpDown, SpinDown}
 use Rattle.pitch_model.specs.History as entry
+use Rattle.heard_items.specs.Datagrams.{heard_blocks}
 use Rattle.pitch_messages.specs.declared.session.SessionMessage.TheVariants.{GapRequest}
 use Rattle.pitch_messages.specs.declared.session.SessionMessage.TheVariants.{SpinRequest}
 use Rattle.session_ends.specs.Closing.{closed_of}

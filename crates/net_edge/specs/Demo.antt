@@ -9,10 +9,10 @@ use Rattle.pitch_io.specs.Nets.{Call, Begin, Send, other_end}
 use Rattle.pitch_io.specs.declared.net.NetDone.TheVariants.{Done, Failed}
 use Rattle.unit_packets.specs.Packing.{datagram_size}
 use Rattle.pitch_model.specs.Book.{Book, book_after}
-use Rattle.pitch_model.specs.Datagrams.{IsPiece}
 use Rattle.pitch_model.specs.Levels.{shares}
 use Rattle.pitch_model.specs.Reach.{reach}
 use Rattle.pitch_model.specs.declared.status.Status.TheVariants.{Current}
+use Rattle.heard_items.specs.Datagrams.{IsPiece}
 use Rattle.venue_core.specs.Plan.{plan}
 use Rattle.feed_lines.specs.UnitLine.{unit_line}
 use Rattle.net_edge.specs.Acting.{scene_of}

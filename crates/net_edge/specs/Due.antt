@@ -8,8 +8,8 @@ use Rattle.pitch_io.specs.declared.line.Line.TheVariants.{A, B, Gap}
 use Rattle.unit_packets.specs.BlockBytes.{block_bytes, heartbeat_block}
 use Rattle.unit_packets.specs.Packing.{packed}
 use Rattle.pitch_model.specs.Advertising.{with_sequence, last_ten}
-use Rattle.pitch_model.specs.Datagrams.{IsPiece}
 use Rattle.pitch_model.specs.History.{Raw}
+use Rattle.heard_items.specs.Datagrams.{IsPiece}
 use Rattle.venue_core.specs.Losses.{is_lost}
 use Rattle.venue_core.specs.Plan.{plan}
 use Rattle.pitch_text.specs.Defaults.{default_hold, default_kept, default_second, default_minute}

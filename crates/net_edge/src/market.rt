@@ -19,9 +19,9 @@ ghost use Rattle.net_edge.specs.Markets.{StillHas, SideAt, HasAccepted, gap_sour
 ghost use Rattle.unit_market.specs.Markets.{image_view};
 
 use grp_session::{GapBudget, GrpServer};
+use heard_items::laws::packed_messages_are_pieces;
 use pitch_fields::OutOfMemory;
 use pitch_messages::{Raw, RawList};
-use pitch_model::laws::packed_messages_are_pieces;
 use spin_server::SpinServer;
 use std::alloc::Global;
 use unit_packets::{DatagramList, pack};

@@ -11,9 +11,10 @@ ghost use Rattle.net_edge.specs.Sessions.{end_of, session_setup, asked_of};
 
 use client_core::UnitClient;
 use client_links::{Link, Peer, ProxyPeer, SpinPeer};
+use heard_items::Item;
 use pitch_fields::OutOfMemory;
 use pitch_io::LinkEnd;
-use pitch_model::{Ask, Item};
+use pitch_model::Ask;
 
 /// The peer of a link whose client's end is at a net.
 pub(crate) trait NetPeer: Peer {

@@ -1,14 +1,12 @@
 -- Worked examples, computed by the definitions.
-use Rattle.std.proofs.Common.{◌≡◌, ◌≢◌, ℕ, true, false, List, [], ◌∷◌, ◌++◌, reverse, map as mapped, inl, inr, refl, sym, ap, ◌∙◌, subst, arith, ◌+◌, cond, codes, Option, Some, None}
-use Rattle.std.specs.List.{AllByRecursion, sum_by}
+use Rattle.std.proofs.Common.{◌≡◌, ℕ, true, false, List, [], ◌∷◌, ◌++◌, map as mapped, refl, sym, ap, ◌∙◌, arith, ◌+◌, cond, codes, Option, Some, None}
+use Rattle.std.specs.List.{sum_by}
 use Rattle.std.specs.Prelude.{filter, bytes_eq, ◌==◌, ◌&&◌}
 use Rattle.std.specs.Option.{is_some, option_map}
 use Rattle.std.specs.Ordering.{nat_cmp}
 use Rattle.std.specs.FinMap as map
-use Rattle.std.proofs.lemmas.Bool.{cases_eq}
 use Rattle.std.proofs.lemmas.Cmp.{nat_cmp_total, nat_list_cmp_total}
 use Rattle.std.proofs.lemmas.List.{nil_from_length}
-use Rattle.unit_packets.specs.Blocks.{Block}
 use Rattle.pitch_messages.specs.declared.order.Order.{Order}
 use Rattle.pitch_messages.specs.declared.message.Message.TheVariants.{Time}
 use Rattle.pitch_messages.specs.declared.trading_state.TradingState.{TradingState}
@@ -19,16 +17,10 @@ use Rattle.pitch_model.specs.Book.{Book, symbol_cmp, empty_book, with_status, wi
 use Rattle.pitch_model.specs.History.{image_finished, Entry, Message, Next, GrpUp, GrpDown, GapReply, SpinUp, SpinDown, Advertised, SpinReply, ImageMessages, SpinFinished, Ticked, NoSpin, Asked, Running, spin_of}
 use Rattle.pitch_model.specs.Advertising.{Accept, Advertise, advertised_by, last_ten}
 use Rattle.pitch_model.specs.Asking.{ask_of, wants, gap_ask, owes, is_grp_up, is_spin_up, advertised_of}
-use Rattle.pitch_model.specs.Heard.{is_fresh, is_accepted, heard_block}
-use Rattle.pitch_model.specs.Changes.{image_end_at}
-use Rattle.pitch_model.specs.Datagrams.{block_messages}
 use Rattle.pitch_model.specs.Levels.{best, best_of, same_side, level, shares, with_level}
-use Rattle.pitch_model.specs.declared.change.ImageEnd.TheVariants.{Stale, Taken, Bad}
 use Rattle.pitch_model.specs.Honest.{Honest}
 use Rattle.pitch_model.specs.Image.{image_of, image}
 use Rattle.pitch_model.specs.Statuses.{symbol_state}
-use Rattle.pitch_model.specs.Units.{unit_history, AllHonest}
-use Rattle.pitch_model.proofs.Units.{history_other}
 use Rattle.pitch_model.specs.declared.ask.Ask.TheVariants.{Gap, Spin}
 use Rattle.pitch_model.specs.Reach.{is_overflow, is_held, reach_of, held_count}
 use Rattle.pitch_model.specs.Status.{status_of}
@@ -87,8 +79,8 @@ behind_what_a_heartbeat_tells : status_of 4096 (Next 4 ∷ message 2 ∷ message
 unfolding reach_of held_count
 behind_what_a_heartbeat_tells = refl
 
--- ---- A stream
--- a clock, an order, a heartbeat that tells of 3, and 3, which deletes the order
+-- ---- Messages
+-- a clock, an order, and its deletion
 abbrev pub clock : List ℕ
 clock = 0x06 ∷ 0x20 ∷ 0x98 ∷ 0x85 ∷ 0 ∷ 0 ∷ []
 
@@ -99,42 +91,6 @@ order =
 
 abbrev pub deletion : List ℕ
 deletion = 0x0e ∷ 0x29 ∷ 0 ∷ 0 ∷ 0 ∷ 0 ∷ 5 ∷ 0 ∷ 0 ∷ 0 ∷ 0 ∷ 0 ∷ 0 ∷ 0 ∷ []
-
-abbrev pub block : ℕ → List (List ℕ) → Block
-block sequence raws = record { unit = 1; sequence = sequence; raws = raws }
-
-abbrev pub stream : List Block
-stream = block 1 (clock ∷ []) ∷ block 2 (order ∷ []) ∷ block 4 [] ∷ block 3 (deletion ∷ []) ∷ []
-
-abbrev pub venue : ℕ → List (List ℕ)
-venue unit = clock ∷ order ∷ deletion ∷ []
-
--- blocks of unit 1 alone tell the others nothing, so they are honest where unit 1 hears the venue's
--- messages
-others_hear_nothing : (unit : ℕ) (before : List Block) → 1 ≢ unit → AllByRecursion (λ block. block.unit ≡ 1) before → unit_history unit before ≡ []
-others_hear_nothing unit [] other all = refl
-others_hear_nothing unit (block ∷ before) other all = history_other unit block before (λ e. other (sym all.0 ∙ e)) ∙ others_hear_nothing unit before other all.1
-
-all_honest : (before : List Block) → AllByRecursion (λ block. block.unit ≡ 1) before → Honest image (venue 1) (unit_history 1 before) → AllHonest image venue before
-all_honest before all honest unit = elim (cases_eq 1 unit) [
-  | inl one ↦ subst (λ (u : ℕ). Honest image (venue u) (unit_history u before)) one honest
-  | inr other ↦ subst (Honest image (venue unit)) (sym (others_hear_nothing unit before other all)) tt
-]
-
--- the messages in their order, and a heartbeat that tells of the last one before it comes
-pub stream_is_honest : AllHonest image venue (reverse stream)
-stream_is_honest = all_honest (reverse stream) (refl, (refl, (refl, (refl, tt)))) (refl, (omega arith, (refl, (refl, tt))))
-
--- the second message comes last, and fills the gap
-abbrev late : List Block
-late = block 1 (clock ∷ []) ∷ block 3 (deletion ∷ []) ∷ block 2 (order ∷ []) ∷ []
-
-late_is_honest : AllHonest image venue (reverse late)
-late_is_honest = all_honest (reverse late) (refl, (refl, (refl, tt))) (refl, (refl, (refl, tt)))
-
-late_is_current : status_of 4096 (unit_history 1 (reverse late)) ≡ Current 3
-unfolding reach_of held_count
-late_is_current = refl
 
 -- ---- Books
 pub no_entries : (m : map.FinMap nat_cmp Order) → map.len m ≡ 0 → map.entries m ≡ []
@@ -395,28 +351,8 @@ a_reply_to_another_is_passed_over = refl
 messages_of_an_image_add_up : spin_of (ImageMessages (order ∷ []) ∷ ImageMessages (clock ∷ []) ∷ SpinReply 2 1 true ∷ Ticked (Some (Spin 2)) ∷ []) ≡ Running 2 1 (clock ∷ order ∷ [])
 messages_of_an_image_add_up = refl
 
-an_image_of_the_reach_is_stale : image_end_at 4 ((4, []) ∷ []) [] ≡ Stale
-an_image_of_the_reach_is_stale = refl
-
-an_image_above_it_is_taken : image_end_at 3 ((4, []) ∷ []) [] ≡ Taken
-an_image_above_it_is_taken = refl
-
-nothing_is_fresh_at_the_reach : is_fresh 4096 (SpinFinished 4 ∷ SpinReply 4 0 true ∷ Ticked (Some (Spin 4)) ∷ []) 4 ≡ false
-unfolding reach_of held_count
-nothing_is_fresh_at_the_reach = refl
-
-a_is_accepted : is_accepted 65 ≡ true
-a_is_accepted = refl
-
-no_other_is : is_accepted 66 ≡ false
-no_other_is = refl
-
 ten_are_served : last_ten (0 ∷ 1 ∷ 2 ∷ 3 ∷ 4 ∷ 5 ∷ 6 ∷ 7 ∷ 8 ∷ 9 ∷ 10 ∷ []) ≡ 1 ∷ 2 ∷ 3 ∷ 4 ∷ 5 ∷ 6 ∷ 7 ∷ 8 ∷ 9 ∷ 10 ∷ []
 ten_are_served = refl
-
--- a bad image is told with all its orders
-all_orders_of_a_bad_image_are_told : image_end_at 3 [] ((1, order ∷ order ∷ order ∷ []) ∷ []) ≡ Bad 1 3
-all_orders_of_a_bad_image_are_told = refl
 
 -- ---- Levels
 -- the book of the one order
@@ -477,18 +413,3 @@ another_sequence_finishes_nothing = refl
 an_image_is_asked_for_after_an_overflow : ask_of 2 (Advertised 3 ∷ SpinUp ∷ message 7 ∷ three ++ GrpUp ∷ []) ≡ Some (Spin 3)
 unfolding reach_of held_count
 an_image_is_asked_for_after_an_overflow = refl
-
-a_held_message_is_not_fresh : is_fresh 4096 (message 3 ∷ message 1 ∷ []) 3 ≡ false
-unfolding reach_of held_count
-a_held_message_is_not_fresh = refl
-
-the_missing_one_is : is_fresh 4096 (message 3 ∷ message 1 ∷ []) 2 ≡ true
-unfolding reach_of held_count
-the_missing_one_is = refl
-
--- ---- Blocks without sequences
-nothing_is_heard_of_them : heard_block (block 0 (clock ∷ [])) [] ≡ []
-nothing_is_heard_of_them = refl
-
-nor_counted : block_messages (block 0 (clock ∷ [])) ≡ 0
-nor_counted = refl

@@ -8,12 +8,6 @@ pub mod Reach
 pub mod Settling
 pub mod Steps
 pub mod Status
-pub mod HeardBlocks
-pub mod Heard
-pub mod Changes
 pub mod Honest
 pub mod Asking
-pub mod Units
-pub mod Datagrams
-pub mod DatagramCounts
 pub mod Advertising

@@ -1,25 +1,18 @@
 //! Laws of the definitions. These functions do nothing: what they ensure is proved of the
 //! definitions alone.
 
-ghost use Rattle.std.specs.Prelude.{◌≡◌, ℕ, ◌+◌, ◌<◌, ◌≤◌, Bool, true, false, ◌||◌, ◌==◌, List, []};
-ghost use Rattle.std.specs.Prelude.{◌∷◌, ◌++◌, length, reverse, filter, take, drop, nat_eq};
+ghost use Rattle.std.specs.Prelude.{◌≡◌, ℕ, ◌+◌, ◌<◌, ◌≤◌, true, false, ◌||◌, ◌==◌, List, []};
+ghost use Rattle.std.specs.Prelude.{◌∷◌, ◌++◌, length, take, nat_eq};
 ghost use Rattle.std.specs.Prelude.{unwrap_or};
-ghost use Rattle.std.specs.List.{list_any, sum_by, AllByRecursion};
+ghost use Rattle.std.specs.List.{AllByRecursion};
 ghost use Rattle.std.specs.List.Sorted.{IsStrictlyIncreasing};
 ghost use Rattle.std.specs.Set.{is_member};
 ghost use Rattle.std.specs.FinMap as map;
 ghost use Rattle.pitch_fields.specs.Limits.{last_sequence};
 ghost use Rattle.pitch_fields.specs.declared.side.Side.{Side};
 ghost use Rattle.pitch_messages.specs.Raw.{IsRaw};
-ghost use Rattle.unit_packets.specs.Blocks.{Block, StaysWithin};
-ghost use Rattle.unit_packets.specs.BlockBytes.{block_bytes, heartbeat_block};
-ghost use Rattle.unit_packets.specs.Cutting.{blocks_of};
-ghost use Rattle.unit_packets.specs.Packing.{IsPacking};
-ghost use Rattle.pitch_model.specs.declared.item.Item.{Item};
 ghost use Rattle.pitch_model.specs.Book.{Book, IsBook, book_after};
 ghost use Rattle.pitch_model.specs.Image.{IsOfImage, image_of, image};
-ghost use Rattle.pitch_model.specs.Datagrams.{heard_blocks, IsPiece};
-ghost use Rattle.pitch_model.specs.DatagramCounts.{messages_in, fresh_in, overflows_in, changes_in};
 ghost use Rattle.pitch_model.specs.Advertising.{Operation, Accept, Advertise, accepted_at};
 ghost use Rattle.pitch_model.specs.Advertising.{accepted_by, with_sequence, advertised_by};
 ghost use Rattle.pitch_model.specs.Advertising.{last_ten, newest_of};
@@ -28,11 +21,7 @@ ghost use Rattle.pitch_fields.specs.Fields.{AreBytes};
 ghost use Rattle.pitch_model.specs.Levels.{IsBestOf, best, level, orders_on, prices_on};
 ghost use Rattle.pitch_model.specs.History.{Entry, Raw, Message, SpinFinished, spin_of, images_at};
 ghost use Rattle.pitch_model.specs.History.{image_finished, messages_at, adds, can_promise};
-ghost use Rattle.pitch_model.specs.Heard.{heard, heard_block};
-ghost use Rattle.pitch_model.specs.Changes.{IsItem, IsItemOf, change_of};
-ghost use Rattle.pitch_model.specs.Changes.{block_change};
-ghost use Rattle.pitch_model.specs.Honest.{AreVenues, Honest};
-ghost use Rattle.pitch_model.specs.Units.{unit_history, units_of};
+ghost use Rattle.pitch_model.specs.Honest.{Honest};
 ghost use Rattle.pitch_model.specs.Reach.{SinceOverflow, IsReach, is_anchor, is_seen, reach_of};
 ghost use Rattle.pitch_model.specs.Reach.{held_count, since_overflow, reach, is_held};
 ghost use Rattle.pitch_model.specs.Status.{top_of};
@@ -124,23 +113,6 @@ pub fn honest_histories_stay_within_the_venue()
         → Honest Image V E → unwrap_or (top_of E) 0 ≤ length V }
 {}
 
-/// The item of a block says what the block says.
-pub fn items_say_what_their_blocks_say()
-    ensures heard { (block : Block) (item : Item) (E : List Entry)
-        → IsItemOf block item → heard item E ≡ heard_block block E }
-    ensures change { (H : ℕ) (block : Block) (item : Item) (E : List Entry)
-        → IsItemOf block item → change_of H E item ≡ block_change H E block }
-    ensures fits { (block : Block) (item : Item)
-        → StaysWithin block.sequence (length block.raws) → IsItemOf block item → IsItem item }
-{}
-
-/// Each unit that a block names is listed once, by rising number, and no other unit is.
-pub fn units_are_those_named()
-    ensures rise { (before : List Block) → IsStrictlyIncreasing (units_of before) }
-    ensures named { (before : List Block) (unit : ℕ)
-        → is_member nat_eq (units_of before) unit ≡ list_any (λ block. unit == block.unit) before }
-{}
-
 /// The best price of a side is one of its orders' prices, and none of theirs is better; there is
 /// none exactly where the side has no order.
 pub fn best_price_is_the_best()
@@ -180,51 +152,6 @@ pub fn venues_only_grow()
     ensures image { (V more : List Raw) (s : ℕ) → s ≤ length V → image (V ++ more) s ≡ image V s }
     ensures honest { (V more : List Raw) (E : List Entry)
         → Honest image V E → Honest image (V ++ more) E }
-{}
-
-/// The sums over blocks that are heard one after another are the sums of what each block changes,
-/// and none is above the number of messages. What a unit's client heard of a stream is what it
-/// hears of the unit's blocks, one after another.
-pub fn blocks_add_up()
-    ensures heard { (E : List Entry) (xs ys : List Block)
-        → heard_blocks (xs ++ ys) E ≡ heard_blocks ys (heard_blocks xs E) }
-    ensures fresh { (H : ℕ) (E : List Entry) (blocks : List Block)
-        → fresh_in H E blocks ≡ sum_by (λ change. change.fresh) (changes_in H E blocks) }
-    ensures overflows { (H : ℕ) (E : List Entry) (blocks : List Block)
-        → overflows_in H E blocks ≡ sum_by (λ change. change.overflows) (changes_in H E blocks) }
-    ensures fresh_few { (H : ℕ) (E : List Entry) (blocks : List Block)
-        → fresh_in H E blocks ≤ messages_in blocks }
-    ensures overflows_few { (H : ℕ) (E : List Entry) (blocks : List Block)
-        → overflows_in H E blocks ≤ messages_in blocks }
-    ensures unit { (unit : ℕ) (blocks : List Block) → unit_history unit (reverse blocks)
-        ≡ heard_blocks (filter (λ block. block.unit == unit) blocks) [] }
-{}
-
-/// The messages after the first n of a venue's, and some of the first of these, are its messages
-/// from sequence n + 1 on.
-pub fn slices_are_the_venues()
-    ensures rest { (V : List Raw) (n : ℕ) → AreVenues V (n + 1) (drop n V) }
-    ensures slice { (V : List Raw) (n count : ℕ) → AreVenues V (n + 1) (take count (drop n V)) }
-{}
-
-/// What is heard of a piece of a venue's feed after an honest history leaves it honest; and a piece
-/// stays one where the venue accepts more.
-pub fn pieces_are_honest()
-    ensures honest { (Image : List Raw → ℕ → List Raw)
-        (V : List Raw) (unit : ℕ) (datagram : List ℕ) (E : List Entry) → IsPiece V unit datagram
-        → Honest Image V E → Honest Image V (heard_blocks (blocks_of datagram) E) }
-    ensures more { (V more : List Raw) (unit : ℕ) (datagram : List ℕ)
-        → IsPiece V unit datagram → IsPiece (V ++ more) unit datagram }
-{}
-
-/// The datagrams into which some of a venue's messages are packed are pieces of its feed, and so is
-/// a heartbeat.
-pub fn packed_messages_are_pieces()
-    ensures packed { (V : List Raw) (unit first : ℕ) (raws : List Raw) (datagrams : List (List ℕ))
-        → 0 < first → first + length raws ≤ length V + 1 → AreVenues V first raws
-        → IsPacking unit first raws datagrams → AllByRecursion (IsPiece V unit) datagrams }
-    ensures heartbeat { (V : List Raw) (unit next : ℕ) → unit < 256 → 0 < next → next ≤ length V + 1
-        → next ≤ last_sequence + 1 → IsPiece V unit (block_bytes (heartbeat_block unit next)) }
 {}
 
 /// An accept adds its message and advertises nothing. An advertise stands for all that was accepted

@@ -8,8 +8,8 @@ use Rattle.pitch_messages.specs.declared.session.SessionError.{SessionError}
 use Rattle.pitch_model.specs.History.{Entry, Raw, ImageMessages}
 use Rattle.pitch_model.specs.Honest.{Honest}
 use Rattle.pitch_model.specs.Image.{image}
-use Rattle.pitch_model.specs.declared.change.ImageEnd.{ImageEnd}
-use Rattle.pitch_model.specs.declared.change.ImageEnd.TheVariants as end
+use Rattle.heard_items.specs.declared.change.ImageEnd.{ImageEnd}
+use Rattle.heard_items.specs.declared.change.ImageEnd.TheVariants as end
 use Rattle.client_core.specs.declared.client.UnitClient.{UnitClient}
 use Rattle.client_core.specs.Tracks.{Tracks, Keeps}
 use Rattle.relay_unit.specs.Hearing.{is_of_session, heard_told, heard_unsequenced, heard_session}

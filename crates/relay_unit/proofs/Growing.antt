@@ -6,17 +6,17 @@ use Rattle.unit_packets.specs.Blocks.{Block}
 use Rattle.pitch_messages.specs.declared.message.Message.TheVariants.{UnitClear}
 use Rattle.pitch_messages.specs.Writing.{written}
 use Rattle.pitch_model.specs.History.{Entry, Raw, Message, Spinning, NoSpin, Asked, Running, spin_of, image_finished, bad_image, adds, Ticked}
-use Rattle.pitch_model.specs.Heard.{heard, heard_messages, heard_sequenced, heard_block}
-use Rattle.pitch_model.specs.Changes.{image_end, image_end_at}
 use Rattle.pitch_model.specs.Image.{image, image_of}
 use Rattle.pitch_model.specs.Book.{Book, book_after}
 use Rattle.pitch_model.specs.Reach.{reach, sequences}
 use Rattle.pitch_model.specs.declared.ask.Ask.{Ask}
-use Rattle.pitch_model.specs.declared.item.Item.{Item}
-use Rattle.pitch_model.specs.declared.item.Item.TheVariants as item
-use Rattle.pitch_model.specs.declared.change.ImageEnd.{ImageEnd}
-use Rattle.pitch_model.specs.declared.change.ImageEnd.TheVariants as end
 use Rattle.pitch_model.proofs.Rises.{reach_rises}
+use Rattle.heard_items.specs.Heard.{heard, heard_messages, heard_sequenced, heard_block}
+use Rattle.heard_items.specs.Changes.{image_end, image_end_at}
+use Rattle.heard_items.specs.declared.item.Item.{Item}
+use Rattle.heard_items.specs.declared.item.Item.TheVariants as item
+use Rattle.heard_items.specs.declared.change.ImageEnd.{ImageEnd}
+use Rattle.heard_items.specs.declared.change.ImageEnd.TheVariants as end
 use Rattle.client_core.proofs.Slices.{slices, no_slice}
 use Rattle.relay_unit.specs.Sending.{SendsOn}
 use Rattle.relay_unit.specs.Relayed.{sent_for, relayed}

@@ -3,8 +3,8 @@ use Rattle.std.proofs.Common.{◌≡◌, ℕ, List, false, ◌==◌, sym, ◌∙
 use Rattle.std.proofs.lemmas.Bool.{cond-false}
 use Rattle.unit_packets.specs.Blocks.{Block}
 use Rattle.pitch_model.specs.History.{Entry}
-use Rattle.pitch_model.specs.Heard.{heard_sequenced, heard_block}
-use Rattle.pitch_model.specs.Changes.{block_change}
+use Rattle.heard_items.specs.Heard.{heard_sequenced, heard_block}
+use Rattle.heard_items.specs.Changes.{block_change}
 use Rattle.relay_unit.specs.Hearing.{heard_session, heard_merged}
 use Rattle.relay_unit.specs.Changing.{session_change, merged_change}
 

@@ -2,10 +2,10 @@
 use Rattle.std.proofs.Common.{ℕ, Bool, true, false, cond, List, [], ◌∷◌, ◌==◌}
 use Rattle.unit_packets.specs.Blocks.{Block}
 use Rattle.pitch_model.specs.History.{Entry, Raw}
-use Rattle.pitch_model.specs.Heard.{heard_sequenced}
 use Rattle.pitch_model.specs.Honest.{Honest}
 use Rattle.pitch_model.specs.Image.{image}
-use Rattle.pitch_model.proofs.Honesty.{honest_before}
+use Rattle.heard_items.specs.Heard.{heard_sequenced}
+use Rattle.heard_items.proofs.Honesty.{honest_before}
 use Rattle.relay_unit.specs.Hearing.{heard_session, heard_merged, relay_heard}
 use Rattle.relay_unit.specs.RelayText.{IsVenue}
 use Rattle.relay_unit.proofs.Along.{honest_session}

@@ -2,7 +2,7 @@
 use Rattle.std.specs.Prelude.{◌≡◌, ◌+◌, ◌++◌, ℕ, List, ◌∷◌, length}
 use Rattle.unit_packets.specs.Blocks.{Block}
 use Rattle.pitch_model.specs.History.{Entry, Raw}
-use Rattle.pitch_model.specs.declared.change.Change.{Change}
+use Rattle.heard_items.specs.declared.change.Change.{Change}
 use Rattle.relay_unit.specs.Changing.{merged_change}
 use Rattle.relay_unit.specs.Following.{HasSent, SendsMore}
 use Rattle.relay_unit.specs.Hearing.{relay_heard, relay_history}

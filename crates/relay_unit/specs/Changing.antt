@@ -7,12 +7,12 @@ use Rattle.pitch_messages.specs.declared.session.SessionMessage.{SessionMessage}
 use Rattle.pitch_messages.specs.declared.session.SessionMessage.TheVariants.{SpinFinished}
 use Rattle.pitch_messages.specs.declared.session.SessionError.{SessionError}
 use Rattle.pitch_model.specs.History.{Entry, Raw, image_finished, bad_image, spin_of}
-use Rattle.pitch_model.specs.Changes.{image_end_at, block_change}
 use Rattle.pitch_model.specs.Reach.{reach}
 use Rattle.pitch_model.specs.Status.{status_of}
-use Rattle.pitch_model.specs.declared.change.Change.{Change}
-use Rattle.pitch_model.specs.declared.change.ImageEnd.{ImageEnd}
-use Rattle.pitch_model.specs.declared.change.ImageEnd.TheVariants as end
+use Rattle.heard_items.specs.Changes.{image_end_at, block_change}
+use Rattle.heard_items.specs.declared.change.Change.{Change}
+use Rattle.heard_items.specs.declared.change.ImageEnd.{ImageEnd}
+use Rattle.heard_items.specs.declared.change.ImageEnd.TheVariants as end
 use Rattle.relay_unit.specs.Hearing.{is_of_session, heard_unsequenced, heard_merged}
 
 -- what becomes of an image at a message of a session

@@ -11,8 +11,8 @@ use Rattle.pitch_messages.specs.declared.session.SessionMessage.TheVariants.{Spi
 use Rattle.pitch_messages.specs.declared.session.SessionError.{SessionError}
 use Rattle.pitch_model.specs.History.{Entry, Raw, ImageMessages, SpinUp, Advertised, Ticked}
 use Rattle.pitch_model.specs.History as entry
-use Rattle.pitch_model.specs.Heard.{heard_sequenced, is_accepted}
 use Rattle.pitch_model.specs.Asking.{ask_of}
+use Rattle.heard_items.specs.Heard.{heard_sequenced, is_accepted}
 
 -- the types of the messages with which a Spin Server and its client speak of images and not in
 -- them: logins, what is available, requests, replies and ends

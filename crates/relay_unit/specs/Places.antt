@@ -4,7 +4,7 @@ use Rattle.std.specs.Prelude.{◌≡◌, ◌+◌, ◌++◌, ℕ, List, Option, l
 use Rattle.std.specs.List.{concat}
 use Rattle.unit_packets.specs.Blocks.{Block}
 use Rattle.pitch_model.specs.History.{Entry, Raw}
-use Rattle.pitch_model.specs.declared.change.Change.{Change}
+use Rattle.heard_items.specs.declared.change.Change.{Change}
 use Rattle.relay_unit.specs.Changing.{merged_change}
 use Rattle.relay_unit.specs.Hearing.{relay_heard, relay_history}
 use Rattle.relay_unit.specs.RelayText.{IsVenue}

@@ -4,10 +4,10 @@ use Rattle.unit_packets.specs.Blocks.{Block}
 use Rattle.unit_packets.specs.Packing.{packed}
 use Rattle.pitch_model.specs.Book.{Book, after}
 use Rattle.pitch_model.specs.History.{Entry, Raw}
-use Rattle.pitch_model.specs.declared.item.Item.{Item}
-use Rattle.pitch_model.specs.Heard.{heard}
-use Rattle.pitch_model.specs.Changes.{IsItem, image_end}
-use Rattle.pitch_model.specs.declared.change.ImageEnd.TheVariants as end
+use Rattle.heard_items.specs.declared.item.Item.{Item}
+use Rattle.heard_items.specs.Heard.{heard}
+use Rattle.heard_items.specs.Changes.{IsItem, image_end}
+use Rattle.heard_items.specs.declared.change.ImageEnd.TheVariants as end
 use Rattle.client_core.specs.Tracks.{Tracks, Keeps}
 use Rattle.client_core.specs.Client.{current_book}
 use Rattle.client_core.specs.Weight.{weight, told_by}

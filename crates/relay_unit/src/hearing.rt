@@ -4,8 +4,8 @@ ghost use Rattle.std.specs.Prelude.{◌≡◌, ◌≢◌, true, OnOk, IfOk, IsTr
 ghost use Rattle.pitch_messages.specs.Raw.{IsRaw, kind_of};
 ghost use Rattle.pitch_messages.specs.Session.{session_reads};
 ghost use Rattle.pitch_model.specs.History.{Raw as RawBytes};
-ghost use Rattle.pitch_model.specs.Heard.{heard};
-ghost use Rattle.pitch_model.specs.Changes.{IsItem, change_of};
+ghost use Rattle.heard_items.specs.Heard.{heard};
+ghost use Rattle.heard_items.specs.Changes.{IsItem, change_of};
 ghost use Rattle.client_core.specs.Hearing.{Hears, IsToldBy};
 ghost use Rattle.client_core.specs.Weight.{told_by};
 ghost use Rattle.relay_unit.specs.Changing.{raw_end, end_or, session_end, merged_change};

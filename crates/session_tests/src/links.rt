@@ -1,7 +1,7 @@
 //! Links: what they tell their client, what closes them, and when they send heartbeats.
 
 use client_links::{Account, CloseCause, Closed, GapLink, ItemList, SpinLink};
-use pitch_model::Item;
+use heard_items::Item;
 use std::alloc::Global;
 use std::process::Abort;
 use unit_packets::BlockError;

@@ -1,8 +1,8 @@
 //! An image that goes from a shelf over a server and a link to a client's items.
 
 use client_links::{Account, ItemList, SpinLink};
+use heard_items::Item;
 use pitch_messages::Raw;
-use pitch_model::Item;
 use spin_path::{carry, serve};
 use spin_server::{ImageShelf, SpinServer};
 use std::process::Abort;

@@ -1,7 +1,7 @@
 -- What a client hears of the next bytes.
 use Rattle.std.proofs.Common.{◌≡◌, ℕ, List, [], ◌∷◌, ◌++◌, map, sym, ap, ◌∙◌, subst}
-use Rattle.pitch_model.specs.declared.item.Item.{Item}
 use Rattle.pitch_model.specs.History.{Raw}
+use Rattle.heard_items.specs.declared.item.Item.{Item}
 use Rattle.session_ends.specs.declared.role.Role.TheVariants.{SpinLink}
 use Rattle.session_ends.specs.Closing.{Setup}
 use Rattle.session_ends.specs.Events.{Fed, fed_of}

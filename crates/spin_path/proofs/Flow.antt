@@ -5,12 +5,12 @@ use Rattle.std.proofs.lemmas.List.{append-nil, drop_at}
 use Rattle.std.proofs.lemmas.Bool.{eq-eqb}
 use Rattle.pitch_model.specs.declared.ask.Ask.{Ask}
 use Rattle.pitch_model.specs.declared.ask.Ask.TheVariants as ask
-use Rattle.pitch_model.specs.declared.item.Item.{Item}
-use Rattle.pitch_model.specs.declared.item.Item.TheVariants as item
-use Rattle.pitch_model.specs.Heard.{heard, is_accepted}
 use Rattle.pitch_model.specs.History.{Entry, Raw, Message, Next, GrpUp, GrpDown, GapReply, SpinUp, SpinDown, Advertised, SpinReply, ImageMessages, SpinFinished, Ticked, Spinning, NoSpin, Asked, Running, adds, bad_image, image_finished, spin_of, spin_asked, spin_replied, spin_more, spin_finished, can_promise}
 use Rattle.pitch_model.specs.Honest.{Honest, AreImages}
 use Rattle.pitch_model.specs.Image.{image}
+use Rattle.heard_items.specs.declared.item.Item.{Item}
+use Rattle.heard_items.specs.declared.item.Item.TheVariants as item
+use Rattle.heard_items.specs.Heard.{heard, is_accepted}
 use Rattle.spin_path.specs.Paths.{MayHear}
 use Rattle.spin_path.specs.PathLaws.{NoneBad}
 

@@ -1,14 +1,14 @@
 -- What a caller needs besides the law.
 use Rattle.std.proofs.Common.{Bool, true, false, cond, nat_lt, ◌≡◌, ℕ, zero, suc, List, [], ◌∷◌, ◌++◌, length, map, replicate, refl, ap, ◌∙◌, arith, append_assoc, length-append, Some, slice_get}
 use Rattle.std.specs.List.{AllByRecursion}
-use Rattle.pitch_model.specs.declared.item.Item.{Item}
-use Rattle.pitch_model.specs.declared.item.Item.TheVariants as item
-use Rattle.pitch_model.specs.declared.change.ImageEnd.TheVariants as end
 use Rattle.pitch_model.specs.Reach.{reach}
-use Rattle.pitch_model.specs.Heard.{heard}
-use Rattle.pitch_model.specs.Changes.{image_end_at}
 use Rattle.pitch_model.specs.History.{Entry, Raw, Message, Next, GrpUp, GrpDown, GapReply, SpinUp, SpinDown, Advertised, SpinReply, ImageMessages, SpinFinished, Ticked as TickedEntry, image_finished, bad_image, spin_of}
 use Rattle.pitch_model.specs.Honest.{message_at}
+use Rattle.heard_items.specs.declared.item.Item.{Item}
+use Rattle.heard_items.specs.declared.item.Item.TheVariants as item
+use Rattle.heard_items.specs.declared.change.ImageEnd.TheVariants as end
+use Rattle.heard_items.specs.Heard.{heard}
+use Rattle.heard_items.specs.Changes.{image_end_at}
 use Rattle.session_ends.specs.Closing.{Setup}
 use Rattle.session_ends.specs.Events.{Event, Fed, Ticked, Asked, Pumped, Told}
 use Rattle.client_links.specs.Telling.{without_spare}

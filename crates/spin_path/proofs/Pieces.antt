@@ -11,8 +11,8 @@ use Rattle.unit_packets.specs.Feeding.{fed_fault}
 use Rattle.unit_packets.specs.Judging.{block_at, header_of}
 use Rattle.unit_packets.proofs.Cuts.{appends, first_of}
 use Rattle.unit_packets.proofs.Judged.{front_stands, front_judged}
-use Rattle.pitch_model.specs.declared.item.Item.{Item}
-use Rattle.pitch_model.specs.declared.item.Item.TheVariants as item
+use Rattle.heard_items.specs.declared.item.Item.{Item}
+use Rattle.heard_items.specs.declared.item.Item.TheVariants as item
 use Rattle.session_ends.specs.declared.closed.Closed.{Closed}
 use Rattle.session_ends.specs.declared.inbox.Heard.{Heard}
 use Rattle.session_ends.specs.declared.inbox.Heard.TheVariants.{Message, BlockEnd}

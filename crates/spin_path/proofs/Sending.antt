@@ -15,9 +15,6 @@ use Rattle.unit_packets.specs.Cutting.{rest_of}
 use Rattle.unit_packets.specs.Packing.{packed, IsPacking, IsDatagram}
 use Rattle.unit_packets.proofs.OnePacking.{packing_is_computed}
 use Rattle.unit_packets.proofs.Written.{written_is, session_is}
-use Rattle.pitch_model.specs.declared.item.Item.{Item}
-use Rattle.pitch_model.specs.declared.item.Item.TheVariants as item
-use Rattle.pitch_model.specs.Heard.{is_accepted}
 use Rattle.pitch_model.specs.History.{Raw, adds}
 use Rattle.pitch_model.specs.Image.{image}
 use Rattle.session_ends.specs.declared.closed.Closed.{Closed}
@@ -37,6 +34,9 @@ use Rattle.spin_path.proofs.Links.{link_of, once, told_once, told_none}
 use Rattle.spin_path.proofs.Pieces.{rest_none, rest_more, block_told, block_untold, one_told, beat_told, IsOther, others_told}
 use Rattle.spin_path.proofs.Pictures.{image_raws, image_others, image_adds}
 use Rattle.pitch_model.proofs.Growing.{image_more}
+use Rattle.heard_items.specs.declared.item.Item.{Item}
+use Rattle.heard_items.specs.declared.item.Item.TheVariants as item
+use Rattle.heard_items.specs.Heard.{is_accepted}
 
 -- whole blocks, of which a link tells what a server may cause
 pub record Sent (V : List Raw) (u : ℕ) (bytes : List ℕ) : Type 0 where

@@ -1,9 +1,9 @@
 -- No image of a Spin Server is bad, and each is the venue's, over all moves.
 use Rattle.std.proofs.Common.{◌≡◌, ℕ, ◌<◌, List, [], ◌∷◌, ◌++◌, refl, sym, ap, ◌∙◌, subst, append_assoc, None}
 use Rattle.std.specs.List.{AllByRecursion}
-use Rattle.pitch_model.specs.declared.item.Item.{Item}
 use Rattle.pitch_model.specs.History.{Raw}
-use Rattle.pitch_model.specs.Heard.{heard}
+use Rattle.heard_items.specs.declared.item.Item.{Item}
+use Rattle.heard_items.specs.Heard.{heard}
 use Rattle.session_ends.specs.declared.role.Role.{Role}
 use Rattle.session_ends.specs.Closing.{Setup}
 use Rattle.session_ends.specs.Events.{Event, Fed, Ticked, Asked, Pumped, Told, fed_of}

@@ -2,13 +2,13 @@
 use Rattle.std.specs.Prelude.{◌≡◌, Bool, ℕ, ◌+◌, ◌≤◌, List, [], ◌∷◌, ◌++◌, length, map, replicate}
 use Rattle.pitch_fields.specs.Limits.{last_sequence}
 use Rattle.std.specs.List.{AllByRecursion}
-use Rattle.pitch_model.specs.declared.item.Item.{Item}
-use Rattle.pitch_model.specs.declared.change.ImageEnd.TheVariants as end
-use Rattle.pitch_model.specs.Heard.{heard}
-use Rattle.pitch_model.specs.Changes.{image_end}
 use Rattle.pitch_model.specs.History.{Entry, Raw, SpinFinished, bad_image, spin_of}
 use Rattle.pitch_model.specs.Honest.{Honest}
 use Rattle.pitch_model.specs.Image.{image}
+use Rattle.heard_items.specs.declared.item.Item.{Item}
+use Rattle.heard_items.specs.declared.change.ImageEnd.TheVariants as end
+use Rattle.heard_items.specs.Heard.{heard}
+use Rattle.heard_items.specs.Changes.{image_end}
 use Rattle.pitch_fields.specs.Fields.{AreBytes}
 use Rattle.session_ends.specs.Closing.{Setup}
 use Rattle.session_ends.specs.Ending.{Ending}

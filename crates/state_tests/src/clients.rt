@@ -1,7 +1,7 @@
 //! A client that hears its second message first, and tells both once they are applied.
 
 ghost use Rattle.std.specs.Prelude.{◌<◌};
-ghost use Rattle.pitch_model.specs.Changes.{IsItem};
+ghost use Rattle.heard_items.specs.Changes.{IsItem};
 
 use client_core::{Item, UnitClient, item_of_block};
 use pitch_messages::{Raw, RawList};

@@ -3,7 +3,7 @@ use Rattle.std.proofs.Common.{◌≡◌, ℕ, zero, suc, ◌+◌, ◌≤◌, ◌
 use Rattle.std.proofs.lemmas.List.{append-nil}
 use Rattle.std.proofs.lemmas.Bool.{cases_eq, cases_lt, eq-eqb, ne_eqb, lt-ltb, le-ltb, cond-true, cond-false}
 use Rattle.unit_packets.specs.Blocks.{Block}
-use Rattle.pitch_model.specs.Units.{with_number, units_of}
+use Rattle.heard_items.specs.Units.{with_number, units_of}
 use Rattle.stream_print.specs.Rising.{named_below}
 use Rattle.unit_clients.specs.Clients.{is_named}
 

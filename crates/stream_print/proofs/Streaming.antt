@@ -9,7 +9,7 @@ use Rattle.unit_packets.proofs.Cuts.{rest_short, rest_stands}
 use Rattle.unit_packets.proofs.Walking.{Walked, walked_none, walked_more, walked_all}
 use Rattle.pitch_model.specs.History.{Raw}
 use Rattle.pitch_model.specs.Image.{image}
-use Rattle.pitch_model.proofs.Units.{all_honest_before}
+use Rattle.heard_items.proofs.Units.{all_honest_before}
 use Rattle.feed_lines.specs.Texts.{texts_after}
 use Rattle.feed_lines.proofs.Texts.{texts_none, texts_first, texts_more, reverse_more}
 use Rattle.relay_unit.specs.Hearing.{relay_heard, relay_history}

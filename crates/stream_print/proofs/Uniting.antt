@@ -8,7 +8,7 @@ use Rattle.pitch_model.specs.Book.{Book, book_after}
 use Rattle.feed_lines.specs.BookText.{book_text}
 use Rattle.pitch_model.specs.History.{Entry, Raw}
 use Rattle.pitch_model.specs.Reach.{reach}
-use Rattle.pitch_model.specs.Units.{unit_history}
+use Rattle.heard_items.specs.Units.{unit_history}
 use Rattle.feed_lines.specs.Follow.{unit_text, books_of}
 use Rattle.client_core.specs.Tracks.{Tracks, Keeps}
 use Rattle.client_core.specs.declared.client.UnitClient.{UnitClient}

@@ -3,7 +3,7 @@ use Rattle.std.specs.Prelude.{◌≡◌, ◌<◌, ℕ, List, [], ◌∷◌, ◌+
 use Rattle.pitch_fields.specs.Limits.{last_sequence}
 use Rattle.unit_packets.specs.Blocks.{Block}
 use Rattle.pitch_model.specs.History.{Raw}
-use Rattle.pitch_model.specs.Units.{AllHonest}
+use Rattle.heard_items.specs.Units.{AllHonest}
 use Rattle.feed_lines.specs.Follow.{books_of}
 use Rattle.relay_unit.specs.Sparing.{messages_heard}
 use Rattle.stream_print.specs.declared.stream_form.StreamForm.{StreamForm}

@@ -4,7 +4,7 @@ use Rattle.std.specs.Prelude.{◌≡◌, ℕ, List, [], ◌++◌, reverse}
 use Rattle.unit_packets.specs.Blocks.{Block}
 use Rattle.pitch_model.specs.History.{Raw}
 use Rattle.pitch_model.specs.Image.{image}
-use Rattle.pitch_model.specs.Units.{AllHonest}
+use Rattle.heard_items.specs.Units.{AllHonest}
 use Rattle.feed_lines.specs.Follow.{line_after, lines_after, follow_text}
 use Rattle.feed_lines.specs.Show.{shown_after, show_text}
 use Rattle.feed_lines.specs.Texts.{texts_after}

@@ -4,9 +4,9 @@ use Rattle.std.proofs.Math.ListN.{set}
 use Rattle.std.proofs.lemmas.Bool.{cases_eq, eq-eqb, ne_eqb}
 use Rattle.unit_packets.specs.Blocks.{Block}
 use Rattle.pitch_model.specs.History.{Entry, Raw}
-use Rattle.pitch_model.specs.Heard.{heard_block}
-use Rattle.pitch_model.specs.Units.{unit_history}
-use Rattle.pitch_model.proofs.Units.{history_same, history_other}
+use Rattle.heard_items.specs.Heard.{heard_block}
+use Rattle.heard_items.specs.Units.{unit_history}
+use Rattle.heard_items.proofs.Units.{history_same, history_other}
 use Rattle.client_core.specs.Tracks.{Tracks}
 use Rattle.client_core.specs.declared.client.UnitClient.{UnitClient}
 use Rattle.unit_clients.specs.Clients.{is_named, IsClient, TracksAt, IsSlotAsBefore, Clients, KeepsTo, AllKeep}

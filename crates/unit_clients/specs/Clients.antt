@@ -3,7 +3,7 @@ use Rattle.std.specs.Prelude.{◌≡◌, ℕ, ◌<◌, Bool, true, false, ◌==�
 use Rattle.std.specs.List.{list_any}
 use Rattle.unit_packets.specs.Blocks.{Block}
 use Rattle.pitch_model.specs.History.{Raw, Entry}
-use Rattle.pitch_model.specs.Units.{unit_history, AllHonest}
+use Rattle.heard_items.specs.Units.{unit_history, AllHonest}
 use Rattle.client_core.specs.Tracks.{Tracks, Keeps}
 use Rattle.client_core.specs.Client.{IsAsBefore}
 use Rattle.client_core.specs.declared.client.UnitClient.{UnitClient}

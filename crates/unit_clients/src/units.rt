@@ -4,10 +4,10 @@ ghost use Rattle.std.specs.Prelude.{◌≡◌, ◌≤◌, ℕ, List, [], ◌∷�
 ghost use Rattle.pitch_fields.specs.Limits.{most_held};
 ghost use Rattle.unit_packets.specs.Blocks.{Block};
 ghost use Rattle.pitch_model.specs.History.{Raw, Entry};
-ghost use Rattle.pitch_model.specs.Units.{unit_history};
-ghost use Rattle.pitch_model.specs.Heard.{heard_block};
-ghost use Rattle.pitch_model.specs.Changes.{block_change};
 ghost use Rattle.pitch_model.specs.Honest.{Honest};
+ghost use Rattle.heard_items.specs.Units.{unit_history};
+ghost use Rattle.heard_items.specs.Heard.{heard_block};
+ghost use Rattle.heard_items.specs.Changes.{block_change};
 ghost use Rattle.client_core.specs.Hearing.{Changes, HearsBlock, KeepsBlock};
 ghost use Rattle.client_core.specs.Tracks.{Tracks, Keeps};
 ghost use Rattle.client_core.specs.Client.{IsAsBefore};

@@ -5,10 +5,10 @@ use Rattle.std.specs.List.{AllByRecursion, slice_get}
 use mathlib.Core.List.{IsPrefix}
 use Rattle.unit_packets.specs.Packing.{IsPacking}
 use Rattle.pitch_model.specs.Advertising.{Operation, Accept, Advertise, accepted_by}
-use Rattle.pitch_model.specs.Datagrams.{IsPiece}
 use Rattle.pitch_model.specs.History.{Raw}
 use Rattle.pitch_model.specs.Honest.{AreVenues, message_at}
-use Rattle.pitch_model.proofs.Datagrams.{packing_pieces}
+use Rattle.heard_items.specs.Datagrams.{IsPiece}
+use Rattle.heard_items.proofs.Datagrams.{packing_pieces}
 use Rattle.venue_core.specs.Commands.{raw_of}
 use Rattle.venue_core.specs.Plan.{plan, plan_command}
 use Rattle.venue_core.proofs.PlanBooks.{plan_length}

@@ -7,11 +7,11 @@ use Rattle.std.specs.Set.{is_member}
 use mathlib.Core.List.{IsPrefix}
 use Rattle.unit_packets.specs.Packing.{IsPacking, packed}
 use Rattle.pitch_model.specs.Advertising.{Operation, Accept, Advertise, accepted_by, advertised_by, with_sequence, last_ten, newest_of}
-use Rattle.pitch_model.specs.Datagrams.{IsPiece}
 use Rattle.pitch_model.specs.History.{Raw, adds}
 use Rattle.pitch_model.specs.Honest.{AreVenues}
 use Rattle.pitch_model.specs.Image.{image}
-use Rattle.pitch_model.proofs.Datagrams.{packing_pieces, venues_slice}
+use Rattle.heard_items.specs.Datagrams.{IsPiece}
+use Rattle.heard_items.proofs.Datagrams.{packing_pieces, venues_slice}
 use Rattle.gap_store.specs.Look.{View, look, slice_of}
 use Rattle.gap_store.specs.Looking.{given, PacksRange}
 use Rattle.gap_store.specs.declared.found.Found.{Found}

@@ -24,7 +24,6 @@ use Rattle.venue_core.specs.declared.error.VenueError.TheVariants as errors
 use Rattle.client_core.specs.Tracks.{Tracks, Keeps}
 use Rattle.client_core.specs.declared.client.UnitClient.{UnitClient}
 use Rattle.world_model.specs.Printed.{overflowed}
-use Rattle.pitch_model.specs.Datagrams.{IsPiece, IsVenueBlock, heard_blocks}
 use Rattle.world_model.proofs.Pieces.{pieces_more, pieces_append, pieces_after, piece_at, blocks_of_pieces}
 use Rattle.world_model.specs.Sound.{Sound}
 use Rattle.spin_path.specs.PathLaws.{HasWholeImages}
@@ -58,10 +57,11 @@ use Rattle.pitch_io.specs.declared.line.Line.{Line}
 use Rattle.pitch_io.specs.declared.line.Line.TheVariants.{A, B, Gap}
 use Rattle.unit_packets.specs.Blocks.{Block}
 use Rattle.line_arbiter.specs.declared.arbiter.Arbiter.{Arbiter}
-use Rattle.pitch_model.specs.Heard.{heard_block, heard_messages, heard_sequenced, overflowed_messages, block_overflows}
 use Rattle.pitch_model.specs.Reach.{is_overflow}
 use Rattle.pitch_model.proofs.Honesty.{honest_top}
 use Rattle.pitch_model.proofs.Topmost.{reach_le_top}
+use Rattle.heard_items.specs.Datagrams.{IsPiece, IsVenueBlock, heard_blocks}
+use Rattle.heard_items.specs.Heard.{heard_block, heard_messages, heard_sequenced, overflowed_messages, block_overflows}
 use Rattle.world_model.specs.declared.outcome.Outcome.{Outcome}
 use Rattle.world_model.specs.declared.outcome.Outcome.TheVariants as outcome
 use Rattle.world_model.specs.declared.world.Acted.{Acted}

@@ -9,15 +9,15 @@ use Rattle.unit_packets.specs.Packing.{bytes_in}
 use Rattle.unit_packets.specs.Blocks.{Block}
 use Rattle.unit_packets.specs.Cutting.{blocks_of}
 use Rattle.pitch_io.specs.declared.line.Line.{Line}
-use Rattle.pitch_model.specs.Heard.{heard_block, block_overflows}
-use Rattle.pitch_model.specs.Changes.{block_change}
-use Rattle.pitch_model.specs.Datagrams.{heard_blocks, block_messages}
-use Rattle.pitch_model.specs.DatagramCounts.{overflows_in}
-use Rattle.pitch_model.specs.declared.change.Change.{Change}
 use Rattle.pitch_model.specs.History.{Entry, Raw}
 use Rattle.pitch_model.specs.Honest.{Honest}
 use Rattle.pitch_model.specs.Image.{image}
-use Rattle.pitch_model.proofs.Datagrams.{heard_both, honest_blocks}
+use Rattle.heard_items.specs.Heard.{heard_block, block_overflows}
+use Rattle.heard_items.specs.Changes.{block_change}
+use Rattle.heard_items.specs.Datagrams.{heard_blocks, block_messages}
+use Rattle.heard_items.specs.DatagramCounts.{overflows_in}
+use Rattle.heard_items.specs.declared.change.Change.{Change}
+use Rattle.heard_items.proofs.Datagrams.{heard_both, honest_blocks}
 use Rattle.client_core.specs.Blocks.{Carries}
 use Rattle.client_core.specs.Tracks.{Tracks, Keeps}
 use Rattle.client_core.specs.declared.client.UnitClient.{UnitClient}

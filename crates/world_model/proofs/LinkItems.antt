@@ -11,8 +11,8 @@ use Rattle.pitch_messages.specs.declared.session.SessionMessage.{SessionMessage}
 use Rattle.pitch_messages.specs.declared.session.SessionMessage.TheVariants.{Login, LoginReply, GapRequest, GapReply, SpinAvailable, SpinRequest, SpinReply, SpinFinished}
 use Rattle.pitch_messages.specs.declared.session.SessionError.{SessionError}
 use Rattle.pitch_messages.specs.declared.session.SessionError.TheVariants.{WrongType, Short}
-use Rattle.pitch_model.specs.declared.item.Item.{Item}
-use Rattle.pitch_model.specs.declared.item.Item.TheVariants as item
+use Rattle.heard_items.specs.declared.item.Item.{Item}
+use Rattle.heard_items.specs.declared.item.Item.TheVariants as item
 use Rattle.session_ends.specs.Closing.{Setup, closed_of, logged_in}
 use Rattle.session_ends.specs.Events.{Event}
 use Rattle.session_ends.specs.Saying.{said_by, heard_by}

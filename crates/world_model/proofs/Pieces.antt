@@ -4,8 +4,8 @@ use Rattle.std.specs.List.{AllByRecursion, slice_get, flat_map}
 use Rattle.std.proofs.lemmas.Option.{slice_get_past}
 use Rattle.unit_packets.specs.Cutting.{blocks_of}
 use Rattle.pitch_model.specs.History.{Raw}
-use Rattle.pitch_model.specs.Datagrams.{IsPiece, IsVenueBlock}
-use Rattle.pitch_model.proofs.Datagrams.{piece_more}
+use Rattle.heard_items.specs.Datagrams.{IsPiece, IsVenueBlock}
+use Rattle.heard_items.proofs.Datagrams.{piece_more}
 
 all_append : {A : Type 0} (P : A → Type 0) (xs ys : List A) → AllByRecursion P xs → AllByRecursion P ys → AllByRecursion P (xs ++ ys)
 all_append P [] ys a b = b

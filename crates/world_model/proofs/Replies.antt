@@ -11,7 +11,7 @@ use Rattle.unit_packets.specs.Packing.{packed}
 use Rattle.unit_packets.proofs.OnePacking.{packing_is_computed}
 use Rattle.pitch_model.specs.History.{Raw}
 use Rattle.pitch_model.specs.Honest.{AreVenues}
-use Rattle.pitch_model.proofs.Datagrams.{packing_pieces, venues_slice}
+use Rattle.heard_items.proofs.Datagrams.{packing_pieces, venues_slice}
 use Rattle.gap_store.specs.Look.{View, look, slice_of, oldest}
 use Rattle.gap_store.specs.declared.found.Found.{Found}
 use Rattle.gap_store.specs.declared.found.Found.TheVariants.{Kept, Ahead, NotKept}

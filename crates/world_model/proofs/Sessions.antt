@@ -6,14 +6,14 @@ use Rattle.pitch_text.specs.declared.verb.Session.{Session}
 use Rattle.pitch_text.specs.declared.verb.Session.TheVariants.{Grp, Spin}
 use Rattle.pitch_messages.specs.Room.{Roomy}
 use Rattle.unit_packets.specs.Packing.{bytes_in}
-use Rattle.pitch_model.specs.Heard.{heard}
 use Rattle.pitch_model.specs.History.{Entry, Raw}
 use Rattle.pitch_model.specs.History as entry
 use Rattle.pitch_model.specs.Honest.{Honest}
 use Rattle.pitch_model.specs.Image.{image}
 use Rattle.pitch_model.proofs.Images.{image_book}
-use Rattle.pitch_model.specs.declared.item.Item.{Item}
-use Rattle.pitch_model.specs.declared.item.Item.TheVariants as item
+use Rattle.heard_items.specs.Heard.{heard}
+use Rattle.heard_items.specs.declared.item.Item.{Item}
+use Rattle.heard_items.specs.declared.item.Item.TheVariants as item
 use Rattle.session_ends.specs.Events.{Event, Ticked}
 use Rattle.gap_store.specs.Look.{Store, store_of}
 use Rattle.grp_session.specs.Budget.{Counts, Counted}

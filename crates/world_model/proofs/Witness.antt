@@ -3,16 +3,16 @@ use Rattle.std.proofs.Common.{◌≡◌, ℕ, suc, ◌+◌, ◌≤◌, ◌<◌, 
 use Rattle.std.specs.List.{AllByRecursion}
 use Rattle.std.proofs.lemmas.Bool.{cond-false, ne_eqb}
 use Rattle.unit_packets.specs.Blocks.{Block}
-use Rattle.pitch_model.specs.Datagrams.{IsVenueBlock, heard_blocks}
-use Rattle.pitch_model.specs.Heard.{heard, heard_block, heard_messages, heard_sequenced, is_accepted}
 use Rattle.pitch_model.specs.History.{Entry, Raw, Message, Next, GrpUp, GapReply}
 use Rattle.pitch_model.specs.Honest.{AreVenues, message_at}
+use Rattle.heard_items.specs.Datagrams.{IsVenueBlock, heard_blocks}
+use Rattle.heard_items.specs.Heard.{heard, heard_block, heard_messages, heard_sequenced, is_accepted}
+use Rattle.heard_items.specs.declared.item.Item.{Item}
+use Rattle.heard_items.specs.declared.item.Item.TheVariants as item
 use Rattle.spin_server.specs.Served.{Served}
 use Rattle.spin_path.specs.Paths.{Move, AreMoves, Hears, MayHear, moved, heard_all}
 use Rattle.spin_path.specs.PathLaws.{IsFeed, HasWholeImages}
 use Rattle.session_ends.specs.Closing.{Setup}
-use Rattle.pitch_model.specs.declared.item.Item.{Item}
-use Rattle.pitch_model.specs.declared.item.Item.TheVariants as item
 use Rattle.world_model.specs.Hearing.{IsGapTold}
 use Rattle.spin_path.proofs.Moves.{moves_stay}
 use Rattle.spin_path.proofs.Whole.{images_are_whole}

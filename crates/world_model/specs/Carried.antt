@@ -1,6 +1,6 @@
 -- What carrying bytes over a connection does.
 use Rattle.std.specs.Prelude.{◌≡◌, ℕ, List, ◌++◌, take, map, Option, Some}
-use Rattle.pitch_model.specs.declared.item.Item.{Item}
+use Rattle.heard_items.specs.declared.item.Item.{Item}
 use Rattle.pitch_text.specs.declared.verb.Session.{Session}
 use Rattle.pitch_text.specs.declared.verb.Session.TheVariants.{Grp, Spin}
 use Rattle.session_ends.specs.Ending.{Ending}

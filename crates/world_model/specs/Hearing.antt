@@ -3,15 +3,15 @@ use Rattle.std.specs.Prelude.{◌≡◌, ℕ, Bool, nat_lt, List}
 use Rattle.std.specs.List.{AllByRecursion}
 use Rattle.pitch_fields.specs.Fields.{AreBytes}
 use Rattle.spin_path.specs.Paths.{heard_all}
-use Rattle.pitch_model.specs.declared.item.Item.{Item}
-use Rattle.pitch_model.specs.declared.item.Item.TheVariants as item
 use Rattle.unit_packets.specs.Blocks.{Block}
 use Rattle.pitch_io.specs.declared.line.Line.{Line}
-use Rattle.pitch_model.specs.Datagrams.{heard_blocks}
-use Rattle.pitch_model.specs.DatagramCounts.{overflows_in}
 use Rattle.pitch_model.specs.History.{Entry, Raw}
 use Rattle.pitch_model.specs.Honest.{Honest}
 use Rattle.pitch_model.specs.Image.{image}
+use Rattle.heard_items.specs.declared.item.Item.{Item}
+use Rattle.heard_items.specs.declared.item.Item.TheVariants as item
+use Rattle.heard_items.specs.Datagrams.{heard_blocks}
+use Rattle.heard_items.specs.DatagramCounts.{overflows_in}
 use Rattle.client_core.specs.Tracks.{Tracks, Keeps}
 use Rattle.client_core.specs.declared.client.UnitClient.{UnitClient}
 use Rattle.line_arbiter.specs.Noted.{Note, HasNoted}

@@ -2,7 +2,7 @@
 -- client heard nothing but these, the proxy's replies and what spin servers said.
 use Rattle.std.specs.Prelude.{ℕ}
 use Rattle.std.specs.List.{AllByRecursion}
-use Rattle.pitch_model.specs.Datagrams.{IsPiece}
+use Rattle.heard_items.specs.Datagrams.{IsPiece}
 use Rattle.world_model.specs.State.{State}
 use Rattle.world_model.specs.Witness.{Witnessed}
 

@@ -20,12 +20,12 @@ use Rattle.pitch_model.specs.declared.ask.Ask.TheVariants as asks
 use Rattle.pitch_model.specs.Advertising.{last_ten, with_sequence}
 use Rattle.pitch_model.specs.Asking.{ask_of}
 use Rattle.pitch_model.specs.Book.{Book, book_after}
-use Rattle.pitch_model.specs.Datagrams.{heard_blocks, block_messages}
-use Rattle.pitch_model.specs.Heard.{heard_block, block_fresh}
 use Rattle.pitch_model.specs.History.{Entry}
 use Rattle.pitch_model.specs.History as entry
 use Rattle.pitch_model.specs.Levels.{best}
 use Rattle.pitch_model.specs.Reach.{reach}
+use Rattle.heard_items.specs.Datagrams.{heard_blocks, block_messages}
+use Rattle.heard_items.specs.Heard.{heard_block, block_fresh}
 use Rattle.venue_core.specs.Commands.{raw_of}
 use Rattle.venue_core.specs.Refusals.{refusal}
 use Rattle.venue_core.specs.declared.error.VenueError.{VenueError}

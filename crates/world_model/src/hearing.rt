@@ -3,17 +3,17 @@
 ghost use Rattle.std.specs.Prelude.{◌≡◌, ◌||◌, ◌∷◌, [], IsTrue, true, OnOk, IfOk};
 ghost use Rattle.std.specs.List.{flat_map};
 ghost use Rattle.unit_packets.specs.Cutting.{blocks_of};
-ghost use Rattle.pitch_model.specs.Datagrams.{block_messages};
+ghost use Rattle.heard_items.specs.Datagrams.{block_messages};
 ghost use Rattle.unit_packets.specs.Packing.{bytes_in};
-ghost use Rattle.pitch_model.specs.Changes.{IsItem};
+ghost use Rattle.heard_items.specs.Changes.{IsItem};
 ghost use Rattle.world_model.specs.Hearing.{HearsBlocks, HearsItems, IsTold};
 
 use client_core::{UnitClient, images_of_bytes_are_images};
+use heard_items::Item;
 use line_arbiter::Arbiter;
 use pitch_fields::OutOfMemory;
 use pitch_io::Line;
 use pitch_messages::ByteList;
-use pitch_model::Item;
 use unit_packets::{BlockView, Blocks};
 
 // How many messages of a block count: none of an unsequenced one.

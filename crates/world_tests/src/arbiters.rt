@@ -1,7 +1,7 @@
 //! Arbiters: datagrams that are cut into items, and counts of each line and unit.
 
+use heard_items::Item;
 use line_arbiter::{Arbiter, DatagramFault, HeardList, Line, LineCount};
-use pitch_model::Item;
 use std::process::Abort;
 use std::test::*;
 use unit_packets::BlockError;

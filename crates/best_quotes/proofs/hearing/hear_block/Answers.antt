@@ -3,12 +3,12 @@ use Rattle.order_book.specs.Turns.{turns_of}
 use Rattle.order_book.specs.declared.turn.Turn.{Turn}
 use Rattle.order_book.proofs.Turning.{length-turns_of}
 use Rattle.pitch_model.specs.Book.{Book, IsBook}
-use Rattle.pitch_model.specs.HeardBlocks.{heard_block}
 use Rattle.pitch_model.specs.History.{Raw}
 use Rattle.pitch_model.specs.Levels.{level}
 use Rattle.pitch_model.specs.Reach.{reach}
 use Rattle.pitch_model.proofs.Honesty.{honest_top}
 use Rattle.pitch_model.proofs.Topmost.{reach_le_top}
+use Rattle.heard_items.specs.HeardBlocks.{heard_block}
 use Rattle.client_core.specs.Client.{current_book}
 use Rattle.best_quotes.specs.Leveling.{Has}
 use Rattle.best_quotes.proofs.Following.{lines_of_block}

@@ -1,4 +1,4 @@
-use Rattle.pitch_model.specs.Units.{unit_history}
+use Rattle.heard_items.specs.Units.{unit_history}
 use Rattle.client_core.proofs.Outcomes.{on_ok}
 use Rattle.best_quotes.proofs.Quoted.{new_unit, old_unit}
 use Rattle.best_quotes.proofs.units.hear_at.Goals as goal

@@ -1,8 +1,8 @@
 use Rattle.std.proofs.Common.{ℕ, List, take}
 use Rattle.std.specs.List.{AllByRecursion}
 use Rattle.unit_packets.specs.Packing.{bytes_in}
-use Rattle.pitch_model.specs.Datagrams.{IsPiece}
 use Rattle.pitch_model.specs.History.{Entry, Raw}
+use Rattle.heard_items.specs.Datagrams.{IsPiece}
 use Rattle.drill_client.specs.Following.{Follows, heard_datagrams}
 use Rattle.drill_client.proofs.following.hear_datagrams.Given as goal
 

@@ -5,7 +5,7 @@ use Rattle.gap_store.specs.Looking.{PacksAt}
 use Rattle.gap_store.specs.declared.found.Found.{Found}
 use Rattle.gap_store.specs.declared.found.Found.TheVariants.{Kept}
 use Rattle.pitch_messages.specs.Room.{Roomy}
-use Rattle.pitch_model.specs.Datagrams.{IsPiece}
+use Rattle.heard_items.specs.Datagrams.{IsPiece}
 use Rattle.unit_market.specs.Standing.{MarketState}
 use Rattle.unit_packets.specs.Packing.{bytes_in}
 use Rattle.drill_client.specs.Answered.{is_found, last_kept}

@@ -1,8 +1,8 @@
 use Rattle.std.proofs.Common.{◌≡◌, ℕ, List, sym, ◌-◌, ◌+◌, ◌++◌, drop, ap, ◌∙◌, subst}
 use Rattle.std.specs.List.{AllByRecursion}
 use Rattle.pitch_messages.specs.Room.{Roomy}
-use Rattle.pitch_model.specs.Datagrams.{IsPiece}
 use Rattle.pitch_model.specs.History.{Raw}
+use Rattle.heard_items.specs.Datagrams.{IsPiece}
 use Rattle.unit_market.specs.Markets.{MarketHas}
 use Rattle.unit_packets.specs.Packing.{bytes_in, packed}
 use Rattle.venue_core.specs.Plan.{plan}

@@ -1,6 +1,6 @@
 use Rattle.std.proofs.Common.{[], List, ℕ, sym, ◌∙◌, subst}
-use Rattle.pitch_model.specs.Datagrams.{IsPiece}
 use Rattle.pitch_model.specs.History.{Raw}
+use Rattle.heard_items.specs.Datagrams.{IsPiece}
 use Rattle.venue_core.specs.Plan.{plan}
 use Rattle.drill_tests.proofs.values.beat.Goals as goal
 

@@ -1,7 +1,7 @@
 use Rattle.std.proofs.Common.{List, ◌∙◌, subst}
 use Rattle.unit_packets.specs.Blocks.{Block}
 use Rattle.unit_packets.proofs.Walking.{taken_all}
-use Rattle.pitch_model.specs.Datagrams.{heard_blocks}
+use Rattle.heard_items.specs.Datagrams.{heard_blocks}
 use Rattle.net_edge.specs.Acting.{ours}
 use Rattle.net_edge.specs.Playing.{ClientHas}
 use Rattle.net_edge.proofs.Hearing.{ours_more}

@@ -1,5 +1,5 @@
 use Rattle.std.proofs.Common.{List, ◌∷◌, subst}
-use Rattle.pitch_model.specs.declared.item.Item.{Item}
+use Rattle.heard_items.specs.declared.item.Item.{Item}
 use Rattle.session_ends.specs.Events.{Fed}
 use Rattle.client_links.specs.Linking.{NoLookup, link_tells}
 use Rattle.spin_path.specs.Paths.{heard_all}

@@ -3,10 +3,10 @@ use Rattle.pitch_messages.specs.Room.{Roomy}
 use Rattle.client_core.specs.Client.{current_book}
 use Rattle.client_core.specs.Weight.{weight, told_by}
 use Rattle.pitch_model.specs.Image.{image}
-use Rattle.pitch_model.specs.Heard.{heard}
-use Rattle.pitch_model.specs.declared.change.Change.{Change}
-use Rattle.pitch_model.specs.declared.change.ImageEnd.TheVariants as end
 use Rattle.pitch_model.proofs.Images.{image_book}
+use Rattle.heard_items.specs.Heard.{heard}
+use Rattle.heard_items.specs.declared.change.Change.{Change}
+use Rattle.heard_items.specs.declared.change.ImageEnd.TheVariants as end
 use Rattle.relay_unit.proofs.Following.{taken_sends, applied_sends}
 use Rattle.relay_unit.proofs.Growing.{sends_taken, sends_untaken}
 use Rattle.relay_unit.proofs.Weighed.{taken_weighs}

@@ -4,7 +4,7 @@ use Rattle.unit_packets.specs.Blocks.{Block}
 use Rattle.unit_packets.specs.declared.header.Header.{Header}
 use Rattle.pitch_model.specs.History.{Raw}
 use Rattle.pitch_model.specs.Image.{image}
-use Rattle.pitch_model.specs.Units.{unit_history}
+use Rattle.heard_items.specs.Units.{unit_history}
 use Rattle.best_quotes.specs.Quoting.{quotes_of_block}
 use Rattle.best_quotes.specs.QuotesText.{quote_line}
 use Rattle.best_quotes.specs.declared.quote.QuoteLine.{QuoteLine}

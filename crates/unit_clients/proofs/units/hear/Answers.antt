@@ -2,11 +2,11 @@ use Rattle.std.proofs.Common.{ℕ, List, sym, ap}
 use Rattle.unit_packets.specs.Blocks.{Block}
 use Rattle.unit_packets.specs.declared.header.Header.{Header}
 use Rattle.pitch_model.specs.History.{Entry, Raw}
-use Rattle.pitch_model.specs.Heard.{heard_block}
 use Rattle.pitch_model.specs.Honest.{Honest}
 use Rattle.client_core.specs.Blocks.{Carries}
 use Rattle.client_core.specs.Tracks.{Keeps}
 use Rattle.pitch_model.proofs.Results.{on_ok_map}
+use Rattle.heard_items.specs.Heard.{heard_block}
 use Rattle.unit_clients.proofs.units.hear.Goals as goal
 
 pub returns-clause-keeps : goal.returns-clause-keeps

@@ -1,12 +1,12 @@
 use Rattle.std.proofs.Common.{ℕ, List, subst}
 use Rattle.pitch_model.specs.History.{Raw, Entry}
-use Rattle.pitch_model.specs.Units.{unit_history}
-use Rattle.pitch_model.specs.Heard.{heard_block}
 use Rattle.pitch_model.specs.Honest.{Honest}
 use Rattle.client_core.specs.Tracks.{Keeps}
 use Rattle.unit_clients.specs.Clients.{KeepsTo}
 use Rattle.unit_clients.proofs.Hearing.{new_client}
 use Rattle.pitch_model.proofs.Results.{on_ok_map}
+use Rattle.heard_items.specs.Units.{unit_history}
+use Rattle.heard_items.specs.Heard.{heard_block}
 use Rattle.unit_clients.proofs.units.hear_at.Goals as goal
 
 pub returns-in-Some-clause-keeps : goal.returns-in-Some-clause-keeps

@@ -2,7 +2,7 @@ use Rattle.std.proofs.Common.{rules, arith, ◌++◌, [], ◌∷◌, List, ℕ, 
 use Rattle.std.proofs.lemmas.List.{take_all}
 use Rattle.std.proofs.lemmas.Option.{slice_get_read}
 use Rattle.pitch_messages.specs.Room.{Roomy}
-use Rattle.pitch_model.specs.Datagrams.{IsPiece}
+use Rattle.heard_items.specs.Datagrams.{IsPiece}
 use Rattle.unit_packets.specs.Packing.{bytes_in}
 use Rattle.venue_core.specs.Plan.{plan}
 use Rattle.drill_client.proofs.Going.{piece_at}

@@ -6,8 +6,8 @@ use Rattle.gap_store.specs.Looking.{PacksAt}
 use Rattle.gap_store.specs.declared.found.Found.TheVariants.{Kept}
 use Rattle.pitch_messages.specs.Room.{Roomy}
 use Rattle.pitch_model.specs.Advertising.{accepted_by}
-use Rattle.pitch_model.specs.Datagrams.{IsPiece}
 use Rattle.pitch_model.specs.History.{Raw}
+use Rattle.heard_items.specs.Datagrams.{IsPiece}
 use Rattle.shared_unit.specs.Histories.{kept_at}
 use Rattle.unit_packets.specs.Packing.{bytes_in}
 use Rattle.venue_core.specs.Plan.{plan}

@@ -1,6 +1,6 @@
 use Rattle.std.proofs.Common.{rules, List, length, take, ◌∷◌, [], refl, sym, subst}
 use Rattle.std.proofs.lemmas.Option.{slice_get_read}
-use Rattle.pitch_model.specs.declared.item.Item.{Item}
+use Rattle.heard_items.specs.declared.item.Item.{Item}
 use Rattle.world_model.specs.Hearing.{HearsItems}
 use Rattle.world_model.proofs.HeardItems.{hears_then, items_more}
 use Rattle.world_model.proofs.hearing.hear_told.Goals as goal

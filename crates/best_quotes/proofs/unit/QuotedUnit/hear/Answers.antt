@@ -1,6 +1,6 @@
 use Rattle.std.proofs.Common.{sym, ap}
 use Rattle.unit_packets.specs.declared.header.Header.{Header}
-use Rattle.pitch_model.proofs.Units.{honest_block}
+use Rattle.heard_items.proofs.Units.{honest_block}
 use Rattle.client_core.specs.Blocks.{Carries}
 use Rattle.best_quotes.proofs.unit.QuotedUnit.hear.Goals as goal
 

@@ -1,9 +1,9 @@
 use Rattle.std.proofs.Common.{List, subst}
 use Rattle.unit_packets.specs.Blocks.{Block}
-use Rattle.pitch_model.specs.HeardBlocks.{heard_block}
 use Rattle.pitch_model.specs.Honest.{Honest}
-use Rattle.pitch_model.specs.Units.{unit_history}
-use Rattle.pitch_model.proofs.Units.{history_same}
+use Rattle.heard_items.specs.HeardBlocks.{heard_block}
+use Rattle.heard_items.specs.Units.{unit_history}
+use Rattle.heard_items.proofs.Units.{history_same}
 use Rattle.best_quotes.specs.Units.{IsQuoted, HaveQuoted}
 use Rattle.best_quotes.proofs.Quoted.{units_hear}
 use Rattle.best_quotes.proofs.units.QuotedUnits.hear.Goals as goal

@@ -4,8 +4,8 @@ use Rattle.client_core.specs.Client.{held_number}
 use Rattle.client_core.proofs.Slices.{can_less}
 use Rattle.pitch_model.specs.History.{Entry}
 use Rattle.pitch_model.specs.Honest.{AreVenues, Honest}
-use Rattle.pitch_model.specs.Heard.{heard}
-use Rattle.pitch_model.proofs.Honesty.{honest_messages}
+use Rattle.heard_items.specs.Heard.{heard}
+use Rattle.heard_items.proofs.Honesty.{honest_messages}
 use Rattle.client_core.proofs.client.UnitClient.hear_item.Goals as goal
 
 are : (c : goal.After-heard) (Image : List (List ℕ) → ℕ → List (List ℕ)) (V : List (List ℕ)) (E : List Entry) → Honest Image V (heard c.args.item.now E) → AreVenues V c.in-Messages.first c.raws.result

@@ -1,5 +1,5 @@
 use Rattle.std.proofs.Common.{◌++◌, List, map, ap, ◌∙◌}
-use Rattle.pitch_model.specs.declared.item.Item.{Item}
+use Rattle.heard_items.specs.declared.item.Item.{Item}
 use Rattle.session_ends.specs.declared.role.Role.{Role}
 use Rattle.session_ends.specs.Hearing.{reader_items}
 use Rattle.client_links.specs.Telling.{without_spare, run_of, tells}

@@ -3,14 +3,14 @@ use Rattle.std.proofs.Math.ListN.{set}
 use Rattle.std.proofs.lemmas.Option.{slice_get_within}
 use Rattle.unit_packets.specs.Blocks.{Block}
 use Rattle.pitch_model.specs.History.{Raw}
-use Rattle.pitch_model.specs.Heard.{heard_block}
-use Rattle.pitch_model.specs.Units.{unit_history, AllHonest}
-use Rattle.pitch_model.proofs.Units.{history_same, all_honest_before}
 use Rattle.pitch_model.specs.Honest.{Honest}
 use Rattle.unit_clients.specs.Clients.{HaveHeard, AllKeep}
 use Rattle.unit_clients.specs.Tables.{with_place}
 use Rattle.unit_clients.proofs.Hearing.{low_more, clients_hear, clients_keep, clients_still, all_keep_still}
 use Rattle.pitch_model.proofs.Results.{on_err}
+use Rattle.heard_items.specs.Heard.{heard_block}
+use Rattle.heard_items.specs.Units.{unit_history, AllHonest}
+use Rattle.heard_items.proofs.Units.{history_same, all_honest_before}
 use Rattle.unit_clients.proofs.units.Units.hear_block.Goals as goal
 
 keeps : (c : goal.In_ok-change) (before : List Block) → HaveHeard c.self.inside.clients before → (Image : List Raw → ℕ → List Raw) (Vs : ℕ → List Raw) → AllHonest Image Vs (c.args.block.now ∷ before)

@@ -1,6 +1,6 @@
 use Rattle.std.proofs.Common.{ℕ, ◌≡◌, ◌<◌, ◌+◌, ap, ◌∙◌, sym, subst, arith}
 use Rattle.unit_packets.specs.BlockBytes.{block_bytes, heartbeat_block}
-use Rattle.pitch_model.specs.Datagrams.{IsPiece}
+use Rattle.heard_items.specs.Datagrams.{IsPiece}
 use Rattle.venue_core.specs.Standing.{VenueState}
 use Rattle.venue_core.proofs.venue.Venue.beat.Goals as goal
 

@@ -1,7 +1,7 @@
 use Rattle.std.proofs.Common.{ℕ, List, sym, subst}
 use Rattle.std.specs.List.{AllByRecursion}
 use Rattle.unit_packets.specs.Packing.{bytes_in}
-use Rattle.pitch_model.specs.Datagrams.{IsPiece}
+use Rattle.heard_items.specs.Datagrams.{IsPiece}
 use Rattle.world_model.specs.State.{State}
 use Rattle.world_model.specs.Verbs.{state_of}
 use Rattle.world_model.proofs.Acting.{line_pieces}

@@ -18,19 +18,19 @@ use Rattle.unit_packets.proofs.Judged.{front_stands, front_judged}
 use Rattle.unit_packets.proofs.Packs.{after_known}
 use Rattle.unit_packets.proofs.Streams.{of_nothing}
 use Rattle.unit_packets.proofs.Written.{written_is}
-use Rattle.pitch_model.specs.Datagrams.{heard_blocks, block_messages, IsVenueBlock, IsPiece}
-use Rattle.pitch_model.specs.DatagramCounts.{messages_in, fresh_in, overflows_in, changes_in}
-use Rattle.pitch_model.specs.Heard.{heard_block, heard_messages, heard_sequenced, block_fresh}
-use Rattle.pitch_model.specs.Heard.{block_overflows, fresh_messages, overflowed_messages}
-use Rattle.pitch_model.specs.Changes.{block_change}
 use Rattle.pitch_model.specs.History.{Entry, Raw, Message}
 use Rattle.pitch_model.specs.Honest.{message_at, AreVenues, Honest}
-use Rattle.pitch_model.specs.declared.change.Change.{Change}
 use Rattle.pitch_model.proofs.Growing.{slice_more, venues_more}
-use Rattle.pitch_model.specs.Units.{unit_history}
-use Rattle.pitch_model.proofs.Hearing.{fresh_messages-le, overflowed_messages-le}
 use Rattle.pitch_model.proofs.Honesty.{venues_first, venues_rest}
-use Rattle.pitch_model.proofs.Units.{honest_block}
+use Rattle.heard_items.specs.Datagrams.{heard_blocks, block_messages, IsVenueBlock, IsPiece}
+use Rattle.heard_items.specs.DatagramCounts.{messages_in, fresh_in, overflows_in, changes_in}
+use Rattle.heard_items.specs.Heard.{heard_block, heard_messages, heard_sequenced, block_fresh}
+use Rattle.heard_items.specs.Heard.{block_overflows, fresh_messages, overflowed_messages}
+use Rattle.heard_items.specs.Changes.{block_change}
+use Rattle.heard_items.specs.declared.change.Change.{Change}
+use Rattle.heard_items.specs.Units.{unit_history}
+use Rattle.heard_items.proofs.Hearing.{fresh_messages-le, overflowed_messages-le}
+use Rattle.heard_items.proofs.Units.{honest_block}
 
 -- ---- Blocks one after another
 pub heard_both : (E : List Entry) (xs ys : List Block) → heard_blocks (xs ++ ys) E ≡ heard_blocks ys (heard_blocks xs E)

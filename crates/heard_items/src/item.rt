@@ -1,6 +1,6 @@
 //! The items that a client hears, from blocks on the lines and from both its sessions.
 
-ghost use Rattle.pitch_model.specs.Changes.{IsItem, IsItemOf};
+ghost use Rattle.heard_items.specs.Changes.{IsItem, IsItemOf};
 
 use pitch_messages::RawList;
 use unit_packets::Block;

@@ -1,6 +1,6 @@
 //! What hearing an item changed: status, fresh messages, overflows, an image's end.
 
-use crate::status::Status;
+use pitch_model::Status;
 
 /// What became of an image when Spin Finished came.
 #[derive(Clone, Copy, Debug, PartialEq, Eq)]

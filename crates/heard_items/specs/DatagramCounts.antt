@@ -2,10 +2,10 @@
 use Rattle.std.specs.Prelude.{ℕ, ◌+◌, List, [], ◌∷◌}
 use Rattle.unit_packets.specs.Blocks.{Block}
 use Rattle.pitch_model.specs.History.{Entry}
-use Rattle.pitch_model.specs.Heard.{heard_block, block_fresh, block_overflows}
-use Rattle.pitch_model.specs.Changes.{block_change}
-use Rattle.pitch_model.specs.declared.change.Change.{Change}
-use Rattle.pitch_model.specs.Datagrams.{block_messages}
+use Rattle.heard_items.specs.Heard.{heard_block, block_fresh, block_overflows}
+use Rattle.heard_items.specs.Changes.{block_change}
+use Rattle.heard_items.specs.declared.change.Change.{Change}
+use Rattle.heard_items.specs.Datagrams.{block_messages}
 
 -- how many messages of the blocks are heard
 abbrev pub messages_in : List Block → ℕ

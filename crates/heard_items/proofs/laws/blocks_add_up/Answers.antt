@@ -1,5 +1,5 @@
-use Rattle.pitch_model.proofs.Datagrams.{heard_both, fresh_few, fresh_sum, overflows_few, overflows_sum, unit_heard}
-use Rattle.pitch_model.proofs.laws.blocks_add_up.Goals as goal
+use Rattle.heard_items.proofs.Datagrams.{heard_both, fresh_few, fresh_sum, overflows_few, overflows_sum, unit_heard}
+use Rattle.heard_items.proofs.laws.blocks_add_up.Goals as goal
 
 pub returns-clause-heard : goal.returns-clause-heard
 returns-clause-heard c = heard_both

@@ -8,15 +8,15 @@ use Rattle.pitch_messages.specs.Room.{Roomy}
 use Rattle.unit_packets.specs.Blocks.{Block, StaysWithin}
 use Rattle.pitch_model.specs.History.{Entry, Raw, Message}
 use Rattle.pitch_model.specs.Reach.{is_overflow}
-use Rattle.pitch_model.specs.Heard.{heard, heard_block, heard_sequenced, heard_messages, is_fresh}
-use Rattle.pitch_model.specs.Heard.{fresh_messages, overflowed_messages, block_fresh}
-use Rattle.pitch_model.specs.Heard.{block_overflows}
-use Rattle.pitch_model.specs.Changes.{IsItem, IsItemOf, fresh_of, overflows_of, image_end}
-use Rattle.pitch_model.specs.Changes.{change_of, block_change}
 use Rattle.pitch_model.specs.Status.{status_of}
-use Rattle.pitch_model.specs.declared.change.ImageEnd.TheVariants.{NoImage}
-use Rattle.pitch_model.specs.declared.item.Item.{Item}
-use Rattle.pitch_model.specs.declared.item.Item.TheVariants as item
+use Rattle.heard_items.specs.Heard.{heard, heard_block, heard_sequenced, heard_messages, is_fresh}
+use Rattle.heard_items.specs.Heard.{fresh_messages, overflowed_messages, block_fresh}
+use Rattle.heard_items.specs.Heard.{block_overflows}
+use Rattle.heard_items.specs.Changes.{IsItem, IsItemOf, fresh_of, overflows_of, image_end}
+use Rattle.heard_items.specs.Changes.{change_of, block_change}
+use Rattle.heard_items.specs.declared.change.ImageEnd.TheVariants.{NoImage}
+use Rattle.heard_items.specs.declared.item.Item.{Item}
+use Rattle.heard_items.specs.declared.item.Item.TheVariants as item
 
 -- ---- A last message
 heard_push : (first : ℕ) (raws : List Raw) (raw : Raw) (E : List Entry) → heard_messages first (raws ++ raw ∷ []) E ≡ Message (first + length raws) raw ∷ heard_messages first raws E

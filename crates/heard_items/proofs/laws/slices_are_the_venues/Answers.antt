@@ -1,5 +1,5 @@
-use Rattle.pitch_model.proofs.Datagrams.{venues_after, venues_slice}
-use Rattle.pitch_model.proofs.laws.slices_are_the_venues.Goals as goal
+use Rattle.heard_items.proofs.Datagrams.{venues_after, venues_slice}
+use Rattle.heard_items.proofs.laws.slices_are_the_venues.Goals as goal
 
 pub returns-clause-rest : goal.returns-clause-rest
 returns-clause-rest c = venues_after

@@ -4,10 +4,10 @@ use Rattle.unit_packets.specs.Blocks.{Block}
 use Rattle.pitch_model.specs.History.{Entry, Raw}
 use Rattle.pitch_model.specs.History as entry
 use Rattle.pitch_model.specs.Reach.{reach, is_seen, since_overflow}
-use Rattle.pitch_model.specs.declared.item.Item.{Item}
-use Rattle.pitch_model.specs.declared.item.Item.TheVariants as item
-pub use Rattle.pitch_model.specs.HeardBlocks.{heard_messages, heard_sequenced, heard_block}
-pub use Rattle.pitch_model.specs.HeardBlocks.{overflowed_messages, block_overflows}
+use Rattle.heard_items.specs.declared.item.Item.{Item}
+use Rattle.heard_items.specs.declared.item.Item.TheVariants as item
+pub use Rattle.heard_items.specs.HeardBlocks.{heard_messages, heard_sequenced, heard_block}
+pub use Rattle.heard_items.specs.HeardBlocks.{overflowed_messages, block_overflows}
 
 -- ---- Entries
 -- the status `A` of a Gap Response or Spin Response

@@ -1,5 +1,5 @@
-use Rattle.pitch_model.proofs.Units.{units_rise, member-units_of}
-use Rattle.pitch_model.proofs.laws.units_are_those_named.Goals as goal
+use Rattle.heard_items.proofs.Units.{units_rise, member-units_of}
+use Rattle.heard_items.proofs.laws.units_are_those_named.Goals as goal
 
 pub returns-clause-rise : goal.returns-clause-rise
 returns-clause-rise c = units_rise

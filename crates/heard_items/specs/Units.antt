@@ -3,8 +3,8 @@
 use Rattle.std.specs.Prelude.{ℕ, List, [], ◌∷◌, ◌==◌, nat_lt, if◌then◌else◌}
 use Rattle.unit_packets.specs.Blocks.{Block}
 use Rattle.pitch_model.specs.History.{Entry, Raw}
-use Rattle.pitch_model.specs.HeardBlocks.{heard_block}
 use Rattle.pitch_model.specs.Honest.{Honest}
+use Rattle.heard_items.specs.HeardBlocks.{heard_block}
 
 -- what a unit's client heard of the blocks
 abbrev pub unit_history : ℕ → List Block → List Entry

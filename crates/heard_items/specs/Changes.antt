@@ -6,13 +6,13 @@ use Rattle.unit_packets.specs.Blocks.{Block}
 use Rattle.pitch_model.specs.History.{Entry, Raw, image_finished, bad_image, spin_of, adds}
 use Rattle.pitch_model.specs.Reach.{reach}
 use Rattle.pitch_model.specs.Status.{status_of}
-use Rattle.pitch_model.specs.declared.change.Change.{Change}
-use Rattle.pitch_model.specs.declared.change.ImageEnd.{ImageEnd}
-use Rattle.pitch_model.specs.declared.change.ImageEnd.TheVariants as end
-use Rattle.pitch_model.specs.declared.item.Item.{Item}
-use Rattle.pitch_model.specs.declared.item.Item.TheVariants as item
-use Rattle.pitch_model.specs.HeardBlocks.{heard_block, overflowed_messages, block_overflows}
-use Rattle.pitch_model.specs.Heard.{heard, fresh_messages, block_fresh}
+use Rattle.heard_items.specs.declared.change.Change.{Change}
+use Rattle.heard_items.specs.declared.change.ImageEnd.{ImageEnd}
+use Rattle.heard_items.specs.declared.change.ImageEnd.TheVariants as end
+use Rattle.heard_items.specs.declared.item.Item.{Item}
+use Rattle.heard_items.specs.declared.item.Item.TheVariants as item
+use Rattle.heard_items.specs.HeardBlocks.{heard_block, overflowed_messages, block_overflows}
+use Rattle.heard_items.specs.Heard.{heard, fresh_messages, block_fresh}
 
 -- ---- Items
 -- the item of a block: its messages, or what a heartbeat tells ("Heartbeat Messages"); sequence 0

@@ -10,10 +10,10 @@ use Rattle.std.proofs.lemmas.Bool.{cond_both, cond-true, cond-false, eqb-true, e
 use Rattle.std.proofs.lemmas.Bool.Decides.{nat_tests}
 use Rattle.unit_packets.specs.Blocks.{Block}
 use Rattle.pitch_model.specs.History.{Entry, Raw}
-use Rattle.pitch_model.specs.Heard.{heard_block, heard_sequenced}
 use Rattle.pitch_model.specs.Honest.{Honest}
-use Rattle.pitch_model.specs.Units.{unit_history, with_number, units_of, AllHonest}
-use Rattle.pitch_model.proofs.Honesty.{honest_before}
+use Rattle.heard_items.specs.Heard.{heard_block, heard_sequenced}
+use Rattle.heard_items.specs.Units.{unit_history, with_number, units_of, AllHonest}
+use Rattle.heard_items.proofs.Honesty.{honest_before}
 
 -- ---- Units
 -- a number stands among the others or is the new one

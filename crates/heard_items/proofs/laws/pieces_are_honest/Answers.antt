@@ -1,5 +1,5 @@
-use Rattle.pitch_model.proofs.Datagrams.{honest_piece, piece_more}
-use Rattle.pitch_model.proofs.laws.pieces_are_honest.Goals as goal
+use Rattle.heard_items.proofs.Datagrams.{honest_piece, piece_more}
+use Rattle.heard_items.proofs.laws.pieces_are_honest.Goals as goal
 
 pub returns-clause-honest : goal.returns-clause-honest
 returns-clause-honest c = honest_piece

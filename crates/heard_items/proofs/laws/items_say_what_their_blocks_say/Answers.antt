@@ -1,5 +1,5 @@
-use Rattle.pitch_model.proofs.Hearing.{heard_item, change_item, item_fits}
-use Rattle.pitch_model.proofs.laws.items_say_what_their_blocks_say.Goals as goal
+use Rattle.heard_items.proofs.Hearing.{heard_item, change_item, item_fits}
+use Rattle.heard_items.proofs.laws.items_say_what_their_blocks_say.Goals as goal
 
 pub returns-clause-heard : goal.returns-clause-heard
 returns-clause-heard c = heard_item

@@ -1,5 +1,5 @@
-use Rattle.pitch_model.proofs.Datagrams.{packing_pieces, heartbeat_piece}
-use Rattle.pitch_model.proofs.laws.packed_messages_are_pieces.Goals as goal
+use Rattle.heard_items.proofs.Datagrams.{packing_pieces, heartbeat_piece}
+use Rattle.heard_items.proofs.laws.packed_messages_are_pieces.Goals as goal
 
 pub returns-clause-packed : goal.returns-clause-packed
 returns-clause-packed c = packing_pieces

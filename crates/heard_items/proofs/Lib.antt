@@ -1,0 +1,5 @@
+pub mod Honesty
+pub mod Hearing
+pub mod Units
+pub mod Datagrams
+pub mod Examples

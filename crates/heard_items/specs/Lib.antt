@@ -1,0 +1,6 @@
+pub mod HeardBlocks
+pub mod Heard
+pub mod Changes
+pub mod Units
+pub mod Datagrams
+pub mod DatagramCounts
