@@ -7,9 +7,10 @@ use Rattle.std.proofs.lemmas.Bool.Decides.{nat_tests}
 use Rattle.pitch_messages.specs.Raw.{IsRaw, kind_of}
 use Rattle.pitch_messages.specs.Fields.{Values}
 use Rattle.pitch_messages.specs.Table.{Row, needs, needs_by, reads_by, row_in, blanked_by}
-use Rattle.pitch_messages.specs.Reading.{MessageRow, reads, row_of, row_says, needs_of, table, time_row, add_long_row, add_short_row, executed_row, executed_at_row, reduce_long_row, reduce_short_row, modify_long_row, modify_short_row, delete_row, trade_long_row, trade_short_row, trade_break_row, end_of_session_row, add_expanded_row, trade_expanded_row, trading_status_row, unit_clear_row}
+use Rattle.pitch_messages.specs.Reading.{MessageRow, reads, row_of, row_says, needs_of, table}
+use Rattle.pitch_messages.specs.Reading as rows
 use Rattle.pitch_messages.specs.Writing.{InRow, Known, Unknown, in_row, bytes_in, written, with_reserved_blank}
-use Rattle.pitch_messages.specs.declared.message.Message.TheVariants.{Other}
+use Rattle.pitch_messages.specs.declared.message.Message.TheVariants as messages
 use Rattle.pitch_messages.specs.declared.message.ReadError.TheVariants.{Short, BadSide}
 use Rattle.pitch_messages.proofs.Laying.{AreSmall, AllAt, made, fields_said, row_rewritten}
 
@@ -22,24 +23,24 @@ stands row here others = (here, others)
 
 all_stand : AllByRecursion StandsIn table
 all_stand =
-    stands time_row (λ values. refl)
-    (stands add_long_row (λ values. refl)
-    (stands add_short_row (λ values. refl)
-    (stands executed_row (λ values. refl)
-    (stands executed_at_row (λ values. refl)
-    (stands reduce_long_row (λ values. refl)
-    (stands reduce_short_row (λ values. refl)
-    (stands modify_long_row (λ values. refl)
-    (stands modify_short_row (λ values. refl)
-    (stands delete_row (λ values. refl)
-    (stands trade_long_row (λ values. refl)
-    (stands trade_short_row (λ values. refl)
-    (stands trade_break_row (λ values. refl)
-    (stands end_of_session_row (λ values. refl)
-    (stands add_expanded_row (λ values. refl)
-    (stands trade_expanded_row (λ values. refl)
-    (stands trading_status_row (λ values. refl)
-    (stands unit_clear_row (λ values. refl)
+    stands rows.time_row (λ values. refl)
+    (stands rows.add_long_row (λ values. refl)
+    (stands rows.add_short_row (λ values. refl)
+    (stands rows.executed_row (λ values. refl)
+    (stands rows.executed_at_row (λ values. refl)
+    (stands rows.reduce_long_row (λ values. refl)
+    (stands rows.reduce_short_row (λ values. refl)
+    (stands rows.modify_long_row (λ values. refl)
+    (stands rows.modify_short_row (λ values. refl)
+    (stands rows.delete_row (λ values. refl)
+    (stands rows.trade_long_row (λ values. refl)
+    (stands rows.trade_short_row (λ values. refl)
+    (stands rows.trade_break_row (λ values. refl)
+    (stands rows.end_of_session_row (λ values. refl)
+    (stands rows.add_expanded_row (λ values. refl)
+    (stands rows.trade_expanded_row (λ values. refl)
+    (stands rows.trading_status_row (λ values. refl)
+    (stands rows.unit_clear_row (λ values. refl)
     tt)))))))))))))))))
 
 -- a row that is found has the type, and what holds of all rows
@@ -70,7 +71,7 @@ unfolding reads
 read_at raw = by (row_of (kind_of raw)) refl
   where
     by : (row : Option MessageRow) → row_of (kind_of raw) ≡ row
-        → IfOk (reads_by (λ other. Ok (Other other)) (λ needs has. Err (Short needs has)) row_says row raw) (λ message. ReadAt raw (in_row message))
+        → IfOk (reads_by (λ other. Ok (messages.Other other)) (λ needs has. Err (Short needs has)) row_says row raw) (λ message. ReadAt raw (in_row message))
     by None at = (at, refl)
     by (Some row) at =
         let mine : (kind_of raw ≡ row.kind) × StandsIn row = found StandsIn table (kind_of raw) row all_stand at in

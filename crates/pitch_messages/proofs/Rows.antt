@@ -3,7 +3,7 @@ use Rattle.std.proofs.Common.{◌≡◌, ℕ, ◌<◌, ◌≤◌, Bool, cond, Li
 use Rattle.std.specs.Option.{option_map}
 use Rattle.std.proofs.lemmas.Bool.{lt-ltb, le-ltb}
 use Rattle.pitch_messages.specs.Raw.{IsRaw, kind_of}
-use Rattle.pitch_messages.specs.declared.message.Message.TheVariants.{Other}
+use Rattle.pitch_messages.specs.declared.message.Message.TheVariants as messages
 use Rattle.pitch_messages.specs.declared.message.ReadError.TheVariants.{Short}
 use Rattle.pitch_messages.specs.Table.{Row, needs, needs_by, reads_by}
 use Rattle.pitch_messages.specs.Reading.{MessageRow, needs_of, row_of, row_says, reads}
@@ -48,18 +48,18 @@ needed {A} table kind k size row is at there = subst (λ (r : Option (Row A)). n
 -- the same for the table of messages
 pub said : (row : MessageRow) (raw : List ℕ) (kind : ℕ) → kind_of raw ≡ kind → row_of kind ≡ Some row → needs row ≤ length raw → row_says row raw ≡ reads raw
 unfolding reads
-said row raw kind is at there = row_known (λ other. Ok (Other other)) (λ needs has. Err (Short needs has)) row_says row_of row raw kind is at there
+said row raw kind is at there = row_known (λ other. Ok (messages.Other other)) (λ needs has. Err (Short needs has)) row_says row_of row raw kind is at there
 
 pub said_here : (raw : List ℕ) {k : ℕ} (row : MessageRow) → kind_of raw ≡ k → row_of k ≡ Some row → needs_of (kind_of raw) ≤ length raw → row_says row raw ≡ reads raw
 said_here raw {k} row is at there = said row raw k is at (needed row_of (kind_of raw) k (length raw) row is at there)
 
-pub unsaid : (raw : List ℕ) → row_of (kind_of raw) ≡ None → Ok (Other raw) ≡ reads raw
+pub unsaid : (raw : List ℕ) → row_of (kind_of raw) ≡ None → Ok (messages.Other raw) ≡ reads raw
 unfolding reads
-unsaid raw none = row_none (λ other. Ok (Other other)) (λ needs has. Err (Short needs has)) row_says raw (row_of (kind_of raw)) none
+unsaid raw none = row_none (λ other. Ok (messages.Other other)) (λ needs has. Err (Short needs has)) row_says raw (row_of (kind_of raw)) none
 
 pub short : (raw : List ℕ) (least : ℕ) → Some least ≡ option_map (λ (r : MessageRow). needs r) (row_of (kind_of raw)) → length raw < least → IsRaw raw → reads raw ≡ Err (Short least (slice_index raw 0))
 unfolding reads
-short raw least of less is = row_short (λ other. Ok (Other other)) (λ n has. Err (Short n has)) row_says raw least (row_of (kind_of raw)) of less is
+short raw least of less is = row_short (λ other. Ok (messages.Other other)) (λ n has. Err (Short n has)) row_says raw least (row_of (kind_of raw)) of less is
 
 -- the same for the table of session messages
 pub session_said : (row : SessionRow) (raw : List ℕ) (kind : ℕ) → kind_of raw ≡ kind → session_row_of kind ≡ Some row → needs row ≤ length raw → session_row_says row raw ≡ session_reads raw

@@ -7,11 +7,7 @@ use Rattle.pitch_fields.specs.Price.{short_of}
 use Rattle.pitch_messages.specs.declared.order.Order.{Order}
 use Rattle.pitch_messages.specs.declared.trading_state.TradingState.{TradingState}
 use Rattle.pitch_messages.specs.declared.message.Message.{Message}
-use Rattle.pitch_messages.specs.declared.message.Message.TheVariants.{AddLong, AddShort, ReduceLong}
-use Rattle.pitch_messages.specs.declared.message.Message.TheVariants.{ReduceShort, ModifyLong}
-use Rattle.pitch_messages.specs.declared.message.Message.TheVariants.{ModifyShort, TradeLong}
-use Rattle.pitch_messages.specs.declared.message.Message.TheVariants.{TradeShort, AddExpanded}
-use Rattle.pitch_messages.specs.declared.message.Message.TheVariants.{TradeExpanded, TradingStatus}
+use Rattle.pitch_messages.specs.declared.message.Message.TheVariants as messages
 
 -- the flags of an order: bit 0 says that it is displayed
 abbrev pub flags_of : Bool → ℕ
@@ -28,12 +24,13 @@ plain_symbol order = if is_blank order.participant then six_of order.symbol else
 
 abbrev pub add_in_form : Option (List ℕ) → Option ℕ → Order → ℕ → Message
 add_in_form None cents order offset =
-    AddExpanded offset order.id order.side order.quantity order.symbol order.price
+    messages.AddExpanded offset order.id order.side order.quantity order.symbol order.price
     (flags_of order.display) order.participant
 add_in_form (Some six) (Some cents) order offset =
-    AddShort offset order.id order.side order.quantity six cents (flags_of order.display)
+    messages.AddShort offset order.id order.side order.quantity six cents (flags_of order.display)
 add_in_form (Some six) None order offset =
-    AddLong offset order.id order.side order.quantity six order.price (flags_of order.display)
+    messages.AddLong offset order.id order.side order.quantity six order.price
+    (flags_of order.display)
 
 -- the add of an order
 unfoldable pub add_message : Order → ℕ → Message
@@ -42,11 +39,12 @@ add_message order offset =
 
 abbrev pub trade_in_form : Option (List ℕ) → Option ℕ → Order → ℕ → ℕ → Message
 trade_in_form None cents order execution offset =
-    TradeExpanded offset order.id order.side order.quantity order.symbol order.price execution
+    messages.TradeExpanded offset order.id order.side order.quantity order.symbol order.price
+    execution
 trade_in_form (Some six) (Some cents) order execution offset =
-    TradeShort offset order.id order.side order.quantity six cents execution
+    messages.TradeShort offset order.id order.side order.quantity six cents execution
 trade_in_form (Some six) None order execution offset =
-    TradeLong offset order.id order.side order.quantity six order.price execution
+    messages.TradeLong offset order.id order.side order.quantity six order.price execution
 
 -- the trade of an order that is not shown in the book; it names no participant
 unfoldable pub trade_message : Order → ℕ → ℕ → Message
@@ -57,13 +55,14 @@ trade_message order execution offset =
 -- the reduction of an order by a quantity
 unfoldable pub reduce_message : ℕ → ℕ → ℕ → Message
 reduce_message id quantity offset =
-    if nat_le quantity 65535 then ReduceShort offset id quantity else ReduceLong offset id quantity
+    if nat_le quantity 65535 then messages.ReduceShort offset id quantity
+    else messages.ReduceLong offset id quantity
 
 abbrev pub modify_in_form : Option ℕ → ℕ → ℕ → ℕ → Bool → ℕ → Message
 modify_in_form (Some cents) id quantity price display offset =
-    ModifyShort offset id quantity cents (flags_of display)
+    messages.ModifyShort offset id quantity cents (flags_of display)
 modify_in_form None id quantity price display offset =
-    ModifyLong offset id quantity price (flags_of display)
+    messages.ModifyLong offset id quantity price (flags_of display)
 
 -- the modification of an order to a quantity, a price and a display mark
 unfoldable pub modify_message : ℕ → ℕ → ℕ → Bool → ℕ → Message
@@ -72,4 +71,4 @@ modify_message id quantity price display offset =
 
 -- the trading status of a symbol; it has one form
 abbrev pub status_message : TradingState → ℕ → Message
-status_message state offset = TradingStatus offset state.symbol state.halt state.sho
+status_message state offset = messages.TradingStatus offset state.symbol state.halt state.sho

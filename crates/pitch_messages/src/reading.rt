@@ -9,13 +9,7 @@ ghost use Rattle.pitch_messages.specs.Fields.{bytes_at};
 ghost use Rattle.pitch_messages.specs.Table.{needs};
 ghost use Rattle.pitch_messages.specs.Writing.{written, with_reserved_blank};
 ghost use Rattle.pitch_messages.specs.Reading.{needs_of, extra_of, reads, row_of, row_says};
-ghost use Rattle.pitch_messages.specs.Reading.{add_long_row, add_short_row, executed_row};
-ghost use Rattle.pitch_messages.specs.Reading.{executed_at_row, reduce_long_row, reduce_short_row};
-ghost use Rattle.pitch_messages.specs.Reading.{modify_long_row, modify_short_row, delete_row};
-ghost use Rattle.pitch_messages.specs.Reading.{trade_long_row, trade_short_row, trade_break_row};
-ghost use Rattle.pitch_messages.specs.Reading.{end_of_session_row, add_expanded_row};
-ghost use Rattle.pitch_messages.specs.Reading.{trade_expanded_row, trading_status_row};
-ghost use Rattle.pitch_messages.specs.Reading.{time_row, unit_clear_row};
+ghost use Rattle.pitch_messages.specs.Reading as rows;
 
 use crate::message::{Message, ReadError};
 use crate::raw::Raw;
@@ -81,7 +75,7 @@ fn side_at(bytes: &[u8]) -> Result<Side, ReadError>
 #[inline(always)]
 fn time(bytes: &[u8]) -> Result<Message, ReadError>
     requires { 6 ≤ length bytes.now }
-    ensures { result ≡ row_says time_row bytes.now }
+    ensures { result ≡ row_says rows.time_row bytes.now }
 {
     Ok(Message::Time {
         second: get_u32(bytes, 2),
@@ -91,7 +85,7 @@ fn time(bytes: &[u8]) -> Result<Message, ReadError>
 #[inline(always)]
 fn add_long(bytes: &[u8]) -> Result<Message, ReadError>
     requires { 34 ≤ length bytes.now }
-    ensures { result ≡ row_says add_long_row bytes.now }
+    ensures { result ≡ row_says rows.add_long_row bytes.now }
 {
     let side = side_at(bytes)?;
     Ok(Message::AddLong {
@@ -108,7 +102,7 @@ fn add_long(bytes: &[u8]) -> Result<Message, ReadError>
 #[inline(always)]
 fn add_short(bytes: &[u8]) -> Result<Message, ReadError>
     requires { 26 ≤ length bytes.now }
-    ensures { result ≡ row_says add_short_row bytes.now }
+    ensures { result ≡ row_says rows.add_short_row bytes.now }
 {
     let side = side_at(bytes)?;
     Ok(Message::AddShort {
@@ -125,7 +119,7 @@ fn add_short(bytes: &[u8]) -> Result<Message, ReadError>
 #[inline(always)]
 fn executed(bytes: &[u8]) -> Result<Message, ReadError>
     requires { 26 ≤ length bytes.now }
-    ensures { result ≡ row_says executed_row bytes.now }
+    ensures { result ≡ row_says rows.executed_row bytes.now }
 {
     Ok(Message::Executed {
         offset: get_u32(bytes, 2),
@@ -138,7 +132,7 @@ fn executed(bytes: &[u8]) -> Result<Message, ReadError>
 #[inline(always)]
 fn executed_at(bytes: &[u8]) -> Result<Message, ReadError>
     requires { 38 ≤ length bytes.now }
-    ensures { result ≡ row_says executed_at_row bytes.now }
+    ensures { result ≡ row_says rows.executed_at_row bytes.now }
 {
     Ok(Message::ExecutedAt {
         offset: get_u32(bytes, 2),
@@ -153,7 +147,7 @@ fn executed_at(bytes: &[u8]) -> Result<Message, ReadError>
 #[inline(always)]
 fn reduce_long(bytes: &[u8]) -> Result<Message, ReadError>
     requires { 18 ≤ length bytes.now }
-    ensures { result ≡ row_says reduce_long_row bytes.now }
+    ensures { result ≡ row_says rows.reduce_long_row bytes.now }
 {
     Ok(Message::ReduceLong {
         offset: get_u32(bytes, 2),
@@ -165,7 +159,7 @@ fn reduce_long(bytes: &[u8]) -> Result<Message, ReadError>
 #[inline(always)]
 fn reduce_short(bytes: &[u8]) -> Result<Message, ReadError>
     requires { 16 ≤ length bytes.now }
-    ensures { result ≡ row_says reduce_short_row bytes.now }
+    ensures { result ≡ row_says rows.reduce_short_row bytes.now }
 {
     Ok(Message::ReduceShort {
         offset: get_u32(bytes, 2),
@@ -177,7 +171,7 @@ fn reduce_short(bytes: &[u8]) -> Result<Message, ReadError>
 #[inline(always)]
 fn modify_long(bytes: &[u8]) -> Result<Message, ReadError>
     requires { 27 ≤ length bytes.now }
-    ensures { result ≡ row_says modify_long_row bytes.now }
+    ensures { result ≡ row_says rows.modify_long_row bytes.now }
 {
     Ok(Message::ModifyLong {
         offset: get_u32(bytes, 2),
@@ -191,7 +185,7 @@ fn modify_long(bytes: &[u8]) -> Result<Message, ReadError>
 #[inline(always)]
 fn modify_short(bytes: &[u8]) -> Result<Message, ReadError>
     requires { 19 ≤ length bytes.now }
-    ensures { result ≡ row_says modify_short_row bytes.now }
+    ensures { result ≡ row_says rows.modify_short_row bytes.now }
 {
     Ok(Message::ModifyShort {
         offset: get_u32(bytes, 2),
@@ -205,7 +199,7 @@ fn modify_short(bytes: &[u8]) -> Result<Message, ReadError>
 #[inline(always)]
 fn delete(bytes: &[u8]) -> Result<Message, ReadError>
     requires { 14 ≤ length bytes.now }
-    ensures { result ≡ row_says delete_row bytes.now }
+    ensures { result ≡ row_says rows.delete_row bytes.now }
 {
     Ok(Message::Delete {
         offset: get_u32(bytes, 2),
@@ -216,7 +210,7 @@ fn delete(bytes: &[u8]) -> Result<Message, ReadError>
 #[inline(always)]
 fn trade_long(bytes: &[u8]) -> Result<Message, ReadError>
     requires { 41 ≤ length bytes.now }
-    ensures { result ≡ row_says trade_long_row bytes.now }
+    ensures { result ≡ row_says rows.trade_long_row bytes.now }
 {
     let side = side_at(bytes)?;
     Ok(Message::TradeLong {
@@ -233,7 +227,7 @@ fn trade_long(bytes: &[u8]) -> Result<Message, ReadError>
 #[inline(always)]
 fn trade_short(bytes: &[u8]) -> Result<Message, ReadError>
     requires { 33 ≤ length bytes.now }
-    ensures { result ≡ row_says trade_short_row bytes.now }
+    ensures { result ≡ row_says rows.trade_short_row bytes.now }
 {
     let side = side_at(bytes)?;
     Ok(Message::TradeShort {
@@ -250,7 +244,7 @@ fn trade_short(bytes: &[u8]) -> Result<Message, ReadError>
 #[inline(always)]
 fn trade_break(bytes: &[u8]) -> Result<Message, ReadError>
     requires { 14 ≤ length bytes.now }
-    ensures { result ≡ row_says trade_break_row bytes.now }
+    ensures { result ≡ row_says rows.trade_break_row bytes.now }
 {
     Ok(Message::TradeBreak {
         offset: get_u32(bytes, 2),
@@ -261,7 +255,7 @@ fn trade_break(bytes: &[u8]) -> Result<Message, ReadError>
 #[inline(always)]
 fn end_of_session(bytes: &[u8]) -> Result<Message, ReadError>
     requires { 6 ≤ length bytes.now }
-    ensures { result ≡ row_says end_of_session_row bytes.now }
+    ensures { result ≡ row_says rows.end_of_session_row bytes.now }
 {
     Ok(Message::EndOfSession {
         offset: get_u32(bytes, 2),
@@ -271,7 +265,7 @@ fn end_of_session(bytes: &[u8]) -> Result<Message, ReadError>
 #[inline(always)]
 fn add_expanded(bytes: &[u8]) -> Result<Message, ReadError>
     requires { 40 ≤ length bytes.now }
-    ensures { result ≡ row_says add_expanded_row bytes.now }
+    ensures { result ≡ row_says rows.add_expanded_row bytes.now }
 {
     let side = side_at(bytes)?;
     Ok(Message::AddExpanded {
@@ -289,7 +283,7 @@ fn add_expanded(bytes: &[u8]) -> Result<Message, ReadError>
 #[inline(always)]
 fn trade_expanded(bytes: &[u8]) -> Result<Message, ReadError>
     requires { 43 ≤ length bytes.now }
-    ensures { result ≡ row_says trade_expanded_row bytes.now }
+    ensures { result ≡ row_says rows.trade_expanded_row bytes.now }
 {
     let side = side_at(bytes)?;
     Ok(Message::TradeExpanded {
@@ -306,7 +300,7 @@ fn trade_expanded(bytes: &[u8]) -> Result<Message, ReadError>
 #[inline(always)]
 fn trading_status(bytes: &[u8]) -> Result<Message, ReadError>
     requires { 18 ≤ length bytes.now }
-    ensures { result ≡ row_says trading_status_row bytes.now }
+    ensures { result ≡ row_says rows.trading_status_row bytes.now }
 {
     Ok(Message::TradingStatus {
         offset: get_u32(bytes, 2),
@@ -319,7 +313,7 @@ fn trading_status(bytes: &[u8]) -> Result<Message, ReadError>
 #[inline(always)]
 fn unit_clear(bytes: &[u8]) -> Result<Message, ReadError>
     requires { 6 ≤ length bytes.now }
-    ensures { result ≡ row_says unit_clear_row bytes.now }
+    ensures { result ≡ row_says rows.unit_clear_row bytes.now }
 {
     Ok(Message::UnitClear {
         offset: get_u32(bytes, 2),

@@ -3,19 +3,7 @@
 ghost use Rattle.std.specs.Prelude.{◌≡◌, length};
 ghost use Rattle.pitch_messages.specs.Reading.{reads};
 ghost use Rattle.pitch_messages.specs.Writing.{written, HasItsVariant};
-ghost use Rattle.pitch_messages.specs.declared.message.Message.TheVariants.{Time, AddLong};
-ghost use Rattle.pitch_messages.specs.declared.message.Message.TheVariants.{AddShort, Executed};
-ghost use Rattle.pitch_messages.specs.declared.message.Message.TheVariants.{ExecutedAt, ReduceLong};
-ghost use Rattle.pitch_messages.specs.declared.message.Message.TheVariants.{ReduceShort};
-ghost use Rattle.pitch_messages.specs.declared.message.Message.TheVariants.{ModifyLong};
-ghost use Rattle.pitch_messages.specs.declared.message.Message.TheVariants.{ModifyShort, Delete};
-ghost use Rattle.pitch_messages.specs.declared.message.Message.TheVariants.{TradeLong, TradeShort};
-ghost use Rattle.pitch_messages.specs.declared.message.Message.TheVariants.{TradeBreak};
-ghost use Rattle.pitch_messages.specs.declared.message.Message.TheVariants.{EndOfSession};
-ghost use Rattle.pitch_messages.specs.declared.message.Message.TheVariants.{AddExpanded};
-ghost use Rattle.pitch_messages.specs.declared.message.Message.TheVariants.{TradeExpanded};
-ghost use Rattle.pitch_messages.specs.declared.message.Message.TheVariants.{TradingStatus};
-ghost use Rattle.pitch_messages.specs.declared.message.Message.TheVariants.{UnitClear};
+ghost use Rattle.pitch_messages.specs.declared.message.Message.TheVariants as messages;
 
 use crate::message::Message;
 use crate::raw::Raw;
@@ -23,7 +11,7 @@ use pitch_fields::Side;
 
 #[tactic(auto, unfolding(crate::specs::Writing::written))]
 fn time_raw(second: u32) -> Raw
-    ensures { result ≡ written (Time second) }
+    ensures { result ≡ written (messages.Time second) }
 {
     Raw::of_fields(0x20, &[&second.to_le_bytes()])
 }
@@ -38,7 +26,8 @@ fn add_long_raw(
     price: u64,
     flags: u8,
 ) -> Raw
-    ensures written { result ≡ written (AddLong offset id side quantity symbol price flags) }
+    ensures written { result ≡ written
+        (messages.AddLong offset id side quantity symbol price flags) }
     ensures symbol { length symbol ≡ 6 }
 {
     Raw::of_fields(
@@ -65,7 +54,8 @@ fn add_short_raw(
     price: u16,
     flags: u8,
 ) -> Raw
-    ensures written { result ≡ written (AddShort offset id side quantity symbol price flags) }
+    ensures written { result ≡ written
+        (messages.AddShort offset id side quantity symbol price flags) }
     ensures symbol { length symbol ≡ 6 }
 {
     Raw::of_fields(
@@ -84,7 +74,7 @@ fn add_short_raw(
 
 #[tactic(auto, unfolding(crate::specs::Writing::written))]
 fn executed_raw(offset: u32, id: u64, executed: u32, execution: u64) -> Raw
-    ensures { result ≡ written (Executed offset id executed execution) }
+    ensures { result ≡ written (messages.Executed offset id executed execution) }
 {
     Raw::of_fields(
         0x23,
@@ -106,7 +96,7 @@ fn executed_at_raw(
     execution: u64,
     price: u64,
 ) -> Raw
-    ensures { result ≡ written (ExecutedAt offset id executed remaining execution price) }
+    ensures { result ≡ written (messages.ExecutedAt offset id executed remaining execution price) }
 {
     Raw::of_fields(
         0x24,
@@ -123,7 +113,7 @@ fn executed_at_raw(
 
 #[tactic(auto, unfolding(crate::specs::Writing::written))]
 fn reduce_long_raw(offset: u32, id: u64, quantity: u32) -> Raw
-    ensures { result ≡ written (ReduceLong offset id quantity) }
+    ensures { result ≡ written (messages.ReduceLong offset id quantity) }
 {
     Raw::of_fields(
         0x25,
@@ -137,7 +127,7 @@ fn reduce_long_raw(offset: u32, id: u64, quantity: u32) -> Raw
 
 #[tactic(auto, unfolding(crate::specs::Writing::written))]
 fn reduce_short_raw(offset: u32, id: u64, quantity: u16) -> Raw
-    ensures { result ≡ written (ReduceShort offset id quantity) }
+    ensures { result ≡ written (messages.ReduceShort offset id quantity) }
 {
     Raw::of_fields(
         0x26,
@@ -151,7 +141,7 @@ fn reduce_short_raw(offset: u32, id: u64, quantity: u16) -> Raw
 
 #[tactic(auto, unfolding(crate::specs::Writing::written))]
 fn modify_long_raw(offset: u32, id: u64, quantity: u32, price: u64, flags: u8) -> Raw
-    ensures { result ≡ written (ModifyLong offset id quantity price flags) }
+    ensures { result ≡ written (messages.ModifyLong offset id quantity price flags) }
 {
     Raw::of_fields(
         0x27,
@@ -167,7 +157,7 @@ fn modify_long_raw(offset: u32, id: u64, quantity: u32, price: u64, flags: u8) -
 
 #[tactic(auto, unfolding(crate::specs::Writing::written))]
 fn modify_short_raw(offset: u32, id: u64, quantity: u16, price: u16, flags: u8) -> Raw
-    ensures { result ≡ written (ModifyShort offset id quantity price flags) }
+    ensures { result ≡ written (messages.ModifyShort offset id quantity price flags) }
 {
     Raw::of_fields(
         0x28,
@@ -183,7 +173,7 @@ fn modify_short_raw(offset: u32, id: u64, quantity: u16, price: u16, flags: u8) 
 
 #[tactic(auto, unfolding(crate::specs::Writing::written))]
 fn delete_raw(offset: u32, id: u64) -> Raw
-    ensures { result ≡ written (Delete offset id) }
+    ensures { result ≡ written (messages.Delete offset id) }
 {
     Raw::of_fields(0x29, &[&offset.to_le_bytes(), &id.to_le_bytes()])
 }
@@ -198,7 +188,8 @@ fn trade_long_raw(
     price: u64,
     execution: u64,
 ) -> Raw
-    ensures written { result ≡ written (TradeLong offset id side quantity symbol price execution) }
+    ensures written { result ≡ written
+        (messages.TradeLong offset id side quantity symbol price execution) }
     ensures symbol { length symbol ≡ 6 }
 {
     Raw::of_fields(
@@ -225,7 +216,8 @@ fn trade_short_raw(
     price: u16,
     execution: u64,
 ) -> Raw
-    ensures written { result ≡ written (TradeShort offset id side quantity symbol price execution) }
+    ensures written { result ≡ written
+        (messages.TradeShort offset id side quantity symbol price execution) }
     ensures symbol { length symbol ≡ 6 }
 {
     Raw::of_fields(
@@ -244,14 +236,14 @@ fn trade_short_raw(
 
 #[tactic(auto, unfolding(crate::specs::Writing::written))]
 fn trade_break_raw(offset: u32, execution: u64) -> Raw
-    ensures { result ≡ written (TradeBreak offset execution) }
+    ensures { result ≡ written (messages.TradeBreak offset execution) }
 {
     Raw::of_fields(0x2c, &[&offset.to_le_bytes(), &execution.to_le_bytes()])
 }
 
 #[tactic(auto, unfolding(crate::specs::Writing::written))]
 fn end_of_session_raw(offset: u32) -> Raw
-    ensures { result ≡ written (EndOfSession offset) }
+    ensures { result ≡ written (messages.EndOfSession offset) }
 {
     Raw::of_fields(0x2d, &[&offset.to_le_bytes()])
 }
@@ -268,7 +260,7 @@ fn add_expanded_raw(
     participant: [u8; 4],
 ) -> Raw
     ensures written { result ≡ written
-        (AddExpanded offset id side quantity symbol price flags participant) }
+        (messages.AddExpanded offset id side quantity symbol price flags participant) }
     ensures symbol { length symbol ≡ 8 }
     ensures participant { length participant ≡ 4 }
 {
@@ -298,7 +290,7 @@ fn trade_expanded_raw(
     execution: u64,
 ) -> Raw
     ensures written { result ≡ written
-        (TradeExpanded offset id side quantity symbol price execution) }
+        (messages.TradeExpanded offset id side quantity symbol price execution) }
     ensures symbol { length symbol ≡ 8 }
 {
     Raw::of_fields(
@@ -317,7 +309,7 @@ fn trade_expanded_raw(
 
 #[tactic(auto, unfolding(crate::specs::Writing::written))]
 fn trading_status_raw(offset: u32, symbol: [u8; 8], halt: u8, sho: u8) -> Raw
-    ensures written { result ≡ written (TradingStatus offset symbol halt sho) }
+    ensures written { result ≡ written (messages.TradingStatus offset symbol halt sho) }
     ensures symbol { length symbol ≡ 8 }
 {
     Raw::of_fields(0x31, &[&offset.to_le_bytes(), &symbol, &[halt, sho], b"  "])
@@ -325,7 +317,7 @@ fn trading_status_raw(offset: u32, symbol: [u8; 8], halt: u8, sho: u8) -> Raw
 
 #[tactic(auto, unfolding(crate::specs::Writing::written))]
 fn unit_clear_raw(offset: u32) -> Raw
-    ensures { result ≡ written (UnitClear offset) }
+    ensures { result ≡ written (messages.UnitClear offset) }
 {
     Raw::of_fields(0x97, &[&offset.to_le_bytes()])
 }
