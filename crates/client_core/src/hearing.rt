@@ -115,7 +115,7 @@ impl UnitClient {
     ghost use Rattle.pitch_model.specs.Honest.{Honest, IsHonestAt, AreVenues, message_at};
     ghost use Rattle.pitch_model.specs.Reach.{is_overflow, reach};
     ghost use Rattle.pitch_model.specs.Status.{status_of};
-    ghost use Rattle.hold_buffer.specs.HoldView.{IsHold};
+    ghost use Rattle.hold_buffer.specs.Holding.{IsHold};
     ghost use Rattle.order_book.specs.Turns.{turns_of};
     ghost use Rattle.client_core.specs.Tracks.{Tracks, Keeps};
     ghost use Rattle.client_core.specs.Client.{IsAsBefore, IsStill, Applied};

@@ -3,7 +3,8 @@ use Rattle.std.proofs.Common.{◌≡◌, ℕ, ◌+◌, length, Bool, false, cond
 use Rattle.std.specs.List.{list_any}
 use Rattle.std.proofs.lemmas.List.{append-nil}
 use Rattle.unit_packets.specs.Causes.{counted}
-use Rattle.unit_packets.specs.Reading.{Reading, loaded, passed}
+use Rattle.unit_packets.specs.Reading.{Reading}
+use Rattle.unit_packets.specs.Pieces.{loaded, passed}
 use Rattle.heard_items.specs.declared.item.Item.{Item}
 use Rattle.session_ends.specs.declared.closed.Closed.{Closed}
 use Rattle.session_ends.specs.declared.inbox.Heard.{Heard}

@@ -6,7 +6,8 @@ use Rattle.std.specs.Option.{is_some}
 use Rattle.std.specs.FinMap.{get, contains_key, insert, remove, len, empty, get-empty, get-insert, get-remove, len-insert, len-empty, retain_keys}
 use Rattle.std.proofs.lemmas.Bool.{and_parts, cond-false, false≢true, both_ways, ltb-true, cases_eq}
 use Rattle.std.proofs.lemmas.Bool.Decides.{nat_tests}
-use Rattle.hold_buffer.specs.HoldView.{HoldView, Held, IsHold}
+use Rattle.hold_buffer.specs.HoldView.{HoldView, Held}
+use Rattle.hold_buffer.specs.Holding.{IsHold}
 use Rattle.hold_buffer.proofs.Finite.{same_test, contains_retained, len_le}
 
 some_cond : {X : Type 0} (b : Bool) (v : X) (o : Option X) → is_some (cond b (Some v) o) ≡ (b || is_some o)

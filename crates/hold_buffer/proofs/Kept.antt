@@ -7,7 +7,7 @@ use Rattle.std.specs.Option.{option_eq, option_map}
 use Rattle.std.proofs.lemmas.Bool.{both_ways, false≢true, eqb-true}
 use Rattle.std.proofs.lemmas.Bool.Decides.{nat_tests}
 use Rattle.circular_buffer.specs.Buffer.{Buffer, buffer}
-use Rattle.hold_buffer.specs.HoldView.{IsHold}
+use Rattle.hold_buffer.specs.Holding.{IsHold}
 use Rattle.hold_buffer.specs.Offered.{Answers}
 use Rattle.hold_buffer.specs.Places.{IsGap, IsRising, hold_of, IsHoldRing}
 use Rattle.hold_buffer.specs.declared.hold.Offer.TheVariants.{Overflowed, Kept}

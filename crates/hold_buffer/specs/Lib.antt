@@ -1,3 +1,4 @@
 pub mod HoldView
+pub mod Holding
 pub mod Offered
 pub mod Places

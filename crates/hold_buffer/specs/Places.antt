@@ -5,7 +5,8 @@ use Rattle.std.specs.Ordering.{nat_cmp}
 use Rattle.std.specs.List.Sorted.{IsStrictlySortedBy}
 use Rattle.std.specs.Map.{keys_of}
 use Rattle.circular_buffer.specs.Buffer.{Buffer}
-use Rattle.hold_buffer.specs.HoldView.{HoldView, IsHold}
+use Rattle.hold_buffer.specs.HoldView.{HoldView}
+use Rattle.hold_buffer.specs.Holding.{IsHold}
 
 -- each sequence is below those after it
 abbrev pub IsRising : {X : Type 0} → List (ℕ × X) → Type 0

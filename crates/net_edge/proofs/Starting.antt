@@ -13,7 +13,8 @@ use Rattle.net_edge.specs.Demo.{IsLast}
 use Rattle.net_edge.specs.Due.{Setting, demo_unit, accepted, messages}
 use Rattle.net_edge.specs.Markets.{SideHas, SideAt}
 use Rattle.net_edge.specs.Playing.{Plays, IsSentTo, IsUncalled, calls_before}
-use Rattle.net_edge.specs.Scene.{Scene, first_scene, all_put, said_at}
+use Rattle.net_edge.specs.Scene.{Scene, first_scene, said_at}
+use Rattle.net_edge.specs.Playing.{all_put}
 use Rattle.net_edge.specs.Turns.{MayGoOn, client_status}
 
 -- ---- The start

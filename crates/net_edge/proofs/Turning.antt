@@ -21,7 +21,8 @@ use Rattle.net_edge.specs.Acting.{is_group_open, sent_on, all_tick, next_turn}
 use Rattle.net_edge.specs.Due.{Setting, IsDuePiece, AreDuePieces, demo_unit, accepted, advertised_until, beat, beats, copies, due, is_tenth, messages, new_datagrams, ticks}
 use Rattle.net_edge.specs.Markets.{SideHas, SideAt, HasAccepted}
 use Rattle.net_edge.specs.Playing.{EndsHave, DemoAt, Plays, IsSentTo, IsUncalled, after_beat, after_due_beat}
-use Rattle.net_edge.specs.Scene.{Scene, OnLine, line_in, at_end, said_at, all_put}
+use Rattle.net_edge.specs.Scene.{Scene, OnLine, line_in, at_end, said_at}
+use Rattle.net_edge.specs.Playing.{all_put}
 use Rattle.net_edge.specs.Turns.{IsOver, MayGoOn, IsEndOver}
 use Rattle.net_edge.specs.declared.ends.Ends.{Ends}
 use Rattle.net_edge.proofs.Runs.{play_beat, play_turn}

@@ -5,7 +5,7 @@ use Rattle.std.specs.List.{AllByRecursion}
 use Rattle.std.specs.FinMap as map
 use Rattle.pitch_io.specs.declared.line.Line.{Line}
 use Rattle.pitch_io.specs.declared.net.LinkEnd.{LinkEnd}
-use Rattle.pitch_io.specs.Nets.{Call, Begin, Send, other_end}
+use Rattle.pitch_io.specs.Nets.{Call, Begin, other_end}
 use Rattle.pitch_io.specs.declared.net.NetDone.TheVariants.{Done, Failed}
 use Rattle.unit_packets.specs.Packing.{datagram_size}
 use Rattle.pitch_model.specs.Book.{Book, book_after}
@@ -85,18 +85,6 @@ abbrev pub BreaksDemo : Setting → Option (List Call) → Option (List Call) �
 BreaksDemo s (Some before) (Some after) error =
     IsUnbegun error before after ⊎ Breaks s (Begin Done ∷ before) (Some after) error
 BreaksDemo s before after error = Unit {0}
-
--- what a call sends, if it sends something, has the venue's messages, at their sequences
-abbrev pub SendsPiece : Setting → Call → Type 0
-SendsPiece s (Send line datagram answer) = IsPiece (all_messages s) demo_unit datagram
-SendsPiece s call = Unit {0}
-
--- where the net lists its calls, some were added, and each of them that sends something sends a
--- piece
-abbrev pub SendsPieces : Setting → Option (List Call) → Option (List Call) → Type 0
-SendsPieces s (Some before) (Some after) =
-    (added : List Call) × (after ≡ added ++ before) × AllByRecursion (SendsPiece s) added
-SendsPieces s before after = Unit {0}
 
 -- a demo did such a run, and printed the unit's line
 pub record IsDemo (s : Setting) (before after : Option (List Call)) (text text' : List ℕ) :

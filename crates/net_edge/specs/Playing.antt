@@ -35,7 +35,7 @@ use Rattle.net_edge.specs.Acting.{scene_of, is_group_open, source_at, sent_on, e
 use Rattle.net_edge.specs.Acting.{all_tick}
 use Rattle.net_edge.specs.Due.{Setting, demo_unit, hold_limit, request_limits, beat, due, is_tenth}
 use Rattle.net_edge.specs.Due.{ticks}
-use Rattle.net_edge.specs.Scene.{Scene, OnLine, AtEnd, line_in, with_line, at_end, said_at, all_put}
+use Rattle.net_edge.specs.Scene.{Scene, OnLine, AtEnd, line_in, with_line, at_end, said_at}
 use Rattle.net_edge.specs.Sessions.{end_of, session_setup, with_client_end}
 use Rattle.net_edge.specs.Steps.{Step, calls_of}
 use Rattle.net_edge.specs.Breaking.{Breaks}
@@ -45,6 +45,11 @@ use Rattle.net_edge.specs.declared.error.DemoError.{DemoError}
 use Rattle.net_edge.specs.declared.error.DemoError.TheVariants as errors
 use Rattle.net_edge.specs.declared.ends.Ends.{Ends}
 use Rattle.net_edge.specs.declared.proxy.Proxy.{Proxy}
+use Rattle.pitch_io.specs.declared.net.LinkEnd.TheVariants.{GrpClient, SpinClient}
+use Rattle.std.specs.Prelude.{◌+◌}
+use Rattle.pitch_io.specs.Nets.{Send}
+use Rattle.heard_items.specs.Datagrams.{IsPiece}
+use Rattle.net_edge.specs.Demo.{all_messages}
 
 -- where it was a fault of the net, its count of faults rose
 abbrev pub RoseAtFault : ℕ → ℕ → DemoError → Type 0
@@ -394,3 +399,27 @@ pub record DoesDemo (s : Setting) (result : Result (Unit {0}) DemoError)
   pub broke : IfErr result (BreaksDemo s calls calls')
   pub counts : NetCounts result faults faults'
   pub err : OnErr result (text' ≡ text)
+
+-- all that each end has said was put
+abbrev pub put_all : AtEnd → List ℕ → AtEnd
+put_all end said = record end { put = said }
+
+abbrev pub all_put : Scene → Scene
+all_put now = record now {
+  grp_client = put_all now.grp_client (said_at GrpClient now);
+  grp_server = put_all now.grp_server (said_at GrpServer now);
+  spin_client = put_all now.spin_client (said_at SpinClient now);
+  spin_server = put_all now.spin_server (said_at SpinServer now);
+}
+
+-- what a call sends, if it sends something, has the venue's messages, at their sequences
+abbrev pub SendsPiece : Setting → Call → Type 0
+SendsPiece s (Send line datagram answer) = IsPiece (all_messages s) demo_unit datagram
+SendsPiece s call = Unit {0}
+
+-- where the net lists its calls, some were added, and each of them that sends something sends a
+-- piece
+abbrev pub SendsPieces : Setting → Option (List Call) → Option (List Call) → Type 0
+SendsPieces s (Some before) (Some after) =
+    (added : List Call) × (after ≡ added ++ before) × AllByRecursion (SendsPiece s) added
+SendsPieces s before after = Unit {0}

@@ -121,18 +121,6 @@ is_cut GrpServer now = now.grp_cut
 is_cut SpinClient now = now.spin_cut
 is_cut SpinServer now = now.spin_cut
 
--- all that each end has said was put
-abbrev pub put_all : AtEnd → List ℕ → AtEnd
-put_all end said = record end { put = said }
-
-abbrev pub all_put : Scene → Scene
-all_put now = record now {
-  grp_client = put_all now.grp_client (said_at GrpClient now);
-  grp_server = put_all now.grp_server (said_at GrpServer now);
-  spin_client = put_all now.spin_client (said_at SpinClient now);
-  spin_server = put_all now.spin_server (said_at SpinServer now);
-}
-
 -- ---- Answers
 abbrev pub is_got : NetTaken → Bool
 is_got (Got count) = true

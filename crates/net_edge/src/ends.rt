@@ -10,7 +10,8 @@ ghost use Rattle.net_edge.specs.Markets.{SideAt, HasAccepted};
 ghost use Rattle.net_edge.specs.Playing.{NetCounts, Plays, BreaksRun, EndsHave};
 ghost use Rattle.net_edge.specs.Playing.{IsUncalled, IsSentTo, DemoAt, VenueDone};
 ghost use Rattle.net_edge.specs.Playing.{ServersDone, LinesDone, after_beat, after_due_beat};
-ghost use Rattle.net_edge.specs.Scene.{Scene, all_put};
+ghost use Rattle.net_edge.specs.Scene.{Scene};
+ghost use Rattle.net_edge.specs.Playing.{all_put};
 ghost use Rattle.net_edge.specs.Turns.{IsOver};
 
 use crate::error::DemoError;

@@ -17,13 +17,15 @@ ghost use Rattle.feed_lines.specs.UnitLine.{unit_line};
 ghost use Rattle.world_model.specs.Ends.{the_account};
 ghost use Rattle.net_edge.specs.declared.error.DemoError.TheVariants as errors;
 ghost use Rattle.net_edge.specs.Breaking.{Breaks};
-ghost use Rattle.net_edge.specs.Demo.{IsDemo, IsLast, BreaksDemo, SendsPieces};
+ghost use Rattle.net_edge.specs.Demo.{IsDemo, IsLast, BreaksDemo};
+ghost use Rattle.net_edge.specs.Playing.{SendsPieces};
 ghost use Rattle.net_edge.specs.Due.{Setting, setting, demo_unit, call_room, hold_limit};
 ghost use Rattle.net_edge.specs.Due.{kept_messages};
 ghost use Rattle.net_edge.specs.Markets.{SideAt};
 ghost use Rattle.net_edge.specs.Playing.{NetCounts, ClientHas, SpinHas, EndsHave, DemoAt};
 ghost use Rattle.net_edge.specs.Playing.{DoesDemo, Plays, calls_before};
-ghost use Rattle.net_edge.specs.Scene.{Scene, first_scene, all_put, said_at};
+ghost use Rattle.net_edge.specs.Scene.{Scene, first_scene, said_at};
+ghost use Rattle.net_edge.specs.Playing.{all_put};
 ghost use Rattle.net_edge.specs.Turns.{IsOver};
 
 use crate::ends::Ends;

@@ -4,7 +4,8 @@ use Rattle.std.proofs.lemmas.Bool.{le-ltb}
 use Rattle.std.specs.Result.{IsErr, IsErrAnd, result_err}
 use Rattle.stream_print.specs.Inputs.{ReadsAll}
 use Rattle.stream_print.specs.Told.{Told, IsUntouched}
-use Rattle.pitch_tool.specs.TextForms.{IsUnmade, TextEnds, made}
+use Rattle.pitch_tool.specs.TextForms.{TextEnds, made}
+use Rattle.pitch_tool.specs.Failures.{IsUnmade}
 use Rattle.pitch_tool.specs.declared.failure.Failure.{Failure}
 use Rattle.pitch_tool.specs.declared.failure.Failure.TheVariants.{Usage, BadInput, Read, Write, Net, OutOfMemory}
 use Rattle.pitch_tool.specs.declared.failure.Trouble.TheVariants.{LongText}

@@ -1,13 +1,11 @@
 -- An audit: what is written of its input, and how it ends.
-use Rattle.std.specs.Prelude.{◌≡◌, ℕ, ◌≤◌, ◌<◌, List, length, nat_lt, Option, None, Some}
+use Rattle.std.specs.Prelude.{◌≡◌, ℕ, ◌≤◌, List, length, nat_lt, Option, Some}
 use Rattle.std.specs.Prelude.{Result, Ok, Err, if◌then◌else◌}
 use Rattle.std.specs.Option.{option_map}
 use Rattle.std.specs.Io.KnownBytes.{Consumes}
 use Rattle.pitch_io.specs.Putting.{Grows}
 use Rattle.run_audit.specs.Causes.{verdict_line}
 use Rattle.run_audit.specs.Input.{Audits, input_fault}
-use Rattle.run_audit.specs.declared.input.InputError.{InputError}
-use Rattle.run_audit.specs.declared.input.InputError.TheVariants as errors
 use Rattle.run_audit.specs.declared.verdict.Verdict.{Verdict}
 use Rattle.stream_print.specs.Inputs.{ReadsAll, Has}
 use Rattle.stream_print.specs.Putting.{PutsSome}
@@ -18,11 +16,6 @@ use Rattle.pitch_tool.specs.declared.failure.Failure.TheVariants.{Usage, BadInpu
 use Rattle.pitch_tool.specs.declared.failure.Failure.TheVariants.{OutOfMemory}
 use Rattle.pitch_tool.specs.declared.failure.Trouble.{Trouble}
 use Rattle.pitch_tool.specs.declared.failure.Trouble.TheVariants.{Audit, Blocks}
-
--- why there is no verdict, as why the program ends
-abbrev pub of_audit : InputError → Failure
-of_audit (errors.Fault fault) = BadInput (Audit fault)
-of_audit errors.OutOfMemory = OutOfMemory
 
 -- what is wrong with an input of which at most `most` bytes are read: that it has more, or else
 -- what the audit finds

@@ -1,5 +1,5 @@
 -- A demo: what is written of it, and how it ends. It reads nothing.
-use Rattle.std.specs.Prelude.{◌≤◌, ℕ, List, [], Result, Ok, Err}
+use Rattle.std.specs.Prelude.{ℕ, List, [], Result, Ok, Err}
 use Rattle.pitch_io.specs.Putting.{Grows}
 use Rattle.stream_print.specs.Putting.{PutsSome}
 use Rattle.stream_print.specs.Told.{Told, IsUntouched}
@@ -10,15 +10,6 @@ use Rattle.net_edge.specs.declared.error.DemoError.TheVariants as errors
 use Rattle.pitch_tool.specs.Devices.{Wires}
 use Rattle.pitch_tool.specs.declared.failure.Failure.{Failure}
 use Rattle.pitch_tool.specs.declared.failure.Failure.TheVariants as ending
-
--- why a demo ended, as why the program ends
-abbrev pub of_demo : DemoError → Failure
-of_demo errors.NetFault = ending.Net
-of_demo errors.OutOfMemory = ending.OutOfMemory
-
--- a demo may have so many messages
-abbrev pub IsDemoCount : (count : ℕ) → Type 0
-IsDemoCount count = (1 ≤ count) × (count ≤ 1000)
 
 -- a demo ran over the net, and this is its line
 abbrev pub RanDemo : (number count : ℕ) → Wires → List ℕ → Type 0

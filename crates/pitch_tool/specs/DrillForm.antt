@@ -1,15 +1,11 @@
 -- A drill: what is written of it, and how it ends. It reads nothing.
-use Rattle.std.specs.Prelude.{◌≤◌, ℕ, Result, Ok, Err}
+use Rattle.std.specs.Prelude.{ℕ, Result, Ok, Err}
 use Rattle.pitch_io.specs.Putting.{Grows}
 use Rattle.stream_print.specs.Putting.{PutsSome}
 use Rattle.stream_print.specs.Told.{Told, IsUntouched}
-use Rattle.drill_client.specs.DrillText.{drill_text, most_drill_units, most_drilled}
+use Rattle.drill_client.specs.DrillText.{drill_text}
 use Rattle.pitch_tool.specs.declared.failure.Failure.{Failure}
 use Rattle.pitch_tool.specs.declared.failure.Failure.TheVariants.{Write, OutOfMemory}
-
--- a drill can have so many units, and so many commands for each
-abbrev pub IsDrill : (units count : ℕ) → Type 0
-IsDrill units count = (1 ≤ units × units ≤ most_drill_units) × (1 ≤ count × count ≤ most_drilled)
 
 -- How a drill ends: where its units ended was written; or a prefix of it, where the sink failed; or
 -- nothing, where memory ran out.

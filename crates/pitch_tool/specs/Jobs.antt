@@ -5,20 +5,18 @@ use Rattle.pitch_fields.specs.Limits.{text_limit}
 use Rattle.pitch_words.specs.declared.form.Form.{Form}
 use Rattle.pitch_words.specs.declared.form.Form.TheVariants as form
 use Rattle.stream_print.specs.Inputs.{stream_limit, trouble_of, StopsSoon, StreamEnds}
-use Rattle.stream_print.specs.Holding.{CanHold, Suits}
 use Rattle.stream_print.specs.Told.{Told, IsUntouched}
 use Rattle.stream_print.specs.declared.carrier.Carrier.TheVariants.{Bare, Capture}
-use Rattle.stream_print.specs.declared.failure.StreamFailure.{StreamFailure}
 use Rattle.stream_print.specs.declared.failure.StreamFailure.TheVariants as stream
 use Rattle.stream_print.specs.declared.failure.StreamTrouble.{StreamTrouble}
 use Rattle.stream_print.specs.declared.stream_form.StreamForm.TheVariants.{Follow, Show, Relay}
 use Rattle.stream_print.specs.declared.stream_form.StreamForm.TheVariants.{Quotes}
 use Rattle.pitch_tool.specs.AuditForm.{audit_trouble, AuditEnds}
-use Rattle.pitch_tool.specs.DemoForm.{IsDemoCount, DemoEnds}
+use Rattle.pitch_tool.specs.DemoForm.{DemoEnds}
 use Rattle.pitch_tool.specs.Devices.{Wires}
-use Rattle.pitch_tool.specs.DrillForm.{IsDrill, DrillEnds}
-use Rattle.pitch_tool.specs.StormForm.{IsStorm, StormEnds}
-use Rattle.pitch_tool.specs.TextForms.{text_trouble, AreWorkers, CanMake, TextEnds}
+use Rattle.pitch_tool.specs.DrillForm.{DrillEnds}
+use Rattle.pitch_tool.specs.StormForm.{StormEnds}
+use Rattle.pitch_tool.specs.TextForms.{text_trouble, TextEnds}
 use Rattle.pitch_tool.specs.declared.failure.Failure.{Failure}
 use Rattle.pitch_tool.specs.declared.failure.Failure.TheVariants.{BadInput, Read, Write}
 use Rattle.pitch_tool.specs.declared.failure.Failure.TheVariants.{OutOfMemory}
@@ -42,15 +40,6 @@ job_of (form.Demo number count) = Demo number count
 job_of (form.Relay hold) = Stream Bare (Relay hold)
 job_of (form.Quotes hold) = Stream Bare (Quotes hold)
 job_of form.Audit = Audit
-
--- the numbers of a job lie in their ranges
-abbrev pub CanDo : Job → Type 0
-CanDo (Stream carrier form) = CanHold form × Suits carrier form
-CanDo (Text form) = CanMake form
-CanDo (Storm storm workers) = IsStorm storm.units storm.steps × AreWorkers workers
-CanDo (Drill number units count) = IsDrill units count
-CanDo (Demo number count) = IsDemoCount count
-CanDo Audit = Unit {0}
 
 -- how many bytes of the source a job takes at most: one more than it reads
 abbrev pub most_taken : Job → ℕ
@@ -93,14 +82,6 @@ Judges (Drill number units count) left trouble = trouble ≡ None
 Judges (Demo number count) left trouble = trouble ≡ None
 Judges Audit left trouble =
     (bytes : List ℕ) × (left ≡ Some bytes) × (trouble_in Audit bytes ≡ trouble)
-
--- why a stream ended, as why the program ends
-abbrev pub of_stream : StreamFailure → Failure
-of_stream (stream.BadInput trouble) = BadInput (Blocks trouble)
-of_stream stream.SequencesSpent = BadInput SequencesSpent
-of_stream stream.Read = Read
-of_stream stream.Write = Write
-of_stream stream.OutOfMemory = OutOfMemory
 
 -- how a job ends: what was read of the source and written to the sink, and what the net lists
 abbrev pub JobEnds : Job → Result (Unit {0}) Failure → (input out : Told) → Wires → Type 0

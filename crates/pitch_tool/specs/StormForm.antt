@@ -1,18 +1,14 @@
 -- A storm: what is written of it, and how it ends. It reads nothing.
-use Rattle.std.specs.Prelude.{◌≤◌, ℕ, List, Result, Ok, Err}
+use Rattle.std.specs.Prelude.{ℕ, List, Result, Ok, Err}
 use Rattle.pitch_io.specs.Putting.{Grows}
 use Rattle.schedule_replay.specs.Worlds.{AreRunThrough}
-use Rattle.storm_replay.specs.Storm.{most_steps, most_units, storm_schedule}
+use Rattle.storm_replay.specs.Storm.{storm_schedule}
 use Rattle.storm_replay.specs.Summary.{storm_text}
 use Rattle.stream_print.specs.Putting.{PutsSome}
 use Rattle.stream_print.specs.Told.{Told, IsUntouched}
 use Rattle.world_model.specs.declared.world.World.{World}
 use Rattle.pitch_tool.specs.declared.failure.Failure.{Failure}
 use Rattle.pitch_tool.specs.declared.failure.Failure.TheVariants.{Write, OutOfMemory}
-
--- a storm can have so many units and steps
-abbrev pub IsStorm : (units steps : ℕ) → Type 0
-IsStorm units steps = (1 ≤ units × units ≤ most_units) × (1 ≤ steps × steps ≤ most_steps)
 
 -- the worlds of a storm's units were run through all lines of its schedule
 abbrev pub IsRun : (number units steps : ℕ) → Type 0

@@ -1,18 +1,14 @@
 -- A text form: what it makes of a whole text, and how it ends.
-use Rattle.std.specs.Prelude.{◌≡◌, ℕ, ◌≤◌, ◌<◌, List, [], length, nat_lt, Option, Some}
+use Rattle.std.specs.Prelude.{◌≡◌, ℕ, ◌≤◌, List, [], length, nat_lt, Option, Some}
 use Rattle.std.specs.Prelude.{Result, Ok, Err, if◌then◌else◌}
 use Rattle.std.specs.Result.{result_err}
 use Rattle.std.specs.Io.KnownBytes.{Consumes}
-use Rattle.pitch_fields.specs.Limits.{text_limit}
 use Rattle.pitch_io.specs.Putting.{Grows}
 use Rattle.command_feed.specs.Feed.{feed_of, AppendsPacking}
 use Rattle.command_feed.specs.declared.error.CommandError.{CommandError}
-use Rattle.command_feed.specs.declared.error.CommandError.TheVariants as commands
-use Rattle.schedule_replay.specs.Apart.{most_workers}
 use Rattle.schedule_replay.specs.Replay.{replay_of}
 use Rattle.schedule_replay.specs.Worlds.{AreRunThrough}
 use Rattle.schedule_replay.specs.declared.error.ReplayError.{ReplayError}
-use Rattle.schedule_replay.specs.declared.error.ReplayError.TheVariants as replays
 use Rattle.world_model.specs.declared.world.World.{World}
 use Rattle.stream_print.specs.Inputs.{ReadsAll, Has}
 use Rattle.stream_print.specs.Putting.{PutsSome}
@@ -25,34 +21,15 @@ use Rattle.pitch_tool.specs.declared.failure.Trouble.TheVariants.{LongText, Comm
 use Rattle.pitch_tool.specs.declared.job.TextForm.{TextForm}
 use Rattle.pitch_tool.specs.declared.job.TextForm.TheVariants.{Pack, Replay}
 
--- why nothing was made of some commands, as why the program ends
-abbrev pub of_commands : CommandError → Failure
-of_commands commands.OutOfMemory = OutOfMemory
-of_commands error = BadInput (Commands error)
-
 -- the feed that some commands make, or what is wrong with them
 abbrev pub feed_or_trouble : Result (List ℕ) CommandError → Result (List ℕ) Trouble
 feed_or_trouble (Ok feed) = Ok feed
 feed_or_trouble (Err error) = Err (Commands error)
 
--- why a schedule was not replayed, as why the program ends
-abbrev pub of_schedule : ReplayError → Failure
-of_schedule replays.OutOfMemory = OutOfMemory
-of_schedule error = BadInput (Schedule error)
-
 -- what a schedule writes, or what is wrong with its text
 abbrev pub replay_or_trouble : Result (List ℕ) ReplayError → Result (List ℕ) Trouble
 replay_or_trouble (Ok written) = Ok written
 replay_or_trouble (Err error) = Err (Schedule error)
-
--- work can be parted into so many pieces
-abbrev pub AreWorkers : ℕ → Type 0
-AreWorkers workers = (1 ≤ workers) × (workers ≤ most_workers)
-
--- a form's workers are some
-abbrev pub CanMake : TextForm → Type 0
-CanMake (Pack unit) = Unit {0}
-CanMake (Replay workers) = AreWorkers workers
 
 -- what a form makes of a text, or what is wrong with the text: the same by any workers
 abbrev pub made : TextForm → List ℕ → Result (List ℕ) Trouble
@@ -115,10 +92,3 @@ TextEnds form most (Err Read) input out = ReadsNoText input out
 TextEnds form most (Err Write) input out = WritesMadeSome form most input out
 TextEnds form most (Err Net) input out = ⊥
 TextEnds form most (Err OutOfMemory) input out = IsUntouched out
-
--- ---- Its parts
--- why nothing was made of a text
-abbrev pub IsUnmade : Result (List ℕ) Trouble → Failure → Type 0
-IsUnmade answer (BadInput trouble) = answer ≡ Err trouble
-IsUnmade answer OutOfMemory = Unit {0}
-IsUnmade answer _ = ⊥

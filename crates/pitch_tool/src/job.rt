@@ -2,7 +2,8 @@
 
 ghost use Rattle.std.specs.Prelude.{◌≡◌};
 ghost use Rattle.pitch_words.specs.Commands.{IsInRange};
-ghost use Rattle.pitch_tool.specs.Jobs.{job_of as the_job, CanDo};
+ghost use Rattle.pitch_tool.specs.Jobs.{job_of as the_job};
+ghost use Rattle.pitch_tool.specs.Doing.{CanDo};
 
 use pitch_words::Form;
 use storm_replay::Storm;

@@ -1,6 +1,6 @@
 //! The whole program: it reads the words, does their job, and says on `err` what failed.
 
-ghost use Rattle.std.specs.Prelude.{◌≡◌, ◌≢◌, ◌⊎◌, List, ℕ, false, IfOk, Some, None, Err, map};
+ghost use Rattle.std.specs.Prelude.{◌≡◌, ◌≢◌, ◌⊎◌, List, ℕ, IfOk, Some, None, Err, map};
 ghost use Rattle.std.specs.Prelude.{string_bytes};
 ghost use Rattle.pitch_io.specs.Causes.{HasCause, Rose};
 ghost use Rattle.pitch_io.specs.Putting.{Grows};
@@ -8,19 +8,14 @@ ghost use Rattle.pitch_words.specs.Forms.{IsForm};
 ghost use Rattle.pitch_words.specs.declared.form.Form.{Form};
 ghost use Rattle.stream_print.specs.Told.{told, TakesAtMost};
 ghost use Rattle.pitch_tool.specs.Devices.{device, wires};
-ghost use Rattle.pitch_tool.specs.Jobs.{CanDo, JobEnds, Judges, StopsInTime, most_taken, uses_net};
-ghost use Rattle.pitch_tool.specs.Jobs.{job_of as the_job};
+ghost use Rattle.pitch_tool.specs.Jobs.{Judges, job_of as the_job, most_taken};
 ghost use Rattle.pitch_tool.specs.Program.{memory_text, trouble_text, IsNoForm, IsNoDemo, RunEnds};
 ghost use Rattle.pitch_tool.specs.Program.{Closes, HasCauses, StopsAtTrouble, IsWhole, IsRefusal};
 
-use crate::commands::audit::print_audit;
-use crate::commands::demo::print_demo;
-use crate::commands::drill::print_drill;
-use crate::commands::storm::print_storm;
+use crate::commands::do_job;
 use crate::failure::{Failure, Trouble};
-use crate::job::{Job, job_of};
+use crate::job::job_of;
 use crate::status::ExitStatus;
-use crate::text::print_text;
 use pitch_fields::OutOfMemory;
 use pitch_io::{Gate, Net, Sink, Source};
 use pitch_words::read;
@@ -28,49 +23,7 @@ use std::alloc::Global;
 use std::sync::Wait;
 use std::thread::Threads;
 use std::time::Clock;
-use stream_print::{StreamTrouble, print_stream, put_all};
-
-// Does a job.
-#[tactic(auto, using(crate::proofs::Storms::takes_none, crate::proofs::Storms::no_read_fault))]
-fn do_job<R: Threads + Wait + Clock + Sync, I: Source, O: Sink, N: Net, G: Gate + Sync>(
-    rt: &R,
-    alloc: Global,
-    job: Job,
-    input: &mut I,
-    out: &mut O,
-    net: &mut N,
-    gate: &G,
-) -> Result<(), Failure>
-    requires { CanDo job }
-    ensures ends { JobEnds job result (told I.left input.old input.new)
-        (told O.written out.old out.new) (wires N.calls N.faults net.old net.new) }
-    ensures reads { TakesAtMost (most_taken job) (told I.left input.old input.new) }
-    ensures stops { StopsInTime job (told I.left input.old input.new) }
-    ensures read_cause { HasCause
-        (I.faults input.old) (I.faults input.new) (result ≡ Err Failure.Read) }
-    ensures write_cause { HasCause
-        (O.faults out.old) (O.faults out.new) (result ≡ Err Failure.Write) }
-    ensures net_cause { HasCause (N.faults net.old) (N.faults net.new) (result ≡ Err Failure.Net) }
-    ensures net_still { result ≢ Err Failure.Net
-        → result ≢ Err Failure.OutOfMemory → N.faults net.new ≡ N.faults net.old }
-    ensures unused { uses_net job ≡ false → net.new ≡ net.old }
-{
-    match job {
-        Job::Stream(carrier, form) => {
-            print_stream(alloc, carrier, form, input, out)?;
-            Ok(())
-        }
-        Job::Text(form) => print_text(rt, alloc, form, input, out, gate),
-        Job::Audit => print_audit(alloc, input, out),
-        Job::Storm { storm, workers } => print_storm(rt, alloc, storm, workers, out, gate),
-        Job::Drill {
-            number,
-            units,
-            count,
-        } => print_drill(rt, alloc, number, units, count, out, gate),
-        Job::Demo { number, count } => print_demo(rt, alloc, number, count, out, net),
-    }
-}
+use stream_print::{StreamTrouble, put_all};
 
 // Does what the words ask for.
 fn run<R: Threads + Wait + Clock + Sync, I: Source, O: Sink, N: Net, G: Gate + Sync>(

@@ -15,7 +15,8 @@ use Rattle.unit_packets.proofs.Feeds.{stands_unread, stands_fault, fed_on}
 use Rattle.unit_packets.proofs.Streams.{lasting_of, lasting_more, fault_stays}
 use Rattle.session_ends.specs.declared.inbox.Heard.{Heard}
 use Rattle.session_ends.specs.Items.{onward, block_size, block_items, stream_items_from, stream_items, trouble}
-use Rattle.session_ends.specs.Inboxes.{Inboxed, nothing_fed, HasTaken, TakesPiece}
+use Rattle.session_ends.specs.Inboxes.{Inboxed, HasTaken}
+use Rattle.session_ends.specs.Hearing.{nothing_fed, TakesPiece}
 
 -- ---- Places
 pub counted_on : (a b : ℕ) → counted (counted a + b) ≡ counted (a + b)

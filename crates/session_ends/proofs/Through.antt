@@ -9,7 +9,8 @@ use Rattle.unit_packets.specs.Cutting.{blocks_of, rest_of, place_of, fault_from,
 use Rattle.unit_packets.specs.Feeding.{fed_fault}
 use Rattle.unit_packets.specs.Judging.{judge}
 use Rattle.unit_packets.specs.Lending.{StandsFirst}
-use Rattle.unit_packets.specs.Reading.{Reading, loaded, passed}
+use Rattle.unit_packets.specs.Reading.{Reading}
+use Rattle.unit_packets.specs.Pieces.{loaded, passed}
 use Rattle.unit_packets.specs.declared.header.BlockError.{BlockError}
 use Rattle.unit_packets.specs.declared.header.BlockFault.{BlockFault}
 use Rattle.unit_packets.proofs.Cuts.{none_of, rest_short}
@@ -20,7 +21,8 @@ use Rattle.session_ends.specs.declared.inbox.Heard.TheVariants.{Broken}
 use Rattle.session_ends.specs.Closing.{first_cause, logs_in}
 use Rattle.session_ends.specs.Ending.{Ending}
 use Rattle.session_ends.specs.Hearing.{rest_items, reader_items, block_left, follows, IsCut, IsThrough}
-use Rattle.session_ends.specs.Inboxes.{Inboxed, HasTaken, TakesPiece}
+use Rattle.session_ends.specs.Inboxes.{Inboxed, HasTaken}
+use Rattle.session_ends.specs.Hearing.{TakesPiece}
 use Rattle.session_ends.specs.Items.{closed_at, messages_from, onward, block_size, block_items, stream_items_from, trouble}
 use Rattle.session_ends.specs.Sending.{some_bytes}
 use Rattle.session_ends.proofs.Ends.{Pieced, pieced}

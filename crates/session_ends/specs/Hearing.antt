@@ -8,6 +8,9 @@ use Rattle.unit_packets.specs.Reading.{Reading}
 use Rattle.unit_packets.specs.declared.header.BlockError.{BlockError}
 use Rattle.session_ends.specs.declared.inbox.Heard.{Heard}
 use Rattle.session_ends.specs.Items.{messages_from, stream_items_from, trouble}
+use Rattle.unit_packets.specs.Pieces.{unread}
+use Rattle.session_ends.specs.Items.{stream_items}
+use Rattle.session_ends.specs.Inboxes.{Inboxed, HasTaken}
 
 -- what bytes say that begin at a place: their blocks, and what breaks the stream behind them
 unfoldable pub rest_items : ℕ → List ℕ → List Heard
@@ -52,3 +55,15 @@ pub record IsThrough (bytes : List ℕ) (passed : ℕ) : Type 0 where
   pub rest : rest_of bytes ≡ drop passed bytes
   pub error : BlockError
   pub stop : judge (drop passed bytes) ≡ Err error
+
+-- nothing was fed yet
+abbrev pub nothing_fed : Inboxed
+nothing_fed = record { reading = unread; fed = 0 }
+
+-- what taking a piece in does: it is fed all, and what the stream says more was appended
+pub record TakesPiece (fed piece : List ℕ) (new : Inboxed) (before after : List Heard) :
+    Type 0 where
+  pub stands : HasTaken new (fed ++ piece)
+  pub added : List Heard
+  pub are : stream_items (fed ++ piece) ≡ stream_items fed ++ added
+  pub appended : after ≡ before ++ added

@@ -4,7 +4,7 @@ ghost use Rattle.std.specs.Prelude.{◌≡◌, ℕ, ◌+◌, ◌≤◌, ◌||◌
 ghost use Rattle.std.specs.Prelude.{IfOk, length, IfSome, None, Some, is_some, if◌then◌else◌};
 ghost use Rattle.std.specs.List.{list_any};
 ghost use Rattle.unit_packets.specs.Causes.{counted};
-ghost use Rattle.unit_packets.specs.Reading.{loaded, passed};
+ghost use Rattle.unit_packets.specs.Pieces.{loaded, passed};
 ghost use Rattle.session_ends.specs.declared.inbox.Heard.TheVariants.{Message};
 ghost use Rattle.std.specs.Option.{option_map};
 ghost use Rattle.pitch_messages.specs.declared.session.SessionMessage.{SessionMessage};

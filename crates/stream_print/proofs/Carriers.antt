@@ -8,7 +8,8 @@ use Rattle.unit_packets.specs.Blocks.{Block}
 use Rattle.unit_packets.specs.Causes.{counted}
 use Rattle.unit_packets.specs.Cutting.{blocks_of, rest_of, place_of, fault_in, fault_of}
 use Rattle.unit_packets.specs.Judging.{judge}
-use Rattle.unit_packets.specs.Reading.{Reading, unread, loaded, passed}
+use Rattle.unit_packets.specs.Reading.{Reading}
+use Rattle.unit_packets.specs.Pieces.{unread, loaded, passed}
 use Rattle.unit_packets.specs.declared.header.BlockError.TheVariants.{Truncated}
 use Rattle.unit_packets.specs.declared.header.BlockFault.{BlockFault}
 use Rattle.unit_packets.proofs.Cuts.{none_of, appends, rest_short}

@@ -20,7 +20,8 @@ use Rattle.stream_print.specs.Inputs.{lasting_trouble, end_trouble, or_trouble, 
 use Rattle.stream_print.specs.Knowing.{HasPrinted}
 use Rattle.stream_print.specs.Page.{Prints, PrintsSuch}
 use Rattle.stream_print.specs.Printing.{PrintsPiece}
-use Rattle.stream_print.specs.Putting.{PutsSome, PutsSuch}
+use Rattle.stream_print.specs.Putting.{PutsSome}
+use Rattle.stream_print.specs.Sinks.{PutsSuch}
 use Rattle.stream_print.specs.Readers.{blocks_with}
 use Rattle.stream_print.specs.Texts.{AreVenuesOf, texts_by, AreTexts, BeginTexts, IsText}
 use Rattle.stream_print.specs.Texts.{IsPrefixOfText}

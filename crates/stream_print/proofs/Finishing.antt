@@ -10,7 +10,8 @@ use Rattle.stream_print.specs.declared.stream_form.StreamForm.{StreamForm}
 use Rattle.stream_print.specs.Feeding.{Fed}
 use Rattle.stream_print.specs.Inputs.{lasting_trouble, end_trouble, StreamEnds, WritesAll, WritesSome}
 use Rattle.stream_print.specs.Page.{PrintsSuch, Prints}
-use Rattle.stream_print.specs.Putting.{PutsSuch, PutsSome}
+use Rattle.stream_print.specs.Putting.{PutsSome}
+use Rattle.stream_print.specs.Sinks.{PutsSuch}
 use Rattle.stream_print.specs.Readers.{packets_text}
 use Rattle.stream_print.specs.TextLaws.{IsEnd, IsPrefixOfEnd}
 use Rattle.stream_print.specs.declared.printer.Printer.{Printer}

@@ -11,7 +11,8 @@ use Rattle.stream_print.specs.Feeding.{Fed, StreamFeeds}
 use Rattle.stream_print.specs.Inputs.{lasting_trouble, StreamEnds, Refuses, WritesSome}
 use Rattle.stream_print.specs.Knowing.{task_form}
 use Rattle.stream_print.specs.Printing.{PrintsPiece, Fails, FailsBlocks}
-use Rattle.stream_print.specs.Putting.{PutsSome, PutsSuch}
+use Rattle.stream_print.specs.Putting.{PutsSome}
+use Rattle.stream_print.specs.Sinks.{PutsSuch}
 use Rattle.stream_print.specs.Readers.{blocks_with}
 use Rattle.stream_print.specs.Texts.{BeginTexts}
 use Rattle.stream_print.specs.Told.{between}

@@ -1,6 +1,7 @@
 -- A piece more of a stream, whatever carries its blocks.
 use Rattle.std.proofs.Common.{ℕ, ◌++◌, List, length, ap, ◌∙◌, arith, Option, length-append, length-drop}
-use Rattle.unit_packets.specs.Reading.{Reading, loaded}
+use Rattle.unit_packets.specs.Reading.{Reading}
+use Rattle.unit_packets.specs.Pieces.{loaded}
 use Rattle.stream_print.specs.Printing.{PrintsBare, PrintsLoaded, PrintsPiece}
 use Rattle.stream_print.specs.declared.packets.PacketReader.{PacketReader}
 use Rattle.stream_print.specs.declared.printer.Printer.{Printer}

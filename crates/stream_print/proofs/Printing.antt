@@ -9,7 +9,8 @@ use Rattle.pitch_io.specs.Putting.{Grows}
 use Rattle.pitch_messages.specs.Room.{Roomy}
 use Rattle.unit_packets.specs.Packing.{bytes_in}
 use Rattle.stream_print.specs.Page.{Prints, PrintsSuch}
-use Rattle.stream_print.specs.Putting.{PutsSome, PutsSuch}
+use Rattle.stream_print.specs.Putting.{PutsSome}
+use Rattle.stream_print.specs.Sinks.{PutsSuch}
 use Rattle.stream_print.proofs.Flow.{grows_none, grows_more}
 
 -- nothing more

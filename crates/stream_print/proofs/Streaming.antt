@@ -18,7 +18,8 @@ use Rattle.relay_unit.proofs.Speaking.{venue_before}
 use Rattle.stream_print.specs.Knowing.{task_form, HasPrinted}
 use Rattle.stream_print.specs.Page.{Prints, PrintsSuch}
 use Rattle.stream_print.specs.Printing.{PrintsBlock, PrintsBlocks, Fails, FailsBlock, FailsBlocks, PrintsWhole}
-use Rattle.stream_print.specs.Putting.{PutsSome, PutsSuch}
+use Rattle.stream_print.specs.Putting.{PutsSome}
+use Rattle.stream_print.specs.Sinks.{PutsSuch}
 use Rattle.stream_print.specs.Texts.{AreVenuesOf, block_text, texts_by}
 use Rattle.stream_print.specs.TextLaws.{AreTextsAfter, BeginTextsAfter, Outruns, OutrunsAmong}
 use Rattle.stream_print.specs.declared.failure.PrintError.{PrintError}

@@ -16,7 +16,8 @@ use Rattle.stream_print.specs.Books.{IsUnitText, AreBooksBelow, AreFirstBooks, n
 use Rattle.stream_print.specs.declared.stream_form.StreamForm.TheVariants.{Follow}
 use Rattle.unit_clients.specs.Clients.{Units}
 use Rattle.stream_print.specs.Page.{PrintsSuch, Prints}
-use Rattle.stream_print.specs.Putting.{PutsSuch, PutsSome}
+use Rattle.stream_print.specs.Putting.{PutsSome}
+use Rattle.stream_print.specs.Sinks.{PutsSuch}
 use Rattle.stream_print.specs.Rising.{named_below}
 use Rattle.unit_clients.specs.Clients.{is_named, IsClient, KeepsTo, AreUnits, HaveHeard}
 use Rattle.stream_print.proofs.Naming.{below_none, below_more, below_split, units_below}

@@ -8,13 +8,14 @@ use Rattle.pcap_feed.specs.Capture.{front_of, packets_from, left_from, order_tol
 use Rattle.pcap_feed.specs.Stream.{items_within, left_over}
 use Rattle.pcap_feed.specs.declared.fault.ByteOrder.{ByteOrder}
 use Rattle.unit_packets.specs.Causes.{counted}
-use Rattle.unit_packets.specs.Reading.{Reading, passed}
+use Rattle.unit_packets.specs.Reading.{Reading}
+use Rattle.unit_packets.specs.Pieces.{passed}
 use Rattle.pcap_feed.specs.Feeding.{put_behind}
 use Rattle.stream_print.specs.Carriers.{blocks_in}
 use Rattle.stream_print.specs.Counting.{use_of, CountsMore}
 use Rattle.stream_print.specs.Knowing.{task_form, Knows, HasPrinted}
 use Rattle.stream_print.specs.Page.{PrintsSuch}
-use Rattle.stream_print.specs.Putting.{PutsSuch}
+use Rattle.stream_print.specs.Sinks.{PutsSuch}
 use Rattle.stream_print.specs.Readers.{HasRead, rest_size, blocks_with}
 use Rattle.stream_print.specs.TextLaws.{AreTextsAfter, BeginTextsAfter, OutrunsAmong}
 use Rattle.stream_print.specs.declared.carrier.Carrier.{Carrier}

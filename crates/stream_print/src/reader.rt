@@ -3,7 +3,7 @@
 ghost use Rattle.std.specs.Prelude.{◌≡◌, ◌≤◌, ◌+◌, ◌*◌, ◌++◌, length, OnOk, OnErr, IfErr, Err};
 ghost use Rattle.std.specs.Prelude.{option_map};
 ghost use Rattle.unit_packets.specs.Cutting.{blocks_of, fault_in};
-ghost use Rattle.unit_packets.specs.Reading.{loaded};
+ghost use Rattle.unit_packets.specs.Pieces.{loaded};
 ghost use Rattle.stream_print.specs.Sinks.{CountsFault};
 ghost use Rattle.pcap_feed.specs.Feeding.{held_fault};
 ghost use Rattle.stream_print.specs.Printing.{PrintsBare, FailsBlocks};

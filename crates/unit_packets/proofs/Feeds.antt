@@ -6,7 +6,8 @@ use Rattle.unit_packets.specs.Blocks.{Block}
 use Rattle.unit_packets.specs.Causes.{counted}
 use Rattle.unit_packets.specs.Judging.{judge}
 use Rattle.unit_packets.specs.Cutting.{blocks_of, rest_of, place_of, fault_in}
-use Rattle.unit_packets.specs.Reading.{Reading, unread}
+use Rattle.unit_packets.specs.Reading.{Reading}
+use Rattle.unit_packets.specs.Pieces.{unread}
 use Rattle.unit_packets.specs.Feeding.{fed_fault, kept_fault, StandsFor}
 use Rattle.unit_packets.specs.Pieces.{fed_answer, Feeds, WithMemory, FeedsEach, FeedsAll}
 use Rattle.unit_packets.specs.Pieces.{PiecesAreCut, PiecesDoNotMatter}

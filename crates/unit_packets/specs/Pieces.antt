@@ -5,11 +5,12 @@ use Rattle.std.specs.List.{concat}
 use Rattle.unit_packets.specs.Blocks.{Block}
 use Rattle.unit_packets.specs.Causes.{counted}
 use Rattle.unit_packets.specs.Cutting.{blocks_of, rest_of, place_of, fault_in}
-use Rattle.unit_packets.specs.Reading.{Reading, unread}
+use Rattle.unit_packets.specs.Reading.{Reading}
 use Rattle.unit_packets.specs.declared.header.BlockFault.{BlockFault}
 use Rattle.unit_packets.specs.declared.block.FeedError.{FeedError}
 use Rattle.unit_packets.specs.declared.block.FeedError.TheVariants.{Fault, OutOfMemory}
 use Rattle.unit_packets.specs.Feeding.{fed_fault, kept_fault, StandsFor}
+use Rattle.std.specs.Prelude.{take, drop, ◌+◌}
 
 -- the fault of the bytes that were fed, where the stream ends with them
 abbrev pub ended_fault : List ℕ → Option BlockFault
@@ -75,3 +76,19 @@ PiecesDoNotMatter =
     → concat pieces ≡ concat others
     → FeedsAll pieces unread reading [] blocks → FeedsAll others unread left [] some
     → (blocks ≡ some) × (kept_fault reading ≡ kept_fault left)
+
+-- nothing was loaded yet
+abbrev pub unread : Reading
+unread = record { place = 0; rest = [] }
+
+-- one more piece of the stream is there
+abbrev pub loaded : Reading → List ℕ → Reading
+loaded reading piece = record { place = reading.place; rest = reading.rest ++ piece }
+
+-- the first n bytes of the rest were passed
+abbrev pub passed : Reading → ℕ → Reading
+passed reading n = record { place = counted (reading.place + n); rest = drop n reading.rest }
+
+-- of the rest only the first n bytes are kept
+abbrev pub kept : Reading → ℕ → Reading
+kept reading n = record { place = reading.place; rest = take n reading.rest }

@@ -4,7 +4,7 @@ ghost use Rattle.std.specs.Prelude.{[]};
 ghost use Rattle.unit_packets.specs.CuttingLaws.{CutsAreComputed, CutsAreOne};
 ghost use Rattle.unit_packets.specs.Feeding.{StandsFor};
 ghost use Rattle.unit_packets.specs.Pieces.{PiecesAreCut, PiecesDoNotMatter};
-ghost use Rattle.unit_packets.specs.Reading.{unread};
+ghost use Rattle.unit_packets.specs.Pieces.{unread};
 ghost use Rattle.unit_packets.specs.Packings.{PackingIsComputed, PackingIsOne};
 
 /// The laws of cutting a stream into blocks: the cutting that the definitions compute is a longest

@@ -6,7 +6,7 @@ ghost use Rattle.unit_packets.specs.Cutting.{blocks_of, place_of, fault_in, faul
 ghost use Rattle.unit_packets.specs.Feeding.{StandsFor, kept_fault};
 ghost use Rattle.unit_packets.specs.Pieces.{Feeds, WithMemory, IsRepeated, fed_answer};
 ghost use Rattle.unit_packets.specs.Pieces.{ended_answer, ended_fault};
-ghost use Rattle.unit_packets.specs.Reading.{unread, loaded, passed, kept};
+ghost use Rattle.unit_packets.specs.Pieces.{unread, loaded, passed, kept};
 
 use crate::block::{BlockList, FeedError};
 use crate::blocks::Blocks;

@@ -1,7 +1,7 @@
 //! The unread rest of a stream, on which the block reader and the capture reader are built.
 
 ghost use Rattle.std.specs.Prelude.{◌≡◌, ◌≤◌, length, drop, vec_len, OnOk, OnErr};
-ghost use Rattle.unit_packets.specs.Reading.{unread, loaded, passed, kept};
+ghost use Rattle.unit_packets.specs.Pieces.{unread, loaded, passed, kept};
 
 use pitch_fields::OutOfMemory;
 use std::alloc::Global;

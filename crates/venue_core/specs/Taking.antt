@@ -9,6 +9,7 @@ use Rattle.pitch_model.specs.Book.{Book, after}
 use Rattle.venue_core.specs.Refusals.{reads_end}
 use Rattle.venue_core.specs.Waiting.{Waiting, Waits}
 use Rattle.venue_core.specs.Standing.{VenueState}
+use Rattle.std.specs.Prelude.{true, Option}
 
 -- the same with no message ready
 abbrev pub unready : VenueState → VenueState
@@ -41,3 +42,15 @@ pub record Advances (old : VenueState) (raw : List ℕ) (new : VenueState) : Typ
   pub next : new.pending.next ≡ old.pending.next + 1
   pub waits : (unit first : ℕ) (messages : List (List ℕ))
       → Waits old.pending unit first messages → Waits new.pending unit first (messages ++ raw ∷ [])
+
+-- the last message, where it is still to be packed
+abbrev pub late_of : Bool → Option (List ℕ) → List (List ℕ)
+late_of false last = []
+late_of true None = []
+late_of true (Some raw) = raw ∷ []
+
+-- there are messages, maybe none, that wait
+pub record AreSome (waiting : Waiting) : Type 0 where
+  pub unit : ℕ
+  pub messages : List (List ℕ)
+  pub waits : Waits waiting unit waiting.first messages

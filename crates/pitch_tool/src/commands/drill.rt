@@ -3,7 +3,8 @@
 ghost use Rattle.std.specs.Prelude.{◌≡◌, ◌≢◌, Err};
 ghost use Rattle.pitch_io.specs.Causes.{HasCause};
 ghost use Rattle.stream_print.specs.Told.{told};
-ghost use Rattle.pitch_tool.specs.DrillForm.{IsDrill, DrillEnds};
+ghost use Rattle.pitch_tool.specs.DrillForm.{DrillEnds};
+ghost use Rattle.pitch_tool.specs.Doing.{IsDrill};
 
 use crate::failure::Failure;
 use pitch_io::{Gate, Sink};

@@ -3,7 +3,8 @@
 ghost use Rattle.std.specs.Prelude.{◌≡◌, ◌≤◌, [], IfOk, IfErr, length};
 ghost use Rattle.pitch_fields.specs.Limits.{text_limit};
 ghost use Rattle.command_feed.specs.Feed.{AppendsPacking};
-ghost use Rattle.pitch_tool.specs.TextForms.{made, IsUnmade};
+ghost use Rattle.pitch_tool.specs.TextForms.{made};
+ghost use Rattle.pitch_tool.specs.Failures.{IsUnmade};
 ghost use Rattle.pitch_tool.specs.declared.job.TextForm.TheVariants.{Pack};
 
 use crate::failure::Failure;

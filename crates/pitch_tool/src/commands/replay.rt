@@ -2,7 +2,9 @@
 
 ghost use Rattle.std.specs.Prelude.{◌≡◌, ◌≤◌, Ok, IfOk, IfErr, length};
 ghost use Rattle.pitch_fields.specs.Limits.{text_limit};
-ghost use Rattle.pitch_tool.specs.TextForms.{AreWorkers, made, IsMadeOf, IsUnmade};
+ghost use Rattle.pitch_tool.specs.TextForms.{made, IsMadeOf};
+ghost use Rattle.pitch_tool.specs.Doing.{AreWorkers};
+ghost use Rattle.pitch_tool.specs.Failures.{IsUnmade};
 ghost use Rattle.pitch_tool.specs.declared.job.TextForm.TheVariants.{Replay};
 
 use crate::failure::Failure;

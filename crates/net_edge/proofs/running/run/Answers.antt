@@ -4,7 +4,8 @@ use Rattle.pitch_io.specs.Nets.{Call}
 use Rattle.net_edge.specs.Breaking.{Breaks}
 use Rattle.net_edge.specs.Markets.{SideAt}
 use Rattle.net_edge.specs.Playing.{DemoAt}
-use Rattle.net_edge.specs.Scene.{first_scene, all_put}
+use Rattle.net_edge.specs.Scene.{first_scene}
+use Rattle.net_edge.specs.Playing.{all_put}
 use Rattle.net_edge.specs.Turns.{MayGoOn, client_status}
 use Rattle.net_edge.proofs.Starting.{market_first, sent_first, uncalled_first, goes_on, last_is}
 use Rattle.net_edge.proofs.Begun.{turn_breaks}

@@ -1,4 +1,4 @@
-use Rattle.stream_print.specs.Putting.{PutsSuch}
+use Rattle.stream_print.specs.Sinks.{PutsSuch}
 use Rattle.std.proofs.Common.{rules, ◌<◌, ℕ, List, Option, length, refl, arith}
 use Rattle.std.proofs.lemmas.Option.{slice_get_read}
 use Rattle.unit_packets.specs.Blocks.{Block}

@@ -1,5 +1,5 @@
 use Rattle.stream_print.specs.TextLaws.{IsEnd, IsPrefixOfEnd}
-use Rattle.stream_print.specs.Putting.{PutsSuch}
+use Rattle.stream_print.specs.Sinks.{PutsSuch}
 use Rattle.stream_print.specs.Page.{PrintsSuch}
 use Rattle.std.proofs.Common.{List, Option, sym, subst}
 use Rattle.client_core.specs.declared.client.UnitClient.{UnitClient}

@@ -2,7 +2,8 @@ use Rattle.std.proofs.Common.{◌≡◌, ◌+◌, ◌||◌, ℕ, List, [], lengt
 use Rattle.pitch_messages.specs.Room.{Roomy}
 use Rattle.unit_packets.specs.Causes.{counted as counted_up}
 use Rattle.unit_packets.specs.Packing.{bytes_in}
-use Rattle.unit_packets.specs.Reading.{Reading, loaded, passed}
+use Rattle.unit_packets.specs.Reading.{Reading}
+use Rattle.unit_packets.specs.Pieces.{loaded, passed}
 use Rattle.session_ends.specs.Ending.{Ending}
 use Rattle.session_ends.specs.Hearing.{reader_items}
 use Rattle.session_ends.specs.Sending.{some_bytes}

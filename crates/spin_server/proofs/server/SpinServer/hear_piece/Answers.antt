@@ -1,6 +1,7 @@
 use Rattle.std.proofs.Common.{◌≡◌, ◌+◌, ◌||◌, ℕ, List, [], length, ap, ◌∙◌, sym, refl}
 use Rattle.unit_packets.specs.Causes.{counted}
-use Rattle.unit_packets.specs.Reading.{Reading, loaded, passed}
+use Rattle.unit_packets.specs.Reading.{Reading}
+use Rattle.unit_packets.specs.Pieces.{loaded, passed}
 use Rattle.session_ends.specs.Ending.{Ending}
 use Rattle.session_ends.specs.Hearing.{reader_items}
 use Rattle.session_ends.specs.Sending.{some_bytes}

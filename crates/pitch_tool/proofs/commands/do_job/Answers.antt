@@ -1,6 +1,6 @@
 use Rattle.std.proofs.Common.{subst}
-use Rattle.pitch_tool.specs.Jobs.{CanDo}
-use Rattle.pitch_tool.proofs.program.do_job.Goals as goal
+use Rattle.pitch_tool.specs.Doing.{CanDo}
+use Rattle.pitch_tool.proofs.commands.do_job.Goals as goal
 
 pub print_stream-requires-clause-hold : goal.print_stream-requires-clause-hold
 print_stream-requires-clause-hold g c = (subst CanDo c.in-Stream.is c.requires).0
