@@ -485,12 +485,7 @@ impl UnitBook {
                 },
             ),
             Message::Delete { id, .. } => self.remove(id),
-            Message::TradeLong { .. }
-            | Message::TradeShort { .. }
-            | Message::TradeExpanded { .. }
-            | Message::TradeBreak { .. }
-            | Message::EndOfSession { .. }
-            | Message::Other(_) => {}
+            _ => {}
         }
         Ok(())
     }

@@ -13,11 +13,8 @@ use Rattle.pitch_messages.specs.declared.message.Message.TheVariants.{Time, AddL
 use Rattle.pitch_messages.specs.declared.message.Message.TheVariants.{Executed, ExecutedAt}
 use Rattle.pitch_messages.specs.declared.message.Message.TheVariants.{ReduceLong, ReduceShort}
 use Rattle.pitch_messages.specs.declared.message.Message.TheVariants.{ModifyLong, ModifyShort}
-use Rattle.pitch_messages.specs.declared.message.Message.TheVariants.{Delete, TradeLong, TradeShort}
-use Rattle.pitch_messages.specs.declared.message.Message.TheVariants.{TradeBreak, EndOfSession}
-use Rattle.pitch_messages.specs.declared.message.Message.TheVariants.{AddExpanded, TradeExpanded}
+use Rattle.pitch_messages.specs.declared.message.Message.TheVariants.{Delete, AddExpanded}
 use Rattle.pitch_messages.specs.declared.message.Message.TheVariants.{TradingStatus, UnitClear}
-use Rattle.pitch_messages.specs.declared.message.Message.TheVariants.{Other}
 use Rattle.pitch_messages.specs.declared.message.ReadError.{ReadError}
 use Rattle.pitch_messages.specs.Reading.{reads}
 use Rattle.pitch_model.specs.declared.order_change.OrderChange.{OrderChange}
@@ -190,13 +187,8 @@ effect_of (ModifyShort offset id quantity price flags) =
     ChangesOrder id (Modified quantity (long_price price) (is_displayed flags))
 -- "Delete Order Message"
 effect_of (Delete offset id) = RemovesOrder id
--- trades, trade breaks, the end of the session and other types do nothing
-effect_of (TradeLong offset id side quantity symbol price execution) = DoesNothing
-effect_of (TradeShort offset id side quantity symbol price execution) = DoesNothing
-effect_of (TradeExpanded offset id side quantity symbol price execution) = DoesNothing
-effect_of (TradeBreak offset execution) = DoesNothing
-effect_of (EndOfSession offset) = DoesNothing
-effect_of (Other raw) = DoesNothing
+-- trades, trade breaks, the end of the session and types that are not known do nothing
+effect_of other = DoesNothing
 
 -- what a message does to a book
 abbrev pub after_message : Book → Message → Book
