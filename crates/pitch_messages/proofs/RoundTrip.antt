@@ -38,6 +38,3 @@ message_back message = by (in_row message) (made_by message)
     by : (there : InRow) → MadeBy there message → FitsRow there → reads (bytes_in there) ≡ Ok message
     by (Known row values) is fit = reads_back row values is.0 fit ∙ ap (λ (m : Message). Ok m) is.1
     by (Unknown raw) is none = sym (unsaid raw none) ∙ ap (λ (m : Message). Ok m) is
-
-pub written_back : {raw : List ℕ} {message same : Message} → raw ≡ written same → message ≡ same → FitsRow (in_row same) → reads raw ≡ Ok message
-written_back {same = same} are is fit = ap reads are ∙ message_back same fit ∙ ap (λ (m : Message). Ok m) (sym is)

@@ -1,4 +1,5 @@
 //! From a message's fields to its bytes, type by type; it undoes the reading.
+#![tactic(auto, unfolding(crate::specs::Writing::written))]
 
 ghost use Rattle.std.specs.Prelude.{◌≡◌, length};
 ghost use Rattle.pitch_messages.specs.Reading.{reads};
@@ -9,14 +10,12 @@ use crate::message::Message;
 use crate::raw::Raw;
 use pitch_fields::Side;
 
-#[tactic(auto, unfolding(crate::specs::Writing::written))]
 fn time_raw(second: u32) -> Raw
     ensures { result ≡ written (messages.Time second) }
 {
     Raw::of_fields(0x20, &[&second.to_le_bytes()])
 }
 
-#[tactic(auto, unfolding(crate::specs::Writing::written))]
 fn add_long_raw(
     offset: u32,
     id: u64,
@@ -44,7 +43,6 @@ fn add_long_raw(
     )
 }
 
-#[tactic(auto, unfolding(crate::specs::Writing::written))]
 fn add_short_raw(
     offset: u32,
     id: u64,
@@ -72,7 +70,6 @@ fn add_short_raw(
     )
 }
 
-#[tactic(auto, unfolding(crate::specs::Writing::written))]
 fn executed_raw(offset: u32, id: u64, executed: u32, execution: u64) -> Raw
     ensures { result ≡ written (messages.Executed offset id executed execution) }
 {
@@ -87,7 +84,6 @@ fn executed_raw(offset: u32, id: u64, executed: u32, execution: u64) -> Raw
     )
 }
 
-#[tactic(auto, unfolding(crate::specs::Writing::written))]
 fn executed_at_raw(
     offset: u32,
     id: u64,
@@ -111,7 +107,6 @@ fn executed_at_raw(
     )
 }
 
-#[tactic(auto, unfolding(crate::specs::Writing::written))]
 fn reduce_long_raw(offset: u32, id: u64, quantity: u32) -> Raw
     ensures { result ≡ written (messages.ReduceLong offset id quantity) }
 {
@@ -125,7 +120,6 @@ fn reduce_long_raw(offset: u32, id: u64, quantity: u32) -> Raw
     )
 }
 
-#[tactic(auto, unfolding(crate::specs::Writing::written))]
 fn reduce_short_raw(offset: u32, id: u64, quantity: u16) -> Raw
     ensures { result ≡ written (messages.ReduceShort offset id quantity) }
 {
@@ -139,7 +133,6 @@ fn reduce_short_raw(offset: u32, id: u64, quantity: u16) -> Raw
     )
 }
 
-#[tactic(auto, unfolding(crate::specs::Writing::written))]
 fn modify_long_raw(offset: u32, id: u64, quantity: u32, price: u64, flags: u8) -> Raw
     ensures { result ≡ written (messages.ModifyLong offset id quantity price flags) }
 {
@@ -155,7 +148,6 @@ fn modify_long_raw(offset: u32, id: u64, quantity: u32, price: u64, flags: u8) -
     )
 }
 
-#[tactic(auto, unfolding(crate::specs::Writing::written))]
 fn modify_short_raw(offset: u32, id: u64, quantity: u16, price: u16, flags: u8) -> Raw
     ensures { result ≡ written (messages.ModifyShort offset id quantity price flags) }
 {
@@ -171,14 +163,12 @@ fn modify_short_raw(offset: u32, id: u64, quantity: u16, price: u16, flags: u8) 
     )
 }
 
-#[tactic(auto, unfolding(crate::specs::Writing::written))]
 fn delete_raw(offset: u32, id: u64) -> Raw
     ensures { result ≡ written (messages.Delete offset id) }
 {
     Raw::of_fields(0x29, &[&offset.to_le_bytes(), &id.to_le_bytes()])
 }
 
-#[tactic(auto, unfolding(crate::specs::Writing::written))]
 fn trade_long_raw(
     offset: u32,
     id: u64,
@@ -206,7 +196,6 @@ fn trade_long_raw(
     )
 }
 
-#[tactic(auto, unfolding(crate::specs::Writing::written))]
 fn trade_short_raw(
     offset: u32,
     id: u64,
@@ -234,21 +223,18 @@ fn trade_short_raw(
     )
 }
 
-#[tactic(auto, unfolding(crate::specs::Writing::written))]
 fn trade_break_raw(offset: u32, execution: u64) -> Raw
     ensures { result ≡ written (messages.TradeBreak offset execution) }
 {
     Raw::of_fields(0x2c, &[&offset.to_le_bytes(), &execution.to_le_bytes()])
 }
 
-#[tactic(auto, unfolding(crate::specs::Writing::written))]
 fn end_of_session_raw(offset: u32) -> Raw
     ensures { result ≡ written (messages.EndOfSession offset) }
 {
     Raw::of_fields(0x2d, &[&offset.to_le_bytes()])
 }
 
-#[tactic(auto, unfolding(crate::specs::Writing::written))]
 fn add_expanded_raw(
     offset: u32,
     id: u64,
@@ -279,7 +265,6 @@ fn add_expanded_raw(
     )
 }
 
-#[tactic(auto, unfolding(crate::specs::Writing::written))]
 fn trade_expanded_raw(
     offset: u32,
     id: u64,
@@ -307,7 +292,6 @@ fn trade_expanded_raw(
     )
 }
 
-#[tactic(auto, unfolding(crate::specs::Writing::written))]
 fn trading_status_raw(offset: u32, symbol: [u8; 8], halt: u8, sho: u8) -> Raw
     ensures written { result ≡ written (messages.TradingStatus offset symbol halt sho) }
     ensures symbol { length symbol ≡ 8 }
@@ -315,7 +299,6 @@ fn trading_status_raw(offset: u32, symbol: [u8; 8], halt: u8, sho: u8) -> Raw
     Raw::of_fields(0x31, &[&offset.to_le_bytes(), &symbol, &[halt, sho], b"  "])
 }
 
-#[tactic(auto, unfolding(crate::specs::Writing::written))]
 fn unit_clear_raw(offset: u32) -> Raw
     ensures { result ≡ written (messages.UnitClear offset) }
 {
@@ -327,7 +310,7 @@ fn unit_clear_raw(offset: u32) -> Raw
 // It is inlined where a message is made, so that one form alone is left and no raw is copied on its
 // way.
 #[inline(always)]
-#[tactic(auto, unfolding(crate::specs::Writing::written))]
+#[tactic(auto, using(crate::proofs::RoundTrip::message_back))]
 pub fn write(message: &Message) -> Raw
     ensures written { result ≡ written message.now }
     ensures reads_back { HasItsVariant message.now → reads result ≡ Ok message.now }
