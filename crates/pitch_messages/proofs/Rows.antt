@@ -1,12 +1,14 @@
 -- What a raw says by its row.
-use Rattle.std.proofs.Common.{◌≡◌, ℕ, ◌<◌, ◌≤◌, Bool, cond, List, length, sym, ap, ◌∙◌, arith, subst, Option, None, Some, Ok, Err, slice_index}
+use Rattle.std.proofs.Common.{◌≡◌, ℕ, ◌<◌, ◌≤◌, Bool, cond, List, length, refl, sym, ap, ◌∙◌, arith, subst, Option, None, Some, Result, Ok, Err, slice_index}
 use Rattle.std.specs.Option.{option_map}
 use Rattle.std.proofs.lemmas.Bool.{lt-ltb, le-ltb}
 use Rattle.pitch_messages.specs.Raw.{IsRaw, kind_of}
+use Rattle.pitch_messages.specs.declared.message.Message.{Message}
 use Rattle.pitch_messages.specs.declared.message.Message.TheVariants as messages
+use Rattle.pitch_messages.specs.declared.message.ReadError.{ReadError}
 use Rattle.pitch_messages.specs.declared.message.ReadError.TheVariants.{Short}
 use Rattle.pitch_messages.specs.Table.{Row, needs, needs_by, reads_by}
-use Rattle.pitch_messages.specs.Reading.{MessageRow, needs_of, row_of, row_says, reads}
+use Rattle.pitch_messages.specs.Reading.{MessageRow, IsWhole, needs_of, row_of, row_says, reads}
 use Rattle.pitch_messages.specs.Session.{SessionRow, session_row_of, session_row_says, session_reads}
 use Rattle.pitch_messages.specs.declared.session.SessionError.TheVariants.{WrongType, Short as TooShort}
 
@@ -50,12 +52,25 @@ pub said : (row : MessageRow) (raw : List ℕ) (kind : ℕ) → kind_of raw ≡ 
 unfolding reads
 said row raw kind is at there = row_known (λ other. Ok (messages.Other other)) (λ needs has. Err (Short needs has)) row_says row_of row raw kind is at there
 
-pub said_here : (raw : List ℕ) {k : ℕ} (row : MessageRow) → kind_of raw ≡ k → row_of k ≡ Some row → needs_of (kind_of raw) ≤ length raw → row_says row raw ≡ reads raw
-said_here raw {k} row is at there = said row raw k is at (needed row_of (kind_of raw) k (length raw) row is at there)
-
 pub unsaid : (raw : List ℕ) → row_of (kind_of raw) ≡ None → Ok (messages.Other raw) ≡ reads raw
 unfolding reads
 unsaid raw none = row_none (λ other. Ok (messages.Other other)) (λ needs has. Err (Short needs has)) row_says raw (row_of (kind_of raw)) none
+
+-- a raw that has what its type needs
+pub whole : (kind : ℕ) (raw : List ℕ) → kind_of raw ≡ kind → needs_of (kind_of raw) ≤ length raw → IsWhole kind raw
+whole kind raw is long = record { is = is; long = enough row_of is long }
+
+-- what its row says, if its type has one
+abbrev pub row_or : Option MessageRow → List ℕ → Result Message ReadError
+row_or None raw = Ok (messages.Other raw)
+row_or (Some row) raw = row_says row raw
+
+pub whole_says : (raw : List ℕ) → needs_of (kind_of raw) ≤ length raw → reads raw ≡ row_or (row_of (kind_of raw)) raw
+whole_says raw long = by (row_of (kind_of raw)) refl
+  where
+    by : (row : Option MessageRow) → row_of (kind_of raw) ≡ row → reads raw ≡ row_or row raw
+    by None none = sym (unsaid raw none)
+    by (Some row) at = sym (said row raw (kind_of raw) refl at (subst (λ (r : Option MessageRow). needs_by r ≤ length raw) at long))
 
 pub short : (raw : List ℕ) (least : ℕ) → Some least ≡ option_map (λ (r : MessageRow). needs r) (row_of (kind_of raw)) → length raw < least → IsRaw raw → reads raw ≡ Err (Short least (slice_index raw 0))
 unfolding reads

@@ -1,4 +1,5 @@
 //! From the bytes of a raw message to its fields, type by type.
+#![tactic(auto, using(crate::proofs::Rows::whole, crate::proofs::Rows::whole_says))]
 
 ghost use Rattle.std.specs.Prelude.{◌≡◌, ℕ, ◌+◌, ◌≤◌, Some, length, slice_index, IfOk, IfErr, OnOk};
 ghost use Rattle.std.specs.Option.{option_map};
@@ -8,8 +9,7 @@ ghost use Rattle.pitch_messages.specs.declared.message.ReadError.TheVariants.{Ba
 ghost use Rattle.pitch_messages.specs.Fields.{bytes_at};
 ghost use Rattle.pitch_messages.specs.Table.{needs};
 ghost use Rattle.pitch_messages.specs.Writing.{written, with_reserved_blank};
-ghost use Rattle.pitch_messages.specs.Reading.{needs_of, extra_of, reads, row_of, row_says};
-ghost use Rattle.pitch_messages.specs.Reading as rows;
+ghost use Rattle.pitch_messages.specs.Reading.{IsWhole, needs_of, extra_of, reads, row_of};
 
 use crate::message::{Message, ReadError};
 use crate::raw::Raw;
@@ -74,8 +74,8 @@ fn side_at(bytes: &[u8]) -> Result<Side, ReadError>
 
 #[inline(always)]
 fn time(bytes: &[u8]) -> Result<Message, ReadError>
-    requires { 6 ≤ length bytes.now }
-    ensures { result ≡ row_says rows.time_row bytes.now }
+    requires { IsWhole 0x20 bytes.now }
+    ensures { result ≡ reads bytes.now }
 {
     Ok(Message::Time {
         second: get_u32(bytes, 2),
@@ -84,8 +84,8 @@ fn time(bytes: &[u8]) -> Result<Message, ReadError>
 
 #[inline(always)]
 fn add_long(bytes: &[u8]) -> Result<Message, ReadError>
-    requires { 34 ≤ length bytes.now }
-    ensures { result ≡ row_says rows.add_long_row bytes.now }
+    requires { IsWhole 0x21 bytes.now }
+    ensures { result ≡ reads bytes.now }
 {
     let side = side_at(bytes)?;
     Ok(Message::AddLong {
@@ -101,8 +101,8 @@ fn add_long(bytes: &[u8]) -> Result<Message, ReadError>
 
 #[inline(always)]
 fn add_short(bytes: &[u8]) -> Result<Message, ReadError>
-    requires { 26 ≤ length bytes.now }
-    ensures { result ≡ row_says rows.add_short_row bytes.now }
+    requires { IsWhole 0x22 bytes.now }
+    ensures { result ≡ reads bytes.now }
 {
     let side = side_at(bytes)?;
     Ok(Message::AddShort {
@@ -118,8 +118,8 @@ fn add_short(bytes: &[u8]) -> Result<Message, ReadError>
 
 #[inline(always)]
 fn executed(bytes: &[u8]) -> Result<Message, ReadError>
-    requires { 26 ≤ length bytes.now }
-    ensures { result ≡ row_says rows.executed_row bytes.now }
+    requires { IsWhole 0x23 bytes.now }
+    ensures { result ≡ reads bytes.now }
 {
     Ok(Message::Executed {
         offset: get_u32(bytes, 2),
@@ -131,8 +131,8 @@ fn executed(bytes: &[u8]) -> Result<Message, ReadError>
 
 #[inline(always)]
 fn executed_at(bytes: &[u8]) -> Result<Message, ReadError>
-    requires { 38 ≤ length bytes.now }
-    ensures { result ≡ row_says rows.executed_at_row bytes.now }
+    requires { IsWhole 0x24 bytes.now }
+    ensures { result ≡ reads bytes.now }
 {
     Ok(Message::ExecutedAt {
         offset: get_u32(bytes, 2),
@@ -146,8 +146,8 @@ fn executed_at(bytes: &[u8]) -> Result<Message, ReadError>
 
 #[inline(always)]
 fn reduce_long(bytes: &[u8]) -> Result<Message, ReadError>
-    requires { 18 ≤ length bytes.now }
-    ensures { result ≡ row_says rows.reduce_long_row bytes.now }
+    requires { IsWhole 0x25 bytes.now }
+    ensures { result ≡ reads bytes.now }
 {
     Ok(Message::ReduceLong {
         offset: get_u32(bytes, 2),
@@ -158,8 +158,8 @@ fn reduce_long(bytes: &[u8]) -> Result<Message, ReadError>
 
 #[inline(always)]
 fn reduce_short(bytes: &[u8]) -> Result<Message, ReadError>
-    requires { 16 ≤ length bytes.now }
-    ensures { result ≡ row_says rows.reduce_short_row bytes.now }
+    requires { IsWhole 0x26 bytes.now }
+    ensures { result ≡ reads bytes.now }
 {
     Ok(Message::ReduceShort {
         offset: get_u32(bytes, 2),
@@ -170,8 +170,8 @@ fn reduce_short(bytes: &[u8]) -> Result<Message, ReadError>
 
 #[inline(always)]
 fn modify_long(bytes: &[u8]) -> Result<Message, ReadError>
-    requires { 27 ≤ length bytes.now }
-    ensures { result ≡ row_says rows.modify_long_row bytes.now }
+    requires { IsWhole 0x27 bytes.now }
+    ensures { result ≡ reads bytes.now }
 {
     Ok(Message::ModifyLong {
         offset: get_u32(bytes, 2),
@@ -184,8 +184,8 @@ fn modify_long(bytes: &[u8]) -> Result<Message, ReadError>
 
 #[inline(always)]
 fn modify_short(bytes: &[u8]) -> Result<Message, ReadError>
-    requires { 19 ≤ length bytes.now }
-    ensures { result ≡ row_says rows.modify_short_row bytes.now }
+    requires { IsWhole 0x28 bytes.now }
+    ensures { result ≡ reads bytes.now }
 {
     Ok(Message::ModifyShort {
         offset: get_u32(bytes, 2),
@@ -198,8 +198,8 @@ fn modify_short(bytes: &[u8]) -> Result<Message, ReadError>
 
 #[inline(always)]
 fn delete(bytes: &[u8]) -> Result<Message, ReadError>
-    requires { 14 ≤ length bytes.now }
-    ensures { result ≡ row_says rows.delete_row bytes.now }
+    requires { IsWhole 0x29 bytes.now }
+    ensures { result ≡ reads bytes.now }
 {
     Ok(Message::Delete {
         offset: get_u32(bytes, 2),
@@ -209,8 +209,8 @@ fn delete(bytes: &[u8]) -> Result<Message, ReadError>
 
 #[inline(always)]
 fn trade_long(bytes: &[u8]) -> Result<Message, ReadError>
-    requires { 41 ≤ length bytes.now }
-    ensures { result ≡ row_says rows.trade_long_row bytes.now }
+    requires { IsWhole 0x2a bytes.now }
+    ensures { result ≡ reads bytes.now }
 {
     let side = side_at(bytes)?;
     Ok(Message::TradeLong {
@@ -226,8 +226,8 @@ fn trade_long(bytes: &[u8]) -> Result<Message, ReadError>
 
 #[inline(always)]
 fn trade_short(bytes: &[u8]) -> Result<Message, ReadError>
-    requires { 33 ≤ length bytes.now }
-    ensures { result ≡ row_says rows.trade_short_row bytes.now }
+    requires { IsWhole 0x2b bytes.now }
+    ensures { result ≡ reads bytes.now }
 {
     let side = side_at(bytes)?;
     Ok(Message::TradeShort {
@@ -243,8 +243,8 @@ fn trade_short(bytes: &[u8]) -> Result<Message, ReadError>
 
 #[inline(always)]
 fn trade_break(bytes: &[u8]) -> Result<Message, ReadError>
-    requires { 14 ≤ length bytes.now }
-    ensures { result ≡ row_says rows.trade_break_row bytes.now }
+    requires { IsWhole 0x2c bytes.now }
+    ensures { result ≡ reads bytes.now }
 {
     Ok(Message::TradeBreak {
         offset: get_u32(bytes, 2),
@@ -254,8 +254,8 @@ fn trade_break(bytes: &[u8]) -> Result<Message, ReadError>
 
 #[inline(always)]
 fn end_of_session(bytes: &[u8]) -> Result<Message, ReadError>
-    requires { 6 ≤ length bytes.now }
-    ensures { result ≡ row_says rows.end_of_session_row bytes.now }
+    requires { IsWhole 0x2d bytes.now }
+    ensures { result ≡ reads bytes.now }
 {
     Ok(Message::EndOfSession {
         offset: get_u32(bytes, 2),
@@ -264,8 +264,8 @@ fn end_of_session(bytes: &[u8]) -> Result<Message, ReadError>
 
 #[inline(always)]
 fn add_expanded(bytes: &[u8]) -> Result<Message, ReadError>
-    requires { 40 ≤ length bytes.now }
-    ensures { result ≡ row_says rows.add_expanded_row bytes.now }
+    requires { IsWhole 0x2f bytes.now }
+    ensures { result ≡ reads bytes.now }
 {
     let side = side_at(bytes)?;
     Ok(Message::AddExpanded {
@@ -282,8 +282,8 @@ fn add_expanded(bytes: &[u8]) -> Result<Message, ReadError>
 
 #[inline(always)]
 fn trade_expanded(bytes: &[u8]) -> Result<Message, ReadError>
-    requires { 43 ≤ length bytes.now }
-    ensures { result ≡ row_says rows.trade_expanded_row bytes.now }
+    requires { IsWhole 0x30 bytes.now }
+    ensures { result ≡ reads bytes.now }
 {
     let side = side_at(bytes)?;
     Ok(Message::TradeExpanded {
@@ -299,8 +299,8 @@ fn trade_expanded(bytes: &[u8]) -> Result<Message, ReadError>
 
 #[inline(always)]
 fn trading_status(bytes: &[u8]) -> Result<Message, ReadError>
-    requires { 18 ≤ length bytes.now }
-    ensures { result ≡ row_says rows.trading_status_row bytes.now }
+    requires { IsWhole 0x31 bytes.now }
+    ensures { result ≡ reads bytes.now }
 {
     Ok(Message::TradingStatus {
         offset: get_u32(bytes, 2),
@@ -312,8 +312,8 @@ fn trading_status(bytes: &[u8]) -> Result<Message, ReadError>
 
 #[inline(always)]
 fn unit_clear(bytes: &[u8]) -> Result<Message, ReadError>
-    requires { 6 ≤ length bytes.now }
-    ensures { result ≡ row_says rows.unit_clear_row bytes.now }
+    requires { IsWhole 0x97 bytes.now }
+    ensures { result ≡ reads bytes.now }
 {
     Ok(Message::UnitClear {
         offset: get_u32(bytes, 2),
