@@ -63,7 +63,7 @@ field_size Byte byte fits = refl
 field_size (Text n) text fits = fits
 field_size (Reserved n) value fits = spaces_size n
 
-all_size : (fields : List Field) (values : Values fields) → AllFit fields values → length (all_bytes fields values) ≡ widths fields
+pub all_size : (fields : List Field) (values : Values fields) → AllFit fields values → length (all_bytes fields values) ≡ widths fields
 all_size [] values fit = refl
 all_size (field ∷ fields) values fit =
     omega (arith, length-append (bytes_of field values.0) (all_bytes fields values.1), field_size field values.0 fit.0, all_size fields values.1 fit.1)
