@@ -9,12 +9,7 @@ use Rattle.pitch_fields.specs.Name.{no_participant}
 use Rattle.pitch_fields.specs.declared.side.Side.{Side}
 use Rattle.pitch_messages.specs.declared.order.Order.{Order}
 use Rattle.pitch_messages.specs.declared.message.Message.{Message}
-use Rattle.pitch_messages.specs.declared.message.Message.TheVariants.{Time, AddLong, AddShort}
-use Rattle.pitch_messages.specs.declared.message.Message.TheVariants.{Executed, ExecutedAt}
-use Rattle.pitch_messages.specs.declared.message.Message.TheVariants.{ReduceLong, ReduceShort}
-use Rattle.pitch_messages.specs.declared.message.Message.TheVariants.{ModifyLong, ModifyShort}
-use Rattle.pitch_messages.specs.declared.message.Message.TheVariants.{Delete, AddExpanded}
-use Rattle.pitch_messages.specs.declared.message.Message.TheVariants.{TradingStatus, UnitClear}
+use Rattle.pitch_messages.specs.declared.message.Message.TheVariants as messages
 use Rattle.pitch_messages.specs.declared.message.ReadError.{ReadError}
 use Rattle.pitch_messages.specs.Reading.{reads}
 use Rattle.pitch_model.specs.declared.order_change.OrderChange.{OrderChange}
@@ -160,33 +155,33 @@ order_of_expanded id side quantity symbol price flags participant =
 -- what each message does
 abbrev pub effect_of : Message → Effect
 -- "Time Message"
-effect_of (Time second) = ShowsSecond second
+effect_of (messages.Time second) = ShowsSecond second
 -- "Unit Clear Message"
-effect_of (UnitClear offset) = ClearsOrders
+effect_of (messages.UnitClear offset) = ClearsOrders
 -- "Trading Status Message"
-effect_of (TradingStatus offset symbol halt sho) = GivesStatus symbol (halt, sho)
+effect_of (messages.TradingStatus offset symbol halt sho) = GivesStatus symbol (halt, sho)
 -- "Add Order Message", long, short and expanded form
-effect_of (AddLong offset id side quantity symbol price flags) =
+effect_of (messages.AddLong offset id side quantity symbol price flags) =
     AddsOrder (order_of_long id side quantity symbol price flags)
-effect_of (AddShort offset id side quantity symbol price flags) =
+effect_of (messages.AddShort offset id side quantity symbol price flags) =
     AddsOrder (order_of_short id side quantity symbol price flags)
-effect_of (AddExpanded offset id side quantity symbol price flags participant) =
+effect_of (messages.AddExpanded offset id side quantity symbol price flags participant) =
     AddsOrder (order_of_expanded id side quantity symbol price flags participant)
 -- "Order Executed Message"
-effect_of (Executed offset id executed execution) = ChangesOrder id (Reduced executed)
+effect_of (messages.Executed offset id executed execution) = ChangesOrder id (Reduced executed)
 -- "Order Executed at Price/Size Message"
-effect_of (ExecutedAt offset id executed remaining execution price) =
+effect_of (messages.ExecutedAt offset id executed remaining execution price) =
     ChangesOrder id (Left remaining)
 -- "Reduce Size Message", long and short form
-effect_of (ReduceLong offset id quantity) = ChangesOrder id (Reduced quantity)
-effect_of (ReduceShort offset id quantity) = ChangesOrder id (Reduced quantity)
+effect_of (messages.ReduceLong offset id quantity) = ChangesOrder id (Reduced quantity)
+effect_of (messages.ReduceShort offset id quantity) = ChangesOrder id (Reduced quantity)
 -- "Modify Order Message", long and short form
-effect_of (ModifyLong offset id quantity price flags) =
+effect_of (messages.ModifyLong offset id quantity price flags) =
     ChangesOrder id (Modified quantity price (is_displayed flags))
-effect_of (ModifyShort offset id quantity price flags) =
+effect_of (messages.ModifyShort offset id quantity price flags) =
     ChangesOrder id (Modified quantity (long_price price) (is_displayed flags))
 -- "Delete Order Message"
-effect_of (Delete offset id) = RemovesOrder id
+effect_of (messages.Delete offset id) = RemovesOrder id
 -- trades, trade breaks, the end of the session and types that are not known do nothing
 effect_of other = DoesNothing
 
