@@ -3,10 +3,11 @@ use Rattle.std.proofs.Common.{◌≡◌, ℕ, ◌≤◌, ◌==◌, ◌||◌, tru
 use Rattle.std.proofs.lemmas.Bool.{both_ways}
 use Rattle.pitch_fields.specs.Fields.{number_at}
 use Rattle.pitch_messages.specs.declared.message.Message.{Message}
-use Rattle.pitch_messages.specs.declared.message.Message.TheVariants.{Time, AddLong, AddShort, Executed, ExecutedAt, ReduceLong, ReduceShort, ModifyLong, ModifyShort, Delete, TradeLong, TradeShort, TradeBreak, EndOfSession, AddExpanded, TradeExpanded, TradingStatus, UnitClear, Other}
+use Rattle.pitch_messages.specs.declared.message.Message.TheVariants as messages
 use Rattle.pitch_messages.specs.declared.message.ReadError.{ReadError}
 use Rattle.pitch_messages.specs.Raw.{kind_of}
-use Rattle.pitch_messages.specs.Reading.{reads, row_of, unit_clear_row}
+use Rattle.pitch_messages.specs.Reading.{reads, row_of}
+use Rattle.pitch_messages.specs.Reading as rows
 use Rattle.pitch_messages.specs.Writing.{in_row}
 use Rattle.pitch_messages.proofs.Rows.{said}
 use Rattle.pitch_messages.proofs.Rewriting.{ReadAt, read_at}
@@ -47,29 +48,23 @@ module _ (raw : List ℕ) where
 
   -- each message tells its effect
   message_tells : (message : Message) → ReadAt raw (in_row message) → Tells raw (effect_of message)
-  message_tells (Time second) at = apart at.kind refl
-  message_tells (AddLong offset id side quantity symbol price flags) at = (names at.kind refl (omega (arith, at.long)) at.all.1.0, add at.kind refl)
-  message_tells (AddShort offset id side quantity symbol price flags) at = (names at.kind refl (omega (arith, at.long)) at.all.1.0, add at.kind refl)
-  message_tells (Executed offset id executed execution) at = names at.kind refl (omega (arith, at.long)) at.all.1.0
-  message_tells (ExecutedAt offset id executed remaining execution price) at = names at.kind refl (omega (arith, at.long)) at.all.1.0
-  message_tells (ReduceLong offset id quantity) at = names at.kind refl (omega (arith, at.long)) at.all.1.0
-  message_tells (ReduceShort offset id quantity) at = names at.kind refl (omega (arith, at.long)) at.all.1.0
-  message_tells (ModifyLong offset id quantity price flags) at = names at.kind refl (omega (arith, at.long)) at.all.1.0
-  message_tells (ModifyShort offset id quantity price flags) at = names at.kind refl (omega (arith, at.long)) at.all.1.0
-  message_tells (Delete offset id) at = names at.kind refl (omega (arith, at.long)) at.all.1.0
-  message_tells (TradeLong offset id side quantity symbol price execution) at = apart at.kind refl
-  message_tells (TradeShort offset id side quantity symbol price execution) at = apart at.kind refl
-  message_tells (TradeBreak offset execution) at = apart at.kind refl
-  message_tells (EndOfSession offset) at = apart at.kind refl
-  message_tells (AddExpanded offset id side quantity symbol price flags participant) at = (names at.kind refl (omega (arith, at.long)) at.all.1.0, add at.kind refl)
-  message_tells (TradeExpanded offset id side quantity symbol price execution) at = apart at.kind refl
-  message_tells (TradingStatus offset symbol halt sho) at = apart at.kind refl
-  message_tells (UnitClear offset) at = record { kind = at.kind; long = at.long }
-  message_tells (Other other) at = λ clear. let e : Some unit_clear_row ≡ None = ap row_of (sym clear.kind) ∙ at.0 in absurd cc
+  message_tells (messages.AddLong offset id side quantity symbol price flags) at = (names at.kind refl (omega (arith, at.long)) at.all.1.0, add at.kind refl)
+  message_tells (messages.AddShort offset id side quantity symbol price flags) at = (names at.kind refl (omega (arith, at.long)) at.all.1.0, add at.kind refl)
+  message_tells (messages.Executed offset id executed execution) at = names at.kind refl (omega (arith, at.long)) at.all.1.0
+  message_tells (messages.ExecutedAt offset id executed remaining execution price) at = names at.kind refl (omega (arith, at.long)) at.all.1.0
+  message_tells (messages.ReduceLong offset id quantity) at = names at.kind refl (omega (arith, at.long)) at.all.1.0
+  message_tells (messages.ReduceShort offset id quantity) at = names at.kind refl (omega (arith, at.long)) at.all.1.0
+  message_tells (messages.ModifyLong offset id quantity price flags) at = names at.kind refl (omega (arith, at.long)) at.all.1.0
+  message_tells (messages.ModifyShort offset id quantity price flags) at = names at.kind refl (omega (arith, at.long)) at.all.1.0
+  message_tells (messages.Delete offset id) at = names at.kind refl (omega (arith, at.long)) at.all.1.0
+  message_tells (messages.AddExpanded offset id side quantity symbol price flags participant) at = (names at.kind refl (omega (arith, at.long)) at.all.1.0, add at.kind refl)
+  message_tells (messages.UnitClear offset) at = record { kind = at.kind; long = at.long }
+  message_tells (messages.Other other) at = λ clear. let e : Some rows.unit_clear_row ≡ None = ap row_of (sym clear.kind) ∙ at.0 in absurd cc
+  message_tells message at = apart at.kind refl
 
   -- what says nothing is no Unit Clear
   unsaid : (error : ReadError) → reads raw ≡ Err error → IsClear raw → ⊥
-  unsaid error e clear = absurd (let same : Ok (UnitClear (number_at 4 2 raw)) ≡ Err error = said unit_clear_row raw 0x97 clear.kind refl clear.long ∙ e in cc)
+  unsaid error e clear = absurd (let same : Ok (messages.UnitClear (number_at 4 2 raw)) ≡ Err error = said rows.unit_clear_row raw 0x97 clear.kind refl clear.long ∙ e in cc)
 
 -- what holds of a book after each effect that the bytes tell of holds of it after the raw message
 pub after_told : (P : Book → Type 0) (book : Book) (raw : List ℕ) → ((effect : Effect) → Tells raw effect → P (after_effect book effect)) → P (after book raw)

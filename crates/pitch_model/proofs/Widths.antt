@@ -9,7 +9,7 @@ use Rattle.pitch_fields.specs.Fields.{AreBytes}
 use Rattle.pitch_fields.specs.declared.side.Side.{Side}
 use Rattle.pitch_messages.specs.declared.order.Order.{Order}
 use Rattle.pitch_messages.specs.declared.message.Message.{Message}
-use Rattle.pitch_messages.specs.declared.message.Message.TheVariants.{Time, AddLong, AddShort, Executed, ExecutedAt, ReduceLong, ReduceShort, ModifyLong, ModifyShort, Delete, TradeLong, TradeShort, TradeBreak, EndOfSession, AddExpanded, TradeExpanded, TradingStatus, UnitClear, Other}
+use Rattle.pitch_messages.specs.declared.message.Message.TheVariants as messages
 use Rattle.pitch_messages.specs.declared.message.ReadError.{ReadError}
 use Rattle.pitch_messages.specs.Reading.{reads}
 use Rattle.pitch_messages.specs.Writing.{in_row}
@@ -59,27 +59,18 @@ FitsEffect (GivesStatus symbol status) = FitsStatus symbol status
 FitsEffect DoesNothing = Unit {0}
 
 message_fits : (message : Message) → IsWideRow (in_row message) → FitsEffect (effect_of message)
-message_fits (Time second) fits = fits.0
-message_fits (AddLong offset id side quantity symbol price flags) (o, (i, (d, (q, (s, (p, f)))))) = long_fits id side quantity symbol price flags i q s p
-message_fits (AddShort offset id side quantity symbol price flags) (o, (i, (d, (q, (s, (p, f)))))) =
+message_fits (messages.Time second) fits = fits.0
+message_fits (messages.AddLong offset id side quantity symbol price flags) (o, (i, (d, (q, (s, (p, f)))))) = long_fits id side quantity symbol price flags i q s p
+message_fits (messages.AddShort offset id side quantity symbol price flags) (o, (i, (d, (q, (s, (p, f)))))) =
     long_fits id side quantity symbol (long_price price) flags i (omega (arith, q)) s (omega (arith, p))
-message_fits (Executed offset id executed execution) fits = tt
-message_fits (ExecutedAt offset id executed remaining execution price) (o, (i, (e, (r, others)))) = r
-message_fits (ReduceLong offset id quantity) fits = tt
-message_fits (ReduceShort offset id quantity) fits = tt
-message_fits (ModifyLong offset id quantity price flags) (o, (i, (q, (p, f)))) = (q, p)
-message_fits (ModifyShort offset id quantity price flags) (o, (i, (q, (p, f)))) = (omega (arith, q), omega (arith, p))
-message_fits (Delete offset id) fits = tt
-message_fits (TradeLong offset id side quantity symbol price execution) fits = tt
-message_fits (TradeShort offset id side quantity symbol price execution) fits = tt
-message_fits (TradeBreak offset execution) fits = tt
-message_fits (EndOfSession offset) fits = tt
-message_fits (AddExpanded offset id side quantity symbol price flags participant) (o, (i, (d, (q, (s, (p, (f, (t, u)))))))) =
+message_fits (messages.Executed offset id executed execution) fits = tt
+message_fits (messages.ExecutedAt offset id executed remaining execution price) (o, (i, (e, (r, others)))) = r
+message_fits (messages.ModifyLong offset id quantity price flags) (o, (i, (q, (p, f)))) = (q, p)
+message_fits (messages.ModifyShort offset id quantity price flags) (o, (i, (q, (p, f)))) = (omega (arith, q), omega (arith, p))
+message_fits (messages.AddExpanded offset id side quantity symbol price flags participant) (o, (i, (d, (q, (s, (p, (f, (t, u)))))))) =
     record { id = i; quantity = q; symbol = s.0; price = p; participant = t.0; symbol_bytes = s.1; participant_bytes = t.1 }
-message_fits (TradeExpanded offset id side quantity symbol price execution) fits = tt
-message_fits (TradingStatus offset symbol halt sho) (o, (s, (h, (r, others)))) = record { symbol = s.0; symbol_bytes = s.1; halt = h; sho = r }
-message_fits (UnitClear offset) fits = tt
-message_fits (Other raw) fits = tt
+message_fits (messages.TradingStatus offset symbol halt sho) (o, (s, (h, (r, others)))) = record { symbol = s.0; symbol_bytes = s.1; halt = h; sho = r }
+message_fits message fits = tt
 
 -- the statuses
 abbrev Statuses : Type 0
