@@ -1,8 +1,8 @@
 -- What holds of every hold, and how it is stored.
 use Rattle.std.specs.Prelude.{◌≡◌, ℕ, ◌≤◌, ◌<◌, refl, true}
-use Rattle.pitch_fields.specs.Limits.{last_sequence, most_held}
 use Rattle.std.specs.FinMap as map
 use Rattle.std.specs.Coded.{Coded, code_by, coded×, coded_ℕ, coded_list}
+use Rattle.pitch_fields.specs.Limits.{last_sequence, most_held}
 use Rattle.hold_buffer.specs.HoldView.{Held, HoldView}
 
 -- a hold is stored as its three parts

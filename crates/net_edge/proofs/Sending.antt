@@ -8,7 +8,7 @@ use Rattle.pitch_io.specs.Coming.{ListsCall}
 use Rattle.net_edge.specs.Acting.{scene_of}
 use Rattle.net_edge.specs.Breaking.{Breaks, BreaksOff}
 use Rattle.net_edge.specs.Demo.{IsDemo, BreaksDemo, AddsCalls}
-use Rattle.net_edge.specs.Playing.{SendsPiece, SendsPieces}
+use Rattle.net_edge.specs.Sending.{SendsPiece, SendsPieces}
 use Rattle.net_edge.specs.Due.{Setting}
 use Rattle.net_edge.specs.Playing.{calls_before}
 use Rattle.net_edge.specs.Scene.{Scene}

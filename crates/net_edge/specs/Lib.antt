@@ -8,3 +8,4 @@ pub mod Breaking
 pub mod Demo
 pub mod Sessions
 pub mod Playing
+pub mod Sending

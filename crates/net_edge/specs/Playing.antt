@@ -1,6 +1,4 @@
 -- What the code knows of a run that is under way. No caller needs it.
-use Rattle.pitch_text.specs.declared.verb.Session.{Session}
-use Rattle.world_model.specs.Verbs.{down_of}
 use Rattle.std.specs.Prelude.{◌≡◌, ◌≤◌, ℕ, Bool, true, false, not, ◌||◌, ◌&&◌, List, [], ◌∷◌, ◌++◌}
 use Rattle.std.specs.Prelude.{Option, None, Some, is_some, Result, OnOk, IfErr, OnErr}
 use Rattle.std.specs.Prelude.{if◌then◌else◌}
@@ -8,27 +6,30 @@ use Rattle.std.specs.List.{AllByRecursion}
 use Rattle.pitch_fields.specs.Fields.{AreBytes}
 use Rattle.pitch_io.specs.declared.line.Line.{Line}
 use Rattle.pitch_io.specs.declared.line.Line.TheVariants.{A, B, Gap}
-use Rattle.pitch_io.specs.declared.net.LinkEnd.TheVariants.{GrpServer, SpinServer}
+use Rattle.pitch_io.specs.declared.net.LinkEnd.TheVariants.{GrpServer, SpinServer, GrpClient}
+use Rattle.pitch_io.specs.declared.net.LinkEnd.TheVariants.{SpinClient}
 use Rattle.pitch_io.specs.declared.net.NetTaken.TheVariants.{Got}
 use Rattle.pitch_io.specs.declared.net.NetTaken.{NetTaken}
 use Rattle.pitch_io.specs.Causes.{Rose}
 use Rattle.pitch_io.specs.Nets.{Call, Begin}
 use Rattle.pitch_io.specs.declared.net.NetDone.TheVariants.{Done}
-use Rattle.pitch_model.specs.History.{Entry, Raw}
-use Rattle.pitch_model.specs.Honest.{Honest}
-use Rattle.pitch_model.specs.Image.{image}
+use Rattle.pitch_text.specs.declared.verb.Session.{Session}
 use Rattle.session_ends.specs.Closing.{Setup, closed_of}
 use Rattle.session_ends.specs.Ending.{Ending}
 use Rattle.session_ends.specs.Answering.{Answer}
 use Rattle.session_ends.specs.Events.{Event, Fed}
-use Rattle.grp_session.specs.Budget.{Spent, Counted}
-use Rattle.grp_session.specs.Serving.{Source, ProxyStands, proxy_answer}
+use Rattle.pitch_model.specs.History.{Entry, Raw}
+use Rattle.pitch_model.specs.Honest.{Honest}
+use Rattle.pitch_model.specs.Image.{image}
 use Rattle.spin_server.specs.Served.{Served}
 use Rattle.spin_server.specs.Serving.{Serving, SpinStands}
-use Rattle.spin_path.specs.Paths.{heard_all}
-use Rattle.client_links.specs.Linking.{Lookups, NoLookup, LinkStands, link_tells}
+use Rattle.grp_session.specs.Budget.{Spent, Counted}
+use Rattle.grp_session.specs.Serving.{Source, ProxyStands, proxy_answer}
 use Rattle.client_core.specs.Tracks.{Tracks, Keeps}
 use Rattle.client_core.specs.declared.client.UnitClient.{UnitClient}
+use Rattle.client_links.specs.Linking.{Lookups, NoLookup, LinkStands, link_tells}
+use Rattle.spin_path.specs.Paths.{heard_all}
+use Rattle.world_model.specs.Verbs.{down_of}
 use Rattle.world_model.specs.Ends.{grp_server, spin_server, gap_link, spin_link}
 use Rattle.world_model.specs.State.{Connection, Pipe, LooksIn}
 use Rattle.net_edge.specs.Acting.{scene_of, is_group_open, source_at, sent_on, end_puts, taken_at}
@@ -45,11 +46,18 @@ use Rattle.net_edge.specs.declared.error.DemoError.{DemoError}
 use Rattle.net_edge.specs.declared.error.DemoError.TheVariants as errors
 use Rattle.net_edge.specs.declared.ends.Ends.{Ends}
 use Rattle.net_edge.specs.declared.proxy.Proxy.{Proxy}
-use Rattle.pitch_io.specs.declared.net.LinkEnd.TheVariants.{GrpClient, SpinClient}
-use Rattle.std.specs.Prelude.{◌+◌}
-use Rattle.pitch_io.specs.Nets.{Send}
-use Rattle.heard_items.specs.Datagrams.{IsPiece}
-use Rattle.net_edge.specs.Demo.{all_messages}
+
+-- all that each end has said was put
+abbrev pub put_all : AtEnd → List ℕ → AtEnd
+put_all end said = record end { put = said }
+
+abbrev pub all_put : Scene → Scene
+all_put now = record now {
+  grp_client = put_all now.grp_client (said_at GrpClient now);
+  grp_server = put_all now.grp_server (said_at GrpServer now);
+  spin_client = put_all now.spin_client (said_at SpinClient now);
+  spin_server = put_all now.spin_server (said_at SpinServer now);
+}
 
 -- where it was a fault of the net, its count of faults rose
 abbrev pub RoseAtFault : ℕ → ℕ → DemoError → Type 0
@@ -399,27 +407,3 @@ pub record DoesDemo (s : Setting) (result : Result (Unit {0}) DemoError)
   pub broke : IfErr result (BreaksDemo s calls calls')
   pub counts : NetCounts result faults faults'
   pub err : OnErr result (text' ≡ text)
-
--- all that each end has said was put
-abbrev pub put_all : AtEnd → List ℕ → AtEnd
-put_all end said = record end { put = said }
-
-abbrev pub all_put : Scene → Scene
-all_put now = record now {
-  grp_client = put_all now.grp_client (said_at GrpClient now);
-  grp_server = put_all now.grp_server (said_at GrpServer now);
-  spin_client = put_all now.spin_client (said_at SpinClient now);
-  spin_server = put_all now.spin_server (said_at SpinServer now);
-}
-
--- what a call sends, if it sends something, has the venue's messages, at their sequences
-abbrev pub SendsPiece : Setting → Call → Type 0
-SendsPiece s (Send line datagram answer) = IsPiece (all_messages s) demo_unit datagram
-SendsPiece s call = Unit {0}
-
--- where the net lists its calls, some were added, and each of them that sends something sends a
--- piece
-abbrev pub SendsPieces : Setting → Option (List Call) → Option (List Call) → Type 0
-SendsPieces s (Some before) (Some after) =
-    (added : List Call) × (after ≡ added ++ before) × AllByRecursion (SendsPiece s) added
-SendsPieces s before after = Unit {0}

@@ -18,7 +18,7 @@ ghost use Rattle.world_model.specs.Ends.{the_account};
 ghost use Rattle.net_edge.specs.declared.error.DemoError.TheVariants as errors;
 ghost use Rattle.net_edge.specs.Breaking.{Breaks};
 ghost use Rattle.net_edge.specs.Demo.{IsDemo, IsLast, BreaksDemo};
-ghost use Rattle.net_edge.specs.Playing.{SendsPieces};
+ghost use Rattle.net_edge.specs.Sending.{SendsPieces};
 ghost use Rattle.net_edge.specs.Due.{Setting, setting, demo_unit, call_room, hold_limit};
 ghost use Rattle.net_edge.specs.Due.{kept_messages};
 ghost use Rattle.net_edge.specs.Markets.{SideAt};

@@ -14,9 +14,8 @@ use Rattle.pitch_tool.specs.declared.failure.Failure.{Failure}
 use Rattle.pitch_tool.specs.declared.failure.Failure.TheVariants.{BadInput, Read, Write}
 use Rattle.pitch_tool.specs.declared.failure.Failure.TheVariants.{OutOfMemory}
 use Rattle.pitch_tool.specs.declared.failure.Trouble.{Trouble}
-use Rattle.pitch_tool.specs.declared.failure.Trouble.TheVariants.{Blocks, SequencesSpent}
-use Rattle.pitch_tool.specs.declared.failure.Trouble.TheVariants.{Commands, Schedule}
-use Rattle.pitch_tool.specs.declared.failure.Trouble.TheVariants.{Audit}
+use Rattle.pitch_tool.specs.declared.failure.Trouble.TheVariants.{Blocks, SequencesSpent, Commands}
+use Rattle.pitch_tool.specs.declared.failure.Trouble.TheVariants.{Schedule, Audit}
 use Rattle.pitch_tool.specs.declared.failure.Failure.TheVariants as ending
 
 -- why a stream ended, as why the program ends

@@ -1,5 +1,5 @@
 -- The program: what it says, and how it ends.
-use Rattle.std.specs.Prelude.{◌≡◌, ◌≢◌, Bool, false, ℕ, List, ◌++◌, codes, Result, Ok, Err, ◌⊎◌}
+use Rattle.std.specs.Prelude.{◌≡◌, ◌≢◌, false, ℕ, List, ◌++◌, codes, Result, Ok, Err, ◌⊎◌}
 use Rattle.pitch_io.specs.Causes.{HasCause}
 use Rattle.pitch_words.specs.Forms.{IsForm}
 use Rattle.pitch_words.specs.declared.form.Form.{Form}

@@ -6,10 +6,9 @@ use Rattle.unit_packets.specs.Cutting.{blocks_of, rest_of, place_of, fault_from}
 use Rattle.unit_packets.specs.Judging.{judge}
 use Rattle.unit_packets.specs.Reading.{Reading}
 use Rattle.unit_packets.specs.declared.header.BlockError.{BlockError}
-use Rattle.session_ends.specs.declared.inbox.Heard.{Heard}
-use Rattle.session_ends.specs.Items.{messages_from, stream_items_from, trouble}
 use Rattle.unit_packets.specs.Pieces.{unread}
-use Rattle.session_ends.specs.Items.{stream_items}
+use Rattle.session_ends.specs.declared.inbox.Heard.{Heard}
+use Rattle.session_ends.specs.Items.{messages_from, stream_items_from, trouble, stream_items}
 use Rattle.session_ends.specs.Inboxes.{Inboxed, HasTaken}
 
 -- what bytes say that begin at a place: their blocks, and what breaks the stream behind them

@@ -1,10 +1,16 @@
 -- What became of a page and of a sink, in the words of a call's contract: each object stands there
 -- as it was before the call and after it, behind what it tells.
-use Rattle.std.specs.Prelude.{ℕ, List, Option}
+use Rattle.std.specs.Prelude.{ℕ, List, Option, ◌++◌}
 use Rattle.pitch_io.specs.Causes.{HasCause}
 use Rattle.stream_print.specs.Page.{Page, Prints, PrintsSuch}
 use Rattle.stream_print.specs.Putting.{PutsSome}
-use Rattle.std.specs.Prelude.{◌++◌}
+
+-- some prefix was written of what stood on the page and of a text of which this is true
+pub record PutsSuch (is : List ℕ → Type 0) (old : Option (List ℕ)) (before : List ℕ)
+    (new : Option (List ℕ)) : Type 0 where
+  pub text : List ℕ
+  pub puts : PutsSome old new (before ++ text)
+  pub such : is text
 
 -- a text was printed behind the page: some prefix of both was written, and the rest stands on the
 -- page
@@ -30,10 +36,3 @@ PutsPrefix written out out' text = PutsSome (written out) (written out') text
 -- the device counted a failure where the call tells of one, and its count never falls
 abbrev pub CountsFault : {T : Type 0} → (T → ℕ) → T → T → Type 0 → Type 0
 CountsFault faults device device' failed = HasCause (faults device) (faults device') failed
-
--- some prefix was written of what stood on the page and of a text of which this is true
-pub record PutsSuch (is : List ℕ → Type 0) (old : Option (List ℕ)) (before : List ℕ)
-    (new : Option (List ℕ)) : Type 0 where
-  pub text : List ℕ
-  pub puts : PutsSome old new (before ++ text)
-  pub such : is text

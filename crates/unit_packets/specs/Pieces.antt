@@ -1,6 +1,6 @@
 -- What feeding a piece does, and that it does not matter how a stream is cut into pieces.
 use Rattle.std.specs.Prelude.{◌≡◌, ℕ, true, List, [], ◌∷◌, ◌++◌, Option, None, Some, Result, Ok}
-use Rattle.std.specs.Prelude.{Err}
+use Rattle.std.specs.Prelude.{Err, take, drop, ◌+◌}
 use Rattle.std.specs.List.{concat}
 use Rattle.unit_packets.specs.Blocks.{Block}
 use Rattle.unit_packets.specs.Causes.{counted}
@@ -10,7 +10,22 @@ use Rattle.unit_packets.specs.declared.header.BlockFault.{BlockFault}
 use Rattle.unit_packets.specs.declared.block.FeedError.{FeedError}
 use Rattle.unit_packets.specs.declared.block.FeedError.TheVariants.{Fault, OutOfMemory}
 use Rattle.unit_packets.specs.Feeding.{fed_fault, kept_fault, StandsFor}
-use Rattle.std.specs.Prelude.{take, drop, ◌+◌}
+
+-- nothing was loaded yet
+abbrev pub unread : Reading
+unread = record { place = 0; rest = [] }
+
+-- one more piece of the stream is there
+abbrev pub loaded : Reading → List ℕ → Reading
+loaded reading piece = record { place = reading.place; rest = reading.rest ++ piece }
+
+-- the first n bytes of the rest were passed
+abbrev pub passed : Reading → ℕ → Reading
+passed reading n = record { place = counted (reading.place + n); rest = drop n reading.rest }
+
+-- of the rest only the first n bytes are kept
+abbrev pub kept : Reading → ℕ → Reading
+kept reading n = record { place = reading.place; rest = take n reading.rest }
 
 -- the fault of the bytes that were fed, where the stream ends with them
 abbrev pub ended_fault : List ℕ → Option BlockFault
@@ -76,19 +91,3 @@ PiecesDoNotMatter =
     → concat pieces ≡ concat others
     → FeedsAll pieces unread reading [] blocks → FeedsAll others unread left [] some
     → (blocks ≡ some) × (kept_fault reading ≡ kept_fault left)
-
--- nothing was loaded yet
-abbrev pub unread : Reading
-unread = record { place = 0; rest = [] }
-
--- one more piece of the stream is there
-abbrev pub loaded : Reading → List ℕ → Reading
-loaded reading piece = record { place = reading.place; rest = reading.rest ++ piece }
-
--- the first n bytes of the rest were passed
-abbrev pub passed : Reading → ℕ → Reading
-passed reading n = record { place = counted (reading.place + n); rest = drop n reading.rest }
-
--- of the rest only the first n bytes are kept
-abbrev pub kept : Reading → ℕ → Reading
-kept reading n = record { place = reading.place; rest = take n reading.rest }

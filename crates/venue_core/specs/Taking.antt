@@ -1,5 +1,6 @@
 -- What a venue that takes a message comes to.
 use Rattle.std.specs.Prelude.{◌≡◌, ℕ, ◌+◌, ◌<◌, ◌≤◌, Bool, false, List, [], ◌∷◌, ◌++◌, None, Some}
+use Rattle.std.specs.Prelude.{true, Option}
 use Rattle.std.specs.FinMap as map
 use Rattle.pitch_fields.specs.Fields.{AreBytes}
 use Rattle.pitch_fields.specs.Limits.{last_sequence}
@@ -9,7 +10,6 @@ use Rattle.pitch_model.specs.Book.{Book, after}
 use Rattle.venue_core.specs.Refusals.{reads_end}
 use Rattle.venue_core.specs.Waiting.{Waiting, Waits}
 use Rattle.venue_core.specs.Standing.{VenueState}
-use Rattle.std.specs.Prelude.{true, Option}
 
 -- the same with no message ready
 abbrev pub unready : VenueState → VenueState
