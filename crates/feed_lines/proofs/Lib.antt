@@ -1,5 +1,6 @@
 pub mod Pieces
 pub mod Behind
+pub mod Putting
 pub mod Texts
 mod Shown
 mod Followed

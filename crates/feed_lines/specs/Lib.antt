@@ -1,4 +1,5 @@
 pub mod Texts
+pub mod Puts
 pub mod StatusText
 pub mod BookText
 pub mod Follow

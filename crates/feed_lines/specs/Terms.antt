@@ -1,12 +1,7 @@
--- The terms of an order as a message shows them.
-use Rattle.std.specs.Prelude.{ℕ, Bool, true, false, List}
+-- Which messages have the terms of an order.
+use Rattle.std.specs.Prelude.{Bool, true, false}
 use Rattle.pitch_messages.specs.declared.message.Message.{Message}
 use Rattle.pitch_messages.specs.declared.message.Message.TheVariants as messages
-use Rattle.feed_lines.specs.Show.{terms_text}
-use Rattle.feed_lines.specs.declared.terms.Terms.{Terms}
-
-abbrev pub shown : Terms → List ℕ
-shown terms = terms_text terms.side terms.quantity terms.symbol terms.price
 
 -- adds and trades have terms
 abbrev pub has_terms : Message → Bool

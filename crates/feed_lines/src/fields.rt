@@ -1,176 +1,135 @@
-//! Fields of messages, each with its name, written into a buffer at an index.
+//! Fields of messages, each after its name, put into a buffer at an index. Each function answers
+//! where its field ends.
 
-ghost use Rattle.std.specs.Prelude.{◌≡◌, ◌≤◌, ◌+◌, ◌++◌, [], ◌∷◌, take, drop, length};
-ghost use Rattle.pitch_messages.specs.Raw.{IsRaw};
-ghost use Rattle.feed_lines.specs.Show.{number_field, head_text, price_text, flags_text, side_text};
-ghost use Rattle.feed_lines.specs.Show.{symbol_text, kind_text, extra_text, sequence_text};
-ghost use Rattle.feed_lines.specs.Terms.{shown};
+ghost use Rattle.std.specs.Prelude.{◌≤◌, ◌+◌, [], ◌∷◌, length, codes, decimal};
+ghost use Rattle.feed_lines.specs.Puts.{Puts};
+ghost use Rattle.feed_lines.specs.Show.{number_field, price_field, hex_field, side_text, text_field};
+ghost use Rattle.feed_lines.specs.Show.{symbol_text, word};
 
-use crate::terms::Terms;
 use pitch_fields::{
     Price, Side, Symbol, put_byte, put_hex, put_name, put_number, put_price, put_text,
 };
 
-/// Writes a number after its name.
+/// Puts a text.
 #[inline(always)]
-pub fn put_number_field(out: &mut [u8], at: usize, name: &[u8], value: u64) -> usize
-    requires { at + length name.now + 20 ≤ length out.old }
-    ensures end { result ≤ at + length name.now + 20 }
-    ensures text { take result out.new ≡ take at out.old ++ number_field name.now value }
-    ensures rest { drop result out.new ≡ drop result out.old }
-    ensures kept { length out.new ≡ length out.old }
+pub fn text(out: &mut [u8], at: usize, text: &[u8]) -> usize
+    requires { at + length text.now ≤ length out.old }
+    ensures { Puts (out.old, at) (out.new, result) (text.now ∷ []) (length text.now) }
 {
-    let named = put_text(out, at, name);
+    put_text(out, at, text)
+}
+
+/// Puts the word of a message.
+#[inline(always)]
+#[tactic(auto, unfolding(crate::specs::Show::word))]
+pub fn word(out: &mut [u8], at: usize, letters: &[u8]) -> usize
+    requires { at + length letters.now ≤ length out.old }
+    ensures { Puts (out.old, at) (out.new, result) (word letters.now ∷ []) (length letters.now) }
+{
+    text(out, at, letters)
+}
+
+/// Puts a number with no name.
+#[inline(always)]
+pub fn digits(out: &mut [u8], at: usize, value: u64) -> usize
+    requires { at + 20 ≤ length out.old }
+    ensures { Puts (out.old, at) (out.new, result) (decimal value ∷ []) 20 }
+{
+    put_number(out, at, value)
+}
+
+/// Puts a number.
+#[inline(always)]
+pub fn number(out: &mut [u8], at: usize, name: &[u8], value: u64) -> usize
+    requires { at + length name.now + 20 ≤ length out.old }
+    ensures { Puts (out.old, at) (out.new, result)
+        (number_field name.now value ∷ []) (length name.now + 20) }
+{
+    let named = text(out, at, name);
     put_number(out, named, value)
 }
 
-/// Writes a number of 32 bits after its name.
+/// Puts a number of 32 bits.
 #[inline(always)]
-pub fn put_count_field(out: &mut [u8], at: usize, name: &[u8], value: u32) -> usize
+pub fn count(out: &mut [u8], at: usize, name: &[u8], value: u32) -> usize
     requires { at + length name.now + 20 ≤ length out.old }
-    ensures end { result ≤ at + length name.now + 20 }
-    ensures text { take result out.new ≡ take at out.old ++ number_field name.now value }
-    ensures rest { drop result out.new ≡ drop result out.old }
-    ensures kept { length out.new ≡ length out.old }
+    ensures { Puts (out.old, at) (out.new, result)
+        (number_field name.now value ∷ []) (length name.now + 20) }
 {
-    put_number_field(out, at, name, u64::from(value))
+    number(out, at, name, u64::from(value))
 }
 
-/// Writes a number of 8 bits after its name.
-#[inline(always)]
-pub fn put_byte_field(out: &mut [u8], at: usize, name: &[u8], value: u8) -> usize
-    requires { at + length name.now + 20 ≤ length out.old }
-    ensures end { result ≤ at + length name.now + 20 }
-    ensures text { take result out.new ≡ take at out.old ++ number_field name.now value }
-    ensures rest { drop result out.new ≡ drop result out.old }
-    ensures kept { length out.new ≡ length out.old }
-{
-    put_number_field(out, at, name, u64::from(value))
-}
-
-/// Writes the name of a message, its offset and the id of its order.
-#[inline(always)]
-pub fn put_head(out: &mut [u8], at: usize, name: &[u8], offset: u32, id: u64) -> usize
-    requires { at + length name.now + 60 ≤ length out.old }
-    ensures end { result ≤ at + length name.now + 60 }
-    ensures text { take result out.new ≡ take at out.old ++ head_text name.now offset id }
-    ensures rest { drop result out.new ≡ drop result out.old }
-    ensures kept { length out.new ≡ length out.old }
-{
-    let named = put_text(out, at, name);
-    let placed = put_count_field(out, named, b" offset=", offset);
-    put_number_field(out, placed, b" id=", id)
-}
-
-/// Writes a price.
+/// Puts a price.
 #[inline]
-pub fn put_price_field(out: &mut [u8], at: usize, price: Price) -> usize
-    requires { at + 31 ≤ length out.old }
-    ensures end { result ≤ at + 31 }
-    ensures text { take result out.new ≡ take at out.old ++ price_text price }
-    ensures rest { drop result out.new ≡ drop result out.old }
-    ensures kept { length out.new ≡ length out.old }
+pub fn price(out: &mut [u8], at: usize, name: &[u8], price: Price) -> usize
+    requires { at + length name.now + 24 ≤ length out.old }
+    ensures { Puts (out.old, at) (out.new, result)
+        (price_field name.now price ∷ []) (length name.now + 24) }
 {
-    let named = put_text(out, at, b" price=");
+    let named = text(out, at, name);
     put_price(out, named, price)
 }
 
-/// Writes flags.
+/// Puts a byte in hexadecimal.
 #[inline]
-pub fn put_flags(out: &mut [u8], at: usize, flags: u8) -> usize
-    requires { at + 9 ≤ length out.old }
-    ensures end { result ≤ at + 9 }
-    ensures text { take result out.new ≡ take at out.old ++ flags_text flags }
-    ensures rest { drop result out.new ≡ drop result out.old }
-    ensures kept { length out.new ≡ length out.old }
+pub fn hex(out: &mut [u8], at: usize, name: &[u8], byte: u8) -> usize
+    requires { at + length name.now + 2 ≤ length out.old }
+    ensures { Puts (out.old, at) (out.new, result)
+        (hex_field name.now byte ∷ []) (length name.now + 2) }
 {
-    let named = put_text(out, at, b" flags=");
-    put_hex(out, named, flags)
+    let named = text(out, at, name);
+    put_hex(out, named, byte)
 }
 
-/// Writes the type of a raw.
+/// Puts a side.
 #[inline]
-pub fn put_kind(out: &mut [u8], at: usize, raw: &[u8]) -> usize
-    requires place { at + 8 ≤ length out.old }
-    requires raw { IsRaw raw.now }
-    ensures end { result ≤ at + 8 }
-    ensures text { take result out.new ≡ take at out.old ++ kind_text raw.now }
-    ensures rest { drop result out.new ≡ drop result out.old }
-    ensures kept { length out.new ≡ length out.old }
-{
-    let named = put_text(out, at, b" kind=");
-    put_hex(out, named, raw[1])
-}
-
-/// Writes a side.
-#[inline]
-pub fn put_side(out: &mut [u8], at: usize, side: Side) -> usize
+pub fn side(out: &mut [u8], at: usize, side: Side) -> usize
     requires { at + 7 ≤ length out.old }
-    ensures end { result ≤ at + 7 }
-    ensures text { take result out.new ≡ take at out.old ++ side_text side }
-    ensures rest { drop result out.new ≡ drop result out.old }
-    ensures kept { length out.new ≡ length out.old }
+    ensures { Puts (out.old, at) (out.new, result) (side_text side ∷ []) 7 }
 {
-    let named = put_text(out, at, b" side=");
+    let named = text(out, at, b" side=");
     put_byte(out, named, side.byte())
 }
 
-/// Writes a symbol.
+/// Puts bytes that are text.
 #[inline]
-pub fn put_symbol(out: &mut [u8], at: usize, symbol: Symbol) -> usize
+fn name(out: &mut [u8], at: usize, name: &[u8], bytes: &[u8]) -> usize
+    requires place { at + length name.now + 32 ≤ length out.old }
+    requires short { length bytes.now ≤ 8 }
+    ensures { Puts (out.old, at) (out.new, result)
+        (text_field name.now bytes.now ∷ []) (length name.now + 32) }
+{
+    let named = text(out, at, name);
+    put_name(out, named, bytes)
+}
+
+/// Puts a symbol.
+#[inline]
+#[tactic(auto, unfolding(crate::specs::Show::symbol_text))]
+pub fn symbol(out: &mut [u8], at: usize, symbol: Symbol) -> usize
     requires { at + 40 ≤ length out.old }
-    ensures end { result ≤ at + 40 }
-    ensures text { take result out.new ≡ take at out.old ++ symbol_text symbol }
-    ensures rest { drop result out.new ≡ drop result out.old }
-    ensures kept { length out.new ≡ length out.old }
+    ensures { Puts (out.old, at) (out.new, result) (symbol_text symbol ∷ []) 40 }
 {
-    let named = put_text(out, at, b" symbol=");
     let bytes = symbol.bytes();
-    put_name(out, named, &bytes)
+    name(out, at, b" symbol=", &bytes)
 }
 
-/// Writes the terms of an order.
+/// Puts a participant.
 #[inline]
-pub fn put_terms(out: &mut [u8], at: usize, terms: Terms) -> usize
-    requires { at + 120 ≤ length out.old }
-    ensures end { result ≤ at + 120 }
-    ensures text { take result out.new ≡ take at out.old ++ shown terms }
-    ensures rest { drop result out.new ≡ drop result out.old }
-    ensures kept { length out.new ≡ length out.old }
+pub fn participant(out: &mut [u8], at: usize, participant: [u8; 4]) -> usize
+    requires { at + 45 ≤ length out.old }
+    ensures { Puts (out.old, at) (out.new, result)
+        (text_field (codes " participant=") participant ∷ []) 45 }
 {
-    let sided = put_side(out, at, terms.side);
-    let counted = put_count_field(out, sided, b" quantity=", terms.quantity);
-    let listed = put_symbol(out, counted, terms.symbol);
-    put_price_field(out, listed, terms.price)
+    name(out, at, b" participant=", &participant)
 }
 
-/// Writes how many bytes a message has beyond those that its type needs, where it has any.
+/// Puts one byte that is text.
 #[inline]
-pub fn put_extra(out: &mut [u8], at: usize, extra: usize) -> usize
-    requires { at + 27 ≤ length out.old }
-    ensures end { result ≤ at + 27 }
-    ensures text { take result out.new ≡ take at out.old ++ extra_text extra }
-    ensures rest { drop result out.new ≡ drop result out.old }
-    ensures kept { length out.new ≡ length out.old }
+pub fn letter(out: &mut [u8], at: usize, called: &[u8], byte: u8) -> usize
+    requires { at + length called.now + 32 ≤ length out.old }
+    ensures { Puts (out.old, at) (out.new, result)
+        (text_field called.now (byte ∷ []) ∷ []) (length called.now + 32) }
 {
-    if extra == 0 {
-        return at;
-    }
-    put_number_field(out, at, b" extra=", extra as u64)
-}
-
-/// Writes the sequence of a message, or a dash where it has none.
-#[inline]
-pub fn put_sequence(out: &mut [u8], at: usize, sequence: u32) -> usize
-    requires { at + 20 ≤ length out.old }
-    ensures end { result ≤ at + 20 }
-    ensures text { take result out.new ≡ take at out.old ++ sequence_text sequence }
-    ensures rest { drop result out.new ≡ drop result out.old }
-    ensures kept { length out.new ≡ length out.old }
-{
-    if sequence == 0 {
-        put_byte(out, at, b'-')
-    } else {
-        put_number(out, at, u64::from(sequence))
-    }
+    name(out, at, called, &[byte])
 }

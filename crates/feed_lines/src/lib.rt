@@ -9,13 +9,11 @@ mod fields;
 pub mod laws;
 mod lines;
 mod messages;
-mod terms;
 mod unit_line;
 
-pub use crate::fields::put_number_field;
 pub use crate::lines::{
-    LINE, put_block_line, put_book_head, put_order_line, put_overflow, put_shown_head, put_status,
-    put_status_line,
+    LINE, put_block_line, put_book_head, put_number_field, put_order_line, put_overflow,
+    put_shown_head, put_status, put_status_line,
 };
 pub use crate::messages::{next_after, put_message_line};
 pub use crate::unit_line::{append_unit_line, put_unit_line};

@@ -6,10 +6,11 @@ ghost use Rattle.feed_lines.specs.BookText.{hidden_text, participant_text, secon
 ghost use Rattle.feed_lines.specs.BookText.{order_tail, order_line, status_line, book_place};
 ghost use Rattle.feed_lines.specs.BookText.{book_head};
 ghost use Rattle.feed_lines.specs.Follow.{block_line, overflow_text};
-ghost use Rattle.feed_lines.specs.Show.{shown_head};
+ghost use Rattle.feed_lines.specs.Show.{number_field, shown_head};
 ghost use Rattle.feed_lines.specs.StatusText.{status_text};
 ghost use Rattle.feed_lines.specs.Texts.{block_head};
 
+use crate::fields;
 use pitch_fields::{is_blank, put_byte, put_name, put_number, put_price, put_text};
 use pitch_messages::{Order, TradingState};
 use pitch_model::Status;
@@ -17,6 +18,18 @@ use unit_packets::Header;
 
 /// How many bytes a line has at most.
 pub const LINE: usize = 512;
+
+/// Writes a number after its name.
+#[inline(always)]
+pub fn put_number_field(out: &mut [u8], at: usize, name: &[u8], value: u64) -> usize
+    requires { at + length name.now + 20 ≤ length out.old }
+    ensures end { result ≤ at + length name.now + 20 }
+    ensures text { take result out.new ≡ take at out.old ++ number_field name.now value }
+    ensures rest { drop result out.new ≡ drop result out.old }
+    ensures kept { length out.new ≡ length out.old }
+{
+    fields::number(out, at, name, value)
+}
 
 // Writes how the line of a block begins.
 fn put_block_head(out: &mut [u8], at: usize, number: u64, header: Header) -> usize

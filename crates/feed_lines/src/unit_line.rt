@@ -5,8 +5,7 @@ ghost use Rattle.std.specs.Prelude.{OnErr};
 ghost use Rattle.feed_lines.specs.LineSize.{line_size};
 ghost use Rattle.feed_lines.specs.UnitLine.{unit_line};
 
-use crate::fields::put_number_field;
-use crate::lines::{LINE, put_status};
+use crate::lines::{LINE, put_number_field, put_status};
 use pitch_fields::{OutOfMemory, put_byte, put_text};
 use pitch_model::Status;
 

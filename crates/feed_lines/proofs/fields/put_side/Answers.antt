@@ -1,7 +1,0 @@
-use Rattle.std.proofs.Common.{arith}
-use Rattle.feed_lines.proofs.Behind.{left_behind}
-use Rattle.feed_lines.proofs.fields.put_side.Goals as goal
-
-pub returns-clause-rest : goal.returns-clause-rest
-returns-clause-rest c =
-    left_behind _ _ _ _ _ _ c.put_byte.ensures.rest c.put_byte.ensures.text (omega arith) c.put_text-named.ensures.rest
