@@ -17,8 +17,6 @@ use Rattle.pitch_model.specs.Image.{image}
 use Rattle.pitch_fields.specs.Fields.{AreBytes}
 use Rattle.venue_core.specs.Commands.{raw_of}
 use Rattle.venue_core.specs.Refusals.{refusal, IsAnswer}
-use Rattle.venue_core.specs.Standing.{VenueState}
-use Rattle.venue_core.specs.Stands.{Stands as VenueStands, last_of}
 use Rattle.venue_core.specs.declared.error.VenueError.{VenueError}
 use Rattle.venue_core.specs.declared.error.VenueError.TheVariants as errors
 use Rattle.client_core.specs.Tracks.{Tracks, Keeps}
@@ -30,16 +28,14 @@ use Rattle.spin_path.specs.PathLaws.{HasWholeImages}
 use Rattle.world_model.specs.Witness.{Witnessed}
 use Rattle.world_model.proofs.Witness.{accepted_more, hears_blocks, whole}
 use Rattle.world_model.proofs.HeardBlocks.{overflow_step}
-use Rattle.world_model.specs.Stands.{WorldHas, Keeping, WorldStands}
+use Rattle.unit_market.specs.Markets.{MarketHas}
+use Rattle.unit_market.specs.Standing.{MarketState}
+use Rattle.world_model.specs.Stands.{WorldHas, WorldStands}
 use Rattle.world_model.specs.Steps.{Acts, Marks, Passes}
 use Rattle.world_model.specs.State.{State, Connection, datagrams_on, passed_on, passed_to}
 use Rattle.world_model.specs.Verbs.{Done, done, does, state_of, commanded_on, commanded, flushed, beaten, numbered, delivered, delivered_on, rest_delivered, hears, up_to, budget_ticks}
 use Rattle.grp_session.specs.Budget as budget
 use Rattle.grp_session.specs.Budget.{Counts, Counted, Spent}
-use Rattle.gap_store.specs.Look.{Store, View, store_of}
-use Rattle.spin_server.specs.Shelves.{Shelf}
-use Rattle.pitch_model.specs.Advertising.{Operation, Accept, accepted_by, advertised_by}
-use Rattle.spin_server.specs.Stands.{ShelfStands}
 use Rattle.grp_session.specs.Serving.{Source}
 use Rattle.spin_server.specs.Served.{Served}
 use Rattle.session_ends.specs.Ending.{Ending}
@@ -94,11 +90,11 @@ sound_accepted unit s raw sound = record {
 }
 
 pub images_whole : (w : World) (s : State) → WorldHas w s → HasWholeImages s.accepted s.heard
-images_whole w s has = whole w.unit s.accepted s.spin s.heard (record { bytes = has.venue.bytes; top = has.venue.few }) has.sound.witness
+images_whole w s has = whole w.unit s.accepted s.spin s.heard (record { bytes = has.market.venue.bytes; top = has.market.venue.few }) has.sound.witness
 
 -- the messages are a feed, and what was heard is honest
 pub honest_of : (w : World) (s : State) → WorldHas w s → (c : Option (Connection (List Served))) (E : List Entry) → Witnessed w.unit s.accepted c E → Honest image s.accepted E
-honest_of w s has c E came = (whole w.unit s.accepted c E (record { bytes = has.venue.bytes; top = has.venue.few }) came).honest
+honest_of w s has c E came = (whole w.unit s.accepted c E (record { bytes = has.market.venue.bytes; top = has.market.venue.few }) came).honest
 
 -- the reach is within the venue's messages
 pub reached_within : (w : World) (s : State) → WorldHas w s → w.client.hold.floor ≤ length s.accepted
@@ -118,47 +114,18 @@ some_where_err (Some cause) sequence error h other = ap Some (sym (same h))
     same : ◌≡◌ {A = Result ℕ VenueError} (Err error) (Err cause) → error ≡ cause
     same e = cc
 
-slice_later : (xs ys : List Raw) (i : ℕ) → slice_get (xs ++ ys) (length xs + i) ≡ slice_get ys i
-slice_later [] ys i = let e : 0 + i ≡ i = omega arith in ap (slice_get ys) e
-slice_later (x ∷ xs) ys i = let e : length (x ∷ xs) + i ≡ suc (length xs + i) = omega arith in ap (slice_get (x ∷ (xs ++ ys))) e ∙ slice_later xs ys i
-
-last_there : (V : List Raw) (raw : Raw) → last_of (V ++ raw ∷ []) ≡ Some raw
-last_there V raw =
-    let l = length-append V (raw ∷ []) in
-    let e : length (V ++ raw ∷ []) - 1 ≡ length V + 0 = omega (arith, l) in
-    ap (slice_get (V ++ raw ∷ [])) e ∙ slice_later V (raw ∷ []) 0
-
-pub acts_accepted : (w : World) (venue : VenueState) (store : Store) (shelf : Shelf) (acted : Acted) (command : Command) (s : State) (n : ℕ) → WorldHas w s
-    → IsAnswer (refusal s.accepted command) (length s.accepted + 1) (Ok n) → VenueStands venue (s.accepted ++ raw_of command ∷ []) s.flushed → venue.unit ≡ w.venue.unit
-    → ((accepted : List Raw) (sent : ℕ) (raw : Raw) (v : View) → VenueStands venue accepted sent → last_of accepted ≡ Some raw → w.store ≡ store_of v → store ≡ store_of (record { messages = v.messages ++ raw ∷ []; kept = v.kept }))
-    → ((accepted : List Raw) (sent : ℕ) (raw : Raw) (operations : List Operation) → VenueStands venue accepted sent → last_of accepted ≡ Some raw → ShelfStands w.shelf operations → ShelfStands shelf (operations ++ Accept raw ∷ []))
-    → ((client : UnitClient) (V more : List Raw) → client.hold.floor ≤ length V → Keeps client V → Keeps client (V ++ more))
-    → ((operations : List Operation) (raw : Raw) → (accepted_by (operations ++ Accept raw ∷ []) ≡ accepted_by operations ++ raw ∷ []) × (advertised_by (operations ++ Accept raw ∷ []) ≡ advertised_by operations))
-    → acted ≡ calm_of (outcome.Accepted n)
-    → Acts w (record w { venue = venue; store = store; shelf = shelf }) acted s (commanded command s)
-acts_accepted w venue store shelf acted command s n has answer stands unit stored shelved keeping adds calm =
+pub acts_accepted : (w : World) (market : MarketState) (acted : Acted) (command : Command) (s : State) (n : ℕ) → WorldHas w s → IsAnswer (refusal s.accepted command) (length s.accepted + 1) (Ok n)
+    → MarketHas market w.unit w.limits.kept (s.accepted ++ raw_of command ∷ []) s.flushed s.advertised → ((client : UnitClient) (V more : List Raw) → client.hold.floor ≤ length V → Keeps client V → Keeps client (V ++ more)) → acted ≡ calm_of (outcome.Accepted n)
+    → Acts w (record w { market = market }) acted s (commanded command s)
+acts_accepted w market acted command s n has answer accepted keeping calm =
     let found = none_where_ok (refusal s.accepted command) (length s.accepted + 1) n answer in
     let raw = raw_of command in
-    let there = last_there s.accepted raw in
-    let old = has.kept.shelf_is in
-    let kept : Keeping store w.budget shelf w.limits (s.accepted ++ raw ∷ []) s.spent s.advertised = record {
-      store_is = stored (s.accepted ++ raw ∷ []) s.flushed raw (record { messages = s.accepted; kept = w.limits.kept }) stands there has.kept.store_is;
-      limits_are = has.kept.limits_are;
-      counted = has.kept.counted;
-      shelf_is = record {
-        operations = old.operations ++ Accept raw ∷ [];
-        accepted_is = (adds old.operations raw).0 ∙ ap (λ (l : List Raw). l ++ raw ∷ []) old.accepted_is;
-        advertised_is = (adds old.operations raw).1 ∙ old.advertised_is;
-        stands = shelved (s.accepted ++ raw ∷ []) s.flushed raw old.operations stands there old.stands;
-      };
-    } in
-    subst (λ (o : Option VenueError). Acts w (record w { venue = venue; store = store; shelf = shelf }) acted s (commanded_on o command s)) (sym found.0)
-    (calm_acts w (record w { venue = venue; store = store; shelf = shelf }) acted (outcome.Accepted n) s (commanded_on None command s) refl refl calm (ap outcome.Accepted found.1) refl
+    subst (λ (o : Option VenueError). Acts w (record w { market = market }) acted s (commanded_on o command s)) (sym found.0)
+    (calm_acts w (record w { market = market }) acted (outcome.Accepted n) s (commanded_on None command s) refl refl calm (ap outcome.Accepted found.1) refl
     (record {
       begun = has.begun;
-      venue_unit = unit ∙ has.venue_unit;
-      venue = stands;
-      kept = kept;
+      market = accepted;
+      budget = has.budget;
       sent = has.sent;
       replayed = has.replayed;
       passed = has.passed;
@@ -170,13 +137,28 @@ acts_accepted w venue store shelf acted command s n has answer stands unit store
       sound = sound_accepted w.unit s raw has.sound;
     }))
 
-pub acts_refused : (w : World) (venue : VenueState) (acted : Acted) (command : Command) (s : State) (error : VenueError) → WorldHas w s
-    → IsAnswer (refusal s.accepted command) (length s.accepted + 1) (Err error) → (error ≡ errors.OutOfMemory → ⊥) → venue ≡ w.venue → acted ≡ calm_of (outcome.Refused error)
-    → Acts w (record w { venue = venue }) acted s (commanded command s)
-acts_refused w venue acted command s error has answer other same calm =
-    subst (λ (o : Option VenueError). Acts w (record w { venue = venue }) acted s (commanded_on o command s)) (sym (some_where_err (refusal s.accepted command) (length s.accepted + 1) error answer other))
-    (subst (λ (v : VenueState). Acts w (record w { venue = v }) acted s (commanded_on (Some error) command s)) (sym same)
-    (calm_acts w w acted (outcome.Refused error) s (commanded_on (Some error) command s) refl refl calm refl refl has))
+-- another market has the same
+with_market : (w : World) (market : MarketState) (s : State) → WorldHas w s → MarketHas market w.unit w.limits.kept s.accepted s.flushed s.advertised → WorldHas (record w { market = market }) s
+with_market w market s has is = record {
+  begun = has.begun;
+  market = is;
+  budget = has.budget;
+  sent = has.sent;
+  replayed = has.replayed;
+  passed = has.passed;
+  tracks = has.tracks;
+  keeps = has.keeps;
+  noted = has.noted;
+  grp = has.grp;
+  spin = has.spin;
+  sound = has.sound;
+}
+
+pub acts_refused : (w : World) (market : MarketState) (acted : Acted) (command : Command) (s : State) (error : VenueError) → WorldHas w s → IsAnswer (refusal s.accepted command) (length s.accepted + 1) (Err error) → (error ≡ errors.OutOfMemory → ⊥)
+    → MarketHas market w.unit w.limits.kept s.accepted s.flushed s.advertised → acted ≡ calm_of (outcome.Refused error) → Acts w (record w { market = market }) acted s (commanded command s)
+acts_refused w market acted command s error has answer other same calm =
+    subst (λ (o : Option VenueError). Acts w (record w { market = market }) acted s (commanded_on o command s)) (sym (some_where_err (refusal s.accepted command) (length s.accepted + 1) error answer other))
+    (calm_acts w (record w { market = market }) acted (outcome.Refused error) s (commanded_on (Some error) command s) refl refl calm refl refl (with_market w market s has same))
 
 -- ---- What goes out on both lines
 pub length_bytes : (lists : List (Roomy ℕ)) → length (bytes_in lists) ≡ length lists
@@ -197,14 +179,13 @@ copied_count before after copied count are many =
     omega (arith, sum, length-append (bytes_in before) (bytes_in copied), length_bytes before, length_bytes after, length_bytes copied, many)
 
 -- datagrams that are pieces were sent; so many of the messages are then sent
-has_sent : (w : World) (venue : VenueState) (sent : Roomy (Roomy ℕ)) (s : State) (flushed : ℕ) (datagrams : List (List ℕ)) → WorldHas w s → VenueStands venue s.accepted flushed → venue.unit ≡ w.venue.unit
+has_sent : (w : World) (market : MarketState) (sent : Roomy (Roomy ℕ)) (s : State) (flushed : ℕ) (datagrams : List (List ℕ)) → WorldHas w s → MarketHas market w.unit w.limits.kept s.accepted flushed s.advertised
     → bytes_in sent.items ≡ bytes_in w.sent.items ++ datagrams → AllByRecursion (IsPiece s.accepted w.unit) datagrams
-    → WorldHas (record w { venue = venue; sent = sent }) (record s { flushed = flushed; sent = s.sent ++ datagrams })
-has_sent w venue sent s flushed datagrams has stands unit are pieces = record {
+    → WorldHas (record w { market = market; sent = sent }) (record s { flushed = flushed; sent = s.sent ++ datagrams })
+has_sent w market sent s flushed datagrams has is are pieces = record {
   begun = has.begun;
-  venue_unit = unit ∙ has.venue_unit;
-  venue = stands;
-  kept = has.kept;
+  market = is;
+  budget = has.budget;
   sent = are ∙ ap (λ (ds : List (List ℕ)). ds ++ datagrams) has.sent;
   replayed = has.replayed;
   passed = has.passed;
@@ -220,36 +201,30 @@ has_sent w venue sent s flushed datagrams has stands unit are pieces = record {
   };
 }
 
-pub acts_flushed : (w : World) (venue : VenueState) (sent : Roomy (Roomy ℕ)) (acted : Acted) (s : State) (count : ℕ) → WorldHas w s
-    → bytes_in sent.items ≡ bytes_in w.sent.items ++ packed w.venue.unit (s.flushed + 1) (drop s.flushed s.accepted)
-    → AllByRecursion (IsPiece s.accepted w.venue.unit) (packed w.venue.unit (s.flushed + 1) (drop s.flushed s.accepted))
-    → length sent.items ≡ length w.sent.items + count → VenueStands venue s.accepted (length s.accepted) → venue.unit ≡ w.venue.unit → acted ≡ calm_of (outcome.Sent count)
-    → Acts w (record w { venue = venue; sent = sent }) acted s (flushed w.unit s)
-acts_flushed w venue sent acted s count has bytes all counted stands unit calm =
-    let V : List Raw = s.accepted in
-    let out : ℕ → List (List ℕ) = λ u. packed u (s.flushed + 1) (drop s.flushed V) in
-    let are : bytes_in sent.items ≡ bytes_in w.sent.items ++ out w.unit = bytes ∙ ap (λ (u : ℕ). bytes_in w.sent.items ++ out u) has.venue_unit in
-    let pieces : AllByRecursion (IsPiece V w.unit) (out w.unit) = subst (λ (u : ℕ). AllByRecursion (IsPiece V u) (out u)) has.venue_unit all in
+pub acts_flushed : (w : World) (market : MarketState) (sent : Roomy (Roomy ℕ)) (acted : Acted) (s : State) (count : ℕ) → WorldHas w s
+    → bytes_in sent.items ≡ bytes_in w.sent.items ++ packed w.unit (s.flushed + 1) (drop s.flushed s.accepted)
+    → AllByRecursion (IsPiece s.accepted w.unit) (packed w.unit (s.flushed + 1) (drop s.flushed s.accepted))
+    → length sent.items ≡ length w.sent.items + count → MarketHas market w.unit w.limits.kept s.accepted (length s.accepted) s.advertised → acted ≡ calm_of (outcome.Sent count)
+    → Acts w (record w { market = market; sent = sent }) acted s (flushed w.unit s)
+acts_flushed w market sent acted s count has are pieces counted is calm =
+    let out : List (List ℕ) = packed w.unit (s.flushed + 1) (drop s.flushed s.accepted) in
     let one = length_bytes sent.items in
     let two = length_bytes w.sent.items in
     let sum = ap (λ (ds : List (List ℕ)). length ds) are in
-    let split = length-append (bytes_in w.sent.items) (out w.unit) in
-    let number : count ≡ length (out w.unit) = omega (arith, one, two, sum, split, counted) in
-    calm_acts w (record w { venue = venue; sent = sent }) acted (outcome.Sent count) s (flushed w.unit s) refl refl calm (ap outcome.Sent number) refl
-    (has_sent w venue sent s (length V) (out w.unit) has stands unit are pieces)
+    let split = length-append (bytes_in w.sent.items) out in
+    let number : count ≡ length out = omega (arith, one, two, sum, split, counted) in
+    calm_acts w (record w { market = market; sent = sent }) acted (outcome.Sent count) s (flushed w.unit s) refl refl calm (ap outcome.Sent number) refl
+    (has_sent w market sent s (length s.accepted) out has is are pieces)
 
 pub acts_beaten : (w : World) (sent : Roomy (Roomy ℕ)) (list : Roomy ℕ) (beat : List ℕ) (acted : Acted) (s : State) → WorldHas w s
-    → sent.items ≡ w.sent.items ++ list ∷ [] → list.items ≡ beat → beat ≡ block_bytes (heartbeat_block w.venue.unit (s.flushed + 1)) → IsPiece s.accepted w.venue.unit beat → acted ≡ calm_of (outcome.Sent 1)
+    → sent.items ≡ w.sent.items ++ list ∷ [] → list.items ≡ beat → beat ≡ block_bytes (heartbeat_block w.unit (s.flushed + 1)) → IsPiece s.accepted w.unit beat → acted ≡ calm_of (outcome.Sent 1)
     → Acts w (record w { sent = sent }) acted s (beaten w.unit s)
 acts_beaten w sent list beat acted s has given bytes is piece calm =
     let out : List (List ℕ) = block_bytes (heartbeat_block w.unit (s.flushed + 1)) ∷ [] in
-    let beat_is : beat ≡ block_bytes (heartbeat_block w.unit (s.flushed + 1)) = is ∙ ap (λ (u : ℕ). block_bytes (heartbeat_block u (s.flushed + 1))) has.venue_unit in
-    let there : list.items ≡ block_bytes (heartbeat_block w.unit (s.flushed + 1)) = bytes ∙ beat_is in
     let are : bytes_in sent.items ≡ bytes_in w.sent.items ++ out =
-    ap (λ (l : List (Roomy ℕ)). bytes_in l) given ∙ map-append (λ (l : Roomy ℕ). l.items) w.sent.items (list ∷ []) ∙ ap (λ (b : List ℕ). bytes_in w.sent.items ++ b ∷ []) there in
-    let whole_piece : IsPiece s.accepted w.unit (block_bytes (heartbeat_block w.unit (s.flushed + 1))) = subst (IsPiece s.accepted w.unit) beat_is (subst (λ (u : ℕ). IsPiece s.accepted u beat) has.venue_unit piece) in
+    ap (λ (l : List (Roomy ℕ)). bytes_in l) given ∙ map-append (λ (l : Roomy ℕ). l.items) w.sent.items (list ∷ []) ∙ ap (λ (b : List ℕ). bytes_in w.sent.items ++ b ∷ []) (bytes ∙ is) in
     calm_acts w (record w { sent = sent }) acted (outcome.Sent 1) s (beaten w.unit s) refl refl calm refl refl
-    (has_sent w w.venue sent s s.flushed out has has.venue refl are (whole_piece, tt))
+    (has_sent w w.market sent s s.flushed out has has.market are (subst (IsPiece s.accepted w.unit) is piece, tt))
 
 -- ---- What was heard overflowed
 marks_bits : (b : Bool) (r : ℕ) (x : Bool) → (ltb 0 r || (b || x)) ≡ (ltb 0 (cond b 1 0 + r) || x)
@@ -332,9 +307,8 @@ acts_heard w client arbiter passed acted overflow s line number n blocks has hea
       overflow_is = ap (λ (a : Acted). a.overflow) is ∙ heard.overflow_is H s.heard has.tracks ∙ marked H s.heard (heard_blocks blocks s.heard) (overflow_in H blocks s.heard) (marks_blocks H blocks s.heard);
       has = record {
         begun = has.begun;
-        venue_unit = has.venue_unit;
-        venue = has.venue;
-        kept = has.kept;
+        market = has.market;
+        budget = has.budget;
         sent = has.sent;
         replayed = has.replayed;
         passed = behind ∙ ap (passed_to line number) has.passed;
@@ -371,9 +345,8 @@ JoinedOf Spin = Joined Serving SpinPeer
 pub with_grp : (w : World) (grp : Option (JoinedOf Grp)) (s : State) (g : Option (Connection Source)) → WorldHas w s → HasGrp grp w.unit g → WorldHas (record w { grp = grp }) (record s { grp = g })
 with_grp w grp s g has is = record {
   begun = has.begun;
-  venue_unit = has.venue_unit;
-  venue = has.venue;
-  kept = has.kept;
+  market = has.market;
+  budget = has.budget;
   sent = has.sent;
   replayed = has.replayed;
   passed = has.passed;
@@ -388,9 +361,8 @@ with_grp w grp s g has is = record {
 pub with_budget : (w : World) (counter : Counts) (s : State) → WorldHas w s → counter.limits ≡ w.budget.limits → ((p : Spent) → Counted w.budget p → Counted counter (budget.next_second p)) → WorldHas (record w { budget = counter }) (budget_ticks s)
 with_budget w counter s has limited counts = record {
   begun = has.begun;
-  venue_unit = has.venue_unit;
-  venue = has.venue;
-  kept = record { store_is = has.kept.store_is; limits_are = limited ∙ has.kept.limits_are; counted = counts s.spent has.kept.counted; shelf_is = has.kept.shelf_is };
+  market = has.market;
+  budget = record { limits_are = limited ∙ has.budget.limits_are; counted = counts s.spent has.budget.counted };
   sent = has.sent;
   replayed = has.replayed;
   passed = has.passed;
@@ -407,9 +379,8 @@ pub with_spin : (w : World) (client : UnitClient) (spin : Option (JoinedOf Spin)
     → Witnessed w.unit s.accepted g E → WorldHas (record w { client = client; spin = spin }) (record s { spin = g; heard = E })
 with_spin w client spin s g E has is tracks keeps came = record {
   begun = has.begun;
-  venue_unit = has.venue_unit;
-  venue = has.venue;
-  kept = has.kept;
+  market = has.market;
+  budget = has.budget;
   sent = has.sent;
   replayed = has.replayed;
   passed = has.passed;
@@ -494,9 +465,8 @@ acts_rest w client arbiter passed acted overflow s line all n lists rest has are
 begun_has : (w : World) (s : State) → WorldHas w s → WorldHas (record w { begun = true }) (record s { begun = true })
 begun_has w s has = record {
   begun = refl;
-  venue_unit = has.venue_unit;
-  venue = has.venue;
-  kept = has.kept;
+  market = has.market;
+  budget = has.budget;
   sent = has.sent;
   replayed = has.replayed;
   passed = has.passed;

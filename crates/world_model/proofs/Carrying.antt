@@ -45,7 +45,7 @@ pub carried_up : {P : Type 0} (old new : Joined Ending P) (unit : ℕ) (limits :
     → n ≤ length old.up → piece ≡ take n old.up → none ≡ [] → nothing ≡ []
     → new.up ≡ drop n old.up → new.down ≡ old.down ++ said → after ≡ before ++ packed → new.link ≡ old.link → new.server.setup ≡ old.server.setup → store' ≡ store → counter'.limits ≡ counter.limits
     → ProxyFeeds k.server piece old.server new.server true counter.limits s.spent (record { messages = s.accepted; kept = limits.kept }) (Counted counter') (λ v. store' ≡ store_of v) none said nothing packed
-    → CarriedUp unit limits s n k new store store' counter counter' before after
+    → CarriedUp unit limits s n k new counter' before after
 carried_up old new unit limits s k n piece store store' counter counter' none said nothing packed before after one is stored limited few piece_is no_said no_lines rest put appended link setup still counts feeds =
     let view : View = record { messages = s.accepted; kept = limits.kept } in
     let es : List (Event Source) = k.server in
@@ -70,9 +70,7 @@ carried_up old new unit limits s k n piece store store' counter counter' none sa
         up = subst (λ (b : List ℕ). IsPipe b (took n k.up)) (sym rest) (piped_taken old.up n k.up is.up few);
         down = subst (λ (b : List ℕ). IsPipe b (put_in (grp_says unit (Fed P (source_of limits s es P)) es) k.down)) (sym replied) (piped_put old.down _ k.down is.down);
       };
-      store_is = still;
-      limits_are = counts;
-      counted = subst (λ (m : Setup). Counted counter' (answer m).knows) is.server.made there.counts;
+      counts = record { limits_are = counts ∙ limited; counted = subst (λ (m : Setup). Counted counter' (answer m).knows) is.server.made there.counts };
       lined = appended ∙ ap (λ (ds : List (List ℕ)). before ++ ds) packed_is;
     }
   where

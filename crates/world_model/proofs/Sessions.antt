@@ -15,8 +15,7 @@ use Rattle.heard_items.specs.Heard.{heard}
 use Rattle.heard_items.specs.declared.item.Item.{Item}
 use Rattle.heard_items.specs.declared.item.Item.TheVariants as item
 use Rattle.session_ends.specs.Events.{Event, Ticked}
-use Rattle.gap_store.specs.Look.{Store, store_of}
-use Rattle.grp_session.specs.Budget.{Counts, Counted}
+use Rattle.grp_session.specs.Budget.{Counts}
 use Rattle.grp_session.specs.Serving.{Source, proxy_answer}
 use Rattle.spin_server.specs.Served.{Served}
 use Rattle.client_core.specs.Items.{IsImage}
@@ -26,14 +25,16 @@ use Rattle.client_links.specs.Linking.{link_tells}
 use Rattle.client_links.specs.Telling.{without_spare}
 use Rattle.spin_path.specs.Paths.{heard_all}
 use Rattle.spin_path.proofs.Moves.{spare_is_unheard}
-use Rattle.world_model.specs.Connections.{IsProxy, IsSpinServer, HasConnection, HasGrp, HasSpin}
+use Rattle.unit_market.specs.Markets.{MarketHas}
+use Rattle.unit_market.specs.Standing.{MarketState}
+use Rattle.world_model.specs.Connections.{IsProxy, IsSpinServer, HasConnection, HasGrp, HasSpin, IsBudget}
 use Rattle.world_model.specs.Carried.{IsGrpConnection, CarriedUp, CarriedDown}
 use Rattle.world_model.specs.Ends.{grp_server, gap_link, spin_link, link_of}
 use Rattle.world_model.specs.Hearing.{HearsItems, IsTold}
 use Rattle.world_model.specs.Stands.{WorldHas}
 use Rattle.world_model.specs.Steps.{Acts, Marks, Passes}
 use Rattle.world_model.specs.State.{State, Connection, Pipe, LooksIn, connection_of, with_connection, waiting}
-use Rattle.world_model.specs.Verbs.{done, connection, shut, login_of, opened, ended, ended_where, down_of, settled, server_fed, up, up_on, link_hears, link_fed, link_ticked, down, down_on, grp_fed, carried, wanted, at_link, source_of, took, with_up, with_down}
+use Rattle.world_model.specs.Verbs.{done, connection, shut, login_of, opened, ended, ended_where, down_of, settled, server_fed, up, up_on, link_hears, link_fed, link_ticked, down, down_on, grp_fed, carried, wanted, at_link, source_of, took, with_up, with_down, cut, cut_on}
 use Rattle.world_model.specs.Witness.{Witnessed}
 use Rattle.world_model.specs.declared.connection.Connection.{Connection as Joined}
 use Rattle.world_model.specs.declared.limits.Limits.{Limits}
@@ -126,8 +127,18 @@ pub passes_ended : (session : Session) (w : World) (client : UnitClient) (s : St
 passes_ended session w client s has tracks keeps =
     let E : List Entry = down_of session ∷ s.heard in
     let came = ended_witness session w.unit s has.sound.witness in
-    let kept : Keeps client s.accepted = keeps s.accepted (λ n. image_book s.accepted n has.venue.bytes) w.limits.hold s.heard has.tracks (honest_of w s has (with_connection session None s).spin E came) has.keeps in
+    let kept : Keeps client s.accepted = keeps s.accepted (λ n. image_book s.accepted n has.market.venue.bytes) w.limits.hold s.heard has.tracks (honest_of w s has (with_connection session None s).spin E came) has.keeps in
     passes_place session w client None s None E has (none_stands session w.unit) (ended_quiet session w.limits.hold s.heard) tracks kept came
+
+pub acts_cut : (session : Session) (w new : World) (acted : Acted) (s : State) → is_some (connection_of session s) ≡ true → Passes w new s (ended session s) → acted ≡ calm_of outcome.Cut → Acts w new acted s (cut session s)
+acts_cut session w new acted s there passes calm = by (connection_of session s) there
+  where
+    by : (g : Option (Connection (LooksIn session))) → is_some g ≡ true → Acts w new acted s (cut_on g (ended session s) s)
+    by None e = absurd (apart e)
+      where
+        apart : false ≡ true → ⊥
+        apart e = cc
+    by (Some k) e = acts_passed w new acted outcome.Cut s (ended session s) passes calm
 
 pub passes_where : (session : Session) (w new : World) (s : State) (b : Bool) → b ≡ true → Passes w new s (ended session s) → Passes w new s (ended_where b session s)
 passes_where session w new s b is passes = subst (λ (x : Bool). Passes w new s (ended_where x session s)) (sym is) passes
@@ -191,18 +202,17 @@ module _ (session : Session) (w : World) (acted : Acted) (s : State) (bytes : Op
       (acts_carried w new acted s (fed (wanted bytes k.up)) k.up bytes has n m.is n_is few (subst (λ (x : ℕ). Passes w new s (fed x)) wants passes) calm)
 
 -- bytes were carried to the proxy
-pub passes_proxy_fed : (w : World) (old new : JoinedOf Grp) (store : Store) (counter : Counts) (replayed : Roomy (Roomy ℕ)) (s : State) (n : ℕ) (k : Connection Source) → (holds : WorldHas w s) → w.grp ≡ Some old → s.grp ≡ Some k
-    → ((unit : ℕ) (limits : Limits) (s : State) (k : Connection Source) → IsGrpConnection old unit k → w.store ≡ store_of (record { messages = s.accepted; kept = limits.kept })
-    → w.budget.limits ≡ record { second = limits.second; minute = limits.minute; day = limits.day } → Counted w.budget s.spent
-    → CarriedUp unit limits s n k new w.store store w.budget counter (bytes_in w.replayed.items) (bytes_in replayed.items))
-    → Passes w (record w { grp = Some new; store = store; budget = counter; replayed = replayed }) s (grp_fed w.unit w.limits (take n (waiting k.up)) (with_up (took n k.up) k) s)
-passes_proxy_fed w old new store counter replayed s n k holds place there carry =
+pub passes_proxy_fed : (w : World) (old new : JoinedOf Grp) (market : MarketState) (counter : Counts) (replayed : Roomy (Roomy ℕ)) (s : State) (n : ℕ) (k : Connection Source) → (holds : WorldHas w s) → w.grp ≡ Some old → s.grp ≡ Some k
+    → ((unit : ℕ) (limits : Limits) (s : State) (k : Connection Source) → IsGrpConnection old unit k → MarketHas w.market unit limits.kept s.accepted s.flushed s.advertised → IsBudget w.budget limits s.spent
+    → CarriedUp unit limits s n k new counter (bytes_in w.replayed.items) (bytes_in replayed.items))
+    → market ≡ w.market → Passes w (record w { grp = Some new; market = market; budget = counter; replayed = replayed }) s (grp_fed w.unit w.limits (take n (waiting k.up)) (with_up (took n k.up) k) s)
+passes_proxy_fed w old new market counter replayed s n k holds place there carry same =
     let z : HasGrp (Some old) w.unit (Some k) = subst (λ (g : Option (Connection Source)). HasGrp (Some old) w.unit g) there (subst (λ (p : Option (JoinedOf Grp)). HasGrp p w.unit s.grp) place holds.grp) in
-    let did = carry w.unit w.limits s k z holds.kept.store_is holds.kept.limits_are holds.kept.counted in
+    let did = carry w.unit w.limits s k z holds.market holds.budget in
     let piece : List ℕ = take n (waiting k.up) in
     let source : Source = source_of w.limits s k.server piece in
     let lines : List (List ℕ) = (proxy_answer (grp_server w.unit) k.server piece source).lines in
-    let pieces = proxy_pieces s.accepted w.unit (unit_small w.unit s.accepted s.spin s.heard holds.sound.witness) holds.venue.raws holds.venue.few (grp_server w.unit) k.server piece source refl
+    let pieces = proxy_pieces s.accepted w.unit (unit_small w.unit s.accepted s.spin s.heard holds.sound.witness) holds.market.venue.raws holds.market.venue.few (grp_server w.unit) k.server piece source refl
     (views_same _ (record { messages = s.accepted; kept = w.limits.kept }) s.accepted refl) in
     record {
       unit_is = refl;
@@ -210,9 +220,8 @@ passes_proxy_fed w old new store counter replayed s n k holds place there carry 
       quiet = marks_none w.limits.hold s.heard;
       has = record {
         begun = holds.begun;
-        venue_unit = holds.venue_unit;
-        venue = holds.venue;
-        kept = record { store_is = did.store_is ∙ holds.kept.store_is; limits_are = did.limits_are ∙ holds.kept.limits_are; counted = did.counted; shelf_is = holds.kept.shelf_is };
+        market = subst (λ (m : MarketState). MarketHas m w.unit w.limits.kept s.accepted s.flushed s.advertised) (sym same) holds.market;
+        budget = did.counts;
         sent = holds.sent;
         replayed = did.lined ∙ ap (λ (ds : List (List ℕ)). ds ++ lines) holds.replayed;
         passed = holds.passed;
@@ -261,7 +270,7 @@ told_of w client s g items told has hears are all came =
     record {
       quiet = marks_items H told s.heard all;
       tracks = subst (Tracks client H) same (hears.tracks these H s.heard has.tracks);
-      keeps = hears.keeps these s.accepted has.venue.bytes H s.heard has.tracks (subst (λ (E : List Entry). Honest image s.accepted E) (sym same) honest) has.keeps;
+      keeps = hears.keeps these s.accepted has.market.venue.bytes H s.heard has.tracks (subst (λ (E : List Entry). Honest image s.accepted E) (sym same) honest) has.keeps;
     }
 
 abbrev IsCarriedDown : (session : Session) → ℕ → ℕ → Connection (LooksIn session) → Option (JoinedOf session) → UnitClient → UnitClient → Type 0

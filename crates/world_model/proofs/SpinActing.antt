@@ -1,10 +1,8 @@
 -- What the verbs of the spin connection do to a world.
-use Rattle.std.proofs.Common.{◌≡◌, ℕ, zero, suc, List, [], ◌∷◌, ◌++◌, length, take, replicate, Option, Some, None, refl, sym, ap, ◌∙◌, subst, arith}
+use Rattle.std.proofs.Common.{◌≡◌, ℕ, zero, suc, List, length, take, replicate, Option, Some, None, refl, sym, ap, ◌∙◌, subst, arith}
 use Rattle.std.specs.List.{AllByRecursion}
 use Rattle.std.specs.Option.{option_map}
-use Rattle.std.proofs.lemmas.List.{append-nil}
-use Rattle.pitch_model.specs.Advertising.{Operation, Advertise, accepted_by, advertised_by, with_sequence, last_ten}
-use Rattle.pitch_model.proofs.Advertising as operations
+use Rattle.pitch_model.specs.Advertising.{advertised_by, with_sequence, last_ten}
 use Rattle.pitch_model.specs.History.{Entry, Raw}
 use Rattle.session_ends.specs.Hearings.{Rises}
 use Rattle.session_ends.specs.Events.{Event, Fed, Told}
@@ -12,13 +10,14 @@ use Rattle.session_ends.specs.Sending.{new_items}
 use Rattle.spin_server.specs.Served.{Served}
 use Rattle.spin_server.specs.Looking.{ServedLater}
 use Rattle.spin_server.specs.Shelves.{Shelf}
-use Rattle.spin_server.specs.Stands.{ShelfStands}
 use Rattle.spin_server.specs.ShelfViews.{seen_of}
 use Rattle.spin_server.proofs.Shelving.{shelf_seen, later_same}
 use Rattle.spin_path.specs.Paths.{IsShown, MayServe}
 use Rattle.spin_path.proofs.Pumps.{views_are_shown}
 use Rattle.pitch_text.specs.declared.verb.Session.TheVariants.{Spin}
-use Rattle.world_model.specs.Connections.{HasSpin, KeepsShelf}
+use Rattle.unit_market.specs.Markets.{KeepsShelf, MarketHas}
+use Rattle.unit_market.specs.Standing.{MarketState}
+use Rattle.world_model.specs.Connections.{HasSpin}
 use Rattle.world_model.specs.Carried.{IsSpinConnection}
 use Rattle.world_model.specs.Stands.{WorldHas}
 use Rattle.world_model.specs.Steps.{Acts, Passes}
@@ -51,12 +50,11 @@ shown_there shelf V sequences n is =
     subst (λ (raws : List Raw). AllByRecursion (IsShown raws) (replicate n (record { messages = raws; advertised = last_ten (advertised_by is.operations) }))) is.accepted_is seen in
     subst (λ (ns : List ℕ). AllByRecursion (IsShown V) (replicate n (record { messages = V; advertised = last_ten ns }))) is.advertised_is at_messages
 
-with_shelf : (w : World) (shelf : Shelf) (s : State) (sequences : List ℕ) → WorldHas w s → KeepsShelf shelf s.accepted sequences → WorldHas (record w { shelf = shelf }) (record s { advertised = sequences })
-with_shelf w shelf s sequences has is = record {
+with_advertised : (w : World) (market : MarketState) (s : State) (sequences : List ℕ) → WorldHas w s → MarketHas market w.unit w.limits.kept s.accepted s.flushed sequences → WorldHas (record w { market = market }) (record s { advertised = sequences })
+with_advertised w market s sequences has is = record {
   begun = has.begun;
-  venue_unit = has.venue_unit;
-  venue = has.venue;
-  kept = record { store_is = has.kept.store_is; limits_are = has.kept.limits_are; counted = has.kept.counted; shelf_is = is };
+  market = is;
+  budget = has.budget;
   sent = has.sent;
   replayed = has.replayed;
   passed = has.passed;
@@ -69,26 +67,26 @@ with_shelf w shelf s sequences has is = record {
 }
 
 -- bytes were carried to the spin server
-pub passes_spin_fed : (w : World) (old new : JoinedOf Spin) (shelf : Shelf) (s : State) (n : ℕ) (k : Connection (List Served)) → (holds : WorldHas w s) → w.spin ≡ Some old → s.spin ≡ Some k
-    → ((unit : ℕ) (s : State) (k : Connection (List Served)) → IsSpinConnection old unit k → KeepsShelf w.shelf s.accepted s.advertised
+pub passes_spin_fed : (w : World) (old new : JoinedOf Spin) (market : MarketState) (s : State) (n : ℕ) (k : Connection (List Served)) → (holds : WorldHas w s) → w.spin ≡ Some old → s.spin ≡ Some k
+    → ((unit : ℕ) (s : State) (k : Connection (List Served)) → IsSpinConnection old unit k → KeepsShelf w.market.shelf s.accepted s.advertised
     → IsSpinConnection new unit (sent_whole unit (at_server_of unit Spin (Fed (take n (waiting k.up)) (views_of s k.server (take n (waiting k.up)))) (with_up (took n k.up) k))))
-    → shelf ≡ w.shelf → Passes w (record w { spin = Some new; shelf = shelf }) s (spin_fed w.unit (take n (waiting k.up)) (with_up (took n k.up) k) s)
-passes_spin_fed w old new shelf s n k holds place there carry same =
+    → market ≡ w.market → Passes w (record w { spin = Some new; market = market }) s (spin_fed w.unit (take n (waiting k.up)) (with_up (took n k.up) k) s)
+passes_spin_fed w old new market s n k holds place there carry same =
     let z : HasSpin (Some old) w.unit (Some k) = subst (λ (g : Option (Connection (List Served))). HasSpin (Some old) w.unit g) there (subst (λ (p : Option (JoinedOf Spin)). HasSpin p w.unit s.spin) place holds.spin) in
     let came : Witnessed w.unit s.accepted (Some k) s.heard = subst (λ (g : Option (Connection (List Served))). Witnessed w.unit s.accepted g s.heard) there holds.sound.witness in
     let piece : List ℕ = take n (waiting k.up) in
     let behind : Connection (List Served) = with_up (took n k.up) k in
     let views : List Served = views_of s k.server piece in
     let fed : Connection (List Served) = at_server_of w.unit Spin (Fed piece views) behind in
-    let kept : KeepsShelf shelf s.accepted s.advertised = subst (λ (x : Shelf). KeepsShelf x s.accepted s.advertised) (sym same) holds.kept.shelf_is in
-    let shown : AllByRecursion (IsShown s.accepted) views = shown_there shelf s.accepted s.advertised (length (new_items k.server piece)) kept in
+    let kept : MarketHas market w.unit w.limits.kept s.accepted s.flushed s.advertised = subst (λ (m : MarketState). MarketHas m w.unit w.limits.kept s.accepted s.flushed s.advertised) (sym same) holds.market in
+    let shown : AllByRecursion (IsShown s.accepted) views = shown_there market.shelf s.accepted s.advertised (length (new_items k.server piece)) kept.shelf in
     let at_fed : Witnessed w.unit s.accepted (Some fed) s.heard = serves w.unit s.accepted s.heard behind (Fed piece views) shown (ups w.unit s.accepted s.heard k (took n k.up) came) in
     let at_end : Witnessed w.unit s.accepted (Some (sent_whole w.unit fed)) s.heard = pumps_on w.unit s.accepted s.heard fed (pumps w.unit fed.server) at_fed in
     record {
       unit_is = refl;
       limits_are = refl;
       quiet = marks_none w.limits.hold s.heard;
-      has = with_still (record w { shelf = shelf }) (Some new) s (Some (sent_whole w.unit fed)) (with_shelf w shelf s s.advertised holds kept) (carry w.unit s k z holds.kept.shelf_is) at_end;
+      has = with_still (record w { market = market }) (Some new) s (Some (sent_whole w.unit fed)) (with_advertised w market s s.advertised holds kept) (carry w.unit s k z holds.market.shelf) at_end;
     }
 
 -- ---- Advertise
@@ -97,27 +95,16 @@ pub serves_where : (unit : ℕ) (V : List Raw) (E : List Entry) (event : Event (
 serves_where unit V E event None may came = came
 serves_where unit V E event (Some k) may came = serves unit V E k event may came
 
-shelf_advertised : (shelf shelf' : Shelf) (V : List Raw) (sequences : List ℕ) → KeepsShelf shelf V sequences → ((operations : List Operation) → ShelfStands shelf operations → ShelfStands shelf' (operations ++ Advertise ∷ []))
-    → KeepsShelf shelf' V (with_sequence sequences (length V))
-shelf_advertised shelf shelf' V sequences is on = record {
-  operations = is.operations ++ Advertise ∷ [];
-  accepted_is = operations.accepted_more is.operations Advertise ∙ append-nil (accepted_by is.operations) ∙ is.accepted_is;
-  advertised_is = operations.advertised_advertise is.operations ∙ ap (λ (raws : List Raw). with_sequence (advertised_by is.operations) (length raws)) is.accepted_is ∙ ap (λ (ns : List ℕ). with_sequence ns (length V)) is.advertised_is;
-  stands = on is.operations is.stands;
-}
-
-pub acts_advertised : (w : World) (shelf : Shelf) (spin : Option (JoinedOf Spin)) (sequence : ℕ) (acted : Acted) (s : State) → WorldHas w s → sequence ≡ w.shelf.pushed
-    → ((operations : List Operation) → ShelfStands w.shelf operations → ShelfStands shelf (operations ++ Advertise ∷ []))
+pub acts_advertised : (w : World) (market : MarketState) (spin : Option (JoinedOf Spin)) (sequence : ℕ) (acted : Acted) (s : State) → WorldHas w s → sequence ≡ length s.accepted
+    → MarketHas market w.unit w.limits.kept s.accepted s.flushed (with_sequence s.advertised (length s.accepted))
     → ((unit : ℕ) (g : Option (Connection (List Served))) → HasSpin w.spin unit g → HasSpin spin unit (option_map (λ k. at_server_of unit Spin (Told sequence) k) g))
-    → acted ≡ calm_of (outcome.Advertised sequence) → Acts w (record w { shelf = shelf; spin = spin }) acted s (advertised w.unit s)
-acts_advertised w shelf spin sequence acted s has pushed on told calm =
-    let kept = has.kept.shelf_is in
-    let number : sequence ≡ length s.accepted = pushed ∙ kept.stands.keeps.pushed_is ∙ ap (λ (raws : List Raw). length raws) kept.accepted_is in
+    → acted ≡ calm_of (outcome.Advertised sequence) → Acts w (record w { market = market; spin = spin }) acted s (advertised w.unit s)
+acts_advertised w market spin sequence acted s has number on told calm =
     let sequences : List ℕ = with_sequence s.advertised (length s.accepted) in
-    let shelved : WorldHas (record w { shelf = shelf }) (record s { advertised = sequences }) = with_shelf w shelf s sequences has (shelf_advertised w.shelf shelf s.accepted s.advertised kept on) in
+    let shelved : WorldHas (record w { market = market }) (record s { advertised = sequences }) = with_advertised w market s sequences has on in
     let g : Option (Connection (List Served)) = option_map (λ k. at_server_of w.unit Spin (Told (length s.accepted)) k) s.spin in
     let is : HasSpin spin w.unit g = subst (λ (n : ℕ). HasSpin spin w.unit (option_map (λ k. at_server_of w.unit Spin (Told n) k) s.spin)) number (told w.unit s.spin has.spin) in
     let came : Witnessed w.unit s.accepted g s.heard = serves_where w.unit s.accepted s.heard (Told (length s.accepted)) s.spin (omega arith) has.sound.witness in
-    let passes : Passes w (record w { shelf = shelf; spin = spin }) s (record s { advertised = sequences; spin = g }) =
-    record { unit_is = refl; limits_are = refl; quiet = marks_none w.limits.hold s.heard; has = with_still (record w { shelf = shelf }) spin (record s { advertised = sequences }) g shelved is came } in
-    acts_passed w (record w { shelf = shelf; spin = spin }) acted (outcome.Advertised (length s.accepted)) s (record s { advertised = sequences; spin = g }) passes (calm ∙ ap (λ (n : ℕ). calm_of (outcome.Advertised n)) number)
+    let passes : Passes w (record w { market = market; spin = spin }) s (record s { advertised = sequences; spin = g }) =
+    record { unit_is = refl; limits_are = refl; quiet = marks_none w.limits.hold s.heard; has = with_still (record w { market = market }) spin (record s { advertised = sequences }) g shelved is came } in
+    acts_passed w (record w { market = market; spin = spin }) acted (outcome.Advertised (length s.accepted)) s (record s { advertised = sequences; spin = g }) passes (calm ∙ ap (λ (n : ℕ). calm_of (outcome.Advertised n)) number)

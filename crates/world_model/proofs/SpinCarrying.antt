@@ -1,7 +1,6 @@
 -- What carrying bytes does to a connection with the spin server.
 use Rattle.std.proofs.Common.{◌≡◌, ℕ, zero, suc, ◌≤◌, List, [], ◌∷◌, ◌++◌, length, take, drop, replicate, refl, sym, ap, ◌∙◌, subst}
 use Rattle.pitch_text.specs.declared.verb.Session.TheVariants.{Spin}
-use Rattle.pitch_model.specs.Advertising.{advertised_by, last_ten}
 use Rattle.pitch_model.specs.History.{Raw}
 use Rattle.session_ends.specs.Hearings.{Rises}
 use Rattle.session_ends.specs.Closing.{Setup}
@@ -14,11 +13,13 @@ use Rattle.spin_server.specs.Looking.{ServedLater}
 use Rattle.spin_server.specs.Serving.{Serving, SpinStands, spin_sends}
 use Rattle.spin_server.specs.Feeding.{SpinFeeds}
 use Rattle.spin_server.specs.Shelves.{Shelf}
-use Rattle.spin_server.specs.ShelfViews.{ShelfShows, seen_of}
+use Rattle.spin_server.specs.ShelfViews.{ShelfShows}
 use Rattle.spin_server.proofs.Serves.{later_order}
-use Rattle.spin_server.proofs.Shelving.{one_served, later_both, shelf_seen}
+use Rattle.spin_server.proofs.Shelving.{one_served, later_both}
 use Rattle.client_links.specs.Linking.{Lookups, LinkStands}
-use Rattle.world_model.specs.Connections.{IsPipe, KeepsShelf}
+use Rattle.unit_market.specs.Markets.{KeepsShelf, image_view}
+use Rattle.unit_market.proofs.Showing.{shows_view}
+use Rattle.world_model.specs.Connections.{IsPipe}
 use Rattle.world_model.specs.Carried.{IsServed, IsSpinConnection}
 use Rattle.world_model.specs.Ends.{spin_server}
 use Rattle.world_model.specs.State.{State, Connection, Pipe, waiting}
@@ -28,30 +29,21 @@ use Rattle.world_model.proofs.Carrying.{piped_put, piped_taken}
 
 -- ---- The shelf is seen at one view
 -- the messages that were accepted, and the sequences that are served
-abbrev spin_view : List Raw → List ℕ → Served
-spin_view accepted advertised = record { messages = accepted; advertised = last_ten advertised }
-
-one_view : (shelf : Shelf) (accepted : List Raw) (advertised : List ℕ) (views : List Served) (now : Served) → (is : KeepsShelf shelf accepted advertised) → Rises ServedLater (spin_view accepted advertised) views now → ShelfShows shelf now
-    → views ≡ replicate (length views) (spin_view accepted advertised)
+one_view : (shelf : Shelf) (accepted : List Raw) (advertised : List ℕ) (views : List Served) (now : Served) → (is : KeepsShelf shelf accepted advertised) → Rises ServedLater (image_view accepted advertised) views now → ShelfShows shelf now
+    → views ≡ replicate (length views) (image_view accepted advertised)
 one_view shelf accepted advertised views now is rises shows =
-    let view : Served = spin_view accepted advertised in
-    let seen : seen_of is.operations ≡ view = ap (λ (raws : List Raw). spin_view raws (advertised_by is.operations)) is.accepted_is ∙ ap (λ (ns : List ℕ). spin_view accepted ns) is.advertised_is in
-    let first : ShelfShows shelf view = subst (ShelfShows shelf) seen (shelf_seen shelf is.operations is.stands) in
+    let view : Served = image_view accepted advertised in
+    let first : ShelfShows shelf view = shows_view shelf accepted advertised is in
     let same : now ≡ view = one_served shelf view now first shows (rises_to ServedLater later_order view views now rises) in
     rises_nowhere ServedLater later_order later_both view now views rises same
-
--- it shows that view
-pub shows_view : (shelf : Shelf) (accepted : List Raw) (advertised : List ℕ) → KeepsShelf shelf accepted advertised → ShelfShows shelf (spin_view accepted advertised)
-shows_view shelf accepted advertised is =
-    subst (ShelfShows shelf) (ap (λ (raws : List Raw). spin_view raws (advertised_by is.operations)) is.accepted_is ∙ ap (λ (ns : List ℕ). spin_view accepted ns) is.advertised_is) (shelf_seen shelf is.operations is.stands)
 
 -- ---- The server is fed
 pub is_fed : (unit : ℕ) (accepted : List Raw) (advertised : List ℕ) (k : Connection (List Served)) (up : Pipe) (piece : List ℕ) (old new : Serving) (shelf : Shelf) (bytes bytes' : List ℕ)
     → KeepsShelf shelf accepted advertised → old.end.setup ≡ spin_server unit → new.end.setup ≡ old.end.setup → IsPipe bytes k.down
-    → SpinFeeds k.server piece old new (spin_view accepted advertised) (λ v. ShelfShows shelf v) bytes bytes'
-    → IsServed new bytes' unit (at_server_of unit Spin (Fed piece (replicate (length (new_items k.server piece)) (spin_view accepted advertised))) (with_up up k))
+    → SpinFeeds k.server piece old new (image_view accepted advertised) (λ v. ShelfShows shelf v) bytes bytes'
+    → IsServed new bytes' unit (at_server_of unit Spin (Fed piece (replicate (length (new_items k.server piece)) (image_view accepted advertised))) (with_up up k))
 is_fed unit accepted advertised k up piece old new shelf bytes bytes' is made still down f =
-    let view : Served = spin_view accepted advertised in
+    let view : Served = image_view accepted advertised in
     let views_are : f.views ≡ replicate (length (new_items k.server piece)) view = one_view shelf accepted advertised f.views f.now is f.rises f.shows ∙ ap (λ (n : ℕ). replicate n view) f.each in
     let views : List Served = replicate (length (new_items k.server piece)) view in
     let said : bytes' ≡ bytes ++ spin_sends (spin_server unit) (Fed piece views) k.server =
@@ -91,7 +83,7 @@ pub carried_up : {P : Type 0} (old new : Joined Serving P) (unit : ℕ) (s : Sta
     → ((unit : ℕ) (c : Connection (List Served)) → IsServed fed bytes unit c → IsServed new.server new.down unit (pumped_times unit (pumps unit c.server) c))
     → IsSpinConnection new unit (sent_whole unit (at_server_of unit Spin (Fed (take n (waiting k.up)) (views_of s k.server (take n (waiting k.up)))) (with_up (took n k.up) k)))
 carried_up old new unit s k n piece shelf shelf' fed bytes is keeps few piece_is rest link setup same feeds pump =
-    let view : Served = spin_view s.accepted s.advertised in
+    let view : Served = image_view s.accepted s.advertised in
     let P : List ℕ = take n (waiting k.up) in
     let c : Connection (List Served) = at_server_of unit Spin (Fed P (replicate (length (new_items k.server P)) view)) (with_up (took n k.up) k) in
     let at : piece ≡ P = piece_is ∙ ap (take n) is.up.are in

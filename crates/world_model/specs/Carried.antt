@@ -5,8 +5,7 @@ use Rattle.pitch_text.specs.declared.verb.Session.{Session}
 use Rattle.pitch_text.specs.declared.verb.Session.TheVariants.{Grp, Spin}
 use Rattle.session_ends.specs.Ending.{Ending}
 use Rattle.session_ends.specs.Events.{Event, Fed}
-use Rattle.gap_store.specs.Look.{Store}
-use Rattle.grp_session.specs.Budget.{Counts, Counted}
+use Rattle.grp_session.specs.Budget.{Counts}
 use Rattle.grp_session.specs.Serving.{Source, proxy_answer}
 use Rattle.spin_server.specs.Served.{Served}
 use Rattle.spin_server.specs.Serving.{Serving, SpinStands}
@@ -20,7 +19,7 @@ use Rattle.world_model.specs.Verbs.{at_server_of, at_link, source_of, took, with
 use Rattle.world_model.specs.declared.limits.Limits.{Limits}
 use Rattle.world_model.specs.declared.connection.Connection.{Connection as Joined}
 use Rattle.world_model.specs.Connections.{IsPipe, IsProxy, IsSpinServer, IsConnection}
-use Rattle.world_model.specs.Connections.{HasConnection}
+use Rattle.world_model.specs.Connections.{HasConnection, IsBudget}
 
 -- a connection with the proxy, and one with the Spin Server
 abbrev pub IsGrpConnection : {P : Type 0} → Joined Ending P → ℕ → Connection Source → Type 0
@@ -44,16 +43,14 @@ pub record CarriedDown (session : Session) {S P : Type 0}
   pub hears : HearsItems client client' items
 
 -- n bytes were carried to the proxy's server, over the venue's messages and the requests that it
--- accepted before: the connection stands for that, store and limits are as before, the budget
--- counts what was accepted, and its datagrams are on the gap line
+-- accepted before: the connection stands for that, the budget counts what was accepted besides, and
+-- its datagrams are on the gap line
 pub record CarriedUp {P : Type 0} (unit : ℕ)
     (limits : Limits) (s : State) (n : ℕ) (k : Connection Source) (new : Joined Ending P)
-    (store store' : Store) (counter counter' : Counts) (lines lines' : List (List ℕ)) : Type 0 where
+    (counter : Counts) (lines lines' : List (List ℕ)) : Type 0 where
   pub stands : IsGrpConnection new unit (at_server_of unit Grp (Fed (take n (waiting k.up))
       (source_of limits s k.server (take n (waiting k.up)))) (with_up (took n k.up) k))
-  pub store_is : store' ≡ store
-  pub limits_are : counter'.limits ≡ counter.limits
-  pub counted : Counted counter' (proxy_answer (grp_server unit) k.server
+  pub counts : IsBudget counter limits (proxy_answer (grp_server unit) k.server
       (take n (waiting k.up)) (source_of limits s k.server (take n (waiting k.up)))).knows
   pub lined : lines' ≡ lines ++ (proxy_answer (grp_server unit) k.server
       (take n (waiting k.up)) (source_of limits s k.server (take n (waiting k.up)))).lines

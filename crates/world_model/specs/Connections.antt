@@ -1,20 +1,18 @@
 -- What a connection stands for: its two pipes, and what happened at its two ends.
 use Rattle.std.specs.Prelude.{◌≡◌, ◌≤◌, ℕ, List, length, Option, None, Some}
-use Rattle.pitch_model.specs.Advertising.{Operation, accepted_by, advertised_by}
-use Rattle.pitch_model.specs.History.{Raw}
 use Rattle.pitch_text.specs.declared.verb.Session.{Session}
 use Rattle.pitch_text.specs.declared.verb.Session.TheVariants.{Grp, Spin}
 use Rattle.session_ends.specs.Ending.{Ending}
 use Rattle.session_ends.specs.Events.{Event}
+use Rattle.grp_session.specs.Budget.{Counts, Counted, Spent}
 use Rattle.grp_session.specs.Serving.{Source, ProxyStands}
 use Rattle.spin_server.specs.Served.{Served}
 use Rattle.spin_server.specs.Serving.{Serving, SpinStands}
-use Rattle.spin_server.specs.Shelves.{Shelf}
-use Rattle.spin_server.specs.Stands.{ShelfStands}
 use Rattle.client_links.specs.Linking.{LinkStands}
 use Rattle.world_model.specs.Ends.{grp_server, spin_server, link_of}
 use Rattle.world_model.specs.State.{Connection, Pipe, LooksIn, waiting}
 use Rattle.world_model.specs.declared.connection.Connection.{Connection as Joined}
+use Rattle.world_model.specs.declared.limits.Limits.{Limits}
 
 -- the bytes that wait in a pipe
 pub record IsPipe (bytes : List ℕ) (pipe : Pipe) : Type 0 where
@@ -63,9 +61,8 @@ abbrev pub HasSpin : {P : Type 0}
     → Option (Joined Serving P) → ℕ → Option (Connection (List Served)) → Type 0
 HasSpin place unit g = HasConnection Spin IsSpinServer place unit g
 
--- a shelf has these messages, and these sequences were advertised
-pub record KeepsShelf (shelf : Shelf) (accepted : List Raw) (advertised : List ℕ) : Type 0 where
-  pub operations : List Operation
-  pub accepted_is : accepted_by operations ≡ accepted
-  pub advertised_is : advertised_by operations ≡ advertised
-  pub stands : ShelfStands shelf operations
+-- the budget of a proxy has these limits, and counts the requests that it accepted
+pub record IsBudget (budget : Counts) (limits : Limits) (spent : Spent) : Type 0 where
+  pub limits_are : budget.limits
+      ≡ record { second = limits.second; minute = limits.minute; day = limits.day }
+  pub counted : Counted budget spent

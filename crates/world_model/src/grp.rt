@@ -6,10 +6,9 @@ ghost use Rattle.pitch_messages.specs.declared.session.SessionMessage.TheVariant
 ghost use Rattle.pitch_text.specs.declared.verb.Session.TheVariants.{Grp};
 ghost use Rattle.unit_packets.specs.Packing.{bytes_in};
 ghost use Rattle.session_ends.specs.Events.{Asked};
-ghost use Rattle.gap_store.specs.Look.{store_of};
-ghost use Rattle.grp_session.specs.Budget.{Counted};
 ghost use Rattle.grp_session.specs.Serving.{Source};
-ghost use Rattle.world_model.specs.Connections.{IsProxy, HasGrp};
+ghost use Rattle.unit_market.specs.Markets.{MarketHas};
+ghost use Rattle.world_model.specs.Connections.{IsProxy, HasGrp, IsBudget};
 ghost use Rattle.world_model.specs.Carried.{IsGrpConnection, CarriedUp};
 ghost use Rattle.world_model.specs.Ends.{the_account, gap_link};
 ghost use Rattle.world_model.specs.State.{State, Connection as ConnectionSaid};
@@ -20,12 +19,12 @@ use crate::connection::{Connection, Server};
 use crate::datagrams::append_copies;
 use crate::pipe::ByteQueue;
 use client_links::{GapLink, ProxyPeer};
-use gap_store::GapStore;
 use grp_session::{GapBudget, GrpServer, look_laws};
 use pitch_fields::OutOfMemory;
 use pitch_model::Ask;
 use session_ends::Account;
 use std::alloc::Global;
+use unit_market::Market;
 use unit_packets::DatagramList;
 
 /// The account of both sessions.
@@ -88,23 +87,23 @@ impl Connection<GrpServer, ProxyPeer> {
         &mut self,
         count: usize,
         budget: &mut GapBudget,
-        store: &mut GapStore,
+        market: &mut Market,
         gap_line: &mut DatagramList,
     ) -> Result<(), OutOfMemory>
         requires { count ≤ length self.old.up }
-        ensures { OnOk result ((unit : ℕ) (limits : LimitsSaid) (s : State)
-            (k : ConnectionSaid Source) → IsGrpConnection self.old unit k → store.old
-            ≡ store_of (record { messages = s.accepted; kept = limits.kept }) → budget.old.limits
-            ≡ record { second = limits.second; minute = limits.minute; day = limits.day } → Counted
-            budget.old s.spent → CarriedUp unit limits s count k self.new store.old store.new
-            budget.old budget.new (bytes_in gap_line.old.items) (bytes_in gap_line.new.items)) }
+        ensures carried { OnOk result ((unit : ℕ) (limits : LimitsSaid) (s : State)
+            (k : ConnectionSaid Source) → IsGrpConnection self.old unit k
+            → MarketHas market.old unit limits.kept s.accepted s.flushed s.advertised
+            → IsBudget budget.old limits s.spent → CarriedUp unit limits s count k self.new
+            budget.new (bytes_in gap_line.old.items) (bytes_in gap_line.new.items)) }
+        ensures market { OnOk result (market.new ≡ market.old) }
     {
         look_laws();
         let mut said = Vec::new(self.alloc);
         let mut packed = DatagramList::make(self.alloc);
         let piece = self.up.first(count);
         self.server
-            .feed(piece, budget, Some(store), &mut said, &mut packed)?;
+            .feed(piece, budget, Some(market), &mut said, &mut packed)?;
         self.up.take(count);
         self.down.put(&said)?;
         append_copies(self.alloc, packed.as_slice(), gap_line)?;

@@ -6,7 +6,8 @@ ghost use Rattle.pitch_messages.specs.declared.session.SessionMessage.TheVariant
 ghost use Rattle.pitch_text.specs.declared.verb.Session.TheVariants.{Spin};
 ghost use Rattle.session_ends.specs.Events.{Fed, Asked, Told};
 ghost use Rattle.spin_server.specs.Served.{Served};
-ghost use Rattle.world_model.specs.Connections.{IsSpinServer, HasSpin, KeepsShelf};
+ghost use Rattle.unit_market.specs.Markets.{KeepsShelf};
+ghost use Rattle.world_model.specs.Connections.{IsSpinServer, HasSpin};
 ghost use Rattle.world_model.specs.Carried.{IsSpinConnection, IsServed};
 ghost use Rattle.world_model.specs.Ends.{spin_link};
 ghost use Rattle.world_model.specs.State.{State, Connection as ConnectionSaid, waiting};
@@ -19,8 +20,9 @@ use crate::pipe::ByteQueue;
 use client_links::{SpinLink, SpinPeer};
 use pitch_fields::OutOfMemory;
 use pitch_model::Ask;
-use spin_server::{ImageShelf, SpinServer};
+use spin_server::SpinServer;
 use std::alloc::Global;
+use unit_market::Market;
 
 impl Server for SpinServer {
     ghost session = { Spin };
@@ -78,21 +80,17 @@ impl Connection<SpinServer, SpinPeer> {
     }
 
     /// Carries so many bytes to the server, and then lets it send its image to the end.
-    pub(crate) fn carry_up(
-        &mut self,
-        count: usize,
-        shelf: &mut ImageShelf,
-    ) -> Result<(), OutOfMemory>
+    pub(crate) fn carry_up(&mut self, count: usize, market: &mut Market) -> Result<(), OutOfMemory>
         requires { count ≤ length self.old.up }
         ensures fed { OnOk result ((unit : ℕ) (s : State) (k : ConnectionSaid (List Served))
             → IsSpinConnection self.old unit k
-            → KeepsShelf shelf.old s.accepted s.advertised → IsSpinConnection self.new unit
+            → KeepsShelf market.old.shelf s.accepted s.advertised → IsSpinConnection self.new unit
             (sent_whole unit (at_server_of unit Spin (Fed (take count (waiting k.up))
             (views_of s k.server (take count (waiting k.up)))) (with_up (took count k.up) k)))) }
-        ensures shelf { shelf.new ≡ shelf.old }
+        ensures market { market.new ≡ market.old }
     {
         let mut said = Vec::new(self.alloc);
-        self.server.feed(self.up.first(count), shelf, &mut said)?;
+        self.server.feed(self.up.first(count), market, &mut said)?;
         self.up.take(count);
         self.down.put(&said)?;
         pump(self.alloc, &mut self.server, &mut self.down)?;

@@ -2,11 +2,7 @@
 
 ghost use Rattle.std.specs.Prelude.{◌≡◌, ◌≤◌, ℕ, List, [], ◌∷◌, false, drop, Some, IsTrue, ◌↔◌};
 ghost use Rattle.std.specs.Prelude.{◌++◌, OnOk};
-ghost use Rattle.pitch_model.specs.Advertising.{Operation, Accept};
 ghost use Rattle.unit_packets.specs.Packing.{bytes_in};
-ghost use Rattle.venue_core.specs.Stands.{Stands as VenueStands, last_of};
-ghost use Rattle.gap_store.specs.Look.{View, store_of};
-ghost use Rattle.spin_server.specs.Stands.{ShelfStands};
 ghost use Rattle.venue_core.specs.declared.error.VenueError.TheVariants as errors;
 ghost use Rattle.world_model.specs.State.{State, datagrams_on};
 ghost use Rattle.world_model.specs.Verbs.{tick_outcome};
@@ -22,20 +18,18 @@ use crate::pipe::carry_count;
 use crate::showing::{append_book, append_counts};
 use crate::spin::{SpinConnection, ask_spin_server, tell_spin_server};
 use client_core::{UnitClient, keeping_lasts_while_a_venue_accepts};
-use gap_store::GapStore;
 use grp_session::GapBudget;
 use heard_items::Item;
 use line_arbiter::Arbiter;
 use pitch_fields::{OutOfMemory, Side, Symbol};
 use pitch_io::Line;
 use pitch_messages::ByteList;
-use pitch_model::laws::operations_add_up;
 use pitch_model::Ask;
 use pitch_text::{Command, Session, Verb};
-use spin_server::ImageShelf;
 use std::alloc::Global;
+use unit_market::Market;
 use unit_packets::DatagramList;
-use venue_core::{Venue, VenueError};
+use venue_core::VenueError;
 
 /// One unit's world: a venue with its Gap Request Proxy and Spin Server, every datagram that they
 /// sent, and one client, whose connections carry bytes only as verbs say.
@@ -47,16 +41,15 @@ pub struct World {
     alloc: Global,
     unit: u8,
     limits: Limits,
-    venue: Venue,
+    // The venue, and what the proxy and the spin server look up.
+    market: Market,
     // The datagrams of lines A and B, which are the same, and of the gap line; and how far the
     // client got on each line.
     sent: DatagramList,
     replayed: DatagramList,
     passed: Passed,
-    // What the proxy and the spin server look up, and what the proxy may still accept.
-    store: GapStore,
+    // What the proxy may still accept.
     budget: GapBudget,
-    shelf: ImageShelf,
     client: UnitClient,
     arbiter: Arbiter,
     // The connections with the proxy and with the spin server.
@@ -107,13 +100,11 @@ impl World {
             alloc,
             unit,
             limits,
-            venue: Venue::make(alloc, unit),
+            market: Market::make(alloc, unit, limits.kept)?,
             sent: DatagramList::make(alloc),
             replayed: DatagramList::make(alloc),
             passed: Passed { a: 0, b: 0, gap: 0 },
-            store: GapStore::make(alloc, limits.kept)?,
             budget: GapBudget::make(limits.second, limits.minute, limits.day),
-            shelf: ImageShelf::make(alloc),
             client: UnitClient::make(alloc, limits.hold)?,
             arbiter: Arbiter::make(),
             grp: None,
@@ -299,11 +290,9 @@ impl World {
         ensures { IfOk result (λ acted. (s : State)
             → WorldHas self.old s → Acts self.old self.new acted s (commanded command.now s)) }
     {
-        match self.venue.accept(command) {
+        match self.market.accept(command) {
             Ok(sequence) => {
                 keeping_lasts_while_a_venue_accepts();
-                operations_add_up();
-                keep_last(&self.venue, &mut self.store, &mut self.shelf)?;
                 Ok(calm(Outcome::Accepted { sequence }))
             }
             Err(error) => {
@@ -321,7 +310,7 @@ impl World {
             → WorldHas self.old s → Acts self.old self.new acted s (flushed self.old.unit s)) }
     {
         let mut datagrams = DatagramList::make(self.alloc);
-        let count = self.venue.flush(&mut datagrams)?;
+        let count = self.market.flush(&mut datagrams)?;
         append_copies(self.alloc, datagrams.as_slice(), &mut self.sent)?;
         Ok(calm(Outcome::Sent { datagrams: count }))
     }
@@ -331,7 +320,7 @@ impl World {
         ensures { IfOk result (λ acted. (s : State)
             → WorldHas self.old s → Acts self.old self.new acted s (beaten self.old.unit s)) }
     {
-        let beat = self.venue.beat();
+        let beat = self.market.beat();
         self.sent.push(ByteList::of_bytes(self.alloc, &beat)?)?;
         Ok(calm(Outcome::Sent { datagrams: 1 }))
     }
@@ -509,14 +498,19 @@ impl World {
             Session::Grp => match &mut self.grp {
                 None => Ok(()),
                 Some(c) => {
-                    c.carry_up(count, &mut self.budget, &mut self.store, &mut self.replayed)?;
+                    c.carry_up(
+                        count,
+                        &mut self.budget,
+                        &mut self.market,
+                        &mut self.replayed,
+                    )?;
                     Ok(())
                 }
             },
             Session::Spin => match &mut self.spin {
                 None => Ok(()),
                 Some(c) => {
-                    c.carry_up(count, &mut self.shelf)?;
+                    c.carry_up(count, &mut self.market)?;
                     Ok(())
                 }
             },
@@ -588,7 +582,7 @@ impl World {
         ensures { IfOk result (λ acted. (s : State)
             → WorldHas self.old s → Acts self.old self.new acted s (advertised self.old.unit s)) }
     {
-        let sequence = self.shelf.advertise()?;
+        let sequence = self.market.advertise()?;
         tell_spin_server(&mut self.spin, sequence)?;
         Ok(calm(Outcome::Advertised { sequence }))
     }
@@ -693,30 +687,4 @@ fn tick_outcome(ask: Option<Ask>) -> Outcome
         None => Outcome::Ticked,
         Some(ask) => Outcome::Asked(ask),
     }
-}
-
-// The proxy's store and the shelf get the message that the venue accepted last. After OutOfMemory
-// one of them may have it.
-fn keep_last(venue: &Venue, store: &mut GapStore, shelf: &mut ImageShelf) -> Result<(), OutOfMemory>
-    ensures store { OnOk result ((accepted : List (List ℕ)) (sent : ℕ) (raw : List ℕ) (v : View)
-        → VenueStands venue.now accepted sent → last_of accepted ≡ Some raw → store.old ≡ store_of v
-        → store.new ≡ store_of (record { messages = v.messages ++ raw ∷ []; kept = v.kept })) }
-    ensures shelf { OnOk result ((accepted : List (List ℕ)) (sent : ℕ)
-        (raw : List ℕ) (operations : List Operation) → VenueStands venue.now accepted sent
-        → last_of accepted ≡ Some raw → ShelfStands shelf.old operations
-        → ShelfStands shelf.new (operations ++ Accept raw ∷ [])) }
-{
-    let Some(raw) = venue.last_raw() else {
-        return Err(OutOfMemory);
-    };
-    // No venue accepts so many.
-    if store.last() >= 4294967294 {
-        return Err(OutOfMemory);
-    }
-    if shelf.pushed() >= 4294967294 {
-        return Err(OutOfMemory);
-    }
-    store.push(raw);
-    shelf.push(raw)?;
-    Ok(())
 }

@@ -4,4 +4,4 @@ use Rattle.world_model.proofs.world.World.beat.Goals as goal
 pub returns : goal.returns
 returns c = λ s has.
     acts_beaten c.args.self.now c.push.new.self c.in_ok-of_bytes.field-0 c.beat-beat.result c.calm.result s has c.in_ok-push.ensures.ok c.in_ok-of_bytes.ensures
-    (c.beat-beat.ensures.bytes s.accepted s.flushed has.venue) (c.beat-beat.ensures.piece s.accepted s.flushed has.venue) c.calm.ensures
+    (c.beat-beat.ensures.bytes c.args.self.now.unit c.args.self.now.limits.kept s.accepted s.flushed s.advertised has.market) (c.beat-beat.ensures.piece c.args.self.now.unit c.args.self.now.limits.kept s.accepted s.flushed s.advertised has.market) c.calm.ensures
