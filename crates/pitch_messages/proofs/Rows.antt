@@ -1,14 +1,12 @@
 -- What a raw says by its row.
-use Rattle.std.proofs.Common.{◌≡◌, ℕ, ◌<◌, ◌≤◌, Bool, cond, List, length, refl, sym, ap, ◌∙◌, arith, subst, Option, None, Some, Result, Ok, Err, slice_index}
+use Rattle.std.proofs.Common.{◌≡◌, ℕ, ◌<◌, ◌≤◌, Bool, cond, List, length, refl, sym, ap, ◌∙◌, arith, subst, Option, None, Some, Ok, Err, slice_index}
 use Rattle.std.specs.Option.{option_map}
 use Rattle.std.proofs.lemmas.Bool.{lt-ltb, le-ltb}
 use Rattle.pitch_messages.specs.Raw.{IsRaw, kind_of}
-use Rattle.pitch_messages.specs.declared.message.Message.{Message}
 use Rattle.pitch_messages.specs.declared.message.Message.TheVariants as messages
-use Rattle.pitch_messages.specs.declared.message.ReadError.{ReadError}
 use Rattle.pitch_messages.specs.declared.message.ReadError.TheVariants.{Short}
-use Rattle.pitch_messages.specs.Table.{Row, needs, needs_by, reads_by}
-use Rattle.pitch_messages.specs.Reading.{MessageRow, IsWhole, needs_of, row_of, row_says, reads}
+use Rattle.pitch_messages.specs.Table.{Row, IsWhole, needs, needs_by, reads_by}
+use Rattle.pitch_messages.specs.Reading.{MessageRow, needs_of, row_of, row_says, reads}
 use Rattle.pitch_messages.specs.Session.{SessionRow, session_row_of, session_row_says, session_reads}
 use Rattle.pitch_messages.specs.declared.session.SessionError.TheVariants.{WrongType, Short as TooShort}
 
@@ -40,12 +38,18 @@ pub row_unknown : {A : Type 0} (size : ℕ) (row : Option (Row A)) → None ≡ 
 row_unknown size None of = omega arith
 row_unknown size (Some row) of = cc
 
--- what a known type needs is there
-pub enough : {A : Type 0} (table : ℕ → Option (Row A)) {kind k size : ℕ} → kind ≡ k → needs_by (table kind) ≤ size → needs_by (table k) ≤ size
-enough table {size = size} is there = subst (λ (n : ℕ). needs_by (table n) ≤ size) is there
+-- a raw that has what its type needs
+pub whole : {A : Type 0} (table : ℕ → Option (Row A)) (kind : ℕ) (raw : List ℕ) → kind_of raw ≡ kind → needs_by (table (kind_of raw)) ≤ length raw → IsWhole table kind raw
+whole table kind raw is long = record { is = is; long = subst (λ (k : ℕ). needs_by (table k) ≤ length raw) is long }
 
-needed : {A : Type 0} (table : ℕ → Option (Row A)) (kind k size : ℕ) (row : Row A) → kind ≡ k → table k ≡ Some row → needs_by (table kind) ≤ size → needs row ≤ size
-needed {A} table kind k size row is at there = subst (λ (r : Option (Row A)). needs_by r ≤ size) (ap table is ∙ at) there
+-- what its row says, if its type has one
+abbrev pub row_or : {A B : Type 0} → (List ℕ → B) → (Row A → List ℕ → B) → Option (Row A) → List ℕ → B
+row_or unknown known None raw = unknown raw
+row_or unknown known (Some row) raw = known row raw
+
+whole_by : {A B : Type 0} (other : List ℕ → B) (few : ℕ → ℕ → B) (says : Row A → List ℕ → B) (row : Option (Row A)) (raw : List ℕ) → needs_by row ≤ length raw → reads_by other few says row raw ≡ row_or other says row raw
+whole_by other few says None raw long = refl
+whole_by other few says (Some row) raw long = ap (λ (b : Bool). cond b (few (needs row) (length raw)) (says row raw)) (le-ltb (length raw) (needs row) long)
 
 -- the same for the table of messages
 pub said : (row : MessageRow) (raw : List ℕ) (kind : ℕ) → kind_of raw ≡ kind → row_of kind ≡ Some row → needs row ≤ length raw → row_says row raw ≡ reads raw
@@ -56,21 +60,9 @@ pub unsaid : (raw : List ℕ) → row_of (kind_of raw) ≡ None → Ok (messages
 unfolding reads
 unsaid raw none = row_none (λ other. Ok (messages.Other other)) (λ needs has. Err (Short needs has)) row_says raw (row_of (kind_of raw)) none
 
--- a raw that has what its type needs
-pub whole : (kind : ℕ) (raw : List ℕ) → kind_of raw ≡ kind → needs_of (kind_of raw) ≤ length raw → IsWhole kind raw
-whole kind raw is long = record { is = is; long = enough row_of is long }
-
--- what its row says, if its type has one
-abbrev pub row_or : Option MessageRow → List ℕ → Result Message ReadError
-row_or None raw = Ok (messages.Other raw)
-row_or (Some row) raw = row_says row raw
-
-pub whole_says : (raw : List ℕ) → needs_of (kind_of raw) ≤ length raw → reads raw ≡ row_or (row_of (kind_of raw)) raw
-whole_says raw long = by (row_of (kind_of raw)) refl
-  where
-    by : (row : Option MessageRow) → row_of (kind_of raw) ≡ row → reads raw ≡ row_or row raw
-    by None none = sym (unsaid raw none)
-    by (Some row) at = sym (said row raw (kind_of raw) refl at (subst (λ (r : Option MessageRow). needs_by r ≤ length raw) at long))
+pub whole_says : (raw : List ℕ) → needs_of (kind_of raw) ≤ length raw → reads raw ≡ row_or (λ other. Ok (messages.Other other)) row_says (row_of (kind_of raw)) raw
+unfolding reads
+whole_says raw long = whole_by (λ other. Ok (messages.Other other)) (λ needs has. Err (Short needs has)) row_says (row_of (kind_of raw)) raw long
 
 pub short : (raw : List ℕ) (least : ℕ) → Some least ≡ option_map (λ (r : MessageRow). needs r) (row_of (kind_of raw)) → length raw < least → IsRaw raw → reads raw ≡ Err (Short least (slice_index raw 0))
 unfolding reads
@@ -81,8 +73,9 @@ pub session_said : (row : SessionRow) (raw : List ℕ) (kind : ℕ) → kind_of 
 unfolding session_reads
 session_said row raw kind is at there = row_known (λ other. Err (WrongType (kind_of other))) (λ needs has. Err (TooShort needs has)) session_row_says session_row_of row raw kind is at there
 
-pub session_said_here : (raw : List ℕ) {k : ℕ} (row : SessionRow) → kind_of raw ≡ k → session_row_of k ≡ Some row → needs_by (session_row_of (kind_of raw)) ≤ length raw → session_row_says row raw ≡ session_reads raw
-session_said_here raw {k} row is at there = session_said row raw k is at (needed session_row_of (kind_of raw) k (length raw) row is at there)
+pub session_whole_says : (raw : List ℕ) → needs_by (session_row_of (kind_of raw)) ≤ length raw → session_reads raw ≡ row_or (λ other. Err (WrongType (kind_of other))) session_row_says (session_row_of (kind_of raw)) raw
+unfolding session_reads
+session_whole_says raw long = whole_by (λ other. Err (WrongType (kind_of other))) (λ needs has. Err (TooShort needs has)) session_row_says (session_row_of (kind_of raw)) raw long
 
 pub session_unsaid : (raw : List ℕ) → session_row_of (kind_of raw) ≡ None → Err (WrongType (kind_of raw)) ≡ session_reads raw
 unfolding session_reads

@@ -1,8 +1,9 @@
 -- Tables of messages by their type: how a raw is read by one, and how a message is written.
-use Rattle.std.specs.Prelude.{ℕ, ◌==◌, ◌+◌, nat_lt, List, [], ◌∷◌, ◌++◌, length, take, drop}
-use Rattle.std.specs.Prelude.{Option, None, Some, Result, if◌then◌else◌}
+use Rattle.std.specs.Prelude.{◌≡◌, ℕ, ◌==◌, ◌+◌, ◌≤◌, nat_lt, List, [], ◌∷◌, ◌++◌, length, take}
+use Rattle.std.specs.Prelude.{drop, Option, None, Some, Result, if◌then◌else◌}
 use Rattle.pitch_messages.specs.Fields.{Field, Values, Makes, widths, all_bytes, all_blanked}
 use Rattle.pitch_messages.specs.Fields.{with_fields}
+use Rattle.pitch_messages.specs.Raw.{kind_of}
 
 -- a type of message: its byte, its fields, end to end behind the length and the type, and the
 -- message that is made of what they say
@@ -32,6 +33,12 @@ row_in (row ∷ rows) kind = if kind == row.kind then Some row else row_in rows 
 abbrev pub needs_by : {A : Type 0} → Option (Row A) → ℕ
 needs_by None = 0
 needs_by (Some row) = needs row
+
+-- a raw of a type, with the bytes that its row needs
+pub record IsWhole {A : Type 0} (row_of : ℕ → Option (Row A)) (kind : ℕ) (raw : List ℕ) :
+    Type 0 where
+  pub is : kind_of raw ≡ kind
+  pub long : needs_by (row_of kind) ≤ length raw
 
 -- what a raw says by its row
 abbrev pub reads_by : {A B : Type 0} → (List ℕ → B) → (ℕ → ℕ → B) → (Row A → List ℕ → B)

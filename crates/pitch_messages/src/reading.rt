@@ -7,9 +7,9 @@ ghost use Rattle.pitch_fields.specs.Side.{side_of};
 ghost use Rattle.pitch_messages.specs.Raw.{IsRaw, kind_of};
 ghost use Rattle.pitch_messages.specs.declared.message.ReadError.TheVariants.{BadSide};
 ghost use Rattle.pitch_messages.specs.Fields.{bytes_at};
-ghost use Rattle.pitch_messages.specs.Table.{needs};
+ghost use Rattle.pitch_messages.specs.Table.{IsWhole, needs};
 ghost use Rattle.pitch_messages.specs.Writing.{written, with_reserved_blank};
-ghost use Rattle.pitch_messages.specs.Reading.{IsWhole, needs_of, extra_of, reads, row_of};
+ghost use Rattle.pitch_messages.specs.Reading.{needs_of, extra_of, reads, row_of};
 
 use crate::message::{Message, ReadError};
 use crate::raw::Raw;
@@ -74,7 +74,7 @@ fn side_at(bytes: &[u8]) -> Result<Side, ReadError>
 
 #[inline(always)]
 fn time(bytes: &[u8]) -> Result<Message, ReadError>
-    requires { IsWhole 0x20 bytes.now }
+    requires { IsWhole row_of 0x20 bytes.now }
     ensures { result ≡ reads bytes.now }
 {
     Ok(Message::Time {
@@ -84,7 +84,7 @@ fn time(bytes: &[u8]) -> Result<Message, ReadError>
 
 #[inline(always)]
 fn add_long(bytes: &[u8]) -> Result<Message, ReadError>
-    requires { IsWhole 0x21 bytes.now }
+    requires { IsWhole row_of 0x21 bytes.now }
     ensures { result ≡ reads bytes.now }
 {
     let side = side_at(bytes)?;
@@ -101,7 +101,7 @@ fn add_long(bytes: &[u8]) -> Result<Message, ReadError>
 
 #[inline(always)]
 fn add_short(bytes: &[u8]) -> Result<Message, ReadError>
-    requires { IsWhole 0x22 bytes.now }
+    requires { IsWhole row_of 0x22 bytes.now }
     ensures { result ≡ reads bytes.now }
 {
     let side = side_at(bytes)?;
@@ -118,7 +118,7 @@ fn add_short(bytes: &[u8]) -> Result<Message, ReadError>
 
 #[inline(always)]
 fn executed(bytes: &[u8]) -> Result<Message, ReadError>
-    requires { IsWhole 0x23 bytes.now }
+    requires { IsWhole row_of 0x23 bytes.now }
     ensures { result ≡ reads bytes.now }
 {
     Ok(Message::Executed {
@@ -131,7 +131,7 @@ fn executed(bytes: &[u8]) -> Result<Message, ReadError>
 
 #[inline(always)]
 fn executed_at(bytes: &[u8]) -> Result<Message, ReadError>
-    requires { IsWhole 0x24 bytes.now }
+    requires { IsWhole row_of 0x24 bytes.now }
     ensures { result ≡ reads bytes.now }
 {
     Ok(Message::ExecutedAt {
@@ -146,7 +146,7 @@ fn executed_at(bytes: &[u8]) -> Result<Message, ReadError>
 
 #[inline(always)]
 fn reduce_long(bytes: &[u8]) -> Result<Message, ReadError>
-    requires { IsWhole 0x25 bytes.now }
+    requires { IsWhole row_of 0x25 bytes.now }
     ensures { result ≡ reads bytes.now }
 {
     Ok(Message::ReduceLong {
@@ -158,7 +158,7 @@ fn reduce_long(bytes: &[u8]) -> Result<Message, ReadError>
 
 #[inline(always)]
 fn reduce_short(bytes: &[u8]) -> Result<Message, ReadError>
-    requires { IsWhole 0x26 bytes.now }
+    requires { IsWhole row_of 0x26 bytes.now }
     ensures { result ≡ reads bytes.now }
 {
     Ok(Message::ReduceShort {
@@ -170,7 +170,7 @@ fn reduce_short(bytes: &[u8]) -> Result<Message, ReadError>
 
 #[inline(always)]
 fn modify_long(bytes: &[u8]) -> Result<Message, ReadError>
-    requires { IsWhole 0x27 bytes.now }
+    requires { IsWhole row_of 0x27 bytes.now }
     ensures { result ≡ reads bytes.now }
 {
     Ok(Message::ModifyLong {
@@ -184,7 +184,7 @@ fn modify_long(bytes: &[u8]) -> Result<Message, ReadError>
 
 #[inline(always)]
 fn modify_short(bytes: &[u8]) -> Result<Message, ReadError>
-    requires { IsWhole 0x28 bytes.now }
+    requires { IsWhole row_of 0x28 bytes.now }
     ensures { result ≡ reads bytes.now }
 {
     Ok(Message::ModifyShort {
@@ -198,7 +198,7 @@ fn modify_short(bytes: &[u8]) -> Result<Message, ReadError>
 
 #[inline(always)]
 fn delete(bytes: &[u8]) -> Result<Message, ReadError>
-    requires { IsWhole 0x29 bytes.now }
+    requires { IsWhole row_of 0x29 bytes.now }
     ensures { result ≡ reads bytes.now }
 {
     Ok(Message::Delete {
@@ -209,7 +209,7 @@ fn delete(bytes: &[u8]) -> Result<Message, ReadError>
 
 #[inline(always)]
 fn trade_long(bytes: &[u8]) -> Result<Message, ReadError>
-    requires { IsWhole 0x2a bytes.now }
+    requires { IsWhole row_of 0x2a bytes.now }
     ensures { result ≡ reads bytes.now }
 {
     let side = side_at(bytes)?;
@@ -226,7 +226,7 @@ fn trade_long(bytes: &[u8]) -> Result<Message, ReadError>
 
 #[inline(always)]
 fn trade_short(bytes: &[u8]) -> Result<Message, ReadError>
-    requires { IsWhole 0x2b bytes.now }
+    requires { IsWhole row_of 0x2b bytes.now }
     ensures { result ≡ reads bytes.now }
 {
     let side = side_at(bytes)?;
@@ -243,7 +243,7 @@ fn trade_short(bytes: &[u8]) -> Result<Message, ReadError>
 
 #[inline(always)]
 fn trade_break(bytes: &[u8]) -> Result<Message, ReadError>
-    requires { IsWhole 0x2c bytes.now }
+    requires { IsWhole row_of 0x2c bytes.now }
     ensures { result ≡ reads bytes.now }
 {
     Ok(Message::TradeBreak {
@@ -254,7 +254,7 @@ fn trade_break(bytes: &[u8]) -> Result<Message, ReadError>
 
 #[inline(always)]
 fn end_of_session(bytes: &[u8]) -> Result<Message, ReadError>
-    requires { IsWhole 0x2d bytes.now }
+    requires { IsWhole row_of 0x2d bytes.now }
     ensures { result ≡ reads bytes.now }
 {
     Ok(Message::EndOfSession {
@@ -264,7 +264,7 @@ fn end_of_session(bytes: &[u8]) -> Result<Message, ReadError>
 
 #[inline(always)]
 fn add_expanded(bytes: &[u8]) -> Result<Message, ReadError>
-    requires { IsWhole 0x2f bytes.now }
+    requires { IsWhole row_of 0x2f bytes.now }
     ensures { result ≡ reads bytes.now }
 {
     let side = side_at(bytes)?;
@@ -282,7 +282,7 @@ fn add_expanded(bytes: &[u8]) -> Result<Message, ReadError>
 
 #[inline(always)]
 fn trade_expanded(bytes: &[u8]) -> Result<Message, ReadError>
-    requires { IsWhole 0x30 bytes.now }
+    requires { IsWhole row_of 0x30 bytes.now }
     ensures { result ≡ reads bytes.now }
 {
     let side = side_at(bytes)?;
@@ -299,7 +299,7 @@ fn trade_expanded(bytes: &[u8]) -> Result<Message, ReadError>
 
 #[inline(always)]
 fn trading_status(bytes: &[u8]) -> Result<Message, ReadError>
-    requires { IsWhole 0x31 bytes.now }
+    requires { IsWhole row_of 0x31 bytes.now }
     ensures { result ≡ reads bytes.now }
 {
     Ok(Message::TradingStatus {
@@ -312,7 +312,7 @@ fn trading_status(bytes: &[u8]) -> Result<Message, ReadError>
 
 #[inline(always)]
 fn unit_clear(bytes: &[u8]) -> Result<Message, ReadError>
-    requires { IsWhole 0x97 bytes.now }
+    requires { IsWhole row_of 0x97 bytes.now }
     ensures { result ≡ reads bytes.now }
 {
     Ok(Message::UnitClear {

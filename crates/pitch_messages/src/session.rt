@@ -1,16 +1,13 @@
 //! Messages of the sessions with the Gap Request Proxy and the Spin Server.
+#![tactic(auto, using(crate::proofs::Rows::whole, crate::proofs::Rows::session_whole_says))]
 
 ghost use Rattle.std.specs.Prelude.{◌≡◌, ℕ, ◌+◌, ◌≤◌, ◌<◌, Ok, length, take, drop, slice_index};
 ghost use Rattle.std.specs.Prelude.{OnOk, IfErr};
 ghost use Rattle.std.specs.Option.{option_map};
 ghost use Rattle.pitch_messages.specs.Raw.{IsRaw, kind_of};
 ghost use Rattle.pitch_messages.specs.Fields.{bytes_at};
-ghost use Rattle.pitch_messages.specs.Table.{needs, needs_by};
+ghost use Rattle.pitch_messages.specs.Table.{IsWhole, needs, needs_by};
 ghost use Rattle.pitch_messages.specs.Session.{session_row_of, session_reads, session_written};
-ghost use Rattle.pitch_messages.specs.Session.{login_row, login_reply_row, gap_request_row};
-ghost use Rattle.pitch_messages.specs.Session.{gap_reply_row, spin_available_row, spin_request_row};
-ghost use Rattle.pitch_messages.specs.Session.{spin_reply_row, spin_finished_row};
-ghost use Rattle.pitch_messages.specs.Session.{session_row_says};
 ghost use Rattle.pitch_messages.specs.declared.session.SessionMessage.TheVariants.{Login};
 
 use crate::raw::Raw;
@@ -98,8 +95,8 @@ fn ten_at(bytes: &[u8], at: usize) -> [u8; 10]
 }
 
 fn login(bytes: &[u8]) -> SessionMessage
-    requires { 22 ≤ length bytes.now }
-    ensures { Ok result ≡ session_row_says login_row bytes.now }
+    requires { IsWhole session_row_of 0x01 bytes.now }
+    ensures { Ok result ≡ session_reads bytes.now }
 {
     SessionMessage::Login {
         sub: four_at(bytes, 2),
@@ -109,15 +106,15 @@ fn login(bytes: &[u8]) -> SessionMessage
 }
 
 fn login_reply(bytes: &[u8]) -> SessionMessage
-    requires { 3 ≤ length bytes.now }
-    ensures { Ok result ≡ session_row_says login_reply_row bytes.now }
+    requires { IsWhole session_row_of 0x02 bytes.now }
+    ensures { Ok result ≡ session_reads bytes.now }
 {
     SessionMessage::LoginReply { status: bytes[2] }
 }
 
 fn gap_request(bytes: &[u8]) -> SessionMessage
-    requires { 9 ≤ length bytes.now }
-    ensures { Ok result ≡ session_row_says gap_request_row bytes.now }
+    requires { IsWhole session_row_of 0x03 bytes.now }
+    ensures { Ok result ≡ session_reads bytes.now }
 {
     SessionMessage::GapRequest {
         unit: bytes[2],
@@ -127,8 +124,8 @@ fn gap_request(bytes: &[u8]) -> SessionMessage
 }
 
 fn gap_reply(bytes: &[u8]) -> SessionMessage
-    requires { 10 ≤ length bytes.now }
-    ensures { Ok result ≡ session_row_says gap_reply_row bytes.now }
+    requires { IsWhole session_row_of 0x04 bytes.now }
+    ensures { Ok result ≡ session_reads bytes.now }
 {
     SessionMessage::GapReply {
         unit: bytes[2],
@@ -139,8 +136,8 @@ fn gap_reply(bytes: &[u8]) -> SessionMessage
 }
 
 fn spin_available(bytes: &[u8]) -> SessionMessage
-    requires { 6 ≤ length bytes.now }
-    ensures { Ok result ≡ session_row_says spin_available_row bytes.now }
+    requires { IsWhole session_row_of 0x80 bytes.now }
+    ensures { Ok result ≡ session_reads bytes.now }
 {
     SessionMessage::SpinAvailable {
         sequence: get_u32(bytes, 2),
@@ -148,8 +145,8 @@ fn spin_available(bytes: &[u8]) -> SessionMessage
 }
 
 fn spin_request(bytes: &[u8]) -> SessionMessage
-    requires { 6 ≤ length bytes.now }
-    ensures { Ok result ≡ session_row_says spin_request_row bytes.now }
+    requires { IsWhole session_row_of 0x81 bytes.now }
+    ensures { Ok result ≡ session_reads bytes.now }
 {
     SessionMessage::SpinRequest {
         sequence: get_u32(bytes, 2),
@@ -157,8 +154,8 @@ fn spin_request(bytes: &[u8]) -> SessionMessage
 }
 
 fn spin_reply(bytes: &[u8]) -> SessionMessage
-    requires { 11 ≤ length bytes.now }
-    ensures { Ok result ≡ session_row_says spin_reply_row bytes.now }
+    requires { IsWhole session_row_of 0x82 bytes.now }
+    ensures { Ok result ≡ session_reads bytes.now }
 {
     SessionMessage::SpinReply {
         sequence: get_u32(bytes, 2),
@@ -168,8 +165,8 @@ fn spin_reply(bytes: &[u8]) -> SessionMessage
 }
 
 fn spin_finished(bytes: &[u8]) -> SessionMessage
-    requires { 6 ≤ length bytes.now }
-    ensures { Ok result ≡ session_row_says spin_finished_row bytes.now }
+    requires { IsWhole session_row_of 0x83 bytes.now }
+    ensures { Ok result ≡ session_reads bytes.now }
 {
     SessionMessage::SpinFinished {
         sequence: get_u32(bytes, 2),
