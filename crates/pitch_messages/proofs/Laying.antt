@@ -12,7 +12,7 @@ use Rattle.pitch_fields.specs.Side.{byte_of, side_of}
 use Rattle.pitch_fields.specs.declared.side.Side.{Side}
 use Rattle.pitch_fields.specs.declared.side.Side.TheVariants.{Buy, Sell}
 use Rattle.pitch_fields.proofs.LittleEndian.{bytes_of_number}
-use Rattle.pitch_messages.specs.Fields.{Field, Number, SideByte, Byte, Text, Reserved, Value, Values, Makes, width, widths, spaces, bytes_of, all_bytes, blanked, all_blanked, bytes_at, with_side, with_field, with_fields}
+use Rattle.pitch_messages.specs.Fields.{number_bytes, Field, Number, SideByte, Byte, Text, Reserved, Value, Values, Makes, width, widths, spaces, bytes_of, all_bytes, blanked, all_blanked, bytes_at, with_side, with_field, with_fields}
 use Rattle.pitch_messages.specs.Table.{Row, needs, says, row_bytes, blanked_by}
 
 -- what is made of what fields say
@@ -63,7 +63,7 @@ field_size Byte byte fits = refl
 field_size (Text n) text fits = fits
 field_size (Reserved n) value fits = spaces_size n
 
-pub all_size : (fields : List Field) (values : Values fields) → AllFit fields values → length (all_bytes fields values) ≡ widths fields
+all_size : (fields : List Field) (values : Values fields) → AllFit fields values → length (all_bytes fields values) ≡ widths fields
 all_size [] values fit = refl
 all_size (field ∷ fields) values fit =
     omega (arith, length-append (bytes_of field values.0) (all_bytes fields values.1), field_size field values.0 fit.0, all_size fields values.1 fit.1)
@@ -88,6 +88,34 @@ pub row_back : {A E : Type 0} (bad : ℕ → E) (row : Row A) (values : Values r
 row_back bad row values fit =
     ap (λ (xs : List ℕ). with_fields bad row.fields 2 (needs row ∷ row.kind ∷ xs) row.makes) (sym (append-nil (all_bytes row.fields values)))
     ∙ fields_back bad row.fields 2 (needs row ∷ row.kind ∷ []) [] values row.makes refl fit
+
+-- the same bytes, with those of a number as one thing
+abbrev field_laid : (field : Field) → Value field → List ℕ
+field_laid (Number n) number = number_bytes n number
+field_laid SideByte side = byte_of side ∷ []
+field_laid Byte byte = byte ∷ []
+field_laid (Text n) text = text
+field_laid (Reserved n) nothing = spaces n
+
+abbrev pub all_laid : (fields : List Field) → Values fields → List ℕ
+all_laid [] values = []
+all_laid (field ∷ fields) values = field_laid field values.0 ++ all_laid fields values.1
+
+field_same : (field : Field) (value : Value field) → bytes_of field value ≡ field_laid field value
+unfolding number_bytes
+field_same (Number n) number = refl
+field_same SideByte side = refl
+field_same _ value = refl
+
+all_same : (fields : List Field) (values : Values fields) → all_bytes fields values ≡ all_laid fields values
+all_same [] values = refl
+all_same (field ∷ fields) values = λ i. field_same field values.0 i ++ all_same fields values.1 i
+
+pub row_laid : {A : Type 0} (row : Row A) (values : Values row.fields) → AllFit row.fields values → row_bytes row values ≡ (2 + length (all_laid row.fields values)) ∷ row.kind ∷ all_laid row.fields values
+row_laid row values fit =
+    let same = all_same row.fields values in
+    let size : needs row ≡ 2 + length (all_laid row.fields values) = omega (arith, all_size row.fields values fit, ap length same) in
+    λ i. size i ∷ row.kind ∷ same i
 
 pub row_size : {A : Type 0} (row : Row A) (values : Values row.fields) → AllFit row.fields values → length (row_bytes row values) ≡ needs row
 row_size row values fit = omega (arith, all_size row.fields values fit)

@@ -1,14 +1,14 @@
 -- What is read of a message that was written is that message.
 use Rattle.std.proofs.Common.{◌≡◌, ℕ, ◌+◌, ◌≤◌, List, ◌∷◌, length, sym, ap, ◌∙◌, arith, None, Some, Ok, refl}
 use Rattle.pitch_messages.specs.Raw.{kind_of}
-use Rattle.pitch_messages.specs.Fields.{Values, all_bytes}
+use Rattle.pitch_messages.specs.Fields.{Values}
 use Rattle.pitch_messages.specs.Table.{needs, row_bytes}
 use Rattle.pitch_messages.specs.Reading.{MessageRow, reads, row_of}
 use Rattle.pitch_messages.specs.Writing.{InRow, Known, Unknown, in_row, bytes_in, written}
 use Rattle.pitch_messages.specs.declared.message.Message.{Message}
 use Rattle.pitch_messages.specs.declared.message.Message.TheVariants as messages
 use Rattle.pitch_messages.specs.declared.message.ReadError.TheVariants.{BadSide}
-use Rattle.pitch_messages.proofs.Laying.{AllFit, made, all_size, row_back, row_size}
+use Rattle.pitch_messages.proofs.Laying.{AllFit, made, all_laid, row_back, row_laid, row_size}
 use Rattle.pitch_messages.proofs.Rows.{said, unsaid}
 
 -- what the fields of a row are written as is read as the message that they make
@@ -39,17 +39,15 @@ message_back message = by (in_row message) (made_by message)
     by (Known row values) is fit = reads_back row values is.0 fit ∙ ap (λ (m : Message). Ok m) is.1
     by (Unknown raw) is none = sym (unsaid raw none) ∙ ap (λ (m : Message). Ok m) is
 
--- a type and bytes that the fields of a message have
-abbrev Lays : ℕ → List ℕ → InRow → Type 0
-Lays kind bytes (Known row values) = (kind ≡ row.kind) × ((bytes ≡ all_bytes row.fields values) × AllFit row.fields values)
-Lays kind bytes (Unknown raw) = ⊥
+-- the bytes of a message, with those of a number as one thing
+abbrev laid_in : InRow → List ℕ
+laid_in (Known row values) = (2 + length (all_laid row.fields values)) ∷ row.kind ∷ all_laid row.fields values
+laid_in (Unknown raw) = raw
 
-pub laid : (message : Message) (raw bytes : List ℕ) (kind : ℕ) → raw ≡ (2 + length bytes) ∷ kind ∷ bytes → Lays kind bytes (in_row message) → raw ≡ written message
+pub laid : (message : Message) → FitsRow (in_row message) → written message ≡ laid_in (in_row message)
 unfolding written
-laid message raw bytes kind is lays = by (in_row message) lays
+laid message = by (in_row message)
   where
-    by : (there : InRow) → Lays kind bytes there → raw ≡ bytes_in there
-    by (Known row values) (k, (b, fit)) =
-        let size : 2 + length bytes ≡ needs row = omega (arith, ap length b, all_size row.fields values fit) in
-        is ∙ (λ i. size i ∷ k i ∷ b i)
-    by (Unknown other) none = absurd none
+    by : (there : InRow) → FitsRow there → bytes_in there ≡ laid_in there
+    by (Known row values) fit = row_laid row values fit
+    by (Unknown raw) none = refl

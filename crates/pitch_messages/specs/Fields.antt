@@ -59,6 +59,10 @@ abbrev pub spaces : ℕ → List ℕ
 spaces zero = []
 spaces (suc n) = 32 ∷ spaces n
 
+-- the bytes of a number, the low one first, as one thing
+unfoldable pub number_bytes : ℕ → ℕ → List ℕ
+number_bytes n number = little_bytes n number
+
 -- the bytes of a field
 abbrev pub bytes_of : (field : Field) → Value field → List ℕ
 bytes_of (Number n) number = little_bytes n number

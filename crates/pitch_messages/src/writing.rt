@@ -1,7 +1,8 @@
 //! From a message's fields to its bytes, type by type; it undoes the reading.
-#![tactic(auto, unfolding(crate::specs::Writing::written))]
+#![tactic(auto, using(crate::proofs::RoundTrip::laid))]
 
 ghost use Rattle.std.specs.Prelude.{◌≡◌, length};
+ghost use Rattle.pitch_messages.specs.Fields.{number_bytes};
 ghost use Rattle.pitch_messages.specs.Reading.{reads};
 ghost use Rattle.pitch_messages.specs.Writing.{written, HasItsVariant};
 ghost use Rattle.pitch_messages.specs.declared.message.Message.TheVariants as messages;
@@ -10,10 +11,37 @@ use crate::message::Message;
 use crate::raw::Raw;
 use pitch_fields::Side;
 
+// The two bytes of a number.
+#[inline(always)]
+#[tactic(auto, unfolding(crate::specs::Fields::number_bytes))]
+fn two(number: u16) -> [u8; 2]
+    ensures { result ≡ number_bytes 2 number }
+{
+    number.to_le_bytes()
+}
+
+// The four bytes of a number.
+#[inline(always)]
+#[tactic(auto, unfolding(crate::specs::Fields::number_bytes))]
+fn four(number: u32) -> [u8; 4]
+    ensures { result ≡ number_bytes 4 number }
+{
+    number.to_le_bytes()
+}
+
+// The eight bytes of a number.
+#[inline(always)]
+#[tactic(auto, unfolding(crate::specs::Fields::number_bytes))]
+fn eight(number: u64) -> [u8; 8]
+    ensures { result ≡ number_bytes 8 number }
+{
+    number.to_le_bytes()
+}
+
 fn time_raw(second: u32) -> Raw
     ensures { result ≡ written (messages.Time second) }
 {
-    Raw::of_fields(0x20, &[&second.to_le_bytes()])
+    Raw::of_fields(0x20, &[&four(second)])
 }
 
 fn add_long_raw(
@@ -32,12 +60,12 @@ fn add_long_raw(
     Raw::of_fields(
         0x21,
         &[
-            &offset.to_le_bytes(),
-            &id.to_le_bytes(),
+            &four(offset),
+            &eight(id),
             &[side.byte()],
-            &quantity.to_le_bytes(),
+            &four(quantity),
             &symbol,
-            &price.to_le_bytes(),
+            &eight(price),
             &[flags],
         ],
     )
@@ -59,12 +87,12 @@ fn add_short_raw(
     Raw::of_fields(
         0x22,
         &[
-            &offset.to_le_bytes(),
-            &id.to_le_bytes(),
+            &four(offset),
+            &eight(id),
             &[side.byte()],
-            &quantity.to_le_bytes(),
+            &two(quantity),
             &symbol,
-            &price.to_le_bytes(),
+            &two(price),
             &[flags],
         ],
     )
@@ -76,10 +104,10 @@ fn executed_raw(offset: u32, id: u64, executed: u32, execution: u64) -> Raw
     Raw::of_fields(
         0x23,
         &[
-            &offset.to_le_bytes(),
-            &id.to_le_bytes(),
-            &executed.to_le_bytes(),
-            &execution.to_le_bytes(),
+            &four(offset),
+            &eight(id),
+            &four(executed),
+            &eight(execution),
         ],
     )
 }
@@ -97,12 +125,12 @@ fn executed_at_raw(
     Raw::of_fields(
         0x24,
         &[
-            &offset.to_le_bytes(),
-            &id.to_le_bytes(),
-            &executed.to_le_bytes(),
-            &remaining.to_le_bytes(),
-            &execution.to_le_bytes(),
-            &price.to_le_bytes(),
+            &four(offset),
+            &eight(id),
+            &four(executed),
+            &four(remaining),
+            &eight(execution),
+            &eight(price),
         ],
     )
 }
@@ -110,27 +138,13 @@ fn executed_at_raw(
 fn reduce_long_raw(offset: u32, id: u64, quantity: u32) -> Raw
     ensures { result ≡ written (messages.ReduceLong offset id quantity) }
 {
-    Raw::of_fields(
-        0x25,
-        &[
-            &offset.to_le_bytes(),
-            &id.to_le_bytes(),
-            &quantity.to_le_bytes(),
-        ],
-    )
+    Raw::of_fields(0x25, &[&four(offset), &eight(id), &four(quantity)])
 }
 
 fn reduce_short_raw(offset: u32, id: u64, quantity: u16) -> Raw
     ensures { result ≡ written (messages.ReduceShort offset id quantity) }
 {
-    Raw::of_fields(
-        0x26,
-        &[
-            &offset.to_le_bytes(),
-            &id.to_le_bytes(),
-            &quantity.to_le_bytes(),
-        ],
-    )
+    Raw::of_fields(0x26, &[&four(offset), &eight(id), &two(quantity)])
 }
 
 fn modify_long_raw(offset: u32, id: u64, quantity: u32, price: u64, flags: u8) -> Raw
@@ -139,10 +153,10 @@ fn modify_long_raw(offset: u32, id: u64, quantity: u32, price: u64, flags: u8) -
     Raw::of_fields(
         0x27,
         &[
-            &offset.to_le_bytes(),
-            &id.to_le_bytes(),
-            &quantity.to_le_bytes(),
-            &price.to_le_bytes(),
+            &four(offset),
+            &eight(id),
+            &four(quantity),
+            &eight(price),
             &[flags],
         ],
     )
@@ -154,10 +168,10 @@ fn modify_short_raw(offset: u32, id: u64, quantity: u16, price: u16, flags: u8) 
     Raw::of_fields(
         0x28,
         &[
-            &offset.to_le_bytes(),
-            &id.to_le_bytes(),
-            &quantity.to_le_bytes(),
-            &price.to_le_bytes(),
+            &four(offset),
+            &eight(id),
+            &two(quantity),
+            &two(price),
             &[flags],
         ],
     )
@@ -166,7 +180,7 @@ fn modify_short_raw(offset: u32, id: u64, quantity: u16, price: u16, flags: u8) 
 fn delete_raw(offset: u32, id: u64) -> Raw
     ensures { result ≡ written (messages.Delete offset id) }
 {
-    Raw::of_fields(0x29, &[&offset.to_le_bytes(), &id.to_le_bytes()])
+    Raw::of_fields(0x29, &[&four(offset), &eight(id)])
 }
 
 fn trade_long_raw(
@@ -185,13 +199,13 @@ fn trade_long_raw(
     Raw::of_fields(
         0x2a,
         &[
-            &offset.to_le_bytes(),
-            &id.to_le_bytes(),
+            &four(offset),
+            &eight(id),
             &[side.byte()],
-            &quantity.to_le_bytes(),
+            &four(quantity),
             &symbol,
-            &price.to_le_bytes(),
-            &execution.to_le_bytes(),
+            &eight(price),
+            &eight(execution),
         ],
     )
 }
@@ -212,13 +226,13 @@ fn trade_short_raw(
     Raw::of_fields(
         0x2b,
         &[
-            &offset.to_le_bytes(),
-            &id.to_le_bytes(),
+            &four(offset),
+            &eight(id),
             &[side.byte()],
-            &quantity.to_le_bytes(),
+            &two(quantity),
             &symbol,
-            &price.to_le_bytes(),
-            &execution.to_le_bytes(),
+            &two(price),
+            &eight(execution),
         ],
     )
 }
@@ -226,13 +240,13 @@ fn trade_short_raw(
 fn trade_break_raw(offset: u32, execution: u64) -> Raw
     ensures { result ≡ written (messages.TradeBreak offset execution) }
 {
-    Raw::of_fields(0x2c, &[&offset.to_le_bytes(), &execution.to_le_bytes()])
+    Raw::of_fields(0x2c, &[&four(offset), &eight(execution)])
 }
 
 fn end_of_session_raw(offset: u32) -> Raw
     ensures { result ≡ written (messages.EndOfSession offset) }
 {
-    Raw::of_fields(0x2d, &[&offset.to_le_bytes()])
+    Raw::of_fields(0x2d, &[&four(offset)])
 }
 
 fn add_expanded_raw(
@@ -253,12 +267,12 @@ fn add_expanded_raw(
     Raw::of_fields(
         0x2f,
         &[
-            &offset.to_le_bytes(),
-            &id.to_le_bytes(),
+            &four(offset),
+            &eight(id),
             &[side.byte()],
-            &quantity.to_le_bytes(),
+            &four(quantity),
             &symbol,
-            &price.to_le_bytes(),
+            &eight(price),
             &[flags],
             &participant,
         ],
@@ -281,13 +295,13 @@ fn trade_expanded_raw(
     Raw::of_fields(
         0x30,
         &[
-            &offset.to_le_bytes(),
-            &id.to_le_bytes(),
+            &four(offset),
+            &eight(id),
             &[side.byte()],
-            &quantity.to_le_bytes(),
+            &four(quantity),
             &symbol,
-            &price.to_le_bytes(),
-            &execution.to_le_bytes(),
+            &eight(price),
+            &eight(execution),
         ],
     )
 }
@@ -296,13 +310,13 @@ fn trading_status_raw(offset: u32, symbol: [u8; 8], halt: u8, sho: u8) -> Raw
     ensures written { result ≡ written (messages.TradingStatus offset symbol halt sho) }
     ensures symbol { length symbol ≡ 8 }
 {
-    Raw::of_fields(0x31, &[&offset.to_le_bytes(), &symbol, &[halt, sho], b"  "])
+    Raw::of_fields(0x31, &[&four(offset), &symbol, &[halt, sho], b"  "])
 }
 
 fn unit_clear_raw(offset: u32) -> Raw
     ensures { result ≡ written (messages.UnitClear offset) }
 {
-    Raw::of_fields(0x97, &[&offset.to_le_bytes()])
+    Raw::of_fields(0x97, &[&four(offset)])
 }
 
 /// The raw of a message: its length, its type and its fields, end to end. A raw under Other is
