@@ -3,7 +3,7 @@ use Rattle.std.proofs.Common.{◌≡◌, ℕ, ◌+◌, true, false, Bool, List, 
 use Rattle.std.proofs.lemmas.List.{append-nil, length-drop}
 use Rattle.std.specs.List.{concat}
 use Rattle.unit_packets.specs.Causes.{counted}
-use Rattle.unit_packets.proofs.Feeds.{FedOn, all_fed}
+use Rattle.unit_packets.proofs.Feeds.{FedOn, all_fed, counted_on}
 use Rattle.pcap_feed.specs.Capture.{Packet, judge_head, judge_record, front_of, is_cut_off, ordered, begin_of, packets_from, left_from, order_told_from, packets_of, left_of, order_told, capture_place, error_in, left_error, capture_fault_from, capture_fault, capture_end_fault}
 use Rattle.pcap_feed.specs.Lent.{StandsAtFront}
 use Rattle.pcap_feed.specs.Feeding.{CutsRecords, CutsCapture, Stops, Capturing, unfed, HoldsCapture, FeedsCapture, FeedsPieces, CapturePiecesAreCut, CapturePiecesDoNotMatter, WithRoomFor, GoesOn, capture_answer, held_fault_on, held_fault}
@@ -60,9 +60,6 @@ piece_unread bytes error before is =
     }
 
 -- ---- Standing for bytes
-counted_on : (a b : ℕ) → counted (counted a + b) ≡ counted (a + b)
-counted_on a b = omega arith
-
 stops_fault : (told : Option ByteOrder) (rest : List ℕ) (e : CaptureError) (place : ℕ) → Stops told rest e → capture_fault_from false place (left_error told rest) ≡ capture_fault_from false place (Some e)
 stops_fault None rest e place is = ap (λ (o : Option CaptureError). capture_fault_from false place o) (ap error_in is)
 stops_fault (Some order) [] e place is =

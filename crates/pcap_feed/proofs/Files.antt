@@ -2,6 +2,7 @@
 use Rattle.std.proofs.Common.{◌≡◌, ℕ, ◌≤◌, Bool, true, false, cond, nat_lt, List, [], ◌∷◌, ◌++◌, length, drop, refl, sym, ap, ◌∙◌, subst, arith, Option, Some, None, Ok, Err, Result, length-append, inl, inr}
 use Rattle.std.proofs.lemmas.Bool.{cases_Bool, ltb-false, le-ltb, cond-false, cond-true}
 use Rattle.std.proofs.lemmas.List.{append-nil, length-drop, drop-append-le, take-append-le}
+use Rattle.unit_packets.proofs.Cuts.{cases_Result}
 use Rattle.byteorder.specs.Endian.{little_number, big_number}
 use Rattle.unit_packets.specs.Causes.{counted}
 use Rattle.pcap_feed.specs.Stream.{items_within, left_over}
@@ -11,7 +12,7 @@ use Rattle.pcap_feed.specs.declared.fault.ByteOrder.TheVariants.{Little, Big}
 use Rattle.pcap_feed.specs.declared.fault.CaptureError.{CaptureError}
 use Rattle.pcap_feed.specs.declared.fault.CaptureError.TheVariants.{Truncated, BadMagic}
 use Rattle.pcap_feed.specs.declared.fault.CaptureFault.{CaptureFault}
-use Rattle.pcap_feed.proofs.Streams.{cases_Result, appends, none_of}
+use Rattle.pcap_feed.proofs.Streams.{appends, none_of}
 use Rattle.pcap_feed.proofs.Fronts.{IsFinal, number_more, judge_more, front_err, records_are_fronts}
 
 -- ---- The header

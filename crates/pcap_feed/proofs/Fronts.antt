@@ -2,7 +2,8 @@
 use Rattle.std.proofs.Common.{◌≡◌, ℕ, zero, suc, ◌+◌, ◌*◌, ◌<◌, ◌≤◌, ◌^◌, true, false, cond, nat_lt, get_or, List, ◌++◌, length, take, drop, refl, sym, ap, ◌∙◌, arith, Ok, Err, Result, subst, length-append, inl, inr}
 use Rattle.std.proofs.lemmas.Bool.{cases_Bool, ltb-false, le-ltb, cond-false, cond-true}
 use Rattle.std.proofs.lemmas.List.{length-take-le, length-drop, get_or-drop, get_or_append_left, take-append-le, drop-append-le}
-use Rattle.byteorder.specs.Endian.{little_from, big_from}
+use Rattle.unit_packets.proofs.Judged.{same_from}
+use Rattle.byteorder.specs.Endian.{big_from}
 use Rattle.pcap_feed.specs.Items.{IsFront}
 use Rattle.pcap_feed.specs.Capture.{Packet, number_in, judge_record, front_on, front_of, packet_at, is_cut_off}
 use Rattle.pcap_feed.specs.Lent.{StandsAtFront, Captures, packet_of}
@@ -35,12 +36,6 @@ front_found order bytes captured n s f o is c en es ef eo =
     })
 
 -- ---- More bytes
-little_same : (n i : ℕ) (xs ys : List ℕ) → ((j : ℕ) → j < i + n → get_or xs j 0 ≡ get_or ys j 0) → little_from i n xs ≡ little_from i n ys
-little_same zero i xs ys same = refl
-little_same (suc n) i xs ys same =
-    ap (λ (v : ℕ). v + 256 * little_from (suc i) n xs) (same i (omega arith))
-    ∙ ap (λ (v : ℕ). get_or ys i 0 + 256 * v) (little_same n (suc i) xs ys (λ j lt. same j (omega arith)))
-
 big_same : (n i : ℕ) (xs ys : List ℕ) → ((j : ℕ) → j < i + n → get_or xs j 0 ≡ get_or ys j 0) → big_from i n xs ≡ big_from i n ys
 big_same zero i xs ys same = refl
 big_same (suc n) i xs ys same =
@@ -51,7 +46,7 @@ bytes_same : (n at : ℕ) (bytes more : List ℕ) → at + n ≤ length bytes �
 bytes_same n at bytes more le j lt = get_or-drop at (bytes ++ more) j 0 ∙ get_or_append_left bytes more 0 (at + j) (omega arith) ∙ sym (get_or-drop at bytes j 0)
 
 pub number_more : (order : ByteOrder) (n at : ℕ) (bytes more : List ℕ) → at + n ≤ length bytes → number_in order n at (bytes ++ more) ≡ number_in order n at bytes
-number_more Little n at bytes more le = little_same n 0 _ _ (bytes_same n at bytes more le)
+number_more Little n at bytes more le = same_from n 0 _ _ (bytes_same n at bytes more le)
 number_more Big n at bytes more le = big_same n 0 _ _ (bytes_same n at bytes more le)
 
 -- the judgement of 16 bytes or more, by what the record captured

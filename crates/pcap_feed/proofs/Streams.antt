@@ -1,14 +1,11 @@
 -- The longest list of items at the front of a stream, and what more bytes do to it. Nothing here
 -- knows what an item is.
-use Rattle.std.proofs.Common.{◌≡◌, ℕ, zero, suc, ◌+◌, ◌<◌, ◌≤◌, ◌⊎◌, Bool, List, [], ◌∷◌, ◌++◌, length, drop, refl, sym, ap, ◌∙◌, arith, Ok, Err, Result, inl, inr, append_assoc, take}
+use Rattle.std.proofs.Common.{◌≡◌, ℕ, zero, suc, ◌+◌, ◌<◌, ◌≤◌, Bool, List, [], ◌∷◌, ◌++◌, length, drop, refl, sym, ap, ◌∙◌, arith, Ok, Err, inl, inr, append_assoc, take}
 use Rattle.std.proofs.lemmas.List.{length-drop, append-nil, drop-append-le, drop-drop, take_at}
+use Rattle.unit_packets.proofs.Cuts.{cases_Result}
 use Rattle.pcap_feed.specs.Stream.{Front, items_found, left_over_found, items_within_by}
 use Rattle.pcap_feed.specs.Stream.{left_over_by, items_within, left_over}
 use Rattle.pcap_feed.specs.Items.{IsFront}
-
-pub cases_Result : {A E : Type 0} (r : Result A E) → ((x : A) × (r ≡ Ok x)) ⊎ ((e : E) × (r ≡ Err e))
-cases_Result (Ok x) = inl (x, refl)
-cases_Result (Err e) = inr (e, refl)
 
 by_ok : {I E : Type 0} (front : Front I E) (n : ℕ) (bytes : List ℕ) (found : I × ℕ) → front bytes ≡ Ok found → items_within_by front (suc n) bytes ≡ found.0 ∷ items_within_by front n (drop found.1 bytes)
 unfolding items_within_by

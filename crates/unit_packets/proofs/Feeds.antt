@@ -36,7 +36,7 @@ cutting_more bytes left less before so_far longer block c first rest more = reco
 }
 
 -- ---- Standing for bytes
-counted_on : (a b : ℕ) → counted (counted a + b) ≡ counted (a + b)
+pub counted_on : (a b : ℕ) → counted (counted a + b) ≡ counted (a + b)
 counted_on a b = omega arith
 
 no_some : (o : Option BlockFault) → o ≡ None → is_some o ≡ true → ⊥

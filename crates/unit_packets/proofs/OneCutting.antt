@@ -55,7 +55,7 @@ same_block : (u s : ℕ) (rs : List (List ℕ)) (block : Block) → u ≡ block.
 same_block u s rs block a b c =
     ap (λ (v : ℕ). made v s rs) a ∙ ap (λ (v : ℕ). made block.unit v rs) b ∙ ap (λ (v : List (List ℕ)). made block.unit block.sequence v) c
 
-one_block : (prefix suffix : List ℕ) (block : Block) → IsBlock prefix block → block_at (header_of (prefix ++ suffix)) (prefix ++ suffix) ≡ block
+pub one_block : (prefix suffix : List ℕ) (block : Block) → IsBlock prefix block → block_at (header_of (prefix ++ suffix)) (prefix ++ suffix) ≡ block
 one_block prefix suffix block is =
     let s = front_stands prefix suffix block is in
     let raws : raws_of (header_of (prefix ++ suffix)).count (drop 8 (take (header_of (prefix ++ suffix)).length (prefix ++ suffix))) ≡ block.raws =

@@ -4,6 +4,7 @@ use Rattle.std.specs.List.{concat, AllByRecursion}
 use Rattle.std.proofs.lemmas.Bool.{cases_Bool, cases_eq, cond-false, false≢true}
 use Rattle.std.proofs.lemmas.List.{append-nil, append_cancel_left}
 use Rattle.std.proofs.lemmas.List.Folds.{concat-append}
+use Rattle.pitch_fields.proofs.Lists.{all_split}
 use Rattle.byteorder.specs.Endian.{little_bytes}
 use Rattle.pitch_fields.specs.Fields.{AreBytes, number_at}
 use Rattle.pitch_fields.proofs.LittleEndian.{bytes_of_number}
@@ -16,7 +17,7 @@ use Rattle.unit_packets.specs.Pushing.{Packing}
 use Rattle.unit_packets.specs.Packings.{Finishes, GivesPacking, PackingIsComputed, PackingIsOne}
 use Rattle.unit_packets.proofs.OneCutting.{AreSmall, drop_small}
 use Rattle.pitch_fields.proofs.Bytes.{byte_at}
-use Rattle.unit_packets.proofs.Packs.{bytes_append, fits_true, fits_of, one_fits, after_known, packed_takes}
+use Rattle.unit_packets.proofs.Packs.{bytes_append, fits_true, fits_of, one_fits, after_known, packed_takes, nothing_more}
 use Rattle.unit_packets.proofs.Written.{written_is}
 
 -- ---- The computed packing is one
@@ -63,14 +64,6 @@ datagram_is unit sequence raws small are reach some fits =
       fits = fits;
     }
 
-all_split : (prefix suffix : List (List ℕ)) → AllByRecursion IsRaw (prefix ++ suffix) → AllByRecursion IsRaw prefix × AllByRecursion IsRaw suffix
-all_split [] suffix all = (tt, all)
-all_split (raw ∷ prefix) suffix (is, all) = let s = all_split prefix suffix all in ((is, s.0), s.1)
-
-on_end : (unit sequence : ℕ) (begun : List (List ℕ)) → packed_on unit sequence begun [] ≡ begun_datagrams unit sequence begun
-unfolding packed_on
-on_end unit sequence begun = refl
-
 on_full : (unit sequence : ℕ) (b raw : List ℕ) (begun raws : List (List ℕ)) → fits_datagram ((b ∷ begun) ++ raw ∷ []) ≡ false
     → packed_on unit sequence (b ∷ begun) (raw ∷ raws) ≡ block_bytes (record { unit = unit; sequence = sequence; raws = b ∷ begun }) ∷ packed_on unit (sequence_after sequence (length (b ∷ begun))) (raw ∷ []) raws
 unfolding packed_on
@@ -94,7 +87,7 @@ full_packing : (unit sequence : ℕ) (begun raws : List (List ℕ)) (raw : List 
     → IsPacking unit sequence (begun ++ raw ∷ raws) (packed_on unit sequence begun (raw ∷ raws))
 full_packing unit sequence [] raws raw small are reach fits not more = absurd (false≢true (sym not ∙ one_fits raw are.0))
 full_packing unit sequence (b ∷ begun) raws raw small are reach fits not more =
-    let apart = all_split (b ∷ begun) (raw ∷ raws) are in
+    let apart = all_split IsRaw (b ∷ begun) (raw ∷ raws) are in
     let long = length-append (b ∷ begun) (raw ∷ raws) in
     let prefix : InReach sequence (length (b ∷ begun)) = reach_less sequence (length ((b ∷ begun) ++ raw ∷ raws)) (length (b ∷ begun)) (omega (arith, long)) reach in
     let suffix : InReach (sequence_after sequence (length (b ∷ begun))) (length (raw ∷ raws)) = reach_after sequence (length (b ∷ begun)) (length (raw ∷ raws)) (subst (λ (n : ℕ). InReach sequence n) long reach) in
@@ -111,7 +104,7 @@ is_packing : (raws : List (List ℕ)) (unit sequence : ℕ) (begun : List (List 
     → IsPacking unit sequence (begun ++ raws) (packed_on unit sequence begun raws)
 is_packing [] unit sequence begun small are reach fits =
     let none : begun ++ [] ≡ begun = append-nil begun in
-    subst (λ (ds : List (List ℕ)). IsPacking unit sequence (begun ++ []) ds) (sym (on_end unit sequence begun))
+    subst (λ (ds : List (List ℕ)). IsPacking unit sequence (begun ++ []) ds) (sym (nothing_more unit sequence begun))
     (subst (λ (rs : List (List ℕ)). IsPacking unit sequence rs (begun_datagrams unit sequence begun)) (sym none)
     (one_packing unit sequence begun small (subst (λ (rs : List (List ℕ)). AllByRecursion IsRaw rs) none are) (subst (λ (rs : List (List ℕ)). InReach sequence (length rs)) none reach) fits))
 is_packing (raw ∷ raws) unit sequence begun small are reach fits = elim (cases_Bool (fits_datagram (begun ++ raw ∷ []))) [
@@ -122,7 +115,7 @@ is_packing (raw ∷ raws) unit sequence begun small are reach fits = elim (cases
   | inr not ↦ full_packing unit sequence begun raws raw small are reach fits not (λ s a r f. is_packing raws unit s (raw ∷ []) small a r f)
 ]
 
-no_messages : (unit first : ℕ) → packed unit first [] ≡ []
+pub no_messages : (unit first : ℕ) → packed unit first [] ≡ []
 unfolding packed_on
 no_messages unit first = refl
 

@@ -1,5 +1,5 @@
 -- Messages that go into one datagram are packed into one.
-use Rattle.std.proofs.Common.{◌≡◌, ℕ, ◌<◌, ◌+◌, List, [], ◌∷◌, ◌++◌, length, length-append, sym, ap, ◌∙◌, subst, append_assoc, arith, refl, take, Some, slice_get}
+use Rattle.std.proofs.Common.{◌≡◌, ℕ, ◌<◌, ◌+◌, List, [], ◌∷◌, ◌++◌, length, length-append, sym, ap, ◌∙◌, subst, append_assoc, arith, take, Some, slice_get}
 use Rattle.std.specs.List.{concat}
 use Rattle.std.proofs.lemmas.List.{append-nil, take_more}
 use Rattle.std.proofs.lemmas.Option.{get_or_from_slice_get, slice_get_within}
@@ -7,7 +7,7 @@ use Rattle.std.proofs.lemmas.List.Folds.{concat-append}
 use Rattle.pitch_messages.specs.Room.{Roomy}
 use Rattle.unit_packets.specs.BlockBytes.{block_bytes}
 use Rattle.unit_packets.specs.Packing.{FitsDatagram, begun_datagrams, packed_on, packed, bytes_in}
-use Rattle.unit_packets.proofs.Packs.{fits_true, packed_takes}
+use Rattle.unit_packets.proofs.Packs.{fits_true, packed_takes, nothing_more}
 
 -- the first of them do too
 first_fit : (raws more : List (List ℕ)) → FitsDatagram (raws ++ more) → FitsDatagram raws
@@ -17,10 +17,6 @@ first_fit raws more fits =
     let joined = ap (λ (bytes : List ℕ). length bytes) (concat-append raws more) ∙ length-append (concat raws) (concat more) in
     let all = length-append raws more in
     record { size = omega arith; count = omega arith }
-
-nothing_more : (unit sequence : ℕ) (begun : List (List ℕ)) → packed_on unit sequence begun [] ≡ begun_datagrams unit sequence begun
-unfolding packed_on
-nothing_more unit sequence begun = refl
 
 on_fit : (unit sequence : ℕ) (begun more : List (List ℕ)) → FitsDatagram (begun ++ more)
     → packed_on unit sequence begun more ≡ begun_datagrams unit sequence (begun ++ more)

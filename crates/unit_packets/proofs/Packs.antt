@@ -1,8 +1,9 @@
 -- What a packer knows after a message, and after it has finished.
-use Rattle.std.proofs.Common.{◌≡◌, ℕ, ◌+◌, ◌<◌, ◌≢◌, Bool, true, false, ◌&&◌, List, [], ◌∷◌, ◌++◌, length, refl, sym, ap, ◌∙◌, arith, nat_eq, nat_le, length-append, append_assoc, inl, inr}
-use Rattle.std.specs.List.{concat}
-use Rattle.std.proofs.lemmas.Bool.{cases_Bool, cases_eq, cond-true, cond-false, le-leb, leb-true, ne_eqb}
-use Rattle.std.proofs.lemmas.List.{append-nil, map-append}
+use Rattle.std.proofs.Common.{◌≡◌, ℕ, ◌+◌, ◌<◌, ◌≢◌, true, List, [], ◌∷◌, ◌++◌, length, refl, sym, ap, ◌∙◌, arith, nat_eq, nat_le, length-append, append_assoc, inl, inr, Some, zero, suc, subst, take}
+use Rattle.std.specs.List.{concat, slice_get, AllByRecursion}
+use Rattle.std.proofs.lemmas.Bool.{cases_Bool, cases_eq, cond-true, cond-false, le-leb, leb-true, ne_eqb, and_parts, and_from}
+use Rattle.std.proofs.lemmas.List.{append-nil, map-append, take_more}
+use Rattle.std.proofs.lemmas.Option.{slice_get_within, get_or_from_slice_get, slice_get_past, none-some, same_Some}
 use Rattle.pitch_messages.specs.Raw.{IsRaw}
 use Rattle.pitch_messages.specs.Room.{Roomy}
 use Rattle.unit_packets.specs.BlockBytes.{block_bytes}
@@ -48,25 +49,31 @@ after_after a n k = elim (cases_eq a 0) [
 ]
 
 -- ---- Lists of datagrams
+-- the first of some and one more
+pub bytes_more : (lists : List (Roomy ℕ)) (i : ℕ) (list : Roomy ℕ) → slice_get lists i ≡ Some list → bytes_in (take (i + 1) lists) ≡ bytes_in (take i lists) ++ list.items ∷ []
+bytes_more lists i list at =
+    ap (λ (ls : List (Roomy ℕ)). bytes_in ls) (take_more lists i list (slice_get_within lists i list at))
+    ∙ ap (λ (l : Roomy ℕ). bytes_in (take i lists ++ l ∷ [])) (get_or_from_slice_get lists i list list at)
+    ∙ map-append (λ (l : Roomy ℕ). l.items) (take i lists) (list ∷ [])
+
+-- what holds of each holds of the one at a place
+pub bytes_at : (P : List ℕ → Type 0) (lists : List (Roomy ℕ)) (i : ℕ) (list : Roomy ℕ) → slice_get lists i ≡ Some list → AllByRecursion P (bytes_in lists) → P list.items
+bytes_at P [] i list at all = absurd (none-some list (sym (slice_get_past [] i (omega arith)) ∙ at))
+bytes_at P (l ∷ lists) zero list at all = subst (λ (x : Roomy ℕ). P x.items) (same_Some l list at) all.0
+bytes_at P (l ∷ lists) (suc i) list at all = bytes_at P lists i list at all.1
+
 pub bytes_append : (before added : List (Roomy ℕ)) → bytes_in (before ++ added) ≡ bytes_in before ++ bytes_in added
 bytes_append before added = map-append (λ (list : Roomy ℕ). list.items) before added
 
 -- ---- Whether messages go into one datagram
-both_true : (a b : Bool) → (a && b) ≡ true → (a ≡ true) × (b ≡ true)
-both_true true b is = (refl, is)
-both_true false b is = (is, cc)
-
-all_true : (a b : Bool) → a ≡ true → b ≡ true → (a && b) ≡ true
-all_true a b one other = ap (λ (x : Bool). x && b) one ∙ other
-
 pub fits_true : (raws : List (List ℕ)) → FitsDatagram raws → fits_datagram raws ≡ true
 unfolding fits_datagram
-fits_true raws fits = all_true _ _ (le-leb (8 + length (concat raws)) 1400 fits.size) (le-leb (length raws) 255 fits.count)
+fits_true raws fits = and_from _ _ (le-leb (8 + length (concat raws)) 1400 fits.size) (le-leb (length raws) 255 fits.count)
 
 pub fits_of : (raws : List (List ℕ)) → fits_datagram raws ≡ true → FitsDatagram raws
 unfolding fits_datagram
 fits_of raws is =
-    let both = both_true (nat_le (8 + length (concat raws)) 1400) (nat_le (length raws) 255) is in
+    let both = and_parts (nat_le (8 + length (concat raws)) 1400) (nat_le (length raws) 255) is in
     record { size = leb-true (8 + length (concat raws)) 1400 both.0; count = leb-true (length raws) 255 both.1 }
 
 pub one_fits : (raw : List ℕ) → IsRaw raw → fits_datagram (raw ∷ []) ≡ true
@@ -137,9 +144,9 @@ begins_block old new raw before after added is full given gives unit sequence be
 }
 
 -- the block that was begun is given out
-on_nothing : (unit sequence : ℕ) (begun : List (List ℕ)) → packed_on unit sequence begun [] ≡ begun_datagrams unit sequence begun
+pub nothing_more : (unit sequence : ℕ) (begun : List (List ℕ)) → packed_on unit sequence begun [] ≡ begun_datagrams unit sequence begun
 unfolding packed_on
-on_nothing unit sequence begun = refl
+nothing_more unit sequence begun = refl
 
 pub finishes : (old new : Packing) (before after added : List (Roomy ℕ)) → after ≡ before ++ added → bytes_in added ≡ begun_datagrams old.unit old.sequence old.begun → new ≡ unpacked old.unit (next_sequence old)
     → Finishes old new before after
@@ -148,7 +155,7 @@ finishes old new before after added given gives empty = record {
   given = given;
   gives = gives;
   whole = λ u f raws datagrams has.
-      ap (λ (ds : List (List ℕ)). datagrams ++ ds) (gives ∙ sym (on_nothing old.unit old.sequence old.begun)) ∙ sym (has.goes_on []) ∙ ap (packed u f) (append-nil raws);
+      ap (λ (ds : List (List ℕ)). datagrams ++ ds) (gives ∙ sym (nothing_more old.unit old.sequence old.begun)) ∙ sym (has.goes_on []) ∙ ap (packed u f) (append-nil raws);
   stands = λ u f raws datagrams has. record {
     unit_is = ap (λ (p : Packing). p.unit) empty ∙ has.unit_is;
     next_is = ap next_sequence empty ∙ after_none (next_sequence old) ∙ has.next_is ∙ sym (after_none (sequence_after f (length raws)));

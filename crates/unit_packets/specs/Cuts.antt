@@ -1,5 +1,5 @@
 -- Bytes cut into blocks, by a relation.
-use Rattle.std.specs.Prelude.{◌≡◌, ℕ, ◌+◌, List, [], ◌∷◌, ◌++◌}
+use Rattle.std.specs.Prelude.{◌≡◌, ℕ, List, [], ◌∷◌, ◌++◌}
 use Rattle.unit_packets.specs.Blocks.{Block, IsBlock}
 
 -- the bytes are these blocks, and then a rest
