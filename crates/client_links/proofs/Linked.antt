@@ -2,6 +2,7 @@
 use Rattle.std.proofs.Common.{◌≡◌, ℕ, ◌+◌, length, Bool, false, cond, ◌||◌, List, [], ◌∷◌, ◌++◌, refl, sym, ap, ◌∙◌, subst, Option, Some, None, is_some}
 use Rattle.std.specs.List.{list_any}
 use Rattle.std.proofs.lemmas.List.{append-nil}
+use Rattle.std.proofs.Math.Bool.{or-false}
 use Rattle.unit_packets.specs.Causes.{counted}
 use Rattle.unit_packets.specs.Reading.{Reading}
 use Rattle.unit_packets.specs.Pieces.{loaded, passed}
@@ -16,7 +17,7 @@ use Rattle.session_ends.specs.Events.{Event, Fed, Ticked}
 use Rattle.session_ends.specs.Hearing.{reader_items, IsThrough}
 use Rattle.session_ends.specs.Inboxes.{Inboxed}
 use Rattle.session_ends.specs.Sending.{new_items, some_bytes}
-use Rattle.session_ends.proofs.Ends.{Takes, takes, Pieced, fed_end, shut_end, known_none, bool_none}
+use Rattle.session_ends.proofs.Ends.{Takes, takes, Pieced, fed_end, shut_end, known_none}
 use Rattle.session_ends.proofs.Through.{Went, went}
 use Rattle.client_links.specs.Linking.{Lookups, NoLookup, link_sends, link_tells, LinkStands}
 use Rattle.client_links.specs.Telling.{run_of, tells_on, tells, until}
@@ -62,7 +63,7 @@ module _ (es : List (Event Lookups)) (piece : List ℕ) (old new : Ending) (item
       ∙ ap (λ (o : Option Closed). cond (is_some o) [] (tells old.setup (logged_in old.setup.role es) (new_items es piece))) (sym t.open_is)
 
 pub sent_none : (v : Ending) → v ≡ record v { sent = (v.sent || false) }
-sent_none v = ap (λ (b : Bool). record v { sent = b }) (sym (bool_none v.sent))
+sent_none v = ap (λ (b : Bool). record v { sent = b }) (sym (or-false v.sent))
 
 -- an open link took a piece in, heard what its reader says, and took the reader back
 pub record HeardPiece (es : List (Event Lookups)) (piece : List ℕ) (old taken back : Ending) (reader : Reading) : Type 0 where

@@ -3,6 +3,7 @@
 use Rattle.std.proofs.Common.{◌≡◌, ℕ, Bool, true, false, cond, ◌||◌, List, [], ◌∷◌, ◌++◌, length, refl, sym, ap, ◌∙◌, append_assoc, Option, Some, None, is_some, nat_eq}
 use Rattle.std.specs.List.{list_any}
 use Rattle.std.proofs.lemmas.List.{append-nil}
+use Rattle.std.proofs.Math.Bool.{or-false}
 use Rattle.unit_packets.specs.Blocks.{Block}
 use Rattle.unit_packets.specs.Causes.{counted}
 use Rattle.unit_packets.specs.Cutting.{blocks_of, rest_of, place_of}
@@ -22,7 +23,7 @@ use Rattle.session_ends.specs.Items.{onward, block_size, block_items, messages_f
 use Rattle.session_ends.specs.Saying.{heard_by}
 use Rattle.session_ends.specs.Sending.{new_items}
 use Rattle.session_ends.proofs.Cuts.{new_cut, first_are}
-use Rattle.session_ends.proofs.Ends.{new_are, closed_on, logged_on, no_trouble, still_items, bool_assoc, bool_none}
+use Rattle.session_ends.proofs.Ends.{new_are, closed_on, logged_on, no_trouble, still_items, bool_assoc}
 use Rattle.session_ends.proofs.Inboxes.{items_more}
 use Rattle.client_links.specs.Linking.{Lookups, NoLookup, link_tells, TellsOnce}
 use Rattle.client_links.specs.Telling.{run_of, others, other_of, before_more, after_others, or_items, told_said, tells_on, tells, until}
@@ -117,7 +118,7 @@ tells_append role done run (Broken closed ∷ xs) ys e none = tells_step role ru
 -- ---- Up to the message that closes the link
 until_append : (s : Setup) (logged : Bool) (xs ys : List Heard)
     → until s logged (xs ++ ys) ≡ until s logged xs ++ cond (is_some (first_cause s logged xs)) [] (until s (logged || list_any (logs_in s.role) xs) ys)
-until_append s logged [] ys = ap (λ (b : Bool). until s b ys) (sym (bool_none logged))
+until_append s logged [] ys = ap (λ (b : Bool). until s b ys) (sym (or-false logged))
 until_append s logged (x ∷ xs) ys = by (cause_of s logged x) (until_append s (logged || logs_in s.role x) xs ys)
   where
     on : Bool

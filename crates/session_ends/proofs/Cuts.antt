@@ -2,6 +2,7 @@
 use Rattle.std.proofs.Common.{◌≡◌, ℕ, Bool, false, cond, ◌||◌, List, [], ◌∷◌, ◌++◌, length, drop, refl, sym, ap, ◌∙◌, arith, append_assoc, Option, Some, None, is_some}
 use Rattle.std.specs.List.{list_any}
 use Rattle.std.proofs.lemmas.List.{append-nil, drop_at}
+use Rattle.std.proofs.Math.Bool.{or-false}
 use Rattle.session_ends.specs.declared.closed.Closed.{Closed}
 use Rattle.session_ends.specs.declared.inbox.Heard.{Heard}
 use Rattle.session_ends.specs.Answering.{Answer, Answerer, no_answer, followed, answers}
@@ -10,7 +11,7 @@ use Rattle.session_ends.specs.Events.{Event, Fed, fed_of}
 use Rattle.session_ends.specs.Items.{stream_items}
 use Rattle.session_ends.specs.Laws.{fed_answers, ClosesOnce, AnswersOnce}
 use Rattle.session_ends.specs.Sending.{new_items}
-use Rattle.session_ends.proofs.Ends.{or_assoc, cause_append, logged_on, closed_on, bool_assoc, bool_none}
+use Rattle.session_ends.proofs.Ends.{or_assoc, cause_append, logged_on, closed_on, bool_assoc}
 use Rattle.session_ends.proofs.Inboxes.{items_stay}
 
 or_same : (a g : Option Closed) → or_else a (or_else a g) ≡ or_else a g
@@ -40,17 +41,13 @@ followed_none a =
 none_followed : {S : Type 0} (state : S) (a : Answer S) → followed (no_answer state) a ≡ a
 none_followed state a = refl
 
-answers_none : {S V : Type 0} (s : Setup) (one : Answerer S V) (logged : Bool) (state : S) (views : List V) → answers s one logged state views [] ≡ no_answer state
-answers_none s one logged state [] = refl
-answers_none s one logged state (view ∷ views) = refl
-
 -- messages behind others are answered behind them, unless one of these closes the end
 answers_append : {S V : Type 0} (s : Setup) (one : Answerer S V) (logged : Bool) (state : S) (views more : List V) (items others : List Heard) → length views ≡ length items
     → answers s one logged state (views ++ more) (items ++ others)
     ≡ followed (answers s one logged state views items)
     (cond (is_some (first_cause s logged items)) (no_answer (answers s one logged state views items).knows)
     (answers s one (logged || list_any (logs_in s.role) items) (answers s one logged state views items).knows more others))
-answers_append s one logged state [] more [] others e = ap (λ (b : Bool). answers s one b state more others) (sym (bool_none logged))
+answers_append s one logged state [] more [] others e = ap (λ (b : Bool). answers s one b state more others) (sym (or-false logged))
 answers_append s one logged state [] more (item ∷ items) others e = absurd (omega (arith, e))
 answers_append s one logged state (view ∷ views) more [] others e = absurd (omega (arith, e))
 answers_append {S} {V} s one logged state (view ∷ views) more (item ∷ items) others e = by (cause_of s logged item) (answers_append s one on a.knows views more items others (omega (arith, e)))

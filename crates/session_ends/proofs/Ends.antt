@@ -3,6 +3,7 @@ use Rattle.std.proofs.Common.{◌≡◌, ℕ, Bool, true, false, not, ◌||◌, 
 use Rattle.std.specs.List.{list_any}
 use Rattle.std.proofs.lemmas.List.{drop_at}
 use Rattle.std.proofs.lemmas.Bool.{ne_eqb}
+use Rattle.std.proofs.Math.Bool.{or-false, or_comm}
 use Rattle.unit_packets.specs.Cutting.{blocks_of}
 use Rattle.unit_packets.specs.Feeding.{fed_fault}
 use Rattle.unit_packets.specs.declared.header.BlockFault.{BlockFault}
@@ -23,16 +24,6 @@ use Rattle.session_ends.proofs.Inboxes.{items_none}
 pub bool_assoc : (a b c : Bool) → (a || (b || c)) ≡ ((a || b) || c)
 bool_assoc true b c = refl
 bool_assoc false b c = refl
-
-pub bool_none : (a : Bool) → (a || false) ≡ a
-bool_none true = refl
-bool_none false = refl
-
-pub bool_comm : (a b : Bool) → (a || b) ≡ (b || a)
-bool_comm true true = refl
-bool_comm true false = refl
-bool_comm false true = refl
-bool_comm false false = refl
 
 pub bytes_some : (xs : List ℕ) → not (nat_eq (length xs) 0) ≡ some_bytes xs
 bytes_some [] = refl
@@ -70,7 +61,7 @@ any_append role (x ∷ xs) ys = ap (λ (b : Bool). logs_in role x || b) (any_app
 
 -- the first cause of messages after others
 pub cause_append : (s : Setup) (logged : Bool) (xs ys : List Heard) → first_cause s logged (xs ++ ys) ≡ or_else (first_cause s logged xs) (first_cause s (logged || list_any (logs_in s.role) xs) ys)
-cause_append s logged [] ys = ap (λ (b : Bool). first_cause s b ys) (sym (bool_none logged))
+cause_append s logged [] ys = ap (λ (b : Bool). first_cause s b ys) (sym (or-false logged))
 cause_append s logged (x ∷ xs) ys =
     ap (or_else (cause_of s logged x)) (cause_append s (logged || logs_in s.role x) xs ys
     ∙ ap (λ (b : Bool). or_else (first_cause s (logged || logs_in s.role x) xs) (first_cause s b ys)) (sym (bool_assoc logged (logs_in s.role x) (list_any (logs_in s.role) xs))))
@@ -171,7 +162,7 @@ fed_end sends es piece seen old new items inbox said still is t p same =
         heard_is = p.heard_is ∙ ap (λ (b : Bool). b || some_bytes piece) o.heard_is ∙ not_quiet (some_bytes piece) (is_quiet es) (length piece) (bytes_some piece);
         silent_is = p.silent_is ∙ o.silent_is;
         sent_is = p.sent_is ∙ ap (λ (x : List ℕ). old.sent || some_bytes x) same ∙ ap (λ (b : Bool). b || some_bytes (sends (Fed piece seen) es)) o.sent_is
-            ∙ bool_comm (sent_since sends s.role es) (some_bytes (sends (Fed piece seen) es));
+            ∙ or_comm (sent_since sends s.role es) (some_bytes (sends (Fed piece seen) es));
       };
     }
 
@@ -198,6 +189,6 @@ sent_end v new k bytes still is e =
         logged_is = o.logged_is;
         heard_is = o.heard_is;
         silent_is = o.silent_is;
-        sent_is = ap (λ (b : Bool). b || some_bytes bytes) o.sent_is ∙ bool_comm k.sent (some_bytes bytes);
+        sent_is = ap (λ (b : Bool). b || some_bytes bytes) o.sent_is ∙ or_comm k.sent (some_bytes bytes);
       };
     })

@@ -11,7 +11,7 @@ use Rattle.unit_packets.specs.Feeding.{fed_fault, kept_fault}
 use Rattle.unit_packets.specs.Pieces.{Feeds, fed_answer}
 use Rattle.unit_packets.proofs.Stable.{judge_found}
 use Rattle.unit_packets.proofs.Cuts.{first_of, none_of, cases_Result, rest_short, appends}
-use Rattle.unit_packets.proofs.Feeds.{stands_unread, stands_fault, fed_on}
+use Rattle.unit_packets.proofs.Feeds.{stands_unread, stands_fault, fed_on, counted_on}
 use Rattle.unit_packets.proofs.Streams.{lasting_of, lasting_more, fault_stays}
 use Rattle.session_ends.specs.declared.inbox.Heard.{Heard}
 use Rattle.session_ends.specs.Items.{onward, block_size, block_items, stream_items_from, stream_items, trouble}
@@ -19,9 +19,6 @@ use Rattle.session_ends.specs.Inboxes.{Inboxed, HasTaken}
 use Rattle.session_ends.specs.Hearing.{nothing_fed, TakesPiece}
 
 -- ---- Places
-pub counted_on : (a b : ℕ) → counted (counted a + b) ≡ counted (a + b)
-counted_on a b = omega arith
-
 onward_on : (place a b : ℕ) → onward (onward place a) b ≡ onward place (a + b)
 onward_on place a b = let e : (place + a) + b ≡ place + (a + b) = omega arith in counted_on (place + a) b ∙ ap counted e
 

@@ -2,13 +2,14 @@
 use Rattle.std.proofs.Common.{◌≡◌, ℕ, zero, suc, ◌+◌, Bool, cond, ◌||◌, List, [], ◌∷◌, ◌++◌, length, replicate, refl, sym, ap, ◌∙◌, subst, arith, append_assoc, length-append, Option, Some, None, is_some}
 use Rattle.std.specs.List.{list_any}
 use Rattle.std.proofs.lemmas.List.{append-nil}
+use Rattle.std.proofs.Math.Bool.{or-false}
 use Rattle.session_ends.specs.declared.closed.Closed.{Closed}
 use Rattle.session_ends.specs.declared.inbox.Heard.{Heard}
 use Rattle.session_ends.specs.Answering.{Answer, Answerer, no_answer, followed, answers}
 use Rattle.session_ends.specs.Hearings.{Rises, Hears, HearsAll}
 use Rattle.session_ends.specs.Closing.{Setup, cause_of, first_cause, or_else, logs_in}
 use Rattle.session_ends.specs.Laws.{RisesNowhere}
-use Rattle.session_ends.proofs.Ends.{bool_assoc, bool_none}
+use Rattle.session_ends.proofs.Ends.{bool_assoc}
 
 -- ---- The cause and the logins
 -- the first cause, and the logins, are those of what is left
@@ -31,7 +32,7 @@ module _ (s : Setup) (logged0 : Bool) (items : List Heard) (logged : Bool) (item
 
 pub left_end : (s : Setup) (logged0 : Bool) (items : List Heard) (logged : Bool) (rest : List Heard) → Left s logged0 items logged rest → rest ≡ [] → (None ≡ first_cause s logged0 items) × (logged ≡ (logged0 || list_any (logs_in s.role) items))
 left_end s logged0 items logged rest f none =
-    (sym (f.cause ∙ ap (first_cause s logged) none), sym (f.logins ∙ ap (λ (is : List Heard). logged || list_any (logs_in s.role) is) none ∙ bool_none logged))
+    (sym (f.cause ∙ ap (first_cause s logged) none), sym (f.logins ∙ ap (λ (is : List Heard). logged || list_any (logs_in s.role) is) none ∙ or-false logged))
 
 -- ---- The answers
 abbrev answer_of : {S : Type 0} → List ℕ → List (List ℕ) → S → Answer S

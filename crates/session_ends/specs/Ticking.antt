@@ -6,7 +6,6 @@ use Rattle.session_ends.specs.declared.closed.Closed.{Closed}
 use Rattle.session_ends.specs.declared.closed.CloseCause.TheVariants.{Silent}
 use Rattle.session_ends.specs.declared.role.Role.{Role}
 use Rattle.session_ends.specs.Closing.{Setup, or_else}
-use Rattle.session_ends.specs.Events.{silence}
 use Rattle.session_ends.specs.Items.{closed_at}
 use Rattle.session_ends.specs.Sending.{some_bytes, heartbeat_bytes, header_unit, begins_with_login}
 use Rattle.session_ends.specs.Ending.{Known}
