@@ -1,7 +1,6 @@
 -- Worked examples of what can be looked up, computed by the definitions.
-use Rattle.std.proofs.Common.{◌≡◌, ℕ, List, [], ◌∷◌, refl, Option, Some, None}
-use Rattle.circular_buffer.specs.Buffer.{keep_last}
-use Rattle.gap_store.specs.Look.{View, Store, look, slice_of, store_of}
+use Rattle.std.proofs.Common.{◌≡◌, [], ◌∷◌, refl, Some, None}
+use Rattle.gap_store.specs.Look.{View, look, slice_of, store_of}
 use Rattle.gap_store.specs.Looking.{first_kept}
 use Rattle.gap_store.specs.declared.found.Found.TheVariants.{Kept, Ahead, NotKept}
 

@@ -91,7 +91,7 @@ range_is v s first at count is place kept =
     ap (λ (t : Store). take count (drop at t.items)) is
     ∙ ap (take count) (drop-drop at (length v.messages - v.kept) v.messages ∙ ap (λ (m : ℕ). drop m v.messages) (omega (arith, r)))
 
-same_view : (v : View) → IsLater v v
+pub same_view : (v : View) → IsLater v v
 same_view v = record { more = []; messages = sym (append-nil v.messages); kept = refl }
 
 -- ---- Answers of a store

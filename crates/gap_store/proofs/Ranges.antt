@@ -1,8 +1,12 @@
 -- Ranges of a ring, packed.
-use Rattle.std.proofs.Common.{◌≡◌, ℕ, suc, ◌+◌, ◌<◌, ◌≤◌, List, [], ◌∷◌, ◌++◌, length, take, drop, refl, sym, ap, ◌∙◌, subst, arith, Some, slice_get}
-use Rattle.std.proofs.lemmas.List.{append-nil, length-drop, length-take, length-take-le}
+use Rattle.std.proofs.Common.{◌≡◌, Bool, true, false, nat_lt, cond, ◌-◌, ℕ, suc, ◌+◌, ◌<◌, ◌≤◌, List, [], ◌∷◌, ◌++◌, length, take, drop, refl, sym, ap, ◌∙◌, subst, arith, Some, slice_get}
+use Rattle.std.proofs.lemmas.List.{append-nil, length-drop, length-take, length-take-le, nil_from_length}
 use Rattle.std.proofs.lemmas.Option.{slice_get_within, get_or_from_slice_get}
 use Rattle.std.proofs.Math.Seq.{drop-cons}
+use Rattle.std.proofs.lemmas.Bool.{cond-true}
+use Rattle.std.proofs.lemmas.Bool.Decides.{nat_tests}
+use Rattle.gap_store.specs.declared.found.Found.TheVariants.{Kept, Ahead, NotKept}
+use Rattle.gap_store.specs.Look.{View, look, oldest}
 use Rattle.circular_buffer.proofs.Places.{slice_get-drop, slice_get-take}
 use Rattle.pitch_messages.specs.Raw.{IsRaw}
 use Rattle.pitch_messages.specs.Room.{Roomy}
@@ -18,10 +22,6 @@ drop_one : (xs : List (List ℕ)) (i : ℕ) (x : List ℕ) → slice_get xs i �
 drop_one xs i x is =
     let e : suc i ≡ i + 1 = omega arith in
     drop-cons xs i x (slice_get_within xs i x is) ∙ ap (λ (y : List ℕ). y ∷ drop (suc i) xs) (get_or_from_slice_get xs i x x is) ∙ ap (λ (n : ℕ). x ∷ drop n xs) e
-
-length_zero : (xs : List (List ℕ)) → length xs ≡ 0 → xs ≡ []
-length_zero [] is = refl
-length_zero (x ∷ xs) is = absurd (omega arith)
 
 -- the messages of a range from its i-th on
 pub left_of : List (List ℕ) → ℕ → ℕ → ℕ → List (List ℕ)
@@ -39,7 +39,7 @@ pub none_left : (items : List (List ℕ)) (at count i : ℕ) → i ≡ count →
 unfolding left_of
 none_left items at count i is =
     let size : length (take count (drop at items)) ≤ i = omega (arith, length-take count (drop at items)) in
-    length_zero (drop i (take count (drop at items))) (omega (arith, length-drop i (take count (drop at items))))
+    nil_from_length (drop i (take count (drop at items))) (omega (arith, length-drop i (take count (drop at items))))
 
 -- a range that is there has its size
 pub range_size : (items : List (List ℕ)) (at count first : ℕ) → at + count ≤ length items → StaysWithin first count → StaysWithin first (length (take count (drop at items)))
@@ -65,3 +65,14 @@ packs_last unit first all rest packer packer' before so_far after s none within 
       packing = subst (λ (r : List (List ℕ)). IsPacking unit first r (packed unit first r)) whole same;
       appended = all_packed unit first all rest packer packer' before so_far after s none f;
     }
+
+-- a range that is kept ends within the messages
+pub kept_within : (v : View) (first count : ℕ) → Kept ≡ look v first count → first + count - 1 ≤ length v.messages
+kept_within v first count e = by (nat_lt (length v.messages) (first + count - 1)) refl
+  where
+    by : (b : Bool) → nat_lt (length v.messages) (first + count - 1) ≡ b → first + count - 1 ≤ length v.messages
+    by true t = absurd (ahead (e ∙ cond-true (nat_lt (length v.messages) (first + count - 1)) (Ahead (length v.messages)) (cond (nat_lt first (oldest v)) (NotKept (oldest v)) Kept) t))
+      where
+        ahead : Kept ≡ Ahead (length v.messages) → ⊥
+        ahead e = cc
+    by false f = grind (arith, nat_tests, f)

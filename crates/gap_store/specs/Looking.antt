@@ -1,5 +1,5 @@
 -- What a look-up of a range answers, whoever else pushes meanwhile.
-use Rattle.std.specs.Prelude.{◌≡◌, ℕ, ◌+◌, List, [], ◌++◌, length, nat_eq, Option, None, Some}
+use Rattle.std.specs.Prelude.{◌≡◌, ℕ, List, [], ◌++◌, length, nat_eq, Option, None, Some}
 use Rattle.std.specs.Prelude.{if◌then◌else◌}
 use Rattle.unit_packets.specs.Packing.{IsPacking, packed}
 use Rattle.gap_store.specs.declared.found.Found.{Found}

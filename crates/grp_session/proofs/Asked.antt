@@ -2,6 +2,7 @@
 use Rattle.std.proofs.Common.{◌≡◌, ℕ, ◌<◌, ◌≤◌, Bool, true, false, cond, ◌||◌, List, [], ◌++◌, refl, sym, ap, ◌∙◌, arith, subst, append_assoc, Option, Some, None, nat_eq, nat_lt, unwrap_or}
 use Rattle.std.proofs.lemmas.List.{append-nil}
 use Rattle.std.proofs.lemmas.Bool.{ne_eqb, cond-true, cond-false, lt-ltb, le-ltb}
+use Rattle.gap_store.proofs.Keeping.{same_view}
 use Rattle.unit_packets.specs.Packing.{packed, packed_on}
 use Rattle.gap_store.specs.Look.{View, look, slice_of}
 use Rattle.gap_store.specs.Looking.{IsLater, given, FindsAt, PacksRange, PacksAt}
@@ -14,9 +15,6 @@ use Rattle.grp_session.specs.Budget.{Limits, Spent, limit_reached, spending}
 use Rattle.grp_session.specs.Asking.{status_found, status_here}
 use Rattle.grp_session.specs.Ranges.{IsAsked}
 
-later_same : (v : View) → IsLater v v
-later_same v = record { more = []; messages = sym (append-nil v.messages); kept = refl }
-
 later_then : (a b c : View) → IsLater a b → IsLater b c → IsLater a c
 later_then a b c p q = record {
   more = p.more ++ q.more;
@@ -25,7 +23,7 @@ later_then a b c p q = record {
 }
 
 pub later_order : IsOrder IsLater
-later_order = record { same = later_same; then = later_then }
+later_order = record { same = same_view; then = later_then }
 
 -- ---- What is seen after a look-up
 -- the same as before
@@ -64,7 +62,7 @@ pub asked_plain : (unit : ℕ) (there there' : Bool) (l : Limits) (sequence coun
     → counted spent → shown view → there ≡ there' → status ≡ status_here there' l view spent sequence count → nat_eq status 65 ≡ false → IsAsked unit there l sequence count spent view status counted shown lines lines
 asked_plain unit there there' l sequence count status spent view counted shown lines c s same is other = record {
   now = view;
-  later = later_same view;
+  later = same_view view;
   shows = s;
   answer = is ∙ ap (λ (b : Bool). status_here b l view spent sequence count) (sym same);
   lines = sym (append-nil lines) ∙ ap (λ (b : Bool). lines ++ cond b (packed unit sequence (slice_of view sequence count)) []) (sym other);

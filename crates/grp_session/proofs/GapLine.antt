@@ -1,8 +1,10 @@
 -- What goes on the gap line are packings of ranges.
 use Rattle.std.proofs.Common.{◌≡◌, ℕ, zero, suc, ◌+◌, ◌-◌, ◌≤◌, ◌⊎◌, Bool, true, false, cond, ◌||◌, List, [], ◌∷◌, ◌++◌, length, take, drop, refl, sym, ap, ◌∙◌, arith, subst, inl, inr, nat_eq, nat_lt, is_some, length-append}
 use Rattle.std.specs.List.{AllByRecursion}
-use Rattle.std.proofs.lemmas.Bool.{cases_eq, cases_lt, eq-eqb, ne_eqb, lt-ltb, cond-true, cond-false}
+use Rattle.std.proofs.lemmas.Bool.{cases_eq, eq-eqb, ne_eqb, cond-true, cond-false}
 use Rattle.std.proofs.lemmas.List.{length-take, length-drop, take-append-le, drop-append-le}
+use Rattle.gap_store.proofs.Ranges.{kept_within}
+use Rattle.pitch_fields.proofs.Lists.{all_take, all_drop}
 use Rattle.pitch_messages.specs.Raw.{IsRaw}
 use Rattle.pitch_messages.specs.declared.session.SessionMessage.{SessionMessage}
 use Rattle.pitch_messages.specs.declared.session.SessionMessage.TheVariants.{GapRequest}
@@ -47,32 +49,7 @@ not_zero true n is = cc
 not_zero false zero is = cc
 not_zero false (suc n) is = omega arith
 
-kept_ends : (past gone : Bool) (n m : ℕ) → cond past (Ahead n) (cond gone (NotKept m) Kept) ≡ Kept → past ≡ false
-kept_ends true gone n m is = cc
-kept_ends false gone n m is = refl
-
-within : (view : View) (sequence count : ℕ) → look view sequence count ≡ Kept → sequence + count - 1 ≤ length view.messages
-within view sequence count is =
-    let e : nat_lt (length view.messages) (sequence + count - 1) ≡ false = kept_ends _ _ _ _ is in
-    elim (cases_lt (length view.messages) (sequence + count - 1)) [
-      | inl past ↦ let t : nat_lt (length view.messages) (sequence + count - 1) ≡ true = lt-ltb (length view.messages) (sequence + count - 1) past in absurd (no_both (nat_lt (length view.messages) (sequence + count - 1)) t e)
-      | inr le ↦ le
-    ]
-  where
-    no_both : (b : Bool) → b ≡ true → b ≡ false → ⊥
-    no_both b t f = cc
-
 -- ---- Ranges of messages
-all_take : (P : List ℕ → Type 0) (n : ℕ) (xs : List (List ℕ)) → AllByRecursion P xs → AllByRecursion P (take n xs)
-all_take P zero xs all = tt
-all_take P (suc n) [] all = tt
-all_take P (suc n) (x ∷ xs) all = (all.0, all_take P n xs all.1)
-
-all_drop : (P : List ℕ → Type 0) (n : ℕ) (xs : List (List ℕ)) → AllByRecursion P xs → AllByRecursion P (drop n xs)
-all_drop P zero xs all = all
-all_drop P (suc n) [] all = tt
-all_drop P (suc n) (x ∷ xs) all = all_drop P n xs all.1
-
 range_packed : (unit sequence count : ℕ) (view now : View) → IsLater view now → AreSequenced unit now.messages → 1 ≤ sequence → sequence + count - 1 ≤ length view.messages
     → IsPackedRange unit now.messages (packed unit sequence (slice_of view sequence count))
 range_packed unit sequence count view now later are known there =
@@ -110,7 +87,7 @@ module _ (s : Setup) (there : Bool) (l : Limits) (now : View) (are : AreSequence
             let a = accepted (nat_eq unit s.unit) there l view spent sequence count is in
             let lines : datagrams_of status s.unit view sequence count ≡ packed s.unit sequence (slice_of view sequence count) = cond-true (nat_eq status 65) _ _ (eq-eqb status 65 is) in
             inr (subst (IsPackedRange s.unit now.messages) (sym lines)
-            (range_packed s.unit sequence count view now later are (not_zero (nat_eq count 0) sequence a.0) (within view sequence count a.1)))
+            (range_packed s.unit sequence count view now later are (not_zero (nat_eq count 0) sequence a.0) (kept_within view sequence count (sym a.1))))
         | inr other ↦ inl (cond-false (nat_eq status 65) _ _ (ne_eqb status 65 other))
       ]
 
