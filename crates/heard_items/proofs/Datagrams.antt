@@ -6,7 +6,8 @@ use Rattle.std.proofs.lemmas.List.{append-nil, drop_all, take-append-drop}
 use Rattle.std.proofs.lemmas.Grind.{reverse_onto}
 use Rattle.std.proofs.lemmas.List.Sums.{sum_by-cons}
 use Rattle.std.proofs.lemmas.Option.{slice_get_past, none-some}
-use Rattle.pitch_messages.specs.Raw.{raws_of}
+use Rattle.unit_packets.proofs.OneCutting.{one_block as block_in_front}
+use Rattle.pitch_fields.proofs.Lists.{get_behind, all_follows}
 use Rattle.unit_packets.specs.Blocks.{Block, IsBlock}
 use Rattle.unit_packets.specs.BlockBytes.{block_bytes, heartbeat_block}
 use Rattle.unit_packets.specs.Cutting.{blocks_of, rest_of}
@@ -14,7 +15,7 @@ use Rattle.unit_packets.specs.Judging.{judge, header_of, block_at}
 use Rattle.unit_packets.specs.Packing.{IsPacking, sequence_after}
 use Rattle.unit_packets.specs.declared.header.Header.{Header}
 use Rattle.unit_packets.proofs.Cuts.{first_of}
-use Rattle.unit_packets.proofs.Judged.{front_stands, front_judged}
+use Rattle.unit_packets.proofs.Judged.{front_judged}
 use Rattle.unit_packets.proofs.Packs.{after_known}
 use Rattle.unit_packets.proofs.Streams.{of_nothing}
 use Rattle.unit_packets.proofs.Written.{written_is}
@@ -95,10 +96,6 @@ pub unit_heard : (unit : ℕ) (blocks : List Block) → unit_history unit (rever
 unit_heard unit blocks = ap (unit_history unit) (sym (append-nil (reverse blocks))) ∙ heard_of unit blocks []
 
 -- ---- Places of lists
-slice_later : (xs ys : List Raw) (i : ℕ) → slice_get (xs ++ ys) (length xs + i) ≡ slice_get ys i
-slice_later [] ys i = let e : 0 + i ≡ i = omega arith in ap (slice_get ys) e
-slice_later (x ∷ xs) ys i = let e : length (x ∷ xs) + i ≡ suc (length xs + i) = omega arith in ap (slice_get (x ∷ (xs ++ ys))) e ∙ slice_later xs ys i
-
 slice_drop : (n : ℕ) (xs : List Raw) (i : ℕ) → slice_get (drop n xs) i ≡ slice_get xs (n + i)
 slice_drop zero xs i = let e : i ≡ 0 + i = omega arith in ap (slice_get xs) e
 slice_drop (suc n) [] i = slice_get_past [] i (omega arith) ∙ sym (slice_get_past [] (suc n + i) (omega arith))
@@ -122,28 +119,18 @@ venues_prefix V first prefix suffix are i raw at = are i raw (slice_more prefix 
 venues_suffix : (V : List Raw) (first : ℕ) (prefix suffix : List Raw) → AreVenues V first (prefix ++ suffix) → AreVenues V (first + length prefix) suffix
 venues_suffix V first prefix suffix are i raw at =
     let e : first + (length prefix + i) ≡ (first + length prefix) + i = omega arith in
-    subst (λ (k : ℕ). message_at V k ≡ Some raw) e (are (length prefix + i) raw (slice_later prefix suffix i ∙ at))
+    subst (λ (k : ℕ). message_at V k ≡ Some raw) e (are (length prefix + i) raw (get_behind prefix suffix i ∙ at))
 
 -- ---- A datagram that is one block
-abbrev made : ℕ → ℕ → List Raw → Block
-made u s rs = record { unit = u; sequence = s; raws = rs }
-
 -- it has no other
-one_block : (datagram : List ℕ) (block : Block) → IsBlock datagram block → (blocks_of datagram ≡ block ∷ []) × (rest_of datagram ≡ [])
+pub one_block : (datagram : List ℕ) (block : Block) → IsBlock datagram block → (blocks_of datagram ≡ block ∷ []) × (rest_of datagram ≡ [])
 one_block datagram block is =
     let all : datagram ++ [] ≡ datagram = append-nil datagram in
     let h : Header = header_of datagram in
-    let s = front_stands datagram [] block is in
     let judged : judge datagram ≡ Ok h = subst (λ (d : List ℕ). judge d ≡ Ok (header_of d)) all (front_judged datagram [] block is) in
     let first = first_of datagram h judged in
     let behind : drop h.length datagram ≡ [] = drop_all h.length datagram (let size = is.size in omega arith) in
-    let raws : raws_of h.count (drop 8 (take h.length datagram)) ≡ block.raws =
-    subst (λ (d : List ℕ). raws_of (header_of d).count (drop 8 (take (header_of d).length d)) ≡ block.raws) all
-    (ap (λ (n : ℕ). raws_of n (drop 8 (take (header_of (datagram ++ [])).length (datagram ++ [])))) s.count_is ∙ ap (λ (r : List ℕ). raws_of (length block.raws) (drop 8 r)) s.cut ∙ s.raws_are) in
-    let same : block_at h datagram ≡ block =
-    ap (λ (v : ℕ). made v h.sequence (raws_of h.count (drop 8 (take h.length datagram)))) is.unit
-    ∙ ap (λ (v : ℕ). made block.unit v (raws_of h.count (drop 8 (take h.length datagram)))) is.sequence
-    ∙ ap (λ (v : List Raw). made block.unit block.sequence v) raws in (
+    let same : block_at h datagram ≡ block = subst (λ (d : List ℕ). block_at (header_of d) d ≡ block) all (block_in_front datagram [] block is) in (
       first.blocks ∙ ap (λ (b : Block). b ∷ blocks_of (drop h.length datagram)) same ∙ ap (λ (r : List ℕ). block ∷ blocks_of r) behind ∙ ap (λ (bs : List Block). block ∷ bs) of_nothing.blocks,
       first.rest ∙ ap rest_of behind ∙ of_nothing.rest,
     )
@@ -162,7 +149,7 @@ packing_pieces V unit first raws (d ∷ datagrams) known within are (prefix, suf
     let count : length raws ≡ length prefix + length suffix = ap (λ (rs : List Raw). length rs) split ∙ length-append prefix suffix in
     let some : first ≢ 0 = λ e. omega (arith, e, known) in
     let next : sequence_after first (length prefix) ≡ first + length prefix = after_known first (length prefix) some in (
-      block_piece V unit d (made unit first prefix) is.block (record { unit_is = refl; sequenced = known; messages = venues_prefix V first prefix suffix all; within = omega (arith, within, count) }),
+      block_piece V unit d (record { unit = unit; sequence = first; raws = prefix }) is.block (record { unit_is = refl; sequenced = known; messages = venues_prefix V first prefix suffix all; within = omega (arith, within, count) }),
       packing_pieces V unit (first + length prefix) suffix datagrams (omega (arith, known)) (omega (arith, within, count)) (venues_suffix V first prefix suffix all)
           (subst (λ (n : ℕ). IsPacking unit n suffix datagrams) next rest),
     )
@@ -183,12 +170,12 @@ block_more V more unit block of = record {
   within = omega (arith, of.within, length-append V more);
 }
 
-blocks_more : (V more : List Raw) (unit : ℕ) (blocks : List Block) → AllByRecursion (IsVenueBlock V unit) blocks → AllByRecursion (IsVenueBlock (V ++ more) unit) blocks
-blocks_more V more unit [] all = tt
-blocks_more V more unit (block ∷ blocks) all = (block_more V more unit block all.0, blocks_more V more unit blocks all.1)
-
 pub piece_more : (V more : List Raw) (unit : ℕ) (datagram : List ℕ) → IsPiece V unit datagram → IsPiece (V ++ more) unit datagram
-piece_more V more unit datagram piece = record { whole = piece.whole; blocks = blocks_more V more unit (blocks_of datagram) piece.blocks }
+piece_more V more unit datagram piece = record { whole = piece.whole; blocks = all_follows (IsVenueBlock V unit) (IsVenueBlock (V ++ more) unit) (block_more V more unit) (blocks_of datagram) piece.blocks }
+
+-- pieces stay pieces where the venue accepts more
+pub pieces_more : (V more : List Raw) (unit : ℕ) (datagrams : List (List ℕ)) → AllByRecursion (IsPiece V unit) datagrams → AllByRecursion (IsPiece (V ++ more) unit) datagrams
+pieces_more V more unit datagrams all = all_follows (IsPiece V unit) (IsPiece (V ++ more) unit) (piece_more V more unit) datagrams all
 
 -- ---- What is heard of them is honest
 module _ (Image : List Raw → ℕ → List Raw) (V : List Raw) where

@@ -13,6 +13,7 @@ use Rattle.std.specs.List.{slice_get}
 use Rattle.std.proofs.lemmas.Bool.{eqb-true, eq-eqb, false≢true}
 use Rattle.std.proofs.lemmas.Option.{slice_get_past, none-some, same_Some}
 use Rattle.std.proofs.Math.Bool.{or-true}
+use Rattle.pitch_fields.proofs.Lists.{all_push, all_follows}
 use Rattle.pitch_model.specs.Advertising.{Operation, Accept, Advertise, accepted_at, accepted_by, told_by, with_sequence, advertised_by, last_ten, newest_of}
 use Rattle.pitch_model.specs.History.{Raw}
 
@@ -51,35 +52,23 @@ absent_below n (m ∷ ns) absent all = by (eqb n m) refl absent (absent_below n 
     by true same e rest = absurd (false≢true (sym e))
     by false other e rest = (let low = all.0 in grind (arith, nat_tests, low, other), rest e all.1)
 
-less_last : (m n : ℕ) (ns : List ℕ) → nat_cmp m n ≡ Less → AllByRecursion (λ y. nat_cmp m y ≡ Less) ns → AllByRecursion (λ y. nat_cmp m y ≡ Less) (ns ++ n ∷ [])
-less_last m n [] last all = (last, tt)
-less_last m n (x ∷ ns) last all = (all.0, less_last m n ns last all.1)
-
 sorted_last : (n : ℕ) (ns : List ℕ) → IsStrictlySortedBy nat_cmp ns → AllByRecursion (λ m. nat_cmp m n ≡ Less) ns → IsStrictlySortedBy nat_cmp (ns ++ n ∷ [])
 unfolding IsStrictlySortedBy
 sorted_last n [] sorted below = (tt, tt)
-sorted_last n (m ∷ ns) sorted below = (less_last m n ns below.0 sorted.0, sorted_last n ns sorted.1 below.1)
-
-all_last : (n : ℕ) (ns : List ℕ) → AllByRecursion (λ m. m ≤ n) ns → AllByRecursion (λ m. m ≤ n) (ns ++ n ∷ [])
-all_last n [] all = (omega arith, tt)
-all_last n (m ∷ ns) all = (all.0, all_last n ns all.1)
+sorted_last n (m ∷ ns) sorted below = (all_push (λ y. nat_cmp m y ≡ Less) ns n sorted.0 below.0, sorted_last n ns sorted.1 below.1)
 
 up_to_with : (n : ℕ) (ns : List ℕ) → UpTo n ns → UpTo n (with_sequence ns n)
 up_to_with n ns up = by (is_member eqb ns n) refl
   where
     by : (b : Bool) → is_member eqb ns n ≡ b → UpTo n (cond b ns (ns ++ n ∷ []))
     by true there = up
-    by false absent = (sorted_last n ns up.0 (absent_below n ns absent up.1), all_last n ns up.1)
-
-all_higher : (n : ℕ) (ns : List ℕ) → AllByRecursion (λ m. m ≤ n) ns → AllByRecursion (λ m. m ≤ n + 1) ns
-all_higher n [] all = tt
-all_higher n (m ∷ ns) all = (let low = all.0 in omega arith, all_higher n ns all.1)
+    by false absent = (sorted_last n ns up.0 (absent_below n ns absent up.1), all_push (λ m. m ≤ n) ns n up.1 (omega arith))
 
 up_to : (n : ℕ) (ns : List ℕ) (operations : List Operation) → UpTo n ns → UpTo (n + length (accepted_by operations)) (fold with_sequence ns (told_by n operations))
 up_to n ns [] up = let e : n ≡ n + 0 = omega arith in subst (λ (m : ℕ). UpTo m ns) e up
 up_to n ns (Accept raw ∷ operations) up =
     let e : (n + 1) + length (accepted_by operations) ≡ n + suc (length (accepted_by operations)) = omega arith in
-    subst (λ (m : ℕ). UpTo m (fold with_sequence ns (told_by (n + 1) operations))) e (up_to (n + 1) ns operations (up.0, all_higher n ns up.1))
+    subst (λ (m : ℕ). UpTo m (fold with_sequence ns (told_by (n + 1) operations))) e (up_to (n + 1) ns operations (up.0, all_follows (λ m. m ≤ n) (λ m. m ≤ n + 1) (λ m le. omega (arith, le)) ns up.1))
 up_to n ns (Advertise ∷ operations) up = up_to n (with_sequence ns n) operations (up_to_with n ns up)
 
 advertised_up_to : (operations : List Operation) → UpTo (length (accepted_by operations)) (advertised_by operations)

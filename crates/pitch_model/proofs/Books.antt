@@ -8,6 +8,7 @@ use Rattle.std.specs.FinMap as map
 use Rattle.std.proofs.lemmas.Cmp.{nat_cmp_total}
 use Rattle.std.proofs.lemmas.Bool.{cond_both, eqb-true, cond-true}
 use Rattle.std.proofs.lemmas.Bool.Decides.{nat_tests}
+use Rattle.pitch_fields.proofs.Keys.{same_test}
 use Rattle.pitch_messages.specs.declared.order.Order.{Order}
 use Rattle.pitch_messages.specs.declared.message.Message.{Message}
 use Rattle.pitch_messages.specs.declared.message.ReadError.{ReadError}
@@ -16,9 +17,6 @@ use Rattle.pitch_model.specs.History.{Raw}
 use Rattle.pitch_model.specs.declared.order_change.OrderChange.{OrderChange}
 use Rattle.pitch_model.specs.declared.order_change.OrderChange.TheVariants.{Reduced, Left, Modified}
 use Rattle.pitch_model.specs.Book.{Book, IsBook, empty_book, at_second, cleared, without_order, with_order, added, reformed, changed, changed_by, Effect, ShowsSecond, ClearsOrders, AddsOrder, ChangesOrder, RemovesOrder, GivesStatus, DoesNothing, after_effect, effect_of, after_read, after, book_after}
-
-same_test : (q x : ℕ) → is_eq (nat_cmp q x) ≡ eqb q x
-same_test q x = grind (arith, nat_tests)
 
 -- what a quantity of 0 does not lead to
 open_from_test : (n : ℕ) → (n == 0) ≡ false → 0 < n

@@ -14,7 +14,7 @@ slice_more [] ys k x e = absurd (none-some _ (sym (slice_get_past [] k (omega ar
 slice_more (y ∷ xs) ys zero x e = e
 slice_more (y ∷ xs) ys (suc k) x e = slice_more xs ys k x e
 
-message_more : (V more : List Raw) (k : ℕ) (raw : Raw) → message_at V k ≡ Some raw → message_at (V ++ more) k ≡ Some raw
+pub message_more : (V more : List Raw) (k : ℕ) (raw : Raw) → message_at V k ≡ Some raw → message_at (V ++ more) k ≡ Some raw
 message_more V more zero raw e = absurd (none-some raw e)
 message_more V more (suc k) raw e = slice_more V more k raw e
 

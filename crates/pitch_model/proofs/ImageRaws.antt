@@ -7,6 +7,7 @@ use Rattle.std.proofs.Math.Bool.{or-true}
 use Rattle.std.proofs.lemmas.List.{map-append}
 use Rattle.std.proofs.lemmas.List.Sums.{sum_by-cons, sum_by-append}
 use Rattle.std.proofs.lemmas.Bool.Decides.{nat_tests}
+use Rattle.pitch_fields.proofs.Lists.{all_append, all_follows}
 use Rattle.pitch_fields.specs.Fields.{AreBytes}
 use Rattle.pitch_messages.specs.declared.order.Order.{Order}
 use Rattle.pitch_messages.specs.declared.trading_state.TradingState.{TradingState}
@@ -86,17 +87,14 @@ adds_image book =
     ∙ map_len (finite.entries book.orders) ∙ sym (finite.len-entries book.orders)
 
 -- a message of an image: the time, a trading status, or an add
-of_image_append : (xs ys : List Raw) → AllByRecursion IsOfImage xs → AllByRecursion IsOfImage ys → AllByRecursion IsOfImage (xs ++ ys)
-of_image_append [] ys all more = more
-of_image_append (x ∷ xs) ys all more = (all.0, of_image_append xs ys all.1 more)
 
 -- there are no others
 pub image_kinds : (book : Book) → AllByRecursion IsOfImage (image_of book)
 unfolding written
 image_kinds book =
     subst (AllByRecursion IsOfImage) (sym (parts_are book))
-    (of_image_append (map written (clock_of book.second)) _ (clock book.second)
-    (of_image_append (adds_of (orders_of book)) _ (adds_only (orders_of book)) (states_only (finite.entries book.statuses))))
+    (all_append IsOfImage (map written (clock_of book.second)) _ (clock book.second)
+    (all_append IsOfImage (adds_of (orders_of book)) _ (adds_only (orders_of book)) (states_only (finite.entries book.statuses))))
   where
     add : (order : Order) → IsOfImage (written (add_message order 0))
     add order =
@@ -179,15 +177,11 @@ states_raw : (es : List (List ℕ × (ℕ × ℕ))) → AllByRecursion (λ e. Fi
 states_raw [] all = tt
 states_raw (e ∷ es) all = (status_raw e.0 e.1 all.0, states_raw es all.1)
 
-byte_raws_append : (xs ys : List Raw) → AllByRecursion IsByteRaw xs → AllByRecursion IsByteRaw ys → AllByRecursion IsByteRaw (xs ++ ys)
-byte_raws_append [] ys all more = more
-byte_raws_append (x ∷ xs) ys all more = (all.0, byte_raws_append xs ys all.1 more)
-
 image_byte_raws : (book : Book) → IsWireBook book → AllByRecursion IsByteRaw (image_of book)
 image_byte_raws book wire =
     subst (AllByRecursion IsByteRaw) (sym (parts_are book))
-    (byte_raws_append (map written (clock_of book.second)) _ (clock book.second wire.clock)
-    (byte_raws_append (adds_of (orders_of book)) _
+    (all_append IsByteRaw (map written (clock_of book.second)) _ (clock book.second wire.clock)
+    (all_append IsByteRaw (adds_of (orders_of book)) _
     (adds_raw (finite.entries book.orders) (all_entries nat_cmp_total finite.nat_cmp-IsAntisymmetric (λ id order. FitsWire order) book.orders wire.orders))
     (states_raw (finite.entries book.statuses) (all_entries nat_list_cmp_total (finite.slice_cmp-IsAntisymmetric finite.nat_cmp-IsAntisymmetric) FitsStatus book.statuses wire.statuses))))
   where
@@ -195,16 +189,8 @@ image_byte_raws book wire =
     clock None fits = tt
     clock (Some second) fits = (time_raw second (fits second refl), tt)
 
-all_raws : (raws : List Raw) → AllByRecursion IsByteRaw raws → AllByRecursion IsRaw raws
-all_raws [] all = tt
-all_raws (raw ∷ raws) all = (all.0.0, all_raws raws all.1)
-
-all_bytes : (raws : List Raw) → AllByRecursion IsByteRaw raws → AllByRecursion AreBytes raws
-all_bytes [] all = tt
-all_bytes (raw ∷ raws) all = (all.0.1, all_bytes raws all.1)
-
 pub image_raws : (book : Book) → IsWireBook book → AllByRecursion IsRaw (image_of book)
-image_raws book wire = all_raws (image_of book) (image_byte_raws book wire)
+image_raws book wire = all_follows IsByteRaw IsRaw (λ raw is. is.0) (image_of book) (image_byte_raws book wire)
 
 pub image_bytes : (book : Book) → IsWireBook book → AllByRecursion AreBytes (image_of book)
-image_bytes book wire = all_bytes (image_of book) (image_byte_raws book wire)
+image_bytes book wire = all_follows IsByteRaw AreBytes (λ raw is. is.1) (image_of book) (image_byte_raws book wire)

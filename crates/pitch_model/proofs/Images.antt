@@ -9,6 +9,7 @@ use Rattle.std.proofs.lemmas.Cmp.{nat_cmp_total, nat_list_cmp_total}
 use Rattle.std.proofs.lemmas.Bool.{and_parts, eqb-true, cond-false}
 use Rattle.std.proofs.lemmas.Bool.Decides.{nat_tests}
 use Rattle.std.proofs.lemmas.List.Sums.{fold-append}
+use Rattle.pitch_fields.proofs.Lists.{all_append, all_take}
 use Rattle.pitch_messages.specs.declared.order.Order.{Order}
 use Rattle.pitch_messages.specs.declared.message.Message.{Message}
 use Rattle.pitch_messages.specs.declared.message.Message.TheVariants.{Time, AddLong, AddShort, AddExpanded, TradingStatus}
@@ -213,28 +214,19 @@ statuses_read : (es : List (List ℕ × (ℕ × ℕ))) → AllByRecursion (λ e.
 statuses_read [] all = tt
 statuses_read (e ∷ es) all = (message_back (TradingStatus 0 e.0 e.1.0 e.1.1) (omega arith, (all.0.symbol, (tt, (tt, (tt, tt))))), statuses_read es all.1)
 
-both_read : (ms ns : List Message) → AllByRecursion (λ m. reads (written m) ≡ Ok m) ms → AllByRecursion (λ m. reads (written m) ≡ Ok m) ns → AllByRecursion (λ m. reads (written m) ≡ Ok m) (ms ++ ns)
-both_read [] ns all more = more
-both_read (m ∷ ms) ns all more = (all.0, both_read ms ns all.1 more)
-
-pub all_take : (s : ℕ) (V : List (List ℕ)) → AllByRecursion AreBytes V → AllByRecursion AreBytes (take s V)
-all_take zero V all = tt
-all_take (suc s) [] all = tt
-all_take (suc s) (raw ∷ V) all = (all.0, all_take s V all.1)
-
 -- the image of a book leaves that book
 pub image_of_leaves : (book : Book) → IsBook book → IsWireBook book → book_after (image_of book) ≡ book
 image_of_leaves book is wire =
     image_leaves book is (λ id order g. add_message_adds order (wire.orders id order g))
     (image_reads book.second (added_of book ++ shown_of book) wire.clock
-    (both_read (added_of book) (shown_of book)
+    (all_append (λ m. reads (written m) ≡ Ok m) (added_of book) (shown_of book)
     (adds_read (finite.entries book.orders) (all_entries nat_cmp_total finite.nat_cmp-IsAntisymmetric (λ id order. FitsWire order) book.orders wire.orders))
     (statuses_read (finite.entries book.statuses) (all_entries nat_list_cmp_total (finite.slice_cmp-IsAntisymmetric finite.nat_cmp-IsAntisymmetric) FitsStatus book.statuses wire.statuses))))
 
 -- the image through a sequence leaves the book that the messages up to it leave
 pub image_book : (V : List (List ℕ)) (s : ℕ) → AllByRecursion AreBytes V → book_after (image V s) ≡ book_after (take s V)
 unfolding image
-image_book V s all = image_of_leaves (book_after (take s V)) (book_after_book (take s V)) (book_after_fits (take s V) (all_take s V all))
+image_book V s all = image_of_leaves (book_after (take s V)) (book_after_book (take s V)) (book_after_fits (take s V) (all_take AreBytes s V all))
 
 pub image_is : (V : List (List ℕ)) (s : ℕ) → image V s ≡ image_of (book_after (take s V))
 unfolding image

@@ -1,32 +1,22 @@
 -- What a caller needs besides the law.
-use Rattle.std.proofs.Common.{Bool, true, false, cond, nat_lt, ◌≡◌, ℕ, zero, suc, List, [], ◌∷◌, ◌++◌, length, map, replicate, refl, ap, ◌∙◌, arith, append_assoc, length-append, Some, slice_get}
-use Rattle.std.specs.List.{AllByRecursion}
-use Rattle.pitch_model.specs.Reach.{reach}
-use Rattle.pitch_model.specs.History.{Entry, Raw, Message, Next, GrpUp, GrpDown, GapReply, SpinUp, SpinDown, Advertised, SpinReply, ImageMessages, SpinFinished, Ticked as TickedEntry, image_finished, bad_image, spin_of}
-use Rattle.pitch_model.specs.Honest.{message_at}
+use Rattle.std.proofs.Common.{Bool, true, false, cond, nat_lt, ◌≡◌, ℕ, zero, suc, List, [], ◌∷◌, ◌++◌, length, map, replicate, refl, ap, ◌∙◌, arith, append_assoc, length-append}
+use Rattle.pitch_model.proofs.Growing.{message_more}
+use Rattle.pitch_fields.proofs.Lists.{all_follows}
 use Rattle.heard_items.specs.declared.item.Item.{Item}
 use Rattle.heard_items.specs.declared.item.Item.TheVariants as item
 use Rattle.heard_items.specs.declared.change.ImageEnd.TheVariants as end
+use Rattle.pitch_model.specs.Reach.{reach}
+use Rattle.pitch_model.specs.History.{Entry, Raw, Message, Next, GrpUp, GrpDown, GapReply, SpinUp, SpinDown, Advertised, SpinReply, ImageMessages, SpinFinished, Ticked as TickedEntry, image_finished, bad_image, spin_of}
 use Rattle.heard_items.specs.Heard.{heard}
 use Rattle.heard_items.specs.Changes.{image_end_at}
 use Rattle.session_ends.specs.Closing.{Setup}
 use Rattle.session_ends.specs.Events.{Event, Fed, Ticked, Asked, Pumped, Told}
 use Rattle.client_links.specs.Telling.{without_spare}
 use Rattle.spin_server.specs.Served.{Served}
-use Rattle.spin_path.specs.Paths.{Path, Move, Serves, Links, Takes, Cuts, Hears, path_of, IsShown}
-use Rattle.spin_path.specs.Paths.{MayServe, MayHear, taken, MayMove, AreMoves, heard_all}
+use Rattle.spin_path.specs.Paths.{Path, Move, Serves, Links, Takes, Cuts, Hears, path_of, IsShown, MayServe, MayHear, taken, MayMove, AreMoves, heard_all}
 use Rattle.spin_path.specs.PathLaws.{MovesStay, AllAreTaken, SpareIsUnheard, NeverAnswered}
 
 -- ---- More messages
-get_more : {A : Type 0} (xs ys : List A) (i : ℕ) (x : A) → slice_get xs i ≡ Some x → slice_get (xs ++ ys) i ≡ Some x
-get_more [] ys i x is = cc
-get_more (y ∷ xs) ys zero x is = is
-get_more (y ∷ xs) ys (suc i) x is = get_more xs ys i x is
-
-at_more : (V more : List Raw) (k : ℕ) (raw : Raw) → message_at V k ≡ Some raw → message_at (V ++ more) k ≡ Some raw
-at_more V more zero raw is = cc
-at_more V more (suc k) raw is = get_more V more k raw is
-
 shown_more : (V more : List Raw) (view : Served) → IsShown V view → IsShown (V ++ more) view
 shown_more V more view s = record {
   more = s.more ++ more;
@@ -34,19 +24,15 @@ shown_more V more view s = record {
   within = s.within;
 }
 
-all_shown : (V more : List Raw) (views : List Served) → AllByRecursion (IsShown V) views → AllByRecursion (IsShown (V ++ more)) views
-all_shown V more [] all = tt
-all_shown V more (view ∷ views) all = (shown_more V more view all.0, all_shown V more views all.1)
-
 serve_more : (V more : List Raw) (event : Event (List Served)) → MayServe V event → MayServe (V ++ more) event
-serve_more V more (Fed bytes views) may = all_shown V more views may
+serve_more V more (Fed bytes views) may = all_follows (IsShown V) (IsShown (V ++ more)) (shown_more V more) views may
 serve_more V more (Told n) may = omega (arith, may, length-append V more)
 serve_more V more Ticked may = tt
 serve_more V more (Asked request) may = tt
 serve_more V more Pumped may = tt
 
 hear_more : (V more : List Raw) (entry : Entry) → MayHear V entry → MayHear (V ++ more) entry
-hear_more V more (Message n raw) may = at_more V more n raw may
+hear_more V more (Message n raw) may = message_more V more n raw may
 hear_more V more (Next n) may = omega (arith, may, length-append V more)
 hear_more V more GrpUp may = tt
 hear_more V more GrpDown may = tt

@@ -2,6 +2,7 @@
 use Rattle.std.proofs.Common.{◌≡◌, ℕ, ◌≤◌, Bool, true, false, ◌||◌, ◌==◌, List, [], ◌∷◌, take, cond, sym, ap, ◌∙◌, subst, arith, length-take}
 use Rattle.std.specs.List.{AllByRecursion}
 use Rattle.std.proofs.lemmas.Bool.Decides.{nat_tests}
+use Rattle.pitch_fields.proofs.Lists.{all_take}
 use Rattle.pitch_fields.specs.Fields.{AreBytes}
 use Rattle.pitch_messages.specs.Raw.{IsRaw, kind_of}
 use Rattle.pitch_messages.specs.Session.{session_reads}
@@ -13,13 +14,13 @@ use Rattle.pitch_model.specs.History.{adds}
 use Rattle.pitch_model.specs.Image.{IsOfImage, image, image_of}
 use Rattle.pitch_model.proofs.Books.{book_after_len}
 use Rattle.pitch_model.proofs.ImageRaws.{adds_image, image_kinds, image_raws as book_raws}
-use Rattle.pitch_model.proofs.Images.{image_is, all_take}
+use Rattle.pitch_model.proofs.Images.{image_is}
 use Rattle.pitch_model.proofs.Widths.{book_after_fits}
 use Rattle.spin_path.proofs.Pieces.{IsOther}
 
 pub image_raws : (V : List (List ℕ)) (n : ℕ) → AllByRecursion AreBytes V → AllByRecursion IsRaw (image V n)
 image_raws V n bytes =
-    subst (λ (raws : List (List ℕ)). AllByRecursion IsRaw raws) (sym (image_is V n)) (book_raws (book_after (take n V)) (book_after_fits (take n V) (all_take n V bytes)))
+    subst (λ (raws : List (List ℕ)). AllByRecursion IsRaw raws) (sym (image_is V n)) (book_raws (book_after (take n V)) (book_after_fits (take n V) (all_take AreBytes n V bytes)))
 
 -- a link reads none of an image's types
 not_read : (k : ℕ) → (k == 0x20 || (k == 0x31 || (k == 0x21 || k == 0x22 || k == 0x2f))) ≡ true → is_read SpinLink k ≡ false

@@ -1,16 +1,14 @@
 -- What a link tells of one block more.
-use Rattle.std.proofs.Common.{◌≡◌, ℕ, Bool, true, false, cond, ◌||◌, List, [], ◌∷◌, ◌++◌, length, drop, take, refl, sym, ap, ◌∙◌, Some, None, is_some, option_map}
+use Rattle.std.proofs.Common.{◌≡◌, ℕ, Bool, true, false, cond, ◌||◌, List, [], ◌∷◌, ◌++◌, length, refl, ap, ◌∙◌, Some, None, is_some, option_map}
 use Rattle.std.specs.List.{AllByRecursion}
-use Rattle.std.proofs.lemmas.List.{append-nil, drop_at}
+use Rattle.std.proofs.lemmas.List.{append-nil}
+use Rattle.heard_items.proofs.Datagrams.{one_block}
 use Rattle.pitch_messages.specs.declared.session.SessionMessage.{SessionMessage}
-use Rattle.pitch_messages.specs.Raw.{raws_of}
 use Rattle.unit_packets.specs.Blocks.{Block, IsBlock}
 use Rattle.unit_packets.specs.Causes.{counted}
-use Rattle.unit_packets.specs.Cutting.{blocks_of, rest_of, blocks_by, rest_by, place_of, fault_in}
+use Rattle.unit_packets.specs.Cutting.{blocks_of, rest_of, place_of, fault_in}
 use Rattle.unit_packets.specs.Feeding.{fed_fault}
-use Rattle.unit_packets.specs.Judging.{block_at, header_of}
-use Rattle.unit_packets.proofs.Cuts.{appends, first_of}
-use Rattle.unit_packets.proofs.Judged.{front_stands, front_judged}
+use Rattle.unit_packets.proofs.Cuts.{appends}
 use Rattle.heard_items.specs.declared.item.Item.{Item}
 use Rattle.heard_items.specs.declared.item.Item.TheVariants as item
 use Rattle.session_ends.specs.declared.closed.Closed.{Closed}
@@ -30,57 +28,19 @@ use Rattle.client_links.specs.Linking.{NoLookup}
 use Rattle.client_links.specs.Telling.{before_more, other_in, others, after_others, or_items, told_of, told_said, run_of, tells_on, tells, until}
 use Rattle.spin_path.proofs.Links.{link_of, once, told_once, told_more}
 
--- ---- A block is cut off
-same_block : (u s : ℕ) (rs : List (List ℕ)) (block : Block) → u ≡ block.unit → s ≡ block.sequence → rs ≡ block.raws → ◌≡◌ {A = Block} (record { unit = u; sequence = s; raws = rs }) block
-same_block u s rs block a b c =
-    ap (λ (v : ℕ). record { unit = v; sequence = s; raws = rs }) a ∙ ap (λ (v : ℕ). record { unit = block.unit; sequence = v; raws = rs }) b
-    ∙ ap (λ (v : List (List ℕ)). record { unit = block.unit; sequence = block.sequence; raws = v }) c
-
-one_block : (front back : List ℕ) (block : Block) → IsBlock front block → block_at (header_of (front ++ back)) (front ++ back) ≡ block
-one_block front back block is =
-    let s = front_stands front back block is in
-    let raws : raws_of (header_of (front ++ back)).count (drop 8 (take (header_of (front ++ back)).length (front ++ back))) ≡ block.raws =
-    ap (λ (n : ℕ). raws_of n (drop 8 (take (header_of (front ++ back)).length (front ++ back)))) s.count_is
-    ∙ ap (λ (r : List ℕ). raws_of (length block.raws) (drop 8 r)) s.cut ∙ s.raws_are in
-    same_block _ _ _ block s.unit_is s.sequence_is raws
-
-pub rest_none : rest_of [] ≡ []
-unfolding rest_of rest_by
-rest_none = refl
-
-blocks_none : blocks_of [] ≡ []
-unfolding blocks_of blocks_by
-blocks_none = refl
-
-record CutsOff (bytes : List ℕ) (block : Block) : Type 0 where
-  blocks : blocks_of bytes ≡ block ∷ []
-  rest : rest_of bytes ≡ []
-
-cut_off : (bytes : List ℕ) (block : Block) → IsBlock bytes block → CutsOff bytes block
-cut_off bytes block is =
-    let all : List ℕ = bytes ++ [] in
-    let s = front_stands bytes [] block is in
-    let first = first_of all (header_of all) (front_judged bytes [] block is) in
-    let none : drop (header_of all).length all ≡ [] = ap (λ (n : ℕ). drop n all) s.length_is ∙ drop_at bytes [] (length bytes) refl in
-    record {
-      blocks = ap blocks_of (sym (append-nil bytes)) ∙ first.blocks ∙ ap (λ (b : Block). b ∷ blocks_of (drop (header_of all).length all)) (one_block bytes [] block is)
-          ∙ ap (λ (l : List ℕ). block ∷ blocks_of l) none ∙ ap (λ (l : List Block). block ∷ l) blocks_none;
-      rest = ap rest_of (sym (append-nil bytes)) ∙ first.rest ∙ ap rest_of none ∙ rest_none;
-    }
-
 -- ---- One block behind whole blocks
 no_fault : (place : ℕ) (rest : List ℕ) → rest ≡ [] → fault_in false place rest ≡ None
 no_fault place rest e = ap (fault_in false place) e
 
 module _ (u : ℕ) (bytes piece : List ℕ) (block : Block) (whole : rest_of bytes ≡ []) (is : IsBlock piece block) (zero_is : block.sequence ≡ 0) where
   pub rest_more : rest_of (bytes ++ piece) ≡ []
-  rest_more = (appends bytes piece).rest ∙ ap (λ (l : List ℕ). rest_of (l ++ piece)) whole ∙ (cut_off piece block is).rest
+  rest_more = (appends bytes piece).rest ∙ ap (λ (l : List ℕ). rest_of (l ++ piece)) whole ∙ (one_block piece block is).1
 
   abbrev pub at : ℕ
   at = counted (place_of bytes)
 
   blocks_more : blocks_of (bytes ++ piece) ≡ blocks_of bytes ++ block ∷ []
-  blocks_more = (appends bytes piece).blocks ∙ ap (λ (l : List ℕ). blocks_of bytes ++ blocks_of (l ++ piece)) whole ∙ ap (λ (l : List Block). blocks_of bytes ++ l) (cut_off piece block is).blocks
+  blocks_more = (appends bytes piece).blocks ∙ ap (λ (l : List ℕ). blocks_of bytes ++ blocks_of (l ++ piece)) whole ∙ ap (λ (l : List Block). blocks_of bytes ++ l) (one_block piece block is).0
 
   abbrev added : List Heard
   added = stream_items_from at (block ∷ []) ++ trouble (fed_fault (bytes ++ piece))

@@ -1,7 +1,8 @@
 -- What a spin server does over a shelf.
-use Rattle.std.proofs.Common.{◌≡◌, Bool, ℕ, zero, suc, ◌-◌, ◌≤◌, List, [], ◌∷◌, ◌++◌, length, drop, replicate, sym, ap, ◌∙◌, subst, append_assoc}
+use Rattle.std.proofs.Common.{◌≡◌, Bool, ℕ, ◌-◌, ◌≤◌, List, [], ◌∷◌, ◌++◌, length, sym, ap, ◌∙◌, subst, append_assoc}
 use Rattle.std.specs.List.{AllByRecursion}
 use Rattle.std.proofs.lemmas.List.{append-nil}
+use Rattle.pitch_fields.proofs.Lists.{all_drop, all_replicate}
 use Rattle.pitch_model.specs.Advertising.{Operation, accepted_by, advertised_by}
 use Rattle.pitch_model.specs.History.{Raw}
 use Rattle.pitch_model.proofs.Advertising.{advertised_within}
@@ -21,15 +22,6 @@ use Rattle.spin_server.proofs.Shelving.{one_served, later_both, shelf_seen}
 use Rattle.spin_path.specs.Paths.{Move, path_of, all_said, IsShown, AreMoves}
 use Rattle.spin_path.specs.PathLaws.{ServesOn}
 
-all_drop : (C : ℕ → Type 0) (n : ℕ) (ns : List ℕ) → AllByRecursion C ns → AllByRecursion C (drop n ns)
-all_drop C zero ns all = all
-all_drop C (suc n) [] all = tt
-all_drop C (suc n) (m ∷ ns) all = all_drop C n ns all.1
-
-all_of : (V : List Raw) (view : Served) (n : ℕ) → IsShown V view → AllByRecursion (IsShown V) (replicate n view)
-all_of V view zero s = tt
-all_of V view (suc n) s = (s, all_of V view n s)
-
 seen_is_shown : (operations : List Operation) → IsShown (accepted_by operations) (seen_of operations)
 seen_is_shown operations = record {
   more = [];
@@ -42,7 +34,7 @@ pub views_are_shown : (shelf : Shelf) (operations : List Operation) (views : Lis
 views_are_shown shelf operations views now stands rises shows =
     let first : Served = seen_of operations in
     let same : now ≡ first = one_served shelf first now (shelf_seen shelf operations stands) shows (rises_to ServedLater later_order first views now rises) in
-    subst (AllByRecursion (IsShown (accepted_by operations))) (sym (rises_nowhere ServedLater later_order later_both first now views rises same)) (all_of (accepted_by operations) first (length views) (seen_is_shown operations))
+    subst (AllByRecursion (IsShown (accepted_by operations))) (sym (rises_nowhere ServedLater later_order later_both first now views rises same)) (all_replicate (IsShown (accepted_by operations)) (length views) first (seen_is_shown operations))
 
 -- the two moves of a server that was fed and then pumped
 pub served_on : (V : List Raw) (setup : Setup) (moves : List Move) (piece : List ℕ) (old fed new : Serving) (before middle after : List ℕ) (view : Served) (shown : Served → Type 0) (more : Bool) (f : SpinFeeds (path_of setup moves).served piece old fed view shown before middle)

@@ -3,6 +3,8 @@ use Rattle.std.proofs.Common.{◌≡◌, ℕ, ◌<◌, ◌≤◌, Bool, true, fa
 use Rattle.std.specs.Prelude.{⊤}
 use Rattle.std.specs.List.{AllByRecursion}
 use Rattle.std.proofs.lemmas.List.{append-nil, drop_at}
+use Rattle.unit_packets.proofs.Streams.{of_nothing}
+use Rattle.pitch_fields.proofs.Lists.{all_split}
 use Rattle.pitch_fields.specs.Fields.{number_at}
 use Rattle.pitch_messages.specs.declared.session.SessionMessage.{SessionMessage}
 use Rattle.pitch_messages.specs.declared.session.SessionMessage.TheVariants.{LoginReply, SpinAvailable, SpinReply, SpinFinished}
@@ -31,7 +33,7 @@ use Rattle.spin_server.specs.Serving.{Spin}
 use Rattle.spin_path.specs.PathLaws.{IsFeed}
 use Rattle.spin_path.proofs.Flow.{ImageLeft, GoReply, Goes, rest_more as more_of, rests, rests_append, goes_both}
 use Rattle.spin_path.proofs.Links.{link_of, once, told_once, told_none}
-use Rattle.spin_path.proofs.Pieces.{rest_none, rest_more, block_told, block_untold, one_told, beat_told, IsOther, others_told}
+use Rattle.spin_path.proofs.Pieces.{rest_more, block_told, block_untold, one_told, beat_told, IsOther, others_told}
 use Rattle.spin_path.proofs.Pictures.{image_raws, image_others, image_adds}
 use Rattle.pitch_model.proofs.Growing.{image_more}
 use Rattle.heard_items.specs.declared.item.Item.{Item}
@@ -58,7 +60,7 @@ pub record Serves (V : List Raw) (h u : ℕ) (bytes : List ℕ) (spin : Option S
 
 pub nothing_sent : (V : List Raw) (h u : ℕ) → Serves V h u [] None
 nothing_sent V h u = record {
-  sent = record { whole = rest_none; goes = subst (Goes V None) (sym (told_none u)) _ };
+  sent = record { whole = of_nothing.rest; goes = subst (Goes V None) (sym (told_none u)) _ };
   rest = None;
   packs = _;
   left = λ on. ap (rests V None) (told_none u);
@@ -73,10 +75,6 @@ open_before u a b on =
 no_rest : (V : List Raw) (h : ℕ) (r : ImageLeft) → Packs V h None r → r ≡ None
 no_rest V h None p = refl
 no_rest V h (Some rest) p = absurd p
-
-all_split : (front back : List Raw) → AllByRecursion IsOther (front ++ back) → AllByRecursion IsOther front × AllByRecursion IsOther back
-all_split [] back all = (tt, all)
-all_split (raw ∷ front) back all = let s = all_split front back all.1 in ((all.0, s.0), s.1)
 
 -- ---- One piece more
 module _ (V : List Raw) (h u : ℕ) (bytes : List ℕ) (spin : Option Spin) (s : Serves V h u bytes spin) where
@@ -201,7 +199,7 @@ module _ (V : List Raw) (h u : ℕ) (bytes : List ℕ) (spin : Option Spin) (s :
           → Serves V h u (bytes ++ datagram) after
       serve k raws [] back is same within split others d packing = let some = d.some in absurd (omega (arith, some))
       serve k raws (raw ∷ front) back is same within split others d packing =
-          let both = all_split (raw ∷ front) back (subst (AllByRecursion IsOther) split others) in
+          let both = all_split IsOther (raw ∷ front) back (subst (AllByRecursion IsOther) split others) in
           let rest_is : s.rest ≡ Some (k, (raw ∷ front) ++ back) = is ∙ ap (λ (l : List Raw). Some (k, l)) split in
           let dropped : drop (length (raw ∷ front)) ((raw ∷ front) ++ back) ≡ back = drop_at (raw ∷ front) back (length (raw ∷ front)) refl in
           serves_more datagram (record { unit = h; sequence = 0; raws = raw ∷ front }) (item.ImageMessages (record { items = raw ∷ front; spare = 0 }) ∷ []) after d.block refl

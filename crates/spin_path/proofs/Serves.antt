@@ -1,8 +1,8 @@
 -- A Spin Server over its events, against what a link would tell of its bytes.
-use Rattle.std.proofs.Common.{◌≡◌, ℕ, zero, suc, ◌-◌, ◌<◌, ◌≤◌, Bool, true, false, cond, ◌||◌, List, [], ◌∷◌, ◌++◌, length, drop, slice_get, refl, sym, ap, ◌∙◌, subst, arith, append_assoc, length-append, Option, Some, None, is_some, nat_eq}
-use Rattle.std.specs.List.{AllByRecursion, list_any}
+use Rattle.std.proofs.Common.{◌≡◌, ℕ, ◌-◌, ◌<◌, ◌≤◌, Bool, true, false, cond, ◌||◌, List, [], ◌∷◌, ◌++◌, length, refl, sym, ap, ◌∙◌, subst, arith, append_assoc, length-append, Option, Some, None, is_some, nat_eq}
+use Rattle.std.specs.List.{AllByRecursion}
 use Rattle.std.proofs.lemmas.List.{append-nil}
-use Rattle.std.proofs.lemmas.Bool.{eqb-true}
+use Rattle.pitch_fields.proofs.Lists.{all_drop, all_get, all_found}
 use Rattle.pitch_messages.specs.declared.session.SessionMessage.{SessionMessage}
 use Rattle.pitch_messages.specs.declared.session.SessionMessage.TheVariants.{Login, LoginReply, GapRequest, GapReply, SpinAvailable, SpinRequest, SpinReply, SpinFinished}
 use Rattle.pitch_model.specs.History.{Raw}
@@ -24,33 +24,12 @@ use Rattle.spin_path.specs.PathLaws.{IsFeed}
 use Rattle.spin_path.proofs.Sending.{Sent, Serves, nothing_sent, serves_none, serves_beat, serves_login, serves_available, serves_refusal, serves_image, serves_finished, serves_datagram}
 
 -- ---- What a view shows
-all_drop : (k m : ℕ) (xs : List ℕ) → AllByRecursion (λ n. n ≤ m) xs → AllByRecursion (λ n. n ≤ m) (drop k xs)
-all_drop zero m xs all = all
-all_drop (suc k) m [] all = tt
-all_drop (suc k) m (x ∷ xs) all = all_drop k m xs all.1
-
-any_within : (n m : ℕ) (xs : List ℕ) → list_any (λ k. nat_eq k n) xs ≡ true → AllByRecursion (λ k. k ≤ m) xs → n ≤ m
-any_within n m [] any all = cc
-any_within n m (x ∷ xs) any all = by (nat_eq x n) refl any (λ f. any_within n m xs f all.1)
-  where
-    by : (b : Bool) → nat_eq x n ≡ b → (b || list_any (λ k. nat_eq k n) xs) ≡ true → (list_any (λ k. nat_eq k n) xs ≡ true → n ≤ m) → n ≤ m
-    by true e f rest = let same : x ≡ n = eqb-true x n e in let le = all.0 in omega (arith, same, le)
-    by false e f rest = rest f
-
-get_within : (n m i : ℕ) (xs : List ℕ) → slice_get xs i ≡ Some n → AllByRecursion (λ k. k ≤ m) xs → n ≤ m
-get_within n m i [] e all = cc
-get_within n m zero (x ∷ xs) e all = let same : x ≡ n = some_number x n e in let le = all.0 in omega (arith, same, le)
-  where
-    some_number : (a b : ℕ) → Some a ≡ Some b → a ≡ b
-    some_number a b e = cc
-get_within n m (suc i) (x ∷ xs) e all = get_within n m i xs e all.1
-
 served_within : (V : List Raw) (view : Served) (n : ℕ) → IsShown V view → is_served view n ≡ true → n ≤ length view.messages
-served_within V view n shown e = any_within n (length view.messages) (last_ten view.advertised) e (all_drop (length view.advertised - 10) (length view.messages) view.advertised shown.within)
+served_within V view n shown e = all_found (λ k. k ≤ length view.messages) (last_ten view.advertised) n (all_drop (λ k. k ≤ length view.messages) (length view.advertised - 10) view.advertised shown.within) e
 
 newest_within : (V : List Raw) (view : Served) (n : ℕ) → IsShown V view → newest_of view.advertised ≡ Some n → n ≤ length V
 newest_within V view n shown e =
-    let le = get_within n (length view.messages) (length view.advertised - 1) view.advertised e shown.within in
+    let le = all_get (λ k. k ≤ length view.messages) view.advertised (length view.advertised - 1) n shown.within e in
     omega (arith, le, ap length shown.messages_are, length-append view.messages shown.more)
 
 -- ---- Answers

@@ -1,5 +1,5 @@
 -- What holds of every path: its images are whole, and what is carried on is a path again.
-use Rattle.std.specs.Prelude.{◌≡◌, Bool, ℕ, ◌+◌, ◌≤◌, List, [], ◌∷◌, ◌++◌, length, map, replicate}
+use Rattle.std.specs.Prelude.{◌≡◌, Bool, ℕ, ◌≤◌, List, [], ◌∷◌, ◌++◌, length, map, replicate}
 use Rattle.pitch_fields.specs.Limits.{last_sequence}
 use Rattle.std.specs.List.{AllByRecursion}
 use Rattle.pitch_model.specs.History.{Entry, Raw, SpinFinished, bad_image, spin_of}
