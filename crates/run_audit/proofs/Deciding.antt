@@ -19,7 +19,7 @@ use Rattle.run_audit.proofs.Reporting.{first_is, reads_all, wrong_first, wrong_w
 use Rattle.run_audit.specs.Lines.{book_front}
 use Rattle.std.specs.Option.{MatchOption}
 use Rattle.std.proofs.lemmas.List.Sums.{sum_by-append}
-use Rattle.std.proofs.lemmas.Bool.{false≢true}
+use Rattle.std.proofs.lemmas.Bool.{false≢true, or_right, or_from}
 
 -- ---- The verdict
 pub says_no : (Vs : ℕ → List Raw) (lines : List (List ℕ)) (k : ℕ) → IsFirstWrong Vs lines k → Judges Vs lines (No k)
@@ -88,18 +88,10 @@ pub first_of_book : (line : List ℕ) (b : Bool) → b ≡ starts_with nat_eq li
 first_of_book line b is t = ap (λ (x : Bool). x || is_inner line) (sym is ∙ t)
 
 pub later_of_book : (line : List ℕ) (b : Bool) → b ≡ is_inner line → b ≡ true → is_of_book line ≡ true
-later_of_book line b is t = later (starts_with nat_eq line (codes "book ")) (is_inner line) (sym is ∙ t)
-  where
-    later : (x inner : Bool) → inner ≡ true → (x || inner) ≡ true
-    later true inner h = refl
-    later false inner h = h
+later_of_book line b is t = or_right (starts_with nat_eq line (codes "book ")) (is_inner line) (sym is ∙ t)
 
 pub not_of_book : (line : List ℕ) (a b : Bool) → a ≡ starts_with nat_eq line (codes "book ") → a ≡ false → b ≡ is_inner line → b ≡ false → is_of_book line ≡ false
-not_of_book line a b ais f bis g = none (starts_with nat_eq line (codes "book ")) (is_inner line) (sym ais ∙ f) (sym bis ∙ g)
-  where
-    none : (x inner : Bool) → x ≡ false → inner ≡ false → (x || inner) ≡ false
-    none true inner e h = absurd cc
-    none false inner e h = h
+not_of_book line a b ais f bis g = or_from (starts_with nat_eq line (codes "book ")) (is_inner line) (sym ais ∙ f) (sym bis ∙ g)
 
 pub no_front : (line : List ℕ) (b : Bool) → b ≡ is_inner line → b ≡ true → (unit n : ℕ) (more : List ℕ) → line ≡ book_front unit n ++ more → ⊥
 no_front line b is t unit n more e = absurd (false≢true (sym (is_none unit n more) ∙ ap is_inner (sym e) ∙ sym is ∙ t))

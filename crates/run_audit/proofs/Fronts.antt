@@ -14,6 +14,7 @@ use Rattle.std.specs.List.{position_or_len}
 use Rattle.std.proofs.lemmas.List.{get_or_append_left, get_or_at, take_at, drop_at}
 use Rattle.std.proofs.lemmas.List.Sums.{position_or_len_is}
 use Rattle.std.proofs.Common.{length-append, get_or, take, drop, Option, Some, None, eq-eqb}
+use Rattle.std.proofs.lemmas.Option.{same_Some}
 use Rattle.run_audit.proofs.Cutting.{stays}
 
 not_a_space : (d : ℕ) → is_ascii_digit d ≡ true → d ≡ 32 → ⊥
@@ -109,10 +110,7 @@ pub taken_is : (bytes digits rest more : List ℕ) (place n value : ℕ) (r : Op
     → (value ≡ n) × (rest ≡ 32 ∷ more)
 taken_is bytes digits rest more place n value r is some small e at front back =
     let t = number_taken bytes digits rest more place n small e at front back in
-    (same value n (sym some ∙ is ∙ t.0), t.1)
-  where
-    same : (a b : ℕ) → Some a ≡ Some b → a ≡ b
-    same a b e = cc
+    (same_Some value n (sym some ∙ is ∙ t.0), t.1)
 
 pub none_taken : (bytes digits rest more : List ℕ) (place n : ℕ) (r : Option ℕ) → r ≡ number_of 0 4294967295 digits → r ≡ None → n < 2 ^ 32 → bytes ≡ decimal n ++ 32 ∷ more → place ≡ position_or_len (λ b. b == 32) bytes → digits ≡ take place bytes → rest ≡ drop place bytes → ⊥
 none_taken bytes digits rest more place n r is none small e at front back =

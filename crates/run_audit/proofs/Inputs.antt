@@ -3,8 +3,8 @@ use Rattle.std.proofs.Common.{◌≡◌, ℕ, ◌+◌, ◌-◌, ◌<◌, ◌≤�
 use Rattle.std.specs.Prelude.{reverse}
 use Rattle.std.specs.List.{concat}
 use Rattle.std.specs.Option.{option_map}
-use Rattle.std.proofs.lemmas.Bool.{ne_eqb, lt-ltb, le-ltb}
-use Rattle.std.proofs.lemmas.List.{append-nil, drop-drop, reverse-append, reverse-reverse}
+use Rattle.std.proofs.lemmas.Bool.{ne_eqb, lt-ltb, le-ltb, or_from}
+use Rattle.std.proofs.lemmas.List.{append-nil, drop-drop, reverse-append, reverse-reverse, nil_from_length}
 use Rattle.pitch_model.specs.History.{Raw}
 use Rattle.unit_packets.specs.Blocks.{Block}
 use Rattle.unit_packets.specs.Cutting.{blocks_of, rest_of, place_of, fault_at_end}
@@ -20,6 +20,7 @@ use Rattle.run_audit.specs.Report.{Judges, lines_of}
 use Rattle.run_audit.specs.declared.verdict.Verdict.{Verdict}
 use Rattle.run_audit.specs.Log.{logged, messages_at, with_block, MayFollow}
 use Rattle.std.proofs.Common.{Result, IsOk, take, take_all}
+use Rattle.std.proofs.Math.Bool.{or-true}
 use Rattle.run_audit.specs.Logging.{LogsAll, LogsOne, IsLogRefused}
 use Rattle.run_audit.specs.declared.input.InputError.{InputError}
 use Rattle.run_audit.specs.declared.input.InputError.TheVariants.{Fault, OutOfMemory}
@@ -54,25 +55,13 @@ logs_none log audit none = record {
 may_is : (Vs Ws : ℕ → List Raw) (block : Block) → ((unit : ℕ) → Vs unit ≡ Ws unit) → MayFollow Vs block → may_follow Ws block ≡ true
 may_is Vs Ws block same (inl none) = ap (λ (b : Bool). b || (block.sequence == length (Ws block.unit) + 1)) (eq-eqb (length block.raws) 0 (ap length none))
 may_is Vs Ws block same (inr next) =
-    ap (λ (b : Bool). (length block.raws == 0) || b) (eq-eqb block.sequence (length (Ws block.unit) + 1) (next ∙ ap (λ (V : List Raw). length V + 1) (same block.unit))) ∙ always (length block.raws == 0)
-  where
-    always : (x : Bool) → (x || true) ≡ true
-    always true = refl
-    always false = refl
-
-empty : (raws : List Raw) → length raws ≡ 0 → raws ≡ []
-empty [] e = refl
-empty (x ∷ raws) e = absurd (omega arith)
+    ap (λ (b : Bool). (length block.raws == 0) || b) (eq-eqb block.sequence (length (Ws block.unit) + 1) (next ∙ ap (λ (V : List Raw). length V + 1) (same block.unit))) ∙ or-true (length block.raws == 0)
 
 may_not : (Vs Ws : ℕ → List Raw) (block : Block) → ((unit : ℕ) → Vs unit ≡ Ws unit) → (MayFollow Vs block → ⊥) → may_follow Ws block ≡ false
 may_not Vs Ws block same never =
-    neither (length block.raws == 0) (block.sequence == length (Ws block.unit) + 1)
-    (ne_eqb (length block.raws) 0 (λ e. never (inl (empty block.raws e))))
+    or_from (length block.raws == 0) (block.sequence == length (Ws block.unit) + 1)
+    (ne_eqb (length block.raws) 0 (λ e. never (inl (nil_from_length block.raws e))))
     (ne_eqb block.sequence (length (Ws block.unit) + 1) (λ e. never (inr (e ∙ ap (λ (V : List Raw). length V + 1) (sym (same block.unit))))))
-  where
-    neither : (a b : Bool) → a ≡ false → b ≡ false → (a || b) ≡ false
-    neither true b e f = absurd cc
-    neither false b e f = f
 
 -- ---- A block more
 fault_step : (end : Option AuditFault) (place : ℕ) (before : List Block) (block : Block) (blocks : List Block) (b : Bool) → may_follow (logged before) block ≡ b
@@ -125,17 +114,13 @@ logs_bad log audit at e L lt bad =
 
 pub logs_end : (log : List ℕ) (audit : List (List Raw)) (at : ℕ) → LogsSo log audit at → length log ≤ at → LogsAll log audit
 logs_end log audit at L end =
-    let nothing : drop at log ≡ [] = gone (drop at log) (let left = length-drop at log in omega (arith, left, end)) in
+    let nothing : drop at log ≡ [] = nil_from_length (drop at log) (let left = length-drop at log in omega (arith, left, end)) in
     let none : blocks_of (drop at log) ≡ [] = ap blocks_of nothing ∙ of_nothing.blocks in
     let no_rest : rest_of log ≡ [] = sym L.rest ∙ ap rest_of nothing ∙ of_nothing.rest in (
       sym L.fault ∙ ap (fault_behind (end_of log) (8 + at) L.before) none ∙ ap (option_map in_log) (fault_no_rest log no_rest),
       λ unit. L.has unit ∙ ap (λ (bs : List Block). logged bs unit) (back L.before (sym (append-nil (reverse L.before)) ∙ ap (λ (bs : List Block). reverse L.before ++ bs) (sym none) ∙ L.blocks)),
     )
   where
-    gone : (l : List ℕ) → length l ≡ 0 → l ≡ []
-    gone [] e = refl
-    gone (x ∷ l) e = absurd (omega arith)
-
     back : {bs : List Block} (before : List Block) → reverse before ≡ bs → before ≡ reverse bs
     back before e = sym (reverse-reverse before) ∙ ap reverse e
 

@@ -7,6 +7,7 @@ use Rattle.unit_packets.specs.Blocks.{StaysWithin}
 use Rattle.pitch_model.specs.History.{Raw}
 use Rattle.run_audit.specs.Finding.{messages_of}
 use Rattle.std.proofs.Common.{Result, Ok, Err, OnOk, OnErr, IfErr}
+use Rattle.std.proofs.lemmas.Option.{same_Some}
 use Rattle.run_audit.specs.declared.error.AuditError.{AuditError}
 use Rattle.run_audit.specs.Following.{AreShort, IsGapAt}
 use Rattle.run_audit.proofs.Walking.{log_at, messages_here}
@@ -16,17 +17,14 @@ short_more : (logs : List (Roomy Raw)) (log : Roomy Raw) → AreShort logs → l
 short_more [] log a b = (b, tt)
 short_more (x ∷ logs) log a b = (a.0, short_more logs log a.1 b)
 
-short_put : (logs : List (Roomy Raw)) (i : ℕ) (log : Roomy Raw) → AreShort logs → length log.items ≤ 4294967294 → AreShort (slice_set logs i log)
-short_put [] i log a b = tt
-short_put (x ∷ logs) zero log a b = (b, a.1)
-short_put (x ∷ logs) (suc i) log a b = (a.0, short_put logs i log a.1 b)
+pub short_set : (logs : List (Roomy Raw)) (i : ℕ) (log : Roomy Raw) → AreShort logs → length log.items ≤ 4294967294 → AreShort (slice_set logs i log)
+short_set [] i log a b = tt
+short_set (x ∷ logs) zero log a b = (b, a.1)
+short_set (x ∷ logs) (suc i) log a b = (a.0, short_set logs i log a.1 b)
 
 short_here : (logs : List (Roomy Raw)) (i : ℕ) (log : Roomy Raw) → AreShort logs → slice_get logs i ≡ Some log → length log.items ≤ 4294967294
 short_here [] i log a l = absurd cc
-short_here (x ∷ logs) zero log a l = subst (λ (z : Roomy Raw). length z.items ≤ 4294967294) (same_log x log l) a.0
-  where
-    same_log : (x log : Roomy Raw) → Some x ≡ Some log → x ≡ log
-    same_log x log e = cc
+short_here (x ∷ logs) zero log a l = subst (λ (z : Roomy Raw). length z.items ≤ 4294967294) (same_Some x log l) a.0
 short_here (x ∷ logs) (suc i) log a l = short_here logs i log a.1 l
 
 pub short_at : (logs : List (Roomy Raw)) (i : ℕ) (log : Roomy Raw) → AreShort logs → i < length logs → log ≡ slice_index_or logs i log → length log.items ≤ 4294967294
@@ -71,9 +69,6 @@ same_put logs i log new lt is e of = elim (cases_eq i of) [
   | inl h ↦ ap (messages_of (slice_set logs i new)) (sym h) ∙ put_here logs i new lt ∙ e ∙ sym (messages_here logs i log (log_at logs i log lt is)) ∙ ap (messages_of logs) h
   | inr n ↦ put_other logs i of new n
 ]
-
-pub short_set : (logs : List (Roomy Raw)) (i : ℕ) (new : Roomy Raw) → AreShort logs → length new.items ≤ 4294967294 → AreShort (slice_set logs i new)
-short_set = short_put
 
 -- no messages more are the same messages
 pub none_more : (V raws : List Raw) (b : Bool) → length raws ≡ 0 → V ≡ (if b then V ++ raws else V)

@@ -9,6 +9,7 @@ use Rattle.pitch_model.specs.History.{Raw}
 use Rattle.run_audit.specs.Report.{is_of_book, book_lines, Part, Passed, Printed, is_book, part_lines, IsPart, Agrees, with_end, SameThrough, IsFirstWrong}
 use Rattle.run_audit.specs.Lines.{book_front, Parts}
 use Rattle.std.proofs.Common.{Result, Ok, Err, IfOk}
+use Rattle.pitch_fields.proofs.Lists.{all_push}
 use Rattle.pitch_messages.specs.Room.{Roomy}
 use Rattle.run_audit.specs.Report.{lines_of}
 use Rattle.run_audit.specs.Backward.{Stands}
@@ -17,10 +18,6 @@ use Rattle.run_audit.proofs.Judging.{book_begins, no_part, same_front, same_behi
 use Rattle.run_audit.specs.Laws.{AreFew}
 
 -- ---- One part more
-all_more : (Vs : ℕ → List Raw) (ps : List Part) (p : Part) → AllByRecursion (IsPart Vs) ps → IsPart Vs p → AllByRecursion (IsPart Vs) (ps ++ p ∷ [])
-all_more Vs [] p a b = (b, tt)
-all_more Vs (q ∷ ps) p a b = (a.0, all_more Vs ps p a.1 b)
-
 counted_more : (ps : List Part) (p : Part) → count_by is_book (ps ++ p ∷ []) ≡ count_by is_book ps + cond (is_book p) 1 0
 counted_more ps p = sum_by-append (λ x. cond (is_book x) 1 0) ps (p ∷ []) ∙ ap (λ (n : ℕ). count_by is_book ps + n) (one (cond (is_book p) 1 0))
   where
@@ -30,7 +27,7 @@ counted_more ps p = sum_by-append (λ x. cond (is_book x) 1 0) ps (p ∷ []) ∙
 pub agrees_more : (Vs : ℕ → List Raw) (done : List (List ℕ)) (books : ℕ) (p : Part) → Agrees Vs done books → IsPart Vs p → Agrees Vs (done ++ part_lines Vs p) (books + cond (is_book p) 1 0)
 agrees_more Vs done books p A is = record {
   parts = A.parts ++ p ∷ [];
-  are = all_more Vs A.parts p A.are is;
+  are = all_push (IsPart Vs) A.parts p A.are is;
   made = ap (λ (ls : List (List ℕ)). ls ++ part_lines Vs p) A.made ∙ ap (λ (ls : List (List ℕ)). flat_map (part_lines Vs) A.parts ++ ls) (sym (append-nil (part_lines Vs p))) ∙ sym (flat_map-append (part_lines Vs) A.parts (p ∷ []));
   count = ap (λ (n : ℕ). n + cond (is_book p) 1 0) A.count ∙ sym (counted_more A.parts p);
 }

@@ -6,7 +6,7 @@ use Rattle.std.proofs.Math.Seq.{take-append_seam}
 use Rattle.pitch_model.specs.Book.{Book, empty_book, after, book_after}
 use Rattle.pitch_model.specs.History.{Raw}
 use Rattle.std.proofs.lemmas.List.{take_more, take_all}
-use Rattle.std.proofs.lemmas.Option.{slice_get_within, get_or_from_slice_get}
+use Rattle.std.proofs.lemmas.Option.{slice_get_within, get_or_from_slice_get, same_Some}
 use Rattle.pitch_messages.specs.Room.{Roomy}
 use Rattle.std.proofs.Common.{zero, slice_set, slice_index_or}
 use Rattle.std.proofs.lemmas.Option.{slice_get_read}
@@ -67,31 +67,19 @@ at_length (l ∷ logs) (w ∷ walks) a = omega (arith, at_length logs walks a.1)
 pub at_here : (logs : List (Roomy Raw)) (walks : List Walk) (i : ℕ) (log : Roomy Raw) (walk : Walk) → AreAt logs walks → slice_get logs i ≡ Some log → slice_get walks i ≡ Some walk → IsAt log.items walk
 at_here [] walks i log walk a l w = absurd cc
 at_here (x ∷ logs) [] i log walk a l w = absurd a
-at_here (x ∷ logs) (y ∷ walks) zero log walk a l w = subst (λ (z : Walk). IsAt log.items z) (same_walk y walk w) (subst (λ (z : Roomy Raw). IsAt z.items y) (same_log x log l) a.0)
-  where
-    same_walk : (y walk : Walk) → Some y ≡ Some walk → y ≡ walk
-    same_walk y walk e = cc
-
-    same_log : (x log : Roomy Raw) → Some x ≡ Some log → x ≡ log
-    same_log x log e = cc
+at_here (x ∷ logs) (y ∷ walks) zero log walk a l w = subst (λ (z : Walk). IsAt log.items z) (same_Some y walk w) (subst (λ (z : Roomy Raw). IsAt z.items y) (same_Some x log l) a.0)
 at_here (x ∷ logs) (y ∷ walks) (suc i) log walk a l w = at_here logs walks i log walk a.1 l w
 
 pub at_put : (logs : List (Roomy Raw)) (walks : List Walk) (i : ℕ) (log : Roomy Raw) (walk : Walk) → AreAt logs walks → slice_get logs i ≡ Some log → IsAt log.items walk → AreAt logs (slice_set walks i walk)
 at_put [] walks i log walk a l b = absurd cc
 at_put (x ∷ logs) [] i log walk a l b = absurd a
-at_put (x ∷ logs) (y ∷ walks) zero log walk a l b = (subst (λ (z : Roomy Raw). IsAt z.items walk) (same_log log x l) b, a.1)
-  where
-    same_log : (log x : Roomy Raw) → Some x ≡ Some log → log ≡ x
-    same_log log x e = cc
+at_put (x ∷ logs) (y ∷ walks) zero log walk a l b = (subst (λ (z : Roomy Raw). IsAt z.items walk) (sym (same_Some x log l)) b, a.1)
 at_put (x ∷ logs) (y ∷ walks) (suc i) log walk a l b = (a.0, at_put logs walks i log walk a.1 l b)
 
 -- ---- The messages of a unit
 pub messages_here : (logs : List (Roomy Raw)) (unit : ℕ) (log : Roomy Raw) → slice_get logs unit ≡ Some log → messages_of logs unit ≡ log.items
 messages_here [] unit log l = absurd cc
-messages_here (x ∷ logs) zero log l = ap (λ (z : Roomy Raw). z.items) (same_log x log l)
-  where
-    same_log : (x log : Roomy Raw) → Some x ≡ Some log → x ≡ log
-    same_log x log e = cc
+messages_here (x ∷ logs) zero log l = ap (λ (z : Roomy Raw). z.items) (same_Some x log l)
 messages_here (x ∷ logs) (suc unit) log l = messages_here logs unit log l
 
 pub messages_none : (logs : List (Roomy Raw)) (unit : ℕ) → length logs ≤ unit → messages_of logs unit ≡ []
