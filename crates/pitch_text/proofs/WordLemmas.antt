@@ -8,6 +8,7 @@ use Rattle.std.proofs.lemmas.List.Concat.{flat_map-append}
 use Rattle.std.proofs.lemmas.List.Elements.{All-from_recursion}
 use Rattle.text_lines.specs.Fields.{Field, placed, fields_from}
 use Rattle.std.specs.Str.Lines.{strip_carriage_return}
+use Rattle.pitch_fields.proofs.Lists.{all_append}
 use Rattle.text_lines.specs.Text.{lines_of}
 use Rattle.pitch_text.specs.Printing.{spaced}
 use Rattle.text_lines.proofs.FieldLemmas.{is_space}
@@ -37,11 +38,6 @@ no_stop_at stop (b ∷ w) le h =
 
 no_stop : (stop : ℕ) (w : List ℕ) → stop ≤ 32 → list_all is_dark w ≡ true → All (λ b. eqb b stop ≡ false) w
 no_stop stop w le h = All-from_recursion (λ b. eqb b stop ≡ false) w (no_stop_at stop w le h)
-
--- what each of two lists keeps, both in a row keep
-by_append : (P : ℕ → Type 0) (xs ys : List ℕ) → AllByRecursion P xs → AllByRecursion P ys → AllByRecursion P (xs ++ ys)
-by_append P [] ys h k = k
-by_append P (x ∷ xs) ys h k = (h.0, by_append P xs ys h.1 k)
 
 -- a line of words is cut into those words
 split_words : (w : List ℕ) (ws : List (List ℕ)) → IsWord w → AreWords ws → slice_split is_space (w ++ spaced ws) ≡ w ∷ ws
@@ -75,10 +71,10 @@ spaced_length (w ∷ ws) hs = omega (arith, length-append w (spaced ws), hs.0.sh
 
 spaced_stops : (stop : ℕ) (ws : List (List ℕ)) → stop < 32 → AreWords ws → AllByRecursion (λ b. eqb b stop ≡ false) (spaced ws)
 spaced_stops stop [] le hs = tt
-spaced_stops stop (w ∷ ws) le hs = (ne_eqb 32 stop (λ e. omega arith), by_append (λ b. eqb b stop ≡ false) w (spaced ws) (no_stop_at stop w (omega arith) hs.0.dark) (spaced_stops stop ws le hs.1))
+spaced_stops stop (w ∷ ws) le hs = (ne_eqb 32 stop (λ e. omega arith), all_append (λ b. eqb b stop ≡ false) w (spaced ws) (no_stop_at stop w (omega arith) hs.0.dark) (spaced_stops stop ws le hs.1))
 
 line_stops : (stop : ℕ) (w : List ℕ) (ws : List (List ℕ)) → stop < 32 → IsWord w → AreWords ws → AllByRecursion (λ b. eqb b stop ≡ false) (w ++ spaced ws)
-line_stops stop w ws le h hs = by_append (λ b. eqb b stop ≡ false) w (spaced ws) (no_stop_at stop w (omega arith) h.dark) (spaced_stops stop ws le hs)
+line_stops stop w ws le h hs = all_append (λ b. eqb b stop ≡ false) w (spaced ws) (no_stop_at stop w (omega arith) h.dark) (spaced_stops stop ws le hs)
 
 -- no byte is a carriage return, so none is taken off
 keeps_return : (line : List ℕ) → 0 < length line → All (λ b. eqb b 13 ≡ false) line → strip_carriage_return line ≡ line
