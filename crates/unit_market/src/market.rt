@@ -19,7 +19,6 @@ ghost use Rattle.unit_market.specs.Standing.{last_accepted};
 use gap_store::{Found, GapLookup, GapStore};
 use pitch_fields::OutOfMemory;
 use pitch_messages::{Raw, RawList};
-use pitch_model::laws::operations_add_up;
 use pitch_text::Command;
 use spin_server::{ImageLookup, ImageShelf, Imaged};
 use std::alloc::Global;
@@ -87,8 +86,6 @@ impl Market {
             → MarketHas self.old unit kept messages sent advertised
             → MarketHas self.new unit kept messages sent advertised) }
     {
-        // A message that is pushed adds itself to what was accepted, and advertises nothing.
-        operations_add_up();
         let raw = self.venue.prepare(command)?;
         // Of what may want memory the shelf is the last: then nothing has to be taken back.
         self.shelf.push(&raw)?;
@@ -166,8 +163,6 @@ impl Market {
             self.new unit kept messages sent (with_sequence advertised (length messages))) }
         ensures err { OnErr result (self.new ≡ self.old) }
     {
-        // What is advertised is the number of all that was accepted.
-        operations_add_up();
         let sequence = self.shelf.advertise()?;
         Ok(sequence)
     }

@@ -1,11 +1,13 @@
 -- What a venue stands for once it has taken in the message of a command.
-use Rattle.std.proofs.Common.{◌≡◌, ℕ, ◌+◌, ◌-◌, ◌≤◌, Bool, true, false, ◌||◌, nat_le, List, [], ◌∷◌, ◌++◌, length, Option, None, Some, Ok, refl, sym, ap, ◌∙◌, arith, subst, length-append, length-drop, drop}
-use Rattle.std.specs.List.{slice_get, AllByRecursion}
+use Rattle.std.proofs.Common.{◌≡◌, ℕ, ◌+◌, ◌-◌, ◌≤◌, Bool, false, ◌||◌, nat_le, List, [], ◌∷◌, ◌++◌, length, Option, None, Some, Ok, refl, sym, ap, ◌∙◌, arith, subst, length-append, length-drop, drop}
+use Rattle.std.specs.List.{slice_get}
 use Rattle.std.specs.FinMap as map
 use Rattle.std.specs.Ordering.{nat_cmp}
 use Rattle.std.proofs.lemmas.Bool.{cond_both}
 use Rattle.std.proofs.lemmas.List.{drop-append-le, drop_all}
 use Rattle.std.proofs.lemmas.List.Folds.{list_any-append}
+use Rattle.std.proofs.Math.Bool.{or-false}
+use Rattle.pitch_fields.proofs.Lists.{all_push, get_last}
 use Rattle.pitch_messages.specs.declared.order.Order.{Order}
 use Rattle.pitch_messages.specs.declared.message.Message.{Message}
 use Rattle.pitch_messages.specs.declared.message.Message.TheVariants.{ReduceLong, ReduceShort}
@@ -57,10 +59,6 @@ ends_by_message (commands.Clear offset) = refl
 ends_by_message (commands.EndSession offset) = refl
 ends_by_message (commands.Status symbol halt sho offset) = refl
 
-pub or_false : (b : Bool) → (b || false) ≡ b
-or_false true = refl
-or_false false = refl
-
 -- the message of a command says whether the command ends the session
 pub ends_as_command : (command : Command) → reads (raw_of command) ≡ Ok (message_of command) → ends_session command ≡ reads_end (reads (raw_of command))
 ends_as_command command known = sym (ap reads_end known ∙ ends_by_message command)
@@ -69,37 +67,29 @@ ended_more : (accepted : List (List ℕ)) (raw : List ℕ) → is_ended accepted
 ended_more accepted raw goes_on = sym
     (list_any-append (λ (raw : List ℕ). reads_end (reads raw)) accepted (raw ∷ [])
     ∙ ap (λ (b : Bool). b || (reads_end (reads raw) || false)) goes_on
-    ∙ or_false (reads_end (reads raw)))
+    ∙ or-false (reads_end (reads raw)))
 
 -- ---- The last message
-last_there : (accepted : List (List ℕ)) (raw : List ℕ) → slice_get (accepted ++ raw ∷ []) (length accepted) ≡ Some raw
-last_there [] raw = refl
-last_there (first ∷ accepted) raw = last_there accepted raw
-
-last_more : (accepted : List (List ℕ)) (raw : List ℕ) → Some raw ≡ last_of (accepted ++ raw ∷ [])
-last_more accepted raw =
+pub last_there : (accepted : List (List ℕ)) (raw : List ℕ) → last_of (accepted ++ raw ∷ []) ≡ Some raw
+last_there accepted raw =
     let l : length (accepted ++ raw ∷ []) - 1 ≡ length accepted = omega (arith, length-append accepted (raw ∷ [])) in
-    sym (ap (slice_get (accepted ++ raw ∷ [])) l ∙ last_there accepted raw)
+    ap (slice_get (accepted ++ raw ∷ [])) l ∙ get_last accepted raw
 
 -- ---- All messages
-pub all_more : (P : List ℕ → Type 0) (messages : List (List ℕ)) (raw : List ℕ) → AllByRecursion P messages → P raw → AllByRecursion P (messages ++ raw ∷ [])
-all_more P [] raw all is = (is, tt)
-all_more P (m ∷ messages) raw all is = (all.0, all_more P messages raw all.1 is)
-
 -- ---- The whole venue
 pub stands_on : (old new : VenueState) (accepted : List (List ℕ)) (sent : ℕ) (raw : List ℕ) → Stands old accepted sent → Advances old raw new → old.ended ≡ false → old.pending.next ≤ 4294967294 → Stands new (accepted ++ raw ∷ []) sent
 stands_on old new accepted sent raw stands advances goes_on room = record {
   book = advances.book ∙ ap (λ (b : Book). after b raw) stands.book ∙ sym (book_after-append accepted (raw ∷ []));
   next = advances.next ∙ ap (λ (n : ℕ). n + 1) (stands.next ∙ sym (length-append accepted (raw ∷ [])));
   ended = advances.ended ∙ ended_more accepted raw (sym stands.ended ∙ goes_on);
-  last = advances.last ∙ last_more accepted raw;
+  last = advances.last ∙ sym (last_there accepted raw);
   pending =
       let waits : Waits new.pending old.unit (sent + 1) (drop sent accepted ++ raw ∷ []) = advances.waits old.unit (sent + 1) (drop sent accepted) stands.pending in
       let same : Waits new.pending new.unit (sent + 1) (drop sent accepted ++ raw ∷ []) = subst (λ (u : ℕ). Waits new.pending u (sent + 1) (drop sent accepted ++ raw ∷ [])) (sym advances.unit) waits in
       subst (Waits new.pending new.unit (sent + 1)) (sym (drop-append-le sent accepted (raw ∷ []) stands.within)) same;
   within = let w = stands.within in omega (arith, w, length-append accepted (raw ∷ []));
-  raws = all_more IsRaw accepted raw stands.raws advances.is_raw;
-  bytes = all_more AreBytes accepted raw stands.bytes advances.bytes;
+  raws = all_push IsRaw accepted raw stands.raws advances.is_raw;
+  bytes = all_push AreBytes accepted raw stands.bytes advances.bytes;
   few = let n = stands.next in omega (arith, n, room, length-append accepted (raw ∷ []));
 }
 

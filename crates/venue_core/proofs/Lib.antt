@@ -1,4 +1,5 @@
 pub mod Accepting
+pub mod Answered
 mod Examples
 pub mod Judging
 pub mod PlanAccepted

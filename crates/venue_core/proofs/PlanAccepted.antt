@@ -3,6 +3,7 @@ use Rattle.std.proofs.Common.{◌≡◌, ◌≢◌, ℕ, zero, suc, ◌+◌, ◌
 use Rattle.std.proofs.lemmas.Bool.Decides.{nat_tests}
 use Rattle.std.proofs.lemmas.List.Folds.{list_any-append}
 use Rattle.std.specs.FinMap as finite
+use Rattle.std.proofs.Math.Bool.{or-false}
 use Rattle.pitch_fields.specs.declared.side.Side.{Side}
 use Rattle.pitch_fields.specs.declared.side.Side.TheVariants.{Buy, Sell}
 use Rattle.pitch_messages.specs.Reading.{reads}
@@ -17,7 +18,7 @@ use Rattle.venue_core.specs.Commands.{message_of, raw_of, ends_session}
 use Rattle.venue_core.specs.Refusals.{reads_end, is_ended, are_spent, has_no_shares, has_bad_name, adds_open_order, names_no_order, takes_too_much, shares_of, excess, overfills, refused_if, first_refusal, refusal}
 use Rattle.venue_core.specs.Plan.{plan_quantity, plan_price, plan_order, plan_command, plan}
 use Rattle.venue_core.specs.Planned.{buy_left, sell_left, second_buy}
-use Rattle.venue_core.proofs.Accepting.{ends_by_message, or_false}
+use Rattle.venue_core.proofs.Accepting.{ends_by_message}
 use Rattle.venue_core.proofs.PlanEffects.{Does, quantity_least, quantity_most, price_most, price_cents, symbol_case, fits_wire, time_does, add_does, exec_does, reduce_does, modify_does, delete_does, trade_does}
 use Rattle.venue_core.proofs.PlanBooks.{Orders, plan_length, get_other, first_command, second_command, third_command, fourth_command, fifth_command, sixth_command, seventh_command, eighth_even, eighth_odd, first_order, second_order, orders_2, orders_3, orders_4, orders_5, orders_6, orders_7, clock, book_of, finds_first, finds_second, finds_reduced, finds_third, stands_1, stands_2, stands_3, stands_4, stands_5, stands_6, stands_7}
 use Rattle.venue_core.proofs.PlanLeft.{Left, left_none, left_after}
@@ -109,7 +110,7 @@ plan_goes_on number unit (suc n) low =
     let raw : List ℕ = raw_of (plan_command number unit (suc n)) in
     list_any-append (λ (raw : List ℕ). reads_end (reads raw)) (plan number unit n) (raw ∷ [])
     ∙ ap (λ (b : Bool). b || (reads_end (reads raw) || false)) (plan_goes_on number unit n (omega (arith, low)))
-    ∙ or_false (reads_end (reads raw))
+    ∙ or-false (reads_end (reads raw))
     ∙ ap reads_end (plan_known number unit (suc n) (omega arith) low)
     ∙ ends_by_message (plan_command number unit (suc n))
     ∙ by_place (GoesOn number unit) (round_goes_on number unit) (suc n) (omega arith) low

@@ -78,6 +78,14 @@ pub plan_next : (number unit n i : ℕ) → i ≡ suc n → plan number unit i �
 unfolding plan
 plan_next number unit n i e = ap (plan number unit) e ∙ ap (λ (k : ℕ). plan number unit n ++ raw_of (plan_command number unit k) ∷ []) (sym e)
 
+pub plan_step : (number unit index : ℕ) → 1 ≤ index → plan number unit index ≡ plan number unit (index - 1) ++ raw_of (plan_command number unit index) ∷ []
+plan_step number unit index some = let e : index ≡ suc (index - 1) = omega (arith, some) in plan_next number unit (index - 1) index e
+
+-- and with none it is empty
+pub plan_begins : (number unit : ℕ) → plan number unit 0 ≡ []
+unfolding plan
+plan_begins number unit = refl
+
 pub plan_length : (number unit n : ℕ) → length (plan number unit n) ≡ n
 unfolding plan
 plan_length number unit zero = refl

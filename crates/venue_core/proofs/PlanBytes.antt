@@ -5,6 +5,7 @@ use Rattle.std.specs.List.{AllByRecursion, slice_get}
 use Rattle.std.proofs.lemmas.Bool.{eqb-true}
 use Rattle.std.proofs.lemmas.Bool.Decides.{nat_tests}
 use Rattle.std.proofs.lemmas.List.{take-append-le, take_all}
+use Rattle.pitch_fields.proofs.Lists.{all_push, get_last}
 use Rattle.pitch_fields.specs.declared.side.Side.{Side}
 use Rattle.pitch_fields.specs.declared.side.Side.TheVariants.{Buy, Sell}
 use Rattle.pitch_messages.specs.declared.order.Order.{Order}
@@ -17,7 +18,6 @@ use Rattle.pitch_text.specs.declared.command.Command.{Command}
 use Rattle.pitch_text.specs.declared.command.Command.TheVariants as commands
 use Rattle.venue_core.specs.Commands.{raw_of}
 use Rattle.venue_core.specs.Plan.{plan_quantity, plan_price, plan_order, plan_command, plan}
-use Rattle.venue_core.proofs.Accepting.{all_more}
 use Rattle.venue_core.proofs.PlanEffects.{symbol_case, alpha, beta, gamma, blank, alpha_six, beta_six}
 use Rattle.venue_core.proofs.PlanBooks.{plan_length, first_command, second_command, third_command, fourth_command, fifth_command, sixth_command, seventh_command, eighth_even, eighth_odd}
 use Rattle.venue_core.proofs.PlanAccepted.{OfRound, by_place}
@@ -116,13 +116,9 @@ pub plan_bytes : (number unit count : ℕ) → count ≤ 400000 → AllByRecursi
 unfolding plan
 plan_bytes number unit zero low = tt
 plan_bytes number unit (suc count) low =
-    all_more AreBytes (plan number unit count) (raw_of (plan_command number unit (suc count))) (plan_bytes number unit count (omega (arith, low))) (by_place (InBytes number unit) (round_bytes number unit) (suc count) (omega arith) low)
+    all_push AreBytes (plan number unit count) (raw_of (plan_command number unit (suc count))) (plan_bytes number unit count (omega (arith, low))) (by_place (InBytes number unit) (round_bytes number unit) (suc count) (omega arith) low)
 
 -- ---- Places
-there : (raws : List (List ℕ)) (raw : List ℕ) → slice_get (raws ++ raw ∷ []) (length raws) ≡ Some raw
-there [] raw = refl
-there (first ∷ raws) raw = there raws raw
-
 before : (raws : List (List ℕ)) (raw : List ℕ) (i : ℕ) → i < length raws → slice_get (raws ++ raw ∷ []) i ≡ slice_get raws i
 before [] raw i lt = absurd (omega (arith, lt))
 before (first ∷ raws) raw zero lt = refl
@@ -144,7 +140,7 @@ plan_at_place number unit (suc count) i lt = by (λ lower. plan_at_place number 
     at_end e =
         let same : i ≡ length raws = omega (arith, e, size) in
         let next : suc count ≡ i + 1 = omega (arith, e) in
-        ap (slice_get (raws ++ raw_of (plan_command number unit (suc count)) ∷ [])) same ∙ there raws (raw_of (plan_command number unit (suc count))) ∙ ap (λ (k : ℕ). Some (raw_of (plan_command number unit k))) next
+        ap (slice_get (raws ++ raw_of (plan_command number unit (suc count)) ∷ [])) same ∙ get_last raws (raw_of (plan_command number unit (suc count))) ∙ ap (λ (k : ℕ). Some (raw_of (plan_command number unit k))) next
 
     by : (i < count → slice_get raws i ≡ Some (raw_of (plan_command number unit (i + 1)))) → (b : Bool) → (i == count) ≡ b → slice_get (raws ++ raw_of (plan_command number unit (suc count)) ∷ []) i ≡ Some (raw_of (plan_command number unit (i + 1)))
     by rec true t = at_end (eqb-true i count t)

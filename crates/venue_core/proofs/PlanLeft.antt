@@ -1,14 +1,16 @@
 -- The orders that whole rounds of the plan leave.
-use Rattle.std.proofs.Common.{◌≡◌, ◌≢◌, ℕ, zero, suc, ◌+◌, ◌*◌, ◌/◌, ◌%◌, ◌<◌, ◌≤◌, Bool, true, false, cond, ◌==◌, eqb, List, [], ◌∷◌, ◌++◌, map, length, Option, None, Some, refl, sym, ap, ◌∙◌, subst, arith, append_assoc, length-append, sum_by}
+use Rattle.std.proofs.Common.{◌≡◌, ◌≢◌, ℕ, zero, suc, ◌+◌, ◌*◌, ◌/◌, ◌%◌, ◌<◌, ◌≤◌, Bool, true, false, cond, ◌==◌, List, [], ◌∷◌, ◌++◌, map, length, Option, None, Some, refl, sym, ap, ◌∙◌, subst, arith, append_assoc, length-append, sum_by}
 use Rattle.std.specs.List.{AllByRecursion}
 use Rattle.std.proofs.lemmas.Bool.{cond_both, cond-true, cond-false, eqb-true}
 use Rattle.std.proofs.lemmas.Bool.Decides.{nat_tests}
 use Rattle.std.proofs.lemmas.Cmp.{nat_cmp_total}
-use Rattle.std.specs.Ordering.{nat_cmp, is_eq, eq_by_cmp}
+use Rattle.std.specs.Ordering.{nat_cmp, eq_by_cmp}
 use Rattle.std.specs.declared.cmp.Ordering.{Ordering}
 use Rattle.std.specs.declared.cmp.Ordering.TheVariants.{Greater}
 use Rattle.std.specs.FinMap as finite
 use Rattle.std.specs.FinMap.Entries.{put, find, by_order}
+use Rattle.std.proofs.lemmas.List.{nil_from_length}
+use Rattle.pitch_fields.proofs.Keys.{tied, greater}
 use Rattle.pitch_messages.specs.declared.order.Order.{Order}
 use Rattle.pitch_model.specs.Book.{Book, reduced_by, book_after}
 use Rattle.pitch_model.specs.Levels.{shares}
@@ -17,9 +19,6 @@ use Rattle.venue_core.specs.Planned.{buy_left, sell_left, second_buy, second_buy
 use Rattle.venue_core.proofs.PlanBooks.{Orders, first_order, second_order, orders_2, orders_3, orders_4, orders_5, orders_6, orders_7, orders_8, book_of, stands_1, stands_2, stands_3, stands_4, stands_5, stands_6, stands_7, stands_8}
 
 -- ---- Maps that answer alike
-tied : (q x : ℕ) → eq_by_cmp nat_cmp q x ≡ true → q ≡ x
-tied q x t = let same : is_eq (nat_cmp q x) ≡ eqb q x = grind (arith, nat_tests) in eqb-true q x (sym same ∙ t)
-
 -- of two keys that are apart, the later of three puts counts
 swapped : (at_a at_b : Bool) (o a0 a1 a2 b0 b1 : Option Order) → (at_a ≡ true → at_b ≡ true → ⊥) → cond at_a a2 (cond at_b b1 (cond at_a a1 (cond at_b b0 (cond at_a a0 o)))) ≡ cond at_b b1 (cond at_a a2 o)
 swapped true true o a0 a1 a2 b0 b1 apart = absurd (apart refl refl)
@@ -93,9 +92,6 @@ AreUpTo n orders = AllByRecursion (λ order. order.id ≤ n) orders
 up_to_more : (n k : ℕ) (xs ys : List Order) → n ≤ k → AreUpTo n xs → AreUpTo k ys → AreUpTo k (xs ++ ys)
 up_to_more n k [] ys le all more = more
 up_to_more n k (x ∷ xs) ys le all more = (let l = all.0 in omega (arith, l, le), up_to_more n k xs ys le all.1 more)
-
-greater : (k x : ℕ) → x < k → nat_cmp k x ≡ Greater
-greater k x lt = grind (arith, nat_tests, lt)
 
 -- an order above all others goes to the end
 put_last : (n : ℕ) (orders : List Order) (order : Order) → n < order.id → AreUpTo n orders → put nat_cmp order.id order (keyed orders) ≡ keyed (orders ++ order ∷ [])
@@ -191,13 +187,9 @@ more_left number unit j low left = by (j % 2 == 0) refl
           ids = subst (AreUpTo (8 * suc j)) close (up_to_more (8 * suc j) (8 * suc j) two (second_buy number unit j ∷ []) (omega arith) two_up (omega (arith, at), tt));
         }
 
-nothing : (es : List (ℕ × Order)) → length es ≡ 0 → es ≡ []
-nothing [] e = refl
-nothing (x ∷ es) e = absurd (omega (arith, e))
-
 pub none_left : (number unit : ℕ) → Left number unit zero
 unfolding orders_left plan
-none_left number unit = record { entries_are = nothing (finite.entries (finite.empty {K = ℕ} {X = Order} {R = nat_cmp})) (sym (finite.len-entries (finite.empty {K = ℕ} {X = Order} {R = nat_cmp})) ∙ finite.len-empty nat_cmp Order); ids = tt }
+none_left number unit = record { entries_are = nil_from_length (finite.entries (finite.empty {K = ℕ} {X = Order} {R = nat_cmp})) (sym (finite.len-entries (finite.empty {K = ℕ} {X = Order} {R = nat_cmp})) ∙ finite.len-empty nat_cmp Order); ids = tt }
 
 pub left_after : (number unit j : ℕ) → 8 * j ≤ 400000 → Left number unit j
 left_after number unit zero low = none_left number unit
