@@ -7,8 +7,9 @@ use Rattle.std.proofs.lemmas.Bool.{cond-true, cond-false, eq-eqb, ne_eqb}
 use Rattle.pitch_messages.specs.Room.{Roomy}
 use Rattle.unit_packets.specs.Blocks.{Block, StaysWithin}
 use Rattle.pitch_model.specs.History.{Entry, Raw, Message}
-use Rattle.pitch_model.specs.Reach.{is_overflow}
+use Rattle.pitch_model.specs.Reach.{is_overflow, reach}
 use Rattle.pitch_model.specs.Status.{status_of}
+use Rattle.pitch_model.proofs.Rises.{reach_rises}
 use Rattle.heard_items.specs.Heard.{heard, heard_block, heard_sequenced, heard_messages, is_fresh}
 use Rattle.heard_items.specs.Heard.{fresh_messages, overflowed_messages, block_fresh}
 use Rattle.heard_items.specs.Heard.{block_overflows}
@@ -180,3 +181,11 @@ item_fits block (item.Advertised sequence) within is = tt
 item_fits block (item.SpinReply sequence orders status) within is = tt
 item_fits block (item.ImageMessages raws) within is = tt
 item_fits block (item.SpinFinished sequence) within is = tt
+
+-- what is heard of a block only raises the reach
+pub messages_rise : (H first : ℕ) (raws : List Raw) (E : List Entry) → reach H E ≤ reach H (heard_messages first raws E)
+messages_rise H first [] E = omega arith
+messages_rise H first (raw ∷ raws) E =
+    let one = reach_rises H E (Message first raw) in
+    let more = messages_rise H (first + 1) raws (Message first raw ∷ E) in
+    omega arith

@@ -1,5 +1,5 @@
 -- What some orders add up to does not depend on the order in which a map has its entries.
-use Rattle.std.proofs.Common.{◌≡◌, ℕ, ◌+◌, Bool, true, false, cond, ◌==◌, List, [], ◌∷◌, length, map, filter, Option, Some, None, nat_eq, refl, sym, ap, ◌∙◌, arith}
+use Rattle.std.proofs.Common.{◌≡◌, ℕ, ◌+◌, Bool, true, false, cond, ◌==◌, List, [], ◌∷◌, map, filter, Option, Some, None, nat_eq, refl, sym, ap, ◌∙◌, arith}
 use Rattle.std.specs.Option.{option_map}
 use Rattle.std.specs.List.{IsDistinct}
 use Rattle.std.specs.Map.{keys_of, values_of}
@@ -11,6 +11,8 @@ use Rattle.std.specs.FinMap as finite
 use Rattle.std.specs.FinMap.Entries.{by_order, put}
 use Rattle.std.proofs.lemmas.Map.Keys.{IsDistinct-head, IsDistinct-tail}
 use Rattle.std.proofs.lemmas.List.Sums.{sum_by-cons}
+use Rattle.std.proofs.lemmas.List.{nil_from_length}
+use Rattle.std.proofs.lemmas.Option.{none-some}
 use Rattle.pitch_fields.specs.declared.side.Side.{Side}
 use Rattle.pitch_messages.specs.declared.order.Order.{Order}
 use Rattle.pitch_model.specs.Levels.{best_of, shares, level, with_level, best, prices_on}
@@ -20,15 +22,8 @@ use Rattle.order_book.specs.Totals.{is_on, quantities}
 use Rattle.order_book.proofs.Maps.{id_keys, looks, absent}
 use Rattle.order_book.proofs.Bests.{with_price, prices_swap}
 
-some_none : (order : Order) → ◌≡◌ {A = Option Order} (Some order) None → ⊥
-some_none order e = cc
-
-nothing : (es : List (ℕ × Order)) → length es ≡ 0 → es ≡ []
-nothing [] e = refl
-nothing (x ∷ es) e = absurd (omega arith)
-
 no_entries : finite.entries (finite.empty {X = Order} {R = nat_cmp}) ≡ []
-no_entries = nothing _ (sym (finite.len-entries (finite.empty {X = Order} {R = nat_cmp})) ∙ finite.len-empty nat_cmp Order)
+no_entries = nil_from_length _ (sym (finite.len-entries (finite.empty {X = Order} {R = nat_cmp})) ∙ finite.len-empty nat_cmp Order)
 
 -- F adds up orders one after another, and the order of two that stand side by side does not matter
 module _ {A : Type 0} (F : List Order → A) (add : Order → A → A) (step : (order : Order) (orders : List Order) → F (order ∷ orders) ≡ add order (F orders)) (swap : (x y : Order) (a : A) → add x (add y a) ≡ add y (add x a)) where
@@ -38,7 +33,7 @@ module _ {A : Type 0} (F : List Order → A) (add : Order → A → A) (step : (
     where
       by : (r : Ordering) → cond (is_eq r) (Some e.1) (finite.find nat_cmp k es) ≡ None → (finite.find nat_cmp k es ≡ None → F (values_of (put nat_cmp k v es)) ≡ add v (F (values_of es))) → F (values_of (by_order r ((k, v) ∷ e ∷ es) ((e.0, v) ∷ es) (e ∷ put nat_cmp k v es))) ≡ add v (F (e.1 ∷ values_of es))
       by Less none later = step v (e.1 ∷ values_of es)
-      by Equal none later = absurd (some_none e.1 none)
+      by Equal none later = absurd (none-some e.1 (sym none))
       by Greater none later =
           step e.1 (values_of (put nat_cmp k v es))
           ∙ ap (add e.1) (later none)

@@ -1,11 +1,10 @@
 -- The reach never falls.
-use Rattle.std.proofs.Common.{◌≡◌, ℕ, ◌+◌, ◌≤◌, inl, inr, true, List, [], ◌∷◌, ◌++◌, eqb, ◌∙◌, arith}
+use Rattle.std.proofs.Common.{◌≡◌, ℕ, ◌≤◌, inl, inr, true, List, [], ◌∷◌, ◌++◌, eqb, ◌∙◌, arith}
 use Rattle.std.specs.Set.{is_member}
 use Rattle.std.specs.List.{list_any}
 use Rattle.std.proofs.lemmas.Bool.{or_cases, or_left, or_right, cond_both}
 use Rattle.std.proofs.lemmas.List.Folds.{list_any-append}
-use Rattle.pitch_model.specs.HeardBlocks.{heard_messages}
-use Rattle.pitch_model.specs.History.{Entry, images_at, messages_at, spin_of, Raw, Message}
+use Rattle.pitch_model.specs.History.{Entry, images_at, messages_at, spin_of}
 use Rattle.pitch_model.specs.Reach.{SinceOverflow, Joined, grown, overflows, reach_of, reach, since_overflow, grown_at, sequences}
 use Rattle.pitch_model.proofs.Reaching.{reach_is, joined_reach, base_joined}
 
@@ -33,11 +32,3 @@ reach_rises H E entry =
     let Q : SinceOverflow = record { base = reach_of P; images = []; seen = sequences (messages_at entry) } in
     let from = (reach_is Q).greatest (reach_of P) (base_joined Q) in
     cond_both (overflows H P (sequences (messages_at entry))) Q P (λ R. reach_of (since_overflow H E) ≤ reach_of R) (λ o. omega arith) (λ o. up)
-
--- what is heard of a block only raises the reach
-pub messages_rise : (H first : ℕ) (raws : List Raw) (E : List Entry) → reach H E ≤ reach H (heard_messages first raws E)
-messages_rise H first [] E = omega arith
-messages_rise H first (raw ∷ raws) E =
-    let one = reach_rises H E (Message first raw) in
-    let more = messages_rise H (first + 1) raws (Message first raw ∷ E) in
-    omega arith

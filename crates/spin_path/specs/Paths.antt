@@ -2,15 +2,16 @@
 -- delayed or cut.
 use Rattle.std.specs.Prelude.{◌≡◌, ℕ, ◌+◌, ◌≤◌, ◌<◌, List, [], ◌∷◌, ◌++◌, length, Some}
 use Rattle.std.specs.List.{AllByRecursion}
-use Rattle.heard_items.specs.declared.item.Item.{Item}
-use Rattle.heard_items.specs.Heard.{heard}
-use Rattle.pitch_model.specs.History.{Entry, Raw, Message, Next, SpinDown, Advertised, SpinReply, ImageMessages, SpinFinished}
-use Rattle.pitch_model.specs.Honest.{message_at}
 use Rattle.session_ends.specs.declared.role.Role.TheVariants as role
 use Rattle.session_ends.specs.Closing.{Setup}
 use Rattle.session_ends.specs.Events.{Event, Fed, Told, fed_of}
 use Rattle.session_ends.specs.Events as event
 use Rattle.session_ends.specs.Sending.{sent_at_tick}
+use Rattle.pitch_model.specs.History.{Entry, Raw, Message, Next, SpinDown, Advertised, SpinReply}
+use Rattle.pitch_model.specs.History.{ImageMessages, SpinFinished}
+use Rattle.pitch_model.specs.Honest.{message_at}
+use Rattle.heard_items.specs.declared.item.Item.{Item}
+use Rattle.heard_items.specs.Heard.{heard}
 use Rattle.spin_server.specs.Served.{Served}
 use Rattle.spin_server.specs.Serving.{spin_sends}
 use Rattle.client_links.specs.Linking.{Lookups, link_setup, link_tells}

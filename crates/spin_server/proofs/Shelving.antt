@@ -11,7 +11,7 @@ use Rattle.pitch_model.specs.Image.{image, image_of}
 use Rattle.pitch_model.proofs.Advertising.{accepted_more, advertised_accept, advertised_advertise, newest_is_advertised, newest_repeats, ten_at_most}
 use Rattle.pitch_model.proofs.Images.{image_is}
 use Rattle.spin_server.specs.declared.lookup.Imaged.TheVariants.{Image, NotAdvertised}
-use Rattle.std.proofs.lemmas.List.{append-nil, length-drop, take_all, drop-append-le, drop-drop, take-append-le}
+use Rattle.std.proofs.lemmas.List.{append-nil, length-drop, take_all, drop-append-le, drop-drop, take-append-le, nil_from_length}
 use Rattle.std.proofs.lemmas.List.Sums.{fold-append}
 use Rattle.std.proofs.lemmas.Bool.{eqb-true, eq-eqb, cases_eq, cond-true, cond-false, false≢true}
 use Rattle.pitch_model.specs.Book.{Book, after, book_after, empty_book}
@@ -30,10 +30,6 @@ none_left zero [] le = refl
 none_left zero (x ∷ xs) le = absurd (omega arith)
 none_left (suc n) [] le = refl
 none_left (suc n) (x ∷ xs) le = none_left n xs (omega arith)
-
-no_items : {A : Type 0} (xs : List A) → length xs ≡ 0 → xs ≡ []
-no_items [] is = refl
-no_items (x ∷ xs) is = absurd (omega arith)
 
 -- ---- Numbers that climb
 climbs_up : (low : ℕ) (ns : List ℕ) (top top' : ℕ) → Climbs low ns top → top ≤ top' → Climbs low ns top'
@@ -389,7 +385,7 @@ seen_newest operations = newest_served (advertised_by operations)
 
 pub one_served : OneServed
 one_served shelf view now shows later_shows later =
-    let none : later.more ≡ [] = no_items later.more (let a = shows.keeps.pushed_is in let b = later_shows.keeps.pushed_is in omega (arith, a, b, ap length later.messages_are, length-append view.messages later.more)) in
+    let none : later.more ≡ [] = nil_from_length later.more (let a = shows.keeps.pushed_is in let b = later_shows.keeps.pushed_is in omega (arith, a, b, ap length later.messages_are, length-append view.messages later.more)) in
     let messages : now.messages ≡ view.messages = later.messages_are ∙ ap (λ (l : List (List ℕ)). view.messages ++ l) none ∙ append-nil view.messages in
     let sequences : now.advertised ≡ view.advertised = later_shows.advertised_is ∙ sym shows.advertised_is in
     ap (λ (l : List (List ℕ)). record { messages = l; advertised = now.advertised }) messages ∙ ap (λ (l : List ℕ). record { messages = view.messages; advertised = l }) sequences
@@ -397,8 +393,8 @@ one_served shelf view now shows later_shows later =
 -- views that are later than each other are one
 pub later_both : (a b : Served) → ServedLater a b → ServedLater b a → b ≡ a
 later_both a b p q =
-    let more : p.more ≡ [] = no_items p.more (omega (arith, ap length p.messages_are, length-append a.messages p.more, ap length q.messages_are, length-append b.messages q.more)) in
-    let others : p.others ≡ [] = no_items p.others (omega (arith, ap length p.advertised_are, length-append a.advertised p.others, ap length q.advertised_are, length-append b.advertised q.others)) in
+    let more : p.more ≡ [] = nil_from_length p.more (omega (arith, ap length p.messages_are, length-append a.messages p.more, ap length q.messages_are, length-append b.messages q.more)) in
+    let others : p.others ≡ [] = nil_from_length p.others (omega (arith, ap length p.advertised_are, length-append a.advertised p.others, ap length q.advertised_are, length-append b.advertised q.others)) in
     let messages : b.messages ≡ a.messages = p.messages_are ∙ ap (λ (l : List (List ℕ)). a.messages ++ l) more ∙ append-nil a.messages in
     let sequences : b.advertised ≡ a.advertised = p.advertised_are ∙ ap (λ (l : List ℕ). a.advertised ++ l) others ∙ append-nil a.advertised in
     ap (λ (l : List (List ℕ)). record { messages = l; advertised = b.advertised }) messages ∙ ap (λ (l : List ℕ). record { messages = a.messages; advertised = l }) sequences
