@@ -6,9 +6,7 @@ ghost use Rattle.feed_lines.specs.Puts.{Puts};
 ghost use Rattle.feed_lines.specs.Show.{number_field, price_field, hex_field, side_text, text_field};
 ghost use Rattle.feed_lines.specs.Show.{symbol_text, word};
 
-use pitch_fields::{
-    Price, Side, Symbol, put_byte, put_hex, put_name, put_number, put_price, put_text,
-};
+use pitch_fields::{Price, Side, put_byte, put_hex, put_name, put_number, put_price, put_text};
 
 /// Puts a text.
 #[inline(always)]
@@ -61,13 +59,13 @@ pub fn count(out: &mut [u8], at: usize, name: &[u8], value: u32) -> usize
 
 /// Puts a price.
 #[inline]
-pub fn price(out: &mut [u8], at: usize, name: &[u8], price: Price) -> usize
+pub fn price(out: &mut [u8], at: usize, name: &[u8], price: u64) -> usize
     requires { at + length name.now + 24 ≤ length out.old }
     ensures { Puts (out.old, at) (out.new, result)
         (price_field name.now price ∷ []) (length name.now + 24) }
 {
     let named = text(out, at, name);
-    put_price(out, named, price)
+    put_price(out, named, Price::from_long(price))
 }
 
 /// Puts a byte in hexadecimal.
@@ -106,12 +104,11 @@ fn name(out: &mut [u8], at: usize, name: &[u8], bytes: &[u8]) -> usize
 /// Puts a symbol.
 #[inline]
 #[tactic(auto, unfolding(crate::specs::Show::symbol_text))]
-pub fn symbol(out: &mut [u8], at: usize, symbol: Symbol) -> usize
+pub fn symbol(out: &mut [u8], at: usize, symbol: [u8; 8]) -> usize
     requires { at + 40 ≤ length out.old }
     ensures { Puts (out.old, at) (out.new, result) (symbol_text symbol ∷ []) 40 }
 {
-    let bytes = symbol.bytes();
-    name(out, at, b" symbol=", &bytes)
+    name(out, at, b" symbol=", &symbol)
 }
 
 /// Puts a participant.

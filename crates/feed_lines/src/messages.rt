@@ -41,7 +41,7 @@ fn put_quantity(out: &mut [u8], at: usize, quantity: u32) -> usize
 // Puts a price.
 #[inline(always)]
 #[tactic(auto, unfolding(crate::specs::Show::price_text))]
-fn put_price(out: &mut [u8], at: usize, price: Price) -> usize
+fn put_price(out: &mut [u8], at: usize, price: u64) -> usize
     requires { at + 31 ≤ length out.old }
     ensures { Puts (out.old, at) (out.new, result) (price_text price ∷ []) 31 }
 {
@@ -99,8 +99,8 @@ fn put_terms(
     at: usize,
     side: Side,
     quantity: u32,
-    symbol: Symbol,
-    price: Price,
+    symbol: [u8; 8],
+    price: u64,
 ) -> usize
     requires { at + 120 ≤ length out.old }
     ensures { Puts (out.old, at) (out.new, result) (side_text side ∷ quantity_text quantity
@@ -130,9 +130,9 @@ fn put_with_terms(out: &mut [u8], at: usize, message: &Message) -> usize
             price,
             flags,
         } => {
-            let symbol = Symbol::from_six(symbol);
+            let symbol = Symbol::from_six(symbol).bytes();
             let at = put_head(out, at, b"add-long", offset, id);
-            let at = put_terms(out, at, side, quantity, symbol, Price::from_long(price));
+            let at = put_terms(out, at, side, quantity, symbol, price);
             put_flags(out, at, flags)
         }
         Message::AddShort {
@@ -144,8 +144,8 @@ fn put_with_terms(out: &mut [u8], at: usize, message: &Message) -> usize
             price,
             flags,
         } => {
-            let price = Price::from_short(price);
-            let symbol = Symbol::from_six(symbol);
+            let price = Price::from_short(price).ten_thousandths();
+            let symbol = Symbol::from_six(symbol).bytes();
             let at = put_head(out, at, b"add-short", offset, id);
             let at = put_terms(out, at, side, u32::from(quantity), symbol, price);
             put_flags(out, at, flags)
@@ -160,9 +160,8 @@ fn put_with_terms(out: &mut [u8], at: usize, message: &Message) -> usize
             flags,
             participant,
         } => {
-            let symbol = Symbol::from_eight(symbol);
             let at = put_head(out, at, b"add-expanded", offset, id);
-            let at = put_terms(out, at, side, quantity, symbol, Price::from_long(price));
+            let at = put_terms(out, at, side, quantity, symbol, price);
             let at = put_flags(out, at, flags);
             fields::participant(out, at, participant)
         }
@@ -175,9 +174,9 @@ fn put_with_terms(out: &mut [u8], at: usize, message: &Message) -> usize
             price,
             execution,
         } => {
-            let symbol = Symbol::from_six(symbol);
+            let symbol = Symbol::from_six(symbol).bytes();
             let at = put_head(out, at, b"trade-long", offset, id);
-            let at = put_terms(out, at, side, quantity, symbol, Price::from_long(price));
+            let at = put_terms(out, at, side, quantity, symbol, price);
             put_execution(out, at, execution)
         }
         Message::TradeShort {
@@ -189,8 +188,8 @@ fn put_with_terms(out: &mut [u8], at: usize, message: &Message) -> usize
             price,
             execution,
         } => {
-            let price = Price::from_short(price);
-            let symbol = Symbol::from_six(symbol);
+            let price = Price::from_short(price).ten_thousandths();
+            let symbol = Symbol::from_six(symbol).bytes();
             let at = put_head(out, at, b"trade-short", offset, id);
             let at = put_terms(out, at, side, u32::from(quantity), symbol, price);
             put_execution(out, at, execution)
@@ -204,9 +203,8 @@ fn put_with_terms(out: &mut [u8], at: usize, message: &Message) -> usize
             price,
             execution,
         } => {
-            let symbol = Symbol::from_eight(symbol);
             let at = put_head(out, at, b"trade-expanded", offset, id);
-            let at = put_terms(out, at, side, quantity, symbol, Price::from_long(price));
+            let at = put_terms(out, at, side, quantity, symbol, price);
             put_execution(out, at, execution)
         }
         _ => unreachable!(),
@@ -247,7 +245,7 @@ fn put_fields(out: &mut [u8], at: usize, message: &Message) -> usize
             let at = fields::count(out, at, b" executed=", executed);
             let at = fields::count(out, at, b" remaining=", remaining);
             let at = put_execution(out, at, execution);
-            put_price(out, at, Price::from_long(price))
+            put_price(out, at, price)
         }
         Message::ReduceLong {
             offset,
@@ -274,7 +272,7 @@ fn put_fields(out: &mut [u8], at: usize, message: &Message) -> usize
         } => {
             let at = put_head(out, at, b"modify-long", offset, id);
             let at = put_quantity(out, at, quantity);
-            let at = put_price(out, at, Price::from_long(price));
+            let at = put_price(out, at, price);
             put_flags(out, at, flags)
         }
         Message::ModifyShort {
@@ -286,7 +284,7 @@ fn put_fields(out: &mut [u8], at: usize, message: &Message) -> usize
         } => {
             let at = put_head(out, at, b"modify-short", offset, id);
             let at = put_quantity(out, at, u32::from(quantity));
-            let at = put_price(out, at, Price::from_short(price));
+            let at = put_price(out, at, Price::from_short(price).ten_thousandths());
             put_flags(out, at, flags)
         }
         Message::Delete { offset, id } => put_head(out, at, b"delete", offset, id),
@@ -307,7 +305,7 @@ fn put_fields(out: &mut [u8], at: usize, message: &Message) -> usize
         } => {
             let at = fields::word(out, at, b"trading-status");
             let at = put_offset(out, at, offset);
-            let at = fields::symbol(out, at, Symbol::from_eight(symbol));
+            let at = fields::symbol(out, at, symbol);
             let at = fields::letter(out, at, b" halt=", halt);
             fields::letter(out, at, b" sho=", sho)
         }
