@@ -1,10 +1,11 @@
 -- Messages are appended one after another, and an image is found among those that are kept.
 use Rattle.std.proofs.Common.{◌≡◌, ℕ, zero, suc, ◌+◌, ◌==◌, ◌||◌, Bool, true, false, List, [], ◌∷◌, ◌++◌, length, take, map, refl, sym, ap, ◌∙◌, subst, arith, append_assoc, Option, Some, slice_get}
 use Rattle.std.proofs.lemmas.List.{append-nil, take-append-le, take_all}
-use Rattle.std.proofs.lemmas.Bool.{cond-true, cond-false, eq-eqb}
+use Rattle.std.proofs.lemmas.Bool.{cond-true, cond-false, eq-eqb, or_parts, or_from, or_right}
 use Rattle.std.proofs.lemmas.Option.{same_Some}
 use Rattle.std.specs.List.{AllByRecursion, list_any}
 use Rattle.std.specs.Option.{IfSome}
+use Rattle.pitch_fields.proofs.Lists.{all_get}
 use Rattle.pitch_model.specs.Advertising.{last_ten}
 use Rattle.pitch_model.specs.History.{adds}
 use Rattle.pitch_model.specs.Image.{image}
@@ -39,38 +40,21 @@ pub copies_back : (before all so_far rest : List (List ℕ)) (n : ℕ) → Copie
 copies_back before all so_far rest n copies is = ap (take n) copies.are ∙ take-append-le n before copies.done (omega (arith, is)) ∙ take_all n before (omega (arith, is))
 
 -- ---- Finding
-or_none : (a b : Bool) → (a || b) ≡ false → (a ≡ false) × (b ≡ false)
-or_none true b e = (e, cc)
-or_none false b e = (refl, e)
-
-or_both : (a b : Bool) → a ≡ false → b ≡ false → (a || b) ≡ false
-or_both true b e f = e
-or_both false b e f = f
-
 pub none_more : (s : ℕ) (items : List Picture) (i : ℕ) (p : Picture) → list_any (λ n. n == s) (map sequence_of (take i items)) ≡ false → slice_get items i ≡ Some p → (p.sequence == s) ≡ false
     → list_any (λ n. n == s) (map sequence_of (take (i + 1) items)) ≡ false
 none_more s [] i p none at other = absurd cc
-none_more s (q ∷ items) zero p none at other = or_both (q.sequence == s) false (ap (λ (x : Picture). x.sequence == s) (same_Some q p at) ∙ other) refl
+none_more s (q ∷ items) zero p none at other = or_from (q.sequence == s) false (ap (λ (x : Picture). x.sequence == s) (same_Some q p at) ∙ other) refl
 none_more s (q ∷ items) (suc i) p none at other =
     let e : suc i + 1 ≡ suc (i + 1) = omega arith in
-    let o = or_none (q.sequence == s) (list_any (λ n. n == s) (map sequence_of (take i items))) none in
-    ap (λ (n : ℕ). list_any (λ n. n == s) (map sequence_of (take n (q ∷ items)))) e ∙ or_both (q.sequence == s) _ o.0 (none_more s items i p o.1 at other)
-
-or_true : (a b : Bool) → b ≡ true → (a || b) ≡ true
-or_true true b e = refl
-or_true false b e = e
+    let o = or_parts (q.sequence == s) (list_any (λ n. n == s) (map sequence_of (take i items))) none in
+    ap (λ (n : ℕ). list_any (λ n. n == s) (map sequence_of (take n (q ∷ items)))) e ∙ or_from (q.sequence == s) _ o.0 (none_more s items i p o.1 at other)
 
 any_at : (s : ℕ) (items : List Picture) (i : ℕ) (p : Picture) → slice_get items i ≡ Some p → p.sequence ≡ s → list_any (λ n. n == s) (map sequence_of items) ≡ true
 any_at s [] i p at is = absurd cc
 any_at s (q ∷ items) zero p at is =
     let same : q.sequence ≡ s = ap (λ (x : Picture). x.sequence) (same_Some q p at) ∙ is in
     ap (λ (b : Bool). b || list_any (λ n. n == s) (map sequence_of items)) (eq-eqb q.sequence s same)
-any_at s (q ∷ items) (suc i) p at is = or_true (q.sequence == s) _ (any_at s items i p at is)
-
-all_at : {A : Type 0} (P : A → Type 0) (xs : List A) (i : ℕ) (x : A) → AllByRecursion P xs → slice_get xs i ≡ Some x → P x
-all_at P [] i x all at = absurd cc
-all_at P (y ∷ xs) zero x all at = subst P (same_Some y x at) all.0
-all_at P (y ∷ xs) (suc i) x all at = all_at P xs i x all.1 at
+any_at s (q ∷ items) (suc i) p at is = or_right (q.sequence == s) _ (any_at s items i p at is)
 
 pub image_not : (v : Served) (served : List ℕ) (s : ℕ) (before : List (List ℕ)) → served ≡ last_ten v.advertised → list_any (λ n. n == s) served ≡ false → AnswersImage v s NotAdvertised before before
 image_not v served s before are none =
@@ -86,7 +70,7 @@ given_raws o raws i is right = subst (λ (x : Option (List (List ℕ))). IfSome 
 pub image_found : (v : Served) (pictures : List Picture) (i s : ℕ) (p : Picture) (raws before after : List (List ℕ)) → map sequence_of pictures ≡ last_ten v.advertised → AllByRecursion (IsPicture v.messages) pictures → slice_get pictures i ≡ Some p → p.sequence ≡ s
     → raws_in p ≡ Some raws → after ≡ before ++ raws → AnswersImage v s (Image p.orders) before after
 image_found v pictures i s p raws before after are right at is has given =
-    let picture : IsPicture v.messages p = all_at (IsPicture v.messages) pictures i p right at in
+    let picture : IsPicture v.messages p = all_get (IsPicture v.messages) pictures i p right at in
     let served : is_served v s ≡ true = ap (λ (l : List ℕ). list_any (λ n. n == s) l) (sym are) ∙ any_at s pictures i p at is in
     let same : raws ≡ image v.messages s = given_raws (raws_in p) raws (image v.messages p.sequence) has picture.raws ∙ ap (λ (n : ℕ). image v.messages n) is in
     record {

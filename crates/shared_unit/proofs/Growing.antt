@@ -1,9 +1,10 @@
 -- What a copy keeps after an operation more.
-use Rattle.std.proofs.Common.{◌≡◌, ℕ, zero, suc, ◌+◌, ◌-◌, ◌==◌, ◌≤◌, ◌⊎◌, List, [], ◌∷◌, ◌++◌, length, drop, map, ap, sym, ◌∙◌, subst, ⊎_elim, arith, length-append, true, false, nat_eq, Option, Some, None, IfSome}
+use Rattle.std.proofs.Common.{◌≡◌, ℕ, ◌+◌, ◌-◌, ◌==◌, ◌≤◌, ◌⊎◌, List, [], ◌∷◌, ◌++◌, length, drop, map, ap, sym, ◌∙◌, subst, ⊎_elim, arith, length-append, true, false, nat_eq, Option, Some, None, IfSome}
 use Rattle.std.proofs.lemmas.List.{append-nil, map-append, length-map, drop-append-le, drop-drop, length-drop, take-append-le, drop-map}
 use Rattle.std.proofs.lemmas.Bool.{cond-true, cond-false, ne_eqb}
 use Rattle.std.specs.List.{AllByRecursion}
 use Rattle.std.specs.Set.{is_member}
+use Rattle.pitch_fields.proofs.Lists.{all_follows, all_append, all_drop}
 use mathlib.Core.List.{IsPrefix}
 use Rattle.circular_buffer.specs.Buffer.{Buffer, keep_last}
 use Rattle.gap_store.specs.Look.{Store, store_of}
@@ -36,19 +37,6 @@ map_kept n ps q =
     let m = length (map sequence_of ps ++ sequence_of q ∷ []) - n in
     let same : k ≡ m = omega (arith, length-append ps (q ∷ []), length-append (map sequence_of ps) (sequence_of q ∷ []), length-map ps sequence_of) in
     sym (drop-map sequence_of k (ps ++ q ∷ [])) ∙ ap (drop k) (map-append sequence_of ps (q ∷ [])) ∙ ap (λ (j : ℕ). drop j (map sequence_of ps ++ sequence_of q ∷ [])) same
-
-all_more : {A : Type 0} (P Q : A → Type 0) → ((x : A) → P x → Q x) → (xs : List A) → AllByRecursion P xs → AllByRecursion Q xs
-all_more P Q f [] all = all
-all_more P Q f (x ∷ xs) all = (f x all.0, all_more P Q f xs all.1)
-
-all_join : {A : Type 0} (P : A → Type 0) (xs ys : List A) → AllByRecursion P xs → AllByRecursion P ys → AllByRecursion P (xs ++ ys)
-all_join P [] ys a b = b
-all_join P (x ∷ xs) ys a b = (a.0, all_join P xs ys a.1 b)
-
-all_drop : {A : Type 0} (P : A → Type 0) (n : ℕ) (xs : List A) → AllByRecursion P xs → AllByRecursion P (drop n xs)
-all_drop P zero xs a = a
-all_drop P (suc n) [] a = a
-all_drop P (suc n) (x ∷ xs) a = all_drop P n xs a.1
 
 -- ---- Images stay as messages come
 image_more : (V more : List (List ℕ)) (s : ℕ) → s ≤ length V → image (V ++ more) s ≡ image V s
@@ -99,7 +87,7 @@ module _ (kept : ℕ) (old new : Shelves) (h : List Operation) where
         pictures_are = ap (λ (b : Buffer Picture). map sequence_of b.items) takes.1 ∙ store.pictures_are ∙ ap last_ten (sym (advertised_accept h raw));
         right = subst (λ (b : Buffer Picture). AllByRecursion (IsPicture (accepted_by (then_done h (Accept raw)))) b.items) (sym takes.1)
             (subst (λ (V : List (List ℕ)). AllByRecursion (IsPicture V) old.pictures.items) (sym messages)
-            (all_more (IsPicture (accepted_by h)) (IsPicture (accepted_by h ++ raw ∷ [])) (picture_more (accepted_by h) (raw ∷ [])) old.pictures.items store.right));
+            (all_follows (IsPicture (accepted_by h)) (IsPicture (accepted_by h ++ raw ∷ [])) (picture_more (accepted_by h) (raw ∷ [])) old.pictures.items store.right));
       }
 
   stored_image : (picture : Picture) → StandFor kept old h → ComesAfter (what.Image picture) h → IsTakenIn (what.Image picture) old new → StandFor kept new (then_done h Advertise)
@@ -117,7 +105,7 @@ module _ (kept : ℕ) (old new : Shelves) (h : List Operation) where
         right = subst (λ (b : Buffer Picture). AllByRecursion (IsPicture (accepted_by (then_done h Advertise))) b.items) (sym takes.1.2)
             (subst (λ (V : List (List ℕ)). AllByRecursion (IsPicture V) (keep_last room (ps ++ q ∷ []))) (sym messages)
             (all_drop (IsPicture (accepted_by h)) (length (ps ++ q ∷ []) - room) (ps ++ q ∷ [])
-            (all_join (IsPicture (accepted_by h)) ps (q ∷ []) store.right (share_is (accepted_by h) picture q follows.0 takes.1.1, tt))));
+            (all_append (IsPicture (accepted_by h)) ps (q ∷ []) store.right (share_is (accepted_by h) picture q follows.0 takes.1.1, tt))));
       }
 
   stored_again : StandFor kept old h → ComesAfter what.Again h → IsTakenIn what.Again old new → StandFor kept new (then_done h Advertise)

@@ -2,7 +2,7 @@
 use Rattle.std.proofs.Common.{◌≡◌, ℕ, zero, suc, ◌==◌, ◌≤◌, arith, IfSome, slice_get, Bool, true, false, cond, List, [], ◌∷◌, ◌++◌, length, refl, sym, ap, ◌∙◌, subst, append_assoc, Option, nat_eq}
 use Rattle.std.proofs.lemmas.List.{append-nil}
 use Rattle.std.proofs.lemmas.Grind.{flat_map-append}
-use Rattle.std.specs.List.{AllByRecursion, list_any}
+use Rattle.std.specs.List.{list_any}
 use Rattle.std.specs.Set.{is_member}
 use mathlib.Core.List.{IsPrefix}
 use Rattle.gap_store.specs.Look.{View, look}
@@ -41,10 +41,10 @@ advertised_more h (op ∷ r) =
       ap advertised_by (sym (append_assoc h (op ∷ []) r)) ∙ rest.1 ∙ ap (λ (l : List ℕ). l ++ rest.0) one.1 ∙ append_assoc (advertised_by h) one.0 rest.0,
     )
 
-messages_later : (kept : ℕ) (h o : List Operation) → IsPrefix h o → IsLater (kept_at kept h) (kept_at kept o)
+pub messages_later : (kept : ℕ) (h o : List Operation) → IsPrefix h o → IsLater (kept_at kept h) (kept_at kept o)
 messages_later kept h o p = record { more = accepted_by p.0; messages = accepted_later h p.0 o p.1; kept = refl }
 
-images_later : (h o : List Operation) → IsPrefix h o → ServedLater (served_at h) (served_at o)
+pub images_later : (h o : List Operation) → IsPrefix h o → ServedLater (served_at h) (served_at o)
 images_later h o p =
     let more = advertised_more h p.0 in
     record { more = accepted_by p.0; messages_are = accepted_later h p.0 o p.1; others = more.0; advertised_are = ap advertised_by (sym p.1) ∙ more.1 }
@@ -88,10 +88,6 @@ newest_is server seen begun now published history happens later enough done = re
 }
 
 -- ---- Lists of servers
-pub all_more : {X : Type 0} (P : X → Type 0) (xs : List X) (x : X) → AllByRecursion P xs → P x → AllByRecursion P (xs ++ x ∷ [])
-all_more P [] x all is = (is, tt)
-all_more P (y ∷ ys) x all is = (all.0, all_more P ys x all.1 is)
-
 numbered_by : (f : ℕ → ℕ) (servers : List Sight) (server : Sight) → ((place : ℕ) → IfSome (slice_get servers place) (λ s. s.number ≡ f place)) → server.number ≡ f (length servers)
     → (place : ℕ) → IfSome (slice_get (servers ++ server ∷ []) place) (λ s. s.number ≡ f place)
 numbered_by f [] server all is zero = is

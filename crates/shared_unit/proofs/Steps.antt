@@ -9,7 +9,7 @@ use prog.Atomic.{either}
 use Rattle.pitch_model.specs.Advertising.{Operation}
 use Rattle.logbook.specs.Pages.{Cell, cell, keeps, no_nib, step, Moves, Goes}
 use Rattle.shared_unit.specs.Histories.{IsLegal, then_done}
-use Rattle.shared_unit.specs.Moments.{Moment, Doing, Publishing, Answering, HappensAfter, done_at, history_in, published_at, published_in}
+use Rattle.shared_unit.specs.Moments.{Moment, Doing, Publishing, Answering, done_at, history_in, published_at, published_in}
 use Rattle.shared_unit.specs.Rules.{KeepsHistory, AddsOperation, PublishesNext, BeginsAnswer}
 use Rattle.shared_unit.proofs.Fronts.{prefix_length, prefix_whole}
 

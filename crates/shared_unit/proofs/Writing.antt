@@ -17,14 +17,6 @@ use Rattle.shared_unit.specs.Histories.{IsLegal, then_done}
 use Rattle.shared_unit.specs.Stored.{IsPicture, HasSequences, raws_in}
 
 -- ---- Answers
-pub answer_err : {A B : Type 0} (refusal : Option VenueError) (x : A) (y : B) (e : VenueError) → IsAnswer refusal x (Err e) → IsAnswer refusal y (Err e)
-answer_err (Some error) x y e is = let same : e ≡ error = cc is in ap (λ (v : VenueError). Err v) same
-answer_err None x y e is = is
-
-pub answer_ok : {A : Type 0} (refusal : Option VenueError) (x y : A) → IsAnswer refusal x (Ok y) → (refusal ≡ None) × (y ≡ x)
-answer_ok (Some error) x y is = absurd (cc is)
-answer_ok None x y is = (refl, is)
-
 pub answer_memory : {A : Type 0} (refusal : Option VenueError) (x : A) → refusal ≡ None → IsAnswer refusal x (Err OutOfMemory)
 answer_memory refusal x none = subst (λ (o : Option VenueError). IsAnswer o x (Err OutOfMemory)) (sym none) refl
 

@@ -1,10 +1,11 @@
 use Rattle.std.proofs.Common.{◌≡◌, ◌∙◌, ◌+◌, List, ℕ, length, None, ap, sym, subst}
+use Rattle.venue_core.proofs.Answered.{answer_err, answer_ok}
 use Rattle.pitch_model.specs.Advertising.{Operation, Accept, accepted_by}
 use Rattle.venue_core.specs.Commands.{raw_of}
 use Rattle.venue_core.specs.Refusals.{refusal}
 use Rattle.venue_core.specs.Stands.{Stands}
 use Rattle.shared_unit.specs.Histories.{IsLegal, then_done}
-use Rattle.shared_unit.proofs.Writing.{accepted_next, answer_err, answer_memory, answer_ok, answer_sequence, sequences_left}
+use Rattle.shared_unit.proofs.Writing.{accepted_next, answer_memory, answer_sequence, sequences_left}
 use Rattle.shared_unit.proofs.writer.Writer.accept.Goals as goal
 
 pub returns-in-Err-clause-answer : goal.returns-in-Err-clause-answer
