@@ -8,7 +8,8 @@ use Rattle.std.proofs.lemmas.Bool.{and_parts, cond-false, false≢true, both_way
 use Rattle.std.proofs.lemmas.Bool.Decides.{nat_tests}
 use Rattle.hold_buffer.specs.HoldView.{HoldView, Held}
 use Rattle.hold_buffer.specs.Holding.{IsHold}
-use Rattle.hold_buffer.proofs.Finite.{same_test, contains_retained, len_le}
+use Rattle.hold_buffer.proofs.Finite.{contains_retained, len_le}
+use Rattle.pitch_fields.proofs.Keys.{same_test}
 
 some_cond : {X : Type 0} (b : Bool) (v : X) (o : Option X) → is_some (cond b (Some v) o) ≡ (b || is_some o)
 some_cond true v o = refl

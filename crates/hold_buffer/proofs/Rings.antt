@@ -14,18 +14,15 @@ use Rattle.std.proofs.lemmas.Map.Keys.{IsDistinct-from_sorted}
 use Rattle.std.proofs.lemmas.Map.Entries.{lookup_from_place, lookup_at_gap, lookup-filter-keys, lookup_tail}
 use Rattle.std.proofs.lemmas.Bool.{cases_eq, cond-true, cond-false, eqb-true}
 use Rattle.std.proofs.lemmas.List.Kept.{IsStrictlySortedBy-filter}
-use Rattle.hold_buffer.proofs.Finite.{same_test}
 use Rattle.std.proofs.lemmas.Option.{slice_get_within}
 use Rattle.circular_buffer.proofs.Places.{slice_get-some}
 use Rattle.std.proofs.lemmas.Bool.Decides.{nat_tests}
+use Rattle.pitch_fields.proofs.Keys.{same_test, greater}
 use Rattle.hold_buffer.proofs.Viewed.{get_view, inserted, removed, retained}
 use Rattle.hold_buffer.specs.Places.{IsKeyAt, IsGap}
 
 less : (a b : ℕ) → a < b → nat_cmp a b ≡ Less
 less a b h = sym (nat_cmp_is a b Less h)
-
-greater : (a b : ℕ) → b < a → nat_cmp a b ≡ Greater
-greater a b h = sym (nat_cmp_is a b Greater h)
 
 pub below : (a b : ℕ) → nat_cmp a b ≡ Less → a < b
 below a b e = grind (arith, nat_tests)
