@@ -5,7 +5,7 @@ use Rattle.pitch_fields.specs.declared.side.Side.TheVariants.{Sell}
 use Rattle.pitch_messages.specs.declared.message.Message.{Message}
 use Rattle.pitch_messages.specs.declared.message.Message.TheVariants as messages
 use Rattle.pitch_messages.specs.declared.session.SessionMessage.{SessionMessage}
-use Rattle.pitch_messages.specs.declared.session.SessionMessage.TheVariants.{Login, LoginReply, GapRequest, GapReply, SpinAvailable, SpinRequest, SpinReply, SpinFinished}
+use Rattle.pitch_messages.specs.declared.session.SessionMessage.TheVariants as session
 use Rattle.pitch_messages.specs.Table.{needs}
 use Rattle.pitch_messages.specs.Reading.{MessageRow, reads, table}
 use Rattle.pitch_messages.specs.Session.{session_reads, session_written}
@@ -153,43 +153,43 @@ needed : map {B = ℕ × ℕ} (λ (row : MessageRow). (row.kind, needs row)) tab
 needed = refl
 
 -- ---- Session messages
-login : StandsInSession (Login (codes "0001") (codes "FEED") (codes "PITCH     "))
+login : StandsInSession (session.Login (codes "0001") (codes "FEED") (codes "PITCH     "))
     (0x16 ∷ 0x01 ∷ 0x30 ∷ 0x30 ∷ 0x30 ∷ 0x31 ∷ 0x46 ∷ 0x45 ∷ 0x45 ∷ 0x44 ∷ 0x20 ∷ 0x20 ∷ 0x50 ∷ 0x49
     ∷ 0x54 ∷ 0x43 ∷ 0x48 ∷ 0x20 ∷ 0x20 ∷ 0x20 ∷ 0x20 ∷ 0x20 ∷ [])
 unfolding session_reads session_written
 login = (refl, refl)
 
-login_reply : StandsInSession (LoginReply 0x41)
+login_reply : StandsInSession (session.LoginReply 0x41)
     (0x03 ∷ 0x02 ∷ 0x41 ∷ [])
 unfolding session_reads session_written
 login_reply = (refl, refl)
 
-gap_request : StandsInSession (GapRequest 7 0x4030201 0x1211)
+gap_request : StandsInSession (session.GapRequest 7 0x4030201 0x1211)
     (0x09 ∷ 0x03 ∷ 0x07 ∷ 0x01 ∷ 0x02 ∷ 0x03 ∷ 0x04 ∷ 0x11 ∷ 0x12 ∷ [])
 unfolding session_reads session_written
 gap_request = (refl, refl)
 
-gap_reply : StandsInSession (GapReply 7 0x4030201 0x1211 0x41)
+gap_reply : StandsInSession (session.GapReply 7 0x4030201 0x1211 0x41)
     (0x0a ∷ 0x04 ∷ 0x07 ∷ 0x01 ∷ 0x02 ∷ 0x03 ∷ 0x04 ∷ 0x11 ∷ 0x12 ∷ 0x41 ∷ [])
 unfolding session_reads session_written
 gap_reply = (refl, refl)
 
-spin_available : StandsInSession (SpinAvailable 0x4030201)
+spin_available : StandsInSession (session.SpinAvailable 0x4030201)
     (0x06 ∷ 0x80 ∷ 0x01 ∷ 0x02 ∷ 0x03 ∷ 0x04 ∷ [])
 unfolding session_reads session_written
 spin_available = (refl, refl)
 
-spin_request : StandsInSession (SpinRequest 0x4030201)
+spin_request : StandsInSession (session.SpinRequest 0x4030201)
     (0x06 ∷ 0x81 ∷ 0x01 ∷ 0x02 ∷ 0x03 ∷ 0x04 ∷ [])
 unfolding session_reads session_written
 spin_request = (refl, refl)
 
-spin_reply : StandsInSession (SpinReply 0x4030201 0x24232221 0x41)
+spin_reply : StandsInSession (session.SpinReply 0x4030201 0x24232221 0x41)
     (0x0b ∷ 0x82 ∷ 0x01 ∷ 0x02 ∷ 0x03 ∷ 0x04 ∷ 0x21 ∷ 0x22 ∷ 0x23 ∷ 0x24 ∷ 0x41 ∷ [])
 unfolding session_reads session_written
 spin_reply = (refl, refl)
 
-spin_finished : StandsInSession (SpinFinished 0x4030201)
+spin_finished : StandsInSession (session.SpinFinished 0x4030201)
     (0x06 ∷ 0x83 ∷ 0x01 ∷ 0x02 ∷ 0x03 ∷ 0x04 ∷ [])
 unfolding session_reads session_written
 spin_finished = (refl, refl)

@@ -5,11 +5,7 @@ use Rattle.pitch_messages.specs.Fields.{Field, Makes, Number, Byte, Text, Reserv
 use Rattle.pitch_messages.specs.Raw.{kind_of}
 use Rattle.pitch_messages.specs.Table.{Row, reads_by, row_bytes, row_in, says}
 use Rattle.pitch_messages.specs.declared.session.SessionMessage.{SessionMessage}
-use Rattle.pitch_messages.specs.declared.session.SessionMessage.TheVariants.{Login, LoginReply}
-use Rattle.pitch_messages.specs.declared.session.SessionMessage.TheVariants.{GapRequest, GapReply}
-use Rattle.pitch_messages.specs.declared.session.SessionMessage.TheVariants.{SpinAvailable}
-use Rattle.pitch_messages.specs.declared.session.SessionMessage.TheVariants.{SpinRequest, SpinReply}
-use Rattle.pitch_messages.specs.declared.session.SessionMessage.TheVariants.{SpinFinished}
+use Rattle.pitch_messages.specs.declared.session.SessionMessage.TheVariants as session
 use Rattle.pitch_messages.specs.declared.session.SessionError.{SessionError}
 use Rattle.pitch_messages.specs.declared.session.SessionError.TheVariants.{WrongType, Short}
 
@@ -25,35 +21,35 @@ session_row kind fields makes = record { kind = kind; fields = fields; makes = m
 -- "Login Message": the session sub id, the user, a filler, and the password
 abbrev pub login_row : SessionRow
 login_row = session_row 0x01 (Text 4 ∷ Text 4 ∷ Reserved 2 ∷ Text 10 ∷ [])
-    (λ sub user filler password. Login sub user password)
+    (λ sub user filler password. session.Login sub user password)
 
 -- "Login Response Message"
 abbrev pub login_reply_row : SessionRow
-login_reply_row = session_row 0x02 (Byte ∷ []) LoginReply
+login_reply_row = session_row 0x02 (Byte ∷ []) session.LoginReply
 
 -- "Gap Request Message": the unit, the first sequence, and how many
 abbrev pub gap_request_row : SessionRow
-gap_request_row = session_row 0x03 (Byte ∷ Number 4 ∷ Number 2 ∷ []) GapRequest
+gap_request_row = session_row 0x03 (Byte ∷ Number 4 ∷ Number 2 ∷ []) session.GapRequest
 
 -- "Gap Response Message": the same, and the status
 abbrev pub gap_reply_row : SessionRow
-gap_reply_row = session_row 0x04 (Byte ∷ Number 4 ∷ Number 2 ∷ Byte ∷ []) GapReply
+gap_reply_row = session_row 0x04 (Byte ∷ Number 4 ∷ Number 2 ∷ Byte ∷ []) session.GapReply
 
 -- "Spin Image Available Message"
 abbrev pub spin_available_row : SessionRow
-spin_available_row = session_row 0x80 (Number 4 ∷ []) SpinAvailable
+spin_available_row = session_row 0x80 (Number 4 ∷ []) session.SpinAvailable
 
 -- "Spin Request Message"
 abbrev pub spin_request_row : SessionRow
-spin_request_row = session_row 0x81 (Number 4 ∷ []) SpinRequest
+spin_request_row = session_row 0x81 (Number 4 ∷ []) session.SpinRequest
 
 -- "Spin Response Message": the sequence, how many orders, and the status
 abbrev pub spin_reply_row : SessionRow
-spin_reply_row = session_row 0x82 (Number 4 ∷ Number 4 ∷ Byte ∷ []) SpinReply
+spin_reply_row = session_row 0x82 (Number 4 ∷ Number 4 ∷ Byte ∷ []) session.SpinReply
 
 -- "Spin Finished Message"
 abbrev pub spin_finished_row : SessionRow
-spin_finished_row = session_row 0x83 (Number 4 ∷ []) SpinFinished
+spin_finished_row = session_row 0x83 (Number 4 ∷ []) session.SpinFinished
 
 -- all of them
 abbrev pub session_table : List SessionRow
@@ -79,14 +75,14 @@ bytes_by row = given row.fields (λ values. row_bytes row values)
 
 -- the bytes of a session message: its length, its type and its fields, end to end
 unfoldable pub session_written : SessionMessage → List ℕ
-session_written (Login sub user password) = bytes_by login_row sub user tt password
-session_written (LoginReply status) = bytes_by login_reply_row status
-session_written (GapRequest unit sequence count) =
+session_written (session.Login sub user password) = bytes_by login_row sub user tt password
+session_written (session.LoginReply status) = bytes_by login_reply_row status
+session_written (session.GapRequest unit sequence count) =
     bytes_by gap_request_row unit sequence count
-session_written (GapReply unit sequence count status) =
+session_written (session.GapReply unit sequence count status) =
     bytes_by gap_reply_row unit sequence count status
-session_written (SpinAvailable sequence) = bytes_by spin_available_row sequence
-session_written (SpinRequest sequence) = bytes_by spin_request_row sequence
-session_written (SpinReply sequence orders status) =
+session_written (session.SpinAvailable sequence) = bytes_by spin_available_row sequence
+session_written (session.SpinRequest sequence) = bytes_by spin_request_row sequence
+session_written (session.SpinReply sequence orders status) =
     bytes_by spin_reply_row sequence orders status
-session_written (SpinFinished sequence) = bytes_by spin_finished_row sequence
+session_written (session.SpinFinished sequence) = bytes_by spin_finished_row sequence
