@@ -2,13 +2,14 @@
 use Rattle.std.proofs.Common.{◌≡◌, ℕ, ◌+◌, ◌≤◌, ◌<◌, ◌&&◌, Bool, true, false, nat_lt, List, [], ◌∷◌, ◌++◌, Option, None, inl, inr, ◌⊎◌, refl, sym, ap, ◌∙◌, subst, arith}
 use Rattle.std.proofs.lemmas.Bool.{cases_lt}
 use Rattle.std.proofs.lemmas.Bool.Decides.{nat_tests}
+use Rattle.gap_store.proofs.OneView.{one_view}
 use Rattle.unit_packets.specs.Packing.{packed}
 use Rattle.pitch_model.specs.Asking.{ask_of}
 use Rattle.pitch_model.specs.History.{Entry, Raw, Ticked, GapReply, SpinReply, adds}
 use Rattle.pitch_model.specs.Image.{image}
 use Rattle.pitch_model.specs.declared.ask.Ask.{Ask}
 use Rattle.gap_store.specs.Look.{View, Store, store_of, look, slice_of}
-use Rattle.gap_store.specs.Looking.{given, OneView, IsLater, PacksRange}
+use Rattle.gap_store.specs.Looking.{given, IsLater, PacksRange}
 use Rattle.gap_store.specs.declared.found.Found.{Found}
 use Rattle.gap_store.specs.declared.found.Found.TheVariants.{Kept}
 use Rattle.spin_server.specs.Served.{Served, is_served}
@@ -50,8 +51,8 @@ range_packed v now unit first count before after packs none kept is =
     ∙ ap (λ (w : View). packed unit first (slice_of w first count)) is
 
 -- a store that nobody pushes to is looked up at its one view
-pub kept_is : (s s' : Store) (messages : List Raw) (now : View) → OneView → s ≡ store_of (last_kept messages) → s' ≡ s → s' ≡ store_of now → IsLater (last_kept messages) now → now ≡ last_kept messages
-kept_is s s' messages now one keeps same shows later = one (last_kept messages) now later (ap (λ (t : Store). t.pushed) (sym shows ∙ same ∙ keeps))
+pub kept_is : (s s' : Store) (messages : List Raw) (now : View) → s ≡ store_of (last_kept messages) → s' ≡ s → s' ≡ store_of now → IsLater (last_kept messages) now → now ≡ last_kept messages
+kept_is s s' messages now keeps same shows later = one_view (last_kept messages) now later (ap (λ (t : Store). t.pushed) (sym shows ∙ same ∙ keeps))
 
 -- ---- What is heard
 module _ (client : UnitClient) (H : ℕ) (V : List Raw) (E : List Entry) where

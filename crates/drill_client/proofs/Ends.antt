@@ -1,7 +1,8 @@
 -- A history at its end.
-use Rattle.std.proofs.Common.{◌≡◌, ◌≢◌, ℕ, ◌+◌, ◌-◌, ◌<◌, ◌≤◌, max, Bool, true, false, cond, ◌==◌, ◌&&◌, ◌||◌, nat_lt, List, [], ◌∷◌, length, take, Option, None, Some, unwrap_or, refl, sym, ap, ◌∙◌, subst, arith}
+use Rattle.std.proofs.Common.{◌≡◌, ◌≢◌, ℕ, ◌+◌, ◌-◌, ◌<◌, ◌≤◌, max, Bool, true, false, cond, ◌==◌, ◌&&◌, nat_lt, List, [], ◌∷◌, length, take, Option, None, Some, unwrap_or, refl, sym, ap, ◌∙◌, subst, arith}
 use Rattle.std.proofs.lemmas.Bool.{cond-true, cond-false, eqb-true}
 use Rattle.std.proofs.lemmas.Bool.Decides.{nat_tests}
+use Rattle.std.proofs.Math.Bool.{or-true}
 use Rattle.pitch_model.specs.History.{Entry, Raw, Spinning, Running, Asked, NoSpin, spin_of, spin_more, spin_replied, adds, can_promise, image_finished, SpinReply, ImageMessages, SpinFinished}
 use Rattle.pitch_model.specs.Honest.{Honest, AreImages}
 use Rattle.pitch_model.specs.Image.{image}
@@ -21,10 +22,6 @@ use Rattle.drill_client.specs.Told.{is_behind, told_all}
 told_top : (C : ℕ) (top : Option ℕ) → unwrap_or top 0 ≤ C → raised (C ∷ []) (raised ((C + 1 - 1) ∷ []) top) ≡ Some C
 told_top C None le = let e : max C (C + 1 - 1) ≡ C = omega arith in ap (λ (n : ℕ). Some n) e
 told_top C (Some t) le = let e : max C (max (C + 1 - 1) t) ≡ C = omega (arith, le) in ap (λ (n : ℕ). Some n) e
-
-or_true : (b : Bool) → (b || true) ≡ true
-or_true true = refl
-or_true false = refl
 
 itself : (n : ℕ) → (n == n) ≡ true
 itself n = grind (arith, nat_tests)
@@ -84,7 +81,7 @@ module _ (H : ℕ) (V : List Raw) (E : List Entry) (honest : Honest image V E) w
   told_ask below =
       let ne : (reach H told == length V) ≡ false = grind (arith, nat_tests, below) in
       let lt : nat_lt (reach H told) (length V) ≡ true = grind (arith, nat_tests, below) in
-      let allowed : asks_spin H told (length V) (length V) ≡ true = ap (λ (b : Bool). b && nat_lt (reach H told) (length V)) (or_true (wants H told (length V))) ∙ lt in
+      let allowed : asks_spin H told (length V) (length V) ≡ true = ap (λ (b : Bool). b && nat_lt (reach H told) (length V)) (or-true (wants H told (length V))) ∙ lt in
       ap (ask_with H told) top_told
       ∙ cond-false (reach H told == length V) None (spin_or_gap H told (length V) (Some (length V))) ne
       ∙ cond-true (asks_spin H told (length V) (length V)) (Some (Spin (length V))) (gap_or_none H told (length V)) allowed

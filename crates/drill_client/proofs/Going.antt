@@ -108,18 +108,6 @@ pub refused_between : (sequence orders : ℕ) (E : List Entry) → NoImageRuns (
 refused_between sequence orders E between = refused_spin (spin_of E) sequence orders between
 
 -- ---- Datagrams in a list
-pub piece_at : (P : List ℕ → Type 0) (lists : List (Roomy ℕ)) (i : ℕ) (list : Roomy ℕ) → slice_get lists i ≡ Some list → AllByRecursion P (bytes_in lists) → P list.items
-piece_at P [] i list at all = absurd (nothing i list at)
-  where
-    nothing : (i : ℕ) (list : Roomy ℕ) → slice_get {X = Roomy ℕ} [] i ≡ Some list → ⊥
-    nothing zero list e = cc
-    nothing (suc i) list e = cc
-piece_at P (l ∷ lists) zero list at all = subst (λ (l : Roomy ℕ). P l.items) (same l list at) all.0
-  where
-    same : (l list : Roomy ℕ) → ◌≡◌ {A = Option (Roomy ℕ)} (Some l) (Some list) → l ≡ list
-    same l list e = cc
-piece_at P (l ∷ lists) (suc i) list at all = piece_at P lists i list at all.1
-
 pub heard_one_more : (lists : List (Roomy ℕ)) (i : ℕ) (list : Roomy ℕ) → slice_get lists i ≡ Some list → (E : List Entry)
     → heard_datagrams (bytes_in (take (i + 1) lists)) E ≡ heard_blocks (blocks_of list.items) (heard_datagrams (bytes_in (take i lists)) E)
 heard_one_more lists i list at E =

@@ -2,7 +2,7 @@
 use Rattle.std.proofs.Common.{◌≡◌, ℕ, zero, suc, ◌+◌, ◌-◌, ◌≤◌, Bool, true, false, cond, List, [], ◌∷◌, refl, sym, ap, ◌∙◌, subst, arith}
 use Rattle.pitch_model.specs.Advertising.{with_sequence}
 use Rattle.pitch_model.specs.History.{Entry, Raw, GrpUp, SpinUp, Advertised}
-use Rattle.unit_market.specs.Markets.{image_view}
+use Rattle.unit_market.specs.Views.{image_view}
 use Rattle.venue_core.specs.Losses.{is_lost}
 use Rattle.venue_core.specs.Plan.{plan}
 use Rattle.client_core.specs.declared.client.UnitClient.{UnitClient}

@@ -1,17 +1,17 @@
 -- The plan as a market plays it.
-use Rattle.std.proofs.Common.{◌≡◌, ℕ, suc, ◌+◌, ◌-◌, ◌≤◌, ◌<◌, List, [], ◌∷◌, ◌++◌, take, drop, Option, None, Some, refl, sym, ap, ◌∙◌, subst, arith}
+use Rattle.std.proofs.Common.{◌≡◌, ℕ, ◌+◌, ◌-◌, ◌≤◌, ◌<◌, List, [], ◌∷◌, ◌++◌, take, drop, Option, None, Some, sym, ap, ◌∙◌, subst, arith}
 use Rattle.std.specs.List.{slice_get}
 use Rattle.std.proofs.lemmas.List.{take-append-drop}
 use Rattle.std.proofs.Math.Seq.{drop-append_seam}
 use Rattle.unit_packets.specs.Packing.{packed}
-use Rattle.pitch_model.specs.Advertising.{Operation, accepted_at, accepted_by}
 use Rattle.pitch_model.specs.History.{Raw}
 use Rattle.venue_core.specs.Commands.{raw_of}
 use Rattle.venue_core.specs.Plan.{plan, plan_command}
 use Rattle.venue_core.specs.Stands.{last_of}
-use Rattle.venue_core.proofs.PlanBooks.{plan_next, plan_length}
+use Rattle.venue_core.proofs.PlanBooks.{plan_length, plan_step}
 use Rattle.venue_core.proofs.PlanBytes.{plan_at_place, plan_prefix}
 use Rattle.std.specs.FinMap.{len}
+use Rattle.std.proofs.lemmas.Option.{same_Some}
 use Rattle.pitch_model.specs.Book.{book_after}
 use Rattle.pitch_model.specs.Levels.{shares}
 use Rattle.pitch_model.specs.declared.status.Status.TheVariants.{Current}
@@ -26,10 +26,6 @@ plan_grows number unit index count le =
     let e : index + (count - index) ≡ count = omega (arith, le) in
     let prefix : take index (plan number unit count) ≡ plan number unit index = subst (λ (n : ℕ). take index (plan number unit n) ≡ plan number unit index) e (plan_prefix number unit index (count - index)) in
     ap (λ (V : List Raw). V ++ drop index (plan number unit count)) (sym prefix) ∙ take-append-drop index (plan number unit count)
-
--- one more command
-pub plan_step : (number unit index : ℕ) → 1 ≤ index → plan number unit index ≡ plan number unit (index - 1) ++ raw_of (plan_command number unit index) ∷ []
-plan_step number unit index low = let e : index ≡ suc (index - 1) = omega (arith, low) in plan_next number unit (index - 1) index e
 
 pub plan_last : (number unit index : ℕ) → 1 ≤ index → last_of (plan number unit index) ≡ Some (raw_of (plan_command number unit index))
 plan_last number unit index low =
@@ -50,26 +46,15 @@ packed_one number unit index low =
     ∙ drop-append_seam (plan number unit (index - 1)) raws in
     ap (λ (V : List Raw). packed unit (index - 1 + 1) V) last ∙ ap (λ (n : ℕ). packed unit n raws) first
 
-pub plan_begins : (number unit : ℕ) → plan number unit 0 ≡ []
-unfolding plan
-plan_begins number unit = refl
-
 -- ---- Its last message
-same_raw : (x y : Raw) → Some x ≡ Some y → x ≡ y
-same_raw x y e = cc
-
 pub last_is : (number unit index : ℕ) (raw : Raw) → 1 ≤ index → Some raw ≡ last_of (plan number unit index) → raw ≡ raw_of (plan_command number unit index)
-last_is number unit index raw low at = same_raw raw (raw_of (plan_command number unit index)) (at ∙ plan_last number unit index low)
+last_is number unit index raw low at = same_Some raw (raw_of (plan_command number unit index)) (at ∙ plan_last number unit index low)
 
 pub last_is_there : (number unit index : ℕ) → 1 ≤ index → None ≡ last_of (plan number unit index) → ⊥
 last_is_there number unit index low at = apart (at ∙ plan_last number unit index low)
   where
     apart : {raw : Raw} → ◌≡◌ {A = Option Raw} None (Some raw) → ⊥
     apart e = cc
-
--- the law of a message that is accepted after others
-abbrev pub AddsUp : Type 0
-AddsUp = (operations : List Operation) (operation : Operation) → accepted_by (operations ++ operation ∷ []) ≡ accepted_by operations ++ accepted_at operation
 
 -- ---- The line of a unit
 pub line_is : (number unit count : ℕ) → whole_line unit (plan number unit count) ≡ drill_line number unit count

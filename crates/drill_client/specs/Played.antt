@@ -5,7 +5,7 @@ use Rattle.std.specs.Prelude.{if◌then◌else◌}
 use Rattle.unit_packets.specs.Packing.{packed}
 use Rattle.pitch_model.specs.Advertising.{with_sequence}
 use Rattle.pitch_model.specs.History.{Entry, GrpUp, SpinUp, Advertised}
-use Rattle.unit_market.specs.Markets.{image_view}
+use Rattle.unit_market.specs.Views.{image_view}
 use Rattle.venue_core.specs.Commands.{raw_of}
 use Rattle.venue_core.specs.Losses.{is_lost}
 use Rattle.venue_core.specs.Plan.{plan, plan_command}

@@ -9,7 +9,8 @@ ghost use Rattle.unit_packets.specs.Packing.{bytes_in};
 ghost use Rattle.venue_core.specs.Plan.{plan};
 ghost use Rattle.venue_core.specs.Planned.{most_planned};
 ghost use Rattle.drill_client.specs.Ending.{IsAtEnd};
-ghost use Rattle.unit_market.specs.Markets.{MarketHas, image_view};
+ghost use Rattle.unit_market.specs.Markets.{MarketHas};
+ghost use Rattle.unit_market.specs.Views.{image_view};
 ghost use Rattle.drill_client.specs.Following.{Follows, ImageParts, IsImageOf, FollowsWith};
 ghost use Rattle.drill_client.specs.DrillText.{most_drilled, drill_kept, drill_line};
 ghost use Rattle.drill_client.specs.Answered.{last_kept, heard_of_gap, heard_of_spin, heard_of_ask};
@@ -25,13 +26,13 @@ use crate::following::{
     hear_no_image,
 };
 use client_core::UnitClient;
-use gap_store::{Found, GapLookup, look_laws};
+use gap_store::{Found, GapLookup};
 use heard_items::laws::{packed_messages_are_pieces, slices_are_the_venues};
 use pitch_fields::OutOfMemory;
 use pitch_messages::{ByteList, RawList};
 use pitch_model::Ask;
-use pitch_model::laws::{advertised_sequences_rise, venues_only_grow};
-use spin_server::{ImageLookup, Imaged, image_look_laws, shelves_show_what_was_pushed};
+use pitch_model::laws::venues_only_grow;
+use spin_server::{ImageLookup, Imaged};
 use std::alloc::Global;
 use unit_market::Market;
 use unit_packets::DatagramList;
@@ -104,7 +105,6 @@ fn answer_gap(
         → FollowsWith client.old client.new (messages ++ more)
         (heard_of_gap (last_kept messages) unit first count)) }
 {
-    look_laws();
     slices_are_the_venues();
     packed_messages_are_pieces();
     if first == 0 {
@@ -148,9 +148,6 @@ fn answer_spin(
         → FollowsWith client.old client.new (messages ++ more)
         (heard_of_spin (image_view messages advertised) sequence)) }
 {
-    shelves_show_what_was_pushed();
-    image_look_laws();
-    advertised_sequences_rise();
     venues_only_grow();
     let mut raws = RawList::make(alloc);
     match market.image(sequence, &mut raws)? {
@@ -176,9 +173,6 @@ fn append_last(market: &mut Market, out: &mut RawList) -> Result<u32, OutOfMemor
         → out.old.items ≡ [] → IsImageOf messages
         (record { sequence = length messages; orders = orders; raws = out.new.items })) }
 {
-    shelves_show_what_was_pushed();
-    image_look_laws();
-    advertised_sequences_rise();
     let sequence = market.advertise()?;
     match market.image(sequence, out)? {
         Imaged::Image { orders } => Ok(orders),

@@ -24,7 +24,8 @@ use Rattle.spin_server.specs.Serving.{Serving, SpinStands, spin_sends}
 use Rattle.spin_server.specs.Feeding.{SpinFeeds}
 use Rattle.spin_server.specs.Shelves.{Shelf}
 use Rattle.spin_server.specs.ShelfViews.{ShelfShows, ShelfHasOneView}
-use Rattle.unit_market.specs.Markets.{KeepsShelf, image_view}
+use Rattle.unit_market.specs.Markets.{KeepsShelf}
+use Rattle.unit_market.specs.Views.{image_view}
 use Rattle.unit_market.proofs.Showing.{shows_view}
 use Rattle.net_edge.specs.Due.{Setting, AreDuePieces, demo_unit, kept_messages, accepted, messages, new_datagrams, advertised_until}
 use Rattle.net_edge.specs.Markets.{StillHas, SideHas, SideAt, HasAccepted, SpinFed, gap_source}

@@ -41,7 +41,7 @@ use Rattle.venue_core.specs.Plan.{plan, plan_command}
 use Rattle.venue_core.specs.Stands.{last_of}
 use Rattle.venue_core.proofs.PlanBooks.{plan_next}
 use Rattle.net_edge.specs.Due.{demo_unit, kept_messages}
-use Rattle.unit_market.specs.Markets.{image_view}
+use Rattle.unit_market.specs.Views.{image_view}
 use Rattle.net_edge.specs.Markets.{SharedHas, SpinFed, gap_source}
 
 -- ---- The writer

@@ -16,7 +16,7 @@ ghost use Rattle.spin_server.specs.Served.{Served};
 ghost use Rattle.spin_server.specs.Serving.{SpinStands};
 ghost use Rattle.net_edge.specs.Due.{AreDuePieces, setting, demo_unit, new_datagrams};
 ghost use Rattle.net_edge.specs.Markets.{StillHas, SideAt, HasAccepted, gap_source, SpinFed};
-ghost use Rattle.unit_market.specs.Markets.{image_view};
+ghost use Rattle.unit_market.specs.Views.{image_view};
 
 use grp_session::{GapBudget, GrpServer};
 use heard_items::laws::packed_messages_are_pieces;

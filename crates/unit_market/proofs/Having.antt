@@ -10,7 +10,8 @@ use Rattle.spin_server.specs.ShelfViews.{seen_of}
 use Rattle.spin_server.specs.Stands.{ShelfStands}
 use Rattle.venue_core.specs.Standing.{VenueState}
 use Rattle.venue_core.specs.Stands.{Stands}
-use Rattle.unit_market.specs.Markets.{KeepsShelf, MarketHas, image_view}
+use Rattle.unit_market.specs.Markets.{KeepsShelf, MarketHas}
+use Rattle.unit_market.specs.Views.{image_view}
 use Rattle.unit_market.specs.Standing.{MarketState}
 
 -- ---- The shelf

@@ -4,7 +4,8 @@ use Rattle.pitch_model.specs.History.{Raw}
 use Rattle.spin_server.specs.Shelves.{Shelf}
 use Rattle.spin_server.specs.ShelfViews.{ShelfShows}
 use Rattle.spin_server.proofs.Shelving.{shelf_seen}
-use Rattle.unit_market.specs.Markets.{KeepsShelf, image_view}
+use Rattle.unit_market.specs.Markets.{KeepsShelf}
+use Rattle.unit_market.specs.Views.{image_view}
 use Rattle.unit_market.proofs.Having.{seen_is}
 
 pub shows_view : (shelf : Shelf) (messages : List Raw) (advertised : List ℕ) → KeepsShelf shelf messages advertised → ShelfShows shelf (image_view messages advertised)

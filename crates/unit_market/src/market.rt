@@ -13,7 +13,8 @@ ghost use Rattle.unit_packets.specs.BlockBytes.{block_bytes, heartbeat_block};
 ghost use Rattle.unit_packets.specs.Packing.{IsPacking, packed, bytes_in};
 ghost use Rattle.venue_core.specs.Commands.{message_of, raw_of};
 ghost use Rattle.venue_core.specs.Refusals.{refusal, IsAnswer};
-ghost use Rattle.unit_market.specs.Markets.{MarketHas, ShowsMessages, ShowsImages};
+ghost use Rattle.unit_market.specs.Markets.{MarketHas};
+ghost use Rattle.unit_market.specs.Views.{ShowsMessages, ShowsImages};
 ghost use Rattle.unit_market.specs.Standing.{last_accepted};
 
 use gap_store::{Found, GapLookup, GapStore};
@@ -37,8 +38,9 @@ pub struct Market {
 }
 
 impl Model for Market {
-    ghost use Rattle.unit_market.specs.Markets.{HasSome};
-    ghost use Rattle.unit_market.specs.Standing.{MarketState, market_code};
+    ghost use Rattle.unit_market.specs.Invariant.{HasSome};
+    ghost use Rattle.unit_market.specs.Standing.{MarketState};
+ghost use Rattle.unit_market.specs.Invariant.{market_code};
 
     ghost Value = { MarketState };
 

@@ -1,27 +1,28 @@
 -- What a publisher does, step by step.
 use Rattle.std.proofs.Common.{◌≡◌, ℕ, zero, suc, ◌+◌, ◌-◌, ◌*◌, ◌≤◌, Bool, List, [], ◌∷◌, ◌++◌, length, drop, Some, sym, ap, ◌∙◌, subst, arith}
-use Rattle.std.proofs.lemmas.List.{append-nil, length-append}
+use Rattle.std.proofs.lemmas.List.{length-append}
 use Rattle.std.specs.List.{AllByRecursion, slice_get}
+use Rattle.pitch_model.proofs.Advertising.{accepted_more}
 use mathlib.Core.List.{IsPrefix}
 use Rattle.unit_packets.specs.Packing.{IsPacking}
-use Rattle.pitch_model.specs.Advertising.{Operation, Accept, Advertise, accepted_by}
+use Rattle.pitch_model.specs.Advertising.{Operation, Accept, accepted_by}
+use Rattle.heard_items.specs.Datagrams.{IsPiece}
 use Rattle.pitch_model.specs.History.{Raw}
 use Rattle.pitch_model.specs.Honest.{AreVenues, message_at}
-use Rattle.heard_items.specs.Datagrams.{IsPiece}
 use Rattle.heard_items.proofs.Datagrams.{packing_pieces}
 use Rattle.venue_core.specs.Commands.{raw_of}
 use Rattle.venue_core.specs.Plan.{plan, plan_command}
-use Rattle.venue_core.proofs.PlanBooks.{plan_length}
+use Rattle.venue_core.proofs.PlanBooks.{plan_length, plan_step}
 use Rattle.venue_core.proofs.PlanBytes.{plan_at_place}
 use Rattle.shared_unit.specs.Histories.{IsLegal, then_done}
-use Rattle.drill_client.proofs.Playing.{AddsUp, plan_grows, plan_step}
+use Rattle.drill_client.proofs.Playing.{plan_grows}
 use Rattle.unit_threads.specs.Publishing.{IsPlanned, HasAccepted}
 
 -- one more command was accepted
-pub accepted_next : (history : List Operation) (number unit index : ℕ) (raw : Raw) → 1 ≤ index → AddsUp → raw ≡ raw_of (plan_command number unit index) → HasAccepted history number unit (index - 1) (2 * (index - 1))
+pub accepted_next : (history : List Operation) (number unit index : ℕ) (raw : Raw) → 1 ≤ index → raw ≡ raw_of (plan_command number unit index) → HasAccepted history number unit (index - 1) (2 * (index - 1))
     → HasAccepted (then_done history (Accept raw)) number unit index (2 * index - 1)
-accepted_next history number unit index raw low adds is has = record {
-  accepted = adds history (Accept raw) ∙ ap (λ (V : List Raw). V ++ raw ∷ []) has.accepted ∙ ap (λ (r : Raw). plan number unit (index - 1) ++ r ∷ []) is ∙ sym (plan_step number unit index low);
+accepted_next history number unit index raw low is has = record {
+  accepted = accepted_more history (Accept raw) ∙ ap (λ (V : List Raw). V ++ raw ∷ []) has.accepted ∙ ap (λ (r : Raw). plan number unit (index - 1) ++ r ∷ []) is ∙ sym (plan_step number unit index low);
   few = omega (arith, length-append history (Accept raw ∷ []), has.few, low);
 }
 
@@ -31,14 +32,6 @@ pub legal_next : (fixed : Bool) (messages : List Raw) (number unit count index m
 legal_next fixed messages number unit count index most history planned le has fixed_is =
     subst (IsPrefix (accepted_by history)) (sym planned.1)
     (subst (λ (W : List Raw). IsPrefix W (plan number unit count)) (sym has.accepted) (drop index (plan number unit count), plan_grows number unit index count le))
-
--- advertising accepts nothing
-pub advertised_next : (history : List Operation) (number unit index : ℕ) → 1 ≤ index → AddsUp → HasAccepted history number unit index (2 * index - 1)
-    → HasAccepted (then_done history Advertise) number unit index (2 * index)
-advertised_next history number unit index low adds has = record {
-  accepted = adds history Advertise ∙ append-nil (accepted_by history) ∙ has.accepted;
-  few = omega (arith, length-append history (Advertise ∷ []), has.few, low);
-}
 
 pub accepted_few : (history : List Operation) (number unit index : ℕ) → 1 ≤ index → HasAccepted history number unit index (2 * index - 1) → HasAccepted history number unit index (2 * index)
 accepted_few history number unit index low has = record { accepted = has.accepted; few = omega (arith, has.few, low) }

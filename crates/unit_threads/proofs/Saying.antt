@@ -3,17 +3,11 @@ use Rattle.std.proofs.Common.{◌≡◌, ℕ, suc, ◌+◌, List, [], ◌∷◌,
 use Rattle.std.proofs.lemmas.List.{map-append, take_more}
 use Rattle.std.proofs.lemmas.Option.{get_or_from_slice_get, slice_get_within}
 use Rattle.std.specs.List.{slice_get}
+use Rattle.unit_packets.proofs.Packs.{bytes_more}
 use Rattle.pitch_messages.specs.Room.{Roomy}
 use Rattle.unit_packets.specs.Packing.{bytes_in}
 use Rattle.drill_client.specs.declared.words.Word.{Word}
 use Rattle.unit_threads.specs.Saying.{words_for_command, words_through}
-
--- one more of the datagrams in a list
-pub bytes_one_more : (lists : List (Roomy ℕ)) (i : ℕ) (list : Roomy ℕ) → slice_get lists i ≡ Some list → bytes_in (take (i + 1) lists) ≡ bytes_in (take i lists) ++ list.items ∷ []
-bytes_one_more lists i list at =
-    ap (λ (ls : List (Roomy ℕ)). bytes_in ls) (take_more lists i list (slice_get_within lists i list at))
-    ∙ ap (λ (l : Roomy ℕ). bytes_in (take i lists ++ l ∷ [])) (get_or_from_slice_get lists i list list at)
-    ∙ map-append (λ (l : Roomy ℕ). l.items) (take i lists) (list ∷ [])
 
 -- and so of what is sent
 pub one_sent_more : {X M : Type 0} (wrap : X → M) (before now after : List M) (items : List X) (i : ℕ) (item copy : X) → slice_get items i ≡ Some item → copy ≡ item
@@ -36,7 +30,7 @@ sent_one_more {M} wrap before now after lists i list copy at same is_now is_afte
     ∙ append_assoc before (map wrap (bytes_in (take i lists))) (wrap copy ∷ [])
     ∙ ap (λ (d : List ℕ). before ++ (map wrap (bytes_in (take i lists)) ++ wrap d ∷ [])) same
     ∙ ap (λ (l : List M). before ++ l) (sym (map-append wrap (bytes_in (take i lists)) (list.items ∷ [])))
-    ∙ ap (λ (ds : List (List ℕ)). before ++ map wrap ds) (sym (bytes_one_more lists i list at))
+    ∙ ap (λ (ds : List (List ℕ)). before ++ map wrap ds) (sym (bytes_more lists i list at))
 
 -- ---- All words
 pub words_begin : {R : Type 0} (number unit count : ℕ) → words_through {R = R} number unit count 0 ≡ []

@@ -1,20 +1,18 @@
 -- What a service hands out is of its run.
-use Rattle.std.proofs.Common.{◌≡◌, ℕ, ◌+◌, ◌-◌, ◌≤◌, Bool, true, false, ◌||◌, List, [], ◌∷◌, ◌++◌, length, drop, cond, nat_eq, Some, refl, sym, ap, ◌∙◌, subst, arith, append_assoc}
+use Rattle.std.proofs.Common.{◌≡◌, ℕ, ◌≤◌, Bool, true, false, ◌||◌, List, [], ◌∷◌, ◌++◌, length, cond, nat_eq, Some, refl, sym, ap, ◌∙◌, subst, arith, append_assoc}
 use Rattle.std.proofs.lemmas.Bool.{cond-true, cond-false}
-use Rattle.std.proofs.lemmas.List.{append-nil, length-take, length-drop}
+use Rattle.std.proofs.lemmas.List.{append-nil}
 use Rattle.std.specs.List.{AllByRecursion}
 use Rattle.std.specs.Set.{is_member}
+use Rattle.spin_server.proofs.Shelving.{seen_newest}
+use Rattle.pitch_model.proofs.Advertising.{advertised_within, advertised_accept, advertised_advertise, newest_repeats, newest_is_advertised}
 use mathlib.Core.List.{IsPrefix}
-use Rattle.unit_packets.specs.Packing.{IsPacking, packed}
 use Rattle.pitch_model.specs.Advertising.{Operation, Accept, Advertise, accepted_by, advertised_by, with_sequence, last_ten, newest_of}
-use Rattle.pitch_model.specs.History.{Raw, adds}
-use Rattle.pitch_model.specs.Honest.{AreVenues}
-use Rattle.pitch_model.specs.Image.{image}
+use Rattle.pitch_model.specs.History.{Raw}
 use Rattle.heard_items.specs.Datagrams.{IsPiece}
-use Rattle.heard_items.proofs.Datagrams.{packing_pieces, venues_slice}
-use Rattle.gap_store.specs.Look.{View, look, slice_of}
+use Rattle.heard_items.proofs.Datagrams.{pieces_more}
+use Rattle.gap_store.specs.Look.{View, look}
 use Rattle.gap_store.specs.Looking.{given, PacksRange}
-use Rattle.gap_store.specs.declared.found.Found.{Found}
 use Rattle.gap_store.specs.declared.found.Found.TheVariants.{Kept}
 use Rattle.spin_server.specs.Served.{is_served}
 use Rattle.spin_server.specs.declared.lookup.Imaged.{Imaged}
@@ -25,7 +23,7 @@ use Rattle.shared_unit.proofs.Fronts.{prefix_length, prefix_trans}
 use Rattle.venue_core.specs.Plan.{plan}
 use Rattle.venue_core.proofs.PlanBooks.{plan_length}
 use Rattle.drill_client.specs.Following.{IsImageOf}
-use Rattle.drill_client.proofs.Answering.{kept_within, pieces_more, any_within, all_after, image_of_more, newest_there}
+use Rattle.drill_client.proofs.Answering.{image_of_more, newest_there, image_is, range_pieces}
 use Rattle.unit_threads.specs.Publishing.{IsPlanned, HasAll}
 
 -- the messages of a history of the run are the first of the plan
@@ -42,64 +40,16 @@ course_plan number number' unit unit' count count' a b c = ap (λ (n : ℕ). pla
 pub served_pieces : (now : View) (V : List Raw) (unit first count : ℕ) (before after : List (List ℕ)) → IsPrefix now.messages V → 1 ≤ first → 1 ≤ count → Kept ≡ look now first count
     → PacksRange unit first (given (look now first count) now first count) before after → before ≡ [] → AllByRecursion (IsPiece V unit) after
 served_pieces now V unit first count before after prefix low some kept packs none =
-    let M : List Raw = now.messages in
-    let range : given (look now first count) now first count ≡ slice_of now first count = ap (λ (f : Found). given f now first count) (sym kept) in
-    let packing : IsPacking unit first (slice_of now first count) (packed unit first (slice_of now first count)) = subst (λ (raws : List Raw). IsPacking unit first raws (packed unit first raws)) range packs.packing in
-    let whole : after ≡ packed unit first (slice_of now first count) = packs.appended ∙ ap (λ (ds : List (List ℕ)). ds ++ packed unit first (given (look now first count) now first count)) none ∙ ap (λ (raws : List Raw). packed unit first raws) range in
-    let within : first + count - 1 ≤ length M = kept_within now first count kept in
-    let next : first - 1 + 1 ≡ first = omega (arith, low) in
-    let are : AreVenues M first (slice_of now first count) = subst (λ (n : ℕ). AreVenues M n (slice_of now first count)) next (venues_slice M (first - 1) count) in
-    let size : first + length (slice_of now first count) ≤ length M + 1 =
-    omega (arith, length-take count (drop (first - 1) M), length-drop (first - 1) M, within, low, some) in
-    let own : AllByRecursion (IsPiece M unit) after = subst (AllByRecursion (IsPiece M unit)) (sym whole) (packing_pieces M unit first (slice_of now first count) (packed unit first (slice_of now first count)) low size are packing) in
-    subst (λ (W : List Raw). AllByRecursion (IsPiece W unit) after) prefix.1 (pieces_more M prefix.0 unit after own)
+    subst (λ (W : List Raw). AllByRecursion (IsPiece W unit) after) prefix.1 (pieces_more now.messages prefix.0 unit after (range_pieces now unit first count before after low some kept packs none))
 
 -- ---- Images
-module _ (history : List Operation) (sequence : ℕ) (answer : Imaged) (before after : List Raw) (looks : AnswersImage (served_at history) sequence answer before after) where
-  abbrev M : List Raw
-  M = accepted_by history
-
-  abbrev served : Bool
-  served = is_served (served_at history) sequence
-
-  -- the image that is handed out is that of the messages
-  own_image : (orders : ℕ) → AllByRecursion (λ s. s ≤ length M) (advertised_by history) → before ≡ [] → answer ≡ answers.Image orders → IsImageOf M (record { sequence = sequence; orders = orders; raws = after })
-  own_image orders within none e = by served refl
-    where
-      by : (b : Bool) → served ≡ b → IsImageOf M (record { sequence = sequence; orders = orders; raws = after })
-      by true t =
-          let raws : after ≡ image M sequence = looks.given ∙ ap (λ (rs : List Raw). rs ++ cond served (image M sequence) []) none ∙ cond-true served (image M sequence) [] t in
-          let promised : orders ≡ adds (image M sequence) = promise (sym e ∙ looks.answer_is ∙ cond-true served (answers.Image (adds (image M sequence))) answers.NotAdvertised t) in
-          record {
-            within = any_within (λ n. n ≤ length M) (last_ten (advertised_by history)) sequence (all_after (λ n. n ≤ length M) (length (advertised_by history) - 10) (advertised_by history) within) t;
-            raws_are = raws;
-            orders_are = promised ∙ ap adds (sym raws);
-          }
-        where
-          promise : {m n : ℕ} → answers.Image m ≡ answers.Image n → m ≡ n
-          promise e = cc
-      by false f = absurd (apart (sym e ∙ looks.answer_is ∙ cond-false served (answers.Image (adds (image M sequence))) answers.NotAdvertised f))
-        where
-          apart : answers.Image orders ≡ answers.NotAdvertised → ⊥
-          apart e = cc
-
-  -- and of all that begin with them
-  pub served_image : (V : List Raw) (orders : ℕ) → IsPrefix M V → AllByRecursion (λ s. s ≤ length M) (advertised_by history) → before ≡ [] → answer ≡ answers.Image orders
-      → IsImageOf V (record { sequence = sequence; orders = orders; raws = after })
-  served_image V orders prefix within none e =
-      subst (λ (W : List Raw). IsImageOf W (record { sequence = sequence; orders = orders; raws = after })) prefix.1
-      (image_of_more M prefix.0 sequence orders after (own_image orders within none e))
-
-  -- where none is handed out, none is served
-  pub not_served : answer ≡ answers.NotAdvertised → served ≡ false
-  not_served e = by served refl
-    where
-      by : (b : Bool) → served ≡ b → served ≡ false
-      by false f = f
-      by true t = absurd (apart (sym (cond-true served (answers.Image (adds (image M sequence))) answers.NotAdvertised t) ∙ sym looks.answer_is ∙ e))
-        where
-          apart : {n : ℕ} → answers.Image n ≡ answers.NotAdvertised → ⊥
-          apart e = cc
+-- an image that is handed out is that of all messages that begin with those of the history
+pub served_image : (history : List Operation) (sequence : ℕ) (answer : Imaged) (before after : List Raw) → AnswersImage (served_at history) sequence answer before after
+    → (V : List Raw) (orders : ℕ) → IsPrefix (accepted_by history) V → before ≡ [] → answer ≡ answers.Image orders → IsImageOf V (record { sequence = sequence; orders = orders; raws = after })
+served_image history sequence answer before after looks V orders prefix none e =
+    subst (λ (W : List Raw). IsImageOf W (record { sequence = sequence; orders = orders; raws = after })) prefix.1
+    (image_of_more (accepted_by history) prefix.0 sequence orders after
+    (image_is (served_at history) sequence answer looks.answer_is orders before after looks.given (advertised_within history) none e))
 
 -- ---- The image of all
 member_longer : (xs ys : List ℕ) (s : ℕ) → is_member nat_eq xs s ≡ true → is_member nat_eq (xs ++ ys) s ≡ true
@@ -120,23 +70,15 @@ member_with xs n s e = by (is_member nat_eq xs n) refl
     by true t = ap (λ (l : List ℕ). is_member nat_eq l s) (cond-true (is_member nat_eq xs n) xs (xs ++ n ∷ []) t) ∙ e
     by false f = ap (λ (l : List ℕ). is_member nat_eq l s) (cond-false (is_member nat_eq xs n) xs (xs ++ n ∷ []) f) ∙ member_longer xs (n ∷ []) s e
 
--- the laws of advertising that are used
-pub record AdvertisingLaws : Type 0 where
-  pub accept : (operations : List Operation) (raw : Raw) → advertised_by (operations ++ Accept raw ∷ []) ≡ advertised_by operations
-  pub advertise : (operations : List Operation) → advertised_by (operations ++ Advertise ∷ []) ≡ with_sequence (advertised_by operations) (length (accepted_by operations))
-  pub repeat : (operations : List Operation) → is_member nat_eq (advertised_by operations) (length (accepted_by operations)) ≡ true → newest_of (advertised_by operations) ≡ Some (length (accepted_by operations))
-  pub newest : (advertised : List ℕ) (sequence : ℕ) → newest_of advertised ≡ Some sequence → is_member nat_eq advertised sequence ≡ true
-  pub last : (operations : List Operation) → newest_of (last_ten (advertised_by operations)) ≡ newest_of (advertised_by operations)
-
 -- what was advertised stays so
-stays_advertised : AdvertisingLaws → (history rest : List Operation) (s : ℕ) → is_member nat_eq (advertised_by history) s ≡ true → is_member nat_eq (advertised_by (history ++ rest)) s ≡ true
-stays_advertised laws history [] s e = ap (λ (h : List Operation). is_member nat_eq (advertised_by h) s) (append-nil history) ∙ e
-stays_advertised laws history (Accept raw ∷ rest) s e =
-    let step : is_member nat_eq (advertised_by (history ++ Accept raw ∷ [])) s ≡ true = ap (λ (l : List ℕ). is_member nat_eq l s) (laws.accept history raw) ∙ e in
-    subst (λ (h : List Operation). is_member nat_eq (advertised_by h) s ≡ true) (append_assoc history (Accept raw ∷ []) rest) (stays_advertised laws (history ++ Accept raw ∷ []) rest s step)
-stays_advertised laws history (Advertise ∷ rest) s e =
-    let step : is_member nat_eq (advertised_by (history ++ Advertise ∷ [])) s ≡ true = ap (λ (l : List ℕ). is_member nat_eq l s) (laws.advertise history) ∙ member_with (advertised_by history) (length (accepted_by history)) s e in
-    subst (λ (h : List Operation). is_member nat_eq (advertised_by h) s ≡ true) (append_assoc history (Advertise ∷ []) rest) (stays_advertised laws (history ++ Advertise ∷ []) rest s step)
+stays_advertised : (history rest : List Operation) (s : ℕ) → is_member nat_eq (advertised_by history) s ≡ true → is_member nat_eq (advertised_by (history ++ rest)) s ≡ true
+stays_advertised history [] s e = ap (λ (h : List Operation). is_member nat_eq (advertised_by h) s) (append-nil history) ∙ e
+stays_advertised history (Accept raw ∷ rest) s e =
+    let step : is_member nat_eq (advertised_by (history ++ Accept raw ∷ [])) s ≡ true = ap (λ (l : List ℕ). is_member nat_eq l s) (advertised_accept history raw) ∙ e in
+    subst (λ (h : List Operation). is_member nat_eq (advertised_by h) s ≡ true) (append_assoc history (Accept raw ∷ []) rest) (stays_advertised (history ++ Accept raw ∷ []) rest s step)
+stays_advertised history (Advertise ∷ rest) s e =
+    let step : is_member nat_eq (advertised_by (history ++ Advertise ∷ [])) s ≡ true = ap (λ (l : List ℕ). is_member nat_eq l s) (advertised_advertise history) ∙ member_with (advertised_by history) (length (accepted_by history)) s e in
+    subst (λ (h : List Operation). is_member nat_eq (advertised_by h) s ≡ true) (append_assoc history (Advertise ∷ []) rest) (stays_advertised (history ++ Advertise ∷ []) rest s step)
 
 accepted_longer : (history rest : List Operation) → length (accepted_by history) ≤ length (accepted_by (history ++ rest))
 accepted_longer [] rest = omega arith
@@ -144,15 +86,15 @@ accepted_longer (Accept raw ∷ history) rest = let e = accepted_longer history 
 accepted_longer (Advertise ∷ history) rest = accepted_longer history rest
 
 -- a server that was told of all serves the image of all
-pub serves_all : AdvertisingLaws → (old now : List Operation) (number unit count : ℕ) → HasAll old number unit count → IsPrefix old now → IsPrefix (accepted_by now) (plan number unit count)
+pub serves_all : (old now : List Operation) (number unit count : ℕ) → HasAll old number unit count → IsPrefix old now → IsPrefix (accepted_by now) (plan number unit count)
     → is_served (served_at now) count ≡ true
-serves_all laws old now number unit count has later legal =
+serves_all old now number unit count has later legal =
     let begins = prefix_trans has.told old now has.begins later in
     let told_count : length (accepted_by has.told) ≡ count = ap (λ (V : List Raw). length V) has.accepted ∙ plan_length number unit count in
     let longer : length (accepted_by has.told) ≤ length (accepted_by now) = subst (λ (h : List Operation). length (accepted_by has.told) ≤ length (accepted_by h)) begins.1 (accepted_longer has.told begins.0) in
     let most = prefix_length (accepted_by now) (plan number unit count) legal in
     let size = plan_length number unit count in
     let is : length (accepted_by now) ≡ count = omega (arith, told_count, longer, most, size) in
-    let there : is_member nat_eq (advertised_by now) count ≡ true = subst (λ (h : List Operation). is_member nat_eq (advertised_by h) count ≡ true) begins.1 (stays_advertised laws has.told begins.0 count has.advertised) in
-    let newest : newest_of (advertised_by now) ≡ Some count = subst (λ (n : ℕ). newest_of (advertised_by now) ≡ Some n) is (laws.repeat now (subst (λ (n : ℕ). is_member nat_eq (advertised_by now) n ≡ true) (sym is) there)) in
-    newest_there (last_ten (advertised_by now)) count (laws.newest (last_ten (advertised_by now)) count (laws.last now ∙ newest))
+    let there : is_member nat_eq (advertised_by now) count ≡ true = subst (λ (h : List Operation). is_member nat_eq (advertised_by h) count ≡ true) begins.1 (stays_advertised has.told begins.0 count has.advertised) in
+    let newest : newest_of (advertised_by now) ≡ Some count = subst (λ (n : ℕ). newest_of (advertised_by now) ≡ Some n) is (newest_repeats now (subst (λ (n : ℕ). is_member nat_eq (advertised_by now) n ≡ true) (sym is) there)) in
+    newest_there (last_ten (advertised_by now)) count (newest_is_advertised (last_ten (advertised_by now)) count (seen_newest now ∙ newest))

@@ -68,7 +68,6 @@ fn accept<J: Naming, R: DrillRun + FixedRun, H: Wait + Drop>(
     ensures { OnOk result
         (HasAccepted writer.new course.now.number course.now.unit index (2 * index - 1)) }
 {
-    operations_add_up();
     plan_is_accepted();
     match writer.accept(&plan_command(course.number, course.unit, index)) {
         Ok(_) => Ok(()),

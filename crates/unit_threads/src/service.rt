@@ -26,9 +26,8 @@ use pitch_fields::OutOfMemory;
 use pitch_io::{Gate, Role};
 use pitch_messages::{ByteList, RawList};
 use pitch_model::Ask;
-use pitch_model::laws::{advertised_sequences_rise, operations_add_up};
 use shared_unit::{FixedRun, Naming, Server};
-use spin_server::{Imaged, shelves_show_what_was_pushed};
+use spin_server::Imaged;
 use std::alloc::Global;
 use std::sync::Wait;
 use unit_packets::DatagramList;
@@ -87,7 +86,6 @@ fn image<J: Naming, R: DrillRun + FixedRun>(
     ensures later { IsPrefix server.old.history server.new.history }
     ensures run { OnOk result (IsLegal R.fixed R.plan server.new.history) }
 {
-    advertised_sequences_rise();
     let mut raws = RawList::make(alloc);
     match Server::image(server, sequence, &mut raws)? {
         Imaged::Image { orders } => Ok(Some(Image::make(sequence, orders, raws))),
@@ -104,9 +102,6 @@ pub(crate) fn image_of_all<J: Naming, R: DrillRun + FixedRun>(
     requires { HasAll server.old.history course.now.number course.now.unit course.now.count }
     ensures { IfOk result (λ image. image.sequence ≡ course.now.count) }
 {
-    operations_add_up();
-    advertised_sequences_rise();
-    shelves_show_what_was_pushed();
     match image(alloc, course, server, course.count)? {
         Some(image) => Ok(image),
         None => unreachable!(),

@@ -17,7 +17,8 @@ use Rattle.spin_server.specs.ShelfViews.{ShelfShows}
 use Rattle.spin_server.proofs.Serves.{later_order}
 use Rattle.spin_server.proofs.Shelving.{one_served, later_both}
 use Rattle.client_links.specs.Linking.{Lookups, LinkStands}
-use Rattle.unit_market.specs.Markets.{KeepsShelf, image_view}
+use Rattle.unit_market.specs.Markets.{KeepsShelf}
+use Rattle.unit_market.specs.Views.{image_view}
 use Rattle.unit_market.proofs.Showing.{shows_view}
 use Rattle.world_model.specs.Connections.{IsPipe}
 use Rattle.world_model.specs.Carried.{IsServed, IsSpinConnection}

@@ -1,13 +1,14 @@
 use Rattle.std.proofs.Common.{rules, arith, ◌≡◌, List, ℕ, length, take, refl, sym, ap, ◌∙◌, subst}
 use Rattle.std.proofs.lemmas.List.{take_all}
 use Rattle.std.proofs.lemmas.Option.{slice_get_read}
+use Rattle.unit_packets.proofs.Packs.{bytes_at}
 use Rattle.pitch_messages.specs.Room.{Roomy}
 use Rattle.unit_packets.specs.Cutting.{blocks_of}
 use Rattle.unit_packets.specs.Packing.{bytes_in}
 use Rattle.pitch_model.specs.History.{Entry}
 use Rattle.heard_items.specs.Datagrams.{IsPiece, heard_blocks}
 use Rattle.drill_client.specs.Following.{Follows, heard_datagrams}
-use Rattle.drill_client.proofs.Going.{piece_at, heard_one_more}
+use Rattle.drill_client.proofs.Going.{heard_one_more}
 use Rattle.drill_client.proofs.following.hear_datagrams.Goals as goal
 
 pub sent-preserved : goal.sent-preserved
@@ -15,7 +16,7 @@ sent-preserved c V unit all H E f =
     let i = c.sent.datagram-index in
     let lists = c.args.datagrams.now in
     let at = slice_get_read lists (length lists) i c.datagram-item.result refl (search rules) c.datagram-item.is in
-    let piece = piece_at (IsPiece V unit) lists i c.datagram-item.result at all in
+    let piece = bytes_at (IsPiece V unit) lists i c.datagram-item.result at all in
     let so_far : List Entry = heard_datagrams (bytes_in (take i lists)) E in
     subst (Follows c.hear_datagram.new.client H V)
     (ap (λ (d : List ℕ). heard_blocks (blocks_of d) so_far) c.bytes.ensures ∙ sym (heard_one_more lists i c.datagram-item.result at E))

@@ -1,10 +1,10 @@
 use Rattle.std.proofs.Common.{◌-◌, ◌++◌, ◌∷◌, [], ℕ, List, sym, ap, ◌∙◌, subst, rules}
+use Rattle.venue_core.proofs.PlanBooks.{plan_step}
 use Rattle.pitch_model.specs.History.{Raw}
 use Rattle.unit_market.specs.Markets.{MarketHas}
 use Rattle.venue_core.specs.Commands.{raw_of}
 use Rattle.venue_core.specs.Plan.{plan}
 use Rattle.drill_client.specs.Played.{advertised_through}
-use Rattle.drill_client.proofs.Playing.{plan_step}
 use Rattle.drill_client.proofs.turns.accept.Goals as goal
 
 pub returns-in-Ok : goal.returns-in-Ok

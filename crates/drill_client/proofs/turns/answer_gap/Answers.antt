@@ -1,5 +1,7 @@
 use Rattle.std.proofs.Common.{◌≡◌, ℕ, List, [], ◌≤◌, ◌++◌, refl, sym, ap, ◌∙◌, subst, arith}
 use Rattle.std.specs.List.{AllByRecursion}
+use Rattle.drill_client.proofs.Answering.{range_pieces}
+use Rattle.heard_items.proofs.Datagrams.{pieces_more}
 use Rattle.gap_store.specs.Look.{View, look, store_of}
 use Rattle.gap_store.specs.Looking.{PacksAt}
 use Rattle.gap_store.specs.declared.found.Found.{Found}
@@ -10,7 +12,6 @@ use Rattle.unit_market.specs.Standing.{MarketState}
 use Rattle.unit_packets.specs.Packing.{bytes_in}
 use Rattle.drill_client.specs.Answered.{is_found, last_kept}
 use Rattle.drill_client.proofs.Answered.{range_kept, range_gone, range_from_none, range_of_none, range_packed, kept_is, heard_range, heard_refusal}
-use Rattle.drill_client.proofs.Answering.{kept_pieces, pieces_more}
 use Rattle.drill_client.proofs.turns.answer_gap.Goals as goal
 
 pub returns-then-first-eq0-clause-heard : goal.returns-then-first-eq0-clause-heard
@@ -27,11 +28,11 @@ returns-in-Kept-clause-heard c messages more sent advertised has H E f =
     let first : 1 ≤ c.args.first = omega (arith, c.if-first-eq0.false) in
     let count : 1 ≤ c.args.count = omega (arith, c.if-count-eq0.false) in
     let none : before ≡ [] = ap (λ (l : List (Roomy ℕ)). bytes_in l) c.make-out.ensures in
+    let is : at.now ≡ v = kept_is c.args.market.now.store c.pack.new.self.store messages at.now has.store_is (ap (λ (m : MarketState). m.store) (c.in_ok-pack.ensures.same refl)) at.shows at.later in
     let pieces : AllByRecursion (IsPiece messages c.args.unit) after =
-    kept_pieces c.args.market.now.store c.pack.new.self.store messages c.args.unit c.args.first c.args.count before after c.look_laws.ensures has.store_is (ap (λ (m : MarketState). m.store) (c.in_ok-pack.ensures.same refl)) first count at none in
+    subst (λ (w : View). AllByRecursion (IsPiece w.messages c.args.unit) after) is (range_pieces at.now c.args.unit c.args.first c.args.count before after first count at.answer at.packs none) in
     let slice : bytes_in c.as_slice.result.now ≡ after = ap (λ (l : List (Roomy ℕ)). bytes_in l) c.as_slice.ensures in
     let all : AllByRecursion (IsPiece messages c.args.unit) (bytes_in c.as_slice.result.now) = subst (AllByRecursion (IsPiece messages c.args.unit)) (sym slice) pieces in
-    let is : at.now ≡ v = kept_is c.args.market.now.store c.pack.new.self.store messages at.now c.look_laws.ensures has.store_is (ap (λ (m : MarketState). m.store) (c.in_ok-pack.ensures.same refl)) at.shows at.later in
     heard_range _ H (messages ++ more) E v c.args.unit c.args.first c.args.count (bytes_in c.as_slice.result.now)
     (range_kept v c.args.first c.args.count first count (at.answer ∙ ap (λ (w : View). look w c.args.first c.args.count) is))
     (slice ∙ range_packed at.now v c.args.unit c.args.first c.args.count before after at.packs none at.answer is)
@@ -42,7 +43,7 @@ returns-in-Ahead c = record {
   same = c.in_ok-pack.ensures.same refl;
   heard = λ messages more sent advertised has H E f.
       let at = c.in_ok-pack.ensures.found (last_kept messages) has.store_is in
-      let is = kept_is c.args.market.now.store c.pack.new.self.store messages at.now c.look_laws.ensures has.store_is (ap (λ (m : MarketState). m.store) (c.in_ok-pack.ensures.same refl)) at.shows at.later in
+      let is = kept_is c.args.market.now.store c.pack.new.self.store messages at.now has.store_is (ap (λ (m : MarketState). m.store) (c.in_ok-pack.ensures.same refl)) at.shows at.later in
       heard_refusal _ H (messages ++ more) E (last_kept messages) c.args.unit c.args.first c.args.count
       (range_gone (last_kept messages) c.args.first c.args.count _ (ap is_found c.in-Ahead.is) (at.answer ∙ ap (λ (w : View). look w c.args.first c.args.count) is)) (c.hear_gap_reply-in-Ahead.ensures (messages ++ more) H E f);
 }
@@ -54,6 +55,6 @@ returns-then-count-eq0-clause-heard c messages more sent advertised has H E f =
 pub returns-clause-heard : goal.returns-clause-heard
 returns-clause-heard c messages more sent advertised has H E f =
     let at = c.in_ok-pack.ensures.found (last_kept messages) has.store_is in
-    let is = kept_is c.args.market.now.store c.pack.new.self.store messages at.now c.look_laws.ensures has.store_is (ap (λ (m : MarketState). m.store) (c.in_ok-pack.ensures.same refl)) at.shows at.later in
+    let is = kept_is c.args.market.now.store c.pack.new.self.store messages at.now has.store_is (ap (λ (m : MarketState). m.store) (c.in_ok-pack.ensures.same refl)) at.shows at.later in
     heard_refusal _ H (messages ++ more) E (last_kept messages) c.args.unit c.args.first c.args.count
     (range_gone (last_kept messages) c.args.first c.args.count _ (ap is_found c.in-NotKept.is) (at.answer ∙ ap (λ (w : View). look w c.args.first c.args.count) is)) (c.hear_gap_reply-in-NotKept.ensures (messages ++ more) H E f)

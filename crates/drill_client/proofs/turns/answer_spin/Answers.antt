@@ -1,4 +1,5 @@
 use Rattle.std.proofs.Common.{List, ◌++◌, refl, ap, subst}
+use Rattle.spin_server.proofs.Shelving.{shelf_seen}
 use Rattle.pitch_model.specs.Advertising.{Operation}
 use Rattle.pitch_model.specs.History.{Raw}
 use Rattle.spin_server.specs.Served.{Served}
@@ -8,19 +9,19 @@ use Rattle.unit_market.proofs.Having.{seen_is}
 use Rattle.drill_client.specs.Answered.{heard_of_spin}
 use Rattle.drill_client.specs.Following.{Follows, IsImageOf}
 use Rattle.drill_client.proofs.Answered.{heard_image, heard_no_image}
-use Rattle.drill_client.proofs.Answering.{ShelfLaws, image_is, image_there, image_not_there, image_of_more}
+use Rattle.drill_client.proofs.Answering.{image_is, image_there, image_not_there, image_of_more, seen_answer, seen_within}
 use Rattle.drill_client.proofs.turns.answer_spin.Goals as goal
 
 pub returns-in_ok-hear_image-in-Image-clause-heard : goal.returns-in_ok-hear_image-in-Image-clause-heard
 returns-in_ok-hear_image-in-Image-clause-heard c unit messages more sent advertised has H E f =
-    let laws : ShelfLaws = record { shows = c.shelves_show_what_was_pushed.ensures.shows; served = c.shelves_show_what_was_pushed.ensures.served; one = c.image_look_laws.ensures.one; within = c.advertised_sequences_rise.ensures.within } in
     let shelf = c.args.market.now.shelf in
     let shelf' = c.image.new.self.shelf in
     let same = ap (λ (m : MarketState). m.shelf) (c.in_ok-orders.ensures.same refl) in
     let now : List Operation = has.shelf.operations in
-    let looks = c.in_ok-orders.ensures.found (seen_of now) (laws.shows shelf now has.shelf.stands) in
-    let is = image_is laws shelf shelf' now has.shelf.stands same c.args.sequence c.in_ok-orders.field-0 c.make-raws.result.items c.image.new.out.items looks c.in-Image.orders c.make-raws.ensures c.in-Image.is in
-    let there = image_there laws shelf shelf' now has.shelf.stands same c.args.sequence c.in_ok-orders.field-0 c.make-raws.result.items c.image.new.out.items looks c.in-Image.orders c.in-Image.is in
+    let looks = c.in_ok-orders.ensures.found (seen_of now) (shelf_seen shelf now has.shelf.stands) in
+    let answer = seen_answer shelf shelf' now c.args.sequence c.in_ok-orders.field-0 c.make-raws.result.items c.image.new.out.items has.shelf.stands same looks in
+    let is = image_is (seen_of now) c.args.sequence c.in_ok-orders.field-0 answer.0 c.in-Image.orders c.make-raws.result.items c.image.new.out.items answer.1 (seen_within now) c.make-raws.ensures c.in-Image.is in
+    let there = image_there (seen_of now) c.args.sequence c.in_ok-orders.field-0 answer.0 c.in-Image.orders c.in-Image.is in
     let own = subst (λ (V : List Raw). IsImageOf V (record { sequence = c.args.sequence; orders = c.in-Image.orders; raws = c.image.new.out.items })) has.shelf.accepted_is is in
     subst (λ (v : Served). Follows c.hear_image.new.client H (messages ++ more) (heard_of_spin v c.args.sequence E)) (seen_is shelf messages advertised has.shelf)
     (heard_image _ H (messages ++ more) E (seen_of now) c.args.sequence c.in-Image.orders c.image.new.out.items there is.raws_are is.orders_are
@@ -28,11 +29,11 @@ returns-in_ok-hear_image-in-Image-clause-heard c unit messages more sent adverti
 
 pub returns-in-NotAdvertised-clause-heard : goal.returns-in-NotAdvertised-clause-heard
 returns-in-NotAdvertised-clause-heard c unit messages more sent advertised has H E f =
-    let laws : ShelfLaws = record { shows = c.shelves_show_what_was_pushed.ensures.shows; served = c.shelves_show_what_was_pushed.ensures.served; one = c.image_look_laws.ensures.one; within = c.advertised_sequences_rise.ensures.within } in
     let shelf = c.args.market.now.shelf in
     let same = ap (λ (m : MarketState). m.shelf) (c.in_ok-orders.ensures.same refl) in
     let now : List Operation = has.shelf.operations in
-    let looks = c.in_ok-orders.ensures.found (seen_of now) (laws.shows shelf now has.shelf.stands) in
-    let none = image_not_there laws shelf c.image.new.self.shelf now has.shelf.stands same c.args.sequence c.in_ok-orders.field-0 c.make-raws.result.items c.image.new.out.items looks c.in-NotAdvertised.is in
+    let looks = c.in_ok-orders.ensures.found (seen_of now) (shelf_seen shelf now has.shelf.stands) in
+    let answer = seen_answer shelf c.image.new.self.shelf now c.args.sequence c.in_ok-orders.field-0 c.make-raws.result.items c.image.new.out.items has.shelf.stands same looks in
+    let none = image_not_there (seen_of now) c.args.sequence c.in_ok-orders.field-0 answer.0 c.in-NotAdvertised.is in
     subst (λ (v : Served). Follows c.hear_no_image.new.client H (messages ++ more) (heard_of_spin v c.args.sequence E)) (seen_is shelf messages advertised has.shelf)
     (heard_no_image _ H (messages ++ more) E (seen_of now) c.args.sequence none (c.hear_no_image.ensures (messages ++ more) H E f))

@@ -1,32 +1,34 @@
 use Rattle.std.proofs.Common.{◌≡◌, ℕ, List, true, Some, refl, sym, ap, ◌∙◌, subst}
+use Rattle.spin_server.proofs.Shelving.{shelf_seen, seen_served}
+use Rattle.pitch_model.proofs.Advertising.{newest_is_advertised}
 use Rattle.pitch_model.specs.Advertising.{Operation, advertised_by, last_ten, newest_of}
 use Rattle.pitch_model.specs.History.{Raw}
 use Rattle.spin_server.specs.Served.{is_served}
 use Rattle.spin_server.specs.ShelfViews.{seen_of}
 use Rattle.unit_market.specs.Standing.{MarketState}
 use Rattle.drill_client.specs.Following.{IsImageOf}
-use Rattle.drill_client.proofs.Answering.{ShelfLaws, image_is, served_is_there, newest_there}
+use Rattle.drill_client.proofs.Answering.{image_is, served_is_there, newest_there, seen_answer, seen_within}
 use Rattle.drill_client.proofs.turns.append_last.Goals as goal
 
 pub unreachable-requires : goal.unreachable-requires
 unreachable-requires c =
-    let laws : ShelfLaws = record { shows = c.shelves_show_what_was_pushed.ensures.shows; served = c.shelves_show_what_was_pushed.ensures.served; one = c.image_look_laws.ensures.one; within = c.advertised_sequences_rise.ensures.within } in
     let then = c.in_ok-sequence.ensures.ok c.requires.0 4096 c.requires.1 c.requires.2 c.requires.3 c.requires.4 in
     let now : List Operation = then.shelf.operations in
     let stands = then.shelf.stands in
     let newest : newest_of (last_ten (advertised_by now)) ≡ Some c.in_ok-sequence.sequence = sym (ap newest_of stands.served_is) ∙ c.in_ok-sequence.ensures.newest in
     let there : is_served (seen_of now) c.in_ok-sequence.sequence ≡ true =
-    laws.served now c.in_ok-sequence.sequence ∙ newest_there (last_ten (advertised_by now)) c.in_ok-sequence.sequence (c.advertised_sequences_rise.ensures.newest (last_ten (advertised_by now)) c.in_ok-sequence.sequence newest) in
-    let looks = c.in_ok-orders.ensures.found (seen_of now) (laws.shows c.advertise.new.self.shelf now stands) in
-    served_is_there laws c.advertise.new.self.shelf c.image.new.self.shelf now stands (ap (λ (m : MarketState). m.shelf) (c.in_ok-orders.ensures.same refl)) c.in_ok-sequence.sequence c.in_ok-orders.field-0 c.args.out.now.items c.image.new.out.items looks there c.in-NotAdvertised.is
+    seen_served now c.in_ok-sequence.sequence ∙ newest_there (last_ten (advertised_by now)) c.in_ok-sequence.sequence (newest_is_advertised (last_ten (advertised_by now)) c.in_ok-sequence.sequence newest) in
+    let looks = c.in_ok-orders.ensures.found (seen_of now) (shelf_seen c.advertise.new.self.shelf now stands) in
+    let answer = seen_answer c.advertise.new.self.shelf c.image.new.self.shelf now c.in_ok-sequence.sequence c.in_ok-orders.field-0 c.args.out.now.items c.image.new.out.items stands (ap (λ (m : MarketState). m.shelf) (c.in_ok-orders.ensures.same refl)) looks in
+    served_is_there (seen_of now) c.in_ok-sequence.sequence c.in_ok-orders.field-0 answer.0 there c.in-NotAdvertised.is
 
 pub returns : goal.returns
 returns c unit messages sent advertised has none =
-    let laws : ShelfLaws = record { shows = c.shelves_show_what_was_pushed.ensures.shows; served = c.shelves_show_what_was_pushed.ensures.served; one = c.image_look_laws.ensures.one; within = c.advertised_sequences_rise.ensures.within } in
     let then = c.in_ok-sequence.ensures.ok unit 4096 messages sent advertised has in
     let now : List Operation = then.shelf.operations in
     let stands = then.shelf.stands in
-    let looks = c.in_ok-orders.ensures.found (seen_of now) (laws.shows c.advertise.new.self.shelf now stands) in
-    let is = image_is laws c.advertise.new.self.shelf c.image.new.self.shelf now stands (ap (λ (m : MarketState). m.shelf) (c.in_ok-orders.ensures.same refl)) c.in_ok-sequence.sequence c.in_ok-orders.field-0 c.args.out.now.items c.image.new.out.items looks c.in-Image.orders none c.in-Image.is in
+    let looks = c.in_ok-orders.ensures.found (seen_of now) (shelf_seen c.advertise.new.self.shelf now stands) in
+    let answer = seen_answer c.advertise.new.self.shelf c.image.new.self.shelf now c.in_ok-sequence.sequence c.in_ok-orders.field-0 c.args.out.now.items c.image.new.out.items stands (ap (λ (m : MarketState). m.shelf) (c.in_ok-orders.ensures.same refl)) looks in
+    let is = image_is (seen_of now) c.in_ok-sequence.sequence c.in_ok-orders.field-0 answer.0 c.in-Image.orders c.args.out.now.items c.image.new.out.items answer.1 (seen_within now) none c.in-Image.is in
     let own = subst (λ (V : List Raw). IsImageOf V (record { sequence = c.in_ok-sequence.sequence; orders = c.in-Image.orders; raws = c.image.new.out.items })) then.shelf.accepted_is is in
     subst (λ (n : ℕ). IsImageOf messages (record { sequence = n; orders = c.in-Image.orders; raws = c.image.new.out.items })) (c.in_ok-sequence.ensures.sequence unit 4096 messages sent advertised has) own

@@ -1,4 +1,5 @@
 use Rattle.std.proofs.Common.{◌≡◌, ℕ, List, [], ◌+◌, ◌-◌, ◌≤◌, sym, ◌∙◌, subst, arith}
+use Rattle.venue_core.proofs.PlanBooks.{plan_begins}
 use Rattle.pitch_model.specs.History.{Entry, Raw}
 use Rattle.unit_market.specs.Markets.{MarketHas}
 use Rattle.venue_core.specs.Plan.{plan}
@@ -6,7 +7,6 @@ use Rattle.drill_client.specs.Following.{Follows}
 use Rattle.drill_client.specs.Played.{plain_history}
 use Rattle.drill_client.specs.Turns.{HasPlayed}
 use Rattle.drill_client.proofs.Played.{rounds_begin, count_begins, count_next, history_begins, history_next}
-use Rattle.drill_client.proofs.Playing.{plan_begins}
 use Rattle.drill_client.proofs.turns.play_all.Goals as goal
 
 pub commands-init : goal.commands-init

@@ -1,6 +1,6 @@
 use Rattle.std.proofs.Common.{◌≡◌, List, length, sym, ap, ◌∙◌, subst, arith}
+use Rattle.venue_core.proofs.PlanBooks.{plan_begins}
 use Rattle.pitch_model.specs.Advertising.{Operation, accepted_by}
-use Rattle.drill_client.proofs.Playing.{plan_begins}
 use Rattle.unit_threads.specs.Publishing.{HasAdvertised}
 use Rattle.unit_threads.proofs.Saying.{words_begin, words_next}
 use Rattle.unit_threads.proofs.publisher.publish_all.Goals as goal

@@ -13,5 +13,4 @@ make-requires g c =
     let same = course_plan course.number g.R.DrillRun.number course.unit g.R.DrillRun.unit course.count g.R.DrillRun.count course.number_is course.unit_is course.count_is in
     let prefix : IsPrefix (accepted_by c.image.new.self.history) V = subst (IsPrefix (accepted_by c.image.new.self.history)) same
     (planned_prefix g.R.FixedRun.fixed g.R.FixedRun.plan course.number course.unit course.count c.image.new.self.history course.planned c.in_ok-orders.ensures.run) in
-    served_image c.image.new.self.history c.args.sequence c.in_ok-orders.field-0 c.make-raws.result.items c.image.new.out.items c.in_ok-orders.ensures.answer V c.in-Image.orders prefix
-    (c.advertised_sequences_rise.ensures.within c.image.new.self.history) c.make-raws.ensures c.in-Image.is
+    served_image c.image.new.self.history c.args.sequence c.in_ok-orders.field-0 c.make-raws.result.items c.image.new.out.items c.in_ok-orders.ensures.answer V c.in-Image.orders prefix c.make-raws.ensures c.in-Image.is
