@@ -9,7 +9,8 @@ use Rattle.pitch_messages.specs.declared.session.SessionMessage.TheVariants as s
 use Rattle.pitch_messages.specs.Table.{needs}
 use Rattle.pitch_messages.specs.Reading.{MessageRow, reads, table}
 use Rattle.pitch_messages.specs.Session.{session_reads, session_written}
-use Rattle.pitch_messages.specs.Writing.{with_reserved_blank, written}
+use Rattle.pitch_messages.specs.Writing.{written}
+use Rattle.pitch_messages.specs.Rewriting.{with_reserved_blank}
 
 -- these are the bytes of the message, and they say the message
 abbrev Stands : Message → List ℕ → Type 0

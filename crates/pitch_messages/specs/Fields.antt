@@ -76,17 +76,6 @@ abbrev pub all_bytes : (fields : List Field) → Values fields → List ℕ
 all_bytes [] values = []
 all_bytes (field ∷ fields) values = bytes_of field values.0 ++ all_bytes fields values.1
 
--- the bytes of a field, or spaces where it is reserved
-abbrev pub blanked : Field → List ℕ → List ℕ
-blanked (Reserved n) bytes = spaces n
-blanked _ bytes = bytes
-
--- the bytes of fields, with spaces for the reserved ones
-abbrev pub all_blanked : List Field → List ℕ → List ℕ
-all_blanked [] bytes = bytes
-all_blanked (field ∷ fields) bytes =
-    blanked field (take (width field) bytes) ++ all_blanked fields (drop (width field) bytes)
-
 -- ---- Reading
 -- the n bytes from a place
 abbrev pub bytes_at : ℕ → ℕ → List ℕ → List ℕ

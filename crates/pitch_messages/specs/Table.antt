@@ -1,7 +1,7 @@
 -- Tables of messages by their type: how a raw is read by one, and how a message is written.
-use Rattle.std.specs.Prelude.{◌≡◌, ℕ, ◌==◌, ◌+◌, ◌≤◌, nat_lt, List, [], ◌∷◌, ◌++◌, length, take}
-use Rattle.std.specs.Prelude.{drop, Option, None, Some, Result, if◌then◌else◌}
-use Rattle.pitch_messages.specs.Fields.{Field, Values, Makes, widths, all_bytes, all_blanked}
+use Rattle.std.specs.Prelude.{◌≡◌, ℕ, ◌==◌, ◌+◌, ◌≤◌, nat_lt, List, [], ◌∷◌, length}
+use Rattle.std.specs.Prelude.{Option, None, Some, Result, if◌then◌else◌}
+use Rattle.pitch_messages.specs.Fields.{Field, Values, Makes, widths, all_bytes}
 use Rattle.pitch_messages.specs.Fields.{with_fields}
 use Rattle.pitch_messages.specs.Raw.{kind_of}
 
@@ -46,8 +46,3 @@ abbrev pub reads_by : {A B : Type 0} → (List ℕ → B) → (ℕ → ℕ → B
 reads_by unknown short known None raw = unknown raw
 reads_by unknown short known (Some row) raw =
     if nat_lt (length raw) (needs row) then short (needs row) (length raw) else known row raw
-
--- a raw with spaces for the reserved bytes of its row
-abbrev pub blanked_by : {A : Type 0} → Option (Row A) → List ℕ → List ℕ
-blanked_by None raw = raw
-blanked_by (Some row) raw = take 2 raw ++ all_blanked row.fields (drop 2 raw)

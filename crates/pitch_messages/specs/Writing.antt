@@ -1,9 +1,8 @@
 -- The bytes of a message, by its row.
-use Rattle.std.specs.Prelude.{◌≡◌, ℕ, List, None}
+use Rattle.std.specs.Prelude.{ℕ, List}
 use Rattle.pitch_messages.specs.Fields.{Makes, Values, given}
-use Rattle.pitch_messages.specs.Raw.{kind_of}
-use Rattle.pitch_messages.specs.Table.{blanked_by, row_bytes}
-use Rattle.pitch_messages.specs.Reading.{MessageRow, row_of}
+use Rattle.pitch_messages.specs.Table.{row_bytes}
+use Rattle.pitch_messages.specs.Reading.{MessageRow}
 use Rattle.pitch_messages.specs.Reading as rows
 use Rattle.pitch_messages.specs.declared.message.Message.{Message}
 use Rattle.pitch_messages.specs.declared.message.Message.TheVariants as messages
@@ -58,12 +57,3 @@ bytes_in (Unknown raw) = raw
 -- the bytes of a message
 unfoldable pub written : Message → List ℕ
 written message = bytes_in (in_row message)
-
--- a raw with spaces for its reserved bytes
-abbrev pub with_reserved_blank : List ℕ → List ℕ
-with_reserved_blank raw = blanked_by (row_of (kind_of raw)) raw
-
--- a message of a known type has its own variant, and does not stand under Other
-abbrev pub HasItsVariant : Message → Type 0
-HasItsVariant (messages.Other raw) = row_of (kind_of raw) ≡ None
-HasItsVariant _ = Unit {0}

@@ -9,7 +9,7 @@ use Rattle.pitch_model.specs.Image.{image_of}
 use Rattle.relay_unit.specs.Following.{AreImage, IsStep, AreSteps, sent_in, Sends, Shows, KnowsAllOf, LeaveNothingOut, HasSent}
 use Rattle.relay_unit.specs.Stands.{followed_book}
 use Rattle.relay_unit.specs.declared.relay.Relay.{Relay}
-use Rattle.relay_unit.proofs.Laying.{LaidOver, fold_laid, cleared_laid, laid_whole}
+use Rattle.relay_unit.proofs.Laying.{LaidOver, fold_laid, orders_laid, laid_whole}
 use Rattle.relay_unit.proofs.Sending.{clears}
 
 -- what is laid over what it has itself
@@ -45,7 +45,7 @@ shows_same book other e = record {
 -- an image is laid over what was there, all orders of which go
 image_laid : (follower book' : Book) (raws : List Raw) → AreImage raws book' → LaidOver follower book' (fold after follower raws)
 image_laid follower book' raws imaged =
-    let anew = fold_laid follower empty_book (cleared follower) (image_of book') (cleared_laid follower) in
+    let anew = fold_laid follower empty_book (cleared follower) (image_of book') (orders_laid follower empty_book) in
     let all : fold after follower raws ≡ fold after (cleared follower) (image_of book') =
     ap (fold after follower) imaged.raws_are ∙ ap (λ (b : Book). fold after b (image_of book')) (clears follower) in
     subst (LaidOver follower book') (sym all)

@@ -1,5 +1,5 @@
 -- What an item adds to what is sent.
-use Rattle.std.proofs.Common.{Option, ◌≡◌, ℕ, ◌+◌, ◌≤◌, ◌==◌, ◌&&◌, ◌||◌, ◌^◌, ◌-◌, min, Bool, true, false, cond, not, nat_lt, List, [], ◌∷◌, ◌++◌, take, drop, refl, sym, ap, ◌∙◌, arith, append_assoc}
+use Rattle.std.proofs.Common.{Option, ◌≡◌, ℕ, ◌+◌, ◌==◌, ◌&&◌, ◌||◌, ◌^◌, ◌-◌, min, Bool, true, false, cond, not, nat_lt, List, [], ◌∷◌, ◌++◌, take, drop, refl, sym, ap, ◌∙◌, append_assoc}
 use Rattle.std.specs.List.{list_any}
 use Rattle.std.proofs.lemmas.List.{append-nil}
 use Rattle.unit_packets.specs.Blocks.{Block}
@@ -11,6 +11,7 @@ use Rattle.pitch_model.specs.Book.{Book, book_after}
 use Rattle.pitch_model.specs.Reach.{reach, sequences}
 use Rattle.pitch_model.specs.declared.ask.Ask.{Ask}
 use Rattle.pitch_model.proofs.Rises.{reach_rises}
+use Rattle.heard_items.proofs.Hearing.{messages_rise}
 use Rattle.heard_items.specs.Heard.{heard, heard_messages, heard_sequenced, heard_block}
 use Rattle.heard_items.specs.Changes.{image_end, image_end_at}
 use Rattle.heard_items.specs.declared.item.Item.{Item}
@@ -20,13 +21,6 @@ use Rattle.heard_items.specs.declared.change.ImageEnd.TheVariants as end
 use Rattle.client_core.proofs.Slices.{slices, no_slice}
 use Rattle.relay_unit.specs.Sending.{SendsOn}
 use Rattle.relay_unit.specs.Relayed.{sent_for, relayed}
-
-messages_rise : (H first : ℕ) (raws : List Raw) (E : List Entry) → reach H E ≤ reach H (heard_messages first raws E)
-messages_rise H first [] E = omega arith
-messages_rise H first (raw ∷ raws) E =
-    let one = reach_rises H E (Message first raw) in
-    let more = messages_rise H (first + 1) raws (Message first raw ∷ E) in
-    omega arith
 
 -- the entries of messages add the messages up to the reach
 relayed_messages : (H first : ℕ) (V raws : List Raw) (E : List Entry)

@@ -92,16 +92,9 @@ fold_laid below top whole [] L = L
 fold_laid below top whole (raw ∷ raws) L = fold_laid below (after top raw) (after whole raw) raws (after_laid below top whole L raw)
 
 -- ---- A book over its own clock and statuses
--- a cleared book is the empty one over its clock and statuses
-pub cleared_laid : (book : Book) → LaidOver book empty_book (cleared book)
-cleared_laid book = record {
-  orders_are = refl;
-  second_is = refl;
-  statuses_are = λ q. ap (λ (o : Option (ℕ × ℕ)). option_or o (map.get book.statuses q)) (sym (map.get-empty {X = ℕ × ℕ} symbol_cmp q));
-}
-
-book_laid : (book : Book) → LaidOver book (record empty_book { orders = book.orders }) book
-book_laid book = record {
+-- a book with the orders of another is those alone, over its clock and statuses
+pub orders_laid : (book top : Book) → LaidOver book (record empty_book { orders = top.orders }) (record book { orders = top.orders })
+orders_laid book top = record {
   orders_are = refl;
   second_is = refl;
   statuses_are = λ q. ap (λ (o : Option (ℕ × ℕ)). option_or o (map.get book.statuses q)) (sym (map.get-empty {X = ℕ × ℕ} symbol_cmp q));
@@ -136,8 +129,8 @@ laid_twice below top whole again L M = λ i. record {
 pub anew_after_clear : (book : Book) (raws more : List Raw) → fold after empty_book raws ≡ fold after book more → fold after (cleared book) raws ≡ fold after book more
 anew_after_clear book raws more same =
     laid_twice book (fold after (record empty_book { orders = book.orders }) more) (fold after book more) (fold after (cleared book) raws)
-    (fold_laid book (record empty_book { orders = book.orders }) book more (book_laid book))
-    (subst (λ (b : Book). LaidOver book b (fold after (cleared book) raws)) same (fold_laid book empty_book (cleared book) raws (cleared_laid book)))
+    (fold_laid book (record empty_book { orders = book.orders }) book more (orders_laid book book))
+    (subst (λ (b : Book). LaidOver book b (fold after (cleared book) raws)) same (fold_laid book empty_book (cleared book) raws (orders_laid book empty_book)))
 
 same_or : {A : Type 0} (top below : Option A) → ((x : A) → below ≡ Some x → (y : A) × (top ≡ Some y)) → option_or top below ≡ top
 same_or None None knows = refl

@@ -5,12 +5,13 @@ use Rattle.std.proofs.Math.ListN.{set}
 use Rattle.std.proofs.lemmas.Bool.{eq-eqb, ne_eqb, cond-false, cond-true}
 use Rattle.std.proofs.lemmas.Option.{slice_get_within}
 use Rattle.std.specs.List.{concat}
+use Rattle.pitch_fields.proofs.Lists.{get_set}
 use Rattle.unit_packets.specs.Blocks.{Block}
 use Rattle.unit_packets.specs.Packing.{packed}
 use Rattle.pitch_model.specs.Book.{Book, empty_book, after}
 use Rattle.pitch_model.specs.History.{Entry, Raw}
 use Rattle.unit_clients.specs.Tables.{AtEach, with_place}
-use Rattle.unit_clients.proofs.Placing.{each_set, get_set_same}
+use Rattle.unit_clients.proofs.Placing.{each_set}
 use Rattle.relay_unit.specs.AnyRelays.{book_in, book_at, with_more, HasSentAt, AppendAny, AppendsAnyAt}
 use Rattle.relay_unit.specs.Calls.{AppendsAny}
 use Rattle.relay_unit.specs.Following.{Sends, HasSent}
@@ -124,7 +125,7 @@ pub relays_send : (relays : Relays) (place place' : Option Relay) (block : Block
 relays_send relays place place' block out out' at appends Sent S =
     let unit = block.unit in
     let old = relays.places in
-    let then : slice_get (set old unit place') unit ≡ Some place' = get_set_same old unit place' (slice_get_within old unit place at) in
+    let then : slice_get (set old unit place') unit ≡ Some place' = get_set old unit place' (slice_get_within old unit place at) in
     let a = appends (Sent unit) (S.each unit place at) in
     let m = a.2 in
     let Now : ℕ → Option Relay → Type 0 = λ n p. HasSentAt n (Sent n) p in

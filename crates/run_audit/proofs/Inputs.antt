@@ -9,7 +9,8 @@ use Rattle.pitch_model.specs.History.{Raw}
 use Rattle.unit_packets.specs.Blocks.{Block}
 use Rattle.unit_packets.specs.Cutting.{blocks_of, rest_of, place_of, fault_at_end}
 use Rattle.unit_packets.specs.Judging.{judge}
-use Rattle.unit_packets.specs.Lending.{header_for, StandsFirst}
+use Rattle.unit_packets.specs.Lending.{header_for}
+use Rattle.unit_packets.specs.Held.{StandsFirst}
 use Rattle.unit_packets.specs.declared.header.BlockError.{BlockError}
 use Rattle.unit_packets.proofs.Cuts.{none_of}
 use Rattle.unit_packets.proofs.Streams.{leads, of_nothing, fault_rest, fault_no_rest}

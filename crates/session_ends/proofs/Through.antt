@@ -8,7 +8,7 @@ use Rattle.unit_packets.specs.Causes.{counted}
 use Rattle.unit_packets.specs.Cutting.{blocks_of, rest_of, place_of, fault_from, fault_in}
 use Rattle.unit_packets.specs.Feeding.{fed_fault}
 use Rattle.unit_packets.specs.Judging.{judge}
-use Rattle.unit_packets.specs.Lending.{StandsFirst}
+use Rattle.unit_packets.specs.Held.{StandsFirst}
 use Rattle.unit_packets.specs.Reading.{Reading}
 use Rattle.unit_packets.specs.Pieces.{loaded, passed}
 use Rattle.unit_packets.specs.declared.header.BlockError.{BlockError}

@@ -4,7 +4,7 @@ ghost use Rattle.std.specs.Prelude.{◌≡◌, ◌∷◌, [], true, false, None,
 ghost use Rattle.std.specs.Prelude.{MatchOption};
 ghost use Rattle.unit_packets.specs.Cutting.{fault_from};
 ghost use Rattle.unit_packets.specs.Judging.{judge};
-ghost use Rattle.unit_packets.specs.Lending.{StandsFirst};
+ghost use Rattle.unit_packets.specs.Held.{StandsFirst};
 ghost use Rattle.session_ends.specs.Items.{onward, trouble};
 ghost use Rattle.session_ends.specs.Hearing.{reader_items, says, IsThrough};
 

@@ -3,7 +3,8 @@ use Rattle.std.proofs.Common.{◌≡◌, ℕ, ◌+◌, ◌-◌, ◌*◌, ◌≤�
 use Rattle.std.proofs.lemmas.List.{append-nil, length-drop, reverse-append}
 use Rattle.unit_packets.specs.Blocks.{Block}
 use Rattle.unit_packets.specs.Cutting.{blocks_of, rest_of}
-use Rattle.unit_packets.specs.Lending.{header_for, StandsFirst}
+use Rattle.unit_packets.specs.Lending.{header_for}
+use Rattle.unit_packets.specs.Held.{StandsFirst}
 use Rattle.unit_packets.proofs.Streams.{leads}
 use Rattle.unit_packets.proofs.Cuts.{rest_short, rest_stands}
 use Rattle.unit_packets.proofs.Walking.{Walked, walked_none, walked_more, walked_all}

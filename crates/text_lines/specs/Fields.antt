@@ -1,7 +1,6 @@
 -- A line as fields, each with the column of its first byte. Columns count from 1.
-use Rattle.std.specs.Prelude.{ℕ, ◌+◌, ◌==◌, not, List, [], ◌∷◌, length, filter, refl}
+use Rattle.std.specs.Prelude.{ℕ, ◌+◌, ◌==◌, not, List, [], ◌∷◌, length, filter}
 use Rattle.std.specs.List.{slice_split}
-use Rattle.std.specs.Coded.{Coded, code_by, coded×, coded_ℕ, coded_list}
 
 -- some bytes of a line without a space among them, and the column of the first
 pub record Field : Type 0 where
@@ -28,16 +27,6 @@ fields_of line = fields_from 1 line
 pub record Rest : Type 0 where
   pub past : ℕ
   pub fields : List Field
-
--- a field as a value that a type of the code can stand for
-abbrev pub field_code : Coded Field
-field_code = code_by (ℕ × List ℕ) (coded× coded_ℕ (coded_list coded_ℕ))
-    (λ f. (f.column, f.bytes)) (λ p. record { column = p.0; bytes = p.1 }) (λ _. refl)
-
--- likewise for what is left of a line
-abbrev pub rest_code : Coded Rest
-rest_code = code_by (ℕ × List Field) (coded× coded_ℕ (coded_list field_code))
-    (λ r. (r.past, r.fields)) (λ p. record { past = p.0; fields = p.1 }) (λ _. refl)
 
 -- what is left after a field
 abbrev pub rest_after : Field → List Field → Rest

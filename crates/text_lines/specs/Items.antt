@@ -1,5 +1,5 @@
 -- The lines of a text one at a time.
-use Rattle.std.specs.Prelude.{◌≡◌, ◌⊎◌, ℕ, ◌+◌, List, [], ◌∷◌, ◌++◌, map, Result, Ok, Err}
+use Rattle.std.specs.Prelude.{◌≡◌, ◌⊎◌, ℕ, List, [], ◌∷◌, ◌++◌, map, Result, Ok, Err}
 use Rattle.text_lines.specs.declared.fault.TextError.{TextError}
 use Rattle.text_lines.specs.declared.fault.TextError.TheVariants as errors
 use Rattle.text_lines.specs.Reading.{LineReading, fault_in_column}

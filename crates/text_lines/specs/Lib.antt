@@ -1,4 +1,5 @@
 pub mod Fields
+pub mod Coding
 pub mod Seen
 pub mod Kinds
 pub mod Reading

@@ -3,7 +3,8 @@
 ghost use Rattle.std.specs.Prelude.{◌≡◌, ◌≤◌, ◌<◌, ◌+◌, ◌^◌, ◌==◌, length};
 ghost use Rattle.std.specs.List.{position_or_len};
 ghost use Rattle.std.specs.Option.{ForSome};
-ghost use Rattle.text_lines.specs.Fields.{Rest, rest_code, fields_from, fields_of};
+ghost use Rattle.text_lines.specs.Fields.{Rest, fields_from, fields_of};
+ghost use Rattle.text_lines.specs.Coding.{rest_code};
 ghost use Rattle.text_lines.specs.Seen.{seen, field_of, IsNext, TakesField};
 
 use std::marker::Model;

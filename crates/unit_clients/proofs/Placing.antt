@@ -16,12 +16,6 @@ get_set (x ∷ xs) (suc i) (suc q) y r e = elim (get_set xs i q y r e) [
   | inr other ↦ inr ((λ same. other.0 (omega arith)), other.1)
 ]
 
--- at the place itself
-pub get_set_same : {X : Type 0} (xs : List X) (i : ℕ) (y : X) → i < length xs → slice_get (set xs i y) i ≡ Some y
-get_set_same [] i y within = absurd (omega arith)
-get_set_same (x ∷ xs) zero y within = refl
-get_set_same (x ∷ xs) (suc i) y within = get_set_same xs i y (omega arith)
-
 -- ---- Places
 -- what holds of the place of one unit that was left so, and of all others as they were, holds of each
 pub each_set : {T : Type 0} (P P' : ℕ → Option T → Type 0) (places : List (Option T)) (u : ℕ) (place : Option T)

@@ -4,7 +4,8 @@ use Rattle.std.proofs.lemmas.List.{take-append-le, length-drop, get_or-take, len
 use Rattle.unit_packets.specs.Blocks.{Block}
 use Rattle.unit_packets.specs.declared.header.Header.{Header}
 use Rattle.unit_packets.specs.declared.header.BlockError.{BlockError}
-use Rattle.unit_packets.specs.Judging.{judge, block_at, BeginsWithBlock}
+use Rattle.unit_packets.specs.Judging.{judge, block_at}
+use Rattle.unit_packets.specs.Held.{BeginsWithBlock}
 use Rattle.pitch_messages.specs.Raw.{raws_of}
 use Rattle.unit_packets.specs.Cutting.{blocks_on, rest_on, blocks_by, rest_by, blocks_of, rest_of, place_of}
 use Rattle.unit_packets.proofs.Stable.{judge_found, judge_more, IsFinal}

@@ -4,8 +4,10 @@ use Rattle.std.specs.List.{concat}
 use Rattle.std.proofs.lemmas.List.{length-take-le, length-drop, get_or-take, drop-take}
 use Rattle.pitch_messages.specs.Raw.{raws_of}
 use Rattle.unit_packets.specs.Blocks.{Block, IsBlock}
-use Rattle.unit_packets.specs.Judging.{judge, block_at, BeginsWithBlock}
-use Rattle.unit_packets.specs.Lending.{header_for, StandsFirst}
+use Rattle.unit_packets.specs.Judging.{judge, block_at}
+use Rattle.unit_packets.specs.Held.{BeginsWithBlock}
+use Rattle.unit_packets.specs.Lending.{header_for}
+use Rattle.unit_packets.specs.Held.{StandsFirst}
 use Rattle.unit_packets.specs.Held.{block_of}
 use Rattle.unit_packets.specs.declared.header.Header.{Header}
 

@@ -4,7 +4,8 @@ use Rattle.std.proofs.lemmas.List.{append-nil}
 use Rattle.std.proofs.lemmas.Bool.{cases_Bool}
 use Rattle.unit_packets.specs.Blocks.{Block}
 use Rattle.unit_packets.specs.Judging.{judge}
-use Rattle.unit_packets.specs.Lending.{header_for, StandsFirst}
+use Rattle.unit_packets.specs.Lending.{header_for}
+use Rattle.unit_packets.specs.Held.{StandsFirst}
 use Rattle.unit_packets.specs.Cutting.{blocks_of, rest_of, place_of, fault_from, fault_in, fault_of, fault_at_end, is_truncated}
 use Rattle.unit_packets.specs.declared.header.Header.{Header}
 use Rattle.unit_packets.specs.declared.header.BlockError.{BlockError}

@@ -1,8 +1,7 @@
 -- A block that is lent from the bytes in which it stands.
-use Rattle.std.specs.Prelude.{◌≡◌, ℕ, ◌+◌, List, length, take, Ok}
+use Rattle.std.specs.Prelude.{◌+◌, length}
 use Rattle.std.specs.List.{concat}
-use Rattle.unit_packets.specs.Blocks.{Block, IsBlock}
-use Rattle.unit_packets.specs.Judging.{judge, block_at}
+use Rattle.unit_packets.specs.Blocks.{Block}
 use Rattle.unit_packets.specs.declared.header.Header.{Header}
 
 -- the header of a block
@@ -13,9 +12,3 @@ header_for block = record {
   unit = block.unit;
   sequence = block.sequence;
 }
-
--- the block stands at the start of the bytes
-pub record StandsFirst (bytes : List ℕ) (block : Block) : Type 0 where
-  pub judged : judge bytes ≡ Ok (header_for block)
-  pub block_is : block ≡ block_at (header_for block) bytes
-  pub prefix : IsBlock (take (header_for block).length bytes) block

@@ -3,7 +3,8 @@
 ghost use Rattle.std.specs.Prelude.{◌≡◌, drop, MatchOption, IfSome};
 ghost use Rattle.std.specs.Iterator.{YieldsFirst, item_count};
 ghost use Rattle.unit_packets.specs.Cutting.{blocks_of, rest_of};
-ghost use Rattle.unit_packets.specs.Lending.{header_for, StandsFirst};
+ghost use Rattle.unit_packets.specs.Lending.{header_for};
+ghost use Rattle.unit_packets.specs.Held.{StandsFirst};
 
 use crate::view::{BlockView, view_block};
 use std::marker::Model;

@@ -3,7 +3,8 @@
 ghost use Rattle.std.specs.Prelude.{◌≡◌, length, IfOk, IfErr, Err};
 ghost use Rattle.unit_packets.specs.Blocks.{StaysWithin};
 ghost use Rattle.unit_packets.specs.Judging.{judge};
-ghost use Rattle.unit_packets.specs.Lending.{header_for, StandsFirst};
+ghost use Rattle.unit_packets.specs.Lending.{header_for};
+ghost use Rattle.unit_packets.specs.Held.{StandsFirst};
 
 use crate::block::Block;
 use crate::header::{BlockError, Header};

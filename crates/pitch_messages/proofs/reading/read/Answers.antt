@@ -1,7 +1,8 @@
 use Rattle.std.proofs.Common.{◌≡◌, ◌<◌, ℕ, List, length, get_or, subst, sym, ap, ◌∙◌, rules, IfOk, Result}
 use Rattle.pitch_messages.specs.Raw.{kind_of}
 use Rattle.pitch_messages.specs.Reading.{reads, needs_of}
-use Rattle.pitch_messages.specs.Writing.{written, with_reserved_blank}
+use Rattle.pitch_messages.specs.Writing.{written}
+use Rattle.pitch_messages.specs.Rewriting.{with_reserved_blank}
 use Rattle.pitch_messages.specs.declared.message.Message.{Message}
 use Rattle.pitch_messages.specs.declared.message.ReadError.{ReadError}
 use Rattle.pitch_messages.proofs.Rewriting.{rewritten}

@@ -2,7 +2,8 @@ use Rattle.std.proofs.Common.{ap, sym, subst, ◌∙◌, rules, ◌≡◌, Ok, N
 use Rattle.pitch_messages.specs.declared.message.Message.{Message}
 use Rattle.pitch_messages.specs.Reading.{reads, row_of}
 use Rattle.pitch_messages.specs.Raw.{kind_of}
-use Rattle.pitch_messages.specs.Writing.{HasItsVariant, written}
+use Rattle.pitch_messages.specs.Writing.{written}
+use Rattle.pitch_messages.specs.Rewriting.{HasItsVariant}
 use Rattle.pitch_messages.proofs.Rows.{unsaid}
 use Rattle.pitch_messages.proofs.writing.write.Goals as goal
 

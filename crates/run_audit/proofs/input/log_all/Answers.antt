@@ -1,6 +1,6 @@
 use Rattle.std.proofs.Common.{ap, sym, subst, List, ℕ, ◌+◌, ◌∙◌}
 use Rattle.unit_packets.specs.Judging.{judge}
-use Rattle.unit_packets.specs.Lending.{StandsFirst}
+use Rattle.unit_packets.specs.Held.{StandsFirst}
 use Rattle.unit_packets.specs.declared.header.Header.{Header}
 use Rattle.run_audit.proofs.Inputs.{logs_bad, logs_end, logs_more, logs_none, logs_refused, slice_is}
 use Rattle.run_audit.proofs.input.log_all.Goals as goal

@@ -1,6 +1,6 @@
 use Rattle.std.proofs.Common.{ℕ, ◌+◌, List, ◌∷◌, ◌++◌, ◌∙◌, ap, sym, subst, drop}
 use Rattle.std.proofs.lemmas.Bool.{eq-eqb, ne_eqb}
-use Rattle.unit_packets.specs.Lending.{StandsFirst}
+use Rattle.unit_packets.specs.Held.{StandsFirst}
 use Rattle.unit_packets.specs.declared.header.Header.{Header}
 use Rattle.session_ends.specs.declared.closed.CloseCause.TheVariants.{Sequenced}
 use Rattle.session_ends.specs.declared.inbox.Heard.TheVariants.{Broken}
