@@ -15,7 +15,7 @@ use Rattle.gap_store.specs.declared.found.Found.TheVariants.{Kept}
 use Rattle.spin_server.specs.Served.{Served, is_served}
 use Rattle.client_core.specs.declared.client.UnitClient.{UnitClient}
 use Rattle.drill_client.specs.Following.{Follows, heard_datagrams, imaged_whole}
-use Rattle.drill_client.specs.Answered.{with_tick, tick_ask, is_found, keeps_range, last_kept, heard_of_gap, heard_of_spin, heard_of_ask, heard_of_copy}
+use Rattle.drill_client.specs.Answered.{with_tick, tick_ask, is_found, keeps_range, heard_of_gap, heard_of_spin, heard_of_ask, heard_of_copy}
 
 -- ---- Ranges
 pub range_kept : (v : View) (first count : ℕ) → 1 ≤ first → 1 ≤ count → Kept ≡ look v first count → keeps_range v first count ≡ true
@@ -51,8 +51,8 @@ range_packed v now unit first count before after packs none kept is =
     ∙ ap (λ (w : View). packed unit first (slice_of w first count)) is
 
 -- a store that nobody pushes to is looked up at its one view
-pub kept_is : (s s' : Store) (messages : List Raw) (now : View) → s ≡ store_of (last_kept messages) → s' ≡ s → s' ≡ store_of now → IsLater (last_kept messages) now → now ≡ last_kept messages
-kept_is s s' messages now keeps same shows later = one_view (last_kept messages) now later (ap (λ (t : Store). t.pushed) (sym shows ∙ same ∙ keeps))
+pub kept_is : (s s' : Store) (v now : View) → s ≡ store_of v → s' ≡ s → s' ≡ store_of now → IsLater v now → now ≡ v
+kept_is s s' v now keeps same shows later = one_view v now later (ap (λ (t : Store). t.pushed) (sym shows ∙ same ∙ keeps))
 
 -- ---- What is heard
 module _ (client : UnitClient) (H : ℕ) (V : List Raw) (E : List Entry) where

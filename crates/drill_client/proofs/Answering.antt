@@ -31,9 +31,6 @@ use Rattle.spin_server.specs.declared.lookup.Imaged.TheVariants as answers
 use Rattle.drill_client.specs.Following.{IsImageOf}
 
 -- ---- Gaps
-abbrev view_of : List Raw → View
-view_of messages = record { messages = messages; kept = 4096 }
-
 -- the datagrams of a range that is kept are pieces of the feed
 pub range_pieces : (v : View) (unit first count : ℕ) (before after : List (List ℕ)) → 1 ≤ first → 1 ≤ count → Kept ≡ look v first count → PacksRange unit first (given (look v first count) v first count) before after
     → before ≡ [] → AllByRecursion (IsPiece v.messages unit) after

@@ -9,11 +9,11 @@ ghost use Rattle.unit_packets.specs.Packing.{bytes_in};
 ghost use Rattle.venue_core.specs.Plan.{plan};
 ghost use Rattle.venue_core.specs.Planned.{most_planned};
 ghost use Rattle.drill_client.specs.Ending.{IsAtEnd};
-ghost use Rattle.unit_market.specs.Markets.{MarketHas};
+ghost use Rattle.unit_market.specs.Markets.{Journal, MarketHas, new_journal, kept_view};
 ghost use Rattle.unit_market.specs.Views.{image_view};
 ghost use Rattle.drill_client.specs.Following.{Follows, ImageParts, IsImageOf, FollowsWith};
 ghost use Rattle.drill_client.specs.DrillText.{most_drilled, drill_kept, drill_line};
-ghost use Rattle.drill_client.specs.Answered.{last_kept, heard_of_gap, heard_of_spin, heard_of_ask};
+ghost use Rattle.drill_client.specs.Answered.{heard_of_gap, heard_of_spin, heard_of_ask};
 ghost use Rattle.drill_client.specs.Answered.{heard_of_copy, heard_after_copy};
 ghost use Rattle.drill_client.specs.Played.{command_datagrams, is_round, with_round};
 ghost use Rattle.drill_client.specs.Played.{heard_of_round};
@@ -100,10 +100,9 @@ fn answer_gap(
 ) -> Result<(), OutOfMemory>
     ensures same { market.new ≡ market.old }
     // Of every venue that begins with the messages of the market.
-    ensures heard { OnOk result ((messages more : List RawSaid) (sent : ℕ) (advertised : List ℕ)
-        → MarketHas market.old unit drill_kept messages sent advertised
-        → FollowsWith client.old client.new (messages ++ more)
-        (heard_of_gap (last_kept messages) unit first count)) }
+    ensures heard { OnOk result ((j : Journal) (more : List RawSaid) → MarketHas market.old j
+        → FollowsWith client.old client.new (j.messages ++ more)
+        (heard_of_gap (kept_view j) unit first count)) }
 {
     slices_are_the_venues();
     packed_messages_are_pieces();
@@ -142,11 +141,9 @@ fn answer_spin(
 ) -> Result<(), OutOfMemory>
     ensures same { market.new ≡ market.old }
     // Of every venue that begins with the messages of the market.
-    ensures heard { OnOk result
-        ((unit : ℕ) (messages more : List RawSaid) (sent : ℕ) (advertised : List ℕ)
-        → MarketHas market.old unit drill_kept messages sent advertised
-        → FollowsWith client.old client.new (messages ++ more)
-        (heard_of_spin (image_view messages advertised) sequence)) }
+    ensures heard { OnOk result ((j : Journal) (more : List RawSaid) → MarketHas market.old j
+        → FollowsWith client.old client.new (j.messages ++ more)
+        (heard_of_spin (image_view j.messages j.advertised) sequence)) }
 {
     venues_only_grow();
     let mut raws = RawList::make(alloc);
@@ -164,14 +161,11 @@ fn answer_spin(
 
 // Appends the image through the last message of a market, and answers how many orders it has.
 fn append_last(market: &mut Market, out: &mut RawList) -> Result<u32, OutOfMemory>
-    requires { (unit : ℕ) × (messages : List RawSaid) × (sent : ℕ) × (advertised : List ℕ)
-        × MarketHas market.old unit drill_kept messages sent advertised }
+    requires { (j : Journal) × MarketHas market.old j }
     // Of the messages of the market.
-    ensures { IfOk result (λ orders. (unit : ℕ)
-        (messages : List RawSaid) (sent : ℕ) (advertised : List ℕ)
-        → MarketHas market.old unit drill_kept messages sent advertised
-        → out.old.items ≡ [] → IsImageOf messages
-        (record { sequence = length messages; orders = orders; raws = out.new.items })) }
+    ensures { IfOk result (λ orders. (j : Journal) → MarketHas market.old j
+        → out.old.items ≡ [] → IsImageOf j.messages
+        (record { sequence = length j.messages; orders = orders; raws = out.new.items })) }
 {
     let sequence = market.advertise()?;
     match market.image(sequence, out)? {
@@ -195,17 +189,14 @@ fn advertise(
     count: u32,
 ) -> Result<(), OutOfMemory>
     // Where its messages are those of `index` commands.
-    ensures market { OnOk result ((unit : ℕ)
-        (messages : List RawSaid) (sent : ℕ) (advertised : List ℕ)
-        → MarketHas market.old unit drill_kept messages sent advertised → length messages ≡ index
-        → MarketHas market.new unit drill_kept messages sent
-        (with_round advertised index count)) }
+    ensures market { OnOk result ((j : Journal) → MarketHas market.old j
+        → length j.messages ≡ index → MarketHas market.new
+        (record j { advertised = with_round j.advertised index count })) }
     // Of every venue that begins with the messages of the market, where these are those of `index`
     // commands.
-    ensures heard { OnOk result
-        ((unit : ℕ) (messages more : List RawSaid) (sent : ℕ) (advertised : List ℕ)
-        → MarketHas market.old unit drill_kept messages sent advertised → length messages ≡ index
-        → FollowsWith client.old client.new (messages ++ more) (heard_of_round index count)) }
+    ensures heard { OnOk result ((j : Journal) (more : List RawSaid) → MarketHas market.old j
+        → length j.messages ≡ index
+        → FollowsWith client.old client.new (j.messages ++ more) (heard_of_round index count)) }
 {
     if !is_round(index, count) {
         return Ok(());
@@ -225,10 +216,9 @@ fn answer_ask(
 ) -> Result<(), OutOfMemory>
     ensures same { market.new ≡ market.old }
     // Of every venue that begins with the messages of the market.
-    ensures heard { OnOk result ((messages more : List RawSaid) (sent : ℕ) (advertised : List ℕ)
-        → MarketHas market.old unit drill_kept messages sent advertised
-        → FollowsWith client.old client.new (messages ++ more)
-        (heard_of_ask (last_kept messages) (image_view messages advertised) unit (Some ask))) }
+    ensures heard { OnOk result ((j : Journal) (more : List RawSaid) → MarketHas market.old j
+        → FollowsWith client.old client.new (j.messages ++ more)
+        (heard_of_ask (kept_view j) (image_view j.messages j.advertised) unit (Some ask))) }
 {
     match ask {
         Ask::Gap { first, count } => {
@@ -252,10 +242,9 @@ fn answer(
 ) -> Result<(), OutOfMemory>
     ensures same { market.new ≡ market.old }
     // Of every venue that begins with the messages of the market.
-    ensures heard { OnOk result ((messages more : List RawSaid) (sent : ℕ) (advertised : List ℕ)
-        → MarketHas market.old unit drill_kept messages sent advertised
-        → FollowsWith client.old client.new (messages ++ more)
-        (heard_of_ask (last_kept messages) (image_view messages advertised) unit ask)) }
+    ensures heard { OnOk result ((j : Journal) (more : List RawSaid) → MarketHas market.old j
+        → FollowsWith client.old client.new (j.messages ++ more)
+        (heard_of_ask (kept_view j) (image_view j.messages j.advertised) unit ask)) }
 {
     match ask {
         None => Ok(()),
@@ -278,12 +267,12 @@ fn hear_copy(
 ) -> Result<(), OutOfMemory>
     ensures same { market.new ≡ market.old }
     // Of every venue that begins with the messages of the market.
-    ensures heard { OnOk result ((messages more : List RawSaid) (sent : ℕ) (advertised : List ℕ)
-        → MarketHas market.old unit drill_kept messages sent advertised
-        → AllByRecursion (IsPiece messages unit) (bytes_in datagrams.now)
-        → (H : ℕ) (E : List Entry) → Follows client.old H (messages ++ more) E
-        → Follows client.new H (messages ++ more) (heard_of_copy (last_kept messages) (image_view
-        messages advertised) unit H heard.old is_lost (bytes_in datagrams.now) E)) }
+    ensures heard { OnOk result ((j : Journal) (more : List RawSaid) → MarketHas market.old j
+        → AllByRecursion (IsPiece j.messages unit) (bytes_in datagrams.now)
+        → (H : ℕ) (E : List Entry) → Follows client.old H (j.messages ++ more) E
+        → Follows client.new H (j.messages ++ more)
+        (heard_of_copy (kept_view j) (image_view j.messages j.advertised)
+        unit H heard.old is_lost (bytes_in datagrams.now) E)) }
     ensures count { OnOk result (heard.new ≡ heard_after_copy is_lost heard.old) }
 {
     if is_lost {
@@ -373,7 +362,7 @@ fn end(
 // Plays all commands, with a market that has accepted nothing, and hands back the client.
 fn play_all(alloc: Global, market: &mut Market, course: Course) -> Result<UnitClient, OutOfMemory>
     requires count { (1 ≤ course.count) × (course.count ≤ most_drilled) }
-    requires new { MarketHas market.old course.unit drill_kept [] 0 [] }
+    requires new { MarketHas market.old (new_journal course.unit drill_kept) }
     ensures played { OnOk result
         (HasPlayed market.new course.number course.unit course.count course.count) }
     // It has heard just what the commands bring, and what it was answered.
@@ -418,7 +407,7 @@ fn play_to_end(
     out: &mut Vec<u8>,
 ) -> Result<(), OutOfMemory>
     requires count { (1 ≤ course.count) × (course.count ≤ most_drilled) }
-    requires new { MarketHas market.old course.unit drill_kept [] 0 [] }
+    requires new { MarketHas market.old (new_journal course.unit drill_kept) }
     ensures ok { OnOk result (out.new.items
         ≡ out.old.items ++ drill_line course.number course.unit course.count) }
     ensures err { OnErr result (out.new.items ≡ out.old.items) }

@@ -11,7 +11,7 @@ use Rattle.grp_session.specs.Budget.{Limits, Spent}
 use Rattle.grp_session.specs.Serving.{Source}
 use Rattle.spin_server.specs.Served.{Served}
 use Rattle.spin_server.specs.Serving.{Serving, SpinStands, spin_sends}
-use Rattle.unit_market.specs.Markets.{MarketHas}
+use Rattle.unit_market.specs.Markets.{Journal, MarketHas}
 use Rattle.unit_market.specs.Standing.{MarketState}
 use Rattle.net_edge.specs.Due.{Setting, demo_unit, kept_messages, messages}
 use Rattle.net_edge.specs.Due.{advertised_until}
@@ -62,10 +62,20 @@ pub record SpinFed (es : List (Event (List Served))) (piece : List ℕ) (view : 
       (Fed piece (replicate (length (new_items es piece)) view)) es
 
 -- ---- The plain side
--- the market of the demo's unit has these messages, of which none was sent, and these sequences
+-- the journal of the demo's unit with these messages, of which none was sent, and these sequences
+abbrev pub plain_journal : List Raw → List ℕ → Journal
+plain_journal messages advertised = record {
+  unit = demo_unit;
+  kept = kept_messages;
+  messages = messages;
+  sent = 0;
+  advertised = advertised;
+}
+
+-- its market has that
 abbrev pub PlainHas : MarketState → List Raw → List ℕ → Type 0
 PlainHas market messages advertised =
-    MarketHas market demo_unit kept_messages messages 0 advertised
+    MarketHas market (plain_journal messages advertised)
 
 -- ---- The shared side
 -- these were accepted and advertised in its history

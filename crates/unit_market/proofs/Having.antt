@@ -1,4 +1,4 @@
--- What a market has after a message, and after an advertising.
+-- What a market has after a message, a flush and an advertising.
 use Rattle.std.proofs.Common.{◌≡◌, ℕ, List, [], ◌∷◌, ◌++◌, length, ap, ◌∙◌}
 use Rattle.std.proofs.lemmas.List.{append-nil}
 use Rattle.pitch_model.proofs.Advertising.{accepted_more, advertised_accept, advertised_advertise}
@@ -10,7 +10,7 @@ use Rattle.spin_server.specs.ShelfViews.{seen_of}
 use Rattle.spin_server.specs.Stands.{ShelfStands}
 use Rattle.venue_core.specs.Standing.{VenueState}
 use Rattle.venue_core.specs.Stands.{Stands}
-use Rattle.unit_market.specs.Markets.{KeepsShelf, MarketHas}
+use Rattle.unit_market.specs.Markets.{Journal, KeepsShelf, MarketHas, kept_view}
 use Rattle.unit_market.specs.Views.{image_view}
 use Rattle.unit_market.specs.Standing.{MarketState}
 
@@ -42,21 +42,29 @@ seen_is shelf messages advertised keeps =
 abbrev market : VenueState → Store → Shelf → MarketState
 market venue store shelf = record { venue = venue; store = store; shelf = shelf }
 
-pub has_accepted : (old : MarketState) (venue : VenueState) (store : Store) (shelf : Shelf) (unit kept : ℕ) (messages : List Raw) (sent : ℕ) (advertised : List ℕ) (raw : Raw) → MarketHas old unit kept messages sent advertised
-    → venue.unit ≡ old.venue.unit → Stands venue (messages ++ raw ∷ []) sent → ((v : View) → old.store ≡ store_of v → store ≡ store_of (record { messages = v.messages ++ raw ∷ []; kept = v.kept }))
-    → ((operations : List Operation) → ShelfStands old.shelf operations → ShelfStands shelf (operations ++ Accept raw ∷ [])) → MarketHas (market venue store shelf) unit kept (messages ++ raw ∷ []) sent advertised
-has_accepted old venue store shelf unit kept messages sent advertised raw has same stands stores pushes = record {
+pub has_accepted : (old : MarketState) (venue : VenueState) (store : Store) (shelf : Shelf) (j : Journal) (raw : Raw) → MarketHas old j
+    → venue.unit ≡ old.venue.unit → Stands venue (j.messages ++ raw ∷ []) j.sent → ((v : View) → old.store ≡ store_of v → store ≡ store_of (record { messages = v.messages ++ raw ∷ []; kept = v.kept }))
+    → ((operations : List Operation) → ShelfStands old.shelf operations → ShelfStands shelf (operations ++ Accept raw ∷ [])) → MarketHas (market venue store shelf) (record j { messages = j.messages ++ raw ∷ [] })
+has_accepted old venue store shelf j raw has same stands stores pushes = record {
   unit_is = same ∙ has.unit_is;
   venue = stands;
-  store_is = stores (record { messages = messages; kept = kept }) has.store_is;
-  shelf = shelf_accepted old.shelf shelf messages advertised raw has.shelf pushes;
+  store_is = stores (kept_view j) has.store_is;
+  shelf = shelf_accepted old.shelf shelf j.messages j.advertised raw has.shelf pushes;
 }
 
-pub has_advertised : (old : MarketState) (shelf : Shelf) (unit kept : ℕ) (messages : List Raw) (sent : ℕ) (advertised : List ℕ) → MarketHas old unit kept messages sent advertised
-    → ((operations : List Operation) → ShelfStands old.shelf operations → ShelfStands shelf (operations ++ Advertise ∷ [])) → MarketHas (market old.venue old.store shelf) unit kept messages sent (with_sequence advertised (length messages))
-has_advertised old shelf unit kept messages sent advertised has pushes = record {
+pub has_sent_all : (old : MarketState) (venue : VenueState) (j : Journal) → MarketHas old j → venue.unit ≡ old.venue.unit → Stands venue j.messages (length j.messages) → MarketHas (market venue old.store old.shelf) (record j { sent = length j.messages })
+has_sent_all old venue j has same stands = record {
+  unit_is = same ∙ has.unit_is;
+  venue = stands;
+  store_is = has.store_is;
+  shelf = has.shelf;
+}
+
+pub has_advertised : (old : MarketState) (shelf : Shelf) (j : Journal) → MarketHas old j → ((operations : List Operation) → ShelfStands old.shelf operations → ShelfStands shelf (operations ++ Advertise ∷ []))
+    → MarketHas (market old.venue old.store shelf) (record j { advertised = with_sequence j.advertised (length j.messages) })
+has_advertised old shelf j has pushes = record {
   unit_is = has.unit_is;
   venue = has.venue;
   store_is = has.store_is;
-  shelf = shelf_advertised old.shelf shelf messages advertised has.shelf pushes;
+  shelf = shelf_advertised old.shelf shelf j.messages j.advertised has.shelf pushes;
 }

@@ -3,13 +3,12 @@
 use Rattle.std.specs.Prelude.{ℕ, List, refl}
 use Rattle.std.specs.Coded.{Coded, code_by, coded×, coded_ℕ, coded_list}
 use Rattle.gap_store.specs.Look.{Store}
-use Rattle.pitch_model.specs.History.{Raw}
 use Rattle.spin_server.specs.ShelfCode.{shelf_code}
 use Rattle.spin_server.specs.Shelves.{Shelf}
 use Rattle.venue_core.specs.Coding.{venue_code}
 use Rattle.venue_core.specs.Standing.{VenueState}
 use Rattle.unit_market.specs.Standing.{MarketState}
-use Rattle.unit_market.specs.Markets.{MarketHas}
+use Rattle.unit_market.specs.Markets.{Journal, MarketHas}
 
 abbrev pub store_code : Coded Store
 store_code = code_by (List (List ℕ) × (ℕ × ℕ))
@@ -23,10 +22,7 @@ market_code = code_by (VenueState × (Store × Shelf))
     (λ m. (m.venue, (m.store, m.shelf)))
     (λ p. record { venue = p.0; store = p.1.0; shelf = p.1.1 }) (λ _. refl)
 
--- venue, store and shelf have the same messages, whichever they are
+-- venue, store and shelf have one journal, whichever it is
 pub record HasSome (market : MarketState) : Type 0 where
-  pub kept : ℕ
-  pub messages : List Raw
-  pub sent : ℕ
-  pub advertised : List ℕ
-  pub has : MarketHas market market.venue.unit kept messages sent advertised
+  pub journal : Journal
+  pub has : MarketHas market journal

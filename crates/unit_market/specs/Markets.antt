@@ -1,8 +1,9 @@
 -- What a market stands for ("Gap Request Proxy", "Spin Servers").
-use Rattle.std.specs.Prelude.{◌≡◌, ℕ, List}
-use Rattle.gap_store.specs.Look.{store_of}
+use Rattle.std.specs.Prelude.{◌≡◌, ◌+◌, ℕ, List, [], drop}
 use Rattle.pitch_model.specs.Advertising.{Operation, accepted_by, advertised_by}
 use Rattle.pitch_model.specs.History.{Raw}
+use Rattle.unit_packets.specs.Packing.{packed}
+use Rattle.gap_store.specs.Look.{View, store_of}
 use Rattle.spin_server.specs.Shelves.{Shelf}
 use Rattle.spin_server.specs.Stands.{ShelfStands}
 use Rattle.venue_core.specs.Stands.{Stands}
@@ -15,12 +16,31 @@ pub record KeepsShelf (shelf : Shelf) (accepted : List Raw) (advertised : List �
   pub advertised_is : advertised_by operations ≡ advertised
   pub stands : ShelfStands shelf operations
 
--- the market of a unit, whose proxy keeps so many of the last messages: its venue accepted these
--- messages and sent so many of them, its store and its shelf have the same messages, and the images
--- through these sequences were advertised
-pub record MarketHas (market : MarketState)
-    (unit kept : ℕ) (messages : List Raw) (sent : ℕ) (advertised : List ℕ) : Type 0 where
-  pub unit_is : market.venue.unit ≡ unit
-  pub venue : Stands market.venue messages sent
-  pub store_is : market.store ≡ store_of (record { messages = messages; kept = kept })
-  pub shelf : KeepsShelf market.shelf messages advertised
+-- what a market stands for: its unit; how many of the last messages its proxy keeps; the messages
+-- that it accepted, and how many of them it sent; and the sequences that it advertised
+pub record Journal : Type 0 where
+  pub unit : ℕ
+  pub kept : ℕ
+  pub messages : List Raw
+  pub sent : ℕ
+  pub advertised : List ℕ
+
+-- nothing was accepted yet
+abbrev pub new_journal : ℕ → ℕ → Journal
+new_journal unit kept =
+    record { unit = unit; kept = kept; messages = []; sent = 0; advertised = [] }
+
+-- the datagrams of what was accepted and not sent yet
+abbrev pub pending : Journal → List (List ℕ)
+pending j = packed j.unit (j.sent + 1) (drop j.sent j.messages)
+
+-- the last of its messages, which the proxy looks up
+abbrev pub kept_view : Journal → View
+kept_view j = record { messages = j.messages; kept = j.kept }
+
+-- a market has a journal: its venue, its store and its shelf have the messages of that
+pub record MarketHas (market : MarketState) (j : Journal) : Type 0 where
+  pub unit_is : market.venue.unit ≡ j.unit
+  pub venue : Stands market.venue j.messages j.sent
+  pub store_is : market.store ≡ store_of (kept_view j)
+  pub shelf : KeepsShelf market.shelf j.messages j.advertised

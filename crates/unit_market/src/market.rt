@@ -1,19 +1,18 @@
 //! The market: a venue with its gap store and its image shelf, which have the same messages.
 
-ghost use Rattle.std.specs.Prelude.{◌≡◌, ◌+◌, ◌≤◌, ◌++◌, ℕ, List, [], ◌∷◌, length, drop, Ok, Some};
+ghost use Rattle.std.specs.Prelude.{◌≡◌, ◌+◌, ◌≤◌, ◌++◌, [], ◌∷◌, length, drop, Ok, Some};
 ghost use Rattle.std.specs.Prelude.{OnOk, OnErr, IfOk, true};
 ghost use Rattle.std.specs.List.{AllByRecursion};
 ghost use Rattle.std.specs.Option.{option_copied};
 ghost use Rattle.pitch_fields.specs.Limits.{most_held};
 ghost use Rattle.pitch_messages.specs.Reading.{reads};
 ghost use Rattle.pitch_model.specs.Advertising.{newest_of, with_sequence};
-ghost use Rattle.pitch_model.specs.History.{Raw as RawSaid};
 ghost use Rattle.heard_items.specs.Datagrams.{IsPiece};
 ghost use Rattle.unit_packets.specs.BlockBytes.{block_bytes, heartbeat_block};
-ghost use Rattle.unit_packets.specs.Packing.{IsPacking, packed, bytes_in};
+ghost use Rattle.unit_packets.specs.Packing.{IsPacking, bytes_in};
 ghost use Rattle.venue_core.specs.Commands.{message_of, raw_of};
 ghost use Rattle.venue_core.specs.Refusals.{refusal, IsAnswer};
-ghost use Rattle.unit_market.specs.Markets.{MarketHas};
+ghost use Rattle.unit_market.specs.Markets.{Journal, MarketHas, new_journal, pending};
 ghost use Rattle.unit_market.specs.Views.{ShowsMessages, ShowsImages};
 ghost use Rattle.unit_market.specs.Standing.{last_accepted};
 
@@ -58,7 +57,7 @@ impl Market {
     pub fn make(alloc: Global, unit: u8, kept: u32) -> Result<Market, OutOfMemory>
         requires least { 1 ≤ kept }
         requires most { kept ≤ most_held }
-        ensures { IfOk result (λ market. MarketHas market unit kept [] 0 []) }
+        ensures { IfOk result (λ market. MarketHas market (new_journal unit kept)) }
     {
         Ok(Market {
             venue: Venue::make(alloc, unit),
@@ -73,20 +72,15 @@ impl Market {
     pub fn accept(&mut self, command: &Command) -> Result<u32, VenueError>
         // Whatever was accepted before, the answer is the first refusal that holds of it, or the
         // next sequence.
-        ensures answer { (unit kept : ℕ) (messages : List RawSaid) (sent : ℕ) (advertised : List ℕ)
-            → MarketHas self.old unit kept messages sent advertised
-            → IsAnswer (refusal messages command.now) (length messages + 1) result }
+        ensures answer { (j : Journal) → MarketHas self.old j
+            → IsAnswer (refusal j.messages command.now) (length j.messages + 1) result }
         // The message is accepted after those before it.
-        ensures ok { OnOk result ((unit kept : ℕ)
-            (messages : List RawSaid) (sent : ℕ) (advertised : List ℕ)
-            → MarketHas self.old unit kept messages sent advertised
-            → MarketHas self.new unit kept (messages ++ raw_of command.now ∷ []) sent advertised) }
+        ensures ok { OnOk result ((j : Journal) → MarketHas self.old j → MarketHas self.new
+            (record j { messages = j.messages ++ raw_of command.now ∷ [] })) }
         ensures last { OnOk result (last_accepted self.new ≡ Some (raw_of command.now)) }
         ensures says { OnOk result (reads (raw_of command.now) ≡ Ok (message_of command.now)) }
-        ensures err { OnErr result ((unit kept : ℕ)
-            (messages : List RawSaid) (sent : ℕ) (advertised : List ℕ)
-            → MarketHas self.old unit kept messages sent advertised
-            → MarketHas self.new unit kept messages sent advertised) }
+        ensures err { OnErr result
+            ((j : Journal) → MarketHas self.old j → MarketHas self.new j) }
     {
         let raw = self.venue.prepare(command)?;
         // Of what may want memory the shelf is the last: then nothing has to be taken back.
@@ -107,30 +101,20 @@ impl Market {
     /// After OutOfMemory the market has what it had, and the list is as before.
     pub fn flush(&mut self, out: &mut DatagramList) -> Result<u32, OutOfMemory>
         // What is sent is the packing of all that was accepted and not sent yet.
-        ensures datagrams { OnOk result ((unit kept : ℕ)
-            (messages : List RawSaid) (sent : ℕ) (advertised : List ℕ)
-            → MarketHas self.old unit kept messages sent advertised → bytes_in out.new.items
-            ≡ bytes_in out.old.items ++ packed unit (sent + 1) (drop sent messages)) }
-        ensures packing { OnOk result ((unit kept : ℕ)
-            (messages : List RawSaid) (sent : ℕ) (advertised : List ℕ)
-            → MarketHas self.old unit kept messages sent advertised → IsPacking unit (sent + 1)
-            (drop sent messages) (packed unit (sent + 1) (drop sent messages))) }
+        ensures datagrams { OnOk result ((j : Journal) → MarketHas self.old j
+            → bytes_in out.new.items ≡ bytes_in out.old.items ++ pending j) }
+        ensures packing { OnOk result ((j : Journal) → MarketHas self.old j
+            → IsPacking j.unit (j.sent + 1) (drop j.sent j.messages) (pending j)) }
         // Each datagram has the market's messages, at their sequences.
-        ensures pieces { OnOk result ((unit kept : ℕ)
-            (messages : List RawSaid) (sent : ℕ) (advertised : List ℕ)
-            → MarketHas self.old unit kept messages sent advertised → AllByRecursion
-            (IsPiece messages unit) (packed unit (sent + 1) (drop sent messages))) }
+        ensures pieces { OnOk result ((j : Journal) → MarketHas self.old j
+            → AllByRecursion (IsPiece j.messages j.unit) (pending j)) }
         ensures count { IfOk result (λ count. length out.new.items ≡ length out.old.items + count) }
         // All that was accepted is sent then.
-        ensures ok { OnOk result ((unit kept : ℕ)
-            (messages : List RawSaid) (sent : ℕ) (advertised : List ℕ)
-            → MarketHas self.old unit kept messages sent advertised
-            → MarketHas self.new unit kept messages (length messages) advertised) }
+        ensures ok { OnOk result ((j : Journal) → MarketHas self.old j
+            → MarketHas self.new (record j { sent = length j.messages })) }
         ensures err { OnErr result (out.new.items ≡ out.old.items) }
-        ensures kept { OnErr result ((unit kept : ℕ)
-            (messages : List RawSaid) (sent : ℕ) (advertised : List ℕ)
-            → MarketHas self.old unit kept messages sent advertised
-            → MarketHas self.new unit kept messages sent advertised) }
+        ensures kept { OnErr result
+            ((j : Journal) → MarketHas self.old j → MarketHas self.new j) }
     {
         let count = self.venue.flush(out)?;
         Ok(count)
@@ -139,12 +123,10 @@ impl Market {
     /// The heartbeat, which tells the first sequence that was not sent yet.
     pub fn beat(&self) -> [u8; 8]
         // It tells the sequence after all that was sent.
-        ensures bytes { (unit kept : ℕ) (messages : List RawSaid) (sent : ℕ) (advertised : List ℕ)
-            → MarketHas self.now unit kept messages sent advertised
-            → result ≡ block_bytes (heartbeat_block unit (sent + 1)) }
+        ensures bytes { (j : Journal) → MarketHas self.now j
+            → result ≡ block_bytes (heartbeat_block j.unit (j.sent + 1)) }
         // It is a piece of the market's feed.
-        ensures piece { (unit kept : ℕ) (messages : List RawSaid) (sent : ℕ) (advertised : List ℕ)
-            → MarketHas self.now unit kept messages sent advertised → IsPiece messages unit result }
+        ensures piece { (j : Journal) → MarketHas self.now j → IsPiece j.messages j.unit result }
     {
         self.venue.beat()
     }
@@ -153,16 +135,12 @@ impl Market {
     /// which is their number; a repeat of the newest adds nothing. The market is as before after
     /// OutOfMemory.
     pub fn advertise(&mut self) -> Result<u32, OutOfMemory>
-        ensures sequence { IfOk result (λ sequence. (unit kept : ℕ)
-            (messages : List RawSaid) (sent : ℕ) (advertised : List ℕ)
-            → MarketHas self.old unit kept messages sent advertised
-            → sequence ≡ length messages) }
+        ensures sequence { IfOk result (λ sequence. (j : Journal) → MarketHas self.old j
+            → sequence ≡ length j.messages) }
         // It is the newest that is served then.
         ensures newest { IfOk result (λ sequence. newest_of self.new.shelf.served ≡ Some sequence) }
-        ensures ok { OnOk result ((unit kept : ℕ)
-            (messages : List RawSaid) (sent : ℕ) (advertised : List ℕ)
-            → MarketHas self.old unit kept messages sent advertised → MarketHas
-            self.new unit kept messages sent (with_sequence advertised (length messages))) }
+        ensures ok { OnOk result ((j : Journal) → MarketHas self.old j → MarketHas self.new
+            (record j { advertised = with_sequence j.advertised (length j.messages) })) }
         ensures err { OnErr result (self.new ≡ self.old) }
     {
         let sequence = self.shelf.advertise()?;

@@ -44,7 +44,7 @@ use Rattle.pitch_text.specs.declared.verb.Session.TheVariants.{Grp, Spin}
 use Rattle.spin_server.specs.Serving.{Serving}
 use Rattle.client_links.specs.declared.gap_link.ProxyPeer.{ProxyPeer}
 use Rattle.client_links.specs.declared.spin_link.SpinPeer.{SpinPeer}
-use Rattle.world_model.specs.Connections.{HasGrp, HasSpin}
+use Rattle.world_model.specs.Connections.{HasGrp, HasSpin, journal_of}
 use Rattle.world_model.specs.declared.connection.Connection.{Connection as Joined}
 use Rattle.world_model.specs.declared.limits.Limits.{Limits}
 use Rattle.world_model.specs.Hearing.{HearsBlocks, overflow_in}
@@ -115,7 +115,7 @@ some_where_err (Some cause) sequence error h other = ap Some (sym (same h))
     same e = cc
 
 pub acts_accepted : (w : World) (market : MarketState) (acted : Acted) (command : Command) (s : State) (n : ℕ) → WorldHas w s → IsAnswer (refusal s.accepted command) (length s.accepted + 1) (Ok n)
-    → MarketHas market w.unit w.limits.kept (s.accepted ++ raw_of command ∷ []) s.flushed s.advertised → ((client : UnitClient) (V more : List Raw) → client.hold.floor ≤ length V → Keeps client V → Keeps client (V ++ more)) → acted ≡ calm_of (outcome.Accepted n)
+    → MarketHas market (record (journal_of w.unit w.limits s) { messages = s.accepted ++ raw_of command ∷ [] }) → ((client : UnitClient) (V more : List Raw) → client.hold.floor ≤ length V → Keeps client V → Keeps client (V ++ more)) → acted ≡ calm_of (outcome.Accepted n)
     → Acts w (record w { market = market }) acted s (commanded command s)
 acts_accepted w market acted command s n has answer accepted keeping calm =
     let found = none_where_ok (refusal s.accepted command) (length s.accepted + 1) n answer in
@@ -138,7 +138,7 @@ acts_accepted w market acted command s n has answer accepted keeping calm =
     }))
 
 -- another market has the same
-with_market : (w : World) (market : MarketState) (s : State) → WorldHas w s → MarketHas market w.unit w.limits.kept s.accepted s.flushed s.advertised → WorldHas (record w { market = market }) s
+with_market : (w : World) (market : MarketState) (s : State) → WorldHas w s → MarketHas market (journal_of w.unit w.limits s) → WorldHas (record w { market = market }) s
 with_market w market s has is = record {
   begun = has.begun;
   market = is;
@@ -155,7 +155,7 @@ with_market w market s has is = record {
 }
 
 pub acts_refused : (w : World) (market : MarketState) (acted : Acted) (command : Command) (s : State) (error : VenueError) → WorldHas w s → IsAnswer (refusal s.accepted command) (length s.accepted + 1) (Err error) → (error ≡ errors.OutOfMemory → ⊥)
-    → MarketHas market w.unit w.limits.kept s.accepted s.flushed s.advertised → acted ≡ calm_of (outcome.Refused error) → Acts w (record w { market = market }) acted s (commanded command s)
+    → MarketHas market (journal_of w.unit w.limits s) → acted ≡ calm_of (outcome.Refused error) → Acts w (record w { market = market }) acted s (commanded command s)
 acts_refused w market acted command s error has answer other same calm =
     subst (λ (o : Option VenueError). Acts w (record w { market = market }) acted s (commanded_on o command s)) (sym (some_where_err (refusal s.accepted command) (length s.accepted + 1) error answer other))
     (calm_acts w (record w { market = market }) acted (outcome.Refused error) s (commanded_on (Some error) command s) refl refl calm refl refl (with_market w market s has same))
@@ -179,7 +179,7 @@ copied_count before after copied count are many =
     omega (arith, sum, length-append (bytes_in before) (bytes_in copied), length_bytes before, length_bytes after, length_bytes copied, many)
 
 -- datagrams that are pieces were sent; so many of the messages are then sent
-has_sent : (w : World) (market : MarketState) (sent : Roomy (Roomy ℕ)) (s : State) (flushed : ℕ) (datagrams : List (List ℕ)) → WorldHas w s → MarketHas market w.unit w.limits.kept s.accepted flushed s.advertised
+has_sent : (w : World) (market : MarketState) (sent : Roomy (Roomy ℕ)) (s : State) (flushed : ℕ) (datagrams : List (List ℕ)) → WorldHas w s → MarketHas market (record (journal_of w.unit w.limits s) { sent = flushed })
     → bytes_in sent.items ≡ bytes_in w.sent.items ++ datagrams → AllByRecursion (IsPiece s.accepted w.unit) datagrams
     → WorldHas (record w { market = market; sent = sent }) (record s { flushed = flushed; sent = s.sent ++ datagrams })
 has_sent w market sent s flushed datagrams has is are pieces = record {
@@ -204,7 +204,7 @@ has_sent w market sent s flushed datagrams has is are pieces = record {
 pub acts_flushed : (w : World) (market : MarketState) (sent : Roomy (Roomy ℕ)) (acted : Acted) (s : State) (count : ℕ) → WorldHas w s
     → bytes_in sent.items ≡ bytes_in w.sent.items ++ packed w.unit (s.flushed + 1) (drop s.flushed s.accepted)
     → AllByRecursion (IsPiece s.accepted w.unit) (packed w.unit (s.flushed + 1) (drop s.flushed s.accepted))
-    → length sent.items ≡ length w.sent.items + count → MarketHas market w.unit w.limits.kept s.accepted (length s.accepted) s.advertised → acted ≡ calm_of (outcome.Sent count)
+    → length sent.items ≡ length w.sent.items + count → MarketHas market (record (journal_of w.unit w.limits s) { sent = length s.accepted }) → acted ≡ calm_of (outcome.Sent count)
     → Acts w (record w { market = market; sent = sent }) acted s (flushed w.unit s)
 acts_flushed w market sent acted s count has are pieces counted is calm =
     let out : List (List ℕ) = packed w.unit (s.flushed + 1) (drop s.flushed s.accepted) in

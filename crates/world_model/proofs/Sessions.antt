@@ -27,7 +27,7 @@ use Rattle.spin_path.specs.Paths.{heard_all}
 use Rattle.spin_path.proofs.Moves.{spare_is_unheard}
 use Rattle.unit_market.specs.Markets.{MarketHas}
 use Rattle.unit_market.specs.Standing.{MarketState}
-use Rattle.world_model.specs.Connections.{IsProxy, IsSpinServer, HasConnection, HasGrp, HasSpin, IsBudget}
+use Rattle.world_model.specs.Connections.{IsProxy, IsSpinServer, HasConnection, HasGrp, HasSpin, IsBudget, journal_of}
 use Rattle.world_model.specs.Carried.{IsGrpConnection, CarriedUp, CarriedDown}
 use Rattle.world_model.specs.Ends.{grp_server, gap_link, spin_link, link_of}
 use Rattle.world_model.specs.Hearing.{HearsItems, IsTold}
@@ -203,7 +203,7 @@ module _ (session : Session) (w : World) (acted : Acted) (s : State) (bytes : Op
 
 -- bytes were carried to the proxy
 pub passes_proxy_fed : (w : World) (old new : JoinedOf Grp) (market : MarketState) (counter : Counts) (replayed : Roomy (Roomy ℕ)) (s : State) (n : ℕ) (k : Connection Source) → (holds : WorldHas w s) → w.grp ≡ Some old → s.grp ≡ Some k
-    → ((unit : ℕ) (limits : Limits) (s : State) (k : Connection Source) → IsGrpConnection old unit k → MarketHas w.market unit limits.kept s.accepted s.flushed s.advertised → IsBudget w.budget limits s.spent
+    → ((unit : ℕ) (limits : Limits) (s : State) (k : Connection Source) → IsGrpConnection old unit k → MarketHas w.market (journal_of unit limits s) → IsBudget w.budget limits s.spent
     → CarriedUp unit limits s n k new counter (bytes_in w.replayed.items) (bytes_in replayed.items))
     → market ≡ w.market → Passes w (record w { grp = Some new; market = market; budget = counter; replayed = replayed }) s (grp_fed w.unit w.limits (take n (waiting k.up)) (with_up (took n k.up) k) s)
 passes_proxy_fed w old new market counter replayed s n k holds place there carry same =
@@ -220,7 +220,7 @@ passes_proxy_fed w old new market counter replayed s n k holds place there carry
       quiet = marks_none w.limits.hold s.heard;
       has = record {
         begun = holds.begun;
-        market = subst (λ (m : MarketState). MarketHas m w.unit w.limits.kept s.accepted s.flushed s.advertised) (sym same) holds.market;
+        market = subst (λ (m : MarketState). MarketHas m (journal_of w.unit w.limits s)) (sym same) holds.market;
         budget = did.counts;
         sent = holds.sent;
         replayed = did.lined ∙ ap (λ (ds : List (List ℕ)). ds ++ lines) holds.replayed;

@@ -17,7 +17,7 @@ use Rattle.spin_path.proofs.Pumps.{views_are_shown}
 use Rattle.pitch_text.specs.declared.verb.Session.TheVariants.{Spin}
 use Rattle.unit_market.specs.Markets.{KeepsShelf, MarketHas}
 use Rattle.unit_market.specs.Standing.{MarketState}
-use Rattle.world_model.specs.Connections.{HasSpin}
+use Rattle.world_model.specs.Connections.{HasSpin, journal_of}
 use Rattle.world_model.specs.Carried.{IsSpinConnection}
 use Rattle.world_model.specs.Stands.{WorldHas}
 use Rattle.world_model.specs.Steps.{Acts, Passes}
@@ -50,7 +50,7 @@ shown_there shelf V sequences n is =
     subst (λ (raws : List Raw). AllByRecursion (IsShown raws) (replicate n (record { messages = raws; advertised = last_ten (advertised_by is.operations) }))) is.accepted_is seen in
     subst (λ (ns : List ℕ). AllByRecursion (IsShown V) (replicate n (record { messages = V; advertised = last_ten ns }))) is.advertised_is at_messages
 
-with_advertised : (w : World) (market : MarketState) (s : State) (sequences : List ℕ) → WorldHas w s → MarketHas market w.unit w.limits.kept s.accepted s.flushed sequences → WorldHas (record w { market = market }) (record s { advertised = sequences })
+with_advertised : (w : World) (market : MarketState) (s : State) (sequences : List ℕ) → WorldHas w s → MarketHas market (record (journal_of w.unit w.limits s) { advertised = sequences }) → WorldHas (record w { market = market }) (record s { advertised = sequences })
 with_advertised w market s sequences has is = record {
   begun = has.begun;
   market = is;
@@ -78,7 +78,7 @@ passes_spin_fed w old new market s n k holds place there carry same =
     let behind : Connection (List Served) = with_up (took n k.up) k in
     let views : List Served = views_of s k.server piece in
     let fed : Connection (List Served) = at_server_of w.unit Spin (Fed piece views) behind in
-    let kept : MarketHas market w.unit w.limits.kept s.accepted s.flushed s.advertised = subst (λ (m : MarketState). MarketHas m w.unit w.limits.kept s.accepted s.flushed s.advertised) (sym same) holds.market in
+    let kept : MarketHas market (journal_of w.unit w.limits s) = subst (λ (m : MarketState). MarketHas m (journal_of w.unit w.limits s)) (sym same) holds.market in
     let shown : AllByRecursion (IsShown s.accepted) views = shown_there market.shelf s.accepted s.advertised (length (new_items k.server piece)) kept.shelf in
     let at_fed : Witnessed w.unit s.accepted (Some fed) s.heard = serves w.unit s.accepted s.heard behind (Fed piece views) shown (ups w.unit s.accepted s.heard k (took n k.up) came) in
     let at_end : Witnessed w.unit s.accepted (Some (sent_whole w.unit fed)) s.heard = pumps_on w.unit s.accepted s.heard fed (pumps w.unit fed.server) at_fed in
@@ -96,7 +96,7 @@ serves_where unit V E event None may came = came
 serves_where unit V E event (Some k) may came = serves unit V E k event may came
 
 pub acts_advertised : (w : World) (market : MarketState) (spin : Option (JoinedOf Spin)) (sequence : ℕ) (acted : Acted) (s : State) → WorldHas w s → sequence ≡ length s.accepted
-    → MarketHas market w.unit w.limits.kept s.accepted s.flushed (with_sequence s.advertised (length s.accepted))
+    → MarketHas market (record (journal_of w.unit w.limits s) { advertised = with_sequence s.advertised (length s.accepted) })
     → ((unit : ℕ) (g : Option (Connection (List Served))) → HasSpin w.spin unit g → HasSpin spin unit (option_map (λ k. at_server_of unit Spin (Told sequence) k) g))
     → acted ≡ calm_of (outcome.Advertised sequence) → Acts w (record w { market = market; spin = spin }) acted s (advertised w.unit s)
 acts_advertised w market spin sequence acted s has number on told calm =

@@ -9,8 +9,9 @@ use Rattle.grp_session.specs.Serving.{Source, ProxyStands}
 use Rattle.spin_server.specs.Served.{Served}
 use Rattle.spin_server.specs.Serving.{Serving, SpinStands}
 use Rattle.client_links.specs.Linking.{LinkStands}
+use Rattle.unit_market.specs.Markets.{Journal}
 use Rattle.world_model.specs.Ends.{grp_server, spin_server, link_of}
-use Rattle.world_model.specs.State.{Connection, Pipe, LooksIn, waiting}
+use Rattle.world_model.specs.State.{State, Connection, Pipe, LooksIn, waiting}
 use Rattle.world_model.specs.declared.connection.Connection.{Connection as Joined}
 use Rattle.world_model.specs.declared.limits.Limits.{Limits}
 
@@ -60,6 +61,17 @@ HasGrp place unit g = HasConnection Grp IsProxy place unit g
 abbrev pub HasSpin : {P : Type 0}
     → Option (Joined Serving P) → ℕ → Option (Connection (List Served)) → Type 0
 HasSpin place unit g = HasConnection Spin IsSpinServer place unit g
+
+-- ---- What the servers look up
+-- the journal of a unit's market in a state
+abbrev pub journal_of : ℕ → Limits → State → Journal
+journal_of unit limits s = record {
+  unit = unit;
+  kept = limits.kept;
+  messages = s.accepted;
+  sent = s.flushed;
+  advertised = s.advertised;
+}
 
 -- the budget of a proxy has these limits, and counts the requests that it accepted
 pub record IsBudget (budget : Counts) (limits : Limits) (spent : Spent) : Type 0 where

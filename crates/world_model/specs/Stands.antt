@@ -5,7 +5,7 @@ use Rattle.unit_packets.specs.Packing.{bytes_in}
 use Rattle.client_core.specs.Tracks.{Tracks, Keeps}
 use Rattle.line_arbiter.specs.Noted.{HasNoted}
 use Rattle.unit_market.specs.Markets.{MarketHas}
-use Rattle.world_model.specs.Connections.{HasGrp, HasSpin, IsBudget}
+use Rattle.world_model.specs.Connections.{HasGrp, HasSpin, IsBudget, journal_of}
 use Rattle.world_model.specs.Sound.{Sound}
 use Rattle.world_model.specs.State.{State}
 use Rattle.world_model.specs.Verbs.{state_of}
@@ -15,7 +15,7 @@ use Rattle.world_model.specs.declared.world.World.{World}
 -- the parts of a world are those of a state
 pub record WorldHas (w : World) (s : State) : Type 0 where
   pub begun : w.begun ≡ s.begun
-  pub market : MarketHas w.market w.unit w.limits.kept s.accepted s.flushed s.advertised
+  pub market : MarketHas w.market (journal_of w.unit w.limits s)
   pub budget : IsBudget w.budget w.limits s.spent
   pub sent : bytes_in w.sent.items ≡ s.sent
   pub replayed : bytes_in w.replayed.items ≡ s.replayed

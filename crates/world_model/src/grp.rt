@@ -8,7 +8,7 @@ ghost use Rattle.unit_packets.specs.Packing.{bytes_in};
 ghost use Rattle.session_ends.specs.Events.{Asked};
 ghost use Rattle.grp_session.specs.Serving.{Source};
 ghost use Rattle.unit_market.specs.Markets.{MarketHas};
-ghost use Rattle.world_model.specs.Connections.{IsProxy, HasGrp, IsBudget};
+ghost use Rattle.world_model.specs.Connections.{IsProxy, HasGrp, IsBudget, journal_of};
 ghost use Rattle.world_model.specs.Carried.{IsGrpConnection, CarriedUp};
 ghost use Rattle.world_model.specs.Ends.{the_account, gap_link};
 ghost use Rattle.world_model.specs.State.{State, Connection as ConnectionSaid};
@@ -93,7 +93,7 @@ impl Connection<GrpServer, ProxyPeer> {
         requires { count ≤ length self.old.up }
         ensures carried { OnOk result ((unit : ℕ) (limits : LimitsSaid) (s : State)
             (k : ConnectionSaid Source) → IsGrpConnection self.old unit k
-            → MarketHas market.old unit limits.kept s.accepted s.flushed s.advertised
+            → MarketHas market.old (journal_of unit limits s)
             → IsBudget budget.old limits s.spent → CarriedUp unit limits s count k self.new
             budget.new (bytes_in gap_line.old.items) (bytes_in gap_line.new.items)) }
         ensures market { OnOk result (market.new ≡ market.old) }

@@ -10,19 +10,19 @@ pub returns-then-not-is_round : goal.returns-then-not-is_round
 returns-then-not-is_round c =
     let off : is_round c.args.index c.args.count ≡ false = sym c.is_round.ensures ∙ c.if-not-is_round.true in
     record {
-      market = λ unit messages sent advertised has size. subst (λ (ns : List ℕ). MarketHas c.args.market.now unit 4096 messages sent ns) (sym (no_round c.args.index c.args.count advertised off)) has;
-      heard = λ unit messages more sent advertised has size H E f. round_unheard c.args.index c.args.count c.args.client.now H (messages ++ more) E off f;
+      market = λ j has size. subst (λ (ns : List ℕ). MarketHas c.args.market.now (record j { advertised = ns })) (sym (no_round c.args.index c.args.count j.advertised off)) has;
+      heard = λ j more has size H E f. round_unheard c.args.index c.args.count c.args.client.now H (j.messages ++ more) E off f;
     }
 
 pub returns : goal.returns
 returns c =
     let on : is_round c.args.index c.args.count ≡ true = sym c.is_round.ensures ∙ c.if-not-is_round.false in
     record {
-      market = λ unit messages sent advertised has size.
-          subst (λ (ns : List ℕ). MarketHas c.advertise.new.self unit 4096 messages sent ns) (ap (λ (n : ℕ). with_sequence advertised n) size ∙ sym (round_done c.args.index c.args.count advertised on))
-          (c.in_ok-sequence.ensures.ok unit 4096 messages sent advertised has);
-      heard = λ unit messages more sent advertised has size H E f.
-          let is = c.in_ok-sequence.ensures.sequence unit 4096 messages sent advertised has in
-          let within : c.in_ok-sequence.sequence ≤ length (messages ++ more) = omega (arith, is, length-append messages more) in
-          round_heard c.args.index c.args.count c.hear_advertised.new.client H (messages ++ more) E c.in_ok-sequence.sequence on (is ∙ size) (c.hear_advertised.ensures (messages ++ more) within H E f);
+      market = λ j has size.
+          subst (λ (ns : List ℕ). MarketHas c.advertise.new.self (record j { advertised = ns })) (ap (λ (n : ℕ). with_sequence j.advertised n) size ∙ sym (round_done c.args.index c.args.count j.advertised on))
+          (c.in_ok-sequence.ensures.ok j has);
+      heard = λ j more has size H E f.
+          let is = c.in_ok-sequence.ensures.sequence j has in
+          let within : c.in_ok-sequence.sequence ≤ length (j.messages ++ more) = omega (arith, is, length-append j.messages more) in
+          round_heard c.args.index c.args.count c.hear_advertised.new.client H (j.messages ++ more) E c.in_ok-sequence.sequence on (is ∙ size) (c.hear_advertised.ensures (j.messages ++ more) within H E f);
     }

@@ -3,7 +3,7 @@ use Rattle.std.specs.List.{AllByRecursion}
 use Rattle.pitch_messages.specs.Room.{Roomy}
 use Rattle.pitch_model.specs.History.{Entry, Raw}
 use Rattle.heard_items.specs.Datagrams.{IsPiece}
-use Rattle.unit_market.specs.Markets.{MarketHas}
+use Rattle.unit_market.specs.Markets.{MarketHas, Journal}
 use Rattle.unit_market.specs.Standing.{MarketState}
 use Rattle.unit_packets.specs.Packing.{bytes_in}
 use Rattle.venue_core.specs.Losses.{is_lost}
@@ -11,7 +11,8 @@ use Rattle.venue_core.specs.Plan.{plan}
 use Rattle.venue_core.proofs.PlanBooks.{plan_length}
 use Rattle.drill_client.specs.Following.{Follows}
 use Rattle.drill_client.specs.Answered.{heard_after_copy}
-use Rattle.drill_client.specs.Played.{command_datagrams, advertised_through, heard_on_line, heard_of_command}
+use Rattle.drill_client.specs.Played.{command_datagrams, heard_on_line, heard_of_command}
+use Rattle.drill_client.specs.Turns.{journal_at}
 use Rattle.drill_client.proofs.Played.{on_line, rounds_next}
 use Rattle.drill_client.proofs.Playing.{plan_grows}
 use Rattle.drill_client.proofs.turns.play.Goals as goal
@@ -22,13 +23,11 @@ returns-clause-played c =
     let unit : ℕ = c.args.course.unit in
     let count : ℕ = c.args.course.count in
     let index : ℕ = c.args.index in
-    let now : List Raw = plan number unit index in
-    let advertised : List ℕ = advertised_through count (index - 1) in
-    let has : (market : MarketState) → Type 0 = λ market. MarketHas market unit 4096 now index advertised in
+    let j : Journal = journal_at number unit count index index (index - 1) in
+    let has : (market : MarketState) → Type 0 = λ market. MarketHas market j in
     let has_2 : has c.hear_copy.new.market = subst has (sym c.in_ok-hear_copy.ensures.same) c.in_ok-sent.ensures.playing in
     let has_3 : has c.hear_copy-2.new.market = subst has (sym c.in_ok-hear_copy-2.ensures.same) has_2 in
-    subst (λ (ns : List ℕ). MarketHas c.advertise.new.market unit 4096 now index ns) (rounds_next count index c.requires.index.0)
-    (c.in_ok-advertise.ensures.market unit now index advertised has_3 (plan_length number unit index))
+    subst (λ (ns : List ℕ). MarketHas c.advertise.new.market (record j { advertised = ns })) (rounds_next count index c.requires.index.0) (c.in_ok-advertise.ensures.market j has_3 (plan_length number unit index))
 
 pub returns-clause-count : goal.returns-clause-count
 returns-clause-count c =
@@ -47,8 +46,8 @@ returns-clause-heard c E f =
     let all : List Raw = plan number unit count in
     let more : List Raw = drop index all in
     let grows : now ++ more ≡ all = plan_grows number unit index count c.requires.index.1 in
-    let advertised : List ℕ = advertised_through count (index - 1) in
-    let has : (market : MarketState) → Type 0 = λ market. MarketHas market unit 4096 now index advertised in
+    let j : Journal = journal_at number unit count index index (index - 1) in
+    let has : (market : MarketState) → Type 0 = λ market. MarketHas market j in
     let has_2 : has c.hear_copy.new.market = subst has (sym c.in_ok-hear_copy.ensures.same) c.in_ok-sent.ensures.playing in
     let has_3 : has c.hear_copy-2.new.market = subst has (sym c.in_ok-hear_copy-2.ensures.same) has_2 in
     let slice : bytes_in c.as_slice-datagrams.result.now ≡ bytes_in c.in_ok-sent.sent.items = ap (λ (l : List (Roomy ℕ)). bytes_in l) c.as_slice-datagrams.ensures in
@@ -56,12 +55,12 @@ returns-clause-heard c E f =
     let are : bytes_in c.as_slice-datagrams.result.now ≡ command_datagrams number unit index = slice ∙ c.in_ok-sent.ensures.datagrams in
     let start : Follows c.args.client.now 4096 (now ++ more) E = subst (λ (V : List Raw). Follows c.args.client.now 4096 V E) (sym grows) f in
     let first : Follows c.hear_copy.new.client 4096 (now ++ more) (heard_on_line number unit count index 1 c.args.heard.now E) =
-    on_line c.hear_copy.new.client (now ++ more) E number unit count index 1 c.args.heard.now c.lost.result (bytes_in c.as_slice-datagrams.result.now) c.lost.ensures are (c.in_ok-hear_copy.ensures.heard now more index advertised c.in_ok-sent.ensures.playing pieces 4096 E start) in
+    on_line c.hear_copy.new.client (now ++ more) E number unit count index 1 c.args.heard.now c.lost.result (bytes_in c.as_slice-datagrams.result.now) c.lost.ensures are (c.in_ok-hear_copy.ensures.heard j more c.in_ok-sent.ensures.playing pieces 4096 E start) in
     let then : List Entry = heard_on_line number unit count index 1 c.args.heard.now E in
     let second : Follows c.hear_copy-2.new.client 4096 (now ++ more) (heard_on_line number unit count index 2 c.hear_copy.new.heard then) =
-    on_line c.hear_copy-2.new.client (now ++ more) then number unit count index 2 c.hear_copy.new.heard c.lost-2.result (bytes_in c.as_slice-datagrams.result.now) c.lost-2.ensures are (c.in_ok-hear_copy-2.ensures.heard now more index advertised has_2 pieces 4096 then first) in
+    on_line c.hear_copy-2.new.client (now ++ more) then number unit count index 2 c.hear_copy.new.heard c.lost-2.result (bytes_in c.as_slice-datagrams.result.now) c.lost-2.ensures are (c.in_ok-hear_copy-2.ensures.heard j more has_2 pieces 4096 then first) in
     let heard : c.hear_copy.new.heard ≡ heard_after_copy (is_lost number unit index 1) c.args.heard.now = c.in_ok-hear_copy.ensures.count ∙ ap (λ (lost : Bool). heard_after_copy lost c.args.heard.now) c.lost.ensures in
     let both : Follows c.hear_copy-2.new.client 4096 (now ++ more) (heard_on_line number unit count index 2 (heard_after_copy (is_lost number unit index 1) c.args.heard.now) then) =
     subst (λ (n : ℕ). Follows c.hear_copy-2.new.client 4096 (now ++ more) (heard_on_line number unit count index 2 n then)) heard second in
     subst (λ (V : List Raw). Follows c.advertise.new.client 4096 V (heard_of_command number unit count index c.args.heard.now E)) grows
-    (c.in_ok-advertise.ensures.heard unit now more index advertised has_3 (plan_length number unit index) 4096 _ both)
+    (c.in_ok-advertise.ensures.heard j more has_3 (plan_length number unit index) 4096 _ both)

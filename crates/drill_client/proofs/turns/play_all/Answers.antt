@@ -1,11 +1,11 @@
-use Rattle.std.proofs.Common.{◌≡◌, ℕ, List, [], ◌+◌, ◌-◌, ◌≤◌, sym, ◌∙◌, subst, arith}
+use Rattle.std.proofs.Common.{◌≡◌, ℕ, List, ◌+◌, ◌-◌, ◌≤◌, sym, ◌∙◌, subst, arith}
 use Rattle.venue_core.proofs.PlanBooks.{plan_begins}
 use Rattle.pitch_model.specs.History.{Entry, Raw}
-use Rattle.unit_market.specs.Markets.{MarketHas}
+use Rattle.unit_market.specs.Markets.{MarketHas, new_journal}
 use Rattle.venue_core.specs.Plan.{plan}
 use Rattle.drill_client.specs.Following.{Follows}
 use Rattle.drill_client.specs.Played.{plain_history}
-use Rattle.drill_client.specs.Turns.{HasPlayed}
+use Rattle.drill_client.specs.Turns.{journal_at, HasPlayed}
 use Rattle.drill_client.proofs.Played.{rounds_begin, count_begins, count_next, history_begins, history_next}
 use Rattle.drill_client.proofs.turns.play_all.Goals as goal
 
@@ -16,7 +16,9 @@ commands-init c =
     let count : ℕ = c.args.course.count in
     let few : count ≤ 400000 = omega (arith, c.requires.count.1) in
     record {
-      played = subst (λ (ns : List ℕ). MarketHas c.args.market.now unit 4096 (plan number unit 0) 0 ns) (sym (rounds_begin count)) (subst (λ (V : List Raw). MarketHas c.args.market.now unit 4096 V 0 []) (sym (plan_begins number unit)) c.requires.new);
+      played =
+          subst (λ (ns : List ℕ). MarketHas c.args.market.now (record (journal_at number unit count 0 0 0) { advertised = ns })) (sym (rounds_begin count))
+          (subst (λ (V : List Raw). MarketHas c.args.market.now (record (new_journal unit 4096) { messages = V })) (sym (plan_begins number unit)) c.requires.new);
       count = sym (count_begins number unit);
       follows = subst (λ (E : List Entry). Follows c.in_ok-client.client 4096 (plan number unit count) E) (sym (history_begins number unit count)) (c.in_ok-client.ensures (plan number unit count) (c.plan_is_in_order.ensures.bytes number unit count few));
     }
