@@ -1,5 +1,5 @@
 -- A level gains and loses by the order that is put or taken.
-use Rattle.std.proofs.Common.{◌≡◌, ℕ, ◌+◌, ◌==◌, ◌&&◌, Bool, true, false, cond, List, [], ◌∷◌, map, filter, sum_by, Option, Some, None, refl, sym, ap, ◌∙◌, arith, eqb}
+use Rattle.std.proofs.Common.{◌≡◌, ℕ, ◌+◌, ◌==◌, ◌&&◌, Bool, true, false, cond, List, [], ◌∷◌, map, filter, sum_by, Option, Some, None, refl, sym, ap, ◌∙◌, arith}
 use Rattle.std.specs.Str.{bytes_eq}
 use Rattle.std.specs.Ordering.{nat_cmp, is_eq, eq_by_cmp}
 use Rattle.std.specs.declared.cmp.Ordering.{Ordering}
@@ -7,9 +7,9 @@ use Rattle.std.specs.declared.cmp.Ordering.TheVariants.{Less, Equal, Greater}
 use Rattle.std.specs.FinMap as finite
 use Rattle.std.specs.FinMap.Entries.{by_order, put, find}
 use Rattle.std.proofs.lemmas.Cmp.{nat_cmp_total}
-use Rattle.std.proofs.lemmas.Bool.{eqb-true}
-use Rattle.std.proofs.lemmas.Bool.Decides.{nat_tests}
 use Rattle.std.proofs.lemmas.List.Sums.{sum_by-cons}
+use Rattle.std.proofs.lemmas.Option.{none-some}
+use Rattle.pitch_fields.proofs.Keys.{tied, itself}
 use Rattle.pitch_fields.specs.declared.side.Side.{Side}
 use Rattle.pitch_messages.specs.declared.order.Order.{Order}
 use Rattle.pitch_model.specs.Book.{Book, with_order, without_order}
@@ -18,15 +18,6 @@ use Rattle.best_quotes.specs.Balance.{shares_at, shares_of}
 
 abbrev Orders : Type 0
 Orders = finite.FinMap nat_cmp Order
-
-some_none : (order : Order) → ◌≡◌ {A = Option Order} (Some order) None → ⊥
-some_none order e = cc
-
-pub tied : (q k : ℕ) → eq_by_cmp nat_cmp q k ≡ true → q ≡ k
-tied q k t = let same : is_eq (nat_cmp q k) ≡ eqb q k = grind (arith, nat_tests) in eqb-true q k (sym same ∙ t)
-
-itself : (k : ℕ) → eq_by_cmp nat_cmp k k ≡ true
-itself k = grind (arith, nat_tests)
 
 -- ---- Maps
 get_removed : (m : Orders) (k : ℕ) → finite.get (finite.remove m k) k ≡ None
@@ -72,7 +63,7 @@ module _ (f : Order → ℕ) where
       by : (r : Ordering) → cond (is_eq r) (Some e.1) (find nat_cmp k es) ≡ None → (find nat_cmp k es ≡ None → sum_by f (map (λ e. e.1) (put nat_cmp k v es)) ≡ f v + sum_by f (map (λ e. e.1) es))
           → sum_by f (map (λ (x : ℕ × Order). x.1) (by_order r ((k, v) ∷ e ∷ es) ((e.0, v) ∷ es) (e ∷ put nat_cmp k v es))) ≡ f v + sum_by f (e.1 ∷ map (λ x. x.1) es)
       by Less none later = sum_by-cons f v (e.1 ∷ map (λ x. x.1) es)
-      by Equal none later = absurd (some_none e.1 none)
+      by Equal none later = absurd (none-some e.1 (sym none))
       by Greater none later =
           let l = later none in
           let a = sum_by-cons f e.1 (map (λ x. x.1) (put nat_cmp k v es)) in

@@ -9,6 +9,7 @@ use Rattle.std.specs.FinMap as finite
 use Rattle.std.specs.Fmt.{digits}
 use Rattle.std.proofs.lemmas.Cmp.{nat_cmp_total}
 use Rattle.std.proofs.lemmas.List.{nil_from_length}
+use Rattle.pitch_fields.proofs.Keys.{tied}
 use Rattle.pitch_fields.specs.declared.side.Side.{Side}
 use Rattle.pitch_fields.specs.declared.side.Side.TheVariants.{Buy, Sell}
 use Rattle.pitch_fields.specs.Name.{name_shown}
@@ -22,7 +23,6 @@ use Rattle.best_quotes.specs.Quoting.{numbered, quotes_after}
 use Rattle.best_quotes.specs.QuotesText.{quote_line}
 use Rattle.best_quotes.specs.declared.quote.Quote.{Quote}
 use Rattle.best_quotes.specs.declared.quote.QuoteLine.{QuoteLine}
-use Rattle.best_quotes.proofs.Balancing.{tied}
 use Rattle.best_quotes.proofs.Telling.{none_on}
 use Rattle.best_quotes.proofs.Listing.{both_stay, changes_of}
 

@@ -4,11 +4,11 @@ use Rattle.std.proofs.lemmas.Bool.{cond_both}
 use Rattle.unit_packets.specs.Blocks.{Block}
 use Rattle.pitch_fields.specs.declared.side.Side.{Side}
 use Rattle.pitch_model.specs.Book.{book_after}
-use Rattle.pitch_model.specs.History.{Entry, Raw, Message, Next}
+use Rattle.pitch_model.specs.History.{Entry, Raw, Next}
 use Rattle.pitch_model.specs.Levels.{best}
 use Rattle.pitch_model.specs.Reach.{reach, reach_of}
-use Rattle.pitch_model.proofs.Rises.{reach_rises}
-use Rattle.heard_items.specs.HeardBlocks.{heard_messages, heard_sequenced, heard_block}
+use Rattle.pitch_model.proofs.Rises.{reach_rises, messages_rise}
+use Rattle.heard_items.specs.HeardBlocks.{heard_sequenced, heard_block}
 use Rattle.heard_items.specs.Units.{unit_history}
 use Rattle.best_quotes.specs.declared.quote.Quote.{Quote}
 use Rattle.best_quotes.specs.Changes.{changes}
@@ -18,16 +18,9 @@ use Rattle.best_quotes.specs.LastBest.{unit_quotes, last_or, last_best}
 use Rattle.best_quotes.proofs.Telling.{told, none_in_empty, changes_tell}
 
 -- ---- The reach along a block
-heard_rises : (H first : ℕ) (raws : List Raw) (E : List Entry) → reach H E ≤ reach H (heard_messages first raws E)
-heard_rises H first [] E = omega arith
-heard_rises H first (raw ∷ raws) E =
-    let one = reach_rises H E (Message first raw) in
-    let more = heard_rises H (first + 1) raws (Message first raw ∷ E) in
-    omega arith
-
 sequenced_rises : (H sequence : ℕ) (raws : List Raw) (E : List Entry) → reach H E ≤ reach H (heard_sequenced sequence raws E)
 sequenced_rises H sequence [] E = reach_rises H E (Next sequence)
-sequenced_rises H sequence (raw ∷ raws) E = heard_rises H sequence (raw ∷ raws) E
+sequenced_rises H sequence (raw ∷ raws) E = messages_rise H sequence (raw ∷ raws) E
 
 pub block_rises : (H : ℕ) (block : Block) (E : List Entry) → reach H E ≤ reach H (heard_block block E)
 block_rises H block E = cond_both (block.sequence == 0) E (heard_sequenced block.sequence block.raws E) (λ F. reach H E ≤ reach H F) (λ t. omega arith) (λ f. sequenced_rises H block.sequence block.raws E)

@@ -1,11 +1,11 @@
 -- What a message moves: the levels change by the orders of the id that it names, before and after.
 use Rattle.std.proofs.Common.{◌≡◌, ℕ, ◌+◌, ◌==◌, ◌&&◌, Bool, true, false, cond, nat_le, List, length, Option, None, Some, refl, sym, ap, ◌∙◌, subst, arith}
 use Rattle.std.specs.Option.{option_map}
-use Rattle.std.specs.Ordering.{nat_cmp, is_eq, eq_by_cmp}
 use Rattle.std.specs.FinMap as finite
 use Rattle.std.proofs.lemmas.Bool.{eqb-true}
 use Rattle.std.proofs.lemmas.Bool.Decides.{nat_tests}
-use Rattle.std.proofs.lemmas.Cmp.{nat_cmp_total, tied_itself}
+use Rattle.std.proofs.lemmas.Cmp.{nat_cmp_total}
+use Rattle.pitch_fields.proofs.Keys.{itself}
 use Rattle.pitch_messages.specs.declared.order.Order.{Order}
 use Rattle.pitch_fields.specs.Fields.{number_at}
 use Rattle.pitch_messages.specs.Raw.{kind_of}
@@ -18,9 +18,6 @@ use Rattle.best_quotes.specs.Turning.{Moves}
 use Rattle.order_book.specs.declared.naming.Touches.{Touches}
 use Rattle.order_book.specs.declared.naming.Touches.TheVariants as touches
 use Rattle.best_quotes.proofs.Balancing.{level_removed, level_put}
-
-itself : (k : ℕ) → eq_by_cmp nat_cmp k k ≡ true
-itself k = ap is_eq (tied_itself nat_cmp_total k)
 
 stays : (book : Book) (id : ℕ) → Moves book book id
 stays book id symbol side price = refl

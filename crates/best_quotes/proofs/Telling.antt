@@ -11,7 +11,7 @@ use Rattle.std.proofs.lemmas.List.{nil_from_length}
 use Rattle.std.proofs.lemmas.Cmp.{nat_list_cmp_total}
 use Rattle.std.proofs.lemmas.Map.Text.{is_eq-slice_cmp}
 use Rattle.std.proofs.lemmas.Slice.Eq.{bytes_eq-Decides}
-use Rattle.std.proofs.lemmas.Bool.{and_parts, or_cases, or_left, or_right, false≢true, eqb-true, eq-eqb, cond-false}
+use Rattle.std.proofs.lemmas.Bool.{and_parts, or_cases, or_left, or_right, false≢true, eqb-true, eq-eqb, cond-false, or_parts, and_from}
 use Rattle.std.proofs.lemmas.List.Folds.{list_any-append}
 use Rattle.pitch_fields.specs.declared.side.Side.{Side}
 use Rattle.pitch_fields.specs.declared.side.Side.TheVariants.{Buy, Sell}
@@ -34,10 +34,6 @@ same_best-equal (Some p) None e = absurd (false≢true e)
 pub same_best-itself : (p : Option (ℕ × ℕ)) → same_best p p ≡ true
 same_best-itself None = refl
 same_best-itself (Some p) = ap (λ (t : Bool). t && p.1 == p.1) (eq-eqb p.0 p.0 refl) ∙ eq-eqb p.1 p.1 refl
-
-pub or_false : (a b : Bool) → (a || b) ≡ false → (a ≡ false) × (b ≡ false)
-or_false true b e = absurd (false≢true (sym e))
-or_false false b e = (refl, e)
 
 -- ---- The symbols that are looked at
 -- a key is found exactly where it stands
@@ -69,7 +65,7 @@ none_on book symbol side none = ap (λ (orders : List Order). option_map (with_l
     empty : (xs : List Order) → list_any (λ order. eq_by_cmp (slice_cmp nat_cmp) symbol order.symbol) xs ≡ false → filter (λ order. bytes_eq symbol order.symbol && same_side side order.side) xs ≡ []
     empty [] e = refl
     empty (x ∷ xs) e =
-        let parts = or_false (eq_by_cmp (slice_cmp nat_cmp) symbol x.symbol) (list_any (λ order. eq_by_cmp (slice_cmp nat_cmp) symbol order.symbol) xs) e in
+        let parts = or_parts (eq_by_cmp (slice_cmp nat_cmp) symbol x.symbol) (list_any (λ order. eq_by_cmp (slice_cmp nat_cmp) symbol order.symbol) xs) e in
         let apart : bytes_eq symbol x.symbol ≡ false = sym (is_eq-slice_cmp symbol x.symbol) ∙ parts.0 in
         cond-false (bytes_eq symbol x.symbol && same_side side x.side) (x ∷ filter (λ order. bytes_eq symbol order.symbol && same_side side order.side) xs) (filter (λ order. bytes_eq symbol order.symbol && same_side side order.side) xs) (ap (λ (b : Bool). b && same_side side x.side) apart)
         ∙ empty xs parts.1
@@ -151,10 +147,7 @@ module _ (old new : Book) where
     -- a best that differs is told
     one_on : same_best (best old symbol side) (best new symbol side) ≡ false → list_any (is_for symbol side) (change_on old new symbol side) ≡ true
     one_on e = ap (λ (qs : List Quote). list_any (is_for symbol side) qs) (cond-false (same_best (best old symbol side) (best new symbol side)) [] (record { symbol = symbol; side = side; best = best new symbol side } ∷ []) e)
-        ∙ or_left (bytes_eq symbol symbol && same_side side side) false (both_true (bytes_eq symbol symbol) (same_side side side) (bytes_eq-itself symbol) (same_side-itself side))
-      where
-        both_true : (a b : Bool) → a ≡ true → b ≡ true → (a && b) ≡ true
-        both_true a b e f = ap (λ (x : Bool). x && b) e ∙ f
+        ∙ or_left (bytes_eq symbol symbol && same_side side side) false (and_from (bytes_eq symbol symbol) (same_side side side) (bytes_eq-itself symbol) (same_side-itself side))
 
     one_of_both : (d : Side) → d ≡ side → list_any (is_for symbol side) (change_on old new symbol d) ≡ true → list_any (is_for symbol side) (both symbol) ≡ true
     one_of_both Buy e one =
@@ -181,7 +174,7 @@ module _ (old new : Book) where
         by : (t : Bool) → list_any (λ order. eq_by_cmp (slice_cmp nat_cmp) symbol order.symbol) (orders_of old ++ orders_of new) ≡ t → t ≡ true
         by true h = refl
         by false h =
-            let parts = or_false (list_any (λ order. eq_by_cmp (slice_cmp nat_cmp) symbol order.symbol) (orders_of old)) (list_any (λ order. eq_by_cmp (slice_cmp nat_cmp) symbol order.symbol) (orders_of new))
+            let parts = or_parts (list_any (λ order. eq_by_cmp (slice_cmp nat_cmp) symbol order.symbol) (orders_of old)) (list_any (λ order. eq_by_cmp (slice_cmp nat_cmp) symbol order.symbol) (orders_of new))
             (sym (list_any-append (λ order. eq_by_cmp (slice_cmp nat_cmp) symbol order.symbol) (orders_of old) (orders_of new)) ∙ h) in
             absurd (false≢true (sym e ∙ ap (λ (p : Option (ℕ × ℕ)). same_best p (best new symbol side)) (none_on old symbol side parts.0) ∙ ap (same_best None) (none_on new symbol side parts.1)))
 

@@ -7,7 +7,7 @@ use Rattle.std.specs.declared.cmp.Ordering.TheVariants.{Less}
 use Rattle.std.specs.Ordering.{nat_cmp, eq_by_cmp}
 use Rattle.std.specs.Cmp.Lexicographic.{slice_cmp}
 use Rattle.std.specs.FinMap as finite
-use Rattle.std.proofs.lemmas.Bool.{false≢true}
+use Rattle.std.proofs.lemmas.Bool.{false≢true, or_parts}
 use Rattle.std.proofs.lemmas.List.{append-nil}
 use Rattle.std.proofs.lemmas.Map.Text.{is_eq-slice_cmp}
 use Rattle.pitch_fields.specs.declared.side.Side.{Side}
@@ -26,7 +26,7 @@ use Rattle.best_quotes.proofs.Balancing.{level_removed}
 use Rattle.best_quotes.proofs.Besting.{nearest_is_best, level_is_best, no_level_no_best, none_open, level_has_order, price_has_level}
 use Rattle.best_quotes.proofs.Listing.{changes_of, both_stay}
 use Rattle.best_quotes.proofs.Sided.{shares_off}
-use Rattle.best_quotes.proofs.Telling.{both, or_false, same_best-itself}
+use Rattle.best_quotes.proofs.Telling.{both, same_best-itself}
 
 -- ---- Levels
 module _ (old new : Book) (id : ℕ) (before now : Option Order) (becomes : Becomes old new id before now) where
@@ -89,7 +89,7 @@ module _ (old new : Book) (is : IsBook old) (is' : IsBook new) where
 
   not_these : (q first second : List ℕ) → list_any (eq_by_cmp (slice_cmp nat_cmp) q) (first ∷ second ∷ []) ≡ false → (bytes_eq q first ≡ false) × (bytes_eq q second ≡ false)
   not_these q first second none =
-      let parts = or_false (eq_by_cmp (slice_cmp nat_cmp) q first) (list_any (eq_by_cmp (slice_cmp nat_cmp) q) (second ∷ [])) none in
+      let parts = or_parts (eq_by_cmp (slice_cmp nat_cmp) q first) (list_any (eq_by_cmp (slice_cmp nat_cmp) q) (second ∷ [])) none in
       (sym (is_eq-slice_cmp q first) ∙ parts.0, not_it q second parts.1)
 
   rise_two : (first second : List ℕ) → slice_cmp nat_cmp first second ≡ Less → IsStrictlySortedBy (slice_cmp nat_cmp) (first ∷ second ∷ [])
