@@ -1,6 +1,6 @@
 -- The blocks with which some bytes begin, heard one after another.
-use Rattle.std.proofs.Common.{◌≡◌, ℕ, List, [], ◌∷◌, ◌++◌, reverse, sym, ap, subst}
-use Rattle.std.proofs.lemmas.List.{reverse-append}
+use Rattle.std.proofs.Common.{◌≡◌, ℕ, List, [], ◌∷◌, ◌++◌, reverse, sym, subst}
+use Rattle.pitch_fields.proofs.Lists.{reverse_then}
 use Rattle.unit_packets.specs.Blocks.{Block}
 use Rattle.unit_packets.specs.Cutting.{blocks_of, rest_of}
 use Rattle.unit_packets.proofs.Walking.{Walked, walked_more, walked_all}
@@ -11,9 +11,6 @@ pub record HeardTo (old now : Units) (bytes left : List ℕ) : Type 0 where
   pub done : List Block
   pub heard : (before : List Block) → HaveHeard old before → HaveHeard now (reverse done ++ before)
   pub walked : Walked bytes left done
-
-reverse_then : (xs : List Block) (b : Block) (before : List Block) → reverse (xs ++ b ∷ []) ++ before ≡ b ∷ (reverse xs ++ before)
-reverse_then xs b before = ap (λ (bs : List Block). bs ++ before) (reverse-append xs (b ∷ []))
 
 pub heard_more : (old now new : Units) (bytes left less : List ℕ) (block : Block) → HeardTo old now bytes left → blocks_of left ≡ block ∷ blocks_of less → rest_of less ≡ rest_of left
     → ((before : List Block) → HaveHeard now before → HaveHeard new (block ∷ before)) → HeardTo old new bytes less
