@@ -7,7 +7,8 @@ use Rattle.pitch_model.specs.Book.{book_after}
 use Rattle.pitch_model.specs.History.{Entry, Raw, Next}
 use Rattle.pitch_model.specs.Levels.{best}
 use Rattle.pitch_model.specs.Reach.{reach, reach_of}
-use Rattle.pitch_model.proofs.Rises.{reach_rises, messages_rise}
+use Rattle.pitch_model.proofs.Rises.{reach_rises}
+use Rattle.heard_items.proofs.Hearing.{messages_rise}
 use Rattle.heard_items.specs.HeardBlocks.{heard_sequenced, heard_block}
 use Rattle.heard_items.specs.Units.{unit_history}
 use Rattle.best_quotes.specs.declared.quote.Quote.{Quote}

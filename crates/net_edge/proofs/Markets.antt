@@ -2,6 +2,7 @@
 use Rattle.std.proofs.Common.{◌≡◌, ℕ, zero, suc, ◌+◌, ◌-◌, ◌≤◌, ◌<◌, true, List, [], ◌∷◌, ◌++◌, length, drop, replicate, Some, refl, sym, ap, ◌∙◌, subst, arith}
 use Rattle.std.specs.List.{AllByRecursion, slice_get}
 use Rattle.std.proofs.lemmas.List.{drop_all, drop_at}
+use Rattle.pitch_fields.proofs.Lists.{all_push}
 use Rattle.pitch_messages.specs.Raw.{IsRaw}
 use Rattle.unit_packets.specs.Packing.{IsPacking, packed, packed_on}
 use Rattle.pitch_model.specs.History.{Raw}
@@ -9,7 +10,6 @@ use Rattle.pitch_model.specs.Honest.{AreVenues, message_at}
 use Rattle.heard_items.specs.Datagrams.{IsPiece}
 use Rattle.venue_core.specs.Commands.{raw_of}
 use Rattle.venue_core.specs.Plan.{plan, plan_command}
-use Rattle.venue_core.proofs.Accepting.{all_more}
 use Rattle.venue_core.proofs.PlanBooks.{plan_length, plan_next}
 use Rattle.venue_core.proofs.PlanBytes.{plan_at_place}
 use Rattle.gap_store.specs.Look.{View, Store, store_of}
@@ -98,7 +98,7 @@ accepted_more has s turn old new raw some within few is_raw said keeps at =
     ap (λ (r : Raw). plan s.number demo_unit (turn - 1) ++ r ∷ []) (said advertised had) ∙ sym (plan_step s.number demo_unit turn some) in
     record {
       is = subst (λ (k : ℕ). has new (plan s.number demo_unit k) advertised) (sym now) (keeps advertised had);
-      raws = subst (λ (k : ℕ). AllByRecursion IsRaw (plan s.number demo_unit k)) (sym now) (subst (AllByRecursion IsRaw) is (all_more IsRaw (plan s.number demo_unit (turn - 1)) raw raws is_raw));
+      raws = subst (λ (k : ℕ). AllByRecursion IsRaw (plan s.number demo_unit k)) (sym now) (subst (AllByRecursion IsRaw) is (all_push IsRaw (plan s.number demo_unit (turn - 1)) raw raws is_raw));
       few = omega (arith, messages_many s turn, few);
     }
 

@@ -1,9 +1,9 @@
 -- What a market stands for ("Gap Request Proxy", "Spin Servers").
 use Rattle.std.specs.Prelude.{◌≡◌, ◌+◌, ℕ, List, [], drop}
-use Rattle.pitch_model.specs.Advertising.{Operation, accepted_by, advertised_by}
-use Rattle.pitch_model.specs.History.{Raw}
 use Rattle.unit_packets.specs.Packing.{packed}
 use Rattle.gap_store.specs.Look.{View, store_of}
+use Rattle.pitch_model.specs.Advertising.{Operation, accepted_by, advertised_by}
+use Rattle.pitch_model.specs.History.{Raw}
 use Rattle.spin_server.specs.Shelves.{Shelf}
 use Rattle.spin_server.specs.Stands.{ShelfStands}
 use Rattle.venue_core.specs.Stands.{Stands}

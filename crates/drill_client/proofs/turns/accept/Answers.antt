@@ -4,7 +4,6 @@ use Rattle.pitch_model.specs.History.{Raw}
 use Rattle.unit_market.specs.Markets.{Journal, MarketHas}
 use Rattle.venue_core.specs.Commands.{raw_of}
 use Rattle.drill_client.specs.Turns.{journal_at}
-use Rattle.drill_client.proofs.Playing.{plan_step}
 use Rattle.drill_client.proofs.turns.accept.Goals as goal
 
 pub returns-in-Ok : goal.returns-in-Ok

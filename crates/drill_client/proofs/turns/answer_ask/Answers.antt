@@ -1,7 +1,7 @@
 use Rattle.std.proofs.Common.{◌++◌, Some, sym, subst}
 use Rattle.pitch_model.specs.declared.ask.Ask.{Ask}
 use Rattle.unit_market.specs.Views.{image_view}
-use Rattle.unit_market.specs.Markets.{kept_view, image_view}
+use Rattle.unit_market.specs.Markets.{kept_view}
 use Rattle.drill_client.specs.Following.{Follows}
 use Rattle.drill_client.specs.Answered.{heard_of_ask}
 use Rattle.drill_client.proofs.turns.answer_ask.Goals as goal
