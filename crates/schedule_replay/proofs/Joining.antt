@@ -6,7 +6,8 @@ use Rattle.std.proofs.lemmas.Bool.{cases_Bool, cases_eq, cases_lt, eq-eqb, ne_eq
 use Rattle.std.proofs.lemmas.Grind.{reverse_onto}
 use Rattle.std.proofs.lemmas.List.{append-nil, drop-drop, drop_all}
 use Rattle.std.proofs.lemmas.List.Elements.{filter-append}
-use Rattle.std.proofs.lemmas.Option.{slice_get_past}
+use Rattle.std.proofs.lemmas.Option.{slice_get_past, same_Some}
+use Rattle.pitch_fields.proofs.Lists.{get_set}
 use Rattle.feed_lines.specs.Texts.{texts_after}
 use Rattle.feed_lines.proofs.Texts.{texts_none, texts_first}
 use Rattle.pitch_text.specs.declared.verb.ScheduleEntry.{ScheduleEntry}
@@ -33,20 +34,12 @@ Items = List (Result ScheduleEntry TextError)
 
 -- ---- Places
 
-slice_set_same : {X : Type 0} (xs : List X) (i : ℕ) (y : X) → i < length xs → slice_get (set xs i y) i ≡ Some y
-slice_set_same [] i y lt = absurd (omega arith)
-slice_set_same (x ∷ xs) zero y lt = refl
-slice_set_same (x ∷ xs) (suc i) y lt = slice_set_same xs i y (omega arith)
-
 slice_set_other : {X : Type 0} (xs : List X) (i j : ℕ) (y : X) → i ≢ j → slice_get (set xs i y) j ≡ slice_get xs j
 slice_set_other [] i j y other = refl
 slice_set_other (x ∷ xs) zero zero y other = absurd (other refl)
 slice_set_other (x ∷ xs) zero (suc j) y other = refl
 slice_set_other (x ∷ xs) (suc i) zero y other = refl
 slice_set_other (x ∷ xs) (suc i) (suc j) y other = slice_set_other xs i j y (λ e. other (omega arith))
-
-some_one : {X : Type 0} (x y : X) → ◌≡◌ {A = Option X} (Some x) (Some y) → x ≡ y
-some_one x y h = cc
 
 -- what is left of a run that was not put together yet
 abbrev first_left : UnitRun → Unmerged
@@ -61,11 +54,11 @@ run_put parts places lefts run low lower are ran = record {
   each = λ unit world there. elim (cases_eq run.unit unit) [
     | inl same ↦
         let here : slice_get (set places run.unit run.world) run.unit ≡ Some (Some world) = ap (slice_get (set places run.unit run.world)) same ∙ there in
-        let its : run.world ≡ Some world = some_one run.world (Some world) (sym (slice_set_same places run.unit run.world low) ∙ here) in
+        let its : run.world ≡ Some world = same_Some run.world (Some world) (sym (get_set places run.unit run.world low) ∙ here) in
         record {
           are = subst (λ (u : ℕ). ArePartsOf u parts) same ran.are;
           done = subst (λ (w : Option World). IsPlace (reverse (part_entries unit parts)) unit w) its (subst (λ (u : ℕ). IsPlace (reverse (part_entries u parts)) u run.world) same ran.done);
-          texts = ap (λ (u : ℕ). pieces_on (slice_get (set lefts run.unit (first_left run)) u)) (sym same) ∙ ap pieces_on (slice_set_same lefts run.unit (first_left run) lower)
+          texts = ap (λ (u : ℕ). pieces_on (slice_get (set lefts run.unit (first_left run)) u)) (sym same) ∙ ap pieces_on (get_set lefts run.unit (first_left run) lower)
               ∙ ran.texts ∙ ap (λ (u : ℕ). part_texts u [] parts) same;
         }
     | inr other ↦
@@ -93,10 +86,6 @@ puts_none parts places lefts none many = record {
 }
 
 -- ---- All of a list, from its last element
-
-pub all_last : {X : Type 0} (P : X → Type 0) (xs : List X) (x : X) → AllByRecursion P (xs ++ x ∷ []) → AllByRecursion P xs × P x
-all_last P [] x all = (tt, all.0)
-all_last P (y ∷ xs) x all = let rest = all_last P xs x all.1 in ((all.0, rest.0), rest.1)
 
 pub all_at : {X : Type 0} (P : X → Type 0) (xs : List X) → ((n : ℕ) → IfSome (slice_get xs n) P) → AllByRecursion P xs
 all_at P [] each = tt
@@ -338,7 +327,7 @@ drop_there {X} [] i x at = absurd (none_some (sym (slice_get_past [] i (omega ar
   where
     none_some : ◌≡◌ {A = Option X} None (Some x) → ⊥
     none_some h = cc
-drop_there {X} (y ∷ xs) zero x at = ap (λ (z : X). z ∷ xs) (some_one y x at)
+drop_there {X} (y ∷ xs) zero x at = ap (λ (z : X). z ∷ xs) (same_Some y x at)
 drop_there {X} (y ∷ xs) (suc i) x at = let e : suc (i + 1) ≡ suc i + 1 = omega arith in drop_there xs i x at ∙ ap (λ (n : ℕ). x ∷ drop n (y ∷ xs)) e
 
 -- the next text, and those after it
@@ -361,7 +350,7 @@ taken_at lefts unit left left' lt at taken v = elim (cases_eq unit v) [
   | inl same ↦
       ap (λ (b : Bool). cond b (drop 1 (pieces_at lefts v)) (pieces_at lefts v)) (eq-eqb unit v same)
       ∙ ap (λ (n : ℕ). drop 1 (pieces_at lefts n)) (sym same) ∙ ap (λ (o : Option Unmerged). drop 1 (pieces_on o)) at ∙ sym taken
-      ∙ ap pieces_on (sym (slice_set_same lefts unit left' lt)) ∙ ap (pieces_at (set lefts unit left')) same
+      ∙ ap pieces_on (sym (get_set lefts unit left' lt)) ∙ ap (pieces_at (set lefts unit left')) same
   | inr other ↦
       ap (λ (b : Bool). cond b (drop 1 (pieces_at lefts v)) (pieces_at lefts v)) (ne_eqb unit v other) ∙ ap pieces_on (sym (slice_set_other lefts unit v left' other))
 ]

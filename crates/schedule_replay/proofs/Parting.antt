@@ -3,8 +3,9 @@ use Rattle.std.proofs.Common.{◌≡◌, ◌≢◌, ℕ, zero, suc, ◌+◌, ◌
 use Rattle.std.specs.Prelude.{option_map}
 use Rattle.std.specs.List.{cons_option, AllByRecursion, slice_get}
 use Rattle.std.proofs.lemmas.Bool.{cases_eq, eq-eqb, ne_eqb}
-use Rattle.std.proofs.lemmas.List.{append-nil, reverse-append, take_all, take-append-le, drop-append-le, length-drop, nil_from_length}
+use Rattle.std.proofs.lemmas.List.{append-nil, reverse-append, take_all, take-append-le, drop-append-le, length-drop, nil_from_length, map_push}
 use Rattle.std.proofs.lemmas.Option.{slice_get_past}
+use Rattle.pitch_fields.proofs.Lists.{all_push}
 use Rattle.feed_lines.specs.Texts.{texts_after}
 use Rattle.feed_lines.proofs.Texts.{texts_none, texts_more, reverse_more}
 use Rattle.pitch_text.specs.ScheduleGrammar.{entry, schedule_entry}
@@ -71,10 +72,6 @@ good_more (x ∷ es) e more = ap (λ (xs : Items). Ok x ∷ xs) (good_more es e 
 
 -- ---- All of a list
 
-pub all_more : {X : Type 0} (P : X → Type 0) (xs : List X) (x : X) → AllByRecursion P xs → P x → AllByRecursion P (xs ++ x ∷ [])
-all_more P [] x all here = (here, tt)
-all_more P (y ∷ xs) x all here = (all.0, all_more P xs x all.1 here)
-
 own_later : (unit k : ℕ) (es : List ScheduleEntry) → AllByRecursion (λ (e : ScheduleEntry). e.unit ≡ unit) es → AllByRecursion (λ (e : ScheduleEntry). e.unit ≡ unit) (map (later k) es)
 own_later unit k [] all = tt
 own_later unit k (e ∷ es) all = (all.0, own_later unit k es all.1)
@@ -102,21 +99,17 @@ pub formed_next : (unit lines : ℕ) (items left more : Items) (item : Result Sc
     → Going unit lines items left first place old new → IsWellFormed e.unit e.verb
 formed_next unit lines items left more item e first place old new at is g = (subst AreWellFormed (at ∙ ap (λ (i : Result ScheduleEntry TextError). i ∷ more) is) g.formed).0
 
-map_more : {X Y : Type 0} (f : X → Y) (xs : List X) (x : X) → map f (xs ++ x ∷ []) ≡ map f xs ++ f x ∷ []
-map_more f [] x = refl
-map_more {Y = Y} f (y ∷ xs) x = ap (λ (l : List Y). f y ∷ l) (map_more f xs x)
-
 pub goes_more : (unit lines : ℕ) (items left more : Items) (item : Result ScheduleEntry TextError) (e : ScheduleEntry) (first place place' : Option World) (old new new' : List ℕ) → left ≡ item ∷ more → item ≡ Ok e
     → e.unit ≡ unit → ((before : List ScheduleEntry) → IsPlace before e.unit place → IsPlace (later lines e ∷ before) e.unit place') → ((before : List ScheduleEntry) → IsPlace before e.unit place → new' ≡ new ++ replay_line before (later lines e))
     → Going unit lines items left first place old new → Going unit lines items more first place' old new'
 goes_more unit lines items left more item e first place place' old new new' at is own place_goes text_goes g =
     let front : left ≡ Ok e ∷ more = at ∙ ap (λ (i : Result ScheduleEntry TextError). i ∷ more) is in
-    let grown : map (later lines) (g.passed ++ e ∷ []) ≡ map (later lines) g.passed ++ later lines e ∷ [] = map_more (later lines) g.passed e in
+    let grown : map (later lines) (g.passed ++ e ∷ []) ≡ map (later lines) g.passed ++ later lines e ∷ [] = map_push (later lines) g.passed e in
     record {
       passed = g.passed ++ e ∷ [];
       split = g.split ∙ ap (λ (l : Items). without_fault g.passed ++ l) front ∙ good_more g.passed e more;
       formed = (subst AreWellFormed front g.formed).1;
-      own = all_more (λ (x : ScheduleEntry). x.unit ≡ unit) g.passed e g.own own;
+      own = all_push (λ (x : ScheduleEntry). x.unit ≡ unit) g.passed e g.own own;
       goes = λ before first_is.
           let so_far = g.goes before first_is in
           let lines_before : List ScheduleEntry = reverse (map (later lines) g.passed) ++ before in
@@ -352,7 +345,7 @@ pub walks_more : (text : List ℕ) (unit : ℕ) (list : List Stretch) (i : ℕ) 
 unfolding Walking
 walks_more text unit list i s part first run run' at is same goes w =
     let grown : unit_parts text unit (take (i + 1) list) ≡ unit_parts text unit (take i list) ++ part_at text unit s ∷ [] =
-    ap (unit_parts text unit) (take_there list i s at) ∙ map_more (part_at text unit) (take i list) s in (
+    ap (unit_parts text unit) (take_there list i s at) ∙ map_push (part_at text unit) (take i list) s in (
       same ∙ w.0,
       λ start.
           let here : Ran (unit_parts text unit (take i list) ++ record { unit = run.unit; items = items_at (s.before + 1) part } ∷ []) run' = goes (unit_parts text unit (take i list)) (w.1 start) in

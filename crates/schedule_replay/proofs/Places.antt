@@ -6,7 +6,7 @@ use Rattle.std.specs.List.Sorted.{IsStrictlySortedBy}
 use Rattle.std.specs.Ordering.{nat_cmp}
 use Rattle.std.specs.Set.{is_member}
 use Rattle.std.specs.declared.cmp.Ordering.TheVariants.{Less}
-use Rattle.std.proofs.lemmas.Bool.{cond-true, cond-false, eq-eqb, ne_eqb, cases_eq}
+use Rattle.std.proofs.lemmas.Bool.{cond-true, cond-false, eq-eqb, ne_eqb, cases_eq, or_right}
 use Rattle.std.proofs.lemmas.Bool.Decides.{nat_tests}
 use Rattle.std.proofs.lemmas.List.{get_or-set_same, get_or-set_other}
 use Rattle.std.proofs.lemmas.Map.Keys.{IsStrictlyIncreasing-from_sorted}
@@ -117,10 +117,6 @@ worlds_each n (Some world ∷ places) before each =
     let e : n + 0 ≡ n = omega arith in
     let here : IsPlace before n (Some world) = subst (λ (u : ℕ). IsPlace before u (Some world)) e (each 0 (Some world) refl) in
     (here, worlds_each (n + 1) places before (λ i place at. let e : n + suc i ≡ (n + 1) + i = omega arith in subst (λ (u : ℕ). IsPlace before u place) e (each (suc i) place at)))
-
-or_right : (a b : Bool) → b ≡ true → (a || b) ≡ true
-or_right true b h = refl
-or_right false b h = h
 
 units_all : (n : ℕ) (places : List (Option World)) (i : ℕ) (world : World) → slice_get places i ≡ Some (Some world) → is_member eqb (units_in n places) (n + i) ≡ true
 unfolding units_in

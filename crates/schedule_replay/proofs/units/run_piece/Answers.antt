@@ -1,8 +1,8 @@
 use Rattle.std.proofs.Common.{sym, subst}
 use Rattle.std.specs.List.{AllByRecursion}
+use Rattle.pitch_fields.proofs.Lists.{all_push}
 use Rattle.schedule_replay.specs.Runs.{Ran}
 use Rattle.schedule_replay.specs.Stretches.{parts_of}
-use Rattle.schedule_replay.proofs.Parting.{all_more}
 use Rattle.schedule_replay.proofs.units.run_piece.Goals as goal
 
 pub units-init : goal.units-init
@@ -11,4 +11,4 @@ units-init g c = λ all listed. subst (AllByRecursion (Ran (parts_of c.args.text
 pub units-preserved : goal.units-preserved
 units-preserved g c = λ all listed.
     subst (AllByRecursion (Ran (parts_of c.args.text.now all))) (sym c.in_ok-push.ensures.items)
-    (all_more (Ran (parts_of c.args.text.now all)) c.units.runs.items _ (c.units.invariant all listed) (c.in_ok-run.ensures all listed))
+    (all_push (Ran (parts_of c.args.text.now all)) c.units.runs.items _ (c.units.invariant all listed) (c.in_ok-run.ensures all listed))
