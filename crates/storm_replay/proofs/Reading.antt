@@ -3,6 +3,7 @@ use Rattle.std.proofs.Common.{◌≡◌, ℕ, zero, suc, ◌-◌, ◌%◌, ◌^�
 use Rattle.std.specs.List.{AllByRecursion}
 use Rattle.std.proofs.lemmas.Bool.{cond_both, and_parts}
 use Rattle.std.proofs.lemmas.Bool.Decides.{nat_tests}
+use Rattle.pitch_fields.proofs.Lists.{all_append}
 use Rattle.pitch_io.specs.declared.line.Line.{Line}
 use Rattle.pitch_text.specs.declared.verb.Verb.{Verb}
 use Rattle.pitch_text.specs.WellFormed.{IsVerb, IsWellFormed}
@@ -14,10 +15,6 @@ use Rattle.storm_replay.specs.Parts.{IsPart}
 use Rattle.storm_replay.specs.Parts.{part_verbs, part_by_each}
 use Rattle.storm_replay.specs.Storm.{arrival, arrives_late, tenth_verbs, step_verbs, entries_for, storm_steps, storm_entries, by_each}
 use Rattle.storm_replay.proofs.Storms.{plan_given}
-
-joined : {A : Type 0} (P : A → Type 0) (xs ys : List A) → AllByRecursion P xs → AllByRecursion P ys → AllByRecursion P (xs ++ ys)
-joined P [] ys all more = more
-joined P (x ∷ xs) ys all more = (all.0, joined P xs ys all.1 more)
 
 unit_given : (unit : ℕ) (verbs : List Verb) → 1 ≤ unit → unit ≤ 64 → AllByRecursion IsVerb verbs → AreGiven (entries_for unit verbs)
 unit_given unit [] low high all = tt
@@ -41,8 +38,8 @@ step_given number unit index some few = (
   plan_given number unit index (omega (arith, few)),
   (
     tt,
-    joined IsVerb _ _ (arrival_given _ index (not (is_lost number unit index 1)) (λ t. some) (omega (arith, few)))
-        (joined IsVerb _ _ (arrival_given _ (index - 3) (arrives_late number unit index) (late_index number unit index) (omega (arith, few))) (tenth_given index)),
+    all_append IsVerb _ _ (arrival_given _ index (not (is_lost number unit index 1)) (λ t. some) (omega (arith, few)))
+        (all_append IsVerb _ _ (arrival_given _ (index - 3) (arrives_late number unit index) (late_index number unit index) (omega (arith, few))) (tenth_given index)),
   ),
 )
 
@@ -55,19 +52,19 @@ units_given : (number units : ℕ) (part : Part) → units ≤ 64 → IsPart par
 unfolding by_each
 units_given number zero part few small = tt
 units_given number (suc unit) part few small =
-    joined _ (part_by_each number unit part) (entries_for (suc unit) (part_verbs number part (suc unit))) (units_given number unit part (omega (arith, few)) small)
+    all_append _ (part_by_each number unit part) (entries_for (suc unit) (part_verbs number part (suc unit))) (units_given number unit part (omega (arith, few)) small)
     (unit_given (suc unit) (part_verbs number part (suc unit)) (omega arith) few (part_given number (suc unit) part small))
 
 steps_given : (number units steps : ℕ) → units ≤ 64 → steps ≤ 10000 → AreGiven (storm_steps number units steps)
 unfolding storm_steps
 steps_given number units zero few low = tt
 steps_given number units (suc index) few low =
-    joined _ (storm_steps number units index) (part_by_each number units (Step (suc index))) (steps_given number units index few (omega (arith, low))) (units_given number units (Step (suc index)) few (omega arith, low))
+    all_append _ (storm_steps number units index) (part_by_each number units (Step (suc index))) (steps_given number units index few (omega (arith, low))) (units_given number units (Step (suc index)) few (omega arith, low))
 
 pub storm_given : (number units steps : ℕ) → units ≤ 16 → steps ≤ 10000 → AreGiven (storm_entries number units steps)
 storm_given number units steps few low =
-    joined _ (part_by_each number units Start) (storm_steps number units steps ++ part_by_each number units (End steps)) (units_given number units Start (omega (arith, few)) tt)
-    (joined _ (storm_steps number units steps) (part_by_each number units (End steps)) (steps_given number units steps (omega (arith, few)) low) (units_given number units (End steps) (omega (arith, few)) low))
+    all_append _ (part_by_each number units Start) (storm_steps number units steps ++ part_by_each number units (End steps)) (units_given number units Start (omega (arith, few)) tt)
+    (all_append _ (storm_steps number units steps) (part_by_each number units (End steps)) (steps_given number units steps (omega (arith, few)) low) (units_given number units (End steps) (omega (arith, few)) low))
 
 -- the lines of what a unit does in a part are ones that a schedule may have
 pub part_well_formed : (unit : ℕ) (verbs : List Verb) → 1 ≤ unit → unit ≤ 16 → AllByRecursion IsVerb verbs → AllByRecursion (IsWellFormed unit) verbs

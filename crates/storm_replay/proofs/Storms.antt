@@ -4,6 +4,7 @@ use Rattle.std.specs.List.{AllByRecursion, slice_get}
 use Rattle.std.proofs.lemmas.Bool.{cond_both}
 use Rattle.std.proofs.lemmas.List.{map-append, append-nil}
 use Rattle.std.proofs.lemmas.List.Concat.{flat_map-append}
+use Rattle.std.proofs.lemmas.Option.{same_Some}
 use Rattle.pitch_fields.specs.declared.side.Side.{Side}
 use Rattle.pitch_fields.specs.declared.side.Side.TheVariants.{Buy, Sell}
 use Rattle.pitch_text.specs.declared.verb.Verb.{Verb}
@@ -73,13 +74,10 @@ put_after old new more xs ys zs e f g = f ∙ ap (λ (l : List ℕ). l ++ ys) e 
 none_some : (v : Verb) → ◌≡◌ {A = Option Verb} None (Some v) → ⊥
 none_some v e = cc
 
-some_same : (v w : Verb) → Some v ≡ Some w → v ≡ w
-some_same v w e = cc
-
 -- the lines of one more verb
 lines_taken : (unit : ℕ) (verbs : List Verb) (i : ℕ) (v : Verb) → slice_get verbs i ≡ Some v → lines_text (entries_for unit (take i verbs)) ++ (entry_text unit v ++ 10 ∷ []) ≡ lines_text (entries_for unit (take (suc i) verbs))
 lines_taken unit [] i v at = absurd (none_some v at)
-lines_taken unit (w ∷ verbs) zero v at = rw append-nil (ap (λ (x : Verb). entry_text unit x ++ 10 ∷ []) (sym (some_same w v at)))
+lines_taken unit (w ∷ verbs) zero v at = rw append-nil (ap (λ (x : Verb). entry_text unit x ++ 10 ∷ []) (sym (same_Some w v at)))
 lines_taken unit (w ∷ verbs) (suc i) v at =
     append_assoc (entry_text unit w ++ 10 ∷ []) (lines_text (entries_for unit (take i verbs))) (entry_text unit v ++ 10 ∷ [])
     ∙ ap (λ (l : List ℕ). (entry_text unit w ++ 10 ∷ []) ++ l) (lines_taken unit verbs i v at)
@@ -89,11 +87,6 @@ pub verbs_step : (unit : ℕ) (verbs : List Verb) (i j : ℕ) (v : Verb) (old ne
 verbs_step unit verbs i j v old new more at e is put =
     put_after old new more (lines_text (entries_for unit (take i verbs))) (entry_text unit v ++ 10 ∷ []) (lines_text (entries_for unit (take j verbs))) is put
     (lines_taken unit verbs i v at ∙ ap (λ (k : ℕ). lines_text (entries_for unit (take k verbs))) (sym e))
-
-pub given_one : (P : Verb → Type 0) (verbs : List Verb) (i : ℕ) (v : Verb) → AllByRecursion P verbs → slice_get verbs i ≡ Some v → P v
-given_one P [] i v all at = absurd (none_some v at)
-given_one P (w ∷ verbs) zero v all at = subst P (some_same w v at) all.0
-given_one P (w ∷ verbs) (suc i) v all at = given_one P verbs i v all.1 at
 
 pub units_step : (number unit next : ℕ) (part : Part) (old new more : List ℕ) → next ≡ suc unit → new ≡ old ++ lines_text (part_by_each number unit part) → more ≡ new ++ lines_text (entries_for next (part_verbs number part next))
     → more ≡ old ++ lines_text (part_by_each number next part)

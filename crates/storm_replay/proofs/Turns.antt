@@ -5,10 +5,10 @@ use Rattle.std.specs.List.Sorted.{IsStrictlySortedBy}
 use Rattle.std.specs.Ordering.{nat_cmp}
 use Rattle.std.specs.Set.{is_member}
 use Rattle.std.specs.declared.cmp.Ordering.TheVariants.{Less}
-use Rattle.std.proofs.lemmas.Bool.{eq-eqb, cases_eq}
+use Rattle.std.proofs.lemmas.Bool.{eq-eqb, cases_eq, or_right}
 use Rattle.std.proofs.lemmas.Bool.Decides.{nat_tests}
 use Rattle.std.proofs.lemmas.Map.Keys.{IsStrictlyIncreasing-from_sorted}
-use Rattle.std.proofs.lemmas.Option.{none-some, slice_get_past}
+use Rattle.std.proofs.lemmas.Option.{none-some, slice_get_past, same_Some}
 use Rattle.pitch_text.specs.declared.verb.ScheduleEntry.{ScheduleEntry}
 use Rattle.pitch_text.specs.declared.verb.Verb.{Verb}
 use Rattle.text_lines.specs.Text.{TextFault, entries_of}
@@ -24,10 +24,6 @@ use Rattle.world_model.specs.declared.limits.Limits.{Limits}
 use Rattle.world_model.specs.declared.world.World.{World}
 
 -- ---- Numbers that rise
-or_right : (a b : Bool) → b ≡ true → (a || b) ≡ true
-or_right true b h = refl
-or_right false b h = h
-
 count_above : (m n k : ℕ) → m < n → AllByRecursion (λ y. nat_cmp m y ≡ Less) (counting n k)
 unfolding counting
 count_above m n zero lt = tt
@@ -54,15 +50,12 @@ turns_many before n zero (w ∷ ws) are = absurd are
 turns_many before n (suc k) [] are = absurd are
 turns_many before n (suc k) (w ∷ ws) are = let e = turns_many before (n + 1) k ws are.1 in omega (arith, e)
 
-some_world : (w v : World) → Some w ≡ Some v → w ≡ v
-some_world w v e = cc
-
 turns_each : (before : List ScheduleEntry) (n k : ℕ) (ws : List World) (i : ℕ) (world : World) → AreWorldsOf before (counting n k) ws → slice_get ws i ≡ Some world → IsWorldOf before (n + i) world
 unfolding counting
 turns_each before n k [] i world are at = absurd (none-some world (sym (slice_get_past [] i (omega arith)) ∙ at))
 turns_each before n zero (w ∷ ws) i world are at = absurd are
 turns_each before n (suc k) (w ∷ ws) zero world are at =
-    let e : n ≡ n + 0 = omega arith in subst (λ (u : ℕ). IsWorldOf before u world) e (subst (IsWorldOf before n) (some_world w world at) are.0)
+    let e : n ≡ n + 0 = omega arith in subst (λ (u : ℕ). IsWorldOf before u world) e (subst (IsWorldOf before n) (same_Some w world at) are.0)
 turns_each before n (suc k) (w ∷ ws) (suc i) world are at =
     let e : (n + 1) + i ≡ n + suc i = omega arith in subst (λ (u : ℕ). IsWorldOf before u world) e (turns_each before (n + 1) k ws i world are.1 at)
 
