@@ -2,6 +2,7 @@
 use Rattle.std.proofs.Common.{◌≡◌, ℕ, zero, suc, ◌+◌, ◌≤◌, ◌<◌, inl, inr, Bool, true, false, ◌||◌, ◌==◌, cond, List, [], ◌∷◌, ◌++◌, eqb, ltb, refl, sym, ap, ◌∙◌, arith, append_assoc}
 use Rattle.std.proofs.lemmas.List.{append-nil}
 use Rattle.std.proofs.lemmas.Bool.{cases_eq, cases_lt, eq-eqb, ne_eqb, lt-ltb, le-ltb, cond-true, cond-false}
+use Rattle.std.proofs.Math.Bool.{or-true}
 use Rattle.unit_packets.specs.Blocks.{Block}
 use Rattle.heard_items.specs.Units.{with_number, units_of}
 use Rattle.stream_print.specs.Rising.{named_below}
@@ -109,9 +110,5 @@ none_below (suc n) = ap (λ (l : List ℕ). l ++ []) (none_below n)
 pub units_below : (n : ℕ) (before : List Block) → ((unit : ℕ) → is_named before unit ≡ true → unit < n) → units_of before ≡ named_below (is_named before) n
 units_below n [] low = sym (none_below n)
 units_below n (block ∷ before) low =
-    ap (with_number block.unit) (units_below n before (λ unit named. low unit (ap (λ (b : Bool). (unit == block.unit) || b) named ∙ or_true (unit == block.unit))))
+    ap (with_number block.unit) (units_below n before (λ unit named. low unit (ap (λ (b : Bool). (unit == block.unit) || b) named ∙ or-true (unit == block.unit))))
     ∙ put_in block.unit (is_named before) n (low block.unit (ap (λ (b : Bool). b || is_named before block.unit) (eq-eqb block.unit block.unit refl)))
-  where
-    or_true : (b : Bool) → (b || true) ≡ true
-    or_true true = refl
-    or_true false = refl

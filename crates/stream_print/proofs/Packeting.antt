@@ -6,6 +6,7 @@ use Rattle.std.proofs.lemmas.Bool.{cases_Bool, lt-ltb}
 use Rattle.std.proofs.lemmas.List.{append-nil, drop-drop}
 use Rattle.std.proofs.lemmas.List.Concat.{flat_map-cons}
 use Rattle.std.proofs.lemmas.List.Sums.{sum_by_push}
+use Rattle.std.proofs.Math.Bool.{or-true}
 use Rattle.unit_packets.specs.Blocks.{Block}
 use Rattle.unit_packets.specs.Causes.{counted}
 use Rattle.unit_packets.specs.Cutting.{blocks_of, rest_of}
@@ -46,11 +47,7 @@ empty_is_faulty : (d : List ℕ) → length d ≡ 0 → is_faulty d ≡ true
 empty_is_faulty d none = ap (λ (n : ℕ). n == 0 || nat_lt 0 (length (rest_of d))) none
 
 rest_is_faulty : (d : List ℕ) → 0 < length (rest_of d) → is_faulty d ≡ true
-rest_is_faulty d some = ap (λ (b : Bool). length d == 0 || b) (lt-ltb 0 (length (rest_of d)) some) ∙ or_true (length d == 0)
-  where
-    or_true : (b : Bool) → (b || true) ≡ true
-    or_true true = refl
-    or_true false = refl
+rest_is_faulty d some = ap (λ (b : Bool). length d == 0 || b) (lt-ltb 0 (length (rest_of d)) some) ∙ or-true (length d == 0)
 
 whole_is_sound : (d : List ℕ) → (length d == 0) ≡ false → length (rest_of d) ≡ 0 → is_faulty d ≡ false
 whole_is_sound d some none = ap (λ (b : Bool). b || nat_lt 0 (length (rest_of d))) some ∙ ap (λ (n : ℕ). nat_lt 0 n) none

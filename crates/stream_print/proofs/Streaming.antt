@@ -1,6 +1,7 @@
 -- Blocks that are printed one after another, and packets that are.
 use Rattle.std.proofs.Common.{◌≡◌, ℕ, ◌+◌, ◌-◌, ◌*◌, ◌≤◌, ◌==◌, Bool, true, false, cond, List, [], ◌∷◌, ◌++◌, length, drop, reverse, refl, sym, ap, ◌∙◌, subst, arith, append_assoc, Option}
 use Rattle.std.proofs.lemmas.List.{append-nil, length-drop, reverse-append}
+use Rattle.pitch_fields.proofs.Lists.{reverse_then}
 use Rattle.unit_packets.specs.Blocks.{Block}
 use Rattle.unit_packets.specs.Cutting.{blocks_of, rest_of}
 use Rattle.unit_packets.specs.Lending.{header_for}
@@ -32,9 +33,6 @@ use Rattle.stream_print.proofs.Flow.{grows_none}
 use Rattle.stream_print.proofs.Printing.{prints_none, such_more, such_then}
 
 -- ---- Texts and blocks
-reverse_then : (xs : List Block) (b : Block) (before : List Block) → reverse (xs ++ b ∷ []) ++ before ≡ b ∷ (reverse xs ++ before)
-reverse_then xs b before = ap (λ (bs : List Block). bs ++ before) (reverse_more xs b)
-
 pub texts_append : (text : List Block → Block → List ℕ) (before xs ys : List Block) → texts_after text before (xs ++ ys) ≡ texts_after text before xs ++ texts_after text (reverse xs ++ before) ys
 texts_append text before xs [] =
     ap (texts_after text before) (append-nil xs) ∙ sym (append-nil (texts_after text before xs))

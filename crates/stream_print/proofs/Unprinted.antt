@@ -20,11 +20,6 @@ use Rattle.stream_print.specs.declared.failure.PrintError.TheVariants as printin
 use Rattle.stream_print.specs.declared.carrier.Carrier.{Carrier}
 use Rattle.stream_print.specs.declared.stream_form.StreamForm.{StreamForm}
 
--- the answer of a `?` is its error
-pub if_err : {A E : Type 0} (P : E → Type 0) (answer : Result A E) (stop : E) → IsErr answer × IsErrAnd answer (λ s. s ≡ stop) → P stop → IfErr answer P
-if_err P (Ok x) stop is p = tt
-if_err P (Err e) stop is p = subst P (sym is.1) p
-
 pub ends_unwritten : (carrier : Carrier) (form : StreamForm) (most : ℕ) (first now start written : Option (List ℕ)) (e : PrintError) → e ≢ printing.SequencesSpent → WritesSome carrier form (between first now) (between start written)
     → StreamEnds carrier form most (Err (unprinted e)) (between first now) (between start written)
 ends_unwritten carrier form most first now start written printing.SequencesSpent unspent writes = unspent refl

@@ -1,5 +1,6 @@
 use Rattle.std.proofs.Common.{◌≡◌, ◌++◌, ℕ, List, [], ap, ◌∙◌}
 use Rattle.std.specs.List.{flat_map}
+use Rattle.pitch_model.proofs.Results.{at_exit}
 use Rattle.unit_packets.specs.Blocks.{Block}
 use Rattle.unit_packets.specs.declared.header.Header.{Header}
 use Rattle.pitch_model.specs.History.{Raw}
@@ -14,7 +15,6 @@ use Rattle.stream_print.specs.declared.failure.PrintError.TheVariants.{Write, Ou
 use Rattle.stream_print.specs.declared.stream_form.StreamForm.TheVariants as form
 use Rattle.stream_print.specs.declared.task.Task.TheVariants.{Quotes}
 use Rattle.stream_print.proofs.Streaming.{prints_text, puts_text, puts_page, puts_nothing}
-use Rattle.stream_print.proofs.Unprinted.{if_err}
 use Rattle.stream_print.proofs.task.print_quoted.Goals as goal
 
 -- the lines of what was told are those of the block
@@ -27,7 +27,7 @@ quotes_are H unit block before V told made none named is heard empty =
 pub returns-in_err-hear-clause-err : goal.returns-in_err-hear-clause-err
 returns-in_err-hear-clause-err g c =
     let w = g.O.Sink.written c.args.out.now in
-    if_err (λ (e : PrintError). FailsBlock e (Quotes c.args.units.now) c.args.number w c.args.page.now.text w c.args.block.now) c.from_residual.result OutOfMemory c.from_residual.ensures
+    at_exit (λ (e : PrintError). FailsBlock e (Quotes c.args.units.now) c.args.number w c.args.page.now.text w c.args.block.now) c.from_residual.result OutOfMemory c.from_residual.ensures
     (λ before knows is. puts_page (form.Quotes c.args.units.now.limit) before c.args.block.now w w c.args.page.now.text (puts_nothing w c.args.page.now.text))
 
 pub returns-in_err-print_quotes-clause-err : goal.returns-in_err-print_quotes-clause-err
@@ -35,7 +35,7 @@ returns-in_err-print_quotes-clause-err g c =
     let w = g.O.Sink.written c.args.out.now in
     let z = g.O.Sink.written c.print_quotes.new.out in
     let block = c.args.block.now in
-    if_err (λ (e : PrintError). FailsBlock e (Quotes c.args.units.now) c.args.number w c.args.page.now.text z block) c.from_residual-in_err-print_quotes.result Write c.from_residual-in_err-print_quotes.ensures
+    at_exit (λ (e : PrintError). FailsBlock e (Quotes c.args.units.now) c.args.number w c.args.page.now.text z block) c.from_residual-in_err-print_quotes.result Write c.from_residual-in_err-print_quotes.ensures
     (λ before knows is. puts_text (form.Quotes c.args.units.now.limit) before block w z c.args.page.now.text (flat_map (quote_line c.header-unit.result.unit) c.as_slice.result.now) c.in_err-print_quotes.ensures.err
     (λ Vs venues. quotes_are c.args.units.now.limit c.header-unit.result.unit block before (Vs block.unit) c.as_slice.result.now c.hear.new.lines.items c.make-lines.result.items
     (ap (λ (h : Header). h.unit) c.header-unit.ensures) c.as_slice.ensures (c.in_ok-hear.ensures.quotes before image Vs knows venues) c.make-lines.ensures))
