@@ -42,8 +42,3 @@ breaks_by s base calls calls' now call lists failed may plays = record {
   broke = (failed, subst (MayCall s call) (sym plays.1.now_is) may);
   told = told_then base calls calls' call plays.0 plays.1.told lists;
 }
-
--- what holds of the error that a `?` answers
-pub at_exit : {T E : Type 0} (Q : E → Type 0) (r : Result T E) (error : E) → IsErr r × IsErrAnd r (λ e. e ≡ error) → Q error → IfErr r Q
-at_exit Q (Ok x) error is q = tt
-at_exit Q (Err e) error is q = subst Q (sym is.1) q

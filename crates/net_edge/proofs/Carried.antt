@@ -5,6 +5,7 @@ use Rattle.std.specs.FinMap as map
 use Rattle.std.specs.List.{AllByRecursion, Contains}
 use Rattle.std.proofs.lemmas.List.{append-nil}
 use Rattle.std.proofs.lemmas.List.Elements.{All-from_recursion, All-contains, Contains-append_left, Contains-push}
+use Rattle.net_edge.proofs.Spinning.{pumped_link}
 use Rattle.pitch_fields.specs.Fields.{AreBytes}
 use Rattle.pitch_fields.specs.Limits.{last_sequence}
 use Rattle.pitch_io.specs.declared.line.Line.{Line}
@@ -53,10 +54,6 @@ fed_link s bytes (Got count) turn c = refl
 fed_link s bytes Quiet turn c = refl
 fed_link s bytes End turn c = refl
 fed_link s bytes Failed turn c = refl
-
-pumped_link : (n : ℕ) (c : Connection (List Served)) → (pumped_times demo_unit n c).link ≡ c.link
-pumped_link zero c = refl
-pumped_link (suc n) c = pumped_link n c
 
 answered_link : (s : Setting) (bytes : List ℕ) (answer : NetTaken) (turn : ℕ) (goes_on : Bool) (c : Connection (List Served)) → (spin_answered s bytes answer turn goes_on c).link ≡ c.link
 answered_link s bytes answer turn true c = fed_link s bytes answer turn c

@@ -2,6 +2,7 @@
 use Rattle.std.proofs.Common.{◌≡◌, ℕ, ◌+◌, ◌-◌, ◌≤◌, ◌++◌, List, [], ◌∷◌, length, drop, refl, sym, ap, ◌∙◌, subst, arith}
 use Rattle.std.specs.List.{AllByRecursion}
 use Rattle.std.proofs.lemmas.List.{take-append-drop}
+use Rattle.pitch_fields.proofs.Lists.{all_split}
 use Rattle.pitch_fields.specs.Limits.{last_sequence}
 use Rattle.pitch_io.specs.declared.line.Line.{Line}
 use Rattle.pitch_io.specs.declared.line.Line.TheVariants.{A, B, Gap}
@@ -27,10 +28,6 @@ use Rattle.net_edge.specs.Steps.{Step, Did, Beat, Turn}
 use Rattle.net_edge.specs.Turns.{AreSteps, MayCome}
 
 -- ---- The plan's messages
-all_first : {A : Type 0} (P : A → Type 0) (xs ys : List A) → AllByRecursion P (xs ++ ys) → AllByRecursion P xs
-all_first P [] ys all = tt
-all_first P (x ∷ xs) ys all = (all.0, all_first P xs ys all.1)
-
 -- the messages that are accepted after a turn
 abbrev pub later_messages : Setting → ℕ → List Raw
 later_messages s turn = drop (accepted s turn) (all_messages s)
@@ -51,7 +48,7 @@ all_many s = plan_length s.number demo_unit s.count
 
 -- ---- Where they are raws
 pub raws_at : (s : Setting) → AllByRecursion IsRaw (all_messages s) → (turn : ℕ) → AllByRecursion IsRaw (messages s turn)
-raws_at s raws turn = all_first IsRaw (messages s turn) (later_messages s turn) (subst (AllByRecursion IsRaw) (messages_first s turn) raws)
+raws_at s raws turn = (all_split IsRaw (messages s turn) (later_messages s turn) (subst (AllByRecursion IsRaw) (messages_first s turn) raws)).0
 
 -- what the proxy answers are pieces
 pub reply_pieces : (s : Setting) (bytes : List ℕ) (now : Scene) → AllByRecursion IsRaw (messages s now.turn) → length (messages s now.turn) ≤ last_sequence → AreDuePieces s now.turn (proxy_said s bytes now).lines

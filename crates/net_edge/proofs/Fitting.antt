@@ -1,6 +1,7 @@
 -- No datagram that a demo sends is longer than a packer makes one.
 use Rattle.std.proofs.Common.{◌≡◌, ℕ, zero, suc, ◌+◌, ◌-◌, ◌≤◌, ◌++◌, Bool, true, false, ◌||◌, cond, eqb, List, [], ◌∷◌, length, drop, take, replicate, refl, arith, is_some, length-append}
 use Rattle.std.specs.List.{AllByRecursion, concat}
+use Rattle.pitch_fields.proofs.Lists.{all_take, all_drop, all_replicate}
 use Rattle.pitch_io.specs.declared.line.Line.{Line}
 use Rattle.pitch_io.specs.declared.line.Line.TheVariants.{A, B, Gap}
 use Rattle.pitch_io.specs.declared.net.LinkEnd.TheVariants.{GrpClient, GrpServer, SpinClient, SpinServer}
@@ -61,16 +62,6 @@ packed_short (raw ∷ raws) unit sequence begun are fits = by (fits_datagram (be
         short_append (begun_datagrams unit sequence begun) (packed_on unit (sequence_after sequence (length begun)) (raw ∷ []) raws) (begun_short unit sequence begun fits)
         (rest (sequence_after sequence (length begun)) (raw ∷ []) (fits_of (raw ∷ []) (one_fits raw are.0)).size)
 
-raws_after : (n : ℕ) (raws : List Raw) → AllByRecursion IsRaw raws → AllByRecursion IsRaw (drop n raws)
-raws_after zero raws all = all
-raws_after (suc n) [] all = tt
-raws_after (suc n) (raw ∷ raws) all = raws_after n raws all.1
-
-raws_first : (n : ℕ) (raws : List Raw) → AllByRecursion IsRaw raws → AllByRecursion IsRaw (take n raws)
-raws_first zero raws all = tt
-raws_first (suc n) [] all = tt
-raws_first (suc n) (raw ∷ raws) all = (all.0, raws_first n raws all.1)
-
 -- ---- What the proxy sends
 abbrev AreRawsOf : View → Type 0
 AreRawsOf v = AllByRecursion IsRaw v.messages
@@ -79,7 +70,7 @@ range_short : (status unit first count : ℕ) (v : View) → AreRawsOf v → Are
 range_short status unit first count v are = by (eqb status 65)
   where
     by : (b : Bool) → AreShort (cond b (packed unit first (slice_of v first count)) [])
-    by true = packed_short (slice_of v first count) unit first [] (raws_first count (drop (first - 1) v.messages) (raws_after (first - 1) v.messages are)) (omega arith)
+    by true = packed_short (slice_of v first count) unit first [] (all_take IsRaw count (drop (first - 1) v.messages) (all_drop IsRaw (first - 1) v.messages are)) (omega arith)
     by false = tt
 
 message_short : (s : Setup) (there : Bool) (l : Limits) (logged : Bool) (spent : Spent) (v : View) (m : SessionMessage) → AreRawsOf v → AreShort (message_answer s there l logged spent v m).lines
@@ -117,10 +108,6 @@ proxy_short s es bytes source are = by (is_some (closed_of s es))
     by true = tt
     by false = answers_short s source.there source.limits (logged_in s.role es) source.spent source.views (new_items es bytes) are
 
-views_raws : (n : ℕ) (v : View) → AreRawsOf v → AllByRecursion AreRawsOf (replicate n v)
-views_raws zero v are = tt
-views_raws (suc n) v are = (are, views_raws n v are)
-
 -- ---- Where the venue's messages are raws
 module _ (s : Setting) (raws : AllByRecursion IsRaw (all_messages s)) where
   turn_short : (line : Line) (turn : ℕ) → AreShort (copies s line turn ++ beats s turn)
@@ -128,7 +115,7 @@ module _ (s : Setting) (raws : AllByRecursion IsRaw (all_messages s)) where
     where
       by : (b : Bool) → AreShort (cond b [] (new_datagrams s turn))
       by true = tt
-      by false = packed_short (drop (accepted s (turn - 1)) (messages s turn)) demo_unit (accepted s (turn - 1) + 1) [] (raws_after (accepted s (turn - 1)) (messages s turn) (raws_at s raws turn)) (omega arith)
+      by false = packed_short (drop (accepted s (turn - 1)) (messages s turn)) demo_unit (accepted s (turn - 1) + 1) [] (all_drop IsRaw (accepted s (turn - 1)) (messages s turn) (raws_at s raws turn)) (omega arith)
 
       with_beat : (b : Bool) → AreShort (cond b (beat s turn ∷ []) [])
       with_beat true = let long = block_long (record { unit = demo_unit; sequence = accepted s turn + 1; raws = [] }) in (omega (arith, long), tt)
@@ -154,7 +141,7 @@ module _ (s : Setting) (raws : AllByRecursion IsRaw (all_messages s)) where
   replies_short (Did (Take GrpServer room bytes (Got count))) n p =
       let source : Source = source_at s bytes n in
       short_append n.replayed (proxy_answer (grp_server demo_unit) n.grp.server bytes source).lines p
-      (proxy_short (grp_server demo_unit) n.grp.server bytes source (views_raws (length (new_items n.grp.server bytes)) (gap_view s n.turn) (raws_at s raws n.turn)))
+      (proxy_short (grp_server demo_unit) n.grp.server bytes source (all_replicate AreRawsOf (length (new_items n.grp.server bytes)) (gap_view s n.turn) (raws_at s raws n.turn)))
   replies_short (Did (Take GrpServer room bytes Quiet)) n p = p
   replies_short (Did (Take GrpServer room bytes End)) n p = p
   replies_short (Did (Take GrpServer room bytes Failed)) n p = p

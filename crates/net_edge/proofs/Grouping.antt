@@ -1,7 +1,7 @@
 -- Groups of calls.
 use Rattle.std.proofs.Common.{◌≡◌, ℕ, suc, ◌+◌, ◌<◌, ◌≤◌, Bool, true, false, ◌&&◌, ◌||◌, ◌⊎◌, inl, inr, nat_lt, not, eqb, List, [], ◌∷◌, length, refl, ap, sym, ◌∙◌, arith}
 use Rattle.std.specs.List.{list_all}
-use Rattle.std.proofs.lemmas.Bool.{lt-ltb, lt-leb, false≢true}
+use Rattle.std.proofs.lemmas.Bool.{lt-ltb, lt-leb, false≢true, le-ltb}
 use Rattle.std.proofs.lemmas.Bool.Decides.{nat_tests}
 use Rattle.std.proofs.Math.Bool.{and-false}
 use Rattle.pitch_io.specs.declared.net.NetTaken.{NetTaken}
@@ -14,9 +14,6 @@ use Rattle.net_edge.specs.Scene.{is_got}
 pub record Gots (answers : List NetTaken) (count : ℕ) : Type 0 where
   pub many : length answers ≡ count
   pub all : list_all is_got answers ≡ true
-
-not_less : (a b : ℕ) → b ≤ a → nat_lt a b ≡ false
-not_less a b le = lt-leb (suc a) b (omega (arith, le))
 
 pub open_by : (answers : List NetTaken) (count : ℕ) → Gots answers count → count < 100 → is_group_open answers ≡ true
 open_by answers count gots few = ap (λ (b : Bool). b && list_all is_got answers) (lt-ltb (length answers) 100 (omega (arith, gots.many))) ∙ gots.all
@@ -38,7 +35,7 @@ pub ends_group : (answer : NetTaken) (answers : List NetTaken) → is_got answer
 ends_group answer answers nothing = ap (λ (b : Bool). nat_lt (length (answer ∷ answers)) 100 && (b && list_all is_got answers)) nothing ∙ and-false (nat_lt (length (answer ∷ answers)) 100)
 
 pub full_group : (answers : List NetTaken) → Gots answers 100 → IsGroupOver answers
-full_group answers gots = ap (λ (b : Bool). b && list_all is_got answers) (not_less (length answers) 100 (omega (arith, gots.many)))
+full_group answers gots = ap (λ (b : Bool). b && list_all is_got answers) (le-ltb (length answers) 100 (omega (arith, gots.many)))
 
 -- a group is over, whether the end is asked on or not
 pub taken_group : (answers : List NetTaken) (over : Bool) → IsGroupOver answers → AreTaken answers over

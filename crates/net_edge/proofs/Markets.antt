@@ -3,6 +3,7 @@ use Rattle.std.proofs.Common.{◌≡◌, ℕ, zero, suc, ◌+◌, ◌-◌, ◌�
 use Rattle.std.specs.List.{AllByRecursion, slice_get}
 use Rattle.std.proofs.lemmas.List.{drop_all, drop_at}
 use Rattle.pitch_fields.proofs.Lists.{all_push}
+use Rattle.unit_packets.proofs.OnePacking.{no_messages}
 use Rattle.pitch_messages.specs.Raw.{IsRaw}
 use Rattle.unit_packets.specs.Packing.{IsPacking, packed, packed_on}
 use Rattle.pitch_model.specs.History.{Raw}
@@ -10,7 +11,7 @@ use Rattle.pitch_model.specs.Honest.{AreVenues, message_at}
 use Rattle.heard_items.specs.Datagrams.{IsPiece}
 use Rattle.venue_core.specs.Commands.{raw_of}
 use Rattle.venue_core.specs.Plan.{plan, plan_command}
-use Rattle.venue_core.proofs.PlanBooks.{plan_length, plan_next}
+use Rattle.venue_core.proofs.PlanBooks.{plan_length, plan_next, plan_step}
 use Rattle.venue_core.proofs.PlanBytes.{plan_at_place}
 use Rattle.gap_store.specs.Look.{View, Store, store_of}
 use Rattle.session_ends.specs.Events.{Event, Fed}
@@ -31,12 +32,6 @@ use Rattle.net_edge.specs.Due.{Setting, AreDuePieces, demo_unit, kept_messages, 
 use Rattle.net_edge.specs.Markets.{StillHas, SideHas, SideAt, HasAccepted, SpinFed, gap_source}
 use Rattle.net_edge.specs.Scene.{Scene}
 use Rattle.net_edge.proofs.Feeding.{messages_many}
-
--- the plan's messages of one command more
-pub plan_step : (number unit index : ℕ) → 1 ≤ index → plan number unit index ≡ plan number unit (index - 1) ++ raw_of (plan_command number unit index) ∷ []
-plan_step number unit index some =
-    let e : index ≡ suc (index - 1) = omega (arith, some) in
-    plan_next number unit (index - 1) index e
 
 -- ---- The plain side
 -- its store is seen at one view by all messages of a piece
@@ -128,14 +123,11 @@ turn_datagrams s turn raw some within is =
     ∙ ap (λ (k : ℕ). packed demo_unit k (drop (accepted s (turn - 1)) (messages s turn))) first
 
 -- there is none once all were accepted
-none_packed : (unit first : ℕ) → packed unit first [] ≡ []
-unfolding packed_on
-none_packed unit first = refl
 
 pub no_datagrams : (s : Setting) (turn : ℕ) → s.count < turn → [] ≡ new_datagrams s turn
 no_datagrams s turn all =
     let many : length (messages s turn) ≤ accepted s (turn - 1) = omega (arith, messages_many s turn, all) in
-    sym (none_packed demo_unit (accepted s (turn - 1) + 1)) ∙ ap (packed demo_unit (accepted s (turn - 1) + 1)) (sym (drop_all (accepted s (turn - 1)) (messages s turn) many))
+    sym (no_messages demo_unit (accepted s (turn - 1) + 1)) ∙ ap (packed demo_unit (accepted s (turn - 1) + 1)) (sym (drop_all (accepted s (turn - 1)) (messages s turn) many))
 
 -- the message stands at its sequence
 turn_venues : (s : Setting) (turn : ℕ) (raw : Raw) → 1 ≤ turn → turn ≤ s.count → raw ≡ raw_of (plan_command s.number demo_unit turn) → AreVenues (messages s turn) turn (raw ∷ [])

@@ -94,24 +94,6 @@ put_both SpinServer xs ys now = ap (λ (zs : List ℕ). record now { spin_server
 
 -- ---- Some of many
 -- what holds of all holds of one among them
-all_at : {A : Type 0} (P : A → Type 0) (xs : List A) (y : A) (zs : List A) → AllByRecursion P ((xs ++ y ∷ []) ++ zs) → P y
-all_at P [] y zs all = all.0
-all_at P (x ∷ xs) y zs all = all_at P xs y zs all.1
-
--- the first of some lists and one more
-pub bytes_more : (lists : List (Roomy ℕ)) (i : ℕ) (list : Roomy ℕ) → slice_get lists i ≡ Some list → bytes_in (take (i + 1) lists) ≡ bytes_in (take i lists) ++ list.items ∷ []
-bytes_more lists i list at =
-    ap (λ (ls : List (Roomy ℕ)). bytes_in ls) (take_more lists i list (slice_get_within lists i list at))
-    ∙ ap (λ (l : Roomy ℕ). bytes_in (take i lists ++ l ∷ [])) (get_or_from_slice_get lists i list list at)
-    ∙ map-append _ (take i lists) (list ∷ [])
-
-pub bytes_at : (P : List ℕ → Type 0) (lists : List (Roomy ℕ)) (i : ℕ) (list : Roomy ℕ) → slice_get lists i ≡ Some list → AllByRecursion P (bytes_in lists) → P list.items
-bytes_at P lists i list at all =
-    let cut : bytes_in lists ≡ (bytes_in (take i lists) ++ list.items ∷ []) ++ bytes_in (drop (i + 1) lists) =
-    ap (λ (ls : List (Roomy ℕ)). bytes_in ls) (sym (take-append-drop (i + 1) lists))
-    ∙ map-append _ (take (i + 1) lists) (drop (i + 1) lists)
-    ∙ ap (λ (xs : List (List ℕ)). xs ++ bytes_in (drop (i + 1) lists)) (bytes_more lists i list at) in
-    all_at P (bytes_in (take i lists)) list.items (bytes_in (drop (i + 1) lists)) (subst (AllByRecursion P) cut all)
 
 -- of some bytes the next piece was written
 pub put_next : (at : LinkEnd) (bytes piece : List ℕ) (done count : ℕ) (now : Scene) → piece ≡ drop done bytes → end_puts at (take count piece) (end_puts at (take done bytes) now) ≡ end_puts at (take (done + count) bytes) now

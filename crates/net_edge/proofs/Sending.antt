@@ -2,6 +2,7 @@
 use Rattle.std.proofs.Common.{◌≡◌, inl, inr, List, [], ◌∷◌, ◌++◌, Option, None, Some, Result, Ok, Err, OnOk, refl, sym, ◌∙◌, append_assoc}
 use Rattle.std.specs.List.{AllByRecursion}
 use Rattle.std.specs.Result.{IfErr}
+use Rattle.pitch_fields.proofs.Lists.{all_append}
 use Rattle.pitch_io.specs.declared.net.NetDone.TheVariants.{Done, Failed}
 use Rattle.pitch_io.specs.Nets.{Call, Begin, Send, Next, Put, Take}
 use Rattle.pitch_io.specs.Coming.{ListsCall}
@@ -36,10 +37,6 @@ broke_demo s (Some before) None error broke = tt
 broke_demo s (Some before) (Some after) error broke = inr broke
 
 -- ---- What was sent
-all_both : {A : Type 0} (P : A → Type 0) (xs ys : List A) → AllByRecursion P xs → AllByRecursion P ys → AllByRecursion P (xs ++ ys)
-all_both P [] ys a b = b
-all_both P (x ∷ xs) ys a b = (a.0, all_both P xs ys a.1 b)
-
 module _ (s : Setting) where
   call_sends : (call : Call) (now : Scene) → MayCall s call now → SendsPiece s call
   call_sends (Begin answer) now may = tt
@@ -62,7 +59,7 @@ module _ (s : Setting) where
   failed_sends errors.OutOfMemory (call ∷ rest) now off = absurd off
 
   begun_sends : (before after calls : List Call) → AllByRecursion (SendsPiece s) calls → after ≡ calls ++ (Begin Done ∷ before) → SendsPieces s (Some before) (Some after)
-  begun_sends before after calls all is = (calls ++ Begin Done ∷ [], is ∙ sym (append_assoc calls (Begin Done ∷ []) before), all_both (SendsPiece s) calls (Begin Done ∷ []) all (tt, tt))
+  begun_sends before after calls all is = (calls ++ Begin Done ∷ [], is ∙ sym (append_assoc calls (Begin Done ∷ []) before), all_append (SendsPiece s) calls (Begin Done ∷ []) all (tt, tt))
 
   demo_sends : (before after : Option (List Call)) (run : List Step) → AddsCalls run before after → AreSteps s run → SendsPieces s before after
   demo_sends None None run adds steps = tt
@@ -78,7 +75,7 @@ module _ (s : Setting) where
   broke_sends (Some before) (Some after) errors.NetFault (inl failed) = (Begin Failed ∷ [], failed, (tt, tt))
   broke_sends (Some before) (Some after) error (inr broke) =
       begun_sends before after (broke.failed ++ calls_of broke.run)
-      (all_both (SendsPiece s) broke.failed (calls_of broke.run) (failed_sends error broke.failed (scene_of s broke.run) broke.broke) (run_sends broke.run broke.steps)) broke.told
+      (all_append (SendsPiece s) broke.failed (calls_of broke.run) (failed_sends error broke.failed (scene_of s broke.run) broke.broke) (run_sends broke.run broke.steps)) broke.told
 
   -- nothing was called
   pub sends_nothing : (calls : Option (List Call)) → SendsPieces s calls calls

@@ -1,6 +1,8 @@
 -- The venue's side of a shared unit. A server that was told of all, and that has seen no more than all afterwards, answered at just that.
 use Rattle.std.proofs.Common.{◌≡◌, ℕ, zero, suc, ◌-◌, ◌≤◌, Bool, true, false, cond, ◌||◌, List, [], ◌∷◌, ◌++◌, length, replicate, Option, None, Some, refl, sym, ap, ◌∙◌, subst, arith, length-append, slice_get, is_some}
 use Rattle.std.proofs.lemmas.List.{append-nil}
+use Rattle.std.proofs.lemmas.Option.{same_Some}
+use Rattle.venue_core.proofs.Accepting.{last_there}
 use mathlib.Core.List.{IsPrefix}
 use Rattle.pitch_messages.specs.declared.session.SessionMessage.{SessionMessage}
 use Rattle.pitch_messages.specs.declared.session.SessionMessage.TheVariants.{Login, LoginReply, GapRequest, GapReply, SpinAvailable, SpinRequest, SpinReply, SpinFinished}
@@ -9,7 +11,7 @@ use Rattle.pitch_model.specs.History.{Raw}
 use Rattle.pitch_model.proofs.Advertising.{accepted_more, advertised_accept, advertised_advertise}
 use Rattle.gap_store.specs.Look.{View, look}
 use Rattle.gap_store.specs.Looking.{IsLater}
-use Rattle.gap_store.proofs.OneView.{one_view}
+use Rattle.gap_store.proofs.OneView.{one_view, later_both}
 use Rattle.session_ends.specs.Answering.{Answer, Answerer, no_answer, followed, answers}
 use Rattle.session_ends.specs.Hearings.{Rises}
 use Rattle.session_ends.specs.Closing.{Setup, cause_of, closed_of, logged_in, logs_in, login_status}
@@ -35,7 +37,7 @@ use Rattle.spin_server.specs.ShelfViews.{seen_of}
 use Rattle.spin_server.proofs.Serves as serves
 use Rattle.spin_server.proofs.Shelving.{later_both, seen_newest, seen_served}
 use Rattle.shared_unit.specs.Histories.{kept_at, served_at, then_done}
-use Rattle.shared_unit.proofs.Looking.{finds_at, newest_at}
+use Rattle.shared_unit.proofs.Looking.{finds_at, newest_at, messages_later, images_later}
 use Rattle.venue_core.specs.Commands.{raw_of}
 use Rattle.venue_core.specs.Plan.{plan, plan_command}
 use Rattle.venue_core.specs.Stands.{last_of}
@@ -45,22 +47,11 @@ use Rattle.unit_market.specs.Views.{image_view}
 use Rattle.net_edge.specs.Markets.{SharedHas, SpinFed, gap_source}
 
 -- ---- The writer
--- the last message is the one that was accepted last
-last_more : (raws : List Raw) (raw : Raw) → slice_get (raws ++ raw ∷ []) (length raws) ≡ Some raw
-last_more [] raw = refl
-last_more (r ∷ raws) raw = last_more raws raw
-
 last_accepted : (history : List Operation) (raw : Raw) → last_of (accepted_by (then_done history (Accept raw))) ≡ Some raw
-last_accepted history raw =
-    let raws : List Raw = accepted_by history in
-    let e : length (raws ++ raw ∷ []) - 1 ≡ length raws = omega (arith, length-append raws (raw ∷ [])) in
-    ap last_of (accepted_more history (Accept raw)) ∙ ap (slice_get (raws ++ raw ∷ [])) e ∙ last_more raws raw
-
-same_raw : (a b : Raw) → Some a ≡ Some b → a ≡ b
-same_raw a b e = cc
+last_accepted history raw = ap last_of (accepted_more history (Accept raw)) ∙ last_there (accepted_by history) raw
 
 pub accepted_is : (history now : List Operation) (raw last : Raw) → now ≡ then_done history (Accept raw) → Some last ≡ last_of (accepted_by now) → last ≡ raw
-accepted_is history now raw last is at = same_raw last raw (at ∙ ap (λ (h : List Operation). last_of (accepted_by h)) is ∙ last_accepted history raw)
+accepted_is history now raw last is at = same_Some last raw (at ∙ ap (λ (h : List Operation). last_of (accepted_by h)) is ∙ last_accepted history raw)
 
 pub accepted_there : (history now : List Operation) (raw : Raw) → now ≡ then_done history (Accept raw) → None ≡ last_of (accepted_by now) → ⊥
 accepted_there history now raw is none = apart raw (none ∙ ap (λ (h : List Operation). last_of (accepted_by h)) is ∙ last_accepted history raw)
@@ -100,14 +91,6 @@ module _ {V : Type 0} (Later : V → V → Type 0) (order : IsOrder Later) (one 
       rises_nowhere Later order one (at before) now views rises same ∙ ap (λ (v : V). replicate (length views) v) is
 
 -- ---- The proxy
-kept_grows : (kept : ℕ) (h o : List Operation) → IsPrefix h o → IsLater (kept_at kept h) (kept_at kept o)
-kept_grows kept h o begins =
-    let found = finds_at kept h o (kept_at kept h) begins refl 1 1 (look (kept_at kept o) 1 1) refl in
-    subst (IsLater (kept_at kept h)) found.shows found.later
-
-kept_one : (a b : View) → IsLater a b → IsLater b a → b ≡ a
-kept_one a b p q = one_view a b p (omega (arith, ap length p.messages, length-append a.messages p.more, ap length q.messages, length-append b.messages q.more))
-
 abbrev view_of : List Raw → View
 view_of messages = record { messages = messages; kept = kept_messages }
 
@@ -118,17 +101,12 @@ pub proxy_answers : (told before after : List Operation) (kept : ℕ) (messages 
 proxy_answers told before after kept messages advertised es piece old new limits spent counted reply reply' lines lines' is has begins covered feeds =
     let n : ℕ = length (new_items es piece) in
     let views : feeds.views ≡ replicate n (kept_at kept_messages told) =
-    all_one IsLater asked.later_order kept_one (kept_at kept) (kept_grows kept) told before after feeds.views feeds.now begins covered feeds.rises feeds.shows
+    all_one IsLater asked.later_order later_both (kept_at kept) (messages_later kept) told before after feeds.views feeds.now begins covered feeds.rises feeds.shows
     ∙ ap (λ (m : ℕ). replicate m (kept_at kept told)) feeds.each ∙ ap (λ (k : ℕ). replicate n (kept_at k told)) is in
     let all : feeds.views ≡ replicate n (view_of messages) = views ∙ ap (λ (raws : List Raw). replicate n (view_of raws)) has.accepted_is in
     subst (λ (vs : List View). Answered es piece (record { there = true; views = vs; limits = limits; spent = spent }) old new counted reply reply' lines lines') all feeds.answered
 
 -- ---- The Spin Server
-served_grows : (h o : List Operation) → IsPrefix h o → ServedLater (served_at h) (served_at o)
-served_grows h o begins =
-    let newest = newest_at h o (served_at h) begins refl (newest_of (advertised_by o)) refl in
-    subst (ServedLater (served_at h)) newest.shows newest.later
-
 -- a message is answered the same whether all sequences are seen or the last ten
 module _ (s : Setup) (history : List Operation) (spin : Option Spin) where
   request_same : (sequence : ℕ) (spin' : Option Spin) → served_answer s (served_at history) sequence spin' ≡ served_answer s (seen_of history) sequence spin'
@@ -191,7 +169,7 @@ pub spin_answers : (told before after : List Operation) (messages : List Raw) (a
 spin_answers told before after messages advertised es piece old new reply reply' has begins covered feeds =
     let n : ℕ = length (new_items es piece) in
     let views : feeds.views ≡ replicate n (served_at told) =
-    all_one ServedLater serves.later_order later_both served_at served_grows told before after feeds.views feeds.now begins covered feeds.rises feeds.shows
+    all_one ServedLater serves.later_order later_both served_at images_later told before after feeds.views feeds.now begins covered feeds.rises feeds.shows
     ∙ ap (λ (m : ℕ). replicate m (served_at told)) feeds.each in
     let is : seen_of told ≡ image_view messages advertised =
     ap (λ (raws : List Raw). image_view raws (advertised_by told)) has.accepted_is ∙ ap (λ (ns : List ℕ). image_view messages ns) has.advertised_is in

@@ -66,7 +66,7 @@ pumped_up : (n : ℕ) (c : Connection (List Served)) → (pumped_times demo_unit
 pumped_up zero c = refl
 pumped_up (suc n) c = pumped_up n c
 
-pumped_link : (n : ℕ) (c : Connection (List Served)) → (pumped_times demo_unit n c).link ≡ c.link
+pub pumped_link : (n : ℕ) (c : Connection (List Served)) → (pumped_times demo_unit n c).link ≡ c.link
 pumped_link zero c = refl
 pumped_link (suc n) c = pumped_link n c
 

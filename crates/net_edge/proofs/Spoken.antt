@@ -2,6 +2,7 @@
 use Rattle.std.proofs.Common.{ℕ, zero, suc, ◌-◌, ◌≤◌, Bool, true, false, cond, List, [], ◌∷◌, ◌++◌, length, drop, replicate, Option, None, Some, nat_eq, sym, subst, arith}
 use Rattle.std.specs.List.{AllByRecursion}
 use Rattle.std.specs.Set.{is_member}
+use Rattle.pitch_fields.proofs.Lists.{all_append, all_drop, all_replicate}
 use Rattle.pitch_io.specs.declared.line.Line.TheVariants.{A, B, Gap}
 use Rattle.pitch_io.specs.declared.net.LinkEnd.TheVariants.{GrpClient, GrpServer, SpinClient, SpinServer}
 use Rattle.pitch_io.specs.declared.net.NetTaken.{NetTaken}
@@ -32,19 +33,6 @@ use Rattle.net_edge.proofs.Feeding.{later_messages, messages_first, messages_man
 use Rattle.net_edge.proofs.Honesty.{no_pipe}
 
 -- ---- What it sees
-all_both : {A : Type 0} (P : A → Type 0) (xs ys : List A) → AllByRecursion P xs → AllByRecursion P ys → AllByRecursion P (xs ++ ys)
-all_both P [] ys a b = b
-all_both P (x ∷ xs) ys a b = (a.0, all_both P xs ys a.1 b)
-
-all_after : {A : Type 0} (P : A → Type 0) (n : ℕ) (xs : List A) → AllByRecursion P xs → AllByRecursion P (drop n xs)
-all_after P zero xs all = all
-all_after P (suc n) [] all = tt
-all_after P (suc n) (x ∷ xs) all = all_after P n xs all.1
-
-all_same : {A : Type 0} (P : A → Type 0) (n : ℕ) (x : A) → P x → AllByRecursion P (replicate n x)
-all_same P zero x is = tt
-all_same P (suc n) x is = (is, all_same P n x is)
-
 abbrev AreWithin : ℕ → List ℕ → Type 0
 AreWithin top ns = AllByRecursion (λ n. n ≤ top) ns
 
@@ -57,7 +45,7 @@ within_with ns top all = by (is_member nat_eq ns top)
   where
     by : (b : Bool) → AreWithin top (cond b ns (ns ++ top ∷ []))
     by true = all
-    by false = all_both (λ n. n ≤ top) ns (top ∷ []) all (omega arith, tt)
+    by false = all_append (λ n. n ≤ top) ns (top ∷ []) all (omega arith, tt)
 
 -- what was advertised is within what was accepted
 advertised_within : (s : Setting) (turn : ℕ) → AreWithin (accepted s turn) (advertised_until s turn)
@@ -72,7 +60,7 @@ shown_at : (s : Setting) (turn : ℕ) → IsShown (all_messages s) (spin_view s 
 shown_at s turn = record {
   more = later_messages s turn;
   messages_are = messages_first s turn;
-  within = subst (λ (k : ℕ). AreWithin k (last_ten (advertised_until s turn))) (sym (messages_many s turn)) (all_after (λ n. n ≤ accepted s turn) (length (advertised_until s turn) - 10) (advertised_until s turn) (advertised_within s turn));
+  within = subst (λ (k : ℕ). AreWithin k (last_ten (advertised_until s turn))) (sym (messages_many s turn)) (all_drop (λ n. n ≤ accepted s turn) (length (advertised_until s turn) - 10) (advertised_until s turn) (advertised_within s turn));
 }
 
 -- ---- What it says
@@ -90,7 +78,7 @@ module _ (s : Setting) where
   fed : (c : Connection (List Served)) (bytes : List ℕ) (turn : ℕ) → Says c → Says (at_server_of demo_unit Spin (Fed bytes (replicate (length (new_items c.server bytes)) (spin_view s turn))) c)
   fed c bytes turn w =
       let views : List Served = replicate (length (new_items c.server bytes)) (spin_view s turn) in
-      spin.serves demo_unit V [] (spoken c) (Fed bytes views) (all_same (IsShown V) (length (new_items c.server bytes)) (spin_view s turn) (shown_at s turn)) w
+      spin.serves demo_unit V [] (spoken c) (Fed bytes views) (all_replicate (IsShown V) (length (new_items c.server bytes)) (spin_view s turn) (shown_at s turn)) w
 
   fed_by : (c : Connection (List Served)) (bytes : List ℕ) (answer : NetTaken) (turn : ℕ) → Says c → Says (spin_server_fed s bytes answer turn c)
   fed_by c bytes (Got count) turn w = fed c bytes turn w

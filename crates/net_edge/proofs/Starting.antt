@@ -1,5 +1,6 @@
 -- How a run starts, and where it stops.
 use Rattle.std.proofs.Common.{◌≡◌, ℕ, ◌+◌, ◌<◌, ◌≤◌, ◌⊎◌, inl, inr, List, [], Option, None, Some, refl, sym, ap, ◌∙◌, subst, arith}
+use Rattle.venue_core.proofs.PlanBooks.{plan_begins}
 use Rattle.pitch_io.specs.declared.net.LinkEnd.TheVariants.{GrpClient, SpinClient}
 use Rattle.pitch_io.specs.declared.net.NetDone.TheVariants.{Done}
 use Rattle.pitch_io.specs.Nets.{Call, Begin, NetDoneFailed}
@@ -39,14 +40,11 @@ begun s c0 c1 c2 c3 login spin_login lists login_is spin_is puts spin_puts =
     (subst (λ (b : List ℕ). Plays s (calls_before c0) c3 (end_puts SpinClient spin_login (end_puts GrpClient b first_scene))) login_is (spin_puts (end_puts GrpClient login first_scene) (puts first_scene first)))
 
 -- nothing was accepted before the first turn
-none_planned : (number unit : ℕ) → plan number unit 0 ≡ []
-unfolding plan
-none_planned number unit = refl
 
 pub market_first : {M : Type 0} (has : M → List Raw → List ℕ → Type 0) (s : Setting) (market : M) → has market [] [] → SideAt has s market 0
 market_first has s market is =
     let none : accepted s 0 ≡ 0 = omega arith in
-    let empty : [] ≡ messages s 0 = sym (ap (plan s.number demo_unit) none ∙ none_planned s.number demo_unit) in
+    let empty : [] ≡ messages s 0 = sym (ap (plan s.number demo_unit) none ∙ plan_begins s.number demo_unit) in
     subst (λ (V : List Raw). SideHas has market V []) empty (record { is = is; raws = tt; few = omega arith })
 
 pub sent_first : (s : Setting) → IsSentTo s 0 (all_put first_scene)

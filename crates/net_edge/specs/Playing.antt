@@ -200,13 +200,22 @@ pub record SpinServes (s : Setting) (base : List Call) (calls : Option (List Cal
     spin = record { up = now.spin.up; down = down; server = server; link = now.spin.link };
   })
 
--- the Spin Server made a connection of another, and what it said by that is to be put
-pub record SpinSays (spin : Serving) (said : List ℕ) (before after : Connection (List Served)) :
-    Type 0 where
-  pub has : SpinHas spin after.server
+-- a server made a connection of another, and what it said by that is to be put
+pub record ServerSays {X : Type 0} (Has : List (Event X) → Type 0)
+    (said : List ℕ) (before after : Connection X) : Type 0 where
+  pub has : Has after.server
   pub says : after.down.put ≡ before.down.put ++ said
   pub up_is : after.up ≡ before.up
   pub link_is : after.link ≡ before.link
+
+-- so the Spin Server
+abbrev pub SpinSays : Serving → List ℕ → (before after : Connection (List Served)) → Type 0
+SpinSays spin said before after = ServerSays (SpinHas spin) said before after
+
+-- and the proxy
+abbrev pub ProxySays : Proxy → List ℕ → (before after : Connection Source) → Spent → Type 0
+ProxySays proxy said before after spent =
+    ServerSays (λ es. ProxyHas proxy es spent) said before after
 
 -- a connection that stands closes at its link
 abbrev pub closes : Session → Bool → List (Event Lookups) → Bool
@@ -240,14 +249,7 @@ pub record HearsLink (session : Session) (s : Setting) (base : List Call)
   pub has : ClientHas client heard
   pub plays : Plays s base calls (with_client_end session end up events cut heard now)
 
--- ---- Ticks: an end made a connection of another, and what it said by that
-pub record ProxySays (proxy : Proxy)
-    (said : List ℕ) (before after : Connection Source) (spent : Spent) : Type 0 where
-  pub has : ProxyHas proxy after.server spent
-  pub says : after.down.put ≡ before.down.put ++ said
-  pub up_is : after.up ≡ before.up
-  pub link_is : after.link ≡ before.link
-
+-- ---- Ticks: a link made a connection of another, and what it said by that
 pub record LinkSays {X : Type 0}
     (setup : Setup) (link : Ending) (said : List ℕ) (before after : Connection X) : Type 0 where
   pub link_has : LinkHas setup link after.link

@@ -282,17 +282,9 @@ pub fn demo_plain<N: Net>(
     out: &mut Vec<u8>,
 ) -> Result<(), DemoError>
     requires { (1 ≤ count) × (count ≤ 1000) }
-    ensures ran { OnOk result (IsDemo (setting number count)
-        (N.calls net.old) (N.calls net.new) out.old.items out.new.items) }
-    ensures broke { IfErr result
-        (BreaksDemo (setting number count) (N.calls net.old) (N.calls net.new)) }
+    ensures does { DoesDemo (setting number count) result (N.calls net.old) (N.calls net.new)
+        (N.faults net.old) (N.faults net.new) out.old.items out.new.items }
     ensures pieces { SendsPieces (setting number count) (N.calls net.old) (N.calls net.new) }
-    // The net failed only where its count of faults rose.
-    ensures fault { IfErr result (λ error.
-        error ≡ errors.NetFault → Rose (N.faults net.old) (N.faults net.new)) }
-    ensures later { N.faults net.old ≤ N.faults net.new }
-    ensures still { OnOk result (N.faults net.new ≡ N.faults net.old) }
-    ensures err { OnErr result (out.new.items ≡ out.old.items) }
 {
     let mut market = Market::make(alloc, 1, DEFAULT_KEPT)?;
     demo_over(alloc, net, &mut market, number, count, out)

@@ -1,7 +1,7 @@
 use Rattle.std.proofs.Common.{[], ap, refl, ◌∙◌, arith}
+use Rattle.pitch_model.proofs.Results.{at_exit}
 use Rattle.net_edge.specs.Scene.{is_got}
 use Rattle.net_edge.proofs.Grouping.{gots_none, call_more, call_last, calls_full, nothing, open_by}
-use Rattle.net_edge.proofs.Breaking.{at_exit}
 use Rattle.net_edge.proofs.lines.hear_line.Goals as goal
 
 pub calls-init : goal.calls-init

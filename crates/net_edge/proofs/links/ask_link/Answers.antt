@@ -1,5 +1,6 @@
 use Rattle.net_edge.proofs.Linking.{said_put}
-use Rattle.net_edge.proofs.Breaking.{at_exit, stops_here}
+use Rattle.pitch_model.proofs.Results.{at_exit}
+use Rattle.net_edge.proofs.Breaking.{stops_here}
 use Rattle.net_edge.proofs.links.ask_link.Goals as goal
 
 pub returns-clause-acts : goal.returns-clause-acts

@@ -1,4 +1,5 @@
 use Rattle.std.proofs.Common.{◌≡◌, ℕ, List, ap, sym, ◌∙◌, subst}
+use Rattle.pitch_model.proofs.Results.{at_exit}
 use Rattle.pitch_io.specs.declared.line.Line.TheVariants.{Gap}
 use Rattle.pitch_io.specs.declared.net.LinkEnd.TheVariants.{GrpServer}
 use Rattle.pitch_io.specs.declared.net.NetTaken.TheVariants.{Got}
@@ -9,7 +10,7 @@ use Rattle.net_edge.specs.Due.{AreDuePieces}
 use Rattle.net_edge.specs.Playing.{Plays, proxy_said}
 use Rattle.net_edge.specs.Scene.{Scene}
 use Rattle.net_edge.proofs.Feeding.{reply_pieces}
-use Rattle.net_edge.proofs.Breaking.{at_exit, breaks_here}
+use Rattle.net_edge.proofs.Breaking.{breaks_here}
 use Rattle.net_edge.proofs.proxy.serve_piece.Goals as goal
 
 pub returns-clause-served : goal.returns-clause-served

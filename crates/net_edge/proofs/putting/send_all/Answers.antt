@@ -1,13 +1,14 @@
 use Rattle.std.proofs.Common.{rules, ℕ, List, ◌∷◌, [], length, take, refl, ap, sym, ◌∙◌, subst, arith}
 use Rattle.std.proofs.lemmas.List.{take_all}
 use Rattle.std.proofs.lemmas.Option.{slice_get_read}
+use Rattle.unit_packets.proofs.Packs.{bytes_more, bytes_at}
+use Rattle.pitch_model.proofs.Results.{at_exit}
 use Rattle.pitch_messages.specs.Room.{Roomy}
 use Rattle.unit_packets.specs.Packing.{bytes_in}
 use Rattle.net_edge.specs.Acting.{sent_on}
 use Rattle.net_edge.specs.Due.{IsDuePiece}
 use Rattle.net_edge.specs.Playing.{Plays}
-use Rattle.net_edge.proofs.Runs.{sent_none, sent_both, sent_in_turn, bytes_more, bytes_at}
-use Rattle.net_edge.proofs.Breaking.{at_exit}
+use Rattle.net_edge.proofs.Runs.{sent_none, sent_both, sent_in_turn}
 use Rattle.net_edge.proofs.putting.send_all.Goals as goal
 
 pub sends-init : goal.sends-init

@@ -1,13 +1,13 @@
-use Rattle.net_edge.proofs.Sending.{sends_pieces, sends_nothing, none_called}
-use Rattle.net_edge.proofs.Breaking.{at_exit}
+use Rattle.net_edge.proofs.Ending.{demo_unbegun}
+use Rattle.net_edge.proofs.Sending.{sends_pieces, sends_nothing}
 use Rattle.net_edge.specs.Due.{setting}
 use Rattle.net_edge.proofs.running.demo_plain.Goals as goal
 
 pub returns-clause-pieces : goal.returns-clause-pieces
 returns-clause-pieces g c = sends_pieces (setting c.args.number c.args.count) _ _ _ _ c.demo_over.result c.demo_over.ensures.ran c.demo_over.ensures.broke
 
-pub returns-in_err-market-clause-broke : goal.returns-in_err-market-clause-broke
-returns-in_err-market-clause-broke g c = at_exit _ c.from_residual.result _ c.from_residual.ensures (none_called (setting c.args.number c.args.count) (g.N.Net.calls c.args.net.now))
+pub returns-in_err-market-clause-does : goal.returns-in_err-market-clause-does
+returns-in_err-market-clause-does g c = demo_unbegun _ _ _ _ _ c.from_residual.ensures
 
 pub returns-in_err-market-clause-pieces : goal.returns-in_err-market-clause-pieces
 returns-in_err-market-clause-pieces g c = sends_nothing (setting c.args.number c.args.count) (g.N.Net.calls c.args.net.now)

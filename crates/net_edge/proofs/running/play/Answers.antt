@@ -1,4 +1,5 @@
 use Rattle.std.proofs.Common.{◌≡◌, List, [], ◌∙◌}
+use Rattle.pitch_model.proofs.Results.{at_exit}
 use Rattle.pitch_io.specs.Nets.{Call}
 use Rattle.net_edge.specs.Due.{Setting, setting}
 use Rattle.pitch_io.specs.declared.net.LinkEnd.TheVariants.{GrpClient, SpinClient}
@@ -7,7 +8,7 @@ use Rattle.net_edge.specs.Playing.{EndsHave, calls_before}
 use Rattle.net_edge.specs.Scene.{first_scene, said_at}
 use Rattle.net_edge.specs.Playing.{all_put}
 use Rattle.net_edge.proofs.Ending.{demo_is}
-use Rattle.net_edge.proofs.Breaking.{at_exit, breaks_here}
+use Rattle.net_edge.proofs.Breaking.{breaks_here}
 use Rattle.net_edge.proofs.Sending.{broke_demo}
 use Rattle.net_edge.proofs.running.play.Goals as goal
 

@@ -1,4 +1,5 @@
 use Rattle.std.proofs.Common.{◌≡◌, ◌≢◌, ◌+◌, ℕ, List, [], refl, sym, ◌∙◌, subst, arith}
+use Rattle.pitch_model.proofs.Results.{at_exit}
 use Rattle.net_edge.specs.Due.{Setting, setting, hold_limit}
 use Rattle.pitch_io.specs.Nets.{Call}
 use Rattle.net_edge.specs.Breaking.{Breaks}
@@ -10,7 +11,6 @@ use Rattle.net_edge.specs.Turns.{MayGoOn, client_status}
 use Rattle.net_edge.proofs.Starting.{market_first, sent_first, uncalled_first, goes_on, last_is}
 use Rattle.net_edge.proofs.Begun.{turn_breaks}
 use Rattle.net_edge.proofs.Turning.{turn_again}
-use Rattle.net_edge.proofs.Breaking.{at_exit}
 use Rattle.net_edge.proofs.running.run.Goals as goal
 
 pub turns-init : goal.turns-init

@@ -1,10 +1,10 @@
 use Rattle.net_edge.specs.Playing.{calls_before}
 use Rattle.net_edge.proofs.Starting.{begun, plays_none}
-use Rattle.net_edge.proofs.Breaking.{at_exit}
 use Rattle.net_edge.proofs.Sending.{unbegun, broke_demo}
 use Rattle.net_edge.specs.Scene.{first_scene}
 use Rattle.net_edge.specs.Demo.{BreaksDemo}
 use Rattle.std.proofs.Common.{sym, subst}
+use Rattle.pitch_model.proofs.Results.{at_exit}
 use Rattle.net_edge.proofs.running.set_up.Goals as goal
 
 pub returns-clause-set_up : goal.returns-clause-set_up

@@ -1,9 +1,9 @@
 use Rattle.std.proofs.Common.{◌≡◌, ◌||◌, Bool, true, false, [], ◌∷◌, ap, refl, ◌∙◌, subst, arith, ◌⊎◌, inl, inr}
+use Rattle.pitch_model.proofs.Results.{at_exit}
 use Rattle.pitch_io.specs.declared.net.NetTaken.{NetTaken}
 use Rattle.pitch_io.specs.declared.net.NetTaken.TheVariants as taken
 use Rattle.net_edge.specs.Scene.{is_got, got_end}
 use Rattle.net_edge.proofs.Grouping.{gots_none, call_more, take_last, takes_full, none_over, open_then, open_by}
-use Rattle.net_edge.proofs.Breaking.{at_exit}
 use Rattle.net_edge.proofs.Markets.{still_at}
 use Rattle.net_edge.proofs.server_end.serve_end.Goals as goal
 

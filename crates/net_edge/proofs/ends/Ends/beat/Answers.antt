@@ -1,10 +1,11 @@
 use Rattle.std.proofs.Common.{◌≡◌, ◌-◌, ◌∙◌, subst, sym, ◌∷◌, []}
+use Rattle.pitch_model.proofs.Results.{at_exit}
 use Rattle.pitch_io.specs.Nets.{NetDoneFailed, Send}
 use Rattle.pitch_io.specs.declared.net.NetDone.{NetDone}
 use Rattle.net_edge.specs.Due.{IsDuePiece, accepted, advertised_until, beat, messages}
 use Rattle.net_edge.proofs.Feeding.{messages_many}
 use Rattle.net_edge.proofs.Turning.{beats_then, advertised_is, heartbeat_is, beat_piece}
-use Rattle.net_edge.proofs.Breaking.{at_exit, breaks_by, breaks_here}
+use Rattle.net_edge.proofs.Breaking.{breaks_by, breaks_here}
 use Rattle.net_edge.proofs.Runs.{play_call}
 use Rattle.pitch_io.specs.declared.net.NetDone.TheVariants.{Done, Failed}
 use Rattle.pitch_io.specs.declared.line.Line.TheVariants.{A, B}

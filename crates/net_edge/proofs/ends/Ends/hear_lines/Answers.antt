@@ -1,5 +1,5 @@
 use Rattle.pitch_io.specs.declared.line.Line.TheVariants.{A, B, Gap}
-use Rattle.net_edge.proofs.Breaking.{at_exit}
+use Rattle.pitch_model.proofs.Results.{at_exit}
 use Rattle.net_edge.proofs.Parts.{lines_over, line_begins, line_ends}
 use Rattle.net_edge.proofs.ends.Ends.hear_lines.Goals as goal
 

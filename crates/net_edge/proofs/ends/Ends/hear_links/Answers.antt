@@ -1,5 +1,5 @@
 use Rattle.pitch_text.specs.declared.verb.Session.TheVariants.{Grp, Spin}
-use Rattle.net_edge.proofs.Breaking.{at_exit}
+use Rattle.pitch_model.proofs.Results.{at_exit}
 use Rattle.net_edge.proofs.Parts.{links_over, hears_begins, hears_ends}
 use Rattle.net_edge.proofs.ends.Ends.hear_links.Goals as goal
 

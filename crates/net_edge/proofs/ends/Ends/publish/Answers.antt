@@ -1,10 +1,11 @@
 use Rattle.std.proofs.Common.{◌≡◌, ◌∙◌, ℕ, List, ap, [], cond}
+use Rattle.pitch_model.proofs.Results.{at_exit}
 use Rattle.pitch_messages.specs.Room.{Roomy}
 use Rattle.unit_packets.specs.Packing.{bytes_in}
 use Rattle.net_edge.specs.Due.{Setting, AreDuePieces, setting, new_datagrams}
 use Rattle.net_edge.specs.Scene.{Scene}
 use Rattle.net_edge.proofs.Turning.{published, pieces_in_turn}
-use Rattle.net_edge.proofs.Breaking.{at_exit, breaks_here}
+use Rattle.net_edge.proofs.Breaking.{breaks_here}
 use Rattle.net_edge.specs.Acting.{sent_on}
 use Rattle.pitch_io.specs.declared.line.Line.TheVariants.{A, B}
 use Rattle.net_edge.proofs.ends.Ends.publish.Goals as goal

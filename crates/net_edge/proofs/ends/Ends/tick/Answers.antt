@@ -1,7 +1,7 @@
 use Rattle.std.proofs.Common.{refl}
+use Rattle.pitch_model.proofs.Results.{at_exit}
 use Rattle.net_edge.specs.Due.{hold_limit}
 use Rattle.net_edge.proofs.Ticking.{tick_is}
-use Rattle.net_edge.proofs.Breaking.{at_exit}
 use Rattle.net_edge.proofs.ends.Ends.tick.Goals as goal
 
 pub returns-clause-ticked : goal.returns-clause-ticked

@@ -1,6 +1,6 @@
 use Rattle.std.proofs.Common.{ℕ}
+use Rattle.pitch_model.proofs.Results.{at_exit}
 use Rattle.net_edge.specs.Due.{Setting, setting}
-use Rattle.net_edge.proofs.Breaking.{at_exit}
 use Rattle.net_edge.proofs.ends.Ends.turn.Goals as goal
 
 pub returns-clause-over : goal.returns-clause-over

@@ -1,4 +1,5 @@
 use Rattle.std.proofs.Common.{◌-◌, ◌++◌, ◌∷◌, [], List, sym, ap, ◌∙◌, subst}
+use Rattle.venue_core.proofs.PlanBooks.{plan_step}
 use Rattle.pitch_model.specs.History.{Raw}
 use Rattle.venue_core.specs.Commands.{raw_of}
 use Rattle.venue_core.specs.Plan.{plan}

@@ -1,7 +1,8 @@
 use Rattle.std.proofs.Common.{ℕ, length, take, sym, subst, []}
+use Rattle.pitch_model.proofs.Results.{at_exit}
 use Rattle.net_edge.specs.Markets.{SideAt}
 use Rattle.net_edge.proofs.Serving.{serves_got, serves_none, proxy_scene, proxy_may}
-use Rattle.net_edge.proofs.Breaking.{at_exit, breaks_by}
+use Rattle.net_edge.proofs.Breaking.{breaks_by}
 use Rattle.net_edge.proofs.Runs.{play_call}
 use Rattle.pitch_io.specs.Nets.{Take}
 use Rattle.pitch_io.specs.declared.net.NetTaken.TheVariants.{Got, Failed}

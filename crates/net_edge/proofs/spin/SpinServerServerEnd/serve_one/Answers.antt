@@ -1,4 +1,5 @@
 use Rattle.std.proofs.Common.{◌≡◌, ℕ, List, length, ◌&&◌, not, refl, subst, []}
+use Rattle.pitch_model.proofs.Results.{at_exit}
 use Rattle.pitch_io.specs.Nets.{NetTakeFailed, Take}
 use Rattle.pitch_io.specs.Coming.{came}
 use Rattle.pitch_io.specs.declared.net.NetTaken.{NetTaken}
@@ -8,7 +9,7 @@ use Rattle.net_edge.specs.Acting.{end_puts}
 use Rattle.net_edge.specs.Playing.{Plays}
 use Rattle.net_edge.specs.Scene.{is_got}
 use Rattle.net_edge.proofs.Spinning.{serves_on, spin_scene, spin_may}
-use Rattle.net_edge.proofs.Breaking.{at_exit, breaks_by, stops_here}
+use Rattle.net_edge.proofs.Breaking.{breaks_by, stops_here}
 use Rattle.net_edge.proofs.Runs.{play_call}
 use Rattle.net_edge.proofs.spin.SpinServerServerEnd.serve_one.Goals as goal
 
