@@ -17,8 +17,8 @@ use feed_lines::append_unit_line;
 use heard_items::Item;
 use pitch_fields::OutOfMemory;
 use pitch_messages::RawList;
-use pitch_model::laws::images_leave_their_books;
 use pitch_model::Status;
+use pitch_model::laws::images_leave_their_books;
 
 fn is_behind(status: Status) -> bool
     ensures { result ≡ is_behind status }

@@ -46,7 +46,7 @@ pub struct Hold {
 
 impl Model for Hold {
     ghost use Rattle.hold_buffer.specs.HoldView.{HoldView};
-ghost use Rattle.hold_buffer.specs.Holding.{coded_hold};
+    ghost use Rattle.hold_buffer.specs.Holding.{coded_hold};
     ghost use Rattle.hold_buffer.specs.Places.{hold_of, IsHoldRing};
 
     ghost Value = { HoldView };

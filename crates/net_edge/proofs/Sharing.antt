@@ -11,7 +11,7 @@ use Rattle.pitch_model.specs.History.{Raw}
 use Rattle.pitch_model.proofs.Advertising.{accepted_more, advertised_accept, advertised_advertise}
 use Rattle.gap_store.specs.Look.{View, look}
 use Rattle.gap_store.specs.Looking.{IsLater}
-use Rattle.gap_store.proofs.OneView.{one_view, later_both}
+use Rattle.gap_store.proofs.OneView.{one_view, later_both as same_views}
 use Rattle.session_ends.specs.Answering.{Answer, Answerer, no_answer, followed, answers}
 use Rattle.session_ends.specs.Hearings.{Rises}
 use Rattle.session_ends.specs.Closing.{Setup, cause_of, closed_of, logged_in, logs_in, login_status}
@@ -101,7 +101,7 @@ pub proxy_answers : (told before after : List Operation) (kept : ℕ) (messages 
 proxy_answers told before after kept messages advertised es piece old new limits spent counted reply reply' lines lines' is has begins covered feeds =
     let n : ℕ = length (new_items es piece) in
     let views : feeds.views ≡ replicate n (kept_at kept_messages told) =
-    all_one IsLater asked.later_order later_both (kept_at kept) (messages_later kept) told before after feeds.views feeds.now begins covered feeds.rises feeds.shows
+    all_one IsLater asked.later_order same_views (kept_at kept) (messages_later kept) told before after feeds.views feeds.now begins covered feeds.rises feeds.shows
     ∙ ap (λ (m : ℕ). replicate m (kept_at kept told)) feeds.each ∙ ap (λ (k : ℕ). replicate n (kept_at k told)) is in
     let all : feeds.views ≡ replicate n (view_of messages) = views ∙ ap (λ (raws : List Raw). replicate n (view_of raws)) has.accepted_is in
     subst (λ (vs : List View). Answered es piece (record { there = true; views = vs; limits = limits; spent = spent }) old new counted reply reply' lines lines') all feeds.answered

@@ -1,7 +1,6 @@
 -- What the code knows of a run that is under way. No caller needs it.
 use Rattle.std.specs.Prelude.{◌≡◌, ◌≤◌, ℕ, Bool, true, false, not, ◌||◌, ◌&&◌, List, [], ◌∷◌, ◌++◌}
-use Rattle.std.specs.Prelude.{Option, None, Some, is_some, Result, OnOk, IfErr, OnErr}
-use Rattle.std.specs.Prelude.{if◌then◌else◌}
+use Rattle.std.specs.Prelude.{Option, None, Some, is_some, Result, OnOk, IfErr, if◌then◌else◌}
 use Rattle.std.specs.List.{AllByRecursion}
 use Rattle.pitch_fields.specs.Fields.{AreBytes}
 use Rattle.pitch_io.specs.declared.line.Line.{Line}
@@ -40,7 +39,6 @@ use Rattle.net_edge.specs.Scene.{Scene, OnLine, AtEnd, line_in, with_line, at_en
 use Rattle.net_edge.specs.Sessions.{end_of, session_setup, with_client_end}
 use Rattle.net_edge.specs.Steps.{Step, calls_of}
 use Rattle.net_edge.specs.Breaking.{Breaks}
-use Rattle.net_edge.specs.Demo.{IsDemo, BreaksDemo}
 use Rattle.net_edge.specs.Turns.{AreSteps}
 use Rattle.net_edge.specs.declared.error.DemoError.{DemoError}
 use Rattle.net_edge.specs.declared.error.DemoError.TheVariants as errors
@@ -398,14 +396,3 @@ after_beat s now =
 -- the same in every tenth turn
 abbrev pub after_due_beat : Setting → Scene → Scene
 after_due_beat s now = if is_tenth now.turn then after_beat s now else now
-
--- ---- A demo
--- it ran, or broke off; the net failed only where its count of faults rose; and nothing is appended
--- after an error
-pub record DoesDemo (s : Setting) (result : Result (Unit {0}) DemoError)
-    (calls calls' : Option (List Call)) (faults faults' : ℕ) (text text' : List ℕ) :
-    Type 0 where
-  pub ran : OnOk result (IsDemo s calls calls' text text')
-  pub broke : IfErr result (BreaksDemo s calls calls')
-  pub counts : NetCounts result faults faults'
-  pub err : OnErr result (text' ≡ text)

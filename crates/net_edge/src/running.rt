@@ -23,7 +23,8 @@ ghost use Rattle.net_edge.specs.Due.{Setting, setting, demo_unit, call_room, hol
 ghost use Rattle.net_edge.specs.Due.{kept_messages};
 ghost use Rattle.net_edge.specs.Markets.{SideAt};
 ghost use Rattle.net_edge.specs.Playing.{NetCounts, ClientHas, SpinHas, EndsHave, DemoAt};
-ghost use Rattle.net_edge.specs.Playing.{DoesDemo, Plays, calls_before};
+ghost use Rattle.net_edge.specs.Playing.{Plays, calls_before};
+ghost use Rattle.net_edge.specs.Sending.{DoesDemo};
 ghost use Rattle.net_edge.specs.Scene.{Scene, first_scene, said_at};
 ghost use Rattle.net_edge.specs.Playing.{all_put};
 ghost use Rattle.net_edge.specs.Turns.{IsOver};

@@ -39,7 +39,7 @@ pub struct Market {
 impl Model for Market {
     ghost use Rattle.unit_market.specs.Invariant.{HasSome};
     ghost use Rattle.unit_market.specs.Standing.{MarketState};
-ghost use Rattle.unit_market.specs.Invariant.{market_code};
+    ghost use Rattle.unit_market.specs.Invariant.{market_code};
 
     ghost Value = { MarketState };
 

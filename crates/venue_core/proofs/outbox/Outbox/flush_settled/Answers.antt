@@ -1,7 +1,8 @@
 use Rattle.std.proofs.Common.{◌≡◌, ◌≤◌, ◌∙◌, [], length, ap, refl, arith, ℕ, subst, sym}
 use Rattle.pitch_messages.specs.Room.{Roomy}
 use Rattle.unit_packets.specs.Packing.{bytes_in}
-use Rattle.venue_core.specs.Waiting.{Waiting, late_of}
+use Rattle.venue_core.specs.Waiting.{Waiting}
+use Rattle.venue_core.specs.Taking.{late_of}
 use Rattle.venue_core.proofs.Sending.{few_given, full_few, none_is_some}
 use Rattle.venue_core.proofs.outbox.Outbox.flush_settled.Goals as goal
 
