@@ -13,7 +13,7 @@ use Rattle.pitch_model.specs.declared.ask.Ask.{Ask}
 use Rattle.pitch_model.specs.declared.ask.Ask.TheVariants.{Gap, Spin}
 use Rattle.spin_server.specs.Served.{Served, is_served}
 use Rattle.drill_client.specs.Following.{heard_datagrams, imaged_whole}
-use Rattle.drill_client.specs.DrillText.{drill_kept}
+use Rattle.drill_client.specs.Limits.{drill_kept}
 
 -- ---- Ticks
 -- a datagram brings a tick where nine came since the last one

@@ -1,5 +1,6 @@
 pub mod Answered
 pub mod DrillText
+pub mod Limits
 pub mod Ending
 pub mod Following
 pub mod Played

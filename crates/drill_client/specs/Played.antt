@@ -10,7 +10,7 @@ use Rattle.venue_core.specs.Commands.{raw_of}
 use Rattle.venue_core.specs.Losses.{is_lost}
 use Rattle.venue_core.specs.Plan.{plan, plan_command}
 use Rattle.drill_client.specs.Answered.{last_kept, heard_of_copy, heard_after_copy}
-use Rattle.drill_client.specs.DrillText.{drill_kept}
+use Rattle.drill_client.specs.Limits.{drill_kept}
 
 -- ---- Commands
 -- the datagrams of the message of a command

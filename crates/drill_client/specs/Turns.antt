@@ -3,7 +3,7 @@ use Rattle.std.specs.Prelude.{ℕ, ◌-◌}
 use Rattle.unit_market.specs.Markets.{Journal, MarketHas}
 use Rattle.unit_market.specs.Standing.{MarketState}
 use Rattle.venue_core.specs.Plan.{plan}
-use Rattle.drill_client.specs.DrillText.{drill_kept}
+use Rattle.drill_client.specs.Limits.{drill_kept}
 use Rattle.drill_client.specs.Played.{advertised_through}
 
 -- the journal at command `index` of a plan of `count`, when it has accepted that: so many messages

@@ -2,8 +2,8 @@
 use Rattle.std.specs.Prelude.{ℕ, ◌≤◌}
 use Rattle.stream_print.specs.Holding.{CanHold, Suits}
 use Rattle.schedule_replay.specs.Apart.{most_workers}
-use Rattle.storm_replay.specs.Storm.{most_steps, most_units}
-use Rattle.drill_client.specs.DrillText.{most_drill_units, most_drilled}
+use Rattle.storm_replay.specs.Limits.{most_steps, most_units}
+use Rattle.drill_client.specs.Limits.{most_drill_units, most_drilled}
 use Rattle.pitch_tool.specs.declared.job.TextForm.{TextForm}
 use Rattle.pitch_tool.specs.declared.job.TextForm.TheVariants.{Pack, Replay}
 use Rattle.pitch_tool.specs.declared.job.Job.{Job}

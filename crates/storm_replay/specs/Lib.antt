@@ -1,5 +1,7 @@
 pub mod Parts
 pub mod Storm
+pub mod Limits
 pub mod StormText
 pub mod Summary
+pub mod Running
 pub mod Units

@@ -3,7 +3,8 @@ use Rattle.std.specs.Prelude.{ℕ, ◌≤◌, List}
 use Rattle.pitch_text.specs.declared.verb.Verb.{Verb}
 use Rattle.storm_replay.specs.declared.verbs.Part.{Part}
 use Rattle.storm_replay.specs.declared.verbs.Part.TheVariants.{Start, Step, End}
-use Rattle.storm_replay.specs.Storm.{most_steps, start_verbs, step_verbs, end_verbs, by_each}
+use Rattle.storm_replay.specs.Storm.{start_verbs, step_verbs, end_verbs, by_each}
+use Rattle.storm_replay.specs.Limits.{most_steps}
 
 -- a part of a storm of at most so many steps, which count from 1
 abbrev pub IsPart : Part → Type 0

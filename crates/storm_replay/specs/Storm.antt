@@ -11,14 +11,6 @@ use Rattle.pitch_text.specs.Printing.{lines_text}
 use Rattle.venue_core.specs.Losses.{is_lost}
 use Rattle.venue_core.specs.Plan.{plan_command}
 
--- the most units of a storm
-abbrev pub most_units : ℕ
-most_units = 16
-
--- the most steps of a storm
-abbrev pub most_steps : ℕ
-most_steps = 10000
-
 -- ---- What one unit does
 -- at the start: the session with the Gap Request Proxy is opened
 abbrev pub start_verbs : List Verb

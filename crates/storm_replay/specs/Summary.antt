@@ -1,22 +1,19 @@
 -- What became of the units of a storm. Entries that came before stand newest first, as the verbs of
 -- a world do.
-use Rattle.std.specs.Prelude.{◌≡◌, ℕ, zero, suc, ◌+◌, List, [], ◌++◌, length, map, reverse, Some}
-use Rattle.std.specs.Prelude.{slice_get}
+use Rattle.std.specs.Prelude.{ℕ, zero, suc, List, [], ◌++◌, map, reverse}
 use Rattle.std.specs.List.{enumerate_from}
 use Rattle.std.specs.FinMap.{len}
-use Rattle.pitch_model.specs.Levels.{shares}
-use Rattle.feed_lines.specs.UnitLine.{unit_line}
-use Rattle.pitch_model.specs.Status.{status_of}
 use Rattle.pitch_text.specs.ScheduleGrammar.{schedule_entry}
 use Rattle.pitch_text.specs.declared.verb.ScheduleEntry.{ScheduleEntry}
-use Rattle.schedule_replay.specs.Replay.{verbs_of, limits_of}
-use Rattle.schedule_replay.specs.Worlds.{IsWorldOf}
-use Rattle.storm_replay.specs.Storm.{storm_entries}
-use Rattle.storm_replay.specs.StormText.{storm_line}
+use Rattle.pitch_model.specs.Levels.{shares}
+use Rattle.pitch_model.specs.Status.{status_of}
+use Rattle.feed_lines.specs.UnitLine.{unit_line}
 use Rattle.world_model.specs.State.{State}
 use Rattle.world_model.specs.Verbs.{state_of, client_book}
 use Rattle.world_model.specs.declared.limits.Limits.{Limits}
-use Rattle.world_model.specs.declared.world.World.{World}
+use Rattle.schedule_replay.specs.Replay.{verbs_of, limits_of}
+use Rattle.storm_replay.specs.Storm.{storm_entries}
+use Rattle.storm_replay.specs.StormText.{storm_line}
 
 -- the lines of a storm's schedule, numbered from 1
 abbrev pub storm_lines : ℕ → ℕ → ℕ → List ScheduleEntry
@@ -45,15 +42,3 @@ ended_lines before (suc unit) = ended_lines before unit ++ ended_line before (su
 abbrev pub storm_text : ℕ → ℕ → ℕ → List ℕ
 storm_text number units steps =
     storm_line number units steps ++ ended_lines (reverse (storm_lines number units steps)) units
-
--- ---- Its worlds
--- each world is that of its unit after some lines: they stand by rising unit, from 1 on
-abbrev pub AreInTurn : List ScheduleEntry → List World → Type 0
-AreInTurn before worlds =
-    (index : ℕ) (world : World)
-    → slice_get worlds index ≡ Some world → IsWorldOf before (index + 1) world
-
--- the worlds of a storm's units after all lines of its schedule
-pub record AreStormWorlds (number units steps : ℕ) (worlds : List World) : Type 0 where
-  pub many : length worlds ≡ units
-  pub each : AreInTurn (reverse (storm_lines number units steps)) worlds

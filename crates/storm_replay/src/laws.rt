@@ -6,7 +6,8 @@ ghost use Rattle.pitch_fields.specs.Limits.{text_limit};
 ghost use Rattle.pitch_text.specs.ScheduleGrammar.{entry as entry_grammar, schedule_entry};
 ghost use Rattle.text_lines.specs.Text.{entries_of};
 ghost use Rattle.text_lines.specs.Items.{items_of};
-ghost use Rattle.storm_replay.specs.Storm.{most_units, most_steps, storm_entries, storm_schedule};
+ghost use Rattle.storm_replay.specs.Storm.{storm_entries, storm_schedule};
+ghost use Rattle.storm_replay.specs.Limits.{most_units, most_steps};
 
 /// The schedule of a storm, read as a text, says its entries, one a line, and is short enough to be
 /// read. The call does nothing.

@@ -5,9 +5,11 @@ ghost use Rattle.pitch_text.specs.declared.verb.ScheduleEntry.{ScheduleEntry as 
 ghost use Rattle.schedule_replay.specs.Apart.{most_workers};
 ghost use Rattle.schedule_replay.specs.Worlds.{AreRunThrough, IsWorldOf};
 ghost use Rattle.schedule_replay.specs.Places.{AddsWorlds};
-ghost use Rattle.storm_replay.specs.Storm.{most_units, most_steps, storm_schedule};
+ghost use Rattle.storm_replay.specs.Storm.{storm_schedule};
+ghost use Rattle.storm_replay.specs.Limits.{most_units, most_steps};
 ghost use Rattle.storm_replay.specs.StormText.{storm_line};
-ghost use Rattle.storm_replay.specs.Summary.{AreInTurn, AreStormWorlds, ended_line, ended_lines};
+ghost use Rattle.storm_replay.specs.Summary.{ended_line, ended_lines};
+ghost use Rattle.storm_replay.specs.Running.{AreInTurn, AreStormWorlds};
 ghost use Rattle.storm_replay.specs.Summary.{storm_text};
 
 use crate::laws::storms_are_read;

@@ -2,7 +2,8 @@
 
 ghost use Rattle.std.specs.Prelude.{◌≡◌, ◌≤◌, ◌++◌, OnOk, true};
 ghost use Rattle.storm_replay.specs.Parts.{IsPart, part_verbs};
-ghost use Rattle.storm_replay.specs.Storm.{most_steps, start_verbs, arrival, arrives_at_once};
+ghost use Rattle.storm_replay.specs.Storm.{start_verbs, arrival, arrives_at_once};
+ghost use Rattle.storm_replay.specs.Limits.{most_steps};
 ghost use Rattle.storm_replay.specs.Storm.{arrives_late, tenth_verbs, step_verbs, end_verbs};
 
 use pitch_fields::OutOfMemory;

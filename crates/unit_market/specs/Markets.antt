@@ -1,6 +1,5 @@
 -- What a market stands for ("Gap Request Proxy", "Spin Servers").
-use Rattle.std.specs.Prelude.{◌≡◌, ◌+◌, ℕ, List, [], drop}
-use Rattle.unit_packets.specs.Packing.{packed}
+use Rattle.std.specs.Prelude.{◌≡◌, ℕ, List}
 use Rattle.gap_store.specs.Look.{View, store_of}
 use Rattle.pitch_model.specs.Advertising.{Operation, accepted_by, advertised_by}
 use Rattle.pitch_model.specs.History.{Raw}
@@ -24,15 +23,6 @@ pub record Journal : Type 0 where
   pub messages : List Raw
   pub sent : ℕ
   pub advertised : List ℕ
-
--- nothing was accepted yet
-abbrev pub new_journal : ℕ → ℕ → Journal
-new_journal unit kept =
-    record { unit = unit; kept = kept; messages = []; sent = 0; advertised = [] }
-
--- the datagrams of what was accepted and not sent yet
-abbrev pub pending : Journal → List (List ℕ)
-pending j = packed j.unit (j.sent + 1) (drop j.sent j.messages)
 
 -- the last of its messages, which the proxy looks up
 abbrev pub kept_view : Journal → View

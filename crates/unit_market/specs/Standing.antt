@@ -1,8 +1,6 @@
 -- What is known of a market. Callers need what it stands for (`MarketHas`) alone: the fields are
 -- here because that is said of them.
-use Rattle.std.specs.Prelude.{Option}
 use Rattle.gap_store.specs.Look.{Store}
-use Rattle.pitch_model.specs.History.{Raw}
 use Rattle.spin_server.specs.Shelves.{Shelf}
 use Rattle.venue_core.specs.Standing.{VenueState}
 
@@ -11,7 +9,3 @@ pub record MarketState : Type 0 where
   pub venue : VenueState
   pub store : Store
   pub shelf : Shelf
-
--- the message that it accepted last, if any
-abbrev pub last_accepted : MarketState → Option Raw
-last_accepted market = market.venue.last

@@ -1,12 +1,28 @@
--- What the servers of a market look up.
-use Rattle.std.specs.Prelude.{◌≡◌, ℕ, List}
+-- What a market begins with and has to send, and what its servers look up.
+use Rattle.std.specs.Prelude.{◌≡◌, ℕ, List, ◌+◌, [], drop, Option}
+use Rattle.unit_packets.specs.Packing.{packed}
 use Rattle.gap_store.specs.Look.{View, store_of}
 use Rattle.pitch_model.specs.Advertising.{last_ten}
 use Rattle.pitch_model.specs.History.{Raw}
 use Rattle.spin_server.specs.Served.{Served}
 use Rattle.spin_server.specs.ShelfViews.{ShelfShows}
 use Rattle.unit_market.specs.Standing.{MarketState}
+use Rattle.unit_market.specs.Markets.{Journal}
 
+-- nothing was accepted yet
+abbrev pub new_journal : ℕ → ℕ → Journal
+new_journal unit kept =
+    record { unit = unit; kept = kept; messages = []; sent = 0; advertised = [] }
+
+-- the datagrams of what was accepted and not sent yet
+abbrev pub pending : Journal → List (List ℕ)
+pending j = packed j.unit (j.sent + 1) (drop j.sent j.messages)
+
+-- the message that it accepted last, if any
+abbrev pub last_accepted : MarketState → Option Raw
+last_accepted market = market.venue.last
+
+-- ---- What can be looked up
 -- for the proxy
 abbrev pub ShowsMessages : MarketState → View → Type 0
 ShowsMessages market v = market.store ≡ store_of v

@@ -12,9 +12,10 @@ ghost use Rattle.unit_packets.specs.BlockBytes.{block_bytes, heartbeat_block};
 ghost use Rattle.unit_packets.specs.Packing.{IsPacking, bytes_in};
 ghost use Rattle.venue_core.specs.Commands.{message_of, raw_of};
 ghost use Rattle.venue_core.specs.Refusals.{refusal, IsAnswer};
-ghost use Rattle.unit_market.specs.Markets.{Journal, MarketHas, new_journal, pending};
+ghost use Rattle.unit_market.specs.Markets.{Journal, MarketHas};
+ghost use Rattle.unit_market.specs.Views.{new_journal, pending};
 ghost use Rattle.unit_market.specs.Views.{ShowsMessages, ShowsImages};
-ghost use Rattle.unit_market.specs.Standing.{last_accepted};
+ghost use Rattle.unit_market.specs.Views.{last_accepted};
 
 use gap_store::{Found, GapLookup, GapStore};
 use pitch_fields::OutOfMemory;

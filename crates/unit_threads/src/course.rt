@@ -1,7 +1,7 @@
 //! Which messages a unit's drill has.
 
 ghost use Rattle.std.specs.Prelude.{◌≡◌, ◌≤◌};
-ghost use Rattle.drill_client.specs.DrillText.{most_drilled};
+ghost use Rattle.drill_client.specs.Limits.{most_drilled};
 ghost use Rattle.unit_threads.specs.Publishing.{IsPlanned};
 
 use drill_client::DrillRun;

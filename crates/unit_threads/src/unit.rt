@@ -4,7 +4,8 @@ ghost use Rattle.std.specs.Prelude.{◌≡◌, ◌≤◌, ◌*◌, [], length, I
 ghost use Rattle.venue_core.specs.Plan.{plan};
 ghost use Rattle.drill_client.specs.Ending.{IsAtEnd};
 ghost use Rattle.drill_client.specs.Following.{FollowsOn};
-ghost use Rattle.drill_client.specs.DrillText.{most_drilled, drill_kept, drill_line};
+ghost use Rattle.drill_client.specs.DrillText.{drill_line};
+ghost use Rattle.drill_client.specs.Limits.{most_drilled, drill_kept};
 ghost use Rattle.unit_threads.specs.Publishing.{HasAccepted, HasAdvertised, IsPlanned};
 
 use crate::client::follow;

@@ -1,7 +1,8 @@
 use Rattle.std.proofs.Common.{◌≡◌, ℕ, List, ◌+◌, ◌-◌, ◌≤◌, sym, ◌∙◌, subst, arith}
 use Rattle.venue_core.proofs.PlanBooks.{plan_begins}
 use Rattle.pitch_model.specs.History.{Entry, Raw}
-use Rattle.unit_market.specs.Markets.{MarketHas, new_journal}
+use Rattle.unit_market.specs.Markets.{MarketHas}
+use Rattle.unit_market.specs.Views.{new_journal}
 use Rattle.venue_core.specs.Plan.{plan}
 use Rattle.drill_client.specs.Following.{Follows}
 use Rattle.drill_client.specs.Played.{plain_history}

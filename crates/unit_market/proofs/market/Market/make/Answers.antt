@@ -1,5 +1,5 @@
 use Rattle.std.proofs.Common.{[], refl}
-use Rattle.unit_market.specs.Markets.{new_journal}
+use Rattle.unit_market.specs.Views.{new_journal}
 use Rattle.unit_market.proofs.market.Market.make.Goals as goal
 
 pub invariant_of-result : goal.invariant_of-result
