@@ -37,6 +37,22 @@ const DELETE: &[u8] = b"\x0e\x29\0\0\0\0\x05\0\0\0\0\0\0\0";
 
 const CLEAR: &[u8] = b"\x06\x97\0\0\0\0";
 
+// What does nothing to a book, under the id of order 5 where it names one.
+const LONG_TRADE: &[u8] =
+    b"\x29\x2a\0\0\0\0\x05\0\0\0\0\0\0\0B\x07\0\0\0IBM   \xb0\xad\x01\0\0\0\0\0\x09\0\0\0\0\0\0\0";
+
+const SHORT_TRADE: &[u8] =
+    b"\x21\x2b\0\0\0\0\x05\0\0\0\0\0\0\0B\x07\0IBM   \xe8\x03\x09\0\0\0\0\0\0\0";
+
+const EXPANDED_TRADE: &[u8] =
+    b"\x2b\x30\0\0\0\0\x05\0\0\0\0\0\0\0B\x07\0\0\0IBM     \xb0\xad\x01\0\0\0\0\0\x09\0\0\0\0\0\0\0";
+
+const TRADE_BREAK: &[u8] = b"\x0e\x2c\0\0\0\0\x05\0\0\0\0\0\0\0";
+
+const END_OF_SESSION: &[u8] = b"\x06\x2d\0\0\0\0";
+
+const UNKNOWN: &[u8] = b"\x0e\x99\0\0\0\0\x05\0\0\0\0\0\0\0";
+
 const SHORT_ADD: &[u8] = b"\x06\x21\0\0\0\0";
 
 // IBM halted, and then not; and a status of another symbol, with reserved bytes that are no spaces.
@@ -58,7 +74,7 @@ fn book_after(rt: &impl Abort, alloc: Global, raws: &[&[u8]]) -> UnitBook {
 }
 
 // Messages, whether the second is known, and quantity, price and display of order 5.
-const ROWS: [(&[&[u8]], bool, Option<(u32, u64, bool)>); 15] = [
+const ROWS: [(&[&[u8]], bool, Option<(u32, u64, bool)>); 21] = [
     (&[TIME, ADD], true, Some((100, 100_000, true))),
     (&[ADD, MODIFY, REDUCE], false, Some((4, 110_000, false))),
     (&[ADD, MODIFY, REDUCE, REDUCE_REST], false, None),
@@ -74,6 +90,12 @@ const ROWS: [(&[&[u8]], bool, Option<(u32, u64, bool)>); 15] = [
     (&[ADD_OTHER, REDUCE], false, None),
     (&[SHORT_ADD], false, None),
     (&[DELETE, CLEAR], false, None),
+    (&[ADD, LONG_TRADE], false, Some((100, 100_000, true))),
+    (&[ADD, SHORT_TRADE], false, Some((100, 100_000, true))),
+    (&[ADD, EXPANDED_TRADE], false, Some((100, 100_000, true))),
+    (&[ADD, TRADE_BREAK], false, Some((100, 100_000, true))),
+    (&[ADD, END_OF_SESSION], false, Some((100, 100_000, true))),
+    (&[TIME, ADD, UNKNOWN], true, Some((100, 100_000, true))),
 ];
 
 // Applies the messages of each row to a new book.
