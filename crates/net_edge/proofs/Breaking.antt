@@ -1,6 +1,5 @@
 -- Where a run breaks off.
-use Rattle.std.proofs.Common.{◌≡◌, List, [], ◌∷◌, Option, None, Some, Result, Ok, Err, sym, ap, ◌∙◌, subst}
-use Rattle.std.specs.Result.{IfErr, IsErr, IsErrAnd}
+use Rattle.std.proofs.Common.{List, [], ◌∷◌, Option, None, Some, sym, ap, ◌∙◌, subst}
 use Rattle.pitch_io.specs.Nets.{Call}
 use Rattle.pitch_io.specs.Coming.{ListsCall}
 use Rattle.net_edge.specs.Breaking.{HasFailed, ListsAdded, Breaks}

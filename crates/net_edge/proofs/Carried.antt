@@ -1,6 +1,6 @@
 -- Over a net that carried what it was given, the client's book is that of the venue's messages.
 use Rattle.pitch_text.specs.declared.verb.Session.TheVariants.{Grp}
-use Rattle.std.proofs.Common.{◌≡◌, ℕ, zero, suc, ◌≤◌, ◌||◌, Bool, true, false, not, ◌&&◌, cond, List, [], ◌∷◌, ◌++◌, length, take, Option, refl, sym, ap, ◌∙◌, subst, append_assoc, is_some, arith}
+use Rattle.std.proofs.Common.{◌≡◌, ℕ, ◌≤◌, ◌||◌, Bool, true, false, not, ◌&&◌, cond, List, [], ◌∷◌, ◌++◌, length, take, Option, refl, sym, ap, ◌∙◌, subst, append_assoc, is_some, arith}
 use Rattle.std.specs.FinMap as map
 use Rattle.std.specs.List.{AllByRecursion, Contains}
 use Rattle.std.proofs.lemmas.List.{append-nil}
@@ -33,7 +33,7 @@ use Rattle.client_links.specs.Linking.{Lookups, NoLookup, link_tells}
 use Rattle.spin_path.specs.Paths.{heard_all}
 use Rattle.world_model.specs.Ends.{gap_link, spin_link}
 use Rattle.world_model.specs.State.{Connection}
-use Rattle.world_model.specs.Verbs.{at_link, pumps, pumped_times}
+use Rattle.world_model.specs.Verbs.{at_link, pumps}
 use Rattle.world_model.specs.Witness.{Witnessed}
 use Rattle.world_model.proofs.SpinWitness as spin
 use Rattle.world_model.proofs.Witness as witness

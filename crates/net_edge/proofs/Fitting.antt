@@ -1,5 +1,5 @@
 -- No datagram that a demo sends is longer than a packer makes one.
-use Rattle.std.proofs.Common.{◌≡◌, ℕ, zero, suc, ◌+◌, ◌-◌, ◌≤◌, ◌++◌, Bool, true, false, ◌||◌, cond, eqb, List, [], ◌∷◌, length, drop, take, replicate, refl, arith, is_some, length-append}
+use Rattle.std.proofs.Common.{◌≡◌, ℕ, zero, suc, ◌+◌, ◌-◌, ◌≤◌, ◌++◌, Bool, true, false, ◌||◌, cond, eqb, List, [], ◌∷◌, length, drop, refl, arith, is_some, length-append}
 use Rattle.std.specs.List.{AllByRecursion, concat}
 use Rattle.pitch_fields.proofs.Lists.{all_take, all_drop, all_replicate}
 use Rattle.pitch_io.specs.declared.line.Line.{Line}

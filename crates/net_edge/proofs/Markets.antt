@@ -1,17 +1,17 @@
 -- What the venue's side does in a turn.
-use Rattle.std.proofs.Common.{◌≡◌, ℕ, zero, suc, ◌+◌, ◌-◌, ◌≤◌, ◌<◌, true, List, [], ◌∷◌, ◌++◌, length, drop, replicate, Some, refl, sym, ap, ◌∙◌, subst, arith}
+use Rattle.std.proofs.Common.{◌≡◌, ℕ, zero, suc, ◌+◌, ◌-◌, ◌≤◌, ◌<◌, true, List, [], ◌∷◌, ◌++◌, length, drop, replicate, Some, sym, ap, ◌∙◌, subst, arith}
 use Rattle.std.specs.List.{AllByRecursion, slice_get}
 use Rattle.std.proofs.lemmas.List.{drop_all, drop_at}
 use Rattle.pitch_fields.proofs.Lists.{all_push}
 use Rattle.unit_packets.proofs.OnePacking.{no_messages}
 use Rattle.pitch_messages.specs.Raw.{IsRaw}
-use Rattle.unit_packets.specs.Packing.{IsPacking, packed, packed_on}
+use Rattle.unit_packets.specs.Packing.{IsPacking, packed}
 use Rattle.pitch_model.specs.History.{Raw}
 use Rattle.pitch_model.specs.Honest.{AreVenues, message_at}
 use Rattle.heard_items.specs.Datagrams.{IsPiece}
 use Rattle.venue_core.specs.Commands.{raw_of}
 use Rattle.venue_core.specs.Plan.{plan, plan_command}
-use Rattle.venue_core.proofs.PlanBooks.{plan_length, plan_next, plan_step}
+use Rattle.venue_core.proofs.PlanBooks.{plan_length, plan_step}
 use Rattle.venue_core.proofs.PlanBytes.{plan_at_place}
 use Rattle.gap_store.specs.Look.{View, Store, store_of}
 use Rattle.session_ends.specs.Events.{Event, Fed}

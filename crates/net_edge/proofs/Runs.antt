@@ -1,8 +1,6 @@
 -- One step more in a run that is under way.
 use Rattle.std.proofs.Common.{◌≡◌, ℕ, ◌+◌, List, [], ◌∷◌, ◌++◌, take, drop, Option, None, Some, true, refl, ap, sym, ◌∙◌, subst, append_assoc}
-use Rattle.std.specs.List.{AllByRecursion, slice_get}
-use Rattle.std.proofs.lemmas.List.{append-nil, map-append, take_more, take-append-drop}
-use Rattle.std.proofs.lemmas.Option.{get_or_from_slice_get, slice_get_within}
+use Rattle.std.proofs.lemmas.List.{append-nil}
 use Rattle.std.proofs.Math.Seq.{take-add}
 use Rattle.pitch_io.specs.declared.line.Line.{Line}
 use Rattle.pitch_io.specs.declared.line.Line.TheVariants.{A, B, Gap}
@@ -11,8 +9,6 @@ use Rattle.pitch_io.specs.declared.net.LinkEnd.TheVariants.{GrpClient, GrpServer
 use Rattle.pitch_io.specs.declared.net.NetDone.{NetDone}
 use Rattle.pitch_io.specs.Nets.{Call, NetDoneFailed, Send}
 use Rattle.pitch_io.specs.Coming.{ListsCall}
-use Rattle.pitch_messages.specs.Room.{Roomy}
-use Rattle.unit_packets.specs.Packing.{bytes_in}
 use Rattle.net_edge.specs.Acting.{called, scene_after, sent_on, end_puts, all_tick, next_turn}
 use Rattle.net_edge.specs.Due.{Setting, IsDuePiece, beat, is_tenth}
 use Rattle.net_edge.specs.Playing.{ListsCalls, Plays}

@@ -1,17 +1,17 @@
 -- The venue's side of a shared unit. A server that was told of all, and that has seen no more than all afterwards, answered at just that.
-use Rattle.std.proofs.Common.{◌≡◌, ℕ, zero, suc, ◌-◌, ◌≤◌, Bool, true, false, cond, ◌||◌, List, [], ◌∷◌, ◌++◌, length, replicate, Option, None, Some, refl, sym, ap, ◌∙◌, subst, arith, length-append, slice_get, is_some}
+use Rattle.std.proofs.Common.{◌≡◌, ℕ, zero, suc, ◌-◌, ◌≤◌, Bool, true, false, cond, ◌||◌, List, [], ◌∷◌, ◌++◌, length, replicate, Option, None, Some, refl, sym, ap, ◌∙◌, subst, arith, is_some}
 use Rattle.std.proofs.lemmas.List.{append-nil}
 use Rattle.std.proofs.lemmas.Option.{same_Some}
 use Rattle.venue_core.proofs.Accepting.{last_there}
 use mathlib.Core.List.{IsPrefix}
 use Rattle.pitch_messages.specs.declared.session.SessionMessage.{SessionMessage}
 use Rattle.pitch_messages.specs.declared.session.SessionMessage.TheVariants.{Login, LoginReply, GapRequest, GapReply, SpinAvailable, SpinRequest, SpinReply, SpinFinished}
-use Rattle.pitch_model.specs.Advertising.{Operation, Accept, Advertise, accepted_by, advertised_by, with_sequence, newest_of}
+use Rattle.pitch_model.specs.Advertising.{Operation, Accept, Advertise, accepted_by, advertised_by, with_sequence}
 use Rattle.pitch_model.specs.History.{Raw}
 use Rattle.pitch_model.proofs.Advertising.{accepted_more, advertised_accept, advertised_advertise}
-use Rattle.gap_store.specs.Look.{View, look}
+use Rattle.gap_store.specs.Look.{View}
 use Rattle.gap_store.specs.Looking.{IsLater}
-use Rattle.gap_store.proofs.OneView.{one_view, later_both as same_views}
+use Rattle.gap_store.proofs.OneView.{later_both as same_views}
 use Rattle.session_ends.specs.Answering.{Answer, Answerer, no_answer, followed, answers}
 use Rattle.session_ends.specs.Hearings.{Rises}
 use Rattle.session_ends.specs.Closing.{Setup, cause_of, closed_of, logged_in, logs_in, login_status}
@@ -37,7 +37,7 @@ use Rattle.spin_server.specs.ShelfViews.{seen_of}
 use Rattle.spin_server.proofs.Serves as serves
 use Rattle.spin_server.proofs.Shelving.{later_both, seen_newest, seen_served}
 use Rattle.shared_unit.specs.Histories.{kept_at, served_at, then_done}
-use Rattle.shared_unit.proofs.Looking.{finds_at, newest_at, messages_later, images_later}
+use Rattle.shared_unit.proofs.Looking.{messages_later, images_later}
 use Rattle.venue_core.specs.Commands.{raw_of}
 use Rattle.venue_core.specs.Plan.{plan, plan_command}
 use Rattle.venue_core.specs.Stands.{last_of}

@@ -18,15 +18,13 @@ ghost use Rattle.world_model.specs.Ends.{the_account};
 ghost use Rattle.net_edge.specs.declared.error.DemoError.TheVariants as errors;
 ghost use Rattle.net_edge.specs.Breaking.{Breaks};
 ghost use Rattle.net_edge.specs.Demo.{IsDemo, IsLast, BreaksDemo};
-ghost use Rattle.net_edge.specs.Sending.{SendsPieces};
 ghost use Rattle.net_edge.specs.Due.{Setting, setting, demo_unit, call_room, hold_limit};
 ghost use Rattle.net_edge.specs.Due.{kept_messages};
 ghost use Rattle.net_edge.specs.Markets.{SideAt};
 ghost use Rattle.net_edge.specs.Playing.{NetCounts, ClientHas, SpinHas, EndsHave, DemoAt};
-ghost use Rattle.net_edge.specs.Playing.{Plays, calls_before};
-ghost use Rattle.net_edge.specs.Sending.{DoesDemo};
+ghost use Rattle.net_edge.specs.Playing.{Plays, calls_before, all_put};
 ghost use Rattle.net_edge.specs.Scene.{Scene, first_scene, said_at};
-ghost use Rattle.net_edge.specs.Playing.{all_put};
+ghost use Rattle.net_edge.specs.Sending.{DoesDemo, SendsPieces};
 ghost use Rattle.net_edge.specs.Turns.{IsOver};
 
 use crate::ends::Ends;

@@ -1,5 +1,5 @@
 -- The worlds of a storm stand by rising unit, from 1 on.
-use Rattle.std.proofs.Common.{◌≡◌, ℕ, zero, suc, ◌+◌, ◌≤◌, ◌<◌, inl, inr, Bool, true, false, ◌||◌, eqb, List, [], ◌∷◌, length, reverse, refl, sym, ap, ◌∙◌, subst, arith, Some, Result, Ok}
+use Rattle.std.proofs.Common.{◌≡◌, ℕ, zero, suc, ◌+◌, ◌≤◌, ◌<◌, inl, inr, Bool, true, ◌||◌, eqb, List, [], ◌∷◌, length, reverse, refl, sym, ap, ◌∙◌, subst, arith, Some, Result, Ok}
 use Rattle.std.specs.List.{AllByRecursion, slice_get, enumerate_from}
 use Rattle.std.specs.List.Sorted.{IsStrictlySortedBy}
 use Rattle.std.specs.Ordering.{nat_cmp}
