@@ -11,6 +11,7 @@ import json
 import os
 import subprocess
 import sys
+import tempfile
 
 HERE = os.path.dirname(os.path.abspath(__file__))
 SAMPLE = os.path.join(HERE, '..', 'sample.pitch')
@@ -41,6 +42,10 @@ MERGED = AVAILABLE[1] + SPIN + LINE
 RELAYED = bytes.fromhex('28000201 01000000 0697 00000000'
                         '1a22 00000000 0500000000000000 42 6400 49424d202020 e803 01'
                         '16000101 03000000 0e29 00000000 0500000000000000')
+# A record of a capture: a datagram to port 30501 whose first two bytes could be the length of a block.
+STRAY = bytes.fromhex('01000000 02000000 34000000 34000000 01005e5a8550 020000000001 0800'
+                      '4500 0026 00000000 1011 0000 0a000001 e9da8550 1388 7725 0012 0000 0a000101 01000000 5858')
+LOSSES = ['1,233.218.133.80:30501,3,3,1', '1,all,3,3,1']
 UNITS = ['unit 1 blocks 4, at the end current 4; behind after 2 blocks, overflows 0',
          'unit 2 blocks 3, at the end current 3; behind after 0 blocks, overflows 0']
 
@@ -87,6 +92,35 @@ def dissected():
     return ''.join(lines + ['%s\t\t\t\n' % LINE.hex()]).encode()
 
 
+def contents(name):
+    with open(name, 'rb') as file:
+        return file.read()
+
+
+def books(text):
+    return b''.join(line for line in text.splitlines(True) if not line.startswith(b'block ')).decode()
+
+
+def carried(program, feed):
+    """The books of a feed that is followed in two pieces; the second begins before the end of the first."""
+    half = [at for at in block_places(feed) if at < len(feed) // 2]
+    with tempfile.TemporaryDirectory() as folder:
+        first, second = os.path.join(folder, 'first'), os.path.join(folder, 'second')
+        with open(first, 'wb') as file:
+            file.write(follow(program, feed[:half[-1]]))
+        image = run([script('carry.py'), first])
+        with open(second, 'wb') as file:
+            file.write(follow(program, run([program, 'relay'], image + feed[half[-100]:])))
+        return run([script('carry.py'), first, '--number', second]).decode()
+
+
+def block_places(feed):
+    at = 0
+    while at < len(feed):
+        yield at
+        at += int.from_bytes(feed[at:at + 2], 'little')
+
+
 def cases(program):
     """The name of each case, what came and what is wanted."""
     text = follow(program, SAMPLE)
@@ -99,6 +133,17 @@ def cases(program):
     yield 'json of a capture', objects(captured)[-1], {'packets': 7, 'used': 6, 'faulty': 1}
     times = run([script('times.py'), '30501'], CAPTURE).decode().split('\n')[:-1]
     yield 'times', [line.split()[0] for line in times], [str(k) for k in range(1, 8)]
+    yield 'blocks', run([script('blocks.py'), '--port', '30501'], CAPTURE), contents(SAMPLE)
+    stray = STRAY + contents(CAPTURE)[24:]
+    times = run([script('times.py'), '30501'], contents(CAPTURE)[:24] + stray).decode().split('\n')[:-1]
+    yield 'times where a datagram is no blocks', len(times), 7
+    got = run([script('blocks.py')], contents(CAPTURE)[:24] + stray)
+    yield 'blocks where a datagram is no blocks', got, contents(SAMPLE)
+    lost = run([script('losses.py')], CAPTURE).decode().split('\n')
+    yield 'losses', [','.join(line.split(',')[:5]) for line in lost[1:-1]], LOSSES
+    for unit in (1, 2):
+        feed = storm(program, 1, unit, 2000)
+        yield 'carried over', carried(program, feed), books(follow(program, feed))
     yield 'report', run([script('report.sh'), program, CAPTURE, '30501']).decode().split('\n')[4:6], UNITS
     for unit, shares in ((1, 181375), (2, 182000)):
         yield 'storm', orders_and_shares(follow(program, storm(program, 1, unit, 2000))), (625, shares)

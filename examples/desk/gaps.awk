@@ -1,4 +1,5 @@
-# From which block to which each unit was behind, and how many messages it lacked at most:
+# From which block to which each unit was behind, and how far its last message then was above its reach at most. Of
+# those messages some may have come, and wait for the missing ones:
 #
 #     ./pitch follow < FEED | awk -f examples/desk/gaps.awk
 #

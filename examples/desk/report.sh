@@ -3,10 +3,15 @@
 # the program and of its text, the exit status, the packets, and each unit's last status.
 #
 #     examples/desk/report.sh PROGRAM CAPTURE [PORT]
+#
+# PROGRAM is the built program, crates/pitch/out/pitch. Of the script ./pitch the sum would be the script's.
 set -eu
 [ $# -ge 2 ] || { echo "usage: report.sh PROGRAM CAPTURE [PORT]" >&2; exit 2; }
 program=$1
 capture=$2
+case $(head -c 2 -- "$program") in
+    '#!') echo "report.sh: $program is a script: name the built program, crates/pitch/out/pitch" >&2; exit 2 ;;
+esac
 work=$(mktemp -d)
 trap 'rm -rf "$work"' EXIT
 sum() { sha256sum < "$1" | cut -c1-64; }
