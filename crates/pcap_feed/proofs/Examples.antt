@@ -83,3 +83,45 @@ not_behind_another = refl
 not_where_it_is_cut_off : carried_by 57 (frame_of (8 ∷ 0 ∷ []) (packet_of 0 17)) ≡ []
 unfolding payload in_frame in_ip in_udp
 not_where_it_is_cut_off = refl
+
+-- ---- Packets with options, later parts, and lengths that do not fit
+-- by the first byte, the total length, the low byte of the place in a parted packet, the options and
+-- the length of the UDP datagram
+abbrev packet_by : ℕ → ℕ → ℕ → List ℕ → ℕ → List ℕ
+packet_by first total part options size =
+    first ∷ 0 ∷ 0 ∷ total ∷ 0 ∷ 0 ∷ 0 ∷ part ∷ 0x40 ∷ 17 ∷ 0 ∷ 0 ∷ 0x0a ∷ 0 ∷ 0 ∷ 1 ∷ 0xe0 ∷ 0 ∷ 0 ∷ 1 ∷ []
+    ++ (options ++ (0x13 ∷ 0x88 ∷ 0x75 ∷ 0x31 ∷ 0 ∷ size ∷ 0 ∷ 0 ∷ time_block))
+
+behind_options : carried_by 60 (frame_of (8 ∷ 0 ∷ []) (packet_by 0x46 0x2e 0 (1 ∷ 1 ∷ 1 ∷ 0 ∷ []) 0x16)) ≡ time_block ∷ []
+unfolding payload in_frame in_ip in_udp
+behind_options = refl
+
+not_a_last_fragment : carried_by 56 (frame_of (8 ∷ 0 ∷ []) (packet_by 0x45 0x2a 1 [] 0x16)) ≡ []
+unfolding payload in_frame in_ip in_udp
+not_a_last_fragment = refl
+
+not_of_version_6 : carried_by 56 (frame_of (8 ∷ 0 ∷ []) (packet_by 0x65 0x2a 0 [] 0x16)) ≡ []
+unfolding payload in_frame in_ip in_udp
+not_of_version_6 = refl
+
+not_behind_a_short_header : carried_by 56 (frame_of (8 ∷ 0 ∷ []) (packet_by 0x44 0x2a 0 [] 0x16)) ≡ []
+unfolding payload in_frame in_ip in_udp
+not_behind_a_short_header = refl
+
+not_past_its_frame : carried_by 56 (frame_of (8 ∷ 0 ∷ []) (packet_by 0x45 0x2b 0 [] 0x16)) ≡ []
+unfolding payload in_frame in_ip in_udp
+not_past_its_frame = refl
+
+-- a datagram of a byte more than its packet has, though the frame has one
+not_past_its_packet : carried_by 56 (frame_of (8 ∷ 0 ∷ []) (packet_by 0x45 0x29 0 [] 0x16)) ≡ []
+unfolding payload in_frame in_ip in_udp
+not_past_its_packet = refl
+
+not_shorter_than_its_header : carried_by 56 (frame_of (8 ∷ 0 ∷ []) (packet_by 0x45 0x2a 0 [] 7)) ≡ []
+unfolding payload in_frame in_ip in_udp
+not_shorter_than_its_header = refl
+
+-- one without bytes is carried all the same
+one_without_bytes : carried_by 56 (frame_of (8 ∷ 0 ∷ []) (packet_by 0x45 0x2a 0 [] 8)) ≡ [] ∷ []
+unfolding payload in_frame in_ip in_udp
+one_without_bytes = refl

@@ -14,7 +14,7 @@ use Rattle.pitch_messages.specs.Forms.{add_message, status_message}
 use Rattle.pitch_messages.specs.Reading.{reads}
 use Rattle.pitch_messages.specs.Writing.{written}
 use Rattle.pitch_model.specs.Book.{Book, symbol_cmp, empty_book, with_status, with_order, without_order, reformed, reduced_by, left_with, modified, is_displayed, after, book_after}
-use Rattle.pitch_model.specs.History.{image_finished, Entry, Message, Next, GrpUp, GrpDown, GapReply, SpinUp, SpinDown, Advertised, SpinReply, ImageMessages, SpinFinished, Ticked, NoSpin, Asked, Running, spin_of}
+use Rattle.pitch_model.specs.History.{image_finished, can_promise, Entry, Message, Next, GrpUp, GrpDown, GapReply, SpinUp, SpinDown, Advertised, SpinReply, ImageMessages, SpinFinished, Ticked, NoSpin, Asked, Running, spin_of}
 use Rattle.pitch_model.specs.Advertising.{Accept, Advertise, advertised_by, last_ten}
 use Rattle.pitch_model.specs.Asking.{ask_of, wants, gap_ask, owes, is_grp_up, is_spin_up, advertised_of}
 use Rattle.pitch_model.specs.Levels.{best, best_of, same_side, level, shares, with_level}
@@ -202,12 +202,20 @@ one_is_halted : book_after (halted ∷ clear ∷ []) ≡ with_status empty_book 
 unfolding after reads
 one_is_halted = refl
 
+entries_of_halted : map.entries (with_status empty_book (codes "IBM     ") (72, 48)).statuses ≡ (codes "IBM     ", (72, 48)) ∷ []
+entries_of_halted =
+    map.entries-insert nat_list_cmp_total map.empty (codes "IBM     ") (72, 48) ∙ ap (map.put symbol_cmp (codes "IBM     ") (72, 48)) no_statuses
+
 image_of_a_status : image (halted ∷ []) 1 ≡ halted ∷ []
 unfolding after reads image image_of written
 image_of_a_status =
-    let statuses : map.entries (with_status empty_book (codes "IBM     ") (72, 48)).statuses ≡ (codes "IBM     ", (72, 48)) ∷ [] =
-    map.entries-insert nat_list_cmp_total map.empty (codes "IBM     ") (72, 48) ∙ ap (map.put symbol_cmp (codes "IBM     ") (72, 48)) no_statuses in
-    λ i. mapped written (mapped (λ (o : Order). add_message o 0) (mapped (λ (e : ℕ × Order). e.1) (no_entries no_orders (map.len-empty nat_cmp Order) i)) ++ mapped (λ (state : TradingState). status_message state 0) (mapped symbol_state (statuses i)))
+    λ i. mapped written (mapped (λ (o : Order). add_message o 0) (mapped (λ (e : ℕ × Order). e.1) (no_entries no_orders (map.len-empty nat_cmp Order) i)) ++ mapped (λ (state : TradingState). status_message state 0) (mapped symbol_state (entries_of_halted i)))
+
+-- the order stands before the status, though the status came first
+image_of_both : image (halted ∷ order ∷ []) 2 ≡ short_add ∷ halted ∷ []
+unfolding after reads image image_of written add_message
+image_of_both =
+    λ i. mapped written (mapped (λ (o : Order). add_message o 0) (mapped (λ (e : ℕ × Order). e.1) (entries_of_one i)) ++ mapped (λ (state : TradingState). status_message state 0) (mapped symbol_state (entries_of_halted i)))
 
 -- ---- What is asked for
 -- 2 is missing, and the Gap Request Proxy is up
@@ -413,3 +421,24 @@ another_sequence_finishes_nothing = refl
 an_image_is_asked_for_after_an_overflow : ask_of 2 (Advertised 3 ∷ SpinUp ∷ message 7 ∷ three ++ GrpUp ∷ []) ≡ Some (Spin 3)
 unfolding reach_of held_count
 an_image_is_asked_for_after_an_overflow = refl
+
+-- ---- Trouble is over once the reach rises
+-- a gap was refused, and what was missing came; behind it another message is missing
+a_gap_is_asked_for_again_once_the_reach_rose : ask_of 4096 (message 2 ∷ GapReply false ∷ Ticked (Some (Gap 2 1)) ∷ Advertised 5 ∷ SpinUp ∷ message 5 ∷ message 3 ∷ message 1 ∷ GrpUp ∷ []) ≡ Some (Gap 4 1)
+unfolding reach_of held_count
+a_gap_is_asked_for_again_once_the_reach_rose = refl
+
+-- an image that was asked for or runs keeps no gap from being asked for
+a_gap_is_asked_for_while_an_image_runs : ask_of 4096 (SpinReply 3 0 true ∷ Ticked (Some (Spin 3)) ∷ Advertised 3 ∷ SpinUp ∷ message 3 ∷ message 1 ∷ GrpUp ∷ []) ≡ Some (Gap 2 1)
+unfolding reach_of held_count
+a_gap_is_asked_for_while_an_image_runs = refl
+
+-- ---- A spin that runs goes on
+the_end_of_another_is_passed_over : spin_of (SpinFinished 3 ∷ SpinReply 2 1 true ∷ Ticked (Some (Spin 2)) ∷ []) ≡ Running 2 1 []
+the_end_of_another_is_passed_over = refl
+
+a_further_reply_is_passed_over : spin_of (SpinReply 2 0 false ∷ ImageMessages (clock ∷ []) ∷ SpinReply 2 1 true ∷ Ticked (Some (Spin 2)) ∷ []) ≡ Running 2 1 (clock ∷ [])
+a_further_reply_is_passed_over = refl
+
+no_more_orders_than_sequences_are_promised : can_promise 4294967295 4294967295 ≡ false
+no_more_orders_than_sequences_are_promised = refl

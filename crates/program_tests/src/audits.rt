@@ -14,6 +14,9 @@ const FIRST: &[u8] = b"\x0e\0\x01\x01\x01\0\0\0\x06\x20\x98\x85\0\0";
 
 const SECOND: &[u8] = b"\x0e\0\x01\x01\x02\0\0\0\x06\x20\x98\x85\0\0";
 
+// The time of unit 2, as its first message.
+const OTHER: &[u8] = b"\x0e\0\x01\x02\x01\0\0\0\x06\x20\x98\x85\0\0";
+
 // An order and a trading status, as its second message and its third.
 const ORDER_AND_STATUS: &[u8] =
     b"\x34\0\x02\x01\x02\0\0\0\x1a\x22\0\0\0\0\x05\0\0\0\0\0\0\0B\x64\0IBM   \xe8\x03\x01\x12\x31\0\0\0\0IBM     H0  ";
@@ -24,11 +27,21 @@ const LATER_BOOK: &[u8] =
     b"current 3\nbook unit 1 at 3 second 34200 orders 1\norder 5 B 100 IBM 10.0000\nstatus IBM H 0\n";
 
 // Inputs, and the line that is written of each.
-static INPUTS: [(&[&[u8]], &str); 11] = [
+static INPUTS: [(&[&[u8]], &str); 12] = [
     (&[NONE], "audit yes books 0\n"),
     (&[ONE_BLOCK, FIRST], "audit yes books 0\n"),
     (&[ONE_BLOCK, FIRST, BOOK], "audit yes books 1\n"),
     (&[ONE_BLOCK, FIRST, BOOK, b"\n"], "audit yes books 1\n"),
+    // each unit has sequences of its own
+    (
+        &[
+            b"\x1c\0\0\0\0\0\0\0",
+            FIRST,
+            OTHER,
+            b"book unit 2 at 1 second 34200 orders 0",
+        ],
+        "audit yes books 1\n",
+    ),
     (
         &[ONE_BLOCK, FIRST, b"book unit 1 at 1 second 34200 orders 1"],
         "audit no line 1\n",

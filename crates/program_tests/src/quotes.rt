@@ -12,7 +12,7 @@ use std::thread::Threads;
 use std::time::Clock;
 
 // Texts of commands, and the quotes of what `pack` makes of them for unit 1.
-static TEXTS: [(&[u8], &[u8]); 4] = [
+static TEXTS: [(&[u8], &[u8]); 5] = [
     (b"", b""),
     // nothing is written where no best changes
     (
@@ -24,6 +24,11 @@ static TEXTS: [(&[u8], &[u8]); 4] = [
         b"add 1 B 100 IBM 10.00\nadd 2 S 5 IBM 10.05\nclear\n",
         b"quote unit 1 at 1 IBM B 10.0000 100\nquote unit 1 at 2 IBM S 10.0500 5\n\
             quote unit 1 at 3 IBM B - -\nquote unit 1 at 3 IBM S - -\n",
+    ),
+    // a best that has another price is told, though it has as many shares
+    (
+        b"add 1 S 10 IBM 10.05\nmodify 1 10 10.04\n",
+        b"quote unit 1 at 1 IBM S 10.0500 10\nquote unit 1 at 2 IBM S 10.0400 10\n",
     ),
     // symbols stand by their bytes, and not as they came
     (

@@ -37,8 +37,12 @@ const SENT_THEN: &[u8] = b"\x28\x00\x02\x01\x01\x00\x00\x00\x06\x97\x00\x00\x00\
     \x1a\x22\x00\x00\x00\x00\x05\x00\x00\x00\x00\x00\x00\x00B\x64\x00IBM   \xe8\x03\x01\
     \x16\x00\x01\x01\x03\x00\x00\x00\x0e\x29\x00\x00\x00\x00\x05\x00\x00\x00\x00\x00\x00\x00";
 
+// The time of units 1 and 2, each as its first message.
+const TIMES: &[u8] = b"\x0e\x00\x01\x01\x01\x00\x00\x00\x06\x20\x98\x85\x00\x00\
+    \x0e\x00\x01\x02\x01\x00\x00\x00\x06\x20\x98\x85\x00\x00";
+
 // The blocks of a stream, and what is written of it.
-static STREAMS: [(&[&[u8]], &[u8]); 5] = [
+static STREAMS: [(&[&[u8]], &[u8]); 6] = [
     (&[], b""),
     (&[BEAT, AVAILABLE, REPLY, IMAGE, FINISHED], SENT),
     (
@@ -48,6 +52,8 @@ static STREAMS: [(&[&[u8]], &[u8]); 5] = [
     // an image that was not advertised is not asked for
     (&[BEAT, REPLY, IMAGE, FINISHED], b""),
     (&[TIME, TIME], TIME),
+    // each unit has sequences of its own
+    (&[TIMES], TIMES),
 ];
 
 // At sequences 3 and 4 of unit 1: IBM is halted, and a message of an unknown type.

@@ -2,9 +2,15 @@
 
 use crate::nets::NoNet;
 use crate::runs::run_over;
-use pitch_io::{FreeGate, MeetGate};
+use pitch_fields::OutOfMemory;
+use pitch_io::{FreeGate, Gate, MeetGate, Work};
 use pitch_tool::ExitStatus;
+use std::alloc::Global;
+use std::sync::Wait;
+use std::sync::atomic::{AtomicU32, Ordering};
 use std::test::*;
+use std::thread::Threads;
+use std::time::Clock;
 use storm_replay::{Storm, generate};
 
 // The words of a storm, and its summary. The orders and shares are those that as many commands of
@@ -105,5 +111,69 @@ fn two_workers_of_a_schedule_meet(rt: HostRuntime) -> Result<(), Fail> {
     let outcome = run_over(&rt, rt.alloc(), line, &schedule, &mut NoNet, &gate)?;
     assert!(rt; outcome.written().len() > 100_000);
     assert!(rt; (gate.spent(), gate.met()) == (false, 2));
+    Ok(())
+}
+
+// With one worker no two units run beside one another: the first waits in vain for the second.
+#[test]
+fn one_worker_runs_one_unit_after_another(rt: HostRuntime) -> Result<(), Fail> {
+    let gate = MeetGate::looking(10_000);
+    let line = "storm --number 0 --units 2 --steps 16";
+    let outcome = run_over(&rt, rt.alloc(), line, b"", &mut NoNet, &gate)?;
+    assert!(rt; outcome.is(ExitStatus::Done, STORMS[1].1.as_bytes(), ""));
+    assert!(rt; (gate.spent(), gate.met()) == (true, 1));
+    Ok(())
+}
+
+// A gate that counts what begins and what ends.
+#[derive(Drop)]
+struct CountingGate {
+    begun: AtomicU32,
+    ended: AtomicU32,
+}
+
+impl Gate for CountingGate {
+    fn before(&self, _work: Work) {
+        self.begun.fetch_add(1, Ordering::SeqCst);
+    }
+
+    fn after(&self, _work: Work) {
+        self.ended.fetch_add(1, Ordering::SeqCst);
+    }
+}
+
+// Lines, and how many pieces of work the gate is told of at least.
+const GATED: [(&str, u32); 4] = [
+    ("storm --number 0 --units 2 --steps 16", 2),
+    ("replay", 2),
+    ("replay --workers 2", 2),
+    ("drill --number 0 --units 1 --count 16", 32),
+];
+
+// Whether the gate is told of each piece of work twice.
+fn are_told_twice<R: Threads + Wait + Clock + Sync>(
+    rt: &R,
+    alloc: Global,
+    lines: &[(&str, u32)],
+) -> Result<bool, OutOfMemory> {
+    for (line, least) in lines {
+        let gate = CountingGate {
+            begun: AtomicU32::new(0),
+            ended: AtomicU32::new(0),
+        };
+        let schedule = b"1 tick\n2 tick\n";
+        let outcome = run_over(rt, alloc, line, schedule, &mut NoNet, &gate)?;
+        let begun = gate.begun.load(Ordering::SeqCst);
+        let told = begun >= *least && begun == gate.ended.load(Ordering::SeqCst);
+        if outcome.written().is_empty() || !told {
+            return Ok(false);
+        }
+    }
+    Ok(true)
+}
+
+#[test]
+fn a_gate_is_told_of_each_begin_and_each_end(rt: HostRuntime) -> Result<(), Fail> {
+    assert!(rt; are_told_twice(&rt, rt.alloc(), &GATED)?);
     Ok(())
 }

@@ -1,5 +1,5 @@
 -- Worked examples, computed by the definitions.
-use Rattle.std.proofs.Common.{◌≡◌, ℕ, ◌++◌, ◌+◌, inr, Some, true, List, [], ◌∷◌, map, length, drop, refl, sym, ap, ◌∙◌, codes}
+use Rattle.std.proofs.Common.{◌≡◌, ℕ, ◌++◌, ◌+◌, inr, Some, None, true, List, [], ◌∷◌, map, length, drop, refl, sym, ap, ◌∙◌, codes}
 use Rattle.std.specs.List.{concat}
 use Rattle.std.specs.Ordering.{nat_cmp}
 use Rattle.std.specs.FinMap as finite
@@ -15,15 +15,18 @@ use Rattle.pitch_messages.specs.Session.{session_reads}
 use Rattle.pitch_messages.specs.Writing.{written}
 use Rattle.pitch_messages.specs.Forms.{add_message, status_message}
 use Rattle.pitch_messages.specs.declared.trading_state.TradingState.{TradingState}
-use Rattle.pitch_model.specs.History.{Raw}
+use Rattle.pitch_model.specs.History.{Raw, Next, Advertised, ImageMessages, Ticked}
 use Rattle.pitch_model.specs.Book.{Book, empty_book, after, book_after}
 use Rattle.pitch_model.specs.Image.{image, image_of}
 use Rattle.pitch_model.specs.Reach.{reach, reach_of, held_count}
 use Rattle.pitch_model.specs.Statuses.{symbol_state}
 use Rattle.pitch_model.proofs.Examples.{no_statuses}
 use Rattle.feed_lines.specs.Texts.{texts_after}
+use Rattle.heard_items.specs.declared.change.ImageEnd.TheVariants as end
+use Rattle.relay_unit.specs.Changing.{end_or}
 use Rattle.relay_unit.specs.Following.{Sends}
-use Rattle.relay_unit.specs.Hearing.{relay_history}
+use Rattle.pitch_model.specs.declared.ask.Ask.TheVariants.{Spin}
+use Rattle.relay_unit.specs.Hearing.{first_heard, heard_session, relay_heard, relay_history}
 use Rattle.relay_unit.proofs.Following.{one_step}
 use Rattle.relay_unit.specs.RelayText.{relay_text}
 
@@ -124,3 +127,25 @@ it_is_sent = one_step knows_the_time empty_book (unit_clear ∷ []) (inr (record
 a_follower_has_the_time : (book_after (clock ∷ unit_clear ∷ [])).second ≡ Some 34200
 unfolding after reads
 a_follower_has_the_time = refl
+
+-- ---- What else a Spin Server and its client say
+-- a login, its reply and a request are none of an image, nor is an end that is cut short
+others_tell_nothing : heard_session ((22 ∷ 0x01 ∷ codes "0001FEED  PITCH     ") ∷ (3 ∷ 0x02 ∷ 0x41 ∷ []) ∷ (6 ∷ 0x81 ∷ 2 ∷ 0 ∷ 0 ∷ 0 ∷ []) ∷ (5 ∷ 0x83 ∷ 2 ∷ 0 ∷ 0 ∷ []) ∷ []) [] ≡ []
+unfolding session_reads
+others_tell_nothing = refl
+
+-- a message of any other type is one of an image
+another_is_of_an_image : heard_session ((3 ∷ 0x84 ∷ 0 ∷ []) ∷ (3 ∷ 0x03 ∷ 0 ∷ []) ∷ []) [] ≡ ImageMessages ((3 ∷ 0x03 ∷ 0 ∷ []) ∷ []) ∷ ImageMessages ((3 ∷ 0x84 ∷ 0 ∷ []) ∷ []) ∷ []
+another_is_of_an_image = refl
+
+-- a tick comes after a block of a line too: there the image is asked for
+a_line_block_ticks : relay_heard 4096 (block 3 []) (Advertised 2 ∷ first_heard) ≡ Ticked (Some (Spin 2)) ∷ Next 3 ∷ Advertised 2 ∷ first_heard
+unfolding reach_of held_count
+a_line_block_ticks = refl
+
+-- of two ends of images in a block the last is told
+the_last_end_is_told : end_or end.Taken end.Stale ≡ end.Stale
+the_last_end_is_told = refl
+
+what_ends_no_image_is_not : end_or end.Taken end.NoImage ≡ end.Taken
+what_ends_no_image_is_not = refl

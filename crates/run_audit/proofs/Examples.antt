@@ -21,7 +21,7 @@ use Rattle.feed_lines.specs.BookText.{book_head, book_orders, book_text, order_l
 use Rattle.feed_lines.proofs.Booking.{state_lines}
 use Rattle.run_audit.specs.Causes.{audit_fault_text, verdict_line}
 use Rattle.run_audit.specs.Finding.{Names}
-use Rattle.run_audit.specs.Input.{fault_in_log, gap_at, input_fault, messages_in, report_in}
+use Rattle.run_audit.specs.Input.{fault_in_log, gap_at, input_fault, log_size, messages_in, report_in}
 use Rattle.run_audit.specs.Lines.{book_front}
 use Rattle.run_audit.specs.Report.{Agrees, IsFirstWrong, IsPart, Printed, book_lines, lines_of}
 use Rattle.run_audit.specs.declared.input.AuditFault.TheVariants.{NoSize, CutLog, Faulty}
@@ -47,6 +47,18 @@ input size log text = size ∷ 0 ∷ 0 ∷ 0 ∷ 0 ∷ 0 ∷ 0 ∷ 0 ∷ log ++ 
 sound_input : input_fault (input 14 (timed 1) []) ≡ None
 unfolding input_fault fault_in_log blocks_of blocks_by rest_of rest_by judge messages_end raws_of
 sound_input = refl
+
+-- all eight bytes of the size count
+a_large_size : log_size (2 ∷ 1 ∷ 0 ∷ 0 ∷ 0 ∷ 0 ∷ 0 ∷ 1 ∷ []) ≡ 72057594037928194
+a_large_size = refl
+
+-- each unit has sequences of its own
+timed_of_two : List ℕ
+timed_of_two = 14 ∷ 0 ∷ 1 ∷ 2 ∷ 1 ∷ 0 ∷ 0 ∷ 0 ∷ clock
+
+units_are_logged_apart : input_fault (input 28 (timed 1 ++ timed_of_two) []) ≡ None
+unfolding timed_of_two input_fault fault_in_log blocks_of blocks_by rest_of rest_by judge messages_end raws_of
+units_are_logged_apart = refl
 
 its_messages : messages_in (input 14 (timed 1) (codes "x")) 1 ≡ clock ∷ []
 unfolding blocks_of blocks_by judge messages_end raws_of

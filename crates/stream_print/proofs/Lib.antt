@@ -1,4 +1,5 @@
 pub mod Carriers
+pub mod Examples
 pub mod Feeding
 pub mod Few
 pub mod Finishing

@@ -1,4 +1,5 @@
 -- What a service replies to an ask, at a history that it has seen. No caller needs this file.
+use mathlib.Core.List.{IsPrefix}
 use Rattle.std.specs.Prelude.{ℕ, false, true, List, [], ◌∷◌, map, if◌then◌else◌}
 use Rattle.unit_packets.specs.Packing.{packed}
 use Rattle.gap_store.specs.Look.{View, slice_of}
@@ -12,6 +13,8 @@ use Rattle.shared_unit.specs.Histories.{kept_at, served_at}
 use Rattle.drill_client.specs.Answered.{keeps_range}
 use Rattle.drill_client.specs.declared.words.Reply.{Reply}
 use Rattle.drill_client.specs.declared.words.Reply.TheVariants.{Gap, Again, Spin, NoSpin}
+use Rattle.unit_threads.specs.declared.ends.Request.{Request}
+use Rattle.unit_threads.specs.declared.ends.Request.TheVariants.{Asked, Told}
 
 -- to a gap ask: that it is accepted and the datagrams of its messages, just where these are kept
 abbrev pub replies_to_gap : {R : Type 0} → View → ℕ → ℕ → ℕ → List (Reply R)
@@ -35,3 +38,14 @@ abbrev pub replies_to : {R : Type 0} → ℕ → ℕ → List Operation → Ask 
 replies_to kept unit history (asks.Gap first count) =
     replies_to_gap (kept_at kept history) unit first count
 replies_to kept unit history (asks.Spin sequence) = replies_to_spin (served_at history) sequence
+
+-- ---- What a request does
+-- to what is told, nothing
+abbrev pub replies_by : {J R : Type 0} → ℕ → ℕ → List Operation → Request J R → List (Reply R)
+replies_by kept unit history (Asked ask) = replies_to kept unit history ask
+replies_by kept unit history (Told told) = []
+
+-- a history has all that is told
+abbrev pub Includes : {J R : Type 0} → List Operation → Request J R → Type 0
+Includes history (Asked ask) = Unit {0}
+Includes history (Told told) = IsPrefix told.history history

@@ -15,6 +15,7 @@ ghost use Rattle.drill_client.specs.declared.words.Reply.TheVariants.{Again};
 ghost use Rattle.unit_threads.specs.Publishing.{HasAll};
 ghost use Rattle.drill_client.specs.Answered.{keeps_range};
 ghost use Rattle.unit_threads.specs.Replying.{replies_to_gap, replies_to_spin, replies_to};
+ghost use Rattle.unit_threads.specs.Replying.{replies_by, Includes};
 
 use crate::course::Course;
 use crate::ends::{Request, ServiceEnds};
@@ -211,7 +212,12 @@ fn take_request<J: Naming, R: DrillRun + FixedRun, W: Wait, G: Gate>(
     server: &mut Server<J, R>,
     request: Request<J, R>,
     replies: &mut Outbox<Reply<R>>,
-) -> Result<(), OutOfMemory> {
+) -> Result<(), OutOfMemory>
+    // An ask is answered, and what is told is seen.
+    ensures replies { OnOk result (replies.new
+        ≡ replies.old ++ replies_by J.kept course.now.unit server.new.history request) }
+    ensures told { OnOk result (Includes server.new.history request) }
+{
     match request {
         Request::Told(told) => {
             server.hear_told(told);
