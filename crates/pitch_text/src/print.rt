@@ -117,12 +117,7 @@ fn push_command(line: &mut Vec<u8>, command: &Command) -> Result<(), OutOfMemory
             execution,
             price,
             offset,
-        } => {
-            let (quantity, remaining) = (u64::from(quantity), u64::from(remaining));
-            push_numbers(line, b"execat", &[id, quantity, remaining, execution])?;
-            push_price(line, price)?;
-            push_offset(line, offset)
-        }
+        } => push_execat(line, id, quantity, remaining, execution, price, offset),
         Command::Reduce {
             id,
             quantity,
@@ -134,22 +129,13 @@ fn push_command(line: &mut Vec<u8>, command: &Command) -> Result<(), OutOfMemory
             price,
             display,
             offset,
-        } => {
-            push_numbers(line, b"modify", &[id, u64::from(quantity)])?;
-            push_price(line, price)?;
-            push_hidden(line, display)?;
-            push_offset(line, offset)
-        }
+        } => push_modify(line, id, quantity, price, display, offset),
         Command::Delete { id, offset } => push_plain(line, b"delete", &[id], offset),
         Command::Trade {
             order,
             execution,
             offset,
-        } => {
-            push_order(line, b"trade", &order)?;
-            push_number(line, execution)?;
-            push_offset(line, offset)
-        }
+        } => push_trade(line, &order, execution, offset),
         Command::Break { execution, offset } => push_plain(line, b"break", &[execution], offset),
         Command::Clear { offset } => push_plain(line, b"clear", &[], offset),
         Command::EndSession { offset } => push_plain(line, b"end", &[], offset),
@@ -158,14 +144,78 @@ fn push_command(line: &mut Vec<u8>, command: &Command) -> Result<(), OutOfMemory
             halt,
             sho,
             offset,
-        } => {
-            push_word(line, b"status")?;
-            push_symbol(line, symbol)?;
-            push_word(line, &[halt])?;
-            push_word(line, &[sho])?;
-            push_offset(line, offset)
-        }
+        } => push_status(line, symbol, halt, sho, offset),
     }
+}
+
+#[tactic(auto, using(crate::proofs::WordLemmas::spaced_append))]
+fn push_execat(
+    line: &mut Vec<u8>,
+    id: u64,
+    quantity: u32,
+    remaining: u32,
+    execution: u64,
+    price: Price,
+    offset: u32,
+) -> Result<(), OutOfMemory>
+    ensures { OnOk result (line.new.items ≡ line.old.items ++ spaced (command_words
+        (Command.ExecAt id quantity remaining execution price offset))) }
+{
+    let (quantity, remaining) = (u64::from(quantity), u64::from(remaining));
+    push_numbers(line, b"execat", &[id, quantity, remaining, execution])?;
+    push_price(line, price)?;
+    push_offset(line, offset)
+}
+
+#[tactic(auto, using(crate::proofs::WordLemmas::spaced_append))]
+fn push_modify(
+    line: &mut Vec<u8>,
+    id: u64,
+    quantity: u32,
+    price: Price,
+    display: bool,
+    offset: u32,
+) -> Result<(), OutOfMemory>
+    ensures { OnOk result (line.new.items ≡ line.old.items
+        ++ spaced (command_words (Command.Modify id quantity price display offset))) }
+{
+    push_numbers(line, b"modify", &[id, u64::from(quantity)])?;
+    push_price(line, price)?;
+    push_hidden(line, display)?;
+    push_offset(line, offset)
+}
+
+#[tactic(auto, using(crate::proofs::WordLemmas::spaced_append))]
+fn push_trade(
+    line: &mut Vec<u8>,
+    order: &Order,
+    execution: u64,
+    offset: u32,
+) -> Result<(), OutOfMemory>
+    ensures { OnOk result (line.new.items ≡ line.old.items
+        ++ spaced (command_words (Command.Trade order.now execution offset))) }
+{
+    push_order(line, b"trade", order)?;
+    push_number(line, execution)?;
+    push_offset(line, offset)
+}
+
+#[tactic(auto, using(crate::proofs::WordLemmas::spaced_append))]
+fn push_status(
+    line: &mut Vec<u8>,
+    symbol: Symbol,
+    halt: u8,
+    sho: u8,
+    offset: u32,
+) -> Result<(), OutOfMemory>
+    ensures { OnOk result (line.new.items ≡ line.old.items
+        ++ spaced (command_words (Command.Status symbol halt sho offset))) }
+{
+    push_word(line, b"status")?;
+    push_symbol(line, symbol)?;
+    push_word(line, &[halt])?;
+    push_word(line, &[sho])?;
+    push_offset(line, offset)
 }
 
 #[tactic(auto, using(crate::proofs::WordLemmas::add_words))]

@@ -96,16 +96,18 @@ impl World {
         ensures stands { IfOk result (λ world. WorldStands world unit limits []) }
         ensures fresh { IfOk result (λ world. has_failed world ≡ false) }
     {
+        let market = Market::make(alloc, unit, limits.kept)?;
+        let client = UnitClient::make(alloc, limits.hold)?;
         Ok(World {
             alloc,
             unit,
             limits,
-            market: Market::make(alloc, unit, limits.kept)?,
+            market,
             sent: DatagramList::make(alloc),
             replayed: DatagramList::make(alloc),
             passed: Passed { a: 0, b: 0, gap: 0 },
             budget: GapBudget::make(limits.second, limits.minute, limits.day),
-            client: UnitClient::make(alloc, limits.hold)?,
+            client,
             arbiter: Arbiter::make(),
             grp: None,
             spin: None,

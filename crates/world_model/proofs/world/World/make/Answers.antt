@@ -10,13 +10,13 @@ returns-clause-stands c = record {
   limits_are = refl;
   has = record {
     begun = refl;
-    market = c.in_ok-make.ensures;
-    budget = record { limits_are = c.make-4.ensures.limits; counted = c.make-4.ensures.spent };
-    sent = ap (λ (l : List (Roomy _)). bytes_in l) c.make-2.ensures;
-    replayed = ap (λ (l : List (Roomy _)). bytes_in l) c.make-3.ensures;
+    market = c.in_ok-market.ensures;
+    budget = record { limits_are = c.make-5.ensures.limits; counted = c.make-5.ensures.spent };
+    sent = ap (λ (l : List (Roomy _)). bytes_in l) c.make-3.ensures;
+    replayed = ap (λ (l : List (Roomy _)). bytes_in l) c.make-4.ensures;
     passed = refl;
-    tracks = c.in_ok-make-2.ensures.tracks;
-    keeps = c.in_ok-make-2.ensures.keeps [];
+    tracks = c.in_ok-client.ensures.tracks;
+    keeps = c.in_ok-client.ensures.keeps [];
     noted = c.make-6.ensures;
     grp = tt;
     spin = tt;
