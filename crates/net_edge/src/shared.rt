@@ -41,9 +41,9 @@ impl<J: Naming, R: FixedRun, W: Wait + Drop> Model for SharedMarket<J, R, W> {
 
     ghost coded = { history_code };
 
-    ghost view = { λ m. m.writer };
+    ghost view = { λ m. m.writer.history };
 
-    ghost invariant = { λ m. (length m.writer ≤ m.done)
+    ghost invariant = { λ m. (length m.writer.history ≤ m.done)
         × (J.kept ≡ kept_messages) × (R.fixed ≡ false) };
 }
 

@@ -26,8 +26,8 @@ pub(crate) fn accept_one<J: Naming, R: FixedRun, W: Wait + Drop>(
 ) -> Result<(), VenueError>
     requires index { 1 ≤ index }
     requires free { R.fixed ≡ false }
-    requires few { length writer.old < 2 ^ 63 }
-    ensures { OnOk result (length writer.new ≡ length writer.old + 1) }
+    requires few { length writer.old.history < 2 ^ 63 }
+    ensures { OnOk result (length writer.new.history ≡ length writer.old.history + 1) }
 {
     writer.accept(&plan_command(0, 1, index))?;
     Ok(())
@@ -39,8 +39,8 @@ pub(crate) fn accept_plan<J: Naming, R: FixedRun, W: Wait + Drop>(
     count: u32,
 ) -> Result<(), VenueError>
     requires free { R.fixed ≡ false }
-    requires new { writer.old ≡ [] }
-    ensures { OnOk result (length writer.new ≡ count) }
+    requires new { writer.old.history ≡ [] }
+    ensures { OnOk result (length writer.new.history ≡ count) }
 {
     'commands: for index in 0..count {
         accept_one(writer, index + 1)?;
@@ -55,7 +55,7 @@ fn make_all<J: Naming, R: FixedRun, W: Wait + Abort + AllocGlobal>(
 ) -> Result<(Writer<J, R, &W>, Vec<Server<J, R>>), MakeError>
     requires book { opened.seen.book ≡ J.book }
     requires kept { opened.kept ≡ J.kept }
-    ensures { IfOk result (λ made. made.0 ≡ []) }
+    ensures { IfOk result (λ made. made.0.history ≡ []) }
 {
     let mut places = LeftRightPlaces::make();
     make::<J, R, &W, LeftRightPlaces>(rt.alloc(), rt, opened, &mut places)
@@ -69,7 +69,7 @@ pub(crate) fn make_one<J: Naming, R: FixedRun, W: Wait + Abort + AllocGlobal>(
 ) -> Result<(Writer<J, R, &W>, Server<J, R>), Fail>
     requires book { opened.seen.book ≡ J.book }
     requires kept { opened.kept ≡ J.kept }
-    ensures { IfOk result (λ made. made.0 ≡ []) }
+    ensures { IfOk result (λ made. made.0.history ≡ []) }
 {
     let (writer, mut servers) = make_all::<J, R, W>(rt, opened)?;
     let popped = servers.pop();
@@ -146,7 +146,7 @@ fn hundred_is_right<J: Naming, R: FixedRun, H: Wait + Drop>(
     server: &mut Server<J, R>,
 ) -> Result<bool, VenueError>
     requires free { R.fixed ≡ false }
-    requires new { writer.old ≡ [] }
+    requires new { writer.old.history ≡ [] }
 {
     accept_plan(writer, 100)?;
     let heard = hears(writer, server, 100);
@@ -240,7 +240,7 @@ fn gaps_are_right<J: Naming, R: FixedRun, H: Wait + Drop>(
 fn advertises_twice<J: Naming, R: FixedRun, H: Wait + Drop>(
     writer: &mut Writer<J, R, H>,
 ) -> Result<bool, OutOfMemory>
-    requires { length writer.old ≡ 100 }
+    requires { length writer.old.history ≡ 100 }
 {
     Ok((writer.advertise()?, writer.advertise()?) == (100, 100))
 }
@@ -302,7 +302,7 @@ fn both_are_right<J: Naming, R: FixedRun, H: Wait + Drop>(
     servers: &mut Vec<Server<J, R>>,
 ) -> Result<bool, VenueError>
     requires free { R.fixed ≡ false }
-    requires new { writer.old ≡ [] }
+    requires new { writer.old.history ≡ [] }
 {
     match servers.as_mut_slice() {
         [one, two] => three_are_right(alloc, writer, one, two),
@@ -326,7 +326,7 @@ fn three_are_right<J: Naming, R: FixedRun, H: Wait + Drop>(
     two: &mut Server<J, R>,
 ) -> Result<bool, VenueError>
     requires free { R.fixed ≡ false }
-    requires new { writer.old ≡ [] }
+    requires new { writer.old.history ≡ [] }
 {
     accept_plan(writer, 3)?;
     let untold = sees_three(alloc, one) && sees_three(alloc, two);

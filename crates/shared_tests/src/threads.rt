@@ -53,7 +53,7 @@ fn accept_first<J: Naming, R: FixedRun, H: Wait + Drop>(
     mut writer: Writer<J, R, H>,
 ) -> (Writer<J, R, H>, bool)
     requires free { R.fixed ≡ false }
-    requires new { writer ≡ [] }
+    requires new { writer.history ≡ [] }
 {
     let accepted = accept_plan(&mut writer, 3).is_ok();
     (writer, accepted)
@@ -109,7 +109,7 @@ fn talk<J: Naming + Send + Sync, R: FixedRun + Send + Sync, W: Threads + Wait + 
     from: Receiver<Told<J, R>>,
 ) -> bool
     requires free { R.fixed ≡ false }
-    requires new { writer ≡ [] }
+    requires new { writer.history ≡ [] }
 {
     let ((mut writer, published), (mut server, wrong)) = join(
         rt,
@@ -155,8 +155,8 @@ fn publish_one<J: Naming, R: FixedRun, H: Wait + Drop, W: Wait>(
 ) -> Result<(), VenueError>
     requires index { 1 ≤ index }
     requires free { R.fixed ≡ false }
-    requires few { length writer.old < 2 ^ 63 }
-    ensures { OnOk result (length writer.new ≡ length writer.old + 1) }
+    requires few { length writer.old.history < 2 ^ 63 }
+    ensures { OnOk result (length writer.new.history ≡ length writer.old.history + 1) }
 {
     accept_one(writer, index)?;
     tell_of(rt, writer, to);
@@ -170,7 +170,7 @@ fn publish_all<J: Naming, R: FixedRun, H: Wait + Drop, W: Wait>(
     to: &Sender<Told<J, R>>,
 ) -> Result<(), VenueError>
     requires free { R.fixed ≡ false }
-    requires new { writer.old ≡ [] }
+    requires new { writer.old.history ≡ [] }
 {
     'commands: for index in 0..100u32 {
         publish_one(rt, writer, index + 1, to)?;
@@ -187,7 +187,7 @@ fn publish<J: Naming, R: FixedRun, H: Wait + Drop, W: Wait>(
     to: Sender<Told<J, R>>,
 ) -> (Writer<J, R, H>, bool)
     requires free { R.fixed ≡ false }
-    requires new { writer ≡ [] }
+    requires new { writer.history ≡ [] }
 {
     let published = publish_all(rt, &mut writer, &to).is_ok();
     (writer, published)

@@ -1,5 +1,5 @@
 //! The end that publishes.
-ghost use Rattle.std.specs.Prelude.{◌≡◌, ◌<◌, ◌^◌, [], length, IfOk, MatchResult};
+ghost use Rattle.std.specs.Prelude.{◌≡◌, ◌<◌, ◌^◌, [], length, IfOk, OnOk, MatchResult};
 ghost use mathlib.Core.List.{IsPrefix};
 ghost use Rattle.shared_unit.specs.Histories.{IsLegal, then_done};
 ghost use Rattle.shared_unit.specs.Moments.{IsNew, IsPublished};
@@ -19,7 +19,7 @@ use std::marker::Model;
 use std::sync::{Arc, Wait};
 
 // The pair of copies, the words that are shared and what is known of them. Contracts see the
-// history.
+// history, all of which was published, and all that was seen happen.
 #[derive(Drop)]
 pub(crate) struct Desk<J: Naming, R: FixedRun, W: Wait + Drop> {
     holder: Holder<Store<J, R>, Published<J, R>, W>,
@@ -32,16 +32,15 @@ pub(crate) struct Desk<J: Naming, R: FixedRun, W: Wait + Drop> {
 }
 
 impl<J: Naming, R: FixedRun, W: Wait + Drop> Model for Desk<J, R, W> {
-    ghost use Rattle.std.specs.Prelude.{◌≡◌, ◌≤◌, List, [], length};
-    ghost use Rattle.pitch_model.specs.Advertising.{Operation};
-    ghost use Rattle.shared_unit.specs.Coding.{history_code};
-    ghost use Rattle.shared_unit.specs.Moments.{published_in};
+    ghost use Rattle.std.specs.Prelude.{◌≡◌, ◌≤◌, [], length};
+    ghost use Rattle.shared_unit.specs.Coding.{account_code};
+    ghost use Rattle.shared_unit.specs.Moments.{Account, published_in};
 
-    ghost Value = { List Operation };
+    ghost Value = { Account };
 
-    ghost coded = { history_code };
+    ghost coded = { account_code };
 
-    ghost view = { λ d. d.past };
+    ghost view = { λ d. record { history = d.past; moments = d.eye } };
 
     ghost invariant = { λ d. (d.holder.0 ≡ d.past) × (d.holder.1 ≡ [])
         × (d.none ≡ []) × (d.shut ≡ []) × (length d.past ≤ published_in d.eye) };
@@ -57,7 +56,7 @@ impl<J: Naming, R: FixedRun, W: Wait + Drop> Desk<J, R, W> {
     ) -> Result<Desk<J, R, W>, OutOfMemory>
         requires book { opened.seen.book ≡ J.book }
         requires kept { opened.kept ≡ J.kept }
-        ensures { IfOk result (λ desk. desk ≡ []) }
+        ensures { IfOk result (λ desk. desk.history ≡ []) }
     {
         let servers = opened.servers;
         let named = opened.named::<J>();
@@ -81,29 +80,30 @@ impl<J: Naming, R: FixedRun, W: Wait + Drop> Desk<J, R, W> {
 
     // What is known of the history.
     pub(crate) fn past(&self) -> &Past<J, R>
-        ensures { result.now ≡ self.now }
+        ensures { result.now ≡ self.now.history }
     {
         &self.past
     }
 
     // What stands for the history, which was published.
     pub(crate) fn told(&self) -> Told<J, R>
-        ensures history { result.history ≡ self.now }
+        ensures history { result.history ≡ self.now.history }
         ensures published { IsPublished result }
     {
         Told::new(self.past.again(), self.eye.again())
     }
 
-    // Adds an operation to the history and publishes it. The history is as before after
-    // OutOfMemory.
+    // Adds an operation to the history and publishes it. All is as before after OutOfMemory.
     #[tactic(auto, using(crate::proofs::Writing::done_length))]
     pub(crate) fn publish(&mut self, what: What) -> Result<(), OutOfMemory>
-        requires room { length self.old < 2 ^ 63 }
-        requires legal { IsLegal R.fixed R.plan (then_done self.old (operation_of what)) }
-        requires follows { ComesAfter what self.old }
-        requires few { HasSequences (then_done self.old (operation_of what)) }
-        ensures { MatchResult result
-            (λ _. self.new ≡ then_done self.old (operation_of what)) (λ _. self.new ≡ self.old) }
+        requires room { length self.old.history < 2 ^ 63 }
+        requires legal { IsLegal R.fixed R.plan (then_done self.old.history (operation_of what)) }
+        requires follows { ComesAfter what self.old.history }
+        requires few { HasSequences (then_done self.old.history (operation_of what)) }
+        ensures history { MatchResult result
+            (λ _. self.new.history ≡ then_done self.old.history (operation_of what))
+            (λ _. self.new ≡ self.old) }
+        ensures published { OnOk result (IsPublished self.new) }
     {
         let Some(past) = self.past.extended(&*self.book, &what) else {
             return Err(OutOfMemory);

@@ -153,7 +153,7 @@ pub fn make<J: Naming, R: FixedRun, W: Wait + Drop, P: Places<J, R, W>>(
     // The type parameter names the pair that was opened.
     requires book { opened.seen.book ≡ J.book }
     requires kept { opened.kept ≡ J.kept }
-    ensures writer { IfOk result (λ made. made.0 ≡ []) }
+    ensures writer { IfOk result (λ made. made.0.history ≡ []) }
     ensures servers { IfOk result (λ made. AllByRecursion IsNew made.1.items) }
     // The number of each is its place.
     ensures numbers { IfOk result (λ made. AreNumbered made.1.items) }

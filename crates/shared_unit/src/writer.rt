@@ -1,5 +1,5 @@
 //! The writer.
-ghost use Rattle.std.specs.Prelude.{◌≡◌, ◌+◌, ◌<◌, ◌^◌, [], length, Some, IfOk, MatchBool};
+ghost use Rattle.std.specs.Prelude.{◌≡◌, ◌+◌, ◌<◌, ◌^◌, [], length, Some, IfOk, OnOk, MatchBool};
 ghost use Rattle.std.specs.Prelude.{MatchResult};
 ghost use mathlib.Core.List.{IsPrefix};
 ghost use Rattle.std.specs.Option.{option_copied};
@@ -28,7 +28,7 @@ use std::sync::{Arc, Wait};
 use venue_core::{Venue, VenueError};
 
 /// The one who writes: it accepts the commands of a unit and advertises its images. Contracts see
-/// the history of what it did.
+/// the history of what it did, and all that it saw happen.
 ///
 /// A call may wait until a server has left what it looks at. Once the writer was let go without
 /// [`Writer::close`], its servers are out of memory for each look-up.
@@ -40,18 +40,18 @@ pub struct Writer<J: Naming, R: FixedRun, W: Wait + Drop> {
 }
 
 impl<J: Naming, R: FixedRun, W: Wait + Drop> Model for Writer<J, R, W> {
-    ghost use Rattle.std.specs.Prelude.{List};
-    ghost use Rattle.pitch_model.specs.Advertising.{Operation, accepted_by};
+    ghost use Rattle.pitch_model.specs.Advertising.{accepted_by};
     ghost use Rattle.venue_core.specs.Stands.{Stands};
-    ghost use Rattle.shared_unit.specs.Coding.{history_code};
+    ghost use Rattle.shared_unit.specs.Coding.{account_code};
+    ghost use Rattle.shared_unit.specs.Moments.{Account};
 
-    ghost Value = { List Operation };
+    ghost Value = { Account };
 
-    ghost coded = { history_code };
+    ghost coded = { account_code };
 
     ghost view = { λ w. w.desk };
 
-    ghost invariant = { λ w. Stands w.venue (accepted_by w.desk) 0 };
+    ghost invariant = { λ w. Stands w.venue (accepted_by w.desk.history) 0 };
 }
 
 // The image of a book, under this sequence.
@@ -74,8 +74,8 @@ fn picture_of(alloc: Global, book: &UnitBook, sequence: u32) -> Result<Picture, 
 
 impl<J: Naming, R: FixedRun, W: Wait + Drop> Writer<J, R, W> {
     pub(crate) fn new(alloc: Global, desk: Desk<J, R, W>, unit: u8) -> Writer<J, R, W>
-        requires { desk ≡ [] }
-        ensures { result ≡ [] }
+        requires { desk.history ≡ [] }
+        ensures { result.history ≡ [] }
     {
         Writer {
             alloc,
@@ -93,14 +93,14 @@ impl<J: Naming, R: FixedRun, W: Wait + Drop> Writer<J, R, W> {
 
     // How many messages were accepted.
     fn accepted(&self) -> u32
-        ensures { result ≡ length (accepted_by self.now) }
+        ensures { result ≡ length (accepted_by self.now.history) }
     {
         self.venue.next_sequence() - 1
     }
 
     // What an advertising publishes.
     fn advertised(&self) -> Result<What, OutOfMemory>
-        ensures follows { IfOk result (λ what. ComesAfter what self.now) }
+        ensures follows { IfOk result (λ what. ComesAfter what self.now.history) }
         ensures operation { IfOk result (λ what. operation_of what ≡ Advertise) }
     {
         let sequence = self.accepted();
@@ -117,14 +117,17 @@ impl<J: Naming, R: FixedRun, W: Wait + Drop> Writer<J, R, W> {
     /// Once it was out of memory here, each later call may be. The history has fewer than 2^63
     /// operations; where the run fixes its messages, the command's is the next of them.
     pub fn accept(&mut self, command: &Command) -> Result<u32, VenueError>
-        requires few { length self.old < 2 ^ 63 }
-        requires run { IsLegal R.fixed R.plan (then_done self.old (Accept (raw_of command.now))) }
+        requires few { length self.old.history < 2 ^ 63 }
+        requires run { IsLegal R.fixed R.plan
+            (then_done self.old.history (Accept (raw_of command.now))) }
         // The first refusal that holds after all messages of the history, or the next sequence.
-        ensures answer { IsAnswer (refusal (accepted_by self.old) command.now)
-            (length (accepted_by self.old) + 1) result }
+        ensures answer { IsAnswer (refusal (accepted_by self.old.history) command.now)
+            (length (accepted_by self.old.history) + 1) result }
         // Just this operation is added to the history, where it is Ok.
-        ensures history { MatchResult result (λ _. self.new
-            ≡ then_done self.old (Accept (raw_of command.now))) (λ _. self.new ≡ self.old) }
+        ensures history { MatchResult result (λ _. self.new.history
+            ≡ then_done self.old.history (Accept (raw_of command.now))) (λ _. self.new ≡ self.old) }
+        // Then all of the history was published.
+        ensures published { OnOk result (IsPublished self.new) }
     {
         let raw = match self.venue.prepare(command) {
             Ok(raw) => raw,
@@ -141,11 +144,14 @@ impl<J: Naming, R: FixedRun, W: Wait + Drop> Writer<J, R, W> {
     ///
     /// The history has fewer than 2^63 operations.
     pub fn advertise(&mut self) -> Result<u32, OutOfMemory>
-        requires few { length self.old < 2 ^ 63 }
-        ensures sequence { IfOk result (λ sequence. sequence ≡ length (accepted_by self.old)) }
+        requires few { length self.old.history < 2 ^ 63 }
+        ensures sequence { IfOk result
+            (λ sequence. sequence ≡ length (accepted_by self.old.history)) }
         // Just this operation is added to the history, where it is Ok.
         ensures history { MatchResult result
-            (λ _. self.new ≡ then_done self.old Advertise) (λ _. self.new ≡ self.old) }
+            (λ _. self.new.history ≡ then_done self.old.history Advertise) (λ _. self.new ≡ self.old) }
+        // Then all of the history was published.
+        ensures published { OnOk result (IsPublished self.new) }
     {
         // What was done is legal, and advertising accepts nothing.
         let _done = self.desk.past().len();
@@ -157,14 +163,14 @@ impl<J: Naming, R: FixedRun, W: Wait + Drop> Writer<J, R, W> {
 
     /// The message that was last accepted, or None exactly where none was.
     pub fn last_raw(&self) -> Option<&Raw>
-        ensures { option_copied result ≡ last_of (accepted_by self.now) }
+        ensures { option_copied result ≡ last_of (accepted_by self.now.history) }
     {
         self.venue.last_raw()
     }
 
     /// What stands for the history so far.
     pub fn tell(&mut self) -> Told<J, R>
-        ensures told { result.history ≡ self.old }
+        ensures told { result.history ≡ self.old.history }
         // Whoever hears it knows that all of it was published.
         ensures published { IsPublished result }
         ensures same { self.new ≡ self.old }
@@ -175,8 +181,9 @@ impl<J: Naming, R: FixedRun, W: Wait + Drop> Writer<J, R, W> {
     /// Whether what a server has seen begins this history. It always does; but that nobody else
     /// writes is not a clause, so who rests on it asks.
     pub fn covers(&self, server: &Server<J, R>) -> bool
-        ensures { MatchBool result (IsPrefix server.now.history self.now)
-            (IsPrefix self.now server.now.history × (length self.now < length server.now.history)) }
+        ensures { MatchBool result (IsPrefix server.now.history self.now.history)
+            (IsPrefix self.now.history server.now.history
+            × (length self.now.history < length server.now.history)) }
     {
         self.desk.past().covers(&server.past)
     }

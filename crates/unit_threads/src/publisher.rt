@@ -63,10 +63,10 @@ fn accept<J: Naming, R: DrillRun + FixedRun, H: Wait + Drop>(
     index: u32,
 ) -> Result<(), OutOfMemory>
     requires index { (1 ≤ index) × (index ≤ course.now.count) }
-    requires before { HasAccepted writer.old course.now.number course.now.unit
+    requires before { HasAccepted writer.old.history course.now.number course.now.unit
         (index - 1) (2 * (index - 1)) }
     ensures { OnOk result
-        (HasAccepted writer.new course.now.number course.now.unit index (2 * index - 1)) }
+        (HasAccepted writer.new.history course.now.number course.now.unit index (2 * index - 1)) }
 {
     plan_is_accepted();
     match writer.accept(&plan_command(course.number, course.unit, index)) {
@@ -84,7 +84,7 @@ fn packed_last<J: Naming, R: DrillRun + FixedRun, H: Wait + Drop>(
     index: u32,
 ) -> Result<DatagramList, OutOfMemory>
     requires index { (1 ≤ index) × (index ≤ course.now.count) }
-    requires accepted { HasAccepted writer.now course.now.number course.now.unit index
+    requires accepted { HasAccepted writer.now.history course.now.number course.now.unit index
         (2 * index - 1) }
     ensures datagrams { IfOk result
         (λ list. bytes_in list.items ≡ command_datagrams course.now.number course.now.unit index) }
@@ -128,7 +128,7 @@ fn shared_last<J: Naming, R: DrillRun + FixedRun, H: Wait + Drop>(
     index: u32,
 ) -> Result<Vec<Datagram<R>>, OutOfMemory>
     requires index { (1 ≤ index) × (index ≤ course.now.count) }
-    requires accepted { HasAccepted writer.now course.now.number course.now.unit index
+    requires accepted { HasAccepted writer.now.history course.now.number course.now.unit index
         (2 * index - 1) }
     ensures { IfOk result (λ shared. shared.items
         ≡ command_datagrams course.now.number course.now.unit index) }
@@ -183,7 +183,7 @@ fn send_last<J: Naming, R: DrillRun + FixedRun, H: Wait + Drop, W: Wait>(
     words: &mut Outbox<Word<R>>,
 ) -> Result<(), OutOfMemory>
     requires index { (1 ≤ index) × (index ≤ course.now.count) }
-    requires accepted { HasAccepted writer.now course.now.number course.now.unit index
+    requires accepted { HasAccepted writer.now.history course.now.number course.now.unit index
         (2 * index - 1) }
     ensures { OnOk result (words.new ≡ (words.old ++ line_words course.now.number
         course.now.unit index 1) ++ line_words course.now.number course.now.unit index 2) }
@@ -208,11 +208,11 @@ fn advertise_all<J: Naming, R: DrillRun + FixedRun, H: Wait + Drop>(
     index: u32,
 ) -> Result<Reached<R>, OutOfMemory>
     requires index { (1 ≤ index) × (index ≤ course.now.count) }
-    requires accepted { HasAccepted writer.old course.now.number course.now.unit index
+    requires accepted { HasAccepted writer.old.history course.now.number course.now.unit index
         (2 * index - 1) }
     ensures accepted { OnOk result
-        (HasAccepted writer.new course.now.number course.now.unit index (2 * index)) }
-    ensures advertised { OnOk result (HasAdvertised writer.new index) }
+        (HasAccepted writer.new.history course.now.number course.now.unit index (2 * index)) }
+    ensures advertised { OnOk result (HasAdvertised writer.new.history index) }
     ensures sequence { IfOk result (λ reached. reached ≡ index) }
 {
     operations_add_up();
@@ -231,16 +231,16 @@ fn advertise<J: Naming, R: DrillRun + FixedRun, H: Wait + Drop, W: Wait>(
     to: &mut Outgoing<J, R>,
 ) -> Result<(), OutOfMemory>
     requires index { (1 ≤ index) × (index ≤ course.now.count) }
-    requires accepted { HasAccepted writer.old course.now.number course.now.unit index
+    requires accepted { HasAccepted writer.old.history course.now.number course.now.unit index
         (2 * index - 1) }
     ensures accepted { OnOk result
-        (HasAccepted writer.new course.now.number course.now.unit index (2 * index)) }
-    ensures last { OnOk result (index ≡ course.now.count → HasAdvertised writer.new index) }
+        (HasAccepted writer.new.history course.now.number course.now.unit index (2 * index)) }
+    ensures last { OnOk result (index ≡ course.now.count → HasAdvertised writer.new.history index) }
     ensures words { OnOk result
         (to.new.words ≡ to.old.words ++ round_words index course.now.count) }
     // The service is told of all that the writer did.
     ensures told { OnOk result
-        (told_in to.new.told ≡ told_in to.old.told ++ told_with writer.new index course.now.count) }
+        (told_in to.new.told ≡ told_in to.old.told ++ told_with writer.new.history index course.now.count) }
 {
     if !is_round(index, course.count) {
         return Ok(());
@@ -261,15 +261,15 @@ fn publish_one<J: Naming, R: DrillRun + FixedRun, H: Wait + Drop, W: Wait>(
     to: &mut Outgoing<J, R>,
 ) -> Result<(), OutOfMemory>
     requires index { (1 ≤ index) × (index ≤ course.now.count) }
-    requires before { HasAccepted writer.old course.now.number course.now.unit
+    requires before { HasAccepted writer.old.history course.now.number course.now.unit
         (index - 1) (2 * (index - 1)) }
     ensures accepted { OnOk result
-        (HasAccepted writer.new course.now.number course.now.unit index (2 * index)) }
-    ensures last { OnOk result (index ≡ course.now.count → HasAdvertised writer.new index) }
+        (HasAccepted writer.new.history course.now.number course.now.unit index (2 * index)) }
+    ensures last { OnOk result (index ≡ course.now.count → HasAdvertised writer.new.history index) }
     ensures words { OnOk result (to.new.words ≡ to.old.words
         ++ words_for_command course.now.number course.now.unit course.now.count index) }
     ensures told { OnOk result
-        (told_in to.new.told ≡ told_in to.old.told ++ told_with writer.new index course.now.count) }
+        (told_in to.new.told ≡ told_in to.old.told ++ told_with writer.new.history index course.now.count) }
 {
     accept(writer, course, index)?;
     send_last(rt, alloc, writer, course, index, &mut to.words)?;
@@ -301,12 +301,12 @@ fn publish_all<J: Naming, R: DrillRun + FixedRun, H: Wait + Drop, W: Wait, G: Ga
     writer: &mut Writer<J, R, H>,
     to: &mut Outgoing<J, R>,
 ) -> Result<(), OutOfMemory>
-    requires writer { writer.old ≡ [] }
+    requires writer { writer.old.history ≡ [] }
     requires words { to.old.words ≡ [] }
     // All commands were accepted, and the image of all was advertised.
-    ensures accepted { OnOk result (HasAccepted writer.new
+    ensures accepted { OnOk result (HasAccepted writer.new.history
         course.now.number course.now.unit course.now.count (2 * course.now.count)) }
-    ensures advertised { OnOk result (HasAdvertised writer.new course.now.count) }
+    ensures advertised { OnOk result (HasAdvertised writer.new.history course.now.count) }
     // The client was told of each command, and that nothing more comes.
     ensures words { OnOk result (to.new.words ≡ words_through
         course.now.number course.now.unit course.now.count course.now.count ++ Last ∷ []) }
@@ -332,11 +332,11 @@ pub(crate) fn publish<J: Naming, R: DrillRun + FixedRun, H: Wait + Drop, W: Wait
     mut writer: Writer<J, R, H>,
     ends: PublisherEnds<J, R>,
 ) -> Result<Writer<J, R, H>, OutOfMemory>
-    requires { writer ≡ [] }
+    requires { writer.history ≡ [] }
     // All commands were accepted, and the image of all was advertised.
     ensures accepted { IfOk result (λ writer. HasAccepted
-        writer course.now.number course.now.unit course.now.count (2 * course.now.count)) }
-    ensures advertised { IfOk result (λ writer. HasAdvertised writer course.now.count) }
+        writer.history course.now.number course.now.unit course.now.count (2 * course.now.count)) }
+    ensures advertised { IfOk result (λ writer. HasAdvertised writer.history course.now.count) }
 {
     let mut to = Outgoing::make(alloc, ends);
     let published = publish_all(rt, alloc, gate, course, &mut writer, &mut to);

@@ -92,8 +92,8 @@ fn finish<J: Naming, R: DrillRun + FixedRun, H: Wait + Drop>(
     followed: Result<UnitClient, OutOfMemory>,
 ) -> Result<UnitClient, OutOfMemory>
     requires accepted { IfOk published (λ writer. HasAccepted
-        writer course.now.number course.now.unit course.now.count (2 * course.now.count)) }
-    requires advertised { IfOk published (λ writer. HasAdvertised writer course.now.count) }
+        writer.history course.now.number course.now.unit course.now.count (2 * course.now.count)) }
+    requires advertised { IfOk published (λ writer. HasAdvertised writer.history course.now.count) }
     requires follows { IfOk followed
         (λ client. FollowsOn client drill_kept (plan R.number R.unit R.count)) }
     ensures { IfOk result (λ client. IsAtEnd client drill_kept (plan R.number R.unit R.count)) }
@@ -118,9 +118,9 @@ fn finish_well<J: Naming, R: DrillRun + FixedRun, H: Wait + Drop>(
     mut server: Server<J, R>,
     mut client: UnitClient,
 ) -> Result<UnitClient, OutOfMemory>
-    requires accepted { HasAccepted writer course.now.number course.now.unit course.now.count
+    requires accepted { HasAccepted writer.history course.now.number course.now.unit course.now.count
         (2 * course.now.count) }
-    requires advertised { HasAdvertised writer course.now.count }
+    requires advertised { HasAdvertised writer.history course.now.count }
     requires follows { FollowsOn client drill_kept (plan R.number R.unit R.count) }
     ensures { IfOk result (λ client. IsAtEnd client drill_kept (plan R.number R.unit R.count)) }
 {
@@ -152,7 +152,7 @@ fn run_connected<
     server: Server<J, R>,
     ends: Ends<J, R>,
 ) -> Result<UnitClient, OutOfMemory>
-    requires { writer ≡ [] }
+    requires { writer.history ≡ [] }
     ensures { IfOk result (λ client. IsAtEnd client drill_kept (plan R.number R.unit R.count)) }
 {
     let Ends {
@@ -189,7 +189,7 @@ fn run_parties<
     writer: Writer<J, R, &W>,
     server: Server<J, R>,
 ) -> Result<UnitClient, OutOfMemory>
-    requires { writer ≡ [] }
+    requires { writer.history ≡ [] }
     ensures { IfOk result (λ client. IsAtEnd client drill_kept (plan R.number R.unit R.count)) }
 {
     match Ends::<J, R>::make(alloc) {
@@ -227,7 +227,7 @@ fn line_of_parties<
     writer: Writer<J, R, &W>,
     server: Server<J, R>,
 ) -> Result<Vec<u8>, OutOfMemory>
-    requires { writer ≡ [] }
+    requires { writer.history ≡ [] }
     ensures { IfOk result (λ line.
         line.items ≡ drill_line course.now.number course.now.unit course.now.count) }
 {

@@ -2,4 +2,4 @@ use Rattle.std.proofs.Common.{◌≡◌, length}
 use Rattle.shared_tests.proofs.servers.accept_plan.Given as goal
 
 abbrev pub invariant-commands : goal.invariant-commands
-invariant-commands g l = length l.writer ≡ l.index
+invariant-commands g l = length l.writer.history ≡ l.index

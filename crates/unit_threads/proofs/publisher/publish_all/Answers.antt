@@ -8,7 +8,7 @@ use Rattle.unit_threads.proofs.publisher.publish_all.Goals as goal
 pub commands-init : goal.commands-init
 commands-init g c =
     let course = c.args.course.now in
-    let none : length c.args.writer.now ≡ 0 = ap (λ (h : List Operation). length h) c.requires.writer in
+    let none : length c.args.writer.now.history ≡ 0 = ap (λ (h : List Operation). length h) c.requires.writer in
     record {
       accepted = record { accepted = ap accepted_by c.requires.writer ∙ sym (plan_begins course.number course.unit); few = omega (arith, none) };
       last = λ e. absurd (omega (arith, e, course.most.0));
@@ -21,6 +21,6 @@ commands-preserved g c =
     let e = c.in_ok-publish_one.ensures in
     record {
       accepted = e.accepted;
-      last = λ is. subst (HasAdvertised c.publish_one.new.writer) is (e.last is);
+      last = λ is. subst (HasAdvertised c.publish_one.new.writer.history) is (e.last is);
       words = words_next course.number course.unit course.count c.commands.before _ _ c.commands.invariant.words e.words;
     }

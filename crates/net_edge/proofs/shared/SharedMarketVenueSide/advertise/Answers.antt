@@ -6,4 +6,4 @@ use Rattle.net_edge.proofs.shared.SharedMarketVenueSide.advertise.Goals as goal
 
 pub returns-clause-keeps : goal.returns-clause-keeps
 returns-clause-keeps g c = λ messages advertised has.
-    advertises c.args.self.now c.advertise.new.self messages advertised (c.in_ok-sequence.ensures.history ∙ ap (λ (h : List Operation). then_done h Advertise) c.self.view_is) has
+    advertises c.args.self.now c.advertise.new.self.history messages advertised (c.in_ok-sequence.ensures.history ∙ ap (λ (h : List Operation). then_done h Advertise) c.self.view_is) has
