@@ -1,19 +1,25 @@
 -- A run over a plan without messages: ten turns in which nothing comes but, in the last, the
 -- heartbeat on line A. And runs that break off at their first call.
-use Rattle.std.proofs.Common.{◌≡◌, ℕ, zero, suc, List, [], ◌∷◌, length, refl, ap, arith}
+use Rattle.std.proofs.Common.{◌≡◌, ℕ, zero, suc, ◌+◌, ◌⊎◌, Bool, true, false, inl, inr, List, [], ◌∷◌, length, refl, sym, ap, arith, lit<, lit≤}
+use Rattle.std.proofs.lemmas.Bool.{false≢true}
+use Rattle.std.specs.Prelude.{replicate}
 use Rattle.pitch_io.specs.declared.line.Line.TheVariants.{A, B, Gap}
 use Rattle.pitch_io.specs.declared.net.LinkEnd.TheVariants.{GrpClient, GrpServer, SpinClient, SpinServer}
 use Rattle.pitch_io.specs.declared.net.NetDone.TheVariants as done
 use Rattle.pitch_io.specs.declared.net.NetTaken.TheVariants as taken
 use Rattle.pitch_io.specs.Nets.{Begin, Send, Next, Take}
 use Rattle.unit_packets.specs.BlockBytes.{block_bytes}
-use Rattle.pitch_model.specs.declared.status.Status.TheVariants.{Silent}
+use Rattle.pitch_model.specs.declared.status.Status.{Status}
+use Rattle.pitch_model.specs.declared.status.Status.TheVariants.{Silent, Current, Behind}
 use Rattle.session_ends.specs.Events.{Ticked}
 use Rattle.pitch_messages.specs.Raw.{raws_of}
 use Rattle.unit_packets.specs.Cutting.{blocks_of, blocks_by}
 use Rattle.unit_packets.specs.Judging.{judge, messages_end}
-use Rattle.net_edge.specs.Acting.{scene_of}
+use Rattle.unit_packets.specs.Blocks.{Block}
+use Rattle.net_edge.specs.Acting.{is_group_open, ours, scene_of}
 use Rattle.net_edge.specs.Breaking.{BreaksOff}
+use Rattle.net_edge.specs.Demo.{IsLast}
+use Rattle.net_edge.specs.Scene.{Scene, first_scene}
 use Rattle.venue_core.specs.Plan.{plan}
 use Rattle.net_edge.specs.Due.{Setting, IsDuePiece, advertised_until, beat, messages, ticks}
 use Rattle.net_edge.specs.Steps.{Step, Did, Beat, Turn}
@@ -97,3 +103,43 @@ not_of_a_later_message : IsDuePiece s 1 later_heartbeat → ⊥
 unfolding s later_heartbeat blocks_of blocks_by judge messages_end raws_of
 not_of_a_later_message piece =
     absurd (omega (arith, piece.blocks.0.within, ap (λ (ms : List (List ℕ)). length ms) none))
+
+-- ---- The last turn
+-- nothing was heard up to a turn
+abbrev silent_at : ℕ → Scene
+silent_at turn = record first_scene { turn = turn }
+
+abbrev is_silent : Status → Bool
+is_silent Silent = true
+is_silent (Current n) = false
+is_silent (Behind n top) = false
+
+-- a demo of no messages whose client is silent ends with turn 200, and not before
+not_before_200 : IsLast s (silent_at 199) → ⊥
+unfolding s
+not_before_200 last = by last.last
+  where
+    by : (client_status (silent_at 199) ≡ Current 0) ⊎ (199 ≡ 0 + 200) → ⊥
+    by (inl current) = absurd (false≢true (sym (ap is_silent current)))
+    by (inr turn) = absurd (omega (arith, turn))
+
+with_200 : IsLast s (silent_at 200)
+unfolding s
+with_200 = record { above = lit< tt; within = lit≤ tt; last = inr refl }
+
+-- ---- Calls of a turn
+a_hundredth_call_may_come : is_group_open (replicate 99 (taken.Got 1)) ≡ true
+a_hundredth_call_may_come = refl
+
+no_other_behind_it : is_group_open (replicate 100 (taken.Got 1)) ≡ false
+no_other_behind_it = refl
+
+none_behind_an_end : is_group_open (taken.End ∷ taken.Got 1 ∷ []) ≡ false
+none_behind_an_end = refl
+
+-- ---- Blocks of another unit
+abbrev of_unit : ℕ → Block
+of_unit unit = record { unit = unit; sequence = 1; raws = [] }
+
+they_are_passed_over : ours (of_unit 2 ∷ of_unit 1 ∷ of_unit 0 ∷ []) ≡ of_unit 1 ∷ []
+they_are_passed_over = refl

@@ -1,6 +1,7 @@
 pub mod Audits
 pub mod Completing
 pub mod Demos
+pub mod Examples
 pub mod Failing
 pub mod Stopping
 pub mod Storms

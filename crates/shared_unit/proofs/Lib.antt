@@ -1,4 +1,5 @@
 pub mod Copying
+pub mod Examples
 pub mod Fronts
 pub mod Growing
 pub mod Looking
