@@ -17,7 +17,7 @@ use pitch_messages::List;
 pub type QuoteList = List<Quote>;
 
 // The bests of both sides of a symbol.
-#[derive(Clone, Copy, Debug)]
+#[derive(Clone, Copy)]
 pub(crate) struct Bests {
     pub(crate) buy: Best,
     pub(crate) sell: Best,

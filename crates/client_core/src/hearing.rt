@@ -17,7 +17,7 @@ use pitch_model::Status;
 use std::mem::replace;
 
 // How messages were classified.
-#[derive(Clone, Copy, Debug, PartialEq, Eq)]
+#[derive(Clone, Copy, PartialEq, Eq)]
 struct Counts {
     fresh: u32,
     overflows: u32,
@@ -43,7 +43,7 @@ impl Counts {
 }
 
 // How an item was classified.
-#[derive(Clone, Copy, Debug, PartialEq, Eq)]
+#[derive(Clone, Copy, PartialEq, Eq)]
 struct Heard {
     fresh: u32,
     overflows: u32,

@@ -12,7 +12,7 @@ use std::alloc::Global;
 use unit_packets::DatagramList;
 
 /// What became of a look-up.
-#[derive(Clone, Copy, Debug, PartialEq, Eq)]
+#[derive(Clone, Copy, PartialEq, Eq)]
 pub enum Found {
     /// All messages of the range are kept.
     Kept,

@@ -3,7 +3,7 @@
 use pitch_model::Status;
 
 /// What became of an image when Spin Finished came.
-#[derive(Clone, Copy, Debug, PartialEq, Eq)]
+#[derive(Clone, Copy, PartialEq, Eq)]
 pub enum ImageEnd {
     /// No image ended.
     NoImage,
@@ -16,7 +16,7 @@ pub enum ImageEnd {
 }
 
 /// What an item that was heard has changed.
-#[derive(Clone, Copy, Debug, PartialEq, Eq)]
+#[derive(Clone, Copy, PartialEq, Eq)]
 pub struct Change {
     pub before: Status,
     pub after: Status,

@@ -5,7 +5,7 @@ ghost use Rattle.line_arbiter.specs.Noted.{capped};
 
 /// How many messages of a unit came on a line, and how many of them were fresh. Each count stops at
 /// the greatest number of 64 bits.
-#[derive(Clone, Copy, Debug, PartialEq, Eq)]
+#[derive(Clone, Copy, PartialEq, Eq)]
 pub struct LineCount {
     pub messages: u64,
     pub fresh: u64,

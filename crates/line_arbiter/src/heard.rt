@@ -15,7 +15,7 @@ pub struct Heard {
 pub type HeardList = List<Heard>;
 
 /// A place of a datagram, in bytes from its start, and why no block stands there.
-#[derive(Clone, Copy, Debug, PartialEq, Eq)]
+#[derive(Clone, Copy, PartialEq, Eq)]
 pub struct DatagramFault {
     pub place: u32,
     pub error: BlockError,

@@ -7,7 +7,7 @@ ghost use Rattle.order_book.specs.Naming.{names_order, named_order, touched};
 use pitch_fields::get_u64;
 
 /// Which orders a message touches.
-#[derive(Clone, Copy, Debug, PartialEq, Eq)]
+#[derive(Clone, Copy, PartialEq, Eq)]
 pub enum Touches {
     /// None.
     None,

@@ -3,7 +3,7 @@
 use pitch_messages::{List, Order};
 
 /// What a message did to the open orders.
-#[derive(Clone, Copy, Debug, PartialEq, Eq)]
+#[derive(Clone, Copy, PartialEq, Eq)]
 pub enum Turn {
     /// It touched none.
     None,

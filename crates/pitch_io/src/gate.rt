@@ -13,7 +13,7 @@ pub enum Role {
 }
 
 /// A piece of work: whose, of which kind, and which step of it, from 1.
-#[derive(Clone, Copy, Debug, PartialEq, Eq)]
+#[derive(Clone, Copy, PartialEq, Eq)]
 pub struct Work {
     pub unit: u8,
     pub role: Role,
@@ -33,7 +33,7 @@ pub trait Gate {
 }
 
 /// A gate that does nothing.
-#[derive(Clone, Copy, Debug)]
+#[derive(Clone, Copy)]
 pub struct FreeGate;
 
 impl Gate for FreeGate {

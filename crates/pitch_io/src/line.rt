@@ -4,7 +4,7 @@
 ///
 /// Lines A and B carry the same messages, each sent once on either; the gap line carries what the
 /// Gap Request Proxy replays.
-#[derive(Clone, Copy, Debug, PartialEq, Eq)]
+#[derive(Clone, Copy, PartialEq, Eq)]
 pub enum Line {
     A,
     B,

@@ -24,7 +24,7 @@ use std::alloc::Global;
 use std::marker::Model;
 
 /// Which of a net's calls.
-#[derive(Clone, Copy, Debug, PartialEq, Eq)]
+#[derive(Clone, Copy, PartialEq, Eq)]
 pub enum NetVerb {
     Begin,
     Send,
@@ -34,14 +34,14 @@ pub enum NetVerb {
 }
 
 /// A call of a net by its number among the calls of its verb, counted from 1.
-#[derive(Clone, Copy, Debug, PartialEq, Eq)]
+#[derive(Clone, Copy, PartialEq, Eq)]
 pub struct NetCall {
     pub verb: NetVerb,
     pub number: u64,
 }
 
 /// How often each verb of a net was called.
-#[derive(Clone, Copy, Debug, PartialEq, Eq)]
+#[derive(Clone, Copy, PartialEq, Eq)]
 pub struct VerbCounts {
     pub begins: u64,
     pub sends: u64,

@@ -13,7 +13,7 @@ use crate::line::Line;
 use crate::sink::Put;
 
 /// The four ends of a unit's two connections: to its Gap Request Proxy and to its Spin Server.
-#[derive(Clone, Copy, Debug, PartialEq, Eq)]
+#[derive(Clone, Copy, PartialEq, Eq)]
 pub enum LinkEnd {
     GrpClient,
     GrpServer,
@@ -22,7 +22,7 @@ pub enum LinkEnd {
 }
 
 /// The answer of a call that takes from a line or an end.
-#[derive(Clone, Copy, Debug, PartialEq, Eq)]
+#[derive(Clone, Copy, PartialEq, Eq)]
 pub enum NetTaken {
     /// So many bytes stand at the start of the slice: at least 1, at most its length.
     Got(usize),
@@ -35,7 +35,7 @@ pub enum NetTaken {
 }
 
 /// The answer of a call that sends or sets up.
-#[derive(Clone, Copy, Debug, PartialEq, Eq)]
+#[derive(Clone, Copy, PartialEq, Eq)]
 pub enum NetDone {
     Done,
     /// The net failed, and its count of faults rose.

@@ -3,7 +3,7 @@
 use pitch_fields::Price;
 
 /// What a message changes of an open order.
-#[derive(Clone, Copy, Debug, PartialEq, Eq)]
+#[derive(Clone, Copy, PartialEq, Eq)]
 pub enum OrderChange {
     /// So many shares fewer, or none where it has no more than these.
     Reduced(u32),

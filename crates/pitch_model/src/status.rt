@@ -1,7 +1,7 @@
 //! The status of a client: silent, current, or behind.
 
 /// How far a client is.
-#[derive(Clone, Copy, Debug, PartialEq, Eq)]
+#[derive(Clone, Copy, PartialEq, Eq)]
 pub enum Status {
     /// It was told of no message.
     Silent,

@@ -10,7 +10,7 @@ use storm_replay::Storm;
 use stream_print::{Carrier, StreamForm};
 
 /// What is made of a whole text.
-#[derive(Clone, Copy, Debug, PartialEq, Eq)]
+#[derive(Clone, Copy, PartialEq, Eq)]
 pub enum TextForm {
     /// Of venue commands, the datagrams of this unit.
     Pack { unit: u8 },
@@ -19,7 +19,7 @@ pub enum TextForm {
 }
 
 /// What a form of the words asks for.
-#[derive(Clone, Copy, Debug, PartialEq, Eq)]
+#[derive(Clone, Copy, PartialEq, Eq)]
 pub enum Job {
     /// A stream of blocks is read, bare or in a capture, and printed as it comes.
     Stream(Carrier, StreamForm),

@@ -1,7 +1,7 @@
 //! The forms of the program's words.
 
 /// What the program is asked to do, with its numbers.
-#[derive(Clone, Copy, Debug, PartialEq, Eq)]
+#[derive(Clone, Copy, PartialEq, Eq)]
 pub enum Form {
     /// `follow [--hold H]`: read a block stream, with room for `hold` messages beyond each gap.
     Follow {

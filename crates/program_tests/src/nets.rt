@@ -39,7 +39,7 @@ impl Net for NoNet {
 }
 
 /// What is wrong with a net.
-#[derive(Clone, Copy, Debug, PartialEq, Eq)]
+#[derive(Clone, Copy, PartialEq, Eq)]
 pub(crate) enum Trouble {
     /// Nothing: it carries all.
     Nothing,

@@ -13,7 +13,7 @@ use std::alloc::Global;
 use unit_packets::{BlockView, LAST_SEQUENCE};
 
 /// Why a relay does not go on.
-#[derive(Clone, Copy, Debug, PartialEq, Eq)]
+#[derive(Clone, Copy, PartialEq, Eq)]
 pub enum RelayError {
     /// What was sent and what a block adds have no sequences any more.
     SequencesSpent {

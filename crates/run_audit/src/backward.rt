@@ -33,7 +33,7 @@ pub(crate) struct Asked<'a> {
 }
 
 /// A book of a report that agrees with the logs.
-#[derive(Clone, Copy, Debug, PartialEq, Eq)]
+#[derive(Clone, Copy, PartialEq, Eq)]
 pub(crate) struct AgreedBook {
     /// The number of its first line.
     pub line: u32,

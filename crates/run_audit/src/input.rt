@@ -15,7 +15,7 @@ use std::fmt;
 use unit_packets::{BlockFault, BlockView, view_block};
 
 /// A block's sequence, and the next one of its unit.
-#[derive(Clone, Copy, Debug, PartialEq, Eq)]
+#[derive(Clone, Copy, PartialEq, Eq)]
 pub struct FoundGap {
     pub sequence: u32,
     pub next: u32,
@@ -36,7 +36,7 @@ impl fmt::Display for FoundGap {
 }
 
 /// What is wrong with the input of an audit. Places count from the input's first byte.
-#[derive(Clone, Copy, Debug, PartialEq, Eq)]
+#[derive(Clone, Copy, PartialEq, Eq)]
 pub enum AuditFault {
     /// Fewer bytes are there than the eight of the log's size.
     NoSize { has: u64 },
@@ -68,7 +68,7 @@ impl fmt::Display for AuditFault {
 }
 
 /// Why there is no verdict on an input.
-#[derive(Clone, Copy, Debug, PartialEq, Eq)]
+#[derive(Clone, Copy, PartialEq, Eq)]
 pub enum InputError {
     /// The input has a fault.
     Fault(AuditFault),

@@ -89,7 +89,7 @@ fn cut_line(text: &[u8]) -> (&[u8], &[u8])
 }
 
 /// How lines compare with wanted ones.
-#[derive(Clone, Copy, Debug, PartialEq, Eq)]
+#[derive(Clone, Copy, PartialEq, Eq)]
 pub(crate) enum Compared {
     /// All the wanted ones stand there: so many.
     Same(u32),

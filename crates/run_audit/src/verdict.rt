@@ -1,7 +1,7 @@
 //! The two verdicts on a report: yes, or the first wrong line.
 
 /// What is said of a report.
-#[derive(Clone, Copy, Debug, PartialEq, Eq)]
+#[derive(Clone, Copy, PartialEq, Eq)]
 pub enum Verdict {
     /// Each of so many books is what the log's messages leave.
     Yes { books: u32 },

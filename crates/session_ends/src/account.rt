@@ -2,7 +2,7 @@
 
 /// Who may log in: a sub id, a user and a password, each with spaces up to its length ("Login
 /// Message").
-#[derive(Clone, Copy, Debug, PartialEq, Eq)]
+#[derive(Clone, Copy, PartialEq, Eq)]
 pub struct Account {
     pub sub: [u8; 4],
     pub user: [u8; 4],

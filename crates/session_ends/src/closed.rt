@@ -3,7 +3,7 @@
 use unit_packets::BlockError;
 
 /// Why an end of a session closed.
-#[derive(Clone, Copy, Debug, PartialEq, Eq)]
+#[derive(Clone, Copy, PartialEq, Eq)]
 pub enum CloseCause {
     /// Its stream has a fault that more bytes do not mend.
     Block(BlockError),
@@ -23,7 +23,7 @@ pub enum CloseCause {
 }
 
 /// Why an end closed, and where.
-#[derive(Clone, Copy, Debug, PartialEq, Eq)]
+#[derive(Clone, Copy, PartialEq, Eq)]
 pub struct Closed {
     pub cause: CloseCause,
     /// The byte of its stream at which the block begins (Block, Sequenced) or the message

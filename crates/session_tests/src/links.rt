@@ -13,7 +13,7 @@ pub(crate) const ACCOUNT: Account = Account {
 };
 
 // What an item tells: its name, and its sequence or how many messages it has.
-#[derive(Clone, Copy, Debug, PartialEq, Eq)]
+#[derive(Clone, Copy, PartialEq, Eq)]
 enum Told {
     GrpUp,
     GapReply(u32, u16, u8),

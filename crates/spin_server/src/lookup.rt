@@ -8,7 +8,7 @@ use pitch_fields::OutOfMemory;
 use pitch_messages::RawList;
 
 /// What became of an image that was looked up.
-#[derive(Clone, Copy, Debug, PartialEq, Eq)]
+#[derive(Clone, Copy, PartialEq, Eq)]
 pub enum Imaged {
     /// Its messages were appended; so many of them add an order.
     Image { orders: u32 },

@@ -1,7 +1,7 @@
 //! How the blocks of a stream come: back to back, or in the datagrams of a capture.
 
 /// What carries the blocks of a stream.
-#[derive(Clone, Copy, Debug, PartialEq, Eq)]
+#[derive(Clone, Copy, PartialEq, Eq)]
 pub enum Carrier {
     /// Nothing does: the blocks stand back to back.
     Bare,

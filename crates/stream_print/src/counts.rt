@@ -8,7 +8,7 @@ ghost use Rattle.stream_print.specs.Counting.{counts_with};
 use pitch_fields::{put_byte, put_number, put_text};
 
 /// What became of a packet of a capture.
-#[derive(Clone, Copy, Debug, PartialEq, Eq)]
+#[derive(Clone, Copy, PartialEq, Eq)]
 pub enum PacketUse {
     /// It carries no datagram that was asked for.
     PassedOver,
@@ -20,7 +20,7 @@ pub enum PacketUse {
 
 /// How many packets a capture has, how many of them carry a datagram that was asked for, and how
 /// many of these datagrams are faulty. A count stays at the end of its type.
-#[derive(Clone, Copy, Debug, PartialEq, Eq)]
+#[derive(Clone, Copy, PartialEq, Eq)]
 pub struct PacketCounts {
     pub packets: u64,
     pub used: u64,

@@ -7,7 +7,7 @@ use relay_unit::RelayError;
 use unit_packets::BlockFault;
 
 /// What is wrong with a stream of blocks.
-#[derive(Clone, Copy, Debug, PartialEq, Eq)]
+#[derive(Clone, Copy, PartialEq, Eq)]
 pub enum StreamTrouble {
     /// A block has a fault, or the stream ends inside one.
     Faulty(BlockFault),
@@ -18,7 +18,7 @@ pub enum StreamTrouble {
 }
 
 /// Why printing a stream ended before its whole text.
-#[derive(Clone, Copy, Debug, PartialEq, Eq)]
+#[derive(Clone, Copy, PartialEq, Eq)]
 pub enum StreamFailure {
     /// The stream has a fault, or is too long.
     BadInput(StreamTrouble),
@@ -33,7 +33,7 @@ pub enum StreamFailure {
 }
 
 /// Why text could not be printed.
-#[derive(Clone, Copy, Debug, PartialEq, Eq)]
+#[derive(Clone, Copy, PartialEq, Eq)]
 pub enum PrintError {
     /// What a unit's relay sends has no sequences any more.
     SequencesSpent,

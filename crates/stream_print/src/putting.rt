@@ -7,7 +7,7 @@ ghost use Rattle.pitch_io.specs.Putting.{Grows};
 use pitch_io::{Put, Sink};
 
 /// A sink failed.
-#[derive(Clone, Copy, Debug, PartialEq, Eq)]
+#[derive(Clone, Copy, PartialEq, Eq)]
 pub struct PutFailed;
 
 /// Writes all the bytes. After a failure the sink has a prefix of them.

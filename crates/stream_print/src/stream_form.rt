@@ -1,7 +1,7 @@
 //! The forms in which a stream is printed: `follow`, `show`, `relay` and `quotes`.
 
 /// What is printed of a stream of blocks. A hold of a unit has 1 to 65,536 places.
-#[derive(Clone, Copy, Debug, PartialEq, Eq)]
+#[derive(Clone, Copy, PartialEq, Eq)]
 pub enum StreamForm {
     /// A line for each block, and at the end the books of all units; each unit's hold has so many
     /// places.

@@ -658,7 +658,7 @@ impl World {
 }
 
 // What a verb did: its outcome, and whether the hold overflowed with what was heard.
-#[derive(Clone, Copy, Debug, PartialEq, Eq)]
+#[derive(Clone, Copy, PartialEq, Eq)]
 struct Acted {
     outcome: Outcome,
     overflow: bool,
