@@ -3,3 +3,4 @@ pub mod Hearing
 pub mod Units
 pub mod Datagrams
 pub mod Examples
+pub mod Answered

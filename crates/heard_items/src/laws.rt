@@ -16,7 +16,8 @@ ghost use Rattle.pitch_model.specs.Honest.{AreVenues, Honest};
 ghost use Rattle.heard_items.specs.declared.item.Item.{Item};
 ghost use Rattle.heard_items.specs.Datagrams.{heard_blocks, IsPiece};
 ghost use Rattle.heard_items.specs.DatagramCounts.{messages_in, fresh_in, overflows_in, changes_in};
-ghost use Rattle.heard_items.specs.Heard.{heard, heard_block};
+ghost use Rattle.heard_items.specs.Heard.{heard, heard_block, heard_messages};
+ghost use Rattle.pitch_model.specs.Reach.{reach};
 ghost use Rattle.heard_items.specs.Changes.{IsItem, IsItemOf, change_of};
 ghost use Rattle.heard_items.specs.Changes.{block_change};
 ghost use Rattle.heard_items.specs.Units.{unit_history, units_of};
@@ -81,4 +82,11 @@ pub fn packed_messages_are_pieces()
         → IsPacking unit first raws datagrams → AllByRecursion (IsPiece V unit) datagrams }
     ensures heartbeat { (V : List Raw) (unit next : ℕ) → unit < 256 → 0 < next → next ≤ length V + 1
         → next ≤ last_sequence + 1 → IsPiece V unit (block_bytes (heartbeat_block unit next)) }
+{}
+
+/// Messages in their order, of which the first is the next one or an old one, are all applied:
+/// afterwards the reach is the last of them, or above it.
+pub fn messages_in_order_are_applied()
+    ensures { (H first : ℕ) (raws : List Raw) (E : List Entry) → 1 ≤ H → first ≤ reach H E + 1
+        → first + length raws ≤ reach H (heard_messages first raws E) + 1 }
 {}

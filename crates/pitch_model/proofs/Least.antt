@@ -10,7 +10,7 @@ use Rattle.pitch_model.specs.Reach.{SinceOverflow, is_seen, reach_of, held_of}
 use Rattle.pitch_model.specs.Asking.{least_of}
 
 -- what least_of gives is a member
-least_member : (ks : List ℕ) (m : ℕ) → least_of ks ≡ Some m → is_member eqb ks m ≡ true
+pub least_member : (ks : List ℕ) (m : ℕ) → least_of ks ≡ Some m → is_member eqb ks m ≡ true
 least_member [] m e = absurd (none-some m e)
 least_member (k ∷ ks) m e = by (λ l f. least_member ks l f) (least_of ks) refl e
   where
@@ -25,7 +25,7 @@ least_member (k ∷ ks) m e = by (λ l f. least_member ks l f) (least_of ks) ref
         ]
 
 -- and there is one, at most each member
-least_there : (ks : List ℕ) (k : ℕ) → is_member eqb ks k ≡ true → (m : ℕ) × (least_of ks ≡ Some m) × (m ≤ k)
+pub least_there : (ks : List ℕ) (k : ℕ) → is_member eqb ks k ≡ true → (m : ℕ) × (least_of ks ≡ Some m) × (m ≤ k)
 least_there [] k t = absurd (false≢true t)
 least_there (x ∷ ks) k t = by (λ u. least_there ks k u) (least_of ks) refl
   where

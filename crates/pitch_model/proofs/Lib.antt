@@ -9,6 +9,7 @@ pub mod Entries
 pub mod Draining
 pub mod Honesty
 pub mod Asking
+pub mod Recovering
 pub mod Folding
 pub mod Books
 pub mod Prices

@@ -63,7 +63,7 @@ module _ (E : List Entry) where
   told_images (Ticked ask) = omega arith
 
 -- no number of the part is above the top
-part_le_top : (H : ℕ) (E : List Entry) → top_since (since_overflow H E) ≤ top_number (top_of E)
+pub part_le_top : (H : ℕ) (E : List Entry) → top_since (since_overflow H E) ≤ top_number (top_of E)
 part_le_top H [] = omega arith
 part_le_top H (entry ∷ E) =
     let P = grown_at (since_overflow H E) E entry in

@@ -11,3 +11,4 @@ pub mod Status
 pub mod Honest
 pub mod Asking
 pub mod Advertising
+pub mod Recovering

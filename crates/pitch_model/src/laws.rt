@@ -3,7 +3,7 @@
 
 ghost use Rattle.std.specs.Prelude.{◌≡◌, ℕ, ◌+◌, ◌<◌, ◌≤◌, true, false, ◌||◌, ◌==◌, List, []};
 ghost use Rattle.std.specs.Prelude.{◌∷◌, ◌++◌, length, take, nat_eq};
-ghost use Rattle.std.specs.Prelude.{unwrap_or};
+ghost use Rattle.std.specs.Prelude.{unwrap_or, Some, is_some, not};
 ghost use Rattle.std.specs.List.{AllByRecursion};
 ghost use Rattle.std.specs.List.Sorted.{IsStrictlyIncreasing};
 ghost use Rattle.std.specs.Set.{is_member};
@@ -24,7 +24,12 @@ ghost use Rattle.pitch_model.specs.History.{image_finished, messages_at, adds, c
 ghost use Rattle.pitch_model.specs.Honest.{Honest};
 ghost use Rattle.pitch_model.specs.Reach.{SinceOverflow, IsReach, is_anchor, is_seen, reach_of};
 ghost use Rattle.pitch_model.specs.Reach.{held_count, since_overflow, reach, is_held};
-ghost use Rattle.pitch_model.specs.Status.{top_of};
+ghost use Rattle.pitch_model.specs.Status.{status_of, top_of};
+ghost use Rattle.pitch_model.specs.declared.status.Status.TheVariants.{Behind};
+ghost use Rattle.pitch_model.specs.declared.ask.Ask.TheVariants.{Gap, Spin};
+ghost use Rattle.pitch_model.specs.Asking.{is_grp_up, is_spin_up, owes, advertised_of, is_idle};
+ghost use Rattle.pitch_model.specs.Asking.{wants, ask_of};
+ghost use Rattle.pitch_model.specs.Recovering.{IsGapAsk, IsSpinAsk};
 ghost use Rattle.pitch_model.specs.Steps.{SameReach, Leaves, Drains};
 
 /// The reach is the greatest number that is joined to an anchor, and no other number is
@@ -177,4 +182,32 @@ pub fn advertised_sequences_rise()
     ensures newest { (advertised : List ℕ) (sequence : ℕ)
         → newest_of advertised ≡ Some sequence → is_member nat_eq advertised sequence ≡ true }
     ensures ten { (advertised : List ℕ) → length (last_ten advertised) ≤ 10 }
+{}
+
+/// A client that is behind asks for something, unless it waits for an answer or for an end to come
+/// up. Where the proxy is up and owes no reply, it asks; where an image is wanted or the proxy is
+/// not up, and one above its reach is advertised and no spin is under way, it asks for that image.
+pub fn clients_behind_ask()
+    ensures proxy { (H : ℕ) (E : List Entry) (n top : ℕ) → status_of H E ≡ Behind n top
+        → is_grp_up E ≡ true → owes E ≡ false → is_some (ask_of H E) ≡ true }
+    ensures image { (H : ℕ) (E : List Entry) (n top sequence : ℕ)
+        → status_of H E ≡ Behind n top → is_spin_up E ≡ true → is_idle (spin_of E) ≡ true
+        → advertised_of E ≡ Some sequence → n < sequence
+        → (wants H E top || not (is_grp_up E)) ≡ true → ask_of H E ≡ Some (Spin sequence) }
+{}
+
+/// A client asks only for what it lacks, and of an end that is up and owes it nothing: so nothing
+/// is asked for twice without an answer or a fall of that end between.
+pub fn asks_are_for_what_is_lacking()
+    ensures gap { (H : ℕ) (E : List Entry) (first count : ℕ)
+        → ask_of H E ≡ Some (Gap first count) → IsGapAsk H E first count }
+    ensures spin { (H : ℕ) (E : List Entry) (sequence : ℕ)
+        → ask_of H E ≡ Some (Spin sequence) → IsSpinAsk H E sequence }
+{}
+
+/// A finished image leaves the reach at its sequence or above it.
+pub fn images_raise_the_reach()
+    ensures { (H : ℕ) (E : List Entry) (sequence s : ℕ) (raws : List Raw)
+        → image_finished (spin_of E) sequence ≡ (s, raws) ∷ []
+        → s ≤ reach H (SpinFinished sequence ∷ E) }
 {}

@@ -2,6 +2,7 @@
 use Rattle.std.specs.Prelude.{ℕ, List, Result, Ok, Err}
 use Rattle.pitch_io.specs.Putting.{Grows}
 use Rattle.schedule_replay.specs.Worlds.{AreRunThrough}
+use Rattle.storm_replay.specs.Ended.{whole_text}
 use Rattle.storm_replay.specs.Storm.{storm_schedule}
 use Rattle.storm_replay.specs.Summary.{storm_text}
 use Rattle.stream_print.specs.Putting.{PutsSome}
@@ -15,11 +16,14 @@ abbrev pub IsRun : (number units steps : ℕ) → Type 0
 IsRun number units steps =
     (worlds : List World) × AreRunThrough (storm_schedule number units steps) worlds
 
--- How a storm ends: its summary was written; or a prefix of it, where the sink failed; or nothing,
--- where memory ran out.
+-- How a storm ends: its summary was written, which says of each unit that it is current at the last
+-- message of its plan; or a prefix of the summary, where the sink failed; or nothing, where memory
+-- ran out.
 abbrev pub StormEnds : (number units steps : ℕ) → Result (Unit {0}) Failure → (out : Told) → Type 0
 StormEnds number units steps (Ok done) out =
-    IsRun number units steps × Grows out.old out.new (storm_text number units steps)
+    IsRun number units steps
+    × (Grows out.old out.new (storm_text number units steps)
+    × Grows out.old out.new (whole_text number units steps))
 StormEnds number units steps (Err Write) out =
     IsRun number units steps × PutsSome out.old out.new (storm_text number units steps)
 StormEnds number units steps (Err OutOfMemory) out = IsUntouched out

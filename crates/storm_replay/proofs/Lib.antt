@@ -6,3 +6,4 @@ pub mod Sizes
 pub mod Storms
 pub mod Summing
 pub mod Turns
+pub mod Whole

@@ -16,7 +16,7 @@ mod summary;
 mod units;
 mod verbs;
 
-pub use crate::laws::storms_are_read;
+pub use crate::laws::{storms_are_read, storms_end_whole};
 pub use crate::running::run_storm;
 pub use crate::schedule::{Storm, generate};
 pub use crate::summary::put_storm_line;

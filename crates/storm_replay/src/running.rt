@@ -11,6 +11,7 @@ ghost use Rattle.storm_replay.specs.StormText.{storm_line};
 ghost use Rattle.storm_replay.specs.Summary.{ended_line, ended_lines};
 ghost use Rattle.storm_replay.specs.Running.{AreInTurn, AreStormWorlds};
 ghost use Rattle.storm_replay.specs.Summary.{storm_text};
+ghost use Rattle.storm_replay.specs.Ended.{whole_text};
 
 use crate::laws::storms_are_read;
 use crate::schedule::Storm;
@@ -61,9 +62,12 @@ fn append_worlds(worlds: &[World], units: u8, out: &mut Vec<u8>) -> Result<(), O
 
 // The summary of a storm by its worlds.
 fn summary_of(alloc: Global, storm: Storm, worlds: &WorldList) -> Result<Vec<u8>, OutOfMemory>
-    requires { AreStormWorlds storm.number storm.units storm.steps worlds.now.items }
-    ensures { IfOk result
+    requires worlds { AreStormWorlds storm.number storm.units storm.steps worlds.now.items }
+    requires steps { storm.steps ≤ most_steps }
+    ensures text { IfOk result
         (λ text. text.items ≡ storm_text storm.number storm.units storm.steps) }
+    ensures whole { IfOk result
+        (λ text. text.items ≡ whole_text storm.number storm.units storm.steps) }
 {
     let mut text = Vec::new(alloc);
     append_made(storm, &mut text)?;
@@ -117,6 +121,9 @@ pub fn run_storm<R: Threads + Sync, G: Gate + Sync>(
     requires workers { (1 ≤ workers) × (workers ≤ most_workers) }
     ensures written { OnOk result (out.new.items ≡ out.old.items
         ++ storm_text storm.number storm.units storm.steps) }
+    // Whatever was lost, each unit is current at the last message of its plan.
+    ensures whole { OnOk result (out.new.items ≡ out.old.items
+        ++ whole_text storm.number storm.units storm.steps) }
     ensures worlds { OnOk result (AddsWorlds (storm_schedule storm.number storm.units storm.steps)
         worlds.old.items worlds.new.items) }
     ensures kept_text { OnErr result (out.new.items ≡ out.old.items) }

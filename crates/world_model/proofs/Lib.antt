@@ -16,3 +16,13 @@ mod Ticking
 mod Examples
 mod PrintedLines
 pub mod Spending
+pub mod OneBlock
+pub mod LinkHears
+pub mod ServerRun
+pub mod ImageRound
+pub mod RoundVerbs
+pub mod ImageTaken
+pub mod Lasting
+pub mod Recovered
+pub mod Quiet
+pub mod Finish

@@ -47,7 +47,7 @@ module _ (P : Item → Type 0) (s : Setup) (runs : (raws : List (List ℕ)) → 
       by (Some raw) rest = rest
       by None rest = both P (told_said s.role (heard_by s.role h)) _ (said h) (both P (run_of s.role (others s.role items)) (after_others s.role items) (runs (others s.role items)) rest)
 
-  link_all : (before : List (Event Lookups)) (bytes : List ℕ) → AllByRecursion P (link_tells s before bytes)
+  pub link_all : (before : List (Event Lookups)) (bytes : List ℕ) → AllByRecursion P (link_tells s before bytes)
   link_all before bytes = by (is_some (closed_of s before))
     where
       items : List Heard

@@ -10,3 +10,4 @@ pub mod Hearing
 pub mod Stands
 pub mod Steps
 pub mod Spending
+pub mod Recovery

@@ -1,0 +1,297 @@
+-- Each unit of a storm ends current at the last message of its plan.
+use Rattle.std.proofs.Common.{◌≡◌, ℕ, zero, suc, ◌+◌, ◌-◌, ◌<◌, ◌≤◌, Bool, true, false, cond, List, [], ◌∷◌, ◌++◌, length, take, drop, refl, sym, ap, ◌∙◌, subst, arith, Option, Some, None, is_some, reverse, append_assoc, length-append, ◌==◌, ◌%◌}
+use Rattle.std.specs.List.{slice_get}
+use Rattle.std.specs.FinMap.{len}
+use Rattle.std.specs.Option.{option_map}
+use Rattle.std.proofs.lemmas.List.{append-nil, reverse-append, drop_at}
+use Rattle.std.proofs.lemmas.Option.{slice_get-get_or}
+use Rattle.pitch_io.specs.declared.line.Line.{Line}
+use Rattle.pitch_io.specs.declared.line.Line.TheVariants as lines
+use Rattle.pitch_text.specs.declared.command.Command.{Command}
+use Rattle.pitch_text.specs.declared.verb.ScheduleEntry.{ScheduleEntry}
+use Rattle.pitch_text.specs.declared.verb.Session.{Session}
+use Rattle.pitch_text.specs.declared.verb.Session.TheVariants.{Grp, Spin}
+use Rattle.pitch_text.specs.declared.verb.Verb.{Verb}
+use Rattle.pitch_text.specs.declared.verb.Verb.TheVariants as verbs
+use Rattle.unit_packets.specs.Packing.{packed, packed_on, begun_datagrams, fits_datagram, sequence_after}
+use Rattle.pitch_model.specs.declared.ask.Ask.{Ask}
+use Rattle.pitch_model.specs.declared.ask.Ask.TheVariants as asks
+use Rattle.pitch_model.specs.declared.status.Status.{Status}
+use Rattle.pitch_model.specs.declared.status.Status.TheVariants.{Current}
+use Rattle.pitch_model.specs.Asking.{ask_of}
+use Rattle.pitch_model.specs.Book.{Book, book_after}
+use Rattle.pitch_model.specs.Levels.{shares}
+use Rattle.pitch_model.specs.Status.{status_of}
+use Rattle.feed_lines.specs.UnitLine.{unit_line}
+use Rattle.grp_session.specs.Serving.{Source}
+use Rattle.spin_server.specs.Served.{Served}
+use Rattle.venue_core.specs.Commands.{raw_of}
+use Rattle.venue_core.specs.Plan.{plan, plan_command}
+use Rattle.venue_core.specs.Refusals.{refusal}
+use Rattle.venue_core.specs.declared.error.VenueError.{VenueError}
+use Rattle.venue_core.proofs.PlanAccepted.{plan_accepted}
+use Rattle.venue_core.proofs.PlanBooks.{plan_begins, plan_next, plan_length}
+use Rattle.world_model.specs.State.{State, Connection, connection_of, datagrams_on}
+use Rattle.world_model.specs.Ends.{link_of}
+use Rattle.world_model.specs.Stands.{WorldStands}
+use Rattle.world_model.specs.Verbs.{Done, done, next_state, state_of, commanded_on, connected_on, up_on, down_on, delivered_on, numbered, ended_where, shut, link_ticked, link_ticks, servers_tick, client_ticks, asked, client_book, pending}
+use Rattle.world_model.specs.declared.limits.Limits.{Limits}
+use Rattle.world_model.specs.declared.world.World.{World}
+use Rattle.world_model.proofs.Finish.{beat_current, beat_accepted, book_of_all}
+use Rattle.schedule_replay.specs.Replay.{verbs_of, limits_of, default_limits}
+use Rattle.schedule_replay.specs.Worlds.{IsWorldOf}
+use Rattle.storm_replay.specs.Ended.{whole_line, whole_lines, whole_text}
+use Rattle.storm_replay.specs.Limits.{most_units, most_steps}
+use Rattle.storm_replay.specs.Running.{AreInTurn, AreStormWorlds}
+use Rattle.storm_replay.specs.Storm.{start_verbs, step_verbs, end_verbs, arrival, arrives_at_once, arrives_late, tenth_verbs}
+use Rattle.storm_replay.specs.StormText.{storm_line}
+use Rattle.storm_replay.specs.Summary.{state_line, ended_line, ended_lines, storm_lines, storm_text}
+use Rattle.storm_replay.specs.Units.{unit_steps, unit_course}
+use Rattle.storm_replay.proofs.Naming.{verbs_are, limits_are}
+
+-- ---- Verbs that are neither a command nor a sending
+pub record Stays (s x : State) : Type 0 where
+  pub accepted_is : x.accepted ≡ s.accepted
+  pub flushed_is : x.flushed ≡ s.flushed
+  pub sent_is : x.sent ≡ s.sent
+  pub alone : s.spin ≡ None → x.spin ≡ None
+
+stays_then : (s x y : State) → Stays s x → Stays x y → Stays s y
+stays_then s x y a b = record { accepted_is = b.accepted_is ∙ a.accepted_is; flushed_is = b.flushed_is ∙ a.flushed_is; sent_is = b.sent_is ∙ a.sent_is; alone = λ e. b.alone (a.alone e) }
+
+stays_where : (b : Bool) (session : Session) (s : State) → Stays s (ended_where b session s)
+stays_where true Grp s = record { accepted_is = refl; flushed_is = refl; sent_is = refl; alone = λ e. e }
+stays_where true Spin s = record { accepted_is = refl; flushed_is = refl; sent_is = refl; alone = λ e. refl }
+stays_where false session s = record { accepted_is = refl; flushed_is = refl; sent_is = refl; alone = λ e. e }
+
+asked_alone : (unit : ℕ) (a : Option Ask) (g : Option (Connection (List Served))) → g ≡ None → asked unit Spin a g ≡ None
+asked_alone unit None g e = e
+asked_alone unit (Some (asks.Gap first count)) g e = e
+asked_alone unit (Some (asks.Spin n)) g e = ap (option_map _) e
+
+module _ (unit : ℕ) (limits : Limits) (s : State) where
+  abbrev Leaves : Done → Type 0
+  Leaves d = Stays s (record d.state { begun = true })
+
+  either : (b : Bool) (few more : Done) → Leaves few → Leaves more → Leaves (cond b few more)
+  either true few more k l = k
+  either false few more k l = l
+
+  stays_open : Stays s (next_state unit limits (verbs.Connect Grp) s)
+  stays_open = by s.grp
+    where
+      by : (o : Option (Connection Source)) → Leaves (connected_on unit Grp o s)
+      by None = record { accepted_is = refl; flushed_is = refl; sent_is = refl; alone = λ e. e }
+      by (Some c) = record { accepted_is = refl; flushed_is = refl; sent_is = refl; alone = λ e. e }
+
+  stays_up : Stays s (next_state unit limits (verbs.Up Grp None) s)
+  stays_up = by s.grp
+    where
+      by : (o : Option (Connection Source)) → Leaves (up_on unit limits Grp None o s)
+      by None = record { accepted_is = refl; flushed_is = refl; sent_is = refl; alone = λ e. e }
+      by (Some c) = either _ _ _ (record { accepted_is = refl; flushed_is = refl; sent_is = refl; alone = λ e. e }) (record { accepted_is = refl; flushed_is = refl; sent_is = refl; alone = λ e. e })
+
+  stays_down : Stays s (next_state unit limits (verbs.Down Grp None) s)
+  stays_down = by s.grp
+    where
+      by : (o : Option (Connection Source)) → Leaves (down_on unit Grp None o s)
+      by None = record { accepted_is = refl; flushed_is = refl; sent_is = refl; alone = λ e. e }
+      by (Some c) = either _ _ _ (record { accepted_is = refl; flushed_is = refl; sent_is = refl; alone = λ e. e })
+          (let k = stays_where _ Grp _ in record { accepted_is = k.accepted_is; flushed_is = k.flushed_is; sent_is = k.sent_is; alone = k.alone })
+
+  stays_deliver : (line : Line) (number : ℕ) → Stays s (next_state unit limits (verbs.Deliver line number) s)
+  stays_deliver line number = by (numbered (datagrams_on s line) number)
+    where
+      by : (o : Option (List ℕ)) → Leaves (delivered_on unit limits line number o s)
+      by None = record { accepted_is = refl; flushed_is = refl; sent_is = refl; alone = λ e. e }
+      by (Some datagram) = record { accepted_is = refl; flushed_is = refl; sent_is = refl; alone = λ e. e }
+
+  stays_rest : (line : Line) → Stays s (next_state unit limits (verbs.Rest line) s)
+  stays_rest line = record { accepted_is = refl; flushed_is = refl; sent_is = refl; alone = λ e. e }
+
+  stays_tick : Stays s (next_state unit limits verbs.Tick s)
+  stays_tick =
+      let one : State = link_ticked unit Grp (servers_tick unit s) in
+      let a : Stays s one = record { accepted_is = refl; flushed_is = refl; sent_is = refl; alone = λ e. ap (option_map _) e } in
+      let b = stays_where (shut (link_of unit Grp) (connection_of Grp one)) Grp one in
+      let two : State = link_ticks unit Grp (servers_tick unit s) in
+      let three : State = link_ticked unit Spin two in
+      let c : Stays two three = record { accepted_is = refl; flushed_is = refl; sent_is = refl; alone = λ e. ap (option_map _) e } in
+      let d = stays_where (shut (link_of unit Spin) (connection_of Spin three)) Spin three in
+      let four : State = link_ticks unit Spin two in
+      let all = stays_then s three four (stays_then s two three (stays_then s one two a b) c) d in
+      record { accepted_is = all.accepted_is; flushed_is = all.flushed_is; sent_is = all.sent_is; alone = λ e. asked_alone unit (ask_of limits.hold four.heard) four.spin (all.alone e) }
+
+-- ---- Several verbs, the first of which comes first
+abbrev after : ℕ → Limits → List Verb → State → State
+after unit limits [] s = s
+after unit limits (verb ∷ more) s = after unit limits more (next_state unit limits verb s)
+
+after_both : (unit : ℕ) (limits : Limits) (xs ys : List Verb) (s : State) → after unit limits (xs ++ ys) s ≡ after unit limits ys (after unit limits xs s)
+after_both unit limits [] ys s = refl
+after_both unit limits (x ∷ xs) ys s = after_both unit limits xs ys (next_state unit limits x s)
+
+-- the states of verbs that stand newest first
+state_after : (unit : ℕ) (limits : Limits) (xs before : List Verb) → state_of unit limits (reverse xs ++ before) ≡ after unit limits xs (state_of unit limits before)
+state_after unit limits [] before = refl
+state_after unit limits (x ∷ xs) before =
+    ap (λ (l : List Verb). state_of unit limits (l ++ before)) (reverse-append (x ∷ []) xs)
+    ∙ ap (state_of unit limits) (append_assoc (reverse xs) (x ∷ []) before)
+    ∙ state_after unit limits xs (x ∷ before)
+
+-- ---- A step
+-- one message is packed into one datagram
+one_packed : (unit first : ℕ) (raw : List ℕ) → length (packed unit first (raw ∷ [])) ≡ 1
+unfolding packed_on
+one_packed unit first raw = by (fits_datagram (raw ∷ []))
+  where
+    by : (b : Bool) → length (cond b (begun_datagrams unit first (raw ∷ [])) ([] ++ begun_datagrams unit (sequence_after first 0) (raw ∷ []))) ≡ 1
+    by true = refl
+    by false = refl
+
+-- after so many steps
+pub record Stepped (number unit k : ℕ) (s : State) : Type 0 where
+  pub accepted_is : s.accepted ≡ plan number unit k
+  pub flushed_is : s.flushed ≡ k
+  pub sent_is : length s.sent ≡ k
+  pub alone : s.spin ≡ None
+
+stepped_stays : (number unit k : ℕ) (s x : State) → Stepped number unit k s → Stays s x → Stepped number unit k x
+stepped_stays number unit k s x a b = record {
+  accepted_is = b.accepted_is ∙ a.accepted_is;
+  flushed_is = b.flushed_is ∙ a.flushed_is;
+  sent_is = ap (λ (l : List (List ℕ)). length l) b.sent_is ∙ a.sent_is;
+  alone = b.alone a.alone;
+}
+
+one_before : (k : ℕ) → k ≡ suc k - 1
+one_before k = omega arith
+
+module _ (number unit : ℕ) (limits : Limits) where
+  started : Stepped number unit 0 (after unit limits start_verbs (state_of unit limits []))
+  started =
+      let s0 : State = state_of unit limits [] in
+      let s1 = next_state unit limits (verbs.Connect Grp) s0 in
+      let s2 = next_state unit limits (verbs.Up Grp None) s1 in
+      let zero_steps : Stepped number unit 0 s0 = record { accepted_is = sym (plan_begins number unit); flushed_is = refl; sent_is = refl; alone = refl } in
+      stepped_stays number unit 0 s2 _ (stepped_stays number unit 0 s1 s2 (stepped_stays number unit 0 s0 s1 zero_steps (stays_open unit limits s0)) (stays_up unit limits s1)) (stays_down unit limits s2)
+
+  -- a command of the plan makes a message, which is sent
+  commanded : (k : ℕ) (s : State) → suc k ≤ 400000 → Stepped number unit k s → Stepped number unit (suc k) (next_state unit limits verbs.Flush (next_state unit limits (verbs.Command (plan_command number unit (suc k))) s))
+  commanded k s low a =
+      let command : Command = plan_command number unit (suc k) in
+      let raw : List ℕ = raw_of command in
+      let fine : refusal s.accepted command ≡ None = ap (λ (V : List (List ℕ)). refusal V command) a.accepted_is ∙ ap (λ (m : ℕ). refusal (plan number unit m) command) (one_before k) ∙ plan_accepted number unit (suc k) (omega arith) low in
+      let sends : State → State = next_state unit limits verbs.Flush in
+      let with_one : State = record s { begun = true; accepted = s.accepted ++ raw ∷ [] } in
+      let is : next_state unit limits (verbs.Command command) s ≡ with_one = ap (λ (o : Option VenueError). record (commanded_on o command s).state { begun = true }) fine in
+      let more : s.accepted ++ raw ∷ [] ≡ plan number unit (suc k) = ap (λ (V : List (List ℕ)). V ++ raw ∷ []) a.accepted_is ∙ sym (plan_next number unit k (suc k) refl) in
+      let many : length s.accepted ≡ k = ap (λ (V : List (List ℕ)). length V) a.accepted_is ∙ plan_length number unit k in
+      let rest : drop s.flushed (s.accepted ++ raw ∷ []) ≡ raw ∷ [] = drop_at s.accepted (raw ∷ []) s.flushed (many ∙ sym a.flushed_is) in
+      let one : length (pending unit with_one) ≡ 1 = ap (λ (l : List (List ℕ)). length (packed unit (s.flushed + 1) l)) rest ∙ one_packed unit (s.flushed + 1) raw in
+      subst (λ (x : State). Stepped number unit (suc k) (sends x)) (sym is) (record {
+        accepted_is = more;
+        flushed_is = ap (λ (V : List (List ℕ)). length V) more ∙ plan_length number unit (suc k);
+        sent_is = (let had = a.sent_is in omega (arith, length-append s.sent (pending unit with_one), one, had));
+        alone = a.alone;
+      })
+
+  arrives : (k : ℕ) (line : Line) (index : ℕ) (b : Bool) (s : State) → Stepped number unit k s → Stepped number unit k (after unit limits (arrival line index b) s)
+  arrives k line index true s a = stepped_stays number unit k s _ a (stays_deliver unit limits s line index)
+  arrives k line index false s a = a
+
+  tenth : (k index : ℕ) (s : State) → Stepped number unit k s → Stepped number unit k (after unit limits (tenth_verbs index) s)
+  tenth k index s a = by (index % 10 == 0)
+    where
+      by : (b : Bool) → Stepped number unit k (after unit limits (cond b (verbs.Tick ∷ verbs.Up Grp None ∷ verbs.Down Grp None ∷ verbs.Rest lines.Gap ∷ []) []) s)
+      by true =
+          let s1 = next_state unit limits verbs.Tick s in
+          let s2 = next_state unit limits (verbs.Up Grp None) s1 in
+          let s3 = next_state unit limits (verbs.Down Grp None) s2 in
+          stepped_stays number unit k s3 _ (stepped_stays number unit k s2 s3 (stepped_stays number unit k s1 s2 (stepped_stays number unit k s s1 a (stays_tick unit limits s)) (stays_up unit limits s1)) (stays_down unit limits s2)) (stays_rest unit limits s3 lines.Gap)
+      by false = a
+
+  step : (k : ℕ) (s : State) → suc k ≤ 400000 → Stepped number unit k s → Stepped number unit (suc k) (after unit limits (step_verbs number unit (suc k)) s)
+  step k s low a =
+      let xs : List Verb = arrival lines.A (suc k) (arrives_at_once number unit (suc k)) in
+      let ys : List Verb = arrival lines.B (suc k - 3) (arrives_late number unit (suc k)) in
+      let zs : List Verb = tenth_verbs (suc k) in
+      let s1 : State = next_state unit limits verbs.Flush (next_state unit limits (verbs.Command (plan_command number unit (suc k))) s) in
+      let a1 = commanded k s low a in
+      let s2 : State = after unit limits xs s1 in
+      let a2 = arrives (suc k) lines.A (suc k) (arrives_at_once number unit (suc k)) s1 a1 in
+      let s3 : State = after unit limits ys s2 in
+      let a3 = arrives (suc k) lines.B (suc k - 3) (arrives_late number unit (suc k)) s2 a2 in
+      let a4 = tenth (suc k) (suc k) s3 a3 in
+      subst (Stepped number unit (suc k)) (sym (after_both unit limits xs (ys ++ zs) s1 ∙ after_both unit limits ys zs s2)) a4
+
+  steps : (k : ℕ) (s : State) → k ≤ 400000 → Stepped number unit 0 s → Stepped number unit k (after unit limits (unit_steps number unit k) s)
+  unfolding unit_steps
+  steps zero s low a = a
+  steps (suc k) s low a =
+      subst (Stepped number unit (suc k)) (sym (after_both unit limits (unit_steps number unit k) (step_verbs number unit (suc k)) s))
+      (step k (after unit limits (unit_steps number unit k) s) low (steps k s (omega (arith, low)) a))
+
+-- ---- A unit
+-- all that comes before the end
+abbrev course_before : ℕ → ℕ → ℕ → List Verb
+course_before number unit k = reverse (start_verbs ++ unit_steps number unit k)
+
+stepped_before : (number unit k : ℕ) (limits : Limits) → k ≤ 400000 → Stepped number unit k (state_of unit limits (course_before number unit k))
+stepped_before number unit k limits low =
+    let xs : List Verb = start_verbs ++ unit_steps number unit k in
+    let is : state_of unit limits (reverse xs) ≡ after unit limits (unit_steps number unit k) (after unit limits start_verbs (state_of unit limits [])) =
+    ap (state_of unit limits) (sym (append-nil (reverse xs))) ∙ state_after unit limits xs [] ∙ after_both unit limits start_verbs (unit_steps number unit k) (state_of unit limits []) in
+    subst (Stepped number unit k) (sym is) (steps number unit limits k (after unit limits start_verbs (state_of unit limits [])) low (started number unit limits))
+
+course_is : (number unit k : ℕ) → reverse (unit_course number unit k) ≡ reverse (end_verbs k) ++ course_before number unit k
+course_is number unit k =
+    ap (λ (l : List Verb). reverse l) (sym (append_assoc start_verbs (unit_steps number unit k) (end_verbs k)))
+    ∙ reverse-append (start_verbs ++ unit_steps number unit k) (end_verbs k)
+
+-- the line of a unit in a world in which its course was done
+pub unit_whole : (number unit steps : ℕ) (limits : Limits) (w : World) → steps ≤ 400000 → WorldStands w unit limits (reverse (unit_course number unit steps)) → state_line unit limits (state_of unit limits (reverse (unit_course number unit steps))) ≡ whole_line number unit steps
+unfolding state_line whole_line
+unit_whole number unit steps limits w low stands =
+    let before : List Verb = course_before number unit steps in
+    let s : State = state_of unit limits before in
+    let a = stepped_before number unit steps limits low in
+    let x : State = state_of unit limits (reverse (end_verbs steps) ++ before) in
+    let there : WorldStands w unit limits (reverse (end_verbs steps) ++ before) = subst (WorldStands w unit limits) (course_is number unit steps) stands in
+    let many : length s.accepted ≡ steps = ap (λ (V : List (List ℕ)). length V) a.accepted_is ∙ plan_length number unit steps in
+    let had = a.sent_is in
+    let status : status_of limits.hold x.heard ≡ Current (length s.accepted) = beat_current w unit limits before (steps + 1) there (a.flushed_is ∙ sym many) (omega (arith, had)) a.alone in
+    let book : client_book limits x ≡ book_after (plan number unit steps) = book_of_all limits x s.accepted (beat_accepted unit limits before (steps + 1)) status ∙ ap book_after a.accepted_is in
+    ap (λ (l : List Verb). state_line unit limits (state_of unit limits l)) (course_is number unit steps)
+    ∙ ap (λ (o : Status). unit_line unit o (len (client_book limits x).orders) (shares (client_book limits x))) (status ∙ ap Current many)
+    ∙ ap (λ (b : Book). unit_line unit (Current steps) (len b.orders) (shares b)) book
+
+-- ---- All units
+found : {X : Type 0} (xs : List X) (i : ℕ) → i < length xs → (x : X) × (slice_get xs i ≡ Some x)
+found [] i less = absurd (omega (arith, less))
+found (x ∷ xs) zero less = (x, refl)
+found (x ∷ xs) (suc i) less = found xs i (omega (arith, less))
+
+ended_whole : (number units steps unit : ℕ) (w : World) → steps ≤ 400000 → 1 ≤ unit → unit ≤ units → IsWorldOf (reverse (storm_lines number units steps)) unit w → ended_line (reverse (storm_lines number units steps)) unit ≡ whole_line number unit steps
+ended_whole number units steps unit w low least most is =
+    let before : List ScheduleEntry = reverse (storm_lines number units steps) in
+    let limits : Limits = limits_of (verbs_of unit before) in
+    let same = verbs_are number units steps unit least most in
+    ap (λ (l : List Verb). state_line unit limits (state_of unit limits l)) same
+    ∙ unit_whole number unit steps limits w low (subst (WorldStands w unit limits) same is.1)
+
+lines_whole : (number units steps k : ℕ) (worlds : List World) → steps ≤ 400000 → k ≤ units → length worlds ≡ units → AreInTurn (reverse (storm_lines number units steps)) worlds → ended_lines (reverse (storm_lines number units steps)) k ≡ whole_lines number k steps
+unfolding ended_lines whole_lines
+lines_whole number units steps zero worlds low most many each = refl
+lines_whole number units steps (suc k) worlds low most many each =
+    let before : List ScheduleEntry = reverse (storm_lines number units steps) in
+    let at = found worlds k (omega (arith, most, many)) in
+    let e : k + 1 ≡ suc k = omega arith in
+    let is : IsWorldOf before (suc k) at.0 = subst (λ (u : ℕ). IsWorldOf before u at.0) e (each k at.0 at.1) in
+    ap (λ (l : List ℕ). l ++ ended_line before (suc k)) (lines_whole number units steps k worlds low (omega (arith, most)) many each)
+    ∙ ap (λ (l : List ℕ). whole_lines number k steps ++ l) (ended_whole number units steps (suc k) at.0 low (omega arith) most is)
+
+-- the summary says of each unit that it has all
+pub storm_whole : (number units steps : ℕ) (worlds : List World) → steps ≤ most_steps → AreStormWorlds number units steps worlds → storm_text number units steps ≡ whole_text number units steps
+storm_whole number units steps worlds few are =
+    ap (λ (l : List ℕ). storm_line number units steps ++ l) (lines_whole number units steps units worlds (omega (arith, few)) (omega arith) are.many are.each)
