@@ -65,6 +65,6 @@ pub(crate) fn turn_all(
 {
     let symbols = symbols_of(alloc, levels)?;
     tell_gone(levels, &symbols, told)?;
-    levels.clear();
+    levels.truncate(0);
     Ok(())
 }

@@ -509,12 +509,13 @@ impl UnitBook {
         self.statuses.put(symbol, status)
     }
 
-    // Takes all orders out. The second and the statuses stay.
+    // Takes all orders out. The second and the statuses stay. The orders are freed one by one where
+    // they are few for the map's table, which a clear would go through whole.
     fn clear(&mut self)
         ensures book { self.new.book ≡ cleared self.old.book }
         ensures spare { self.old.spare ≤ self.new.spare }
     {
-        self.orders.clear();
+        self.orders.truncate(0);
     }
 
     // Adds an order, unless it has no shares.
