@@ -68,7 +68,7 @@ def functions_in(path):
             owner, of_trait = owner_of(line)
         elif line.startswith("}"):
             owner, of_trait = None, False
-        elif head := re.match(r"(\s*)(pub )?(?:pub\(crate\) )?(?:const |unsafe )*fn (\w+)", line):
+        elif head := re.match(r"(\s*)(pub )?(?:pub\(crate\) )?(?:const |unsafe |extern .C. )*fn (\w+)", line):
             current = Function(head[3], owner if head[1] else None, path.stem, head[2], of_trait)
             found.append(current)
         elif current and line.strip() == "{":

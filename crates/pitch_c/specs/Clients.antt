@@ -1,0 +1,72 @@
+-- What a client that C holds stands for, and what C is told of it. Blocks stand newest first.
+use Rattle.std.specs.Prelude.{◌≡◌, ℕ, List, ◌∷◌, take, Option}
+use Rattle.std.specs.Option.{IsSomeAnd}
+use Rattle.std.specs.Result.{IsErr}
+use Rattle.std.specs.FinMap as map
+use Rattle.pitch_fields.specs.Side.{side_of}
+use Rattle.pitch_model.specs.History.{Raw}
+use Rattle.pitch_model.specs.Book.{Book, book_after}
+use Rattle.pitch_model.specs.Levels.{best}
+use Rattle.pitch_model.specs.Reach.{reach}
+use Rattle.pitch_model.specs.Status.{status_of}
+use Rattle.unit_packets.specs.Blocks.{Block}
+use Rattle.unit_packets.specs.Held.{StandsFirst}
+use Rattle.unit_packets.specs.Judging.{judge}
+use Rattle.unit_packets.specs.Lending.{header_for}
+use Rattle.heard_items.specs.Units.{unit_history, AllHonest}
+use Rattle.heard_items.specs.Changes.{block_change}
+use Rattle.unit_clients.specs.Clients.{Units, HaveHeard}
+use Rattle.pitch_c.specs.Reports.{status_shown, best_shown, heard_shown, order_shown}
+use Rattle.pitch_c.specs.declared.reports.StatusOut.{StatusOut}
+use Rattle.pitch_c.specs.declared.reports.BestOut.{BestOut}
+use Rattle.pitch_c.specs.declared.reports.HeardOut.{HeardOut}
+use Rattle.pitch_c.specs.declared.reports.OrderOut.{OrderOut}
+
+-- the clients stand for the blocks
+abbrev pub HasHeard : Option Units → List Block → Type 0
+HasHeard feed before = IsSomeAnd feed (λ units. HaveHeard units before)
+
+-- they stand for whatever blocks they stood for
+abbrev pub StillHave : Units → Units → Type 0
+StillHave old new = (before : List Block) → HaveHeard old before → HaveHeard new before
+
+-- the bytes begin with no block
+abbrev pub BeginWithNone : List ℕ → Type 0
+BeginWithNone bytes = IsErr (judge bytes)
+
+-- a block stands first in the bytes; whatever blocks came before, the clients then stand for these
+-- with the block after them; and this is told of the block
+pub record HearFirst (bytes : List ℕ) (old new : Units) (told : HeardOut) : Type 0 where
+  pub block : Block
+  pub stands : StandsFirst bytes block
+  pub heard : (before : List Block) → HaveHeard old before → HaveHeard new (block ∷ before)
+  pub told_is : (before : List Block) → HaveHeard old before
+      → told ≡ heard_shown (header_for block)
+      (block_change old.limit (unit_history block.unit before) block)
+
+-- of whatever blocks they have heard, the status is that of the unit's blocks
+abbrev pub TellStatus : Units → ℕ → StatusOut → Type 0
+TellStatus units unit told =
+    (before : List Block) → HaveHeard units before
+    → told ≡ status_shown (status_of units.limit (unit_history unit before))
+
+-- the book of the first n messages of the unit's venue, n the unit's reach
+abbrev pub reached_book : Units → ℕ → List Block → (ℕ → List Raw) → Book
+reached_book units unit before Vs =
+    book_after (take (reach units.limit (unit_history unit before)) (Vs unit))
+
+-- of whatever blocks they have heard, and of all messages of which these alone speak, the answer is
+-- read off the book of the first n
+abbrev pub OfReachedBook : Units → ℕ → (Book → Type 0) → Type 0
+OfReachedBook units unit P =
+    (before : List Block) (Image : List Raw → ℕ → List Raw) (Vs : ℕ → List Raw)
+    → HaveHeard units before → AllHonest Image Vs before → P (reached_book units unit before Vs)
+
+abbrev pub TellBest : Units → ℕ → List ℕ → ℕ → BestOut → Type 0
+TellBest units unit symbol side told =
+    IsSomeAnd (side_of side)
+    (λ s. OfReachedBook units unit (λ book. told ≡ best_shown (best book symbol s)))
+
+abbrev pub TellOrder : Units → ℕ → ℕ → OrderOut → Type 0
+TellOrder units unit id told =
+    OfReachedBook units unit (λ book. told ≡ order_shown (map.get book.orders id))

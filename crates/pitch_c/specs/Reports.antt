@@ -1,0 +1,52 @@
+-- What the structs that C reads say.
+use Rattle.std.specs.Prelude.{ℕ, [], ◌∷◌, Option, None, Some}
+use Rattle.pitch_fields.specs.Side.{byte_of}
+use Rattle.pitch_messages.specs.declared.order.Order.{Order}
+use Rattle.pitch_model.specs.declared.status.Status.{Status}
+use Rattle.pitch_model.specs.declared.status.Status.TheVariants.{Silent, Current, Behind}
+use Rattle.heard_items.specs.declared.change.Change.{Change}
+use Rattle.unit_packets.specs.declared.header.Header.{Header}
+use Rattle.pitch_c.specs.declared.reports.StatusOut.{StatusOut}
+use Rattle.pitch_c.specs.declared.reports.BestOut.{BestOut}
+use Rattle.pitch_c.specs.declared.reports.HeardOut.{HeardOut}
+use Rattle.pitch_c.specs.declared.reports.OrderOut.{OrderOut}
+
+-- how far a client is
+abbrev pub status_shown : Status → StatusOut
+status_shown Silent = record { state = 1; reach = 0; top = 0 }
+status_shown (Current n) = record { state = 2; reach = n; top = n }
+status_shown (Behind n top) = record { state = 3; reach = n; top = top }
+
+-- a best price with its shares, where there is one
+abbrev pub best_shown : Option (ℕ × ℕ) → BestOut
+best_shown None = record { there = 0; price = 0; shares = 0 }
+best_shown (Some best) = record { there = 1; price = best.0; shares = best.1 }
+
+-- an open order, where there is one
+abbrev pub order_shown : Option Order → OrderOut
+order_shown None = record {
+  there = 0;
+  price = 0;
+  quantity = 0;
+  side = 0;
+  symbol = 32 ∷ 32 ∷ 32 ∷ 32 ∷ 32 ∷ 32 ∷ 32 ∷ 32 ∷ [];
+}
+order_shown (Some order) = record {
+  there = 1;
+  price = order.price;
+  quantity = order.quantity;
+  side = byte_of order.side;
+  symbol = order.symbol;
+}
+
+-- the header of a block that was heard, and what it changed
+abbrev pub heard_shown : Header → Change → HeardOut
+heard_shown header change = record {
+  used = header.length;
+  unit = header.unit;
+  sequence = header.sequence;
+  count = header.count;
+  fresh = change.fresh;
+  overflows = change.overflows;
+  after = status_shown change.after;
+}

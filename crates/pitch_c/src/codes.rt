@@ -1,0 +1,19 @@
+//! What the functions answer.
+
+pub const OK: u32 = 0;
+
+pub const CLOSED: u32 = 1;
+
+pub const IS_OPEN: u32 = 2;
+
+pub const NO_MEMORY: u32 = 3;
+
+pub const BAD_HOLD: u32 = 4;
+
+pub const TRUNCATED: u32 = 5;
+
+pub const NOT_A_BLOCK: u32 = 6;
+
+pub const NO_CLIENT: u32 = 7;
+
+pub const NO_SIDE: u32 = 8;

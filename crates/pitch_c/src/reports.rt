@@ -1,0 +1,129 @@
+//! The structs that C reads.
+
+ghost use Rattle.std.specs.Prelude.{◌≡◌};
+ghost use Rattle.pitch_c.specs.Reports.{status_shown, best_shown, heard_shown, order_shown};
+
+use heard_items::Change;
+use pitch_fields::Price;
+use pitch_messages::Order;
+use pitch_model::Status;
+use unit_packets::Header;
+
+/// How far a client is: 1 silent, 2 current, 3 behind; its reach, and the greatest sequence that it
+/// was told of.
+#[repr(C)]
+#[derive(Clone, Copy)]
+pub struct StatusOut {
+    pub state: u32,
+    pub reach: u32,
+    pub top: u32,
+}
+
+/// A best price in ten-thousandths of a dollar with its shares; `there` is 0 where the side is
+/// empty.
+#[repr(C)]
+#[derive(Clone, Copy)]
+pub struct BestOut {
+    pub there: u64,
+    pub price: u64,
+    pub shares: u64,
+}
+
+/// An open order; `there` is 0 where none of this id is open, and `side` is `B` or `S`.
+#[repr(C)]
+#[derive(Clone, Copy)]
+pub struct OrderOut {
+    pub there: u64,
+    pub price: u64,
+    pub quantity: u32,
+    pub side: u32,
+    pub symbol: [u8; 8],
+}
+
+/// What was heard: the bytes that the block has, its header, how many of its messages were new, how
+/// often the hold overflowed, and how far the unit's client then is.
+#[repr(C)]
+#[derive(Clone, Copy)]
+pub struct HeardOut {
+    pub used: u32,
+    pub unit: u32,
+    pub sequence: u32,
+    pub count: u32,
+    pub fresh: u32,
+    pub overflows: u32,
+    pub after: StatusOut,
+}
+
+pub(crate) fn status_out(status: Status) -> StatusOut
+    ensures { result ≡ status_shown status }
+{
+    match status {
+        Status::Silent => StatusOut {
+            state: 1,
+            reach: 0,
+            top: 0,
+        },
+        Status::Current { n } => StatusOut {
+            state: 2,
+            reach: n,
+            top: n,
+        },
+        Status::Behind { n, top } => StatusOut {
+            state: 3,
+            reach: n,
+            top,
+        },
+    }
+}
+
+pub(crate) fn best_out(best: Option<(Price, u64)>) -> BestOut
+    ensures { result ≡ best_shown best }
+{
+    match best {
+        None => BestOut {
+            there: 0,
+            price: 0,
+            shares: 0,
+        },
+        Some((price, shares)) => BestOut {
+            there: 1,
+            price: price.ten_thousandths(),
+            shares,
+        },
+    }
+}
+
+pub(crate) fn order_out(order: Option<Order>) -> OrderOut
+    ensures { result ≡ order_shown order }
+{
+    match order {
+        None => OrderOut {
+            there: 0,
+            price: 0,
+            quantity: 0,
+            side: 0,
+            symbol: [32; 8],
+        },
+        Some(order) => OrderOut {
+            there: 1,
+            price: order.price.ten_thousandths(),
+            quantity: order.quantity,
+            side: u32::from(order.side.byte()),
+            symbol: order.symbol.bytes(),
+        },
+    }
+}
+
+pub(crate) fn heard_out(header: Header, change: Change) -> HeardOut
+    ensures { result ≡ heard_shown header change }
+{
+    HeardOut {
+        used: u32::from(header.length),
+        unit: u32::from(header.unit),
+        sequence: header.sequence,
+        count: u32::from(header.count),
+        fresh: change.fresh,
+        overflows: change.overflows,
+        after: status_out(change.after),
+    }
+}

@@ -1,0 +1,36 @@
+//! What crates/own_client does, from Rust.
+mod pitch_client;
+use pitch_client::{Client, TRUNCATED};
+use std::io::Read;
+
+fn main() {
+    let mut client = Client::open(4096).expect("open");
+    let (mut rest, mut piece) = (Vec::new(), vec![0u8; 65536]);
+    loop {
+        let count = std::io::stdin().read(&mut piece).expect("read");
+        if count == 0 {
+            break;
+        }
+        rest.extend_from_slice(&piece[..count]);
+        let mut at = 0;
+        let code = loop {
+            match client.hear(&rest[at..]) {
+                Ok(heard) => at += heard.used as usize,
+                Err(code) => break code,
+            }
+        };
+        assert_eq!(code, TRUNCATED);
+        rest.drain(..at);
+    }
+    assert!(rest.is_empty());
+    for unit in 0..=255u8 {
+        let Ok(status) = client.status(unit) else { continue };
+        let mut side = |side| match client.best(unit, b"ACME    ", side).expect("best") {
+            Some((price, shares)) => format!("{shares} at {}.{:04}", price / 10000, price % 10000),
+            None => "none".to_string(),
+        };
+        let (bid, offer) = (side(b'B'), side(b'S'));
+        let word = if status.state == 2 { "current" } else { "behind" };
+        println!("unit {unit} {word} at {}: bid {bid}, offer {offer}", status.reach);
+    }
+}

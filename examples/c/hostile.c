@@ -1,0 +1,94 @@
+/* Calls in every wrong order and with bytes that are no feed; ends with the number of the first
+ * answer that is not the one wanted, or 0. A seed may be given. */
+#include "pitch_client.h"
+
+#include <stdlib.h>
+#include <string.h>
+#include <stdio.h>
+
+static uint64_t state = 88172645463325252ull;
+static uint64_t next(void) {
+    state ^= state << 13;
+    state ^= state >> 7;
+    state ^= state << 17;
+    return state;
+}
+
+int main(int argc, char **argv) {
+    pitch_client c = PITCH_CLIENT_INIT;
+    pitch_heard_out h;
+    pitch_status_out s;
+    pitch_best_out b;
+    const uint8_t sym[8] = "ACME    ";
+    if (argc > 1) state ^= strtoull(argv[1], NULL, 10) * 0x9e3779b97f4a7c15ull;
+    /* closed */
+    if (pitch_hear(&c, sym, 8, &h) != PITCH_CLOSED) return 1;
+    if (pitch_status(&c, 1, &s) != PITCH_CLOSED) return 2;
+    if (pitch_best(&c, 1, sym, 'B', &b) != PITCH_CLOSED) return 3;
+    pitch_close(&c);
+    /* the hold */
+    if (pitch_open(&c, 0) != PITCH_BAD_HOLD) return 4;
+    if (pitch_open(&c, 65537) != PITCH_BAD_HOLD) return 5;
+    if (pitch_open(&c, 0xffffffffu) != PITCH_BAD_HOLD) return 6;
+    if (pitch_open(&c, 16) != PITCH_OK) return 7;
+    if (pitch_open(&c, 16) != PITCH_IS_OPEN) return 8;
+    /* no unit yet; units that no header can name; sides */
+    if (pitch_status(&c, 1, &s) != PITCH_NO_CLIENT) return 9;
+    if (pitch_status(&c, 256, &s) != PITCH_NO_CLIENT) return 10;
+    if (pitch_status(&c, 0xffffffffu, &s) != PITCH_NO_CLIENT) return 11;
+    if (pitch_best(&c, 0xffffffffu, sym, 'S', &b) != PITCH_NO_CLIENT) return 12;
+    if (pitch_best(&c, 1, sym, 'x', &b) != PITCH_NO_SIDE) return 13;
+    /* no bytes, also at null; too few */
+    if (pitch_hear(&c, sym, 0, &h) != PITCH_TRUNCATED) return 14;
+    if (pitch_hear(&c, NULL, 0, &h) != PITCH_TRUNCATED) return 15;
+    /* nulls, and a length that no memory has */
+    if (pitch_hear(&c, NULL, 1, &h) != PITCH_NULL || pitch_hear(NULL, sym, 8, &h) != PITCH_NULL) return 16;
+    if (pitch_hear(&c, sym, 8, NULL) != PITCH_NULL || pitch_open(NULL, 1) != PITCH_NULL) return 17;
+    if (pitch_status(&c, 1, NULL) != PITCH_NULL || pitch_best(&c, 1, NULL, 'B', &b) != PITCH_NULL) return 18;
+    uint8_t *most = calloc(1, 65536);
+    if (pitch_hear(&c, most, (size_t)-1, &h) != PITCH_NOT_A_BLOCK) return 19;
+    free(most);
+    /* garbage, in a block of its very size, so that a tool sees a read past its end */
+    unsigned long heard = 0, cut = 0, refused = 0;
+    for (int i = 0; i < 200000; i++) {
+        size_t len = next() % 80;
+        uint8_t *bytes = malloc(len ? len : 1);
+        for (size_t k = 0; k < len; k++) bytes[k] = (uint8_t)next();
+        if (len >= 8 && next() % 4) {
+            /* a header that fits, and messages whose lengths fit: garbage inside */
+            size_t at = 8, count = 0;
+            bytes[0] = (uint8_t)len, bytes[1] = 0;
+            while (at + 2 <= len) {
+                size_t n = 2 + next() % 38;
+                if (at + n > len) n = len - at;
+                bytes[at] = (uint8_t)n;
+                if (next() % 2) bytes[at + 1] = (uint8_t)(0x20 + next() % 0x20);
+                at += n, count++;
+            }
+            bytes[2] = (uint8_t)count;
+            bytes[3] = (uint8_t)(next() % 4);
+            if (next() % 8) bytes[4] = (uint8_t)(next() % 64), bytes[5] = bytes[6] = bytes[7] = 0;
+        }
+        switch (pitch_hear(&c, bytes, len, &h)) {
+        case PITCH_OK: heard++; if (h.used > len || h.used < 8) return 20; break;
+        case PITCH_TRUNCATED: cut++; break;
+        case PITCH_NOT_A_BLOCK: refused++; break;
+        default: return 21;
+        }
+        if (i % 64 == 0) {
+            uint32_t unit = (uint32_t)(next() % 260);
+            uint8_t name[8];
+            for (int k = 0; k < 8; k++) name[k] = (uint8_t)next();
+            pitch_status(&c, unit, &s);
+            pitch_best(&c, unit, name, next() % 2 ? 'B' : 'S', &b);
+        }
+        free(bytes);
+    }
+    printf("heard %lu, truncated %lu, refused %lu\n", heard, cut, refused);
+    pitch_close(&c);
+    pitch_close(&c);
+    if (pitch_hear(&c, sym, 8, &h) != PITCH_CLOSED) return 30;
+    if (pitch_open(&c, 65536) != PITCH_OK) return 31;
+    pitch_close(&c);
+    return 0;
+}

@@ -1,0 +1,159 @@
+/* The clients of a feed, from C.
+ *
+ * Link libpitch_c.a, and the kit's heap.c (or its archive): the library takes its memory by malloc,
+ * realloc and free.
+ *
+ * A client is a struct of the caller's. It begins as PITCH_CLIENT_INIT, pitch_open makes it ready,
+ * and pitch_close frees what it has. Do not read, write or copy its fields. No function keeps a
+ * pointer that it was passed. No function calls back, starts a thread, or has a global of its own.
+ * Each client is used by one call at a time, on the thread that opened it; two clients share
+ * nothing.
+ *
+ * Every pointer must be to what its type says, and those of one call must not overlap. Null is told
+ * as PITCH_NULL.
+ */
+#ifndef PITCH_CLIENT_H
+#define PITCH_CLIENT_H
+
+#include <stddef.h>
+#include <stdint.h>
+
+#ifdef __cplusplus
+extern "C" {
+#endif
+
+#define PITCH_ABI 1
+
+/* What the functions answer. Where it is not PITCH_OK, the clients stand for what they stood for,
+ * and nothing was written but what is said. */
+enum pitch_code {
+    PITCH_OK = 0,
+    PITCH_CLOSED = 1,      /* the client is not open */
+    PITCH_IS_OPEN = 2,     /* the client is open already */
+    PITCH_NO_MEMORY = 3,   /* hear the same bytes again once there is memory */
+    PITCH_BAD_HOLD = 4,    /* the hold is not from 1 to 65,536 */
+    PITCH_TRUNCATED = 5,   /* more bytes may complete the block */
+    PITCH_NOT_A_BLOCK = 6, /* the bytes begin with no block */
+    PITCH_NO_CLIENT = 7,   /* no block named this unit yet */
+    PITCH_NO_SIDE = 8,     /* the side is neither 'B' nor 'S' */
+    PITCH_NULL = 9         /* a pointer is null: told by this header alone */
+};
+
+typedef struct pitch_client {
+    void *at_;
+    uint64_t mark_;
+} pitch_client;
+
+#define PITCH_CLIENT_INIT { NULL, 0 }
+
+enum pitch_state { PITCH_SILENT = 1, PITCH_CURRENT = 2, PITCH_BEHIND = 3 };
+
+typedef struct pitch_status_out {
+    uint32_t state;
+    uint32_t reach; /* every message up to this sequence is in the book */
+    uint32_t top;   /* the greatest sequence that the unit told of */
+} pitch_status_out;
+
+typedef struct pitch_best_out {
+    uint64_t there;  /* 0 where the side is empty, else 1 */
+    uint64_t price;  /* in ten-thousandths of a dollar */
+    uint64_t shares;
+} pitch_best_out;
+
+typedef struct pitch_order_out {
+    uint64_t there;    /* 0 where no order of this id is open, else 1 */
+    uint64_t price;    /* in ten-thousandths of a dollar */
+    uint32_t quantity; /* in shares */
+    uint32_t side;     /* 'B' or 'S' */
+    uint8_t symbol[8]; /* with spaces at its end */
+} pitch_order_out;
+
+typedef struct pitch_heard_out {
+    uint32_t used;      /* the bytes of the block; those after it are of the next */
+    uint32_t unit;
+    uint32_t sequence;  /* of its first message */
+    uint32_t count;     /* of its messages */
+    uint32_t fresh;     /* how many of them were neither known nor held */
+    uint32_t overflows; /* how often the hold overflowed */
+    pitch_status_out after;
+} pitch_heard_out;
+
+/* ---- The library's own functions, which test nothing that C must keep anyway: no pointer is null,
+ * also where a length is 0, and no length is above PTRDIFF_MAX. Bindings may call them. */
+uint32_t pitch_c_open(pitch_client *client, uint32_t hold);
+void pitch_c_close(pitch_client *client);
+uint32_t pitch_c_hear(pitch_client *client, const uint8_t *bytes, size_t len, pitch_heard_out *told);
+uint32_t pitch_c_status(pitch_client *client, uint32_t unit, pitch_status_out *told);
+uint32_t pitch_c_best(pitch_client *client, uint32_t unit, const uint8_t symbol[8], uint8_t side,
+                      pitch_best_out *told);
+uint32_t pitch_c_order(pitch_client *client, uint32_t unit, uint64_t id, pitch_order_out *told);
+
+/* ---- The functions for C */
+
+/* Opens a closed client. Each unit will hold at most `hold` messages, from 1 to 65,536, while one
+ * before them is missing. */
+static inline uint32_t pitch_open(pitch_client *client, uint32_t hold) {
+    if (!client) return PITCH_NULL;
+    return pitch_c_open(client, hold);
+}
+
+/* Closes a client and frees what it has. A closed one stays closed. */
+static inline void pitch_close(pitch_client *client) {
+    if (client) pitch_c_close(client);
+}
+
+/* Hears the block at the start of the bytes: a datagram's, or a stream's next. */
+static inline uint32_t pitch_hear(pitch_client *client, const uint8_t *bytes, size_t len,
+                                  pitch_heard_out *told) {
+    if (!client || !told || (!bytes && len)) return PITCH_NULL;
+    /* No block has more bytes. */
+    if (len > 65535) len = 65535;
+    return pitch_c_hear(client, bytes ? bytes : (const uint8_t *)"", len, told);
+}
+
+/* How far the client of a unit is. */
+static inline uint32_t pitch_status(pitch_client *client, uint32_t unit, pitch_status_out *told) {
+    if (!client || !told) return PITCH_NULL;
+    return pitch_c_status(client, unit, told);
+}
+
+/* The best price of a symbol, of eight bytes with spaces at its end, on a side, 'B' or 'S', in a
+ * unit's book. */
+static inline uint32_t pitch_best(pitch_client *client, uint32_t unit, const uint8_t symbol[8],
+                                  uint8_t side, pitch_best_out *told) {
+    if (!client || !symbol || !told) return PITCH_NULL;
+    return pitch_c_best(client, unit, symbol, side, told);
+}
+
+/* The open order of an id in a unit's book. */
+static inline uint32_t pitch_order(pitch_client *client, uint32_t unit, uint64_t id,
+                                   pitch_order_out *told) {
+    if (!client || !told) return PITCH_NULL;
+    return pitch_c_order(client, unit, id, told);
+}
+
+static inline const char *pitch_strerror(uint32_t code) {
+    static const char *const words[] = {
+        "ok", "the client is closed", "the client is open already", "out of memory",
+        "the hold is not from 1 to 65536", "truncated", "not a block", "no such unit", "no such side",
+        "a null pointer",
+    };
+    return code < sizeof words / sizeof words[0] ? words[code] : "unknown code";
+}
+
+#ifdef __cplusplus
+}
+static_assert(sizeof(pitch_client) == 16, "pitch_client");
+static_assert(sizeof(pitch_status_out) == 12, "pitch_status_out");
+static_assert(sizeof(pitch_best_out) == 24, "pitch_best_out");
+static_assert(sizeof(pitch_heard_out) == 36, "pitch_heard_out");
+static_assert(sizeof(pitch_order_out) == 32, "pitch_order_out");
+#else
+_Static_assert(sizeof(pitch_client) == 16, "pitch_client");
+_Static_assert(sizeof(pitch_status_out) == 12, "pitch_status_out");
+_Static_assert(sizeof(pitch_best_out) == 24, "pitch_best_out");
+_Static_assert(sizeof(pitch_heard_out) == 36, "pitch_heard_out");
+_Static_assert(sizeof(pitch_order_out) == 32, "pitch_order_out");
+#endif
+
+#endif
