@@ -20,7 +20,8 @@ units of 20,000 commands are run under limits of their address space (`ulimit -v
 GB: each has to end well, since the units played in turns fit there.
 
 The runs are made in turn, R times (3 where it isn't given), and compared are the medians. The exit
-status is 0 where each run ended with status 0, and each unit was current at its last command.
+status is 0 where each run ended with status 0, each unit was current at its last command, and no
+figure has `MORE`.
 """
 import argparse, os, resource, statistics, subprocess, sys, tempfile, time
 import replay
@@ -115,7 +116,7 @@ def main():
         print('  A UNIT IS NOT CURRENT AT ITS END')
     if a.repeat > 0:
         right = repeat(a.program, a.repeat) and right
-    sys.exit(0 if right else 1)
+    sys.exit(0 if right and not replay.exceeded else 1)
 
 
 if __name__ == '__main__':

@@ -114,7 +114,7 @@ def main():
         print(f"follow {statistics.median(plain):.3f} s, follow --pcap {statistics.median(packets):.3f} s")
         replay.wanted("times the processor time of follow", times, WANTED)
         replay.wanted("times the memory of a tenth", memory / small, 1.1)
-        return 0 if times <= WANTED and memory <= 1.1 * small else 1
+        return 1 if replay.exceeded else 0
 
 
 if __name__ == "__main__":

@@ -137,7 +137,7 @@ def measure(program, count, rounds):
             print(f"{came}: {times[orders]:.3f} s, {memory:.0f} MB")
         straight = times[1000000] / (4 * times[250000])
         replay.wanted("times a quarter's time a message", straight, STRAIGHT)
-        return 0 if quoted / plain <= WANTED and straight <= STRAIGHT else 1
+        return 1 if replay.exceeded else 0
 
 
 # ---- The model

@@ -12,7 +12,7 @@ clock: the machine has to have as many processors free.
 
 All runs are made in turn, R times (3 where it isn't given). Compared are the medians of processor
 time (user and system) and the greatest peaks of memory. The exit status is 0 where each run ended
-with status 0, and each unit of the storm was current at its last message.
+with status 0, each unit of the storm was current at its last message, and no figure has `MORE`.
 """
 import argparse, os, statistics, struct, subprocess, sys, tempfile, time
 import replay
@@ -117,7 +117,7 @@ def main():
                 schedule.write('%d %s\n' % line[:2])
             schedule.flush()
             right = compare_workers(a.program, words % (NUMBER, a.units, a.steps), schedule.name, a.rounds, a.workers) and right
-    sys.exit(0 if right else 1)
+    sys.exit(0 if right and not replay.exceeded else 1)
 
 
 if __name__ == '__main__':
