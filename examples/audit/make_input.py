@@ -7,32 +7,46 @@ STREAM is a file of blocks as `follow` reads them, of any units, repeated, late 
 log has the messages of each unit in their order, from sequence 1 on, in blocks as a venue packs them,
 and ends before the first that no block of the stream has; a line on standard error says where that
 is. Blocks with sequence 0 and heartbeats have nothing for it. REPORT is a file with what was printed;
-it is copied as it stands. INPUT is the number of the log's bytes in 8 bytes, the log, and the report.
+it is copied as it stands; where `audit` would read no book in it, a line on standard error says so.
+INPUT is the number of the log's bytes in 8 bytes, the log, and the report.
 
 A stream that does not end with a whole block, or that has two messages with one sequence, is no day
-of one venue: nothing is written, and the exit status is 1.
+of one venue: nothing is written, and the exit status is 1. Whatever is wrong is one line.
 """
+import os
 import struct
 import sys
 
 DATAGRAM_SIZE = 1400
 MOST_MESSAGES = 255
+CAPTURES = ('d4c3b2a1', '4d3cb2a1', 'a1b2c3d4', 'a1b23c4d', '0a0d0d0a')
+
+
+def say(text):
+    print('%s: %s' % (os.path.basename(sys.argv[0]), text), file=sys.stderr)
+
+
+def fail(text):
+    say(text)
+    sys.exit(1)
 
 
 def blocks(stream):
     """The unit, the first sequence and the messages of each block."""
     at = 0
+    if stream[:4].hex() in CAPTURES:
+        fail('the stream is a capture: examples/desk/blocks.py takes its blocks out')
     while at < len(stream):
         if len(stream) - at < 8:
-            sys.exit('byte %d: the stream ends inside a block' % at)
+            fail('byte %d: the stream ends inside a block' % at)
         length, count, unit, first = struct.unpack_from('<HBBI', stream, at)
         if length < 8 or len(stream) - at < length:
-            sys.exit('byte %d: no whole block' % at)
+            fail('byte %d: no whole block' % at)
         raws, place = [], at + 8
         for _ in range(count):
             size = stream[place] if place < at + length else 0
             if size < 2 or place + size > at + length:
-                sys.exit('byte %d: no whole message' % place)
+                fail('byte %d: no whole message' % place)
             raws.append(stream[place:place + size])
             place += size
         yield unit, first, raws
@@ -47,7 +61,7 @@ def messages(stream):
             known = units.setdefault(unit, {})
             for sequence, raw in enumerate(raws, first):
                 if known.setdefault(sequence, raw) != raw:
-                    sys.exit('unit %d: two messages have sequence %d' % (unit, sequence))
+                    fail('unit %d: two messages have sequence %d' % (unit, sequence))
     return units
 
 
@@ -57,7 +71,7 @@ def from_the_first(unit, known):
     while len(raws) + 1 in known:
         raws.append(known[len(raws) + 1])
     if len(raws) < len(known):
-        print('unit %d: the log ends before message %d, which no block has' % (unit, len(raws) + 1), file=sys.stderr)
+        say('unit %d: the log ends before message %d, which no block has' % (unit, len(raws) + 1))
     return raws
 
 
@@ -88,14 +102,33 @@ def input_of(log, report):
 
 
 def contents(name):
-    with open(name, 'rb') as file:
-        return file.read()
+    try:
+        with open(name, 'rb') as file:
+            return file.read()
+    except OSError as error:
+        fail('%s: %s' % (name, error.strerror))
+
+
+def warn_of(report):
+    """Says where `audit` would take no line of a report for a book's."""
+    if b'\r\n' in report:
+        say("the report's lines end in a carriage return, which no line of a book has: tr -d '\\r'")
+    if not report.startswith(b'book ') and b'\nbook ' not in report:
+        say('no line of the report begins with `book `, so nothing is checked')
 
 
 def main():
     if len(sys.argv) != 3:
-        sys.exit('usage: make_input.py STREAM REPORT')
-    sys.stdout.buffer.write(input_of(log_of(contents(sys.argv[1])), contents(sys.argv[2])))
+        fail('usage: make_input.py STREAM REPORT')
+    log, report = log_of(contents(sys.argv[1])), contents(sys.argv[2])
+    warn_of(report)
+    try:
+        sys.stdout.buffer.write(input_of(log, report))
+        sys.stdout.flush()
+    except BrokenPipeError:
+        # Its reader is gone, and has said why.
+        os.dup2(os.open(os.devnull, os.O_WRONLY), 1)
+        sys.exit(141)
 
 
 if __name__ == '__main__':

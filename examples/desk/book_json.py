@@ -8,6 +8,8 @@ Ids have 64 bits and prices four decimals, more than a number of JSON keeps, so 
 import json
 import sys
 
+from desk import run
+
 
 def status_of(words):
     """`silent`, `current N` or `behind N of TOP`."""
@@ -45,11 +47,19 @@ def packets_of(words):
 READERS = {'block': block_of, 'book': book_of, 'order': order_of, 'packets': packets_of}
 
 
+def object_of(line):
+    """What a line says; one that is no line of `follow` is a text."""
+    words = line.split()
+    try:
+        return READERS[words[0]](words)
+    except (IndexError, KeyError, ValueError):
+        return {'text': line.rstrip('\n')}
+
+
 def main():
     for line in sys.stdin:
-        words = line.split()
-        print(json.dumps(READERS[words[0]](words) if words[0] in READERS else {'text': line.rstrip('\n')}))
+        print(json.dumps(object_of(line)))
 
 
 if __name__ == '__main__':
-    main()
+    run(main)

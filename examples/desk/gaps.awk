@@ -1,5 +1,5 @@
-# From which block to which each unit was behind, and how far its last message then was above its reach at most. Of
-# those messages some may have come, and wait for the missing ones:
+# From which block to which each unit was behind, and how far its last message then was above its
+# reach at most. Of those messages some may have come, and wait for the missing ones:
 #
 #     ./pitch follow < FEED | awk -f examples/desk/gaps.awk
 #
@@ -24,7 +24,8 @@ $1 == "block" {
 }
 END {
     for (unit = 0; unit < 256; unit++) {
-        if (unit in from) printf "unit %d behind from block %d on, after %d\n", unit, from[unit], reach[unit]
+        if (unit in from)
+            printf "unit %d behind from block %d on, after %d\n", unit, from[unit], reach[unit]
         if (unit in overflows) printf "unit %d overflows %d\n", unit, overflows[unit]
     }
 }

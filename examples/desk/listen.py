@@ -10,8 +10,9 @@ many were passed over.
 import select
 import signal
 import socket
-import struct
 import sys
+
+from desk import Fault, blocks_of, run
 
 # The largest receive buffer to ask for; the kernel's own limit (net.core.rmem_max) may be lower.
 BUFFER = 64 << 20
@@ -19,37 +20,30 @@ BUFFER = 64 << 20
 
 def is_whole(data):
     """Whether a datagram is one or more blocks and nothing else."""
-    place = 0
-    while len(data) - place >= 8:
-        length, count = struct.unpack_from('<HB', data, place)
-        end = place + length
-        if length < 8 or end > len(data):
-            return False
-        place += 8
-        for _ in range(count):
-            if place >= end or data[place] < 2 or place + data[place] > end:
-                return False
-            place += data[place]
-        if place != end:
-            return False
-    return place == len(data) and place > 0
+    return data != b'' and sum(map(len, blocks_of(data))) == len(data)
 
 
 def joined(address, word):
     """A socket that hears a group and port, GROUP:PORT."""
-    group, port = word.split(':')
+    group, _, port = word.partition(':')
+    if not port.isdigit() or not 0 < int(port) < 65536:
+        raise Fault('%s is no GROUP:PORT' % word, 2)
     one = socket.socket(socket.AF_INET, socket.SOCK_DGRAM)
-    one.setsockopt(socket.SOL_SOCKET, socket.SO_REUSEADDR, 1)
-    one.setsockopt(socket.SOL_SOCKET, socket.SO_RCVBUF, BUFFER)
-    one.bind((group, int(port)))
-    member = socket.inet_aton(group) + socket.inet_aton(address)
-    one.setsockopt(socket.IPPROTO_IP, socket.IP_ADD_MEMBERSHIP, member)
+    try:
+        member = socket.inet_aton(group) + socket.inet_aton(address)
+        one.setsockopt(socket.SOL_SOCKET, socket.SO_REUSEADDR, 1)
+        one.setsockopt(socket.SOL_SOCKET, socket.SO_RCVBUF, BUFFER)
+        one.bind((group, int(port)))
+        one.setsockopt(socket.IPPROTO_IP, socket.IP_ADD_MEMBERSHIP, member)
+    except OSError as error:
+        why = error.strerror or error
+        raise Fault("%s can't be joined at %s: %s" % (word, address, why)) from None
     return one
 
 
 def main():
     if len(sys.argv) < 3:
-        sys.exit('usage: listen.py ADDRESS GROUP:PORT..')
+        raise Fault('usage: listen.py ADDRESS GROUP:PORT..', 2)
     sockets = [joined(sys.argv[1], word) for word in sys.argv[2:]]
     signal.signal(signal.SIGTERM, signal.default_int_handler)
     written = passed = 0
@@ -64,8 +58,8 @@ def main():
                     passed += 1
             sys.stdout.buffer.flush()
     except (KeyboardInterrupt, BrokenPipeError):
-        print('listen: datagrams %d passed over %d' % (written, passed), file=sys.stderr)
+        print('listen.py: datagrams %d passed over %d' % (written, passed), file=sys.stderr)
 
 
 if __name__ == '__main__':
-    main()
+    run(main)

@@ -12,6 +12,8 @@ that is advertised to it, and whoever was captured may have asked for a later on
 """
 import sys
 
+from desk import Fault, run
+
 AVAILABLE, RESPONSE = 0x80, 0x82
 
 
@@ -44,6 +46,10 @@ def sequence(message):
     return int.from_bytes(message[2:6], 'little')
 
 
+def is_accepted(message):
+    return message[1] == RESPONSE and message[10:11] == b'A'
+
+
 def without(block, passes):
     """The block without the messages that pass a test; nothing where none is left."""
     left = [message for message in messages(block) if not passes(message)]
@@ -51,21 +57,31 @@ def without(block, passes):
     return (len(body) + 8).to_bytes(2, 'little') + bytes([len(left)]) + block[3:8] + body if left else b''
 
 
+def fields_of(number, line):
+    """The datagram of a line of tshark, or else the connection, the place and the bytes of a segment."""
+    try:
+        udp, stream, first, tcp = line.rstrip('\n').split('\t')
+        udp, tcp = (bytes.fromhex(it.replace(':', '')) for it in (udp, tcp))
+        return udp, stream, 0 if udp else int(first), tcp
+    except ValueError:
+        raise Fault('line %d has not the four fields of tshark' % number) from None
+
+
 def main():
     streams, lines_and_blocks, wanted = {}, [], set()
-    for line in sys.stdin:
-        udp, stream, first, tcp = line.rstrip('\n').split('\t')
+    for number, line in enumerate(sys.stdin, 1):
+        udp, stream, first, tcp = fields_of(number, line)
         if udp:
-            lines_and_blocks.append((False, bytes.fromhex(udp.replace(':', ''))))
-        else:
-            for block in streams.setdefault(stream, Stream()).take(int(first), bytes.fromhex(tcp.replace(':', ''))):
-                lines_and_blocks.append((True, block))
-                wanted |= {(block[3], sequence(m)) for m in messages(block) if m[1] == RESPONSE and m[10:11] == b'A'}
+            lines_and_blocks.append((False, udp))
+            continue
+        for block in streams.setdefault(stream, Stream()).take(first, tcp):
+            lines_and_blocks.append((True, block))
+            wanted |= {(block[3], sequence(it)) for it in messages(block) if is_accepted(it)}
     for is_spin, block in lines_and_blocks:
         if is_spin:
-            block = without(block, lambda m: m[1] == AVAILABLE and (block[3], sequence(m)) not in wanted)
+            block = without(block, lambda it: it[1] == AVAILABLE and (block[3], sequence(it)) not in wanted)
         sys.stdout.buffer.write(block)
 
 
 if __name__ == '__main__':
-    main()
+    run(main)

@@ -4,13 +4,20 @@
 #
 #     examples/desk/report.sh PROGRAM CAPTURE [PORT]
 #
-# PROGRAM is the built program, crates/pitch/out/pitch. Of the script ./pitch the sum would be the script's.
+# PROGRAM is the built program, crates/pitch/out/pitch. Of the script ./pitch the sum would be the
+# script's, so it is refused.
 set -eu
-[ $# -ge 2 ] || { echo "usage: report.sh PROGRAM CAPTURE [PORT]" >&2; exit 2; }
+fail() {
+    echo "report.sh: $1" >&2
+    exit "$2"
+}
+[ $# -ge 2 ] || fail "usage: report.sh PROGRAM CAPTURE [PORT]" 2
 program=$1
 capture=$2
-case $(head -c 2 -- "$program") in
-    '#!') echo "report.sh: $program is a script: name the built program, crates/pitch/out/pitch" >&2; exit 2 ;;
+[ -f "$program" ] && [ -x "$program" ] || fail "$program is no program" 2
+[ -f "$capture" ] && [ -r "$capture" ] || fail "$capture is no file that can be read" 2
+case $(head -c 2 -- "$program" | tr -d '\0') in
+    '#!') fail "$program is a script: name the built program, crates/pitch/out/pitch" 2 ;;
 esac
 work=$(mktemp -d)
 trap 'rm -rf "$work"' EXIT

@@ -14,6 +14,8 @@ import struct
 import subprocess
 import sys
 
+from desk import Words, run
+
 MASK = (1 << 64) - 1
 LINE_A, LINE_B, GAP_LINE = 1, 2, 3
 PORTS = {LINE_A: 30501, LINE_B: 31501, GAP_LINE: 32501}
@@ -98,20 +100,23 @@ def arrivals(number, unit, steps, filled):
 
 
 def main():
-    words = [word for word in sys.argv[1:] if not word.startswith('--')]
-    if len(words) != 4:
-        sys.exit('usage: storm_feed.py PROGRAM NUMBER UNIT STEPS [--filled] [--pcap]')
-    program, (number, unit, steps) = words[0], map(int, words[1:])
+    words = Words(__doc__)
+    words.add_argument('PROGRAM')
+    for word in ('NUMBER', 'UNIT', 'STEPS'):
+        words.add_argument(word, type=int)
+    words.add_argument('--filled', action='store_true')
+    words.add_argument('--pcap', action='store_true')
+    given = words.parse_args()
+    number, unit, steps = given.NUMBER, given.UNIT, given.STEPS
     blocks = [struct.pack('<HBBI', 8 + len(raw), 1, unit, i) + raw
-              for i, raw in enumerate(messages(program, number, unit, steps), 1)]
+              for i, raw in enumerate(messages(given.PROGRAM, number, unit, steps), 1)]
     blocks.append(struct.pack('<HBBI', 8, 0, unit, steps + 1))
     out = sys.stdout.buffer
-    with_packets = '--pcap' in sys.argv
-    if with_packets:
+    if given.pcap:
         out.write(bytes.fromhex('d4c3b2a1020004000000000000000000ffff000001000000'))
-    for clock, (line, i) in enumerate(arrivals(number, unit, steps, '--filled' in sys.argv), 1):
-        out.write(packet(line, blocks[i - 1], 10 * clock) if with_packets else blocks[i - 1])
+    for clock, (line, i) in enumerate(arrivals(number, unit, steps, given.filled), 1):
+        out.write(packet(line, blocks[i - 1], 10 * clock) if given.pcap else blocks[i - 1])
 
 
 if __name__ == '__main__':
-    main()
+    run(main)

@@ -39,6 +39,8 @@ def fault_of(program, name):
 def main():
     if len(sys.argv) != 2:
         sys.exit('usage: check.py PROGRAM')
+    if not os.access(sys.argv[1], os.X_OK):
+        sys.exit('check.py: %s is no program' % sys.argv[1])
     names = sorted(name[:-4] for name in os.listdir(HERE) if name.endswith('.txt'))
     failed = 0
     for name in names:

@@ -181,6 +181,8 @@ def main():
     given = parser.parse_args()
     if (given.program is None) == (given.write is None):
         parser.error('a program or --write FOLDER')
+    if given.program and not os.access(given.program, os.X_OK):
+        sys.exit('compare.py: %s is no program' % given.program)
     failed = runs = lines = 0
     for seed in range(given.first, given.first + given.count):
         schedule = Schedule(seed).text()

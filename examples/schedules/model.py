@@ -672,4 +672,8 @@ def replayed(schedule):
 
 
 if __name__ == '__main__':
-    sys.stdout.write(replayed(sys.stdin.read()))
+    try:
+        sys.stdout.write(replayed(sys.stdin.read()))
+    except (IndexError, KeyError, ValueError) as error:
+        # It is for schedules without a fault: what is wrong with one `replay` says.
+        sys.exit('model.py: the schedule has a fault: %s' % error)

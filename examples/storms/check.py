@@ -31,6 +31,8 @@ def fault_of(program, name, workers):
 def main():
     if len(sys.argv) != 2:
         sys.exit('usage: check.py PROGRAM')
+    if not os.access(sys.argv[1], os.X_OK):
+        sys.exit('check.py: %s is no program' % sys.argv[1])
     names = sorted(name[:-6] for name in os.listdir(HERE) if name.endswith('.words'))
     failed = 0
     runs = [(name, workers) for name in names for workers in (1, 2, 7)]
