@@ -1,0 +1,136 @@
+#!/usr/bin/env python3
+"""Tries the scripts of this folder.
+
+    packages/check.py [PROGRAM]
+
+PROGRAM is the path of the built program: a folder, a Debian package and a root filesystem are made
+of it and tried, where dpkg-deb stands and root may chroot. Without it the man page and the
+completion are. The last line is `N passed, M failed`; the exit status is 0 only where none failed.
+"""
+import os
+import re
+import shutil
+import subprocess
+import sys
+import tempfile
+
+HERE = os.path.dirname(os.path.abspath(__file__))
+TOP = os.path.dirname(HERE)
+COMMANDS = 'follow show pack replay storm drill demo relay quotes audit'.split()
+# The last line that `follow` writes of the sample.
+LAST = 'order 7 S 1000 ZVZZT+P 10.5000 hidden mpid=ABCD'
+# What stands in no folder that is handed on.
+KIT_ONLY = ('crates', '.ci', 'bench', 'examples/c')
+
+
+def tried(words, given=b'', **more):
+    """How a program ends, what it writes and what it says."""
+    done = subprocess.run(words, input=given, capture_output=True, timeout=120, **more)
+    return done.returncode, done.stdout.decode('utf-8', 'replace'), done.stderr.decode()
+
+
+def script(name, *words):
+    return tried([os.path.join(HERE, name), *words])
+
+
+def completed(*words):
+    """What the completion offers behind these words."""
+    lines = script('texts.py', 'completion')[1]
+    ask = '%s\nCOMP_WORDS=(pitch %s)\nCOMP_CWORD=%d\n_pitch\necho "${COMPREPLY[@]}"'
+    return tried(['bash', '-c', ask % (lines, ' '.join(words), len(words))])[1].split()
+
+
+def of_texts():
+    status, page, said = script('texts.py', 'man')
+    rows = re.findall(r'^\.TP\n\.B ([a-z]+)', page, re.M)
+    yield 'the commands of the man page', sorted(set(rows)), sorted(COMMANDS)
+    yield 'its statuses', re.findall(r'^\.TP\n\.B ([0-9])$', page, re.M), list('0234567')
+    if shutil.which('groff'):
+        yield 'its form', tried(['groff', '-man', '-Tutf8', '-ww'], page.encode())[::2], (0, '')
+    yield 'every command is completed', completed("''"), COMMANDS
+    yield 'a command', completed('st'), ['storm']
+    yield 'options', completed('storm', '--'), ['--number', '--units', '--steps', '--workers']
+    yield 'an option', completed('follow', '--po'), ['--port']
+    yield 'a command without any', completed('show', '--'), []
+
+
+def of_faults():
+    with tempfile.TemporaryDirectory() as folder:
+        for name, *words in (
+            ('dist.sh', '--what'), ('dist.sh', folder, '--program'), ('dist.sh', folder, folder),
+            ('dist.sh', folder + '/new', '--program', folder + '/none'),
+            ('dist.sh', folder, '--program', '/bin/sh'),
+            ('dist.sh', folder + '/new', '--program', os.path.join(HERE, 'dist.sh')),
+            ('deb.sh',), ('deb.sh', folder), ('container.sh', folder), ('texts.py',),
+            ('container.sh', folder, folder + '/new.tar'),
+        ):
+            status, _, said = script(name, *words)
+            is_one = len(said.splitlines()) == 1 and said.startswith(name + ': ')
+            yield 'fault of %s' % [name, *words], (status > 0, is_one or said), (True, True)
+        yield 'nothing is left', os.listdir(folder), []
+
+
+def broken_links(folder):
+    for at, _, names in os.walk(folder):
+        for name in names:
+            if name.endswith('.md'):
+                with open(os.path.join(at, name), encoding='utf-8') as file:
+                    for target in re.findall(r'\]\(([^)\s#]+)', file.read()):
+                        if ':' not in target and not os.path.exists(os.path.join(at, target)):
+                            yield name, target
+
+
+def last_line(words, sample):
+    with open(sample, 'rb') as file:
+        lines = tried(words, file.read())[1].splitlines()
+    return lines[-1] if lines else ''
+
+
+def of_program(program):
+    with tempfile.TemporaryDirectory() as room:
+        folder, sample = room + '/dist', os.path.join(TOP, 'examples', 'sample.pitch')
+        status, about, said = script('dist.sh', folder, '--program', program)
+        yield 'a folder', (status, said), (0, '')
+        total = tried(['sha256sum', program])[1].split()[0]
+        yield 'the sum of the program', re.findall(r'^program (\w*), given by name', about, re.M), [total]
+        yield 'the sums', tried(['sha256sum', '-c', '--quiet', 'SHA256SUMS'], cwd=folder), (0, '', '')
+        yield 'no link leads nowhere', list(broken_links(folder)), []
+        yield 'nothing of the kit', [it for it in KIT_ONLY if os.path.exists('%s/%s' % (folder, it))], []
+        yield 'it runs there', last_line([folder + '/pitch', 'follow'], folder + '/examples/sample.pitch'), LAST
+        check = tried([folder + '/examples/audit/check.py', folder + '/pitch'])
+        yield 'examples run there', (check[0], check[1].endswith(' passed, 0 failed\n')), (0, True)
+        if shutil.which('dpkg-deb'):
+            yield 'a package', script('deb.sh', folder, room + '/it.deb')[::2], (0, '')
+            tried(['dpkg-deb', '-x', room + '/it.deb', room + '/deb'])
+            yield 'it runs from it', last_line([room + '/deb/usr/bin/pitch', 'follow'], sample), LAST
+            depends = tried(['dpkg-deb', '-f', room + '/it.deb', 'Package', 'Depends'])[1]
+            yield 'what it depends on', bool(re.search(r'^Depends: libc6 \(>= 2\.\d+\)$', depends, re.M)), True
+        yield 'a root', script('container.sh', folder, room + '/it.tar')[::2], (0, '')
+        os.mkdir(room + '/root')
+        tried(['tar', '-xf', room + '/it.tar', '-C', room + '/root'])
+        if os.geteuid() == 0 and tried(['chroot', '/', 'true'])[0] == 0:
+            chroot = ['chroot', room + '/root', '/pitch', 'follow']
+            yield 'it runs there alone', last_line(chroot, sample), LAST
+
+
+def main():
+    if len(sys.argv) > 2:
+        sys.exit('usage: check.py [PROGRAM]')
+    if len(sys.argv) == 2 and not os.access(sys.argv[1], os.X_OK):
+        sys.exit('check.py: %s is no program' % sys.argv[1])
+    groups = [of_texts(), of_faults()]
+    if len(sys.argv) == 2:
+        groups.append(of_program(os.path.abspath(sys.argv[1])))
+    passed = failed = 0
+    for name, got, wanted in (case for group in groups for case in group):
+        if got == wanted:
+            passed += 1
+        else:
+            failed += 1
+            print('FAIL %s: %r, and not %r' % (name, got, wanted))
+    print('%d passed, %d failed' % (passed, failed))
+    sys.exit(1 if failed else 0)
+
+
+if __name__ == '__main__':
+    main()

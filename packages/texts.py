@@ -1,0 +1,120 @@
+#!/usr/bin/env python3
+"""Makes the man page and the completion of README's table of commands, and mends the links of a
+folder that has some of the documents.
+
+    packages/texts.py man | completion
+    packages/texts.py links FOLDER
+
+A link of a document in FOLDER that leads to no file there becomes its text.
+"""
+import os
+import re
+import sys
+from pathlib import Path
+
+TOP = Path(__file__).resolve().parent.parent
+OPTION = re.compile(r'--[a-z]+')
+
+
+def rows_of(heading, head):
+    """The rows of the table below a heading of README.md, without links."""
+    text = (TOP / 'README.md').read_text(encoding='utf-8')
+    part = re.split(r'^#+ ', text[text.index('\n%s\n' % heading) + len(heading) + 2:], flags=re.M)[0]
+    lines = [line for line in part.splitlines() if line.startswith('|')]
+    rows = [[it.strip() for it in line.strip('|').split('|')] for line in lines]
+    at = rows.index(head)
+    return [[plain(it) for it in row] for row in rows[at + 2:] if len(row) == len(head)]
+
+
+def plain(text):
+    return re.sub(r'\[([^\]]*)\]\([^)]*\)', r'\1', text)
+
+
+def commands():
+    return rows_of('## Commands', ['Words', 'Reads', 'Writes', 'Limits'])
+
+
+def statuses():
+    """Those of the program: one more is the script's that builds it."""
+    rows = rows_of('### Exit status', ['Status', 'When', 'What it usually means'])
+    return [row for row in rows if './pitch' not in row[1]]
+
+
+# ---- The man page
+def roff(text):
+    """A text of the table as one of roff: words in backticks are bold."""
+    text = text.replace('\\', '\\e').replace('-', '\\-')
+    return re.sub(r'`([^`]*)`', r'\\fB\1\\fR', text)
+
+
+def sentence(*parts):
+    return '; '.join(it for it in parts if it) + '.'
+
+
+def man():
+    lines = ['.TH PITCH 1 "" "pitch" "Cboe US Equities Multicast PITCH"', '.SH NAME',
+             'pitch \\- order books from the Multicast PITCH feed, proved', '.SH SYNOPSIS',
+             '.B pitch', '.I COMMAND', '[\\fIOPTIONS\\fR] < \\fIINPUT\\fR', '.SH DESCRIPTION',
+             'Rebuilds order books from the blocks of a feed or from a capture of them: the book',
+             'that it prints is exactly that of the venue\\(aqs first n messages, and it says n.',
+             'Status 0 does not say that a book is current; it is not where its unit\\(aqs last line says',
+             '.BR behind .', 'Standard input is read, and no file by its name.', '.SH COMMANDS']
+    for words, reads, writes, limits in commands():
+        lines += ['.TP', '.B ' + roff(words.strip('`'))]
+        lines += [roff(sentence(it)) for it in ('Reads ' + reads, 'Writes ' + writes, 'Limits: ' + limits)]
+    lines += ['.PP', 'An option is', '.B \\-\\-hold 64', 'or', '.BR \\-\\-hold=64 ,', 'once.', '.SH EXIT STATUS']
+    for status, when, cause in statuses():
+        lines += ['.TP', '.B ' + status, roff(sentence(when, cause))]
+    lines += ['.SH SEE ALSO', 'The documents and examples that come with it, in /usr/share/doc/pitch where it',
+              'came as a package.']
+    return '\n'.join(lines) + '\n'
+
+
+# ---- The completion
+def completion():
+    options = {}
+    for words, *_ in commands():
+        found = options.setdefault(words.strip('`').split()[0], [])
+        found += [it for it in OPTION.findall(words) if it not in found]
+    case = '            %s) words="%s" ;;\n'
+    cases = ''.join(case % (name, ' '.join(it)) for name, it in options.items() if it)
+    return '''# Completion of pitch for bash: its commands, and the options of each. Files come by redirection.
+_pitch() {
+    local words=""
+    if [ "$COMP_CWORD" = 1 ]; then
+        words="%s"
+    else
+        case ${COMP_WORDS[1]} in
+%s        esac
+    fi
+    mapfile -t COMPREPLY < <(compgen -W "$words" -- "${COMP_WORDS[COMP_CWORD]}")
+}
+complete -o default -F _pitch pitch
+''' % (' '.join(options), cases)
+
+
+# ---- Links
+def mend_links(folder):
+    for path in folder.rglob('*.md'):
+        def mended(found):
+            target = found[2].partition('#')[0]
+            stands = not target or ':' in target or (path.parent / target).exists()
+            return found[0] if stands else found[1]
+        text = path.read_text(encoding='utf-8')
+        path.write_text(re.sub(r'(?<!!)\[([^\]]*)\]\(([^)\s]+)\)', mended, text), encoding='utf-8')
+
+
+def main():
+    words = sys.argv[1:]
+    if words == ['man']:
+        sys.stdout.write(man())
+    elif words == ['completion']:
+        sys.stdout.write(completion())
+    elif len(words) == 2 and words[0] == 'links' and os.path.isdir(words[1]):
+        mend_links(Path(words[1]))
+    else:
+        sys.exit('texts.py: usage: texts.py man | completion | links FOLDER')
+
+
+if __name__ == '__main__':
+    main()
