@@ -25,7 +25,7 @@ TOP = Path(__file__).resolve().parent.parent
 WIDEST, WIDEST_CLAUSE = 100, 112
 LONGEST_MAP = 300
 CODE = (".rt", ".antt", ".py", ".sh", ".awk")
-FOLDERS = r"crates|docs|examples|bench|src|specs|proofs|must-fail|\.ci"
+FOLDERS = r"crates|docs|examples|bench|packages|src|specs|proofs|must-fail|\.ci"
 
 faults = []
 

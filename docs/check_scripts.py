@@ -1,0 +1,55 @@
+#!/usr/bin/env python3
+"""Runs the checks of the scripts beside the program: on the built program, and what needs none.
+
+    docs/check_scripts.py [PROGRAM]
+
+PROGRAM is crates/pitch/out/pitch where it is not given. Where no program stands, a line says so,
+and what needs none is tried. The last line is `N passed, M failed`; the exit status is 0 only where
+none failed.
+"""
+import os
+import re
+import subprocess
+import sys
+
+TOP = os.path.join(os.path.dirname(os.path.abspath(__file__)), '..')
+BUILT = os.path.join(TOP, 'crates', 'pitch', 'out', 'pitch')
+# The folders with a check, and whether it has a part that needs no program.
+FOLDERS = {'examples/desk': True, 'packages': True, 'examples/audit': False, 'examples/quotes': False,
+           'examples/schedules': False, 'examples/storms': False}
+
+
+def counts_of(words):
+    """How many cases of a check passed and failed; one that ends in another way failed."""
+    env = {**os.environ, 'PYTHONDONTWRITEBYTECODE': '1'}
+    done = subprocess.run(words, stdin=subprocess.DEVNULL, capture_output=True, text=True, env=env)
+    lines = (done.stdout + done.stderr).splitlines()
+    found = re.fullmatch(r'(\d+) passed, (\d+) failed', lines[-1] if lines else '')
+    passed, failed = map(int, found.groups()) if found else (0, 0)
+    if failed or done.returncode or not found:
+        print('\n'.join(lines))
+    return passed, failed or int(done.returncode != 0 or not found)
+
+
+def main():
+    if len(sys.argv) > 2:
+        sys.exit('usage: check_scripts.py [PROGRAM]')
+    program, passed, failed, left = os.path.abspath((sys.argv[1:] or [BUILT])[0]), 0, 0, []
+    stands = os.path.isfile(program) and os.access(program, os.X_OK)
+    for folder, has_own in FOLDERS.items():
+        if not stands and not has_own:
+            left.append(folder)
+            continue
+        check = os.path.join(TOP, folder, 'check.py')
+        counts = counts_of([check, program] if stands else [check])
+        print('%s: %d passed, %d failed' % (folder, *counts))
+        passed, failed = passed + counts[0], failed + counts[1]
+    if left:
+        print('no program stands at %s, so these were not tried: %s, and what else needs it'
+              % (os.path.relpath(program, TOP), ', '.join(left)))
+    print('%d passed, %d failed' % (passed, failed))
+    return 1 if failed else 0
+
+
+if __name__ == '__main__':
+    sys.exit(main())
