@@ -9,6 +9,7 @@ the exit status is 0 only where none failed.
 """
 import json
 import os
+import re
 import subprocess
 import sys
 import tempfile
@@ -175,8 +176,8 @@ def heard(raws, came):
 
 
 def short(text):
-    """A text without the day, the hour and the minute of its times, nor the nanoseconds."""
-    return text.decode().replace('2023-11-14 22:13:', '').replace('000,', ',').replace('000\n', '\n')
+    """A text without the day, the hour, the minute and the nanoseconds of its packets' times."""
+    return re.sub(r'2023-11-14 22:13:(\d\d\.\d{6})000', r'\1', text.decode())
 
 
 def dissected():

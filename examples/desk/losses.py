@@ -10,6 +10,7 @@ last of them after all, empty where none did. Times are those of the packets, in
 TZ. A port given by --gap is a gap line: what it lacks is no loss, and it has no rows, but what it
 brings fills those of `all`. Messages after the last that a line tells of are not known to be lost.
 """
+import bisect
 import csv
 import sys
 
@@ -17,7 +18,7 @@ from desk import Words, blocks_of, clock, datagrams_of, header_of, run
 
 
 class Line:
-    """The messages of a unit on a line: the next one, and the runs that were passed over."""
+    """The messages of a unit on a line: the next one, and the runs that were passed over, rising."""
 
     def __init__(self):
         self.next, self.last, self.open, self.rows = 1, None, [], []
@@ -26,22 +27,21 @@ class Line:
         end = first + count
         if first > self.next:
             self.open.append((self.next, first - 1, self.last, now))
-        elif count and self.open:
+        elif count and first < self.next:
             self.fill(first, end - 1, now)
         self.next, self.last = max(self.next, end), now
 
     def fill(self, first, last, now):
         """Takes what came after all out of the open runs, of which the rest stays open."""
+        at = end = bisect.bisect_left(self.open, first, key=lambda gap: gap[1])
         left = []
-        for gap in self.open:
-            low, high, after, seen = gap
-            if last < low or high < first:
-                left.append(gap)
-                continue
+        while end < len(self.open) and self.open[end][0] <= last:
+            low, high, after, seen = self.open[end]
             self.rows.append((max(low, first), min(high, last), after, seen, now))
             rests = ((low, first - 1), (last + 1, high))
-            left += [(begin, end, after, seen) for begin, end in rests if begin <= end]
-        self.open = left
+            left += [(begin, stop, after, seen) for begin, stop in rests if begin <= stop]
+            end += 1
+        self.open[at:end] = left
 
     def all_rows(self):
         """The rows by their messages; those of one gap that stand side by side are one, where all
