@@ -1,139 +1,152 @@
 #!/usr/bin/env python3
-"""Proves the crates that a program stands on, and the program, from nothing; leaves crates/NAME/out/NAME.
+"""Proves a crate and those that it stands on, from nothing, and builds it: of a program crates/NAME/out/NAME.
 
-    bench/prove_program.py NAME [--only-below]
+    bench/prove_program.py NAME
 
-It makes of each crate the proof that the gate makes of it (`Crate.ci` of the kit's `rt`: nothing of
-an earlier check is trusted, and a crate loads of those below it the statements and not the proofs),
-without the tests and the edits. The longest chain of crates goes first, a crate begins as soon as
-those below it are built, and where fewer are ready than there are processors, the first gets three
-or four jobs (two gained nothing). What is proved is kept where the gate keeps it, and taken from
-there: so the gate after it proves these crates no more, and after a gate this takes seconds.
-The status is 0 where all is proved and built, 1 where something is not, and 3 where the kit is
-another than this was written for: then nothing was begun.
+Each crate gets the proof that the gate makes of it: this calls the gate of the kit's `rt` over these
+crates (`ci_over`), without the tests, the edits that must fail and the runs of programs, and in an
+order of its own. So what is proved is kept where the gate keeps it, beside the kit, and taken from
+there: a run that was broken off goes on with the crates that it had not ended, a gate after it proves
+these crates no more, and after a gate this takes seconds. What rt made before in `out/` is removed,
+but for what `rt check` kept.
+
+The longest chain of crates goes first, a crate begins as soon as those below it are built, and where
+fewer are ready than there are processors, the first gets three or four jobs. A line is written for
+each crate that has ended. The status is 0 where all is proved and built, 1 where something is not, 2
+where rt stopped before any proof, and 3 where the gate of this kit is another than this was written
+for, or does not work in this folder.
 """
-import copy, importlib.machinery, importlib.util, os, shutil, signal, sys, tempfile, threading, time
+import importlib.machinery, importlib.util, inspect, os, shutil, signal, sys, time, traceback
 from concurrent.futures import FIRST_COMPLETED, ThreadPoolExecutor, wait
+
+# What the text of the kit's gate has where it calls what is replaced here.
+CALLS = ('set_aside(root, ', 'edits_of(crate)', 'crate.has_tests()', 'in_lanes(tasks)', 'run(crate, tests, ')
+# What a proof was seen to take at most of the memory that the kit reckons for it.
+SEEN = 0.5
 
 
 def the_kit():
-    """The kit's `rt`, as a module; reading it runs nothing."""
+    """The kit's `rt` as a module. Reading it runs nothing."""
     sys.dont_write_bytecode = True
     path = os.path.realpath(shutil.which('rt') or sys.exit('rt is not on the path'))
     loader = importlib.machinery.SourceFileLoader('rt_of_the_kit', path)
     made = importlib.util.module_from_spec(importlib.util.spec_from_loader(loader.name, loader))
     sys.modules[loader.name] = made
     loader.exec_module(made)
+    text = inspect.getsource(made.ci_over)
+    lacking = [call for call in CALLS if call not in text]
+    if lacking:
+        raise LookupError(f'the gate of this kit does not call {lacking[0]}')
+    inspect.signature(made.ci_over).bind(None, False, [])
     return made
 
 
-def length(rt, crate):
-    """A crate's lines of source, definitions and proofs."""
-    return sum(rt.rtlib.text_of(file).count('\n') for file in rt.rtlib.files_of(crate.folder))
+def chains(tasks):
+    """How long the longest chain is that begins with each task. A line costs the more, the more
+    crates stand below it."""
+    behind = dict.fromkeys(tasks, 0)
+    # Each stands after those that it waits for.
+    for key, (waits, lines, _, _) in reversed([*tasks.items()]):
+        behind[key] += lines * (1 + len(waits) / 10)
+        for below in waits:
+            behind[below] = max(behind[below], behind[key])
+    return behind
 
 
-def in_order(rt, crates, prove, lanes):
-    """Runs prove(crate, jobs, done) for each crate once those below it are done, the longest chain
-    first. Memory is by what was seen: 4.2 GB of a crate over 40,000 lines, 1.4 GB over 8,000."""
-    every = {it.name: it for crate in crates for it in [*crate.below(), crate]}
-    own = {name: length(rt, it) for name, it in every.items()}
-    # A line costs the more, the more crates stand below it.
-    cost = {it.name: own[it.name] * (1 + len(it.below()) / 10) for it in crates}
-    behind = dict(cost)
-    for it in reversed(crates):
-        for dep in it.below():
-            if dep.name in behind:
-                behind[dep.name] = max(behind[dep.name], cost[dep.name] + behind[it.name])
-    left, running, done = sorted(crates, key=lambda it: -behind[it.name]), {}, {}
-    memory = 0.85 * rt.free()
+def jobs_of(idle, others, fit):
+    """The jobs of a proof that begins: those that no other ready proof wants, as far as memory is
+    free. Never two, which cost twice the work and gain nothing."""
+    jobs = min(4, idle - others, 1 + int((fit - 1) / 0.6))
+    return jobs if jobs > 2 else 1
+
+
+class Progress:
+    """Says how far the proofs are."""
+
+    def __init__(self, count, lanes):
+        self.count, self.ended, self.since = count, 0, time.monotonic()
+        print(f'pitch: {count} crates, at most {lanes} at a time', flush=True)
+
+    def end(self, name, is_proved, begun, jobs):
+        now = time.monotonic()
+        self.ended += 1
+        print(f'pitch: {name} {"proved" if is_proved else "NOT PROVED"}, {self.ended} of {self.count};'
+            f' {now - begun:.0f} s with {jobs} jobs, to second {now - self.since:.0f}', flush=True)
+        if not is_proved:
+            print('pitch: no other crate is begun; what runs is ended, and kept', flush=True)
+
+
+def in_order(tasks, lanes, memory):
+    """Runs the proofs, and then what else the gate wants to be told, and returns what each gave. Once
+    a crate is not proved, no other is begun: those that run are ended, and so kept."""
+    behind, running, given = chains(tasks), {}, {}
+    left = sorted((it for it in tasks if it[1] == 'proof'), key=lambda it: -behind[it])
+    progress = Progress(len(left), lanes)
     with ThreadPoolExecutor(lanes) as pool:
         while left or running:
-            ready = [it for it in left if all(dep.name in done for dep in it.below())]
-            for at, crate in enumerate(ready):
-                idle = lanes - sum(jobs for _, jobs, _ in running.values())
-                room = memory - sum(needs for _, _, needs in running.values())
-                needs = 1e9 + 6e4 * (own[crate.name] + sum(own[it.name] for it in crate.below()))
-                if idle < 1 or running and needs > room:
+            ready = [it for it in left if all(below in given for below in tasks[it][0])]
+            for at, key in enumerate(ready):
+                _, _, needs, call = tasks[key]
+                idle = lanes - sum(jobs for _, jobs, _, _ in running.values())
+                fit = (memory - sum(taken for _, _, taken, _ in running.values())) / (SEEN * needs)
+                if idle < 1 or running and fit < 1:
                     break
-                jobs = max(1, min(4, idle - (len(ready) - at - 1), 1 + int((room / needs - 1) / 0.6)))
-                jobs = 1 if jobs == 2 else jobs
-                left.remove(crate)
-                running[pool.submit(prove, crate, jobs, done)] = crate, jobs, needs * (1 + 0.6 * (jobs - 1))
+                jobs = jobs_of(idle, len(ready) - at - 1, fit)
+                taken = SEEN * needs * (1 + 0.6 * (jobs - 1))
+                left.remove(key)
+                running[pool.submit(call, given, jobs)] = key, jobs, taken, time.monotonic()
             for it in wait(running, return_when=FIRST_COMPLETED).done:
-                done[running.pop(it)[0].name] = it.result()
-    return done
+                key, jobs, _, begun = running.pop(it)
+                given[key] = it.result()
+                progress.end(key[0], given[key], begun, jobs)
+            if not all(given.values()):
+                left.clear()
+    for key in tasks:
+        if key not in given:
+            given[key] = key[1] != 'proof' and tasks[key][3](given, 1)
+    return given
+
+
+def narrow(rt, crates):
+    """Has the gate of the kit prove, and do nothing else, in the order of this file."""
+
+    def set_aside(root, names, aside):
+        for crate in crates:
+            for made in ('rlib', *(crate.name + end for end in rt.BACKENDS.values())):
+                rt.clear(f'{crate.folder}/out/{made}')
+
+    lanes = int(os.environ.get('RT_JOBS') or rt.processors())
+    rt.set_aside = set_aside
+    rt.edits_of = lambda crate: ([], [])
+    rt.Crate.has_tests = lambda crate: False
+    rt.in_lanes = lambda tasks: in_order(tasks, lanes, 0.85 * rt.free())
+    rt.run = lambda crate, tests, ending: True
 
 
 def main():
-    name, only_below = sys.argv[1], '--only-below' in sys.argv[2:]
+    if len(sys.argv) != 2:
+        sys.exit(__doc__)
     top = os.path.dirname(os.path.dirname(os.path.realpath(__file__)))
     os.chdir(top)
-    rt = the_kit()
+    # An interrupt ends it at once, and with it what it started.
+    signal.signal(signal.SIGINT, signal.SIG_DFL)
     try:
-        rtlib = rt.rtlib
-        for word in (rtlib.ALLOW_C, rtlib.BACKEND, 'RT_SECONDS'):
-            os.environ.pop(word, None)
-        # What it starts ends when it ends, however it ends.
-        rtlib.guarded()
-        signal.signal(signal.SIGINT, signal.SIG_DFL)
-        rt.Crate.cuts_libraries, rt.Crate.allowed = True, rt.handles_of(top)
-        every = rt.crates_of(top)
-        program = next(it for it in every if it.name == name)
-        crates = [*([it for it in every if it in program.below()]), *([] if only_below else [program])]
-        held = rtlib.lock([*crates, program])
-        for it in crates:
-            rtlib.stop_on_links(it.folder)
-            rtlib.stop_on_unread(it.folder, every)
-            rtlib.stop_on_text(it, 'verdict')
-            rt.stop_on_words(it)
-        kept = rt.Kept(crates)
-        kept.key(crates[0]), rt.free, rt.processors
-    except (AttributeError, TypeError) as error:
-        print(f'prove_program: another kit: {error}')
+        rt = the_kit()
+        rt.Crate.allowed = rt.handles_of(top)
+        named = [it for it in rt.crates_of(top) if it.name == sys.argv[1]]
+        narrow(rt, [below for it in named for below in [it, *it.below()]])
+    except SystemExit:
         return 3
-    printing, begun = threading.Lock(), time.monotonic()
-    print(f'proving {len(crates)} crates', flush=True)
-
-    def prove(crate, jobs, done):
-        if not all(done[it.name] for it in crate.below()):
-            return False
-        crate, since, status = copy.copy(crate), time.monotonic(), 1
-        with tempfile.TemporaryFile('a+', errors='replace') as crate.out:
-            try:
-                shutil.rmtree(f'{crate.folder}/out/rlib', ignore_errors=True)
-                os.makedirs(f'{crate.folder}/out', exist_ok=True)
-                key = kept.key(crate)
-                is_given = kept.give(crate, False, key)
-                if not is_given:
-                    with kept.in_turn(crate, False, key) as has_waited:
-                        is_given = has_waited and kept.give(crate, False, key)
-                        if not is_given:
-                            status = crate.ci(['--jobs', str(jobs)], False)
-                            if status == -signal.SIGKILL:
-                                status = crate.ci(['--jobs', '1'], False)
-                if is_given or not status:
-                    status = 0
-                    kept.is_built(crate)
-                    if not is_given:
-                        kept.keep(crate, False, key)
-            except SystemExit:
-                pass
-            crate.out.seek(0)
-            said = crate.out.read()
-        now = time.monotonic()
-        with printing:
-            print(f'== {crate.name}\n{said}', end='')
-            print(f'took {now - since:.0f} s with {jobs} jobs, from {since - begun:.0f} to {now - begun:.0f}'
-                + (', which an earlier run proved' if is_given else ''), flush=True)
-        return not status
-
-    lanes = int(os.environ.get('RT_JOBS') or rt.processors())
-    done = in_order(rt, crates, prove, lanes)
-    kept.shrink()
-    kept.tell()
-    failed = [it for it in done if not done[it]]
-    print('== summary', *[f'{it}: not proved' for it in failed], f'{len(done) - len(failed)} of {len(done)} ok', sep='\n')
-    return 1 if failed else 0
+    return rt.where_disk_lasts(rt.ci_over, None, False, [sys.argv[1]])
 
 
-sys.exit(main())
+def status():
+    """The status; whatever goes wrong between this file and the kit is that the kit is another."""
+    try:
+        return main()
+    except Exception:
+        traceback.print_exc()
+        return 3
+
+
+sys.exit(status())

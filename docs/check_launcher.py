@@ -1,0 +1,136 @@
+#!/usr/bin/env python3
+"""Tries what the script ./pitch does itself, with stand-ins for the program and for the kit.
+
+    docs/check_launcher.py
+
+The stand-in of the program writes its words and how many bytes it read; that of `rt` has no gate, so
+the first use goes by `rt all check`. Nothing is proved. A case that wants a command which is not on
+the path is left out. The last line is `N passed, M failed`; the exit status is 0 only where none
+failed.
+"""
+import gzip, os, shutil, subprocess, sys, tempfile
+from pathlib import Path
+
+TOP = Path(__file__).resolve().parent.parent
+PROGRAM = '''#!/bin/sh
+echo "$*: $(wc -c)"
+exit ${STATUS:-0}
+'''
+RT = '''#!/usr/bin/env python3
+import os, shutil, sys
+words = sys.argv[1:]
+if words[0] == 'try':
+    print(*words, len(sys.stdin.read()))
+elif words[:2] == ['all', 'check']:
+    print('== pitch_fields', '== summary', sep='\\n')
+elif words[0] == 'run':
+    shutil.copy(os.environ['STAND_IN'], 'out/pitch')
+sys.exit(int(os.environ.get('RT_' + words[0].upper(), '0')))
+'''
+SAMPLE, CAPTURE = 'examples/sample.pitch', 'examples/captures/sample.pcap'
+# The words, what the program is to be given of them, how many bytes, and the command that is wanted.
+WORDS = [
+    ('follow', 'follow', 0, None),
+    ('follow ' + SAMPLE, 'follow', 202, None),
+    ('follow --hold 64 ' + SAMPLE, 'follow --hold 64', 202, None),
+    ('follow --hold=64 ' + SAMPLE, 'follow --hold=64', 202, None),
+    ('follow --hold ' + SAMPLE, 'follow --hold ' + SAMPLE, 0, None),
+    (f'show {SAMPLE} {SAMPLE}', f'show {SAMPLE} {SAMPLE}', 0, None),
+    ('storm ' + SAMPLE, 'storm ' + SAMPLE, 0, None),
+    ('follow nowhere.pcap', 'follow nowhere.pcap', 0, None),
+    ('follow ' + CAPTURE, 'follow --pcap', 674, None),
+    ('follow --pcap ' + CAPTURE, 'follow --pcap', 674, None),
+    ('follow day.pcap.gz', 'follow --pcap', 674, 'zcat'),
+    ('follow day.pcap.zst', 'follow --pcap', 674, 'zstdcat'),
+    ('follow day.pcapng', 'follow --pcap', 674, 'editcap'),
+    ('quotes day.pcap.gz', 'quotes', 202, 'zcat'),
+    ('--progress follow day.pcap.gz', 'follow --pcap', 674, 'pv'),
+]
+
+
+def prepared(folder):
+    """A copy of the tree with sources of one crate, and the environment in which rt is the stand-in."""
+    tree, kit = folder / 'tree', folder / 'kit'
+    for name in ('pitch', 'README.md', 'crates.txt', 'examples', 'bench', 'crates/pitch/src'):
+        copy = shutil.copytree if (TOP / name).is_dir() else shutil.copy
+        (tree / name).parent.mkdir(parents=True, exist_ok=True)
+        copy(TOP / name, tree / name)
+    (kit / 'bin').mkdir(parents=True)
+    (kit / 'KIT-ID').write_text('stand-in\n')
+    for path, text in ((kit / 'bin' / 'rt', RT), (folder / 'program', PROGRAM)):
+        path.write_text(text)
+        path.chmod(0o755)
+    capture = (tree / CAPTURE).read_bytes()
+    (tree / 'day.pcap.gz').write_bytes(gzip.compress(capture))
+    (tree / 'cut.pcap.gz').write_bytes(gzip.compress(capture)[:-9])
+    if shutil.which('zstd'):
+        subprocess.run(['zstd', '-q', '-o', tree / 'day.pcap.zst', tree / CAPTURE], check=True)
+    if shutil.which('editcap'):
+        subprocess.run(['editcap', '-F', 'pcapng', tree / CAPTURE, tree / 'day.pcapng'], check=True)
+    path = f'{kit}/bin:{os.environ["PATH"]}'
+    return tree, {**os.environ, 'PATH': path, 'STAND_IN': str(folder / 'program')}
+
+
+class Checks:
+    def __init__(self, folder):
+        self.tree, self.environ = prepared(folder)
+        self.passed = self.failed = 0
+
+    def run(self, words, **more):
+        how = {'cwd': self.tree, 'env': {**self.environ, **more}, 'stdin': subprocess.DEVNULL}
+        return subprocess.run(['./pitch', *words.split()], capture_output=True, text=True, **how)
+
+    def hold(self, what, is_so, done):
+        if is_so:
+            self.passed += 1
+        else:
+            self.failed += 1
+            print(f'FAIL {what}: status {done.returncode}\n{done.stdout}{done.stderr}', end='')
+
+    def build(self):
+        """The first use, one that is broken off, and one after an edit."""
+        done = self.run('follow', RT_RUN='1')
+        self.hold('a build that fails', done.returncode == 1 and 'the build failed' in done.stderr, done)
+        done = self.run('follow', RT_ALL='1')
+        self.hold('a proof that fails', done.returncode == 1 and 'not proved' in done.stderr, done)
+        done = self.run('follow')
+        said = 'another gate' in done.stderr and 'pitch_fields, crate 1' in done.stderr
+        self.hold('a first use', (done.returncode, done.stdout) == (0, 'follow: 0\n') and said, done)
+        done = self.run('follow', STATUS='3')
+        self.hold('a second use', (done.returncode, done.stderr) == (3, ''), done)
+        (self.tree / 'crates/pitch/src/main.rt').touch()
+        done = self.run('follow', RT_RUN='137')
+        self.hold('a build that is killed', done.returncode == 1, done)
+        done = self.run('follow')
+        self.hold('the build after it', done.returncode == 0 and 'proving' in done.stderr, done)
+
+    def words(self):
+        for words, given, count, wanted in WORDS:
+            if wanted is None or shutil.which(wanted):
+                done = self.run(words)
+                is_so = (done.returncode, done.stdout) == (0, f'{given}: {count}\n')
+                self.hold(words, is_so and bool(done.stderr) == (given != words), done)
+        done = self.run('follow cut.pcap.gz')
+        self.hold('a cut file', done.returncode == 1 and 'zcat failed' in done.stderr, done)
+        done = self.run('follow day.pcap.gz', STATUS='4')
+        self.hold('a status behind a stage', done.returncode == 4, done)
+        done = self.run('--progress follow')
+        self.hold('progress of no file', done.returncode == 1 and 'wants a FILE' in done.stderr, done)
+        done = self.run('--unproved follow ' + SAMPLE)
+        is_so = done.stdout == 'try -- follow 202\n' and 'NOTHING IS PROVED' in done.stderr
+        self.hold('an unproved run', is_so and done.returncode == 0, done)
+        done = self.run('pack --help')
+        self.hold('help of a command', done.stdout.startswith('  pack --unit U '), done)
+
+
+def main():
+    with tempfile.TemporaryDirectory() as folder:
+        checks = Checks(Path(folder))
+        checks.build()
+        checks.words()
+    print(f'{checks.passed} passed, {checks.failed} failed')
+    return 1 if checks.failed else 0
+
+
+if __name__ == '__main__':
+    sys.exit(main())
