@@ -50,7 +50,10 @@ impl StreamRest {
     }
 
     /// The allocator that its memory comes from.
-    pub fn allocator(&self) -> Global {
+    pub fn allocator(&self) -> Global
+        // There is one alone.
+        ensures { (alloc : Global) → result ≡ alloc }
+    {
         *self.buffer.allocator()
     }
 

@@ -34,6 +34,16 @@ impl<'a> Model for BlockView<'a> {
 }
 
 impl<'a> BlockView<'a> {
+    /// A block that owns its messages, lent. It takes no memory.
+    pub fn of_block(block: &'a Block) -> BlockView<'a>
+        ensures { result ≡ block.now }
+    {
+        BlockView {
+            header: block.header,
+            raws: block.raws.raws(),
+        }
+    }
+
     /// The block's header.
     #[inline(always)]
     pub fn header(&self) -> Header
