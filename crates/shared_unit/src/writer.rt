@@ -148,8 +148,8 @@ impl<J: Naming, R: FixedRun, W: Wait + Drop> Writer<J, R, W> {
         ensures sequence { IfOk result
             (λ sequence. sequence ≡ length (accepted_by self.old.history)) }
         // Just this operation is added to the history, where it is Ok.
-        ensures history { MatchResult result
-            (λ _. self.new.history ≡ then_done self.old.history Advertise) (λ _. self.new ≡ self.old) }
+        ensures history { MatchResult result (λ _. self.new.history
+            ≡ then_done self.old.history Advertise) (λ _. self.new ≡ self.old) }
         // Then all of the history was published.
         ensures published { OnOk result (IsPublished self.new) }
     {

@@ -41,8 +41,8 @@ pub(crate) fn close<J: Naming, R: DrillRun + FixedRun, H: Wait + Drop>(
     server: &mut Server<J, R>,
     client: &mut UnitClient,
 ) -> Result<(), OutOfMemory>
-    requires accepted { HasAccepted writer.old.history course.now.number course.now.unit course.now.count
-        (2 * course.now.count) }
+    requires accepted { HasAccepted writer.old.history
+        course.now.number course.now.unit course.now.count (2 * course.now.count) }
     requires advertised { HasAdvertised writer.old.history course.now.count }
     ensures { OnOk result ((H : ℕ) → FollowsOn client.old H (plan R.number R.unit R.count)
         → IsAtEnd client.new H (plan R.number R.unit R.count)) }

@@ -239,8 +239,8 @@ fn advertise<J: Naming, R: DrillRun + FixedRun, H: Wait + Drop, W: Wait>(
     ensures words { OnOk result
         (to.new.words ≡ to.old.words ++ round_words index course.now.count) }
     // The service is told of all that the writer did.
-    ensures told { OnOk result
-        (told_in to.new.told ≡ told_in to.old.told ++ told_with writer.new.history index course.now.count) }
+    ensures told { OnOk result (told_in to.new.told
+        ≡ told_in to.old.told ++ told_with writer.new.history index course.now.count) }
 {
     if !is_round(index, course.count) {
         return Ok(());
@@ -268,8 +268,8 @@ fn publish_one<J: Naming, R: DrillRun + FixedRun, H: Wait + Drop, W: Wait>(
     ensures last { OnOk result (index ≡ course.now.count → HasAdvertised writer.new.history index) }
     ensures words { OnOk result (to.new.words ≡ to.old.words
         ++ words_for_command course.now.number course.now.unit course.now.count index) }
-    ensures told { OnOk result
-        (told_in to.new.told ≡ told_in to.old.told ++ told_with writer.new.history index course.now.count) }
+    ensures told { OnOk result (told_in to.new.told
+        ≡ told_in to.old.told ++ told_with writer.new.history index course.now.count) }
 {
     accept(writer, course, index)?;
     send_last(rt, alloc, writer, course, index, &mut to.words)?;

@@ -118,8 +118,8 @@ fn finish_well<J: Naming, R: DrillRun + FixedRun, H: Wait + Drop>(
     mut server: Server<J, R>,
     mut client: UnitClient,
 ) -> Result<UnitClient, OutOfMemory>
-    requires accepted { HasAccepted writer.history course.now.number course.now.unit course.now.count
-        (2 * course.now.count) }
+    requires accepted { HasAccepted writer.history
+        course.now.number course.now.unit course.now.count (2 * course.now.count) }
     requires advertised { HasAdvertised writer.history course.now.count }
     requires follows { FollowsOn client drill_kept (plan R.number R.unit R.count) }
     ensures { IfOk result (λ client. IsAtEnd client drill_kept (plan R.number R.unit R.count)) }
