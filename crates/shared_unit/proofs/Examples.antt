@@ -36,4 +36,5 @@ not_from_before_it answer = by answer.between answer.begun answer.newest
     by [] begun newest = absurd (false≢true (sym (ap answers_first begun.1)))
     by (a ∷ []) begun newest = absurd (false≢true (sym (ap answers_second begun.1)))
     by (a ∷ b ∷ []) begun newest = absurd (omega (arith, newest, ap (λ (ms : List Moment). published_in (take 2 ms)) begun.1))
-    by (a ∷ b ∷ c ∷ more) begun newest = absurd (omega (arith, ap (λ (ms : List Moment). length ms) begun.1))
+    by (a ∷ b ∷ c ∷ []) begun newest = absurd (omega (arith, ap (λ (ms : List Moment). length ms) begun.1))
+    by (a ∷ b ∷ c ∷ d ∷ more) begun newest = absurd (omega (arith, ap (λ (ms : List Moment). length ms) begun.1))
