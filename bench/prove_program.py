@@ -133,6 +133,8 @@ def main():
     try:
         rt = the_kit()
         rt.Crate.allowed = rt.handles_of(top)
+        if rt.Kept([]).at is None:
+            print('pitch: nothing can be kept beside the kit: broken off, this begins anew', flush=True)
         named = [it for it in rt.crates_of(top) if it.name == sys.argv[1]]
         narrow(rt, [below for it in named for below in [it, *it.below()]])
     except SystemExit:
