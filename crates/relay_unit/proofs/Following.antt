@@ -1,6 +1,7 @@
 -- What a relay sends of any input, step by step.
-use Rattle.std.proofs.Common.{◌≡◌, ◌≢◌, ℕ, zero, suc, ◌+◌, inl, inr, take, List, [], ◌∷◌, ◌++◌, length, length-append, fold, refl, sym, ap, ◌∙◌, subst, append_assoc}
+use Rattle.std.proofs.Common.{◌≡◌, ◌≢◌, ℕ, zero, suc, ◌+◌, ◌<◌, inl, inr, take, List, [], ◌∷◌, ◌++◌, length, length-append, fold, refl, sym, ap, ◌∙◌, subst, append_assoc}
 use Rattle.std.proofs.lemmas.List.{append-nil}
+use Rattle.pitch_fields.specs.Limits.{last_sequence}
 use Rattle.pitch_messages.specs.declared.message.Message.TheVariants.{UnitClear}
 use Rattle.pitch_messages.specs.Writing.{written}
 use Rattle.pitch_model.specs.History.{Raw}
@@ -11,7 +12,7 @@ use Rattle.unit_packets.specs.Packing.{packed}
 use Rattle.client_core.specs.Tracks.{Keeps}
 use Rattle.client_core.specs.Client.{current_book}
 use Rattle.client_core.specs.declared.client.UnitClient.{UnitClient}
-use Rattle.relay_unit.specs.Following.{IsStep, AreSteps, sent_in, Sends, HasSent, SendsMore}
+use Rattle.relay_unit.specs.Following.{IsStep, AreSteps, sent_in, Sends, HasSent, SendsMore, LacksSequences}
 use Rattle.relay_unit.specs.Calls.{AppendsRelayed, AppendsAny}
 use Rattle.relay_unit.specs.Sending.{SendsFor, SendsApplied, added_datagrams, AddsRelayed, AddsAny}
 use Rattle.relay_unit.specs.Stands.{followed_book, relay_unit_of}
@@ -98,30 +99,45 @@ kept_nothing client keeps = keeps.book_is ∙ ap book_after (none_taken client.h
     none_taken (suc n) = refl
 
 -- what a relay adds for a block, where `items` are the messages and `book` is its client's then
-pub block_sends_more : (r r' : Relay) (book : Book) (block : Block) (none items : List Raw)
-    → none ≡ [] → SendsFor (followed_book r) book none items
-    → (block.sequence ≢ 0 → SendsApplied (followed_book r) book none items)
-    → followed_book r' ≡ book
-    → r'.sent ≡ r.sent + length items
-    → (sent : List Raw) → HasSent r sent
-    → SendsMore r r' block sent (packed (relay_unit_of r) (r.sent + 1) items)
-block_sends_more r r' book block none items empty any line book_is counted sent S =
-    let after_none = λ (more : List Raw). ap (λ (rs : List Raw). rs ++ more) empty in
-    let all : any.more ≡ items = sym (any.appended ∙ after_none any.more) in
-    let sends : Sends (followed_book r) items (followed_book r') =
-    subst (Sends (followed_book r) items) (sym book_is) (subst (λ (rs : List Raw). Sends (followed_book r) rs book) all any.sends) in
-    record {
-      more = items;
-      datagrams_are = ap (λ (n : ℕ). packed (relay_unit_of r) (n + 1) items) S.count_is;
-      sends = sends;
-      line = λ some.
-          let l = line some in
-          book_is ∙ l.applied ∙ ap (fold after (followed_book r)) (sym (l.appended ∙ after_none l.more));
-      sent_is = record {
-        count_is = counted ∙ ap (λ (n : ℕ). n + length items) S.count_is ∙ sym (length-append sent items);
-        sends = sends_then empty_book (followed_book r) (followed_book r') sent items S.sends sends;
-      };
-    }
+module _ (r r' : Relay) (book : Book) (block : Block) (none items : List Raw)
+    (empty : none ≡ []) (any : SendsFor (followed_book r) book none items)
+    (line : block.sequence ≢ 0 → SendsApplied (followed_book r) book none items)
+    (book_is : followed_book r' ≡ book) (sent : List Raw) (S : HasSent r sent) where
+  after_none : (more : List Raw) → none ++ more ≡ more
+  after_none more = ap (λ (rs : List Raw). rs ++ more) empty
+
+  block_sends : Sends (followed_book r) items (followed_book r')
+  block_sends =
+      let all : any.more ≡ items = sym (any.appended ∙ after_none any.more) in
+      subst (Sends (followed_book r) items) (sym book_is) (subst (λ (rs : List Raw). Sends (followed_book r) rs book) all any.sends)
+
+  block_applies : block.sequence ≢ 0 → followed_book r' ≡ fold after (followed_book r) items
+  block_applies some =
+      let l = line some in
+      book_is ∙ l.applied ∙ ap (fold after (followed_book r)) (sym (l.appended ∙ after_none l.more))
+
+  pub block_sends_more : r'.sent ≡ r.sent + length items → SendsMore r r' block sent (packed (relay_unit_of r) (r.sent + 1) items)
+  block_sends_more counted = record {
+    more = items;
+    datagrams_are = ap (λ (n : ℕ). packed (relay_unit_of r) (n + 1) items) S.count_is;
+    sends = block_sends;
+    line = block_applies;
+    sent_is = record {
+      count_is = counted ∙ ap (λ (n : ℕ). n + length items) S.count_is ∙ sym (length-append sent items);
+      sends = sends_then empty_book (followed_book r) (followed_book r') sent items S.sends block_sends;
+    };
+  }
+
+  -- where they have no sequences any more
+  pub block_lacks : (more : ℕ) → more ≡ length items → last_sequence < r.sent + more → LacksSequences r r' block sent r.sent more
+  block_lacks more counted past = record {
+    messages = items;
+    sent_is = S.count_is;
+    more_is = counted;
+    past = past;
+    sends = block_sends;
+    line = block_applies;
+  }
 
 -- ---- What is appended for it
 module _ (r r' : Relay) (block : Block) (Lays : List (List ℕ) → Type 0) (laid : Lays (added_datagrams r r')) where

@@ -4,13 +4,13 @@ use Rattle.unit_packets.specs.Blocks.{Block}
 use Rattle.pitch_model.specs.History.{Entry, Raw}
 use Rattle.heard_items.specs.declared.change.Change.{Change}
 use Rattle.relay_unit.specs.Changing.{merged_change}
-use Rattle.relay_unit.specs.Following.{HasSent, SendsMore}
+use Rattle.relay_unit.specs.Following.{HasSent, SendsMore, CountsBoth}
 use Rattle.relay_unit.specs.Hearing.{relay_heard, relay_history}
 use Rattle.relay_unit.specs.RelayText.{IsVenue, AreRelayVenues, relayed_after, sent_up_to}
 use Rattle.relay_unit.specs.Relayed.{relayed_count, relayed_datagrams}
 use Rattle.relay_unit.specs.Relays.{Relays, HaveRelayed}
 use Rattle.relay_unit.specs.Sparing.{HasHeard, IsSpentBy, messages_heard}
-use Rattle.relay_unit.specs.Stands.{Stands, IsOutrun, relay_unit_of}
+use Rattle.relay_unit.specs.Stands.{Stands, IsOutrun, GoesOn, relay_unit_of}
 use Rattle.relay_unit.specs.declared.relay.Relay.{Relay}
 use Rattle.relay_unit.specs.declared.relay.RelayError.{RelayError}
 
@@ -47,6 +47,12 @@ HearsFew r r' block =
 abbrev pub SpendsFew : Relay → Block → RelayError → Type 0
 SpendsFew r block error =
     (count : ℕ) → HasHeard r count → IsSpentBy (count + length block.raws) error
+
+-- whatever was heard by a relay that went on, the error counts the messages that it had sent and
+-- those of the block
+abbrev pub CountsAny : Relay → Relay → Block → RelayError → Type 0
+CountsAny r r' block error =
+    GoesOn r → (before : List Raw) → HasSent r before → CountsBoth r r' block before error
 
 -- whatever was heard, what is appended are messages behind all that it had sent
 abbrev pub AppendsAny : Relay → Relay → Block → (List (List ℕ) → Type 0) → Type 0

@@ -1,6 +1,8 @@
 -- What a relay sends of any input, honest or not, and what whoever follows it has.
-use Rattle.std.specs.Prelude.{◌≡◌, ◌≢◌, ℕ, ◌+◌, ◌⊎◌, List, [], ◌∷◌, ◌++◌, Some, fold, length}
+use Rattle.std.specs.Prelude.{◌≡◌, ◌≢◌, ℕ, ◌+◌, ◌<◌, ◌⊎◌, List, [], ◌∷◌, ◌++◌, Some, fold}
+use Rattle.std.specs.Prelude.{length}
 use Rattle.std.specs.FinMap as finite
+use Rattle.pitch_fields.specs.Limits.{last_sequence}
 use Rattle.pitch_messages.specs.declared.message.Message.TheVariants.{UnitClear}
 use Rattle.pitch_messages.specs.Writing.{written}
 use Rattle.unit_packets.specs.Blocks.{Block}
@@ -10,6 +12,8 @@ use Rattle.pitch_model.specs.History.{Raw}
 use Rattle.pitch_model.specs.Image.{image_of}
 use Rattle.relay_unit.specs.Stands.{followed_book, relay_unit_of}
 use Rattle.relay_unit.specs.declared.relay.Relay.{Relay}
+use Rattle.relay_unit.specs.declared.relay.RelayError.{RelayError}
+use Rattle.relay_unit.specs.declared.relay.RelayError.TheVariants.{SequencesSpent, OutOfMemory}
 
 -- Unit Clear and the image of a book, which leaves that book
 pub record AreImage (raws : List Raw) (book : Book) : Type 0 where
@@ -76,3 +80,21 @@ pub record SendsMore (relay relay' : Relay) (block : Block) (sent : List Raw)
   pub sends : Sends (followed_book relay) more (followed_book relay')
   pub line : block.sequence ≢ 0 → followed_book relay' ≡ fold after (followed_book relay) more
   pub sent_is : HasSent relay' (sent ++ more)
+
+-- behind what it had sent, a relay has no sequences for the messages of a block, by which its book
+-- becomes another; those of a block with a sequence are applied and nothing else
+pub record LacksSequences (relay relay' : Relay) (block : Block) (before : List Raw)
+    (sent more : ℕ) : Type 0 where
+  pub messages : List Raw
+  pub sent_is : sent ≡ length before
+  pub more_is : more ≡ length messages
+  pub past : last_sequence < sent + more
+  pub sends : Sends (followed_book relay) messages (followed_book relay')
+  pub line : block.sequence ≢ 0
+      → followed_book relay' ≡ fold after (followed_book relay) messages
+
+-- the error counts both
+abbrev pub CountsBoth : Relay → Relay → Block → List Raw → RelayError → Type 0
+CountsBoth r r' block before (SequencesSpent sent more) =
+    LacksSequences r r' block before sent more
+CountsBoth r r' block before OutOfMemory = Unit {0}

@@ -62,7 +62,7 @@ impl Relay {
     ghost use Rattle.pitch_model.specs.Book.{empty_book};
     ghost use Rattle.relay_unit.specs.Calls.{StandsAfter, AppendsRelayed, OutrunsAfter};
     ghost use Rattle.relay_unit.specs.Calls.{IsChangeAfter, HearsFew, SpendsFew};
-    ghost use Rattle.relay_unit.specs.Calls.{AppendsAny};
+    ghost use Rattle.relay_unit.specs.Calls.{AppendsAny, CountsAny};
     ghost use Rattle.relay_unit.specs.Following.{HasSent};
     ghost use Rattle.relay_unit.specs.Hearing.{first_heard};
     ghost use Rattle.relay_unit.specs.Outlets.{Appends};
@@ -113,6 +113,7 @@ impl Relay {
         ensures outrun { IfErr result (OutrunsAfter self.old block.now) }
         ensures heard { OnOk result (HearsFew self.old self.new block.now) }
         ensures many { IfErr result (SpendsFew self.old block.now) }
+        ensures exact { IfErr result (CountsAny self.old self.new block.now) }
         ensures any { OnOk result (AddsAny self.old self.new block.now) }
         ensures unit { relay_unit_of self.new ≡ relay_unit_of self.old }
         ensures ready { OnOk result (GoesOn self.old) }
@@ -167,6 +168,8 @@ impl Relay {
         // only where these are more than there are sequences.
         ensures heard { OnOk result (HearsFew self.old self.new block.now) }
         ensures many { IfErr result (SpendsFew self.old block.now) }
+        // The error counts what it had sent, and what the block would add.
+        ensures exact { IfErr result (CountsAny self.old self.new block.now) }
         // Whatever it heard, what is appended are messages behind all that it had sent, which leave
         // the orders of the book that it follows then.
         ensures any { OnOk result

@@ -7,7 +7,7 @@ use Rattle.order_book.specs.Standing.{Standing}
 use Rattle.relay_unit.specs.Hearing.{heard_merged, relay_heard}
 use Rattle.relay_unit.specs.Relayed.{relayed}
 use Rattle.relay_unit.proofs.Counted.{counted, added_is, block_sends}
-use Rattle.relay_unit.proofs.Following.{block_sends_more}
+use Rattle.relay_unit.proofs.Following.{block_sends_more, block_lacks}
 use Rattle.relay_unit.proofs.Speaking.{venue_ticked, venue_before}
 use Rattle.relay_unit.proofs.relay.Relay.take.Goals as goal
 
@@ -65,9 +65,17 @@ returns-then-more-self-clause-many c = λ count heard.
     let past = c.if-more-self.true in
     omega arith
 
+pub returns-then-more-self-clause-exact : goal.returns-then-more-self-clause-exact
+returns-then-more-self-clause-exact c = λ on before S.
+    let heard = c.in-Ok.ensures in
+    let past = c.if-more-self.true in
+    block_lacks c.args.self.now _ (current_book c.hear_merged.new.client) c.args.block.now c.truncate.new.self.items c.hear_merged.new.sent.items
+    c.truncate.ensures.items heard.any heard.line (ap (λ (b : Standing). b.book) c.tick.ensures.still.book_is) before S
+    c.len-more.result c.len-more.ensures.length (omega (arith, past))
+
 pub returns-clause-any : goal.returns-clause-any
-returns-clause-any c =
+returns-clause-any c = λ sent S.
     let heard = c.in-Ok.ensures in
     block_sends_more c.args.self.now _ (current_book c.hear_merged.new.client) c.args.block.now c.truncate.new.self.items c.hear_merged.new.sent.items
-    c.truncate.ensures.items heard.any heard.line (ap (λ (b : Standing). b.book) c.tick.ensures.still.book_is)
+    c.truncate.ensures.items heard.any heard.line (ap (λ (b : Standing). b.book) c.tick.ensures.still.book_is) sent S
     (ap (λ (n : ℕ). c.args.self.now.sent + n) c.len-more.ensures.length)
