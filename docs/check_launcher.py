@@ -16,6 +16,9 @@ PROGRAM = '''#!/bin/sh
 echo "$*: $(wc -c)"
 exit ${STATUS:-0}
 '''
+DIST = '''#!/bin/sh
+echo "dist: $*"
+'''
 RT = '''#!/usr/bin/env python3
 import os, shutil, sys
 words = sys.argv[1:]
@@ -57,7 +60,9 @@ def prepared(folder):
         copy(TOP / name, tree / name)
     (kit / 'bin').mkdir(parents=True)
     (kit / 'KIT-ID').write_text('stand-in\n')
-    for path, text in ((kit / 'bin' / 'rt', RT), (folder / 'program', PROGRAM)):
+    (tree / 'packages').mkdir()
+    scripts = {kit / 'bin' / 'rt': RT, folder / 'program': PROGRAM, tree / 'packages' / 'dist.sh': DIST}
+    for path, text in scripts.items():
         path.write_text(text)
         path.chmod(0o755)
     capture = (tree / CAPTURE).read_bytes()
@@ -119,6 +124,8 @@ class Checks:
         done = self.run('--unproved follow ' + SAMPLE)
         is_so = done.stdout == 'try -- follow 202\n' and 'NOTHING IS PROVED' in done.stderr
         self.hold('an unproved run', is_so and done.returncode == 0, done)
+        done = self.run('--dist folder')
+        self.hold('a folder to be given away', (done.returncode, done.stdout) == (0, 'dist: folder\n'), done)
         done = self.run('pack --help')
         self.hold('help of a command', done.stdout.startswith('  pack --unit U '), done)
 
