@@ -2,6 +2,7 @@
 #![tactic(auto)]
 
 use loopback_net::StdNet;
+use patient_io::Patient;
 use pitch_io::{FreeGate, StdSink, StdSource};
 use pitch_tool::{ExitStatus, pitch, say_out_of_memory};
 use std::env;
@@ -24,9 +25,9 @@ fn words_of(rt: &HostRuntime) -> Result<Vec<String>, ErrorKind> {
 }
 
 fn main(rt: HostRuntime) -> ExitCode {
-    let mut input = StdSource::make(rt.stdin());
-    let mut out = StdSink::make(rt.stdout());
-    let mut err = StdSink::make(rt.stderr());
+    let mut input = StdSource::make(Patient::make(rt.stdin()));
+    let mut out = StdSink::make(Patient::make(rt.stdout()));
+    let mut err = StdSink::make(Patient::make(rt.stderr()));
     let mut net = StdNet::make(&rt);
     let Ok(words) = words_of(&rt) else {
         say_out_of_memory(&mut err);
