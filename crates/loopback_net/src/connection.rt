@@ -4,11 +4,13 @@ ghost use Rattle.std.specs.Prelude.{◌<◌, length};
 ghost use Rattle.pitch_io.specs.Coming.{CameWithin};
 ghost use Rattle.pitch_io.specs.Putting.{PutsWithin};
 
+use patient_io::comes_within;
 use pitch_io::{NetTaken, Put};
 use std::io::{ErrorKind, Read, Write};
 use std::net::{Ipv4Addr, OpenListener, OpenStream, SocketAddr, TcpListener, TcpStream};
+use std::os::fd::AsRawFd;
 use std::time::Duration;
-use std::{io, net, thread};
+use std::{io, net};
 
 /// How often a call is tried that a signal breaks off.
 pub(crate) const MOST_TRIES: u32 = 1_000;
@@ -20,16 +22,33 @@ pub(crate) struct Connection<S> {
     pub(crate) server: S,
 }
 
-/// Opens a connection, or fails where another process of this machine connects first.
+// How often a connection is tried, and how many seconds the system may take each time for the
+// client's side and then for the server's. A packet that is lost is sent again after one.
+const MOST_LISTENERS: u32 = 4;
+
+const PATIENCE: u64 = 2;
+
+// How many strangers are let go at a listener.
+const MOST_STRANGERS: u32 = 10_000;
+
+/// Opens a connection. Another process of this machine that connects first is let go.
 pub(crate) fn open_connection<R: net::Net>(rt: &R) -> io::Result<Connection<R::Stream>> {
+    for _ in 1..MOST_LISTENERS {
+        match try_connection(rt) {
+            Err(error) if error.kind() == ErrorKind::TimedOut => {}
+            answer => return answer,
+        }
+    }
+    try_connection(rt)
+}
+
+fn try_connection<R: net::Net>(rt: &R) -> io::Result<Connection<R::Stream>> {
     let any_port = SocketAddr::from((Ipv4Addr::LOCALHOST, 0));
     let listener = TcpListener::bind(rt, any_port)?;
     listener.set_nonblocking(true)?;
-    let client = TcpStream::connect_timeout(rt, &listener.local_addr()?, Duration::from_secs(1))?;
-    let (server, from) = accept(&listener)?;
-    if from != client.local_addr()? {
-        return Err(io::Error::from(ErrorKind::ConnectionAborted));
-    }
+    let patience = Duration::from_secs(PATIENCE);
+    let client = TcpStream::connect_timeout(rt, &listener.local_addr()?, patience)?;
+    let server = accept(&listener, client.local_addr()?, patience)?;
     set_up(&client)?;
     set_up(&server)?;
     Ok(Connection { client, server })
@@ -41,12 +60,29 @@ fn set_up<S: OpenStream>(stream: &S) -> io::Result<()> {
     stream.set_nodelay(true)
 }
 
-// Accepts a connection that was made already. The system may need a moment to hand it over.
-fn accept<L: OpenListener>(listener: &L) -> io::Result<(L::Stream, SocketAddr)> {
-    for _ in 0..10_000u32 {
+// Accepts the connection from this address, which was made already. The system may need a moment
+// to hand it over.
+fn accept<L: OpenListener + AsRawFd>(
+    listener: &L,
+    client: SocketAddr,
+    patience: Duration,
+) -> io::Result<L::Stream> {
+    for _ in 0..MOST_STRANGERS {
         match listener.accept() {
-            Err(error) if error.kind() == ErrorKind::WouldBlock => thread::yield_now(),
-            answer => return answer,
+            Ok((stream, from)) => {
+                if from == client {
+                    return Ok(stream);
+                }
+            }
+            Err(error) => match error.kind() {
+                ErrorKind::ConnectionAborted => {}
+                ErrorKind::WouldBlock => {
+                    if !comes_within(listener, patience) {
+                        break;
+                    }
+                }
+                _ => return Err(error),
+            },
         }
     }
     Err(io::Error::from(ErrorKind::TimedOut))

@@ -19,7 +19,6 @@ use std::{io, net};
 // All that is open.
 #[derive(Drop)]
 struct Sockets<S> {
-    low: [Option<UdpSocket>; 3],
     a: LineSockets,
     b: LineSockets,
     gap: LineSockets,
@@ -59,10 +58,9 @@ impl<S: io::Read + io::Write> Sockets<S> {
     }
 }
 
-// Where one of the descriptors 0 to 2 is free, a socket would take it, and what is written to
-// standard output would go out on a line. So sockets that carry nothing are kept there: a write to
-// one fails.
-fn keep_low<R: net::Net>(rt: &R) -> io::Result<[Option<UdpSocket>; 3]> {
+// Takes those of the descriptors 0 to 2 that are free. A socket there would be taken for a standard
+// stream, and what is written to standard output would go out on a line.
+fn take_low<R: net::Net>(rt: &R) -> io::Result<[Option<UdpSocket>; 3]> {
     let any_port = SocketAddr::from((Ipv4Addr::LOCALHOST, 0));
     let mut low = [None, None, None];
     for place in &mut low {
@@ -75,11 +73,10 @@ fn keep_low<R: net::Net>(rt: &R) -> io::Result<[Option<UdpSocket>; 3]> {
     Ok(low)
 }
 
-// Opens all, or nothing.
+// Opens all, or nothing. The low descriptors are free again after that, and stay so.
 fn open<R: net::Net>(rt: &R) -> io::Result<Sockets<R::Stream>> {
-    let low = keep_low(rt)?;
+    let _low = take_low(rt)?;
     Ok(Sockets {
-        low,
         a: LineSockets::open(rt)?,
         b: LineSockets::open(rt)?,
         gap: LineSockets::open(rt)?,
@@ -92,9 +89,10 @@ fn open<R: net::Net>(rt: &R) -> io::Result<Sockets<R::Stream>> {
 ///
 /// Until `begin` has opened its sockets each other call fails. A later `begin` opens others in
 /// their place, and what was on its way is lost; where it fails, those that were open stay. It
-/// gives the system at most a second to make each connection, and no other call waits: a datagram
-/// or a piece for which there is no room now is a failure, as is a datagram longer than UDP
-/// carries, which is 65,507 bytes. A datagram without bytes is not carried.
+/// tries each connection at most four times, for two seconds at each side where nobody else
+/// connects, and no other call waits: a datagram or a piece for which there is no room now is a
+/// failure, as is a datagram longer than UDP carries, which is 65,507 bytes. A datagram without
+/// bytes is not carried.
 #[derive(Drop)]
 pub struct StdNet<R: net::Net> {
     rt: R,

@@ -399,9 +399,15 @@ fn answers_of_unopened<R: Abort + AllocGlobal, N: Net>(rt: &R, net: &mut N) -> V
 
 #[test]
 fn what_was_not_opened_fails(rt: HostRuntime) {
-    let silent = answers_of_unopened(&rt, &mut StdNet::make(NoNetwork));
-    let crowded = answers_of_unopened(&rt, &mut StdNet::make(Crowded(&rt)));
-    for answers in [silent, crowded] {
-        assert!(rt; answers.as_slice() == [NetTaken::Failed; 7].as_slice());
-    }
+    let answers = answers_of_unopened(&rt, &mut StdNet::make(NoNetwork));
+    assert!(rt; answers.as_slice() == [NetTaken::Failed; 7].as_slice());
+}
+
+#[test]
+fn a_stranger_who_connects_first_is_let_go(rt: HostRuntime) {
+    let mut net = StdNet::make(Crowded(&rt));
+    assert!(rt; net.begin() == NetDone::Done);
+    give(&rt, &mut net, &[], &PIECES);
+    get(&rt, &mut net, &[], &PIECES);
+    assert!(rt; answers_of_all(&rt, &mut net).as_slice() == [NetTaken::Quiet; 7].as_slice());
 }
