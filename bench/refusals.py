@@ -18,10 +18,13 @@ would be found here, as where the closures of a drill's joins were passed in the
 
 It needs a C compiler. The exit status is 0 where all was so.
 """
-import argparse, os, subprocess, sys, tempfile
-import replay
+import argparse, os, struct, subprocess, sys, tempfile
+import pcap, replay
 
 HERE = os.path.dirname(os.path.abspath(__file__))
+sys.path[:0] = [os.path.join(HERE, '..', 'examples', name) for name in ('audit', 'desk')]
+import carry, make_input
+
 COMMANDS = b'time 34200\nadd 1 B 100 IBM 10.00\nadd 2 S 50 IBM 10.05 hidden\nexec 1 30 9\n'
 
 
@@ -38,6 +41,35 @@ def sample():
 def storm():
     """The schedule of a storm of four units."""
     return ''.join('%d %s\n' % line[:2] for line in replay.storm(4, 100)).encode()
+
+
+def capture():
+    """The blocks of the sample, each in a packet."""
+    frames = [pcap.frame(make_input.block(unit, first, raws)) for unit, first, raws in make_input.blocks(sample())]
+    header = struct.pack('<IHHiIII', 0xA1B2C3D4, 2, 4, 0, 0, 65535, 1)
+    return header + b''.join(struct.pack('<IIII', 0, 0, len(it), len(it)) + it for it in frames)
+
+
+def with_an_image():
+    """The sample, and then a unit from its middle on: it is behind when an image comes."""
+    order = [pcap.add_long(1)]
+    return sample() + make_input.block(9, 100, order) + b''.join(carry.image(9, 99, order, 1))
+
+
+def audited(program):
+    """The sample's log and its report."""
+    report = subprocess.run([program, 'follow'], input=sample(), stdout=subprocess.PIPE, check=True).stdout
+    return make_input.input_of(make_input.log_of(sample()), report)
+
+
+def small_runs(program):
+    """A small run of each form: its words, and what it is given to read."""
+    return {
+        'follow': sample(), 'follow --pcap': capture(), 'show': sample(), 'relay': with_an_image(), 'quotes': sample(), 'audit': audited(program),
+        'pack --unit 1': COMMANDS, 'replay': schedule(), 'replay --workers 2': schedule(), 'replay --workers 4': storm(),
+        'storm --number 1 --units 2 --steps 20': b'', 'storm --number 3 --units 4 --steps 20 --workers 3': b'',
+        'drill --number 0 --units 2 --count 16': b'', 'demo --number 0 --count 16': b'',
+    }
 
 
 def run(program, shim, words, given, refused=0, failed=0, threads=(0, 0), seconds=60):
@@ -105,15 +137,11 @@ def main():
     parser.add_argument('--most', type=int, default=400)
     parser.add_argument('--threads', action='store_true')
     a = parser.parse_args()
-    forms = {
-        'follow': sample(), 'show': sample(), 'pack --unit 1': COMMANDS, 'replay': schedule(), 'replay --workers 2': schedule(),
-        'storm --number 1 --units 2 --steps 20': b'', 'drill --number 0 --units 2 --count 16': b'', 'demo --number 0 --count 16': b'',
-    }
     with tempfile.TemporaryDirectory() as folder:
         shim = os.path.join(folder, 'refuse.so')
         subprocess.run(['cc', '-O1', '-shared', '-fPIC', '-o', shim, os.path.join(HERE, 'refuse.c'), '-ldl'], check=True)
         right = refuse_threads(a.program, shim)
-        for words, given in {} if a.threads else forms.items():
+        for words, given in () if a.threads else small_runs(a.program).items():
             status, whole, _, calls = run(a.program, shim, words, given)
             if status != 0:
                 sys.exit('%s ends with status %d' % (words, status))
