@@ -25,7 +25,7 @@ from pathlib import Path
 
 TOP = Path(__file__).resolve().parent.parent
 PAGES = ("README.md", "docs/*.md", "examples/**/*.md")
-SECONDS = 120
+SECONDS = 600
 # How a command begins that is no example.
 COMMAND = re.compile(
     r"\(?(\./pitch |examples/|docs/|packages/)"
