@@ -4,3 +4,4 @@ pub mod Units
 pub mod Datagrams
 pub mod Examples
 pub mod Answered
+pub mod Room

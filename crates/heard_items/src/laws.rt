@@ -1,7 +1,7 @@
 //! Laws of the definitions. These functions do nothing: what they ensure is proved of the
 //! definitions alone.
 
-ghost use Rattle.std.specs.Prelude.{◌≡◌, ℕ, ◌+◌, ◌<◌, ◌≤◌, ◌==◌, List, []};
+ghost use Rattle.std.specs.Prelude.{◌≡◌, ℕ, ◌+◌, ◌<◌, ◌≤◌, true, ◌==◌, Some, List, [], ◌∷◌};
 ghost use Rattle.std.specs.Prelude.{◌++◌, length, reverse, filter, take, drop, nat_eq};
 ghost use Rattle.std.specs.List.{list_any, sum_by, AllByRecursion};
 ghost use Rattle.std.specs.List.Sorted.{IsStrictlyIncreasing};
@@ -11,13 +11,17 @@ ghost use Rattle.unit_packets.specs.Blocks.{Block, StaysWithin};
 ghost use Rattle.unit_packets.specs.BlockBytes.{block_bytes, heartbeat_block};
 ghost use Rattle.unit_packets.specs.Cutting.{blocks_of};
 ghost use Rattle.unit_packets.specs.Packing.{IsPacking};
-ghost use Rattle.pitch_model.specs.History.{Entry, Raw};
+ghost use Rattle.pitch_model.specs.Asking.{ask_of};
+ghost use Rattle.pitch_model.specs.declared.ask.Ask.TheVariants.{Gap};
+ghost use Rattle.pitch_model.specs.History.{Entry, Raw, SpinFinished, spin_of, image_finished};
 ghost use Rattle.pitch_model.specs.Honest.{AreVenues, Honest};
 ghost use Rattle.heard_items.specs.declared.item.Item.{Item};
 ghost use Rattle.heard_items.specs.Datagrams.{heard_blocks, IsPiece};
 ghost use Rattle.heard_items.specs.DatagramCounts.{messages_in, fresh_in, overflows_in, changes_in};
 ghost use Rattle.heard_items.specs.Heard.{heard, heard_block, heard_messages};
-ghost use Rattle.pitch_model.specs.Reach.{reach};
+ghost use Rattle.pitch_model.specs.Reach.{reach, is_held, held_count, since_overflow};
+ghost use Rattle.pitch_model.specs.Status.{status_of, top_of};
+ghost use Rattle.pitch_model.specs.declared.status.Status.TheVariants.{Current};
 ghost use Rattle.heard_items.specs.Changes.{IsItem, IsItemOf, change_of};
 ghost use Rattle.heard_items.specs.Changes.{block_change};
 ghost use Rattle.heard_items.specs.Units.{unit_history, units_of};
@@ -89,4 +93,36 @@ pub fn packed_messages_are_pieces()
 pub fn messages_in_order_are_applied()
     ensures { (H first : ℕ) (raws : List Raw) (E : List Entry) → 1 ≤ H → first ≤ reach H E + 1
         → first + length raws ≤ reach H (heard_messages first raws E) + 1 }
+{}
+
+/// A gap request that is answered in full takes the reach on by as many messages as it asked for,
+/// and so by one at least, whatever came between.
+pub fn answered_requests_take_the_reach_on()
+    ensures { (H first : ℕ) (raws : List Raw) (E more : List Entry) → 1 ≤ H
+        → ask_of H E ≡ Some (Gap first (length raws))
+        → reach H E + length raws ≤ reach H (heard_messages first raws (more ++ E)) }
+{}
+
+/// A hold with room drops nothing. Messages in their order, of which none is the next one, are all
+/// held where the hold has a place for each of them beside those that it holds. What was held still
+/// is, and the reach stays.
+pub fn messages_are_held_where_there_is_room()
+    ensures held { (H first : ℕ) (raws : List Raw) (E : List Entry) (k : ℕ)
+        → reach H E + 1 < first → held_count (since_overflow H E) + length raws ≤ H → first ≤ k
+        → k < first + length raws → is_held H (heard_messages first raws E) k ≡ true }
+    ensures still { (H first : ℕ) (raws : List Raw) (E : List Entry) (k : ℕ)
+        → reach H E + 1 < first → held_count (since_overflow H E) + length raws ≤ H
+        → is_held H E k ≡ true → is_held H (heard_messages first raws E) k ≡ true }
+    ensures reach { (H first : ℕ) (raws : List Raw) (E : List Entry)
+        → reach H E + 1 < first → held_count (since_overflow H E) + length raws ≤ H
+        → reach H (heard_messages first raws E) ≡ reach H E }
+{}
+
+/// A finished image joins what is held: where the client holds every message from the image's
+/// sequence up to the top, it is current.
+pub fn images_join_what_is_held()
+    ensures { (H : ℕ) (E : List Entry) (sequence s top : ℕ) (raws : List Raw)
+        → image_finished (spin_of E) sequence ≡ (s, raws) ∷ [] → top_of E ≡ Some top → s ≤ top
+        → ((k : ℕ) → s < k → k ≤ top → is_held H E k ≡ true)
+        → status_of H (SpinFinished sequence ∷ E) ≡ Current top }
 {}
