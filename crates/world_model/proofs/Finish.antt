@@ -1,54 +1,38 @@
 -- A recovery ends, wherever it begins: the client is current at all that the venue accepted.
-use Rattle.std.proofs.Common.{◌≡◌, ℕ, zero, suc, ◌+◌, ◌-◌, ◌<◌, ◌≤◌, Bool, true, false, ◌||◌, cond, List, [], ◌∷◌, ◌++◌, length, drop, refl, sym, ap, ◌∙◌, subst, arith, max, Option, Some, None, is_some, inl, inr, nat_eq, nat_lt, ◌==◌, reverse, length-append, take}
+use Rattle.std.proofs.Common.{◌≡◌, ℕ, zero, suc, ◌-◌, ◌<◌, ◌≤◌, Bool, true, false, ◌||◌, cond, List, [], ◌∷◌, ◌++◌, length, drop, refl, sym, ap, ◌∙◌, subst, arith, Option, Some, None, nat_eq, ◌==◌, reverse, take}
 use Rattle.std.specs.List.{AllByRecursion, list_any, slice_get}
-use Rattle.std.specs.Option.{option_map}
 use Rattle.std.specs.Set.{is_member}
-use Rattle.std.proofs.lemmas.Bool.{eq-eqb, ne_eqb, or_left, or_right, cases_Bool}
+use Rattle.std.proofs.lemmas.Bool.{eq-eqb, or_left, or_right}
 use Rattle.std.proofs.lemmas.List.Folds.{list_any-append}
 use Rattle.std.proofs.lemmas.List.{take_all}
 use Rattle.std.proofs.lemmas.Option.{none-some, same_Some, slice_get_past, slice_get_within}
 use Rattle.pitch_fields.proofs.Lists.{all_drop, all_split, all_get}
-use Rattle.pitch_fields.specs.Limits.{last_sequence}
-use Rattle.pitch_io.specs.declared.line.Line.TheVariants as lines
 use Rattle.pitch_text.specs.declared.verb.Session.{Session}
 use Rattle.pitch_text.specs.declared.verb.Session.TheVariants.{Grp, Spin}
 use Rattle.pitch_text.specs.declared.verb.Verb.{Verb}
 use Rattle.pitch_text.specs.declared.verb.Verb.TheVariants as verbs
-use Rattle.unit_packets.specs.Blocks.{Block}
-use Rattle.unit_packets.specs.BlockBytes.{block_bytes, heartbeat_block}
-use Rattle.unit_packets.specs.Cutting.{blocks_of}
-use Rattle.unit_packets.proofs.Written.{written_is}
-use Rattle.heard_items.specs.Datagrams.{heard_blocks}
-use Rattle.heard_items.specs.Heard.{heard_sequenced}
-use Rattle.heard_items.proofs.Datagrams.{one_block}
 use Rattle.pitch_model.specs.declared.status.Status.TheVariants.{Current, Behind}
 use Rattle.pitch_model.specs.Reach.{reach}
 use Rattle.pitch_model.specs.Book.{book_after}
 use Rattle.pitch_model.specs.Advertising.{last_ten, newest_of, with_sequence, accepted_by, advertised_by}
 use Rattle.pitch_model.proofs.Advertising.{advertised_within, newest_repeats}
 use Rattle.pitch_model.specs.History.{Entry, Raw}
-use Rattle.pitch_model.specs.History as entry
 use Rattle.pitch_model.specs.Honest.{Honest}
 use Rattle.pitch_model.specs.Image.{image}
-use Rattle.pitch_model.specs.Status.{raised, top_of, status_at, status_of}
+use Rattle.pitch_model.specs.Status.{top_of, status_at, status_of}
 use Rattle.spin_path.specs.PathLaws.{IsFeed}
 use Rattle.spin_server.specs.Served.{Served}
-use Rattle.unit_market.specs.Markets.{KeepsShelf}
-use Rattle.spin_server.specs.Shelves.{Shelf}
 use Rattle.grp_session.specs.Serving.{Source}
-use Rattle.world_model.specs.Recovery.{image_round, recovery}
+use Rattle.world_model.specs.Recovery.{recovery}
 use Rattle.world_model.specs.State.{State, Connection}
-use Rattle.world_model.specs.Stands.{WorldHas, WorldStands}
-use Rattle.world_model.specs.Verbs.{Done, done, next_state, state_of, connected_on, cut_on, ended, ended_where, carried, up_on, down_on, link_ticked, link_ticks, servers_tick, client_ticks, delivered_on, numbered, hears, up_to, settled, shut, client_book}
+use Rattle.world_model.specs.Verbs.{Done, done, next_state, state_of, connected_on, cut_on, ended, ended_where, up_on, down_on, link_ticked, link_ticks, servers_tick, shut, client_book}
 use Rattle.world_model.specs.Ends.{link_of}
 use Rattle.world_model.specs.State.{connection_of}
 use Rattle.world_model.specs.declared.limits.Limits.{Limits}
-use Rattle.world_model.specs.declared.world.World.{World}
-use Rattle.world_model.proofs.Lasting.{IsTold, told_lasts}
-use Rattle.world_model.proofs.Quiet.{Quiet, quiet}
+use Rattle.world_model.proofs.Quiet.{quiet}
+use Rattle.world_model.proofs.Reached.{Advertises, AreSayable, reached, reached_feed, reached_whole}
 use Rattle.world_model.proofs.Recovered.{whole, whole_current}
 use Rattle.world_model.proofs.RoundVerbs.{at}
-use Rattle.world_model.proofs.Witness.{whole as whole_images, unit_small}
 
 -- ---- Lists
 last_dropped : (j : ℕ) (xs : List ℕ) (x : ℕ) → slice_get xs (length xs - 1) ≡ Some x → j < length xs → slice_get (drop j xs) (length (drop j xs) - 1) ≡ Some x
@@ -63,10 +47,6 @@ any_at [] i n at = absurd (none-some n (sym (slice_get_past [] i (omega arith)) 
 any_at (x ∷ xs) zero n at = or_left (x == n) (list_any (λ k. k == n) xs) (eq-eqb x n (same_Some x n at))
 any_at (x ∷ xs) (suc i) n at = or_right (x == n) (list_any (λ k. k == n) xs) (any_at xs i n at)
 
-at_last : {X : Type 0} (xs : List X) (x : X) → slice_get (xs ++ x ∷ []) (length xs) ≡ Some x
-at_last [] x = refl
-at_last (y ∷ ys) x = at_last ys x
-
 newest_ten : (xs : List ℕ) (n : ℕ) → newest_of xs ≡ Some n → newest_of (last_ten xs) ≡ Some n
 newest_ten xs n at = let within = slice_get_within xs (length xs - 1) n at in last_dropped (length xs - 10) xs n at (omega (arith, within))
 
@@ -74,7 +54,7 @@ newest_ten xs n at = let within = slice_get_within xs (length xs - 1) n at in la
 newest_served : (xs : List ℕ) (n : ℕ) → newest_of xs ≡ Some n → list_any (λ k. k == n) (last_ten (last_ten xs)) ≡ true
 newest_served xs n at = let ys = last_ten (last_ten xs) in any_at ys (length ys - 1) n (newest_ten (last_ten xs) n (newest_ten xs n at))
 
--- ---- A shelf on which all that was accepted was advertised last
+-- ---- All that was accepted was advertised last
 with_has : (A : List ℕ) (n : ℕ) → is_member nat_eq (with_sequence A n) n ≡ true
 with_has A n = by (is_member nat_eq A n) refl
   where
@@ -89,24 +69,24 @@ with_all P A n = by (is_member nat_eq A n)
     by true all = all
     by false all = (all_split P A (n ∷ []) all).0
 
-module _ (shelf : Shelf) (V : List Raw) (A : List ℕ) (keeps : KeepsShelf shelf V (with_sequence A (length V))) where
-  many : length (accepted_by keeps.operations) ≡ length V
-  many = ap (λ (l : List Raw). length l) keeps.accepted_is
+module _ (V : List Raw) (A : List ℕ) (tells : Advertises V (with_sequence A (length V))) where
+  many : length (accepted_by tells.operations) ≡ length V
+  many = ap (λ (l : List Raw). length l) tells.accepted_is
 
-  shelf_newest : newest_of (with_sequence A (length V)) ≡ Some (length V)
-  shelf_newest =
-      let there : is_member nat_eq (advertised_by keeps.operations) (length (accepted_by keeps.operations)) ≡ true =
-      ap (λ (l : List ℕ). is_member nat_eq l (length (accepted_by keeps.operations))) keeps.advertised_is ∙ ap (is_member nat_eq (with_sequence A (length V))) many ∙ with_has A (length V) in
-      ap newest_of (sym keeps.advertised_is) ∙ newest_repeats keeps.operations there ∙ ap Some many
+  newest_is : newest_of (with_sequence A (length V)) ≡ Some (length V)
+  newest_is =
+      let there : is_member nat_eq (advertised_by tells.operations) (length (accepted_by tells.operations)) ≡ true =
+      ap (λ (l : List ℕ). is_member nat_eq l (length (accepted_by tells.operations))) tells.advertised_is ∙ ap (is_member nat_eq (with_sequence A (length V))) many ∙ with_has A (length V) in
+      ap newest_of (sym tells.advertised_is) ∙ newest_repeats tells.operations there ∙ ap Some many
 
-  shelf_within : AllByRecursion (λ m. m ≤ length V) A
-  shelf_within =
+  all_within : AllByRecursion (λ m. m ≤ length V) A
+  all_within =
       with_all (λ m. m ≤ length V) A (length V)
       (subst (λ (n : ℕ). AllByRecursion (λ m. m ≤ n) (with_sequence A (length V))) many
-      (subst (λ (l : List ℕ). AllByRecursion (λ m. m ≤ length (accepted_by keeps.operations)) l) keeps.advertised_is (advertised_within keeps.operations)))
+      (subst (λ (l : List ℕ). AllByRecursion (λ m. m ≤ length (accepted_by tells.operations)) l) tells.advertised_is (advertised_within tells.operations)))
 
-  shelf_old : (m : ℕ) → newest_of (last_ten A) ≡ Some m → m ≤ length V
-  shelf_old m is = all_get (λ m. m ≤ length V) (last_ten A) (length (last_ten A) - 1) m (all_drop (λ m. m ≤ length V) (length A - 10) A shelf_within) is
+  old_within : (m : ℕ) → newest_of (last_ten A) ≡ Some m → m ≤ length V
+  old_within m is = all_get (λ m. m ≤ length V) (last_ten A) (length (last_ten A) - 1) m (all_drop (λ m. m ≤ length V) (length A - 10) A all_within) is
 
 -- ---- What verbs leave as it was
 pub record Kept (s x : State) : Type 0 where
@@ -190,133 +170,83 @@ round_kept unit limits s =
     }
 
 -- ---- The round ends current
-pub round_current : (w : World) (unit : ℕ) (limits : Limits) (before : List Verb) → WorldStands w unit limits (verbs.Down Spin None ∷ verbs.Up Spin None ∷ verbs.Tick ∷ verbs.Down Spin None ∷ verbs.Advertise ∷ verbs.Up Spin None ∷ verbs.Connect Spin ∷ before)
-    → (state_of unit limits before).begun ≡ true → (state_of unit limits before).grp ≡ None → (state_of unit limits before).spin ≡ None → IsTold (length (state_of unit limits before).accepted) (state_of unit limits before).heard
+pub round_current : (unit : ℕ) (limits : Limits) (before : List Verb) → unit < 256 → AreSayable before → (state_of unit limits before).begun ≡ true → (state_of unit limits before).grp ≡ None → (state_of unit limits before).spin ≡ None
     → status_of limits.hold (after_round unit limits (state_of unit limits before)).heard ≡ Current (length (state_of unit limits before).accepted)
-round_current w unit limits before stands begun grp spin told =
+round_current unit limits before small said begun grp spin =
     let s : State = state_of unit limits before in
     let x : State = after_round unit limits s in
-    let has : WorldHas w x = stands.has in
+    let after : List Verb = verbs.Down Spin None ∷ verbs.Up Spin None ∷ verbs.Tick ∷ verbs.Down Spin None ∷ verbs.Advertise ∷ verbs.Up Spin None ∷ verbs.Connect Spin ∷ before in
+    let r = reached unit limits after small (tt, (tt, (tt, (tt, (tt, (tt, (tt, said))))))) in
     let kept = round_kept unit limits s in
-    let small : unit < 256 = subst (λ (u : ℕ). u < 256) stands.unit_is (unit_small w.unit x.accepted x.spin x.heard has.sound.witness) in
-    let feed : IsFeed x.accepted = record { bytes = has.market.venue.bytes; top = has.market.venue.few } in
-    let honest = (whole_images w.unit x.accepted x.spin x.heard feed has.sound.witness).honest in
+    let feed : IsFeed x.accepted = reached_feed unit x r in
+    let honest : Honest image x.accepted x.heard = (reached_whole unit x r).honest in
     let venues : IsFeed s.accepted = subst IsFeed kept.accepted_is feed in
-    let keeps : KeepsShelf w.market.shelf s.accepted (with_sequence s.advertised (length s.accepted)) = subst (λ (A : List ℕ). KeepsShelf w.market.shelf s.accepted A) kept.advertised_is (subst (λ (V : List Raw). KeepsShelf w.market.shelf V x.advertised) kept.accepted_is has.market.shelf) in
+    let tells : Advertises s.accepted (with_sequence s.advertised (length s.accepted)) = subst (λ (A : List ℕ). Advertises s.accepted A) kept.advertised_is (subst (λ (V : List Raw). Advertises V x.advertised) kept.accepted_is r.advertises) in
     let q = quiet unit limits before in
     let off = q.spin spin in
-    let old = shelf_old w.market.shelf s.accepted s.advertised keeps in
-    let served = newest_served (with_sequence s.advertised (length s.accepted)) (length s.accepted) (shelf_newest w.market.shelf s.accepted s.advertised keeps) in
+    let old = old_within s.accepted s.advertised tells in
+    let served = newest_served (with_sequence s.advertised (length s.accepted)) (length s.accepted) (newest_is s.accepted s.advertised tells) in
     let same : s ≡ at s s.spent s.advertised None s.heard = λ i. record s { begun = begun i; grp = grp i; spin = spin i } in
-    let y : State = whole unit small limits s s.spent s.advertised s.heard venues old served (q.grp grp) off.idle off.none told in
+    let y : State = whole unit small limits s s.spent s.advertised s.heard venues old served (q.grp grp) off.idle off.none in
     let is : x ≡ y = ap (after_round unit limits) same in
     ap (λ (z : State). status_of limits.hold z.heard) is
-    ∙ whole_current unit small limits s s.spent s.advertised s.heard venues old served (q.grp grp) off.idle off.none told
+    ∙ whole_current unit small limits s s.spent s.advertised s.heard venues old served (q.grp grp) off.idle off.none
     (subst (λ (z : State). Honest image s.accepted z.heard) is (subst (λ (V : List Raw). Honest image V x.heard) kept.accepted_is honest))
 
 -- ---- Before the round
--- what a heartbeat behind all that was accepted tells
-beat_tells : (f n : ℕ) (E : List Entry) → f ≡ n → IsTold n (entry.Next (f + 1) ∷ E)
-beat_tells f n E is = by (top_of E) refl
-  where
-    by : (o : Option ℕ) → top_of E ≡ o → (q : ℕ) × ((raised (((f + 1) - 1) ∷ []) (top_of E) ≡ Some q) × (n ≤ q))
-    by None e = ((f + 1) - 1, (ap (raised (((f + 1) - 1) ∷ [])) e, omega (arith, is)))
-    by (Some t) e = (max ((f + 1) - 1) t, (ap (raised (((f + 1) - 1) ∷ [])) e, omega (arith, is)))
-
--- the messages that the venue accepted are the same, and the connections but that with the proxy
-pub record Same (s x : State) : Type 0 where
-  pub accepted_is : x.accepted ≡ s.accepted
-  pub spin_is : x.spin ≡ s.spin
-
 module _ (unit : ℕ) (limits : Limits) (s : State) where
-  abbrev beat : List ℕ
-  beat = block_bytes (heartbeat_block unit (s.flushed + 1))
-
-  abbrev beaten : State
-  beaten = next_state unit limits verbs.Beat s
-
-  deliver_same : (last : ℕ) → Same s (next_state unit limits (verbs.Deliver lines.A last) (next_state unit limits verbs.Beat s))
-  deliver_same last = by (numbered (s.sent ++ beat ∷ []) last)
-    where
-      by : (o : Option (List ℕ)) → Same s (record (delivered_on unit limits lines.A last o beaten).state { begun = true })
-      by None = record { accepted_is = refl; spin_is = refl }
-      by (Some datagram) = record { accepted_is = refl; spin_is = refl }
-
-  -- the heartbeat comes
-  deliver_told : unit < 256 → length s.accepted ≤ last_sequence → s.flushed ≡ length s.accepted → (last : ℕ) → last ≡ length s.sent + 1
-      → IsTold (length s.accepted) (next_state unit limits (verbs.Deliver lines.A last) (next_state unit limits verbs.Beat s)).heard
-  deliver_told small few sent last is =
-      let block : Block = heartbeat_block unit (s.flushed + 1) in
-      let number : numbered (s.sent ++ beat ∷ []) last ≡ Some beat = ap (numbered (s.sent ++ beat ∷ [])) (is ∙ one_more (length s.sent)) ∙ at_last s.sent beat in
-      let written = written_is block (record { unit = small; sequence = omega (arith, few, sent); size = omega arith; few = omega arith; raws = tt; within = inr (inl refl) }) in
-      let told : IsTold (length s.accepted) (heard_blocks (block ∷ []) s.heard) =
-      subst (λ (b : Bool). IsTold (length s.accepted) (cond b s.heard (heard_sequenced (s.flushed + 1) [] s.heard))) (sym (ne_eqb (s.flushed + 1) 0 (λ e. omega (arith, e)))) (beat_tells s.flushed (length s.accepted) s.heard sent) in
-      subst (λ (o : Option (List ℕ)). IsTold (length s.accepted) (delivered_on unit limits lines.A last o beaten).state.heard) (sym number)
-      (subst (λ (bs : List Block). IsTold (length s.accepted) (heard_blocks bs s.heard)) (sym (one_block beat block written).0) told)
-    where
-      one_more : (n : ℕ) → n + 1 ≡ suc n
-      one_more n = omega arith
-
   -- a connection is cut
   pub record CutOff (none : State → Type 0) (x : State) : Type 0 where
     pub cut : none x
     pub accepted_is : x.accepted ≡ s.accepted
-    pub told : (n : ℕ) → IsTold n s.heard → IsTold n x.heard
 
   cut_grp : CutOff (λ x. (x.grp ≡ None) × (x.spin ≡ s.spin)) (next_state unit limits (verbs.Cut Grp) s)
   cut_grp = by s.grp refl
     where
       by : (o : Option (Connection Source)) → s.grp ≡ o → CutOff (λ x. (x.grp ≡ None) × (x.spin ≡ s.spin)) (record (cut_on o (ended Grp s) s).state { begun = true })
-      by None e = record { cut = (e, refl); accepted_is = refl; told = λ n t. t }
-      by (Some c) e = record { cut = (refl, refl); accepted_is = refl; told = λ n t. told_lasts n s.heard entry.GrpDown t }
+      by None e = record { cut = (e, refl); accepted_is = refl }
+      by (Some c) e = record { cut = (refl, refl); accepted_is = refl }
 
   cut_spin : CutOff (λ x. (x.spin ≡ None) × (x.grp ≡ s.grp)) (next_state unit limits (verbs.Cut Spin) s)
   cut_spin = by s.spin refl
     where
       by : (o : Option (Connection (List Served))) → s.spin ≡ o → CutOff (λ x. (x.spin ≡ None) × (x.grp ≡ s.grp)) (record (cut_on o (ended Spin s) s).state { begun = true })
-      by None e = record { cut = (e, refl); accepted_is = refl; told = λ n t. t }
-      by (Some c) e = record { cut = (refl, refl); accepted_is = refl; told = λ n t. told_lasts n s.heard entry.SpinDown t }
+      by None e = record { cut = (e, refl); accepted_is = refl }
+      by (Some c) e = record { cut = (refl, refl); accepted_is = refl }
 
 -- ---- Both finishes
--- the unit of a world, and how many messages its venue accepted
-world_small : (w : World) (unit : ℕ) (limits : Limits) (verbs : List Verb) → WorldStands w unit limits verbs → unit < 256
-world_small w unit limits verbs stands =
-    let s = state_of unit limits verbs in subst (λ (u : ℕ). u < 256) stands.unit_is (unit_small w.unit s.accepted s.spin s.heard stands.has.sound.witness)
+module _ (unit : ℕ) (limits : Limits) (done : List Verb) where
+  -- the messages that were accepted before the round
+  abbrev pub accepted : List Raw
+  accepted = (state_of unit limits done).accepted
 
--- the client heard the heartbeat, and lost the proxy; no connection with a Spin Server stood
-pub beat_current : (w : World) (unit : ℕ) (limits : Limits) (done : List Verb) (last : ℕ)
-    → WorldStands w unit limits (verbs.Down Spin None ∷ verbs.Up Spin None ∷ verbs.Tick ∷ verbs.Down Spin None ∷ verbs.Advertise ∷ verbs.Up Spin None ∷ verbs.Connect Spin ∷ verbs.Cut Grp ∷ verbs.Deliver lines.A last ∷ verbs.Beat ∷ done)
-    → (state_of unit limits done).flushed ≡ length (state_of unit limits done).accepted → last ≡ length (state_of unit limits done).sent + 1 → (state_of unit limits done).spin ≡ None
-    → status_of limits.hold (after_round unit limits (state_of unit limits (verbs.Cut Grp ∷ verbs.Deliver lines.A last ∷ verbs.Beat ∷ done))).heard ≡ Current (length (state_of unit limits done).accepted)
-beat_current w unit limits done last stands sent is none =
-    let s : State = state_of unit limits done in
-    let d : State = state_of unit limits (verbs.Deliver lines.A last ∷ verbs.Beat ∷ done) in
-    let g : State = next_state unit limits (verbs.Cut Grp) d in
-    let same = deliver_same unit limits s last in
-    let cut = cut_grp unit limits d in
-    let kept = round_kept unit limits g in
-    let accepted : g.accepted ≡ s.accepted = cut.accepted_is ∙ same.accepted_is in
-    let few : length s.accepted ≤ last_sequence = subst (λ (V : List Raw). length V ≤ last_sequence) (kept.accepted_is ∙ accepted) stands.has.market.venue.few in
-    let told = cut.told (length s.accepted) (deliver_told unit limits s (world_small w unit limits _ stands) few sent last is) in
-    round_current w unit limits (verbs.Cut Grp ∷ verbs.Deliver lines.A last ∷ verbs.Beat ∷ done) stands refl cut.cut.0 (cut.cut.1 ∙ same.spin_is ∙ none) (subst (λ (V : List Raw). IsTold (length V) g.heard) (sym accepted) told)
-    ∙ ap (λ (V : List Raw). Current (length V)) accepted
+  -- the proxy is cut, where no connection with a Spin Server stands
+  abbrev pub proxy_cut : State
+  proxy_cut = after_round unit limits (state_of unit limits (verbs.Cut Grp ∷ done))
 
-pub recovery_current : (w : World) (unit : ℕ) (limits : Limits) (done : List Verb) (last : ℕ) → last ≡ length (state_of unit limits (verbs.Beat ∷ verbs.Flush ∷ done)).sent → WorldStands w unit limits (reverse (recovery last) ++ done)
-    → status_of limits.hold (state_of unit limits (reverse (recovery last) ++ done)).heard ≡ Current (length (state_of unit limits done).accepted)
-recovery_current w unit limits done last is stands =
-    let s : State = state_of unit limits (verbs.Flush ∷ done) in
-    let d : State = state_of unit limits (verbs.Deliver lines.A last ∷ verbs.Beat ∷ verbs.Flush ∷ done) in
-    let g : State = next_state unit limits (verbs.Cut Grp) d in
-    let p : State = next_state unit limits (verbs.Cut Spin) g in
-    let same = deliver_same unit limits s last in
-    let cut = cut_grp unit limits d in
-    let cut2 = cut_spin unit limits g in
-    let kept = round_kept unit limits p in
-    let accepted : p.accepted ≡ s.accepted = cut2.accepted_is ∙ cut.accepted_is ∙ same.accepted_is in
-    let few : length s.accepted ≤ last_sequence = subst (λ (V : List Raw). length V ≤ last_sequence) (kept.accepted_is ∙ accepted) stands.has.market.venue.few in
-    let told = cut2.told (length s.accepted) (cut.told (length s.accepted) (deliver_told unit limits s (world_small w unit limits _ stands) few refl last (is ∙ length-append s.sent (block_bytes (heartbeat_block unit (s.flushed + 1)) ∷ [])))) in
-    round_current w unit limits (verbs.Cut Spin ∷ verbs.Cut Grp ∷ verbs.Deliver lines.A last ∷ verbs.Beat ∷ verbs.Flush ∷ done) stands refl (cut2.cut.1 ∙ cut.cut.0) cut2.cut.0 (subst (λ (V : List Raw). IsTold (length V) p.heard) (sym accepted) told)
-    ∙ ap (λ (V : List Raw). Current (length V)) accepted
+  pub proxy_cut_accepted : proxy_cut.accepted ≡ accepted
+  proxy_cut_accepted = (round_kept unit limits (state_of unit limits (verbs.Cut Grp ∷ done))).accepted_is ∙ (cut_grp unit limits (state_of unit limits done)).accepted_is
+
+  pub proxy_cut_current : unit < 256 → AreSayable done → (state_of unit limits done).spin ≡ None → status_of limits.hold proxy_cut.heard ≡ Current (length accepted)
+  proxy_cut_current small said none =
+      let cut = cut_grp unit limits (state_of unit limits done) in
+      round_current unit limits (verbs.Cut Grp ∷ done) small (tt, said) refl cut.cut.0 (cut.cut.1 ∙ none) ∙ ap (λ (V : List Raw). Current (length V)) cut.accepted_is
+
+  -- both are cut
+  abbrev recovered : State
+  recovered = state_of unit limits (reverse recovery ++ done)
+
+  both_cut : (state_of unit limits (verbs.Cut Spin ∷ verbs.Cut Grp ∷ done)).accepted ≡ accepted
+  both_cut = (cut_spin unit limits (state_of unit limits (verbs.Cut Grp ∷ done))).accepted_is ∙ (cut_grp unit limits (state_of unit limits done)).accepted_is
+
+  recovered_accepted : recovered.accepted ≡ accepted
+  recovered_accepted = (round_kept unit limits (state_of unit limits (verbs.Cut Spin ∷ verbs.Cut Grp ∷ done))).accepted_is ∙ both_cut
+
+  pub recovery_current : unit < 256 → AreSayable done → status_of limits.hold recovered.heard ≡ Current (length accepted)
+  recovery_current small said =
+      let one = cut_grp unit limits (state_of unit limits done) in
+      let two = cut_spin unit limits (state_of unit limits (verbs.Cut Grp ∷ done)) in
+      round_current unit limits (verbs.Cut Spin ∷ verbs.Cut Grp ∷ done) small (tt, (tt, said)) refl (two.cut.1 ∙ one.cut.0) two.cut.0 ∙ ap (λ (V : List Raw). Current (length V)) both_cut
 
 -- ---- The book
 current_at : (r n : ℕ) (o : Option ℕ) → status_at r o ≡ Current n → r ≡ n
@@ -331,14 +261,6 @@ current_at r n (Some top) e = by (nat_eq r top) e
 pub current_reach : (H n : ℕ) (E : List Entry) → status_of H E ≡ Current n → reach H E ≡ n
 current_reach H n E is = current_at (reach H E) n (top_of E) is
 
-recovery_accepted : (unit : ℕ) (limits : Limits) (done : List Verb) (last : ℕ) → (state_of unit limits (reverse (recovery last) ++ done)).accepted ≡ (state_of unit limits done).accepted
-recovery_accepted unit limits done last =
-    let s : State = state_of unit limits (verbs.Flush ∷ done) in
-    let d : State = state_of unit limits (verbs.Deliver lines.A last ∷ verbs.Beat ∷ verbs.Flush ∷ done) in
-    let g : State = next_state unit limits (verbs.Cut Grp) d in
-    let p : State = next_state unit limits (verbs.Cut Spin) g in
-    (round_kept unit limits p).accepted_is ∙ (cut_spin unit limits g).accepted_is ∙ (cut_grp unit limits d).accepted_is ∙ (deliver_same unit limits s last).accepted_is
-
 -- the book of a client that is current at the last of the messages is that of all
 pub book_of_all : (limits : Limits) (x : State) (V : List Raw) → x.accepted ≡ V → status_of limits.hold x.heard ≡ Current (length V) → client_book limits x ≡ book_after V
 book_of_all limits x V accepted is =
@@ -346,16 +268,6 @@ book_of_all limits x V accepted is =
     ∙ ap (λ (W : List Raw). book_after (take (length V) W)) accepted
     ∙ ap book_after (take_all (length V) V (omega arith))
 
-pub recovery_book : (w : World) (unit : ℕ) (limits : Limits) (done : List Verb) (last : ℕ) → last ≡ length (state_of unit limits (verbs.Beat ∷ verbs.Flush ∷ done)).sent → WorldStands w unit limits (reverse (recovery last) ++ done)
-    → client_book limits (state_of unit limits (reverse (recovery last) ++ done)) ≡ book_after (state_of unit limits done).accepted
-recovery_book w unit limits done last is stands =
-    book_of_all limits (state_of unit limits (reverse (recovery last) ++ done)) (state_of unit limits done).accepted (recovery_accepted unit limits done last) (recovery_current w unit limits done last is stands)
-
--- ---- Nothing is accepted at the end of a storm
-pub beat_accepted : (unit : ℕ) (limits : Limits) (done : List Verb) (last : ℕ)
-    → (after_round unit limits (state_of unit limits (verbs.Cut Grp ∷ verbs.Deliver lines.A last ∷ verbs.Beat ∷ done))).accepted ≡ (state_of unit limits done).accepted
-beat_accepted unit limits done last =
-    let s : State = state_of unit limits done in
-    let d : State = state_of unit limits (verbs.Deliver lines.A last ∷ verbs.Beat ∷ done) in
-    let g : State = next_state unit limits (verbs.Cut Grp) d in
-    (round_kept unit limits g).accepted_is ∙ (cut_grp unit limits d).accepted_is ∙ (deliver_same unit limits s last).accepted_is
+pub recovery_book : (unit : ℕ) (limits : Limits) (done : List Verb) → unit < 256 → AreSayable done → client_book limits (state_of unit limits (reverse recovery ++ done)) ≡ book_after (state_of unit limits done).accepted
+recovery_book unit limits done small said =
+    book_of_all limits (state_of unit limits (reverse recovery ++ done)) (state_of unit limits done).accepted (recovered_accepted unit limits done) (recovery_current unit limits done small said)

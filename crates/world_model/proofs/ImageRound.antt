@@ -1,51 +1,25 @@
 -- A connection with a Spin Server that is opened and carried without losses: the login, the sequence
 -- that is advertised, and the image that is asked for.
-use Rattle.std.proofs.Common.{◌≡◌, ℕ, zero, suc, ◌+◌, ◌<◌, ◌≤◌, Bool, true, false, ◌&&◌, cond, List, [], ◌∷◌, ◌++◌, length, take, replicate, refl, sym, ap, ◌∙◌, subst, arith, append_assoc, Option, Some, None, is_some, is_none, nat_le, nat_lt}
-use Rattle.std.specs.List.{AllByRecursion, concat}
-use Rattle.std.proofs.lemmas.List.{append-nil, take_all, drop_all}
-use Rattle.std.proofs.lemmas.Bool.{le-ltb}
-use Rattle.pitch_fields.specs.Limits.{last_sequence}
+use Rattle.std.proofs.Common.{◌≡◌, ℕ, zero, suc, ◌+◌, ◌<◌, Bool, true, false, ◌&&◌, cond, List, [], ◌∷◌, ◌++◌, length, refl, sym, ap, ◌∙◌, subst, arith, append_assoc, Option, Some, None, is_some, is_none}
+use Rattle.std.specs.List.{concat}
+use Rattle.std.proofs.lemmas.List.{drop_all}
 use Rattle.pitch_text.specs.declared.verb.Session.TheVariants.{Spin as SpinSession}
-use Rattle.pitch_text.specs.declared.verb.Verb.TheVariants as verbs
-use Rattle.pitch_messages.specs.declared.session.SessionMessage.TheVariants.{LoginReply, SpinAvailable, SpinRequest, SpinReply, SpinFinished}
-use Rattle.unit_packets.specs.Causes.{counted}
-use Rattle.unit_packets.specs.Cutting.{rest_of}
-use Rattle.unit_packets.specs.Packing.{IsPacking, packed}
-use Rattle.unit_packets.proofs.OnePacking.{packing_is_computed}
-use Rattle.unit_packets.proofs.Streams.{of_nothing}
-use Rattle.heard_items.specs.declared.item.Item.{Item}
-use Rattle.heard_items.specs.declared.item.Item.TheVariants as item
-use Rattle.pitch_model.specs.declared.ask.Ask.{Ask}
-use Rattle.pitch_model.specs.declared.ask.Ask.TheVariants as asks
-use Rattle.pitch_model.specs.Advertising.{last_ten, newest_of, with_sequence}
-use Rattle.pitch_model.specs.Asking.{ask_of}
-use Rattle.pitch_model.specs.History.{Entry, Raw, adds}
-use Rattle.pitch_model.specs.History as entry
-use Rattle.pitch_model.specs.Image.{image}
+use Rattle.pitch_messages.specs.declared.session.SessionMessage.TheVariants.{SpinAvailable, SpinFinished}
 use Rattle.session_ends.specs.declared.closed.Closed.{Closed}
-use Rattle.session_ends.specs.declared.closed.CloseCause.TheVariants.{Silent}
-use Rattle.session_ends.specs.declared.role.Role.TheVariants.{SpinServer, SpinLink}
-use Rattle.session_ends.specs.Answering.{Answer}
-use Rattle.session_ends.specs.Closing.{Setup, closed_of, logged_in, or_else, login_status}
-use Rattle.session_ends.specs.Events.{Event, Fed, Ticked, Asked, Pumped, Told, fed_of, silence, is_quiet}
-use Rattle.session_ends.specs.Items.{closed_at}
+use Rattle.session_ends.specs.declared.role.Role.TheVariants.{SpinServer}
+use Rattle.session_ends.specs.Closing.{closed_of, logged_in}
+use Rattle.session_ends.specs.Events.{Event, Ticked, Pumped, Told, silence}
 use Rattle.session_ends.specs.Sending.{message_bytes, heartbeat_bytes, sent_bytes, sent_since}
-use Rattle.grp_session.specs.Budget.{Spent, next_second}
-use Rattle.spin_server.specs.Served.{Served, is_served}
-use Rattle.spin_server.specs.Serving.{Spin, running_spin, blocks_left, pump_bytes, pumped, spin_sends, available_bytes, after_login, spin_message_answer, served_answer, refusal_answer, tell_bytes}
-use Rattle.client_links.specs.Linking.{Lookups, NoLookup, link_sends, link_tells}
-use Rattle.spin_path.specs.Paths.{heard_all, says_at}
-use Rattle.spin_path.specs.PathLaws.{IsFeed}
-use Rattle.spin_path.proofs.Pictures.{image_raws, image_others, image_adds}
+use Rattle.spin_server.specs.Served.{Served}
+use Rattle.spin_server.specs.Serving.{Spin, running_spin, blocks_left, pump_bytes, pumped, spin_sends, tell_bytes}
+use Rattle.client_links.specs.Linking.{Lookups}
 use Rattle.world_model.specs.Connections.{IsPipe}
-use Rattle.world_model.specs.Ends.{the_account, spin_server, spin_link, spin_says, link_says}
-use Rattle.world_model.specs.State.{State, Connection, Pipe, waiting}
-use Rattle.world_model.specs.Verbs.{put_in, took, connection, at_link, with_up, with_down, at_server_of, pumps, pumped_times, sent_whole, spin_fed, views_of, login_of, next_state, asked, done, carried, ended_where, link_hears}
-use Rattle.world_model.specs.declared.limits.Limits.{Limits}
-use Rattle.world_model.specs.declared.outcome.Outcome.TheVariants as outcome
+use Rattle.world_model.specs.Ends.{spin_server, spin_says}
+use Rattle.world_model.specs.State.{Connection, Pipe, waiting}
+use Rattle.world_model.specs.Verbs.{put_in, took, at_server_of, pumps, pumped_times, sent_whole}
 use Rattle.world_model.proofs.Carrying.{piped_put, piped_taken}
-use Rattle.world_model.proofs.LinkHears.{Ready, Hears, hears_none, hears_both, hears_beat, hears_login, hears_available, hears_reply, hears_finished, Pictures, image_hears}
-use Rattle.world_model.proofs.ServerRun.{Serves, login, login_accepted, login_seen, login_answered, login_serves, request_seen, request_answered, request_serves, pump_serves, told_serves, tick_serves}
+use Rattle.world_model.proofs.LinkHears.{Ready, Hears, hears_none, hears_beat}
+use Rattle.world_model.proofs.ServerRun.{Serves, pump_serves, told_serves, tick_serves}
 
 abbrev pub SpinConnection : Type 0
 SpinConnection = Connection (List Served)

@@ -1,6 +1,6 @@
 -- A client that asks for the image of all that the venue accepted takes it.
-use Rattle.std.proofs.Common.{◌≡◌, ℕ, suc, ◌+◌, ◌<◌, ◌≤◌, Bool, true, false, ◌&&◌, cond, List, [], ◌∷◌, ◌++◌, length, replicate, refl, sym, ap, ◌∙◌, subst, arith, append_assoc, Option, Some, None, is_some, inl, inr, nat_eq}
-use Rattle.std.specs.List.{AllByRecursion, concat}
+use Rattle.std.proofs.Common.{◌≡◌, ℕ, ◌<◌, ◌≤◌, Bool, true, ◌&&◌, cond, List, [], ◌∷◌, ◌++◌, length, refl, sym, ap, ◌∙◌, subst, arith, append_assoc, Option, Some, None, is_some, inl, inr, nat_eq}
+use Rattle.std.specs.List.{concat}
 use Rattle.std.proofs.lemmas.List.{append-nil}
 use Rattle.std.proofs.lemmas.Bool.{eq-eqb, cases_lt}
 use Rattle.pitch_fields.specs.Limits.{last_sequence}
@@ -13,7 +13,6 @@ use Rattle.unit_packets.proofs.Streams.{of_nothing}
 use Rattle.heard_items.specs.declared.item.Item.{Item}
 use Rattle.heard_items.specs.declared.item.Item.TheVariants as item
 use Rattle.heard_items.specs.Heard.{heard}
-use Rattle.pitch_model.specs.declared.ask.Ask.{Ask}
 use Rattle.pitch_model.specs.declared.ask.Ask.TheVariants as asks
 use Rattle.pitch_model.specs.Advertising.{last_ten, newest_of, with_sequence}
 use Rattle.pitch_model.specs.Asking.{ask_of}
@@ -27,24 +26,24 @@ use Rattle.pitch_model.proofs.Draining.{taken_drains}
 use Rattle.session_ends.specs.declared.closed.Closed.{Closed}
 use Rattle.session_ends.specs.Answering.{Answer}
 use Rattle.session_ends.specs.declared.role.Role.TheVariants.{SpinServer, SpinLink}
-use Rattle.session_ends.specs.Closing.{closed_of, or_else, login_status}
-use Rattle.session_ends.specs.Events.{Event, Fed, Ticked, Asked, Pumped, Told, fed_of, silence}
+use Rattle.session_ends.specs.Closing.{closed_of, or_else}
+use Rattle.session_ends.specs.Events.{Event, Fed, Ticked, Asked, Pumped, Told}
 use Rattle.session_ends.specs.Sending.{message_bytes, heartbeat_bytes, sent_bytes, sent_since}
 use Rattle.grp_session.specs.Budget.{Spent, next_second}
 use Rattle.spin_server.specs.Served.{Served, is_served}
-use Rattle.spin_server.specs.Serving.{Spin, running_spin, spin_sends, spin_fed_answer, available_bytes, after_login, spin_message_answer, served_answer, refusal_answer}
+use Rattle.spin_server.specs.Serving.{Spin, spin_sends, spin_fed_answer, available_bytes, after_login, served_answer, refusal_answer}
 use Rattle.client_links.specs.Linking.{Lookups, NoLookup, link_sends}
 use Rattle.spin_path.specs.Paths.{heard_all}
 use Rattle.spin_path.specs.PathLaws.{IsFeed}
 use Rattle.spin_path.proofs.Pictures.{image_raws, image_others, image_adds}
 use Rattle.world_model.specs.Connections.{IsPipe}
-use Rattle.world_model.specs.Ends.{the_account, spin_server, spin_link, spin_says, link_says}
-use Rattle.world_model.specs.State.{State, Connection, Pipe, waiting}
-use Rattle.world_model.specs.Verbs.{put_in, took, connection, at_link, with_up, with_down, at_server_of, sent_whole, login_of, next_state}
+use Rattle.world_model.specs.Ends.{spin_server, spin_link, spin_says, link_says}
+use Rattle.world_model.specs.State.{State, waiting}
+use Rattle.world_model.specs.Verbs.{put_in, took, connection, at_link, with_up, at_server_of, sent_whole, login_of, next_state}
 use Rattle.world_model.specs.declared.limits.Limits.{Limits}
 use Rattle.world_model.proofs.Carrying.{piped_put}
-use Rattle.world_model.proofs.LinkHears.{Ready, Hears, hears_none, hears_both, hears_beat, hears_login, hears_available, hears_reply, hears_finished, Pictures, image_hears, Brings}
-use Rattle.world_model.proofs.ServerRun.{Serves, login, login_accepted, login_seen, login_answered, login_serves, request_seen, request_answered, request_serves}
+use Rattle.world_model.proofs.LinkHears.{Ready, Hears, hears_none, hears_both, hears_login, hears_available, hears_reply, hears_finished, image_hears, Brings}
+use Rattle.world_model.proofs.ServerRun.{Serves, login_accepted, login_seen, login_answered, login_serves, request_seen, request_answered, request_serves}
 use Rattle.world_model.proofs.ImageRound.{SpinConnection, Round, piped_all, at_round, pump_round, told_round, beat_or_none, beat_hears, tick_round, none_sent, image_left, image_sent}
 use Rattle.world_model.proofs.RoundVerbs.{at, fed_up, fed_down, both_ticked, up_step, down_step, tick_open, tick_step}
 

@@ -25,4 +25,6 @@ pub mod ImageTaken
 pub mod Lasting
 pub mod Recovered
 pub mod Quiet
+pub mod CommandRaws
+pub mod Reached
 pub mod Finish

@@ -1,11 +1,11 @@
 -- What the link with a Spin Server tells of what such a server sends, block by block.
-use Rattle.std.proofs.Common.{◌≡◌, ℕ, ◌<◌, ◌≤◌, Bool, true, false, ◌||◌, cond, List, [], ◌∷◌, ◌++◌, length, refl, sym, ap, ◌∙◌, subst, arith, append_assoc, length-append, Option, Some, None, is_some, option_map, inl}
+use Rattle.std.proofs.Common.{◌≡◌, ℕ, ◌<◌, ◌≤◌, Bool, true, false, ◌||◌, cond, List, [], ◌∷◌, ◌++◌, length, refl, sym, ap, ◌∙◌, subst, arith, append_assoc, Option, None, is_some, option_map, inl}
 use Rattle.std.specs.List.{AllByRecursion, concat}
 use Rattle.std.proofs.lemmas.List.{append-nil}
 use Rattle.pitch_fields.proofs.Lists.{all_split}
 use Rattle.pitch_fields.specs.Limits.{last_sequence}
 use Rattle.pitch_messages.specs.Raw.{IsRaw}
-use Rattle.pitch_messages.specs.Session.{session_reads, session_written}
+use Rattle.pitch_messages.specs.Session.{session_written}
 use Rattle.pitch_messages.specs.declared.session.SessionMessage.{SessionMessage}
 use Rattle.pitch_messages.specs.declared.session.SessionMessage.TheVariants.{LoginReply, SpinAvailable, SpinReply, SpinFinished}
 use Rattle.pitch_messages.proofs.SessionTrip.{login_reply_back, spin_available_back, spin_reply_back, spin_finished_back}

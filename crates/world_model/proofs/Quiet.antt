@@ -1,6 +1,6 @@
 -- Where no connection of a session stands, the client knows of none: its end is down, and no spin is
 -- under way.
-use Rattle.std.proofs.Common.{◌≡◌, ℕ, ◌+◌, Bool, true, false, ◌&&◌, ◌||◌, not, cond, List, [], ◌∷◌, ◌++◌, refl, sym, ap, ◌∙◌, subst, Option, Some, None, is_some, nat_lt, nat_eq, length, take, drop}
+use Rattle.std.proofs.Common.{◌≡◌, ℕ, ◌+◌, Bool, true, false, ◌&&◌, ◌||◌, not, cond, List, [], ◌∷◌, refl, ap, ◌∙◌, Option, Some, None, nat_lt, nat_eq, length, take, drop}
 use Rattle.std.specs.List.{AllByRecursion, flat_map}
 use Rattle.std.specs.Option.{option_map}
 use Rattle.unit_packets.specs.Blocks.{Block}
@@ -23,12 +23,10 @@ use Rattle.pitch_model.specs.History.{Entry, Raw, NoSpin, spin_of, spin_asked}
 use Rattle.pitch_model.specs.History as entry
 use Rattle.pitch_model.specs.Reach.{reach}
 use Rattle.pitch_model.specs.Status.{top_of}
-use Rattle.session_ends.specs.declared.inbox.Heard.{Heard}
 use Rattle.session_ends.specs.declared.role.Role.TheVariants.{SpinLink}
 use Rattle.session_ends.specs.declared.role.Said.{Said}
 use Rattle.session_ends.specs.declared.role.Said.TheVariants.{Skipped, TooShort, Message}
-use Rattle.session_ends.specs.Closing.{Setup, closed_of}
-use Rattle.session_ends.specs.Events.{Event, Fed, Ticked, Told}
+use Rattle.session_ends.specs.Events.{Event, Ticked, Told}
 use Rattle.session_ends.specs.Saying.{heard_by}
 use Rattle.spin_server.specs.Served.{Served}
 use Rattle.grp_session.specs.Serving.{Source}
@@ -37,10 +35,9 @@ use Rattle.venue_core.specs.declared.error.VenueError.{VenueError}
 use Rattle.client_links.specs.Linking.{Lookups, link_tells}
 use Rattle.client_links.specs.Telling.{told_of, told_said, run_of}
 use Rattle.spin_path.specs.Paths.{heard_all}
-use Rattle.world_model.specs.Ends.{gap_link, spin_link, link_of}
-use Rattle.world_model.specs.Hearing.{IsGapTold}
-use Rattle.world_model.specs.State.{State, Connection, Pipe, LooksIn, waiting, datagrams_on, passed_on, connection_of, start}
-use Rattle.world_model.specs.Verbs.{Done, done, next_state, state_of, commanded_on, delivered_on, numbered, connected_on, cut_on, ended, ended_where, carried, wanted, up_on, down_on, server_fed, link_fed, link_hears, link_ticked, link_ticks, settled, shut, server_has, servers_tick, budget_ticks, client_ticks, asked, asked_through, took, with_up, with_down, hears, up_to}
+use Rattle.world_model.specs.Ends.{gap_link, spin_link}
+use Rattle.world_model.specs.State.{State, Connection, Pipe, LooksIn, waiting, datagrams_on, passed_on}
+use Rattle.world_model.specs.Verbs.{Done, done, next_state, state_of, commanded_on, delivered_on, numbered, connected_on, cut_on, ended, ended_where, carried, wanted, up_on, down_on, link_fed, link_hears, link_ticked, link_ticks, server_has, servers_tick, budget_ticks, client_ticks, asked, took, with_down, hears}
 use Rattle.world_model.specs.declared.limits.Limits.{Limits}
 use Rattle.world_model.specs.declared.outcome.Outcome.TheVariants as outcome
 use Rattle.pitch_model.specs.Advertising.{with_sequence}

@@ -1,17 +1,15 @@
--- A client that lost its connections, and was told of all that the venue accepted, is current after
--- one round with a Spin Server.
-use Rattle.std.proofs.Common.{◌≡◌, ℕ, suc, ◌+◌, ◌<◌, ◌≤◌, Bool, true, false, ◌&&◌, ◌||◌, not, cond, List, [], ◌∷◌, ◌++◌, length, refl, sym, ap, ◌∙◌, subst, arith, take, max, Option, Some, None, is_some, inl, inr, nat_eq, nat_lt, unwrap_or}
-use Rattle.std.proofs.lemmas.Bool.{eq-eqb, ne_eqb, lt-ltb, and_from, cases_lt, cases_Bool}
+-- A client that lost its connections is current after one round with a Spin Server, at all that the
+-- venue accepted.
+use Rattle.std.proofs.Common.{◌≡◌, ℕ, ◌<◌, ◌≤◌, Bool, true, false, ◌&&◌, ◌||◌, not, cond, List, [], ◌∷◌, length, refl, sym, ap, ◌∙◌, subst, arith, take, max, Option, Some, None, is_some, inl, inr, nat_lt, unwrap_or}
+use Rattle.std.proofs.lemmas.Bool.{eq-eqb, ne_eqb, lt-ltb, and_from, cases_lt}
 use Rattle.pitch_fields.specs.Limits.{last_sequence}
 use Rattle.pitch_text.specs.declared.verb.Session.TheVariants.{Spin as SpinSession}
 use Rattle.pitch_text.specs.declared.verb.Verb.TheVariants as verbs
-use Rattle.heard_items.specs.declared.item.Item.{Item}
-use Rattle.heard_items.specs.declared.item.Item.TheVariants as item
 use Rattle.pitch_model.specs.declared.ask.Ask.{Ask}
 use Rattle.pitch_model.specs.declared.ask.Ask.TheVariants as asks
 use Rattle.pitch_model.specs.declared.status.Status.TheVariants.{Current, Behind}
 use Rattle.pitch_model.specs.Advertising.{last_ten, newest_of, with_sequence}
-use Rattle.pitch_model.specs.Asking.{ask_of, ask_with, spin_or_gap, gap_or_none, asks_spin, wants, is_grp_up, is_spin_up, is_idle, advertised_of}
+use Rattle.pitch_model.specs.Asking.{ask_of, ask_with, spin_or_gap, gap_or_none, wants, is_grp_up, is_spin_up, is_idle, advertised_of}
 use Rattle.pitch_model.specs.History.{Entry, Raw, NoSpin, spin_of}
 use Rattle.pitch_model.specs.History as entry
 use Rattle.pitch_model.specs.Honest.{Honest}
@@ -21,9 +19,9 @@ use Rattle.pitch_model.specs.Status.{raised, top_of, status_at, status_of}
 use Rattle.pitch_model.proofs.Honesty.{honest_top}
 use Rattle.pitch_model.proofs.Topmost.{reach_le_top}
 use Rattle.session_ends.specs.Closing.{closed_of}
-use Rattle.session_ends.specs.Events.{Fed, Ticked}
+use Rattle.session_ends.specs.Events.{Fed}
 use Rattle.grp_session.specs.Budget.{Spent, next_second}
-use Rattle.spin_server.specs.Served.{Served, is_served}
+use Rattle.spin_server.specs.Served.{is_served}
 use Rattle.spin_path.specs.Paths.{heard_all}
 use Rattle.spin_path.specs.PathLaws.{IsFeed}
 use Rattle.client_links.specs.Linking.{NoLookup, link_tells}
@@ -34,8 +32,8 @@ use Rattle.world_model.specs.declared.limits.Limits.{Limits}
 use Rattle.world_model.specs.declared.outcome.Outcome.TheVariants as outcome
 use Rattle.world_model.proofs.Lasting.{Lasts, items_last, reached_lasts, IsTold, told_lasts}
 use Rattle.world_model.proofs.ImageRound.{SpinConnection}
-use Rattle.world_model.proofs.RoundVerbs.{at, fed_up, up_step, tick_step, both_ticked, tick_open}
-use Rattle.world_model.proofs.ImageTaken.{login_items, newest_told, newest, c2, c3, c4, c6, E1, advertised_state, told_state, asked_state, served_state, image_reached, ticked_open}
+use Rattle.world_model.proofs.RoundVerbs.{at, fed_up, up_step, tick_step, both_ticked}
+use Rattle.world_model.proofs.ImageTaken.{login_items, newest, c3, c6, E1, advertised_state, told_state, asked_state, served_state, image_reached, ticked_open}
 
 -- ---- What was heard of a login and an advertised sequence
 told_spin : (n : ℕ) (o : Option ℕ) (E : List Entry) → spin_of (heard_all (login_items o n) E) ≡ spin_of E
@@ -55,6 +53,15 @@ told_newest n None E few none = ap (raised (n ∷ [])) none
 told_newest n (Some m) E few none =
     let le = few m refl in
     ap (λ (x : Option ℕ). raised (n ∷ []) (raised (m ∷ []) x)) none ∙ ap Some (omega (arith, le))
+
+-- the advertised sequence was told of
+told_by : (n : ℕ) (o : Option ℕ) → (q : ℕ) × ((raised (n ∷ []) o ≡ Some q) × (n ≤ q))
+told_by n None = (n, (refl, omega arith))
+told_by n (Some t) = (max n t, (refl, omega arith))
+
+told_top : (n : ℕ) (o : Option ℕ) (E : List Entry) → IsTold n (heard_all (login_items o n) E)
+told_top n None E = told_by n (top_of E)
+told_top n (Some m) E = told_by n (raised (m ∷ []) (top_of E))
 
 -- ---- The ask
 asks_image : (H n q : ℕ) (F : List Entry) → top_of F ≡ Some q → n ≤ q → reach H F < n → is_grp_up F ≡ false → is_spin_up F ≡ true → spin_of F ≡ NoSpin → advertised_of F ≡ Some n → ask_of H F ≡ Some (asks.Spin n)
@@ -114,7 +121,7 @@ asked_one unit (Some (asks.Spin n)) c = (_, refl)
 -- ---- The round
 module _ (unit : ℕ) (small : unit < 256) (limits : Limits) (s : State) (t : Spent) (A : List ℕ) (E : List Entry) (venues : IsFeed s.accepted)
     (old : (m : ℕ) → newest_of (last_ten A) ≡ Some m → m ≤ length s.accepted) (served : is_served (record { messages = s.accepted; advertised = last_ten (with_sequence A (length s.accepted)) }) (length s.accepted) ≡ true)
-    (grp : is_grp_up E ≡ false) (idle : spin_of E ≡ NoSpin) (none : advertised_of E ≡ None) (told : IsTold (length s.accepted) E) where
+    (grp : is_grp_up E ≡ false) (idle : spin_of E ≡ NoSpin) (none : advertised_of E ≡ None) where
   abbrev n : ℕ
   n = length s.accepted
 
@@ -153,7 +160,7 @@ module _ (unit : ℕ) (small : unit < 256) (limits : Limits) (s : State) (t : Sp
       subst (λ (x : State). Ends P s A' (next_state unit limits (verbs.Down SpinSession None) (next_state unit limits (verbs.Up SpinSession None) x))) (sym ticked) ends
 
   told_now : IsTold n F
-  told_now = items_last (IsTold n) (told_lasts n) (login_items (newest unit small limits s t A E) n) E told
+  told_now = told_top n (newest unit small limits s t A E) E
 
   pub whole_told : IsTold n whole.heard
   whole_told = let ends = whole_ends (IsTold n) (told_lasts n) told_now in subst (λ (x : State). IsTold n x.heard) (sym ends.is) ends.holds

@@ -1,50 +1,33 @@
 -- The verbs of a recovery by an image, one after another, where the proxy is gone.
-use Rattle.std.proofs.Common.{◌≡◌, ℕ, suc, ◌+◌, ◌<◌, ◌≤◌, Bool, true, false, cond, List, [], ◌∷◌, ◌++◌, length, take, replicate, refl, sym, ap, ◌∙◌, subst, arith, append_assoc, Option, Some, None, is_some, nat_le, nat_lt}
-use Rattle.std.specs.List.{AllByRecursion, concat}
-use Rattle.std.proofs.lemmas.List.{append-nil, take_all}
+use Rattle.std.proofs.Common.{◌≡◌, ℕ, ◌+◌, Bool, true, false, cond, List, ◌∷◌, length, take, refl, ap, ◌∙◌, arith, Option, Some, None, is_some, nat_le, nat_lt}
+use Rattle.std.proofs.lemmas.List.{take_all}
 use Rattle.std.proofs.lemmas.Bool.{le-ltb}
-use Rattle.pitch_fields.specs.Limits.{last_sequence}
 use Rattle.pitch_text.specs.declared.verb.Session.TheVariants.{Grp as GrpSession, Spin as SpinSession}
 use Rattle.pitch_text.specs.declared.verb.Verb.TheVariants as verbs
-use Rattle.pitch_messages.specs.declared.session.SessionMessage.TheVariants.{LoginReply, SpinAvailable, SpinRequest, SpinReply, SpinFinished}
 use Rattle.unit_packets.specs.Causes.{counted}
-use Rattle.unit_packets.specs.Packing.{packed}
-use Rattle.unit_packets.proofs.OnePacking.{packing_is_computed}
-use Rattle.unit_packets.proofs.Streams.{of_nothing}
 use Rattle.heard_items.specs.declared.item.Item.{Item}
-use Rattle.heard_items.specs.declared.item.Item.TheVariants as item
 use Rattle.pitch_model.specs.declared.ask.Ask.{Ask}
 use Rattle.pitch_model.specs.declared.ask.Ask.TheVariants as asks
-use Rattle.pitch_model.specs.Advertising.{last_ten, newest_of, with_sequence}
+use Rattle.pitch_model.specs.Advertising.{last_ten}
 use Rattle.pitch_model.specs.Asking.{ask_of}
 use Rattle.pitch_model.specs.History.{Entry, Raw, adds}
 use Rattle.pitch_model.specs.History as entry
-use Rattle.pitch_model.specs.Image.{image}
 use Rattle.session_ends.specs.declared.closed.Closed.{Closed}
 use Rattle.session_ends.specs.declared.closed.CloseCause.TheVariants.{Silent}
-use Rattle.session_ends.specs.Answering.{Answer}
-use Rattle.session_ends.specs.declared.role.Role.TheVariants.{SpinServer}
-use Rattle.session_ends.specs.Closing.{Setup, closed_of, or_else, login_status}
-use Rattle.session_ends.specs.Events.{Event, Fed, Ticked, Asked, Pumped, Told, fed_of, silence, is_quiet}
+use Rattle.session_ends.specs.Closing.{closed_of, or_else}
+use Rattle.session_ends.specs.Events.{Fed, Ticked, fed_of, silence, is_quiet}
 use Rattle.session_ends.specs.Items.{closed_at}
-use Rattle.session_ends.specs.Sending.{message_bytes, heartbeat_bytes, sent_since}
 use Rattle.grp_session.specs.Budget.{Spent, next_second}
-use Rattle.spin_server.specs.Served.{Served, is_served}
-use Rattle.spin_server.specs.Serving.{Spin, running_spin, spin_sends, spin_fed_answer, available_bytes, after_login, spin_message_answer, served_answer, refusal_answer}
-use Rattle.client_links.specs.Linking.{Lookups, NoLookup}
+use Rattle.spin_server.specs.Served.{Served}
+use Rattle.client_links.specs.Linking.{NoLookup}
 use Rattle.spin_path.specs.Paths.{heard_all}
-use Rattle.spin_path.specs.PathLaws.{IsFeed}
-use Rattle.spin_path.proofs.Pictures.{image_raws, image_others, image_adds}
-use Rattle.world_model.specs.Connections.{IsPipe}
-use Rattle.world_model.specs.Ends.{the_account, spin_server, spin_link, link_says}
-use Rattle.world_model.specs.State.{State, Connection, Pipe, waiting}
-use Rattle.world_model.specs.Verbs.{put_in, took, connection, at_link, with_up, with_down, at_server_of, pumped_times, sent_whole, spin_fed, views_of, login_of, next_state, asked, done, ended_where, link_fed, link_hears}
+use Rattle.world_model.specs.Ends.{spin_link}
+use Rattle.world_model.specs.State.{State, waiting}
+use Rattle.world_model.specs.Verbs.{took, at_link, with_up, with_down, at_server_of, sent_whole, views_of, next_state, asked, done, ended_where, link_fed, link_hears}
 use Rattle.world_model.specs.declared.limits.Limits.{Limits}
 use Rattle.world_model.specs.declared.outcome.Outcome.TheVariants as outcome
-use Rattle.world_model.proofs.Carrying.{piped_put}
-use Rattle.world_model.proofs.LinkHears.{Ready, Hears, hears_none, hears_both, hears_beat, hears_login, hears_available, hears_reply, hears_finished, Pictures, image_hears, Brings}
-use Rattle.world_model.proofs.ServerRun.{Serves, login, login_accepted, login_seen, login_answered, login_serves, request_seen, request_answered, request_serves}
-use Rattle.world_model.proofs.ImageRound.{SpinConnection, Round, piped_all, at_round, pump_round, told_round, beat_or_none, tick_round, none_sent, image_left, image_sent}
+use Rattle.world_model.proofs.LinkHears.{Hears}
+use Rattle.world_model.proofs.ImageRound.{SpinConnection}
 
 -- a state in which no connection with the proxy stands
 abbrev pub at : State → Spent → List ℕ → Option SpinConnection → List Entry → State

@@ -1,9 +1,8 @@
 -- A Spin Server that nothing closes, event by event.
-use Rattle.std.proofs.Common.{◌≡◌, ℕ, suc, ◌+◌, ◌<◌, ◌≤◌, Bool, true, false, ◌||◌, cond, List, [], ◌∷◌, ◌++◌, length, replicate, refl, sym, ap, ◌∙◌, subst, arith, Option, Some, None, is_some, option_map, nat_le}
-use Rattle.std.specs.Prelude.{codes}
+use Rattle.std.proofs.Common.{◌≡◌, ℕ, ◌+◌, ◌<◌, ◌≤◌, Bool, true, false, ◌||◌, cond, List, [], ◌∷◌, ◌++◌, length, replicate, refl, ap, ◌∙◌, arith, Option, Some, None, is_some, option_map, nat_le}
 use Rattle.std.specs.List.{list_any}
 use Rattle.pitch_messages.specs.Raw.{IsRaw}
-use Rattle.pitch_messages.specs.Session.{session_reads, session_written}
+use Rattle.pitch_messages.specs.Session.{session_written}
 use Rattle.pitch_messages.specs.declared.session.SessionMessage.{SessionMessage}
 use Rattle.pitch_messages.specs.declared.session.SessionMessage.TheVariants.{Login, SpinRequest}
 use Rattle.pitch_messages.proofs.SessionTrip.{login_back, spin_request_back}
@@ -20,11 +19,10 @@ use Rattle.session_ends.specs.declared.role.Role.TheVariants.{SpinServer}
 use Rattle.session_ends.specs.declared.role.Said.{Said}
 use Rattle.session_ends.specs.declared.role.Said.TheVariants as said
 use Rattle.session_ends.specs.declared.inbox.Heard.{Heard}
-use Rattle.session_ends.specs.declared.inbox.Heard.TheVariants.{Message, BlockEnd}
 use Rattle.session_ends.specs.Answering.{Answer, no_answer, followed, answers}
 use Rattle.session_ends.specs.Closing.{Setup, closed_of, first_cause, cause_of_message, cause_of_said, logged_in, logs_in, or_else, login_status}
 use Rattle.session_ends.specs.Events.{Event, Fed, Ticked, Pumped, Told, fed_of, silence, is_quiet}
-use Rattle.session_ends.specs.Items.{closed_at, messages_from, stream_items}
+use Rattle.session_ends.specs.Items.{closed_at, messages_from}
 use Rattle.session_ends.specs.Saying.{said_to, said_by, is_login}
 use Rattle.session_ends.specs.Sending.{message_bytes, new_items}
 use Rattle.session_ends.proofs.Inboxes.{items_none}

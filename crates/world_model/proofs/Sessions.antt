@@ -313,7 +313,7 @@ module _ (session : Session) (w : World) (acted : Acted) (s : State) (bytes : Op
       (acts_carried w last acted s (fed (wanted bytes k.down)) k.down bytes has n m.is n_is few (subst (λ (x : ℕ). Passes w last s (fed x)) wants (passes_then w middle last s t (settled w.unit session t) first second)) calm)
 
 -- ---- A second passes at the client's end
-ticked_witness : (session : Session) (unit : ℕ) (s : State) → Witnessed unit s.accepted s.spin s.heard → Witnessed unit s.accepted (link_ticked unit session s).spin s.heard
+pub ticked_witness : (session : Session) (unit : ℕ) (s : State) → Witnessed unit s.accepted s.spin s.heard → Witnessed unit s.accepted (link_ticked unit session s).spin s.heard
 ticked_witness Grp unit s came = came
 ticked_witness Spin unit s came = by s.spin came
   where

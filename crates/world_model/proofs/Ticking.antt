@@ -50,7 +50,7 @@ passes_servers w counter grp spin s has limited counts proxy server =
     }
 
 -- ---- The client
-asks_where : (unit : ℕ) (V : List Raw) (E : List Entry) (ask : Option Ask) (g : Option (Connection (List Served))) → Witnessed unit V g E → Witnessed unit V (asked unit Spin ask g) E
+pub asks_where : (unit : ℕ) (V : List Raw) (E : List Entry) (ask : Option Ask) (g : Option (Connection (List Served))) → Witnessed unit V g E → Witnessed unit V (asked unit Spin ask g) E
 asks_where unit V E None g came = came
 asks_where unit V E (Some (asks.Gap first count)) g came = came
 asks_where unit V E (Some (asks.Spin sequence)) None came = came

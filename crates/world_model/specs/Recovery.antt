@@ -1,6 +1,5 @@
 -- The verbs with which a recovery ends, wherever it begins.
-use Rattle.std.specs.Prelude.{ℕ, List, [], ◌∷◌, None}
-use Rattle.pitch_io.specs.declared.line.Line.TheVariants as lines
+use Rattle.std.specs.Prelude.{List, [], ◌∷◌, None}
 use Rattle.pitch_text.specs.declared.verb.Session.TheVariants.{Grp, Spin}
 use Rattle.pitch_text.specs.declared.verb.Verb.{Verb}
 use Rattle.pitch_text.specs.declared.verb.Verb.TheVariants as verbs
@@ -12,9 +11,6 @@ image_round =
     verbs.Connect Spin ∷ verbs.Up Spin None ∷ verbs.Advertise ∷ verbs.Down Spin None
     ∷ verbs.Tick ∷ verbs.Up Spin None ∷ verbs.Down Spin None ∷ []
 
--- what is pending is sent, and a heartbeat, which comes as the datagram of this number on line A;
--- the connections that stand are cut; then such a round. The first verb comes first.
-abbrev pub recovery : ℕ → List Verb
-recovery last =
-    verbs.Flush ∷ verbs.Beat ∷ verbs.Deliver lines.A last
-    ∷ verbs.Cut Grp ∷ verbs.Cut Spin ∷ image_round
+-- the connections that stand are cut, and then there is such a round. The first verb comes first.
+abbrev pub recovery : List Verb
+recovery = verbs.Cut Grp ∷ verbs.Cut Spin ∷ image_round
