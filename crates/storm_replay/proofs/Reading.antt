@@ -33,7 +33,7 @@ late_index number unit index t =
 tenth_given : (index : ℕ) → AllByRecursion IsVerb (tenth_verbs index)
 tenth_given index = cond_both (index % 10 == 0) _ _ (AllByRecursion IsVerb) (λ t. (tt, (tt, (tt, (tt, tt))))) (λ f. tt)
 
-step_given : (number unit index : ℕ) → 1 ≤ index → index ≤ 10000 → AllByRecursion IsVerb (step_verbs number unit index)
+pub step_given : (number unit index : ℕ) → 1 ≤ index → index ≤ 10000 → AllByRecursion IsVerb (step_verbs number unit index)
 step_given number unit index some few = (
   plan_given number unit index (omega (arith, few)),
   (

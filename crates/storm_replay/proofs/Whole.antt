@@ -1,19 +1,19 @@
 -- Each unit of a storm ends current at the last message of its plan.
 use Rattle.std.proofs.Common.{◌≡◌, ℕ, zero, suc, ◌+◌, ◌-◌, ◌<◌, ◌≤◌, Bool, true, false, cond, List, [], ◌∷◌, ◌++◌, length, take, drop, refl, sym, ap, ◌∙◌, subst, arith, Option, Some, None, is_some, reverse, append_assoc, length-append, ◌==◌, ◌%◌}
-use Rattle.std.specs.List.{slice_get}
+use Rattle.std.specs.List.{AllByRecursion}
 use Rattle.std.specs.FinMap.{len}
 use Rattle.std.specs.Option.{option_map}
-use Rattle.std.proofs.lemmas.List.{append-nil, reverse-append, drop_at}
-use Rattle.std.proofs.lemmas.Option.{slice_get-get_or}
+use Rattle.std.proofs.lemmas.List.{append-nil, reverse-append}
+use Rattle.pitch_fields.proofs.Lists.{all_append}
 use Rattle.pitch_io.specs.declared.line.Line.{Line}
 use Rattle.pitch_io.specs.declared.line.Line.TheVariants as lines
+use Rattle.pitch_text.specs.WellFormed.{IsVerb}
 use Rattle.pitch_text.specs.declared.command.Command.{Command}
 use Rattle.pitch_text.specs.declared.verb.ScheduleEntry.{ScheduleEntry}
 use Rattle.pitch_text.specs.declared.verb.Session.{Session}
 use Rattle.pitch_text.specs.declared.verb.Session.TheVariants.{Grp, Spin}
 use Rattle.pitch_text.specs.declared.verb.Verb.{Verb}
 use Rattle.pitch_text.specs.declared.verb.Verb.TheVariants as verbs
-use Rattle.unit_packets.specs.Packing.{packed, packed_on, begun_datagrams, fits_datagram, sequence_after}
 use Rattle.pitch_model.specs.declared.ask.Ask.{Ask}
 use Rattle.pitch_model.specs.declared.ask.Ask.TheVariants as asks
 use Rattle.pitch_model.specs.declared.status.Status.{Status}
@@ -23,6 +23,7 @@ use Rattle.pitch_model.specs.Book.{Book, book_after}
 use Rattle.pitch_model.specs.Levels.{shares}
 use Rattle.pitch_model.specs.Status.{status_of}
 use Rattle.feed_lines.specs.UnitLine.{unit_line}
+use Rattle.drill_client.specs.DrillText.{drill_line, drill_text}
 use Rattle.grp_session.specs.Serving.{Source}
 use Rattle.spin_server.specs.Served.{Served}
 use Rattle.venue_core.specs.Commands.{raw_of}
@@ -33,36 +34,32 @@ use Rattle.venue_core.proofs.PlanAccepted.{plan_accepted}
 use Rattle.venue_core.proofs.PlanBooks.{plan_begins, plan_next, plan_length}
 use Rattle.world_model.specs.State.{State, Connection, connection_of, datagrams_on}
 use Rattle.world_model.specs.Ends.{link_of}
-use Rattle.world_model.specs.Stands.{WorldStands}
-use Rattle.world_model.specs.Verbs.{Done, done, next_state, state_of, commanded_on, connected_on, up_on, down_on, delivered_on, numbered, ended_where, shut, link_ticked, link_ticks, servers_tick, client_ticks, asked, client_book, pending}
+use Rattle.world_model.specs.Verbs.{Done, done, next_state, state_of, commanded_on, connected_on, up_on, down_on, delivered_on, numbered, ended_where, shut, link_ticked, link_ticks, servers_tick, client_ticks, asked, client_book}
 use Rattle.world_model.specs.declared.limits.Limits.{Limits}
-use Rattle.world_model.specs.declared.world.World.{World}
-use Rattle.world_model.proofs.Finish.{beat_current, beat_accepted, book_of_all}
+use Rattle.world_model.proofs.Finish.{proxy_cut_current, proxy_cut_accepted, book_of_all}
+use Rattle.world_model.proofs.Reached.{AreSayable, sayable_verbs}
 use Rattle.schedule_replay.specs.Replay.{verbs_of, limits_of, default_limits}
-use Rattle.schedule_replay.specs.Worlds.{IsWorldOf}
-use Rattle.storm_replay.specs.Ended.{whole_line, whole_lines, whole_text}
+use Rattle.storm_replay.specs.Ended.{whole_text}
 use Rattle.storm_replay.specs.Limits.{most_units, most_steps}
-use Rattle.storm_replay.specs.Running.{AreInTurn, AreStormWorlds}
 use Rattle.storm_replay.specs.Storm.{start_verbs, step_verbs, end_verbs, arrival, arrives_at_once, arrives_late, tenth_verbs}
 use Rattle.storm_replay.specs.StormText.{storm_line}
 use Rattle.storm_replay.specs.Summary.{state_line, ended_line, ended_lines, storm_lines, storm_text}
 use Rattle.storm_replay.specs.Units.{unit_steps, unit_course}
 use Rattle.storm_replay.proofs.Naming.{verbs_are, limits_are}
+use Rattle.storm_replay.proofs.Reading.{step_given}
 
 -- ---- Verbs that are neither a command nor a sending
 pub record Stays (s x : State) : Type 0 where
   pub accepted_is : x.accepted ≡ s.accepted
-  pub flushed_is : x.flushed ≡ s.flushed
-  pub sent_is : x.sent ≡ s.sent
   pub alone : s.spin ≡ None → x.spin ≡ None
 
 stays_then : (s x y : State) → Stays s x → Stays x y → Stays s y
-stays_then s x y a b = record { accepted_is = b.accepted_is ∙ a.accepted_is; flushed_is = b.flushed_is ∙ a.flushed_is; sent_is = b.sent_is ∙ a.sent_is; alone = λ e. b.alone (a.alone e) }
+stays_then s x y a b = record { accepted_is = b.accepted_is ∙ a.accepted_is; alone = λ e. b.alone (a.alone e) }
 
 stays_where : (b : Bool) (session : Session) (s : State) → Stays s (ended_where b session s)
-stays_where true Grp s = record { accepted_is = refl; flushed_is = refl; sent_is = refl; alone = λ e. e }
-stays_where true Spin s = record { accepted_is = refl; flushed_is = refl; sent_is = refl; alone = λ e. refl }
-stays_where false session s = record { accepted_is = refl; flushed_is = refl; sent_is = refl; alone = λ e. e }
+stays_where true Grp s = record { accepted_is = refl; alone = λ e. e }
+stays_where true Spin s = record { accepted_is = refl; alone = λ e. refl }
+stays_where false session s = record { accepted_is = refl; alone = λ e. e }
 
 asked_alone : (unit : ℕ) (a : Option Ask) (g : Option (Connection (List Served))) → g ≡ None → asked unit Spin a g ≡ None
 asked_alone unit None g e = e
@@ -81,46 +78,46 @@ module _ (unit : ℕ) (limits : Limits) (s : State) where
   stays_open = by s.grp
     where
       by : (o : Option (Connection Source)) → Leaves (connected_on unit Grp o s)
-      by None = record { accepted_is = refl; flushed_is = refl; sent_is = refl; alone = λ e. e }
-      by (Some c) = record { accepted_is = refl; flushed_is = refl; sent_is = refl; alone = λ e. e }
+      by None = record { accepted_is = refl; alone = λ e. e }
+      by (Some c) = record { accepted_is = refl; alone = λ e. e }
 
   stays_up : Stays s (next_state unit limits (verbs.Up Grp None) s)
   stays_up = by s.grp
     where
       by : (o : Option (Connection Source)) → Leaves (up_on unit limits Grp None o s)
-      by None = record { accepted_is = refl; flushed_is = refl; sent_is = refl; alone = λ e. e }
-      by (Some c) = either _ _ _ (record { accepted_is = refl; flushed_is = refl; sent_is = refl; alone = λ e. e }) (record { accepted_is = refl; flushed_is = refl; sent_is = refl; alone = λ e. e })
+      by None = record { accepted_is = refl; alone = λ e. e }
+      by (Some c) = either _ _ _ (record { accepted_is = refl; alone = λ e. e }) (record { accepted_is = refl; alone = λ e. e })
 
   stays_down : Stays s (next_state unit limits (verbs.Down Grp None) s)
   stays_down = by s.grp
     where
       by : (o : Option (Connection Source)) → Leaves (down_on unit Grp None o s)
-      by None = record { accepted_is = refl; flushed_is = refl; sent_is = refl; alone = λ e. e }
-      by (Some c) = either _ _ _ (record { accepted_is = refl; flushed_is = refl; sent_is = refl; alone = λ e. e })
-          (let k = stays_where _ Grp _ in record { accepted_is = k.accepted_is; flushed_is = k.flushed_is; sent_is = k.sent_is; alone = k.alone })
+      by None = record { accepted_is = refl; alone = λ e. e }
+      by (Some c) = either _ _ _ (record { accepted_is = refl; alone = λ e. e })
+          (let k = stays_where _ Grp _ in record { accepted_is = k.accepted_is; alone = k.alone })
 
   stays_deliver : (line : Line) (number : ℕ) → Stays s (next_state unit limits (verbs.Deliver line number) s)
   stays_deliver line number = by (numbered (datagrams_on s line) number)
     where
       by : (o : Option (List ℕ)) → Leaves (delivered_on unit limits line number o s)
-      by None = record { accepted_is = refl; flushed_is = refl; sent_is = refl; alone = λ e. e }
-      by (Some datagram) = record { accepted_is = refl; flushed_is = refl; sent_is = refl; alone = λ e. e }
+      by None = record { accepted_is = refl; alone = λ e. e }
+      by (Some datagram) = record { accepted_is = refl; alone = λ e. e }
 
   stays_rest : (line : Line) → Stays s (next_state unit limits (verbs.Rest line) s)
-  stays_rest line = record { accepted_is = refl; flushed_is = refl; sent_is = refl; alone = λ e. e }
+  stays_rest line = record { accepted_is = refl; alone = λ e. e }
 
   stays_tick : Stays s (next_state unit limits verbs.Tick s)
   stays_tick =
       let one : State = link_ticked unit Grp (servers_tick unit s) in
-      let a : Stays s one = record { accepted_is = refl; flushed_is = refl; sent_is = refl; alone = λ e. ap (option_map _) e } in
+      let a : Stays s one = record { accepted_is = refl; alone = λ e. ap (option_map _) e } in
       let b = stays_where (shut (link_of unit Grp) (connection_of Grp one)) Grp one in
       let two : State = link_ticks unit Grp (servers_tick unit s) in
       let three : State = link_ticked unit Spin two in
-      let c : Stays two three = record { accepted_is = refl; flushed_is = refl; sent_is = refl; alone = λ e. ap (option_map _) e } in
+      let c : Stays two three = record { accepted_is = refl; alone = λ e. ap (option_map _) e } in
       let d = stays_where (shut (link_of unit Spin) (connection_of Spin three)) Spin three in
       let four : State = link_ticks unit Spin two in
       let all = stays_then s three four (stays_then s two three (stays_then s one two a b) c) d in
-      record { accepted_is = all.accepted_is; flushed_is = all.flushed_is; sent_is = all.sent_is; alone = λ e. asked_alone unit (ask_of limits.hold four.heard) four.spin (all.alone e) }
+      record { accepted_is = all.accepted_is; alone = λ e. asked_alone unit (ask_of limits.hold four.heard) four.spin (all.alone e) }
 
 -- ---- Several verbs, the first of which comes first
 abbrev after : ℕ → Limits → List Verb → State → State
@@ -140,27 +137,14 @@ state_after unit limits (x ∷ xs) before =
     ∙ state_after unit limits xs (x ∷ before)
 
 -- ---- A step
--- one message is packed into one datagram
-one_packed : (unit first : ℕ) (raw : List ℕ) → length (packed unit first (raw ∷ [])) ≡ 1
-unfolding packed_on
-one_packed unit first raw = by (fits_datagram (raw ∷ []))
-  where
-    by : (b : Bool) → length (cond b (begun_datagrams unit first (raw ∷ [])) ([] ++ begun_datagrams unit (sequence_after first 0) (raw ∷ []))) ≡ 1
-    by true = refl
-    by false = refl
-
 -- after so many steps
 pub record Stepped (number unit k : ℕ) (s : State) : Type 0 where
   pub accepted_is : s.accepted ≡ plan number unit k
-  pub flushed_is : s.flushed ≡ k
-  pub sent_is : length s.sent ≡ k
   pub alone : s.spin ≡ None
 
 stepped_stays : (number unit k : ℕ) (s x : State) → Stepped number unit k s → Stays s x → Stepped number unit k x
 stepped_stays number unit k s x a b = record {
   accepted_is = b.accepted_is ∙ a.accepted_is;
-  flushed_is = b.flushed_is ∙ a.flushed_is;
-  sent_is = ap (λ (l : List (List ℕ)). length l) b.sent_is ∙ a.sent_is;
   alone = b.alone a.alone;
 }
 
@@ -173,7 +157,7 @@ module _ (number unit : ℕ) (limits : Limits) where
       let s0 : State = state_of unit limits [] in
       let s1 = next_state unit limits (verbs.Connect Grp) s0 in
       let s2 = next_state unit limits (verbs.Up Grp None) s1 in
-      let zero_steps : Stepped number unit 0 s0 = record { accepted_is = sym (plan_begins number unit); flushed_is = refl; sent_is = refl; alone = refl } in
+      let zero_steps : Stepped number unit 0 s0 = record { accepted_is = sym (plan_begins number unit); alone = refl } in
       stepped_stays number unit 0 s2 _ (stepped_stays number unit 0 s1 s2 (stepped_stays number unit 0 s0 s1 zero_steps (stays_open unit limits s0)) (stays_up unit limits s1)) (stays_down unit limits s2)
 
   -- a command of the plan makes a message, which is sent
@@ -186,15 +170,7 @@ module _ (number unit : ℕ) (limits : Limits) where
       let with_one : State = record s { begun = true; accepted = s.accepted ++ raw ∷ [] } in
       let is : next_state unit limits (verbs.Command command) s ≡ with_one = ap (λ (o : Option VenueError). record (commanded_on o command s).state { begun = true }) fine in
       let more : s.accepted ++ raw ∷ [] ≡ plan number unit (suc k) = ap (λ (V : List (List ℕ)). V ++ raw ∷ []) a.accepted_is ∙ sym (plan_next number unit k (suc k) refl) in
-      let many : length s.accepted ≡ k = ap (λ (V : List (List ℕ)). length V) a.accepted_is ∙ plan_length number unit k in
-      let rest : drop s.flushed (s.accepted ++ raw ∷ []) ≡ raw ∷ [] = drop_at s.accepted (raw ∷ []) s.flushed (many ∙ sym a.flushed_is) in
-      let one : length (pending unit with_one) ≡ 1 = ap (λ (l : List (List ℕ)). length (packed unit (s.flushed + 1) l)) rest ∙ one_packed unit (s.flushed + 1) raw in
-      subst (λ (x : State). Stepped number unit (suc k) (sends x)) (sym is) (record {
-        accepted_is = more;
-        flushed_is = ap (λ (V : List (List ℕ)). length V) more ∙ plan_length number unit (suc k);
-        sent_is = (let had = a.sent_is in omega (arith, length-append s.sent (pending unit with_one), one, had));
-        alone = a.alone;
-      })
+      subst (λ (x : State). Stepped number unit (suc k) (sends x)) (sym is) (record { accepted_is = more; alone = a.alone })
 
   arrives : (k : ℕ) (line : Line) (index : ℕ) (b : Bool) (s : State) → Stepped number unit k s → Stepped number unit k (after unit limits (arrival line index b) s)
   arrives k line index true s a = stepped_stays number unit k s _ a (stays_deliver unit limits s line index)
@@ -249,49 +225,64 @@ course_is number unit k =
     ap (λ (l : List Verb). reverse l) (sym (append_assoc start_verbs (unit_steps number unit k) (end_verbs k)))
     ∙ reverse-append (start_verbs ++ unit_steps number unit k) (end_verbs k)
 
--- the line of a unit in a world in which its course was done
-pub unit_whole : (number unit steps : ℕ) (limits : Limits) (w : World) → steps ≤ 400000 → WorldStands w unit limits (reverse (unit_course number unit steps)) → state_line unit limits (state_of unit limits (reverse (unit_course number unit steps))) ≡ whole_line number unit steps
-unfolding state_line whole_line
-unit_whole number unit steps limits w low stands =
-    let before : List Verb = course_before number unit steps in
-    let s : State = state_of unit limits before in
-    let a = stepped_before number unit steps limits low in
-    let x : State = state_of unit limits (reverse (end_verbs steps) ++ before) in
-    let there : WorldStands w unit limits (reverse (end_verbs steps) ++ before) = subst (WorldStands w unit limits) (course_is number unit steps) stands in
-    let many : length s.accepted ≡ steps = ap (λ (V : List (List ℕ)). length V) a.accepted_is ∙ plan_length number unit steps in
-    let had = a.sent_is in
-    let status : status_of limits.hold x.heard ≡ Current (length s.accepted) = beat_current w unit limits before (steps + 1) there (a.flushed_is ∙ sym many) (omega (arith, had)) a.alone in
-    let book : client_book limits x ≡ book_after (plan number unit steps) = book_of_all limits x s.accepted (beat_accepted unit limits before (steps + 1)) status ∙ ap book_after a.accepted_is in
+-- a schedule can have these verbs
+steps_given : (number unit k : ℕ) → k ≤ most_steps → AllByRecursion IsVerb (unit_steps number unit k)
+unfolding unit_steps
+steps_given number unit zero few = tt
+steps_given number unit (suc k) few = all_append IsVerb (unit_steps number unit k) (step_verbs number unit (suc k)) (steps_given number unit k (omega (arith, few))) (step_given number unit (suc k) (omega arith) few)
+
+turned : (xs : List Verb) → AllByRecursion IsVerb xs → AllByRecursion IsVerb (reverse xs)
+turned [] all = tt
+turned (x ∷ xs) all = subst (AllByRecursion IsVerb) (sym (reverse-append (x ∷ []) xs)) (all_append IsVerb (reverse xs) (x ∷ []) (turned xs all.1) (all.0, tt))
+
+-- what a unit does before its proxy is cut
+abbrev course_told : ℕ → ℕ → ℕ → List Verb
+course_told number unit k = verbs.Deliver lines.A (k + 1) ∷ verbs.Beat ∷ course_before number unit k
+
+told_sayable : (number unit k : ℕ) → k ≤ most_steps → AreSayable (course_told number unit k)
+told_sayable number unit k few =
+    (tt, (tt, sayable_verbs (course_before number unit k) (turned (start_verbs ++ unit_steps number unit k) (all_append IsVerb start_verbs (unit_steps number unit k) (tt, (tt, (tt, tt))) (steps_given number unit k few)))))
+
+-- then it has its plan, and no connection with a Spin Server
+stepped_told : (number unit k : ℕ) (limits : Limits) → k ≤ 400000 → Stepped number unit k (state_of unit limits (course_told number unit k))
+stepped_told number unit k limits low =
+    let before : State = state_of unit limits (course_before number unit k) in
+    let beaten : State = next_state unit limits verbs.Beat before in
+    let beat : Stays before beaten = record { accepted_is = refl; alone = λ e. e } in
+    stepped_stays number unit k beaten _ (stepped_stays number unit k before beaten (stepped_before number unit k limits low) beat) (stays_deliver unit limits beaten lines.A (k + 1))
+
+-- the line of a unit that did its course
+pub unit_whole : (number unit steps : ℕ) (limits : Limits) → unit < 256 → steps ≤ most_steps → state_line unit limits (state_of unit limits (reverse (unit_course number unit steps))) ≡ drill_line number unit steps
+unfolding state_line drill_line
+unit_whole number unit steps limits small few =
+    let told : List Verb = course_told number unit steps in
+    let a = stepped_told number unit steps limits (omega (arith, few)) in
+    let x : State = state_of unit limits (reverse (end_verbs steps) ++ course_before number unit steps) in
+    let accepted : x.accepted ≡ plan number unit steps = proxy_cut_accepted unit limits told ∙ a.accepted_is in
+    let many : length (state_of unit limits told).accepted ≡ length (plan number unit steps) = ap (λ (V : List (List ℕ)). length V) a.accepted_is in
+    let status : status_of limits.hold x.heard ≡ Current (length (plan number unit steps)) = proxy_cut_current unit limits told small (told_sayable number unit steps few) a.alone ∙ ap Current many in
+    let book : client_book limits x ≡ book_after (plan number unit steps) = book_of_all limits x (plan number unit steps) accepted status in
     ap (λ (l : List Verb). state_line unit limits (state_of unit limits l)) (course_is number unit steps)
-    ∙ ap (λ (o : Status). unit_line unit o (len (client_book limits x).orders) (shares (client_book limits x))) (status ∙ ap Current many)
+    ∙ ap (λ (o : Status). unit_line unit o (len (client_book limits x).orders) (shares (client_book limits x))) (status ∙ ap Current (plan_length number unit steps))
     ∙ ap (λ (b : Book). unit_line unit (Current steps) (len b.orders) (shares b)) book
 
 -- ---- All units
-found : {X : Type 0} (xs : List X) (i : ℕ) → i < length xs → (x : X) × (slice_get xs i ≡ Some x)
-found [] i less = absurd (omega (arith, less))
-found (x ∷ xs) zero less = (x, refl)
-found (x ∷ xs) (suc i) less = found xs i (omega (arith, less))
-
-ended_whole : (number units steps unit : ℕ) (w : World) → steps ≤ 400000 → 1 ≤ unit → unit ≤ units → IsWorldOf (reverse (storm_lines number units steps)) unit w → ended_line (reverse (storm_lines number units steps)) unit ≡ whole_line number unit steps
-ended_whole number units steps unit w low least most is =
+ended_whole : (number units steps unit : ℕ) → steps ≤ most_steps → 1 ≤ unit → unit ≤ units → unit < 256 → ended_line (reverse (storm_lines number units steps)) unit ≡ drill_line number unit steps
+ended_whole number units steps unit few least most small =
     let before : List ScheduleEntry = reverse (storm_lines number units steps) in
     let limits : Limits = limits_of (verbs_of unit before) in
-    let same = verbs_are number units steps unit least most in
-    ap (λ (l : List Verb). state_line unit limits (state_of unit limits l)) same
-    ∙ unit_whole number unit steps limits w low (subst (WorldStands w unit limits) same is.1)
+    ap (λ (l : List Verb). state_line unit limits (state_of unit limits l)) (verbs_are number units steps unit least most)
+    ∙ unit_whole number unit steps limits small few
 
-lines_whole : (number units steps k : ℕ) (worlds : List World) → steps ≤ 400000 → k ≤ units → length worlds ≡ units → AreInTurn (reverse (storm_lines number units steps)) worlds → ended_lines (reverse (storm_lines number units steps)) k ≡ whole_lines number k steps
-unfolding ended_lines whole_lines
-lines_whole number units steps zero worlds low most many each = refl
-lines_whole number units steps (suc k) worlds low most many each =
+lines_whole : (number units steps k : ℕ) → units ≤ most_units → steps ≤ most_steps → k ≤ units → ended_lines (reverse (storm_lines number units steps)) k ≡ drill_text number k steps
+unfolding ended_lines drill_text
+lines_whole number units steps zero small few most = refl
+lines_whole number units steps (suc k) small few most =
     let before : List ScheduleEntry = reverse (storm_lines number units steps) in
-    let at = found worlds k (omega (arith, most, many)) in
-    let e : k + 1 ≡ suc k = omega arith in
-    let is : IsWorldOf before (suc k) at.0 = subst (λ (u : ℕ). IsWorldOf before u at.0) e (each k at.0 at.1) in
-    ap (λ (l : List ℕ). l ++ ended_line before (suc k)) (lines_whole number units steps k worlds low (omega (arith, most)) many each)
-    ∙ ap (λ (l : List ℕ). whole_lines number k steps ++ l) (ended_whole number units steps (suc k) at.0 low (omega arith) most is)
+    ap (λ (l : List ℕ). l ++ ended_line before (suc k)) (lines_whole number units steps k small few (omega (arith, most)))
+    ∙ ap (λ (l : List ℕ). drill_text number k steps ++ l) (ended_whole number units steps (suc k) few (omega arith) most (omega (arith, most, small)))
 
 -- the summary says of each unit that it has all
-pub storm_whole : (number units steps : ℕ) (worlds : List World) → steps ≤ most_steps → AreStormWorlds number units steps worlds → storm_text number units steps ≡ whole_text number units steps
-storm_whole number units steps worlds few are =
-    ap (λ (l : List ℕ). storm_line number units steps ++ l) (lines_whole number units steps units worlds (omega (arith, few)) (omega arith) are.many are.each)
+pub storm_whole : (number units steps : ℕ) → units ≤ most_units → steps ≤ most_steps → storm_text number units steps ≡ whole_text number units steps
+storm_whole number units steps small few =
+    ap (λ (l : List ℕ). storm_line number units steps ++ l) (lines_whole number units steps units small few (omega arith))

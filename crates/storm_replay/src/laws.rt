@@ -1,6 +1,6 @@
 //! The laws of a storm. These functions do nothing.
 
-ghost use Rattle.std.specs.Prelude.{◌≡◌, ◌≤◌, ℕ, Ok, List, length, map};
+ghost use Rattle.std.specs.Prelude.{◌≡◌, ◌≤◌, ℕ, Ok, length, map};
 ghost use Rattle.std.specs.List.{enumerate_from};
 ghost use Rattle.pitch_fields.specs.Limits.{text_limit};
 ghost use Rattle.pitch_text.specs.ScheduleGrammar.{entry as entry_grammar, schedule_entry};
@@ -9,9 +9,7 @@ ghost use Rattle.text_lines.specs.Items.{items_of};
 ghost use Rattle.storm_replay.specs.Storm.{storm_entries, storm_schedule};
 ghost use Rattle.storm_replay.specs.Limits.{most_units, most_steps};
 ghost use Rattle.storm_replay.specs.Ended.{whole_text};
-ghost use Rattle.storm_replay.specs.Running.{AreStormWorlds};
 ghost use Rattle.storm_replay.specs.Summary.{storm_text};
-ghost use Rattle.world_model.specs.declared.world.World.{World};
 
 /// The schedule of a storm, read as a text, says its entries, one a line, and is short enough to be
 /// read. The call does nothing.
@@ -33,8 +31,6 @@ pub fn storms_are_read()
 /// orders and shares that the plan leaves. So no loss stands in the summary: it is made of the
 /// storm's number, units and steps alone. The call does nothing.
 pub fn storms_end_whole()
-    // Of every storm of which worlds can be.
-    ensures { (number units steps : ℕ) (worlds : List World)
-        → steps ≤ most_steps → AreStormWorlds number units steps worlds
+    ensures { (number units steps : ℕ) → units ≤ most_units → steps ≤ most_steps
         → storm_text number units steps ≡ whole_text number units steps }
 {}

@@ -63,6 +63,7 @@ fn append_worlds(worlds: &[World], units: u8, out: &mut Vec<u8>) -> Result<(), O
 // The summary of a storm by its worlds.
 fn summary_of(alloc: Global, storm: Storm, worlds: &WorldList) -> Result<Vec<u8>, OutOfMemory>
     requires worlds { AreStormWorlds storm.number storm.units storm.steps worlds.now.items }
+    requires units { storm.units ≤ most_units }
     requires steps { storm.steps ≤ most_steps }
     ensures text { IfOk result
         (λ text. text.items ≡ storm_text storm.number storm.units storm.steps) }

@@ -14,4 +14,4 @@ returns-clause-text c =
     summary_is c.args.storm.number c.args.storm.units c.args.storm.steps c.new-text.result.items c.append_made.new.out.items c.append_worlds.new.out.items c.new-text.ensures.items c.in_ok-append_made.ensures (c.in_ok-append_worlds.ensures before each)
 
 pub returns-clause-whole : goal.returns-clause-whole
-returns-clause-whole c = returns-clause-text c ∙ storm_whole c.args.storm.number c.args.storm.units c.args.storm.steps c.args.worlds.now.items c.requires.steps c.requires.worlds
+returns-clause-whole c = returns-clause-text c ∙ storm_whole c.args.storm.number c.args.storm.units c.args.storm.steps c.requires.units c.requires.steps
