@@ -84,9 +84,9 @@ not_where_it_is_cut_off : carried_by 57 (frame_of (8 ∷ 0 ∷ []) (packet_of 0 
 unfolding payload in_frame in_ip in_udp
 not_where_it_is_cut_off = refl
 
--- ---- Packets with options, later parts, and lengths that do not fit
--- by the first byte, the total length, the low byte of the place in a parted packet, the options and
--- the length of the UDP datagram
+-- ---- Packets with options, later fragments, and lengths that do not fit
+-- the first byte, the total length, the low byte of the fragment offset, the options, and the length
+-- of the UDP datagram
 abbrev packet_by : ℕ → ℕ → ℕ → List ℕ → ℕ → List ℕ
 packet_by first total part options size =
     first ∷ 0 ∷ 0 ∷ total ∷ 0 ∷ 0 ∷ 0 ∷ part ∷ 0x40 ∷ 17 ∷ 0 ∷ 0 ∷ 0x0a ∷ 0 ∷ 0 ∷ 1 ∷ 0xe0 ∷ 0 ∷ 0 ∷ 1 ∷ []

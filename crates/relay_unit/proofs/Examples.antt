@@ -1,5 +1,5 @@
 -- Worked examples, computed by the definitions.
-use Rattle.std.proofs.Common.{◌≡◌, ℕ, ◌++◌, ◌+◌, inr, Some, None, true, List, [], ◌∷◌, map, length, drop, refl, sym, ap, ◌∙◌, codes}
+use Rattle.std.proofs.Common.{◌≡◌, ℕ, ◌++◌, ◌+◌, inr, Some, true, List, [], ◌∷◌, map, length, drop, refl, sym, ap, ◌∙◌, codes}
 use Rattle.std.specs.List.{concat}
 use Rattle.std.specs.Ordering.{nat_cmp}
 use Rattle.std.specs.FinMap as finite

@@ -1,5 +1,5 @@
-//! Worked examples of what is kept for a unit: books, ladders, clients, relays and venues, and of
-//! audits of what was printed of it.
+//! Worked examples of what is kept for a unit: books, ladders, holds, clients, relays and venues,
+//! and of audits of what was printed of it.
 //!
 //! There are tests alone here, in a crate of their own for the reason that `wire_tests` gives.
 #![tactic(auto)]
@@ -10,6 +10,8 @@ mod audits;
 mod books;
 #[cfg(test)]
 mod clients;
+#[cfg(test)]
+mod holds;
 #[cfg(test)]
 mod quotes;
 #[cfg(test)]
