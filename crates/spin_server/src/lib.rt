@@ -18,4 +18,5 @@ pub use crate::laws::{image_look_laws, shelves_show_what_was_pushed, spin_cuttin
 pub use crate::lookup::{ImageLookup, Imaged};
 pub use crate::server::SpinServer;
 pub use crate::shelf::ImageShelf;
+pub use order_book::image_of;
 pub use session_ends::{Account, CloseCause, Closed};
