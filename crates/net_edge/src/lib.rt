@@ -4,7 +4,7 @@
 //! and two connections, and a client at the other. Both servers answer from a shared unit, whose
 //! writer is the venue. Whatever the net loses, repeats, reorders or cuts, each end makes of what
 //! came to it just what the definitions of its crate say. `specs/Demo.antt` says what such a run
-//! is.
+//! is. [`StdNet`] is a net over sockets of this machine.
 #![tactic(auto)]
 
 mod ends;
@@ -25,3 +25,4 @@ mod spin;
 pub use crate::error::DemoError;
 pub use crate::in_memory::carried_in_memory;
 pub use crate::running::{demo, demo_plain};
+pub use loopback_net::StdNet;
