@@ -3,3 +3,4 @@ pub mod Viewed
 pub mod Holds
 pub mod Rings
 pub mod Kept
+pub mod Placed

@@ -1,10 +1,13 @@
--- Places of sequences in a ring of held messages by rising sequence.
-use Rattle.std.specs.Prelude.{◌≡◌, ℕ, ◌<◌, ◌≤◌, List, length, Some, slice_get}
+-- Places of sequences in a ring of held messages by rising sequence, and of its messages.
+use Rattle.std.specs.Prelude.{◌≡◌, ℕ, ◌<◌, ◌≤◌, List, [], length, map as mapped, Some, slice_get}
+use Rattle.std.specs.Prelude.{unwrap_or, nat_eq}
+use Rattle.std.specs.List.{AllByRecursion, IsDistinct}
 use Rattle.std.specs.FinMap as map
 use Rattle.std.specs.Ordering.{nat_cmp}
 use Rattle.std.specs.List.Sorted.{IsStrictlySortedBy}
 use Rattle.std.specs.Map.{keys_of}
 use Rattle.circular_buffer.specs.Buffer.{Buffer}
+use Rattle.slab.specs.Slab.{Slab, get, ContainsKey, slab_len}
 use Rattle.hold_buffer.specs.HoldView.{HoldView}
 use Rattle.hold_buffer.specs.Holding.{IsHold}
 
@@ -33,3 +36,21 @@ hold_of floor ring =
 pub record IsHoldRing (floor : ℕ) (ring : Buffer (ℕ × List ℕ)) : Type 0 where
   pub hold : IsHold (hold_of floor ring)
   pub rising : IsRising ring.items
+
+-- the sequence and the message of an entry, which has a sequence and the place of its message
+abbrev pub message_at : Slab (List ℕ) → ℕ × ℕ → ℕ × List ℕ
+message_at raws entry = (entry.0, unwrap_or (get raws entry.1) [])
+
+-- the ring that an order of entries and the messages in their places stand for
+abbrev pub ring_of : Buffer (ℕ × ℕ) → Slab (List ℕ) → Buffer (ℕ × List ℕ)
+ring_of order raws =
+    record { items = mapped (message_at raws) order.items; capacity = order.capacity }
+
+-- They stand for a ring: each entry has a message in a place of its own, no other place has one,
+-- and there are places for as many as the order may have, each a number of 32 bits.
+pub record IsRingOf (order : Buffer (ℕ × ℕ)) (raws : Slab (List ℕ)) : Type 0 where
+  pub filled : AllByRecursion (λ (entry : ℕ × ℕ). ContainsKey raws entry.1) order.items
+  pub apart : IsDistinct nat_eq (mapped (λ (entry : ℕ × ℕ). entry.1) order.items)
+  pub count : slab_len raws ≡ length order.items
+  pub room : order.capacity ≤ raws.capacity
+  pub fits : raws.capacity ≤ 4294967295

@@ -10,8 +10,7 @@ ghost use Rattle.hold_buffer.specs.Holding.{IsHold};
 ghost use Rattle.hold_buffer.specs.Offered.{Answers};
 ghost use Rattle.hold_buffer.specs.Places.{IsRising, hold_of, IsHoldRing};
 
-use crate::ring::{Ring, drop_through, first_sequence, insert_at, place};
-use circular_buffer::HeapCircularBuffer;
+use crate::ring::Ring;
 use pitch_fields::OutOfMemory;
 use pitch_messages::Raw;
 use std::alloc::Global;
@@ -66,7 +65,7 @@ impl Hold {
     {
         Ok(Hold {
             floor: 0,
-            ring: HeapCircularBuffer::with_capacity(alloc, limit as usize)?,
+            ring: Ring::make(alloc, limit)?,
         })
     }
 
@@ -94,7 +93,7 @@ impl Hold {
             return Offer::Old;
         }
         if sequence - 1 == self.floor {
-            if first_sequence(&self.ring) == Some(sequence) {
+            if self.ring.first_sequence() == Some(sequence) {
                 return Offer::Repeat;
             }
             self.floor = sequence;
@@ -115,7 +114,7 @@ impl Hold {
         ensures kept { IsHold self.new }
         ensures fits { IsSome result → self.new.floor ≤ last_sequence }
     {
-        let first = first_sequence(&self.ring)?;
+        let first = self.ring.first_sequence()?;
         if first - 1 != self.floor {
             return None;
         }
@@ -131,11 +130,11 @@ impl Hold {
         ensures fits { IsSome result → self.now.floor < last_sequence }
         ensures kept { IsHold self.now }
     {
-        let message = self.ring.front()?;
-        if message.0 - 1 != self.floor {
+        let (sequence, raw) = self.ring.front()?;
+        if sequence - 1 != self.floor {
             return None;
         }
-        Some(&message.1)
+        Some(raw)
     }
 
     /// Drops the message that follows the floor, and raises the floor to it.
@@ -162,7 +161,7 @@ impl Hold {
         } }
         ensures kept { IsHold self.new }
     {
-        drop_through(&mut self.ring, floor);
+        self.ring.drop_through(floor);
         self.floor = floor;
     }
 
@@ -173,7 +172,7 @@ impl Hold {
             (λ first. IsSome (map.get self.now.held first)
             × ((k : ℕ) → IsSome (map.get self.now.held k) → first ≤ k)) }
     {
-        first_sequence(&self.ring)
+        self.ring.first_sequence()
     }
 
     /// The sequence above which messages are held.
@@ -211,23 +210,23 @@ fn store(ring: &mut Ring, sequence: u32, bytes: &[u8]) -> Offer
     requires fits { sequence ≤ last_sequence }
     requires raw { IsRaw bytes.now }
     requires rising { IsRising ring.old.items }
+    requires some { 0 < ring.old.capacity }
     ensures answer { (floor : ℕ) → floor + 1 < sequence → IsHoldRing floor ring.old
         → Answers result (hold_of floor ring.old) sequence bytes.now (hold_of floor ring.new) }
     ensures kept { (floor : ℕ)
         → floor + 1 < sequence → IsHoldRing floor ring.old → IsHoldRing floor ring.new }
 {
-    let Err(at) = place(ring, sequence) else {
+    let Err(at) = ring.place(sequence) else {
         return Offer::Repeat;
     };
     let Some(raw) = Raw::from_bytes(bytes) else {
         unreachable!();
     };
     if ring.len() < ring.capacity() {
-        insert_at(ring, at, (sequence, raw));
+        ring.insert(at, sequence, raw);
         Offer::Kept
     } else {
-        ring.clear();
-        ring.push_back((sequence, raw));
+        ring.replace_all(sequence, raw);
         Offer::Overflowed
     }
 }
