@@ -39,13 +39,13 @@ replies_to kept unit history (asks.Gap first count) =
     replies_to_gap (kept_at kept history) unit first count
 replies_to kept unit history (asks.Spin sequence) = replies_to_spin (served_at history) sequence
 
--- ---- What a request does
--- to what is told, nothing
+-- ---- To a request
+-- an ask is replied to, and what is told is not
 abbrev pub replies_by : {J R : Type 0} → ℕ → ℕ → List Operation → Request J R → List (Reply R)
 replies_by kept unit history (Asked ask) = replies_to kept unit history ask
 replies_by kept unit history (Told told) = []
 
--- a history has all that is told
+-- a history begins with what is told
 abbrev pub Includes : {J R : Type 0} → List Operation → Request J R → Type 0
 Includes history (Asked ask) = Unit {0}
 Includes history (Told told) = IsPrefix told.history history

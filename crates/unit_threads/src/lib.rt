@@ -19,3 +19,4 @@ mod unit;
 mod units;
 
 pub use crate::units::drill;
+pub use drill_client::{Datagram, DrillRun, Image, Reached, Reply, Word, drill_plain};
