@@ -211,7 +211,9 @@ fn run_unit<G: Gate>(
 }
 
 /// A unit's whole replay, as a gate hears of it.
-pub fn replay_work(unit: u8) -> Work {
+pub fn replay_work(unit: u8) -> Work
+    ensures { result ≡ record { unit = unit; role = Role.Replay; step = 1 } }
+{
     Work {
         unit,
         role: Role::Replay,
