@@ -37,6 +37,7 @@ use Rattle.spin_server.specs.ShelfViews.{seen_of}
 use Rattle.spin_server.proofs.Serves as serves
 use Rattle.spin_server.proofs.Shelving.{later_both, seen_newest, seen_served}
 use Rattle.shared_unit.specs.Histories.{kept_at, served_at, then_done}
+use Rattle.shared_unit.specs.Moments.{Writing}
 use Rattle.shared_unit.proofs.Looking.{messages_later, images_later}
 use Rattle.venue_core.specs.Commands.{raw_of}
 use Rattle.venue_core.specs.Plan.{plan, plan_command}
@@ -60,23 +61,25 @@ accepted_there history now raw is none = apart raw (none ∙ ap (λ (h : List Op
     apart r e = cc
 
 -- one command of the plan more was accepted
-pub accepts : (history now : List Operation) (number index : ℕ) (advertised : List ℕ) → 1 ≤ index → now ≡ then_done history (Accept (raw_of (plan_command number demo_unit index)))
-    → SharedHas history (plan number demo_unit (index - 1)) advertised → SharedHas now (plan number demo_unit index) advertised
-accepts history now number index advertised some is has =
+pub accepts : (writer now : Writing) (number index : ℕ) (advertised : List ℕ) → 1 ≤ index → now.cut_off ≡ false → now.history ≡ then_done writer.history (Accept (raw_of (plan_command number demo_unit index)))
+    → SharedHas writer (plan number demo_unit (index - 1)) advertised → SharedHas now (plan number demo_unit index) advertised
+accepts writer now number index advertised some reaches is has =
     let raw : Raw = raw_of (plan_command number demo_unit index) in
     let e : index ≡ suc (index - 1) = omega (arith, some) in
-    subst (λ (h : List Operation). SharedHas h (plan number demo_unit index) advertised) (sym is) (record {
-      accepted_is = accepted_more history (Accept raw) ∙ ap (λ (raws : List Raw). raws ++ raw ∷ []) has.accepted_is ∙ sym (plan_next number demo_unit (index - 1) index e);
-      advertised_is = advertised_accept history raw ∙ has.advertised_is;
-    })
+    record {
+      reaches = reaches;
+      accepted_is = ap accepted_by is ∙ accepted_more writer.history (Accept raw) ∙ ap (λ (raws : List Raw). raws ++ raw ∷ []) has.accepted_is ∙ sym (plan_next number demo_unit (index - 1) index e);
+      advertised_is = ap advertised_by is ∙ advertised_accept writer.history raw ∙ has.advertised_is;
+    }
 
 -- an image was advertised
-pub advertises : (history now : List Operation) (messages : List Raw) (advertised : List ℕ) → now ≡ then_done history Advertise → SharedHas history messages advertised → SharedHas now messages (with_sequence advertised (length messages))
-advertises history now messages advertised is has =
-    subst (λ (h : List Operation). SharedHas h messages (with_sequence advertised (length messages))) (sym is) (record {
-      accepted_is = accepted_more history Advertise ∙ append-nil (accepted_by history) ∙ has.accepted_is;
-      advertised_is = advertised_advertise history ∙ ap (λ (ns : List ℕ). with_sequence ns (length (accepted_by history))) has.advertised_is ∙ ap (λ (raws : List Raw). with_sequence advertised (length raws)) has.accepted_is;
-    })
+pub advertises : (writer now : Writing) (messages : List Raw) (advertised : List ℕ) → now.cut_off ≡ false → now.history ≡ then_done writer.history Advertise → SharedHas writer messages advertised
+    → SharedHas now messages (with_sequence advertised (length messages))
+advertises writer now messages advertised reaches is has = record {
+  reaches = reaches;
+  accepted_is = ap accepted_by is ∙ accepted_more writer.history Advertise ∙ append-nil (accepted_by writer.history) ∙ has.accepted_is;
+  advertised_is = ap advertised_by is ∙ advertised_advertise writer.history ∙ ap (λ (ns : List ℕ). with_sequence ns (length (accepted_by writer.history))) has.advertised_is ∙ ap (λ (raws : List Raw). with_sequence advertised (length raws)) has.accepted_is;
+}
 
 -- ---- A server between the same history
 -- what it was told of begins what it has seen before it is fed, and it has seen no more than that afterwards
@@ -94,14 +97,15 @@ module _ {V : Type 0} (Later : V → V → Type 0) (order : IsOrder Later) (one 
 abbrev view_of : List Raw → View
 view_of messages = record { messages = messages; kept = kept_messages }
 
-pub proxy_answers : (told before after : List Operation) (kept : ℕ) (messages : List Raw) (advertised : List ℕ) (es : List (Event Source)) (piece : List ℕ) (old new : Ending) (limits : Limits) (spent : Spent) (counted : Spent → Type 0)
-    (reply reply' : List ℕ) (lines lines' : List (List ℕ)) → kept ≡ kept_messages → SharedHas told messages advertised → IsPrefix told before → IsPrefix after told
+pub proxy_answers : (writer : Writing) (before after : List Operation) (kept : ℕ) (messages : List Raw) (advertised : List ℕ) (es : List (Event Source)) (piece : List ℕ) (old new : Ending) (limits : Limits) (spent : Spent) (counted : Spent → Type 0)
+    (reply reply' : List ℕ) (lines lines' : List (List ℕ)) → kept ≡ kept_messages → SharedHas writer messages advertised → IsPrefix writer.history before → (writer.cut_off ≡ false → IsPrefix after writer.history)
     → ProxyFeeds es piece old new true limits spent (kept_at kept before) counted (λ v. v ≡ kept_at kept after) reply reply' lines lines'
     → Answered es piece (gap_source messages limits spent es piece) old new counted reply reply' lines lines'
-proxy_answers told before after kept messages advertised es piece old new limits spent counted reply reply' lines lines' is has begins covered feeds =
+proxy_answers writer before after kept messages advertised es piece old new limits spent counted reply reply' lines lines' is has begins covered feeds =
     let n : ℕ = length (new_items es piece) in
+    let told : List Operation = writer.history in
     let views : feeds.views ≡ replicate n (kept_at kept_messages told) =
-    all_one IsLater asked.later_order same_views (kept_at kept) (messages_later kept) told before after feeds.views feeds.now begins covered feeds.rises feeds.shows
+    all_one IsLater asked.later_order same_views (kept_at kept) (messages_later kept) told before after feeds.views feeds.now begins (covered has.reaches) feeds.rises feeds.shows
     ∙ ap (λ (m : ℕ). replicate m (kept_at kept told)) feeds.each ∙ ap (λ (k : ℕ). replicate n (kept_at k told)) is in
     let all : feeds.views ≡ replicate n (view_of messages) = views ∙ ap (λ (raws : List Raw). replicate n (view_of raws)) has.accepted_is in
     subst (λ (vs : List View). Answered es piece (record { there = true; views = vs; limits = limits; spent = spent }) old new counted reply reply' lines lines') all feeds.answered
@@ -164,12 +168,13 @@ stands_same v es piece views views' same stands =
       spin_is = λ on. stands.spin_is on ∙ ap (λ (a : Answer (Option Spin)). a.knows) (same s);
     }
 
-pub spin_answers : (told before after : List Operation) (messages : List Raw) (advertised : List ℕ) (es : List (Event (List Served))) (piece : List ℕ) (old new : Serving) (reply reply' : List ℕ)
-    → SharedHas told messages advertised → IsPrefix told before → IsPrefix after told → SpinFeeds es piece old new (served_at before) (λ v. v ≡ served_at after) reply reply' → SpinFed es piece (image_view messages advertised) old new reply reply'
-spin_answers told before after messages advertised es piece old new reply reply' has begins covered feeds =
+pub spin_answers : (writer : Writing) (before after : List Operation) (messages : List Raw) (advertised : List ℕ) (es : List (Event (List Served))) (piece : List ℕ) (old new : Serving) (reply reply' : List ℕ)
+    → SharedHas writer messages advertised → IsPrefix writer.history before → (writer.cut_off ≡ false → IsPrefix after writer.history) → SpinFeeds es piece old new (served_at before) (λ v. v ≡ served_at after) reply reply' → SpinFed es piece (image_view messages advertised) old new reply reply'
+spin_answers writer before after messages advertised es piece old new reply reply' has begins covered feeds =
     let n : ℕ = length (new_items es piece) in
+    let told : List Operation = writer.history in
     let views : feeds.views ≡ replicate n (served_at told) =
-    all_one ServedLater serves.later_order later_both served_at images_later told before after feeds.views feeds.now begins covered feeds.rises feeds.shows
+    all_one ServedLater serves.later_order later_both served_at images_later told before after feeds.views feeds.now begins (covered has.reaches) feeds.rises feeds.shows
     ∙ ap (λ (m : ℕ). replicate m (served_at told)) feeds.each in
     let is : seen_of told ≡ image_view messages advertised =
     ap (λ (raws : List Raw). image_view raws (advertised_by told)) has.accepted_is ∙ ap (λ (ns : List ℕ). image_view messages ns) has.advertised_is in

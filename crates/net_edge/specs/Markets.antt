@@ -1,9 +1,9 @@
 -- What the code knows of the venue's side, whatever it is made of. No caller needs it.
-use Rattle.std.specs.Prelude.{◌≡◌, ◌≤◌, ◌-◌, ◌++◌, ℕ, true, length, List, ◌∷◌, replicate}
+use Rattle.std.specs.Prelude.{◌≡◌, ◌≤◌, ◌-◌, ◌++◌, ℕ, false, true, length, List, ◌∷◌, replicate}
 use Rattle.std.specs.List.{AllByRecursion}
 use Rattle.pitch_fields.specs.Limits.{last_sequence}
 use Rattle.pitch_messages.specs.Raw.{IsRaw}
-use Rattle.pitch_model.specs.Advertising.{Operation, accepted_by, advertised_by}
+use Rattle.pitch_model.specs.Advertising.{accepted_by, advertised_by}
 use Rattle.pitch_model.specs.History.{Raw}
 use Rattle.session_ends.specs.Events.{Event, Fed}
 use Rattle.session_ends.specs.Sending.{new_items}
@@ -11,6 +11,7 @@ use Rattle.grp_session.specs.Budget.{Limits, Spent}
 use Rattle.grp_session.specs.Serving.{Source}
 use Rattle.spin_server.specs.Served.{Served}
 use Rattle.spin_server.specs.Serving.{Serving, SpinStands, spin_sends}
+use Rattle.shared_unit.specs.Moments.{Writing}
 use Rattle.unit_market.specs.Markets.{Journal, MarketHas}
 use Rattle.unit_market.specs.Standing.{MarketState}
 use Rattle.net_edge.specs.Due.{Setting, demo_unit, kept_messages, messages}
@@ -78,8 +79,9 @@ PlainHas market messages advertised =
     MarketHas market (plain_journal messages advertised)
 
 -- ---- The shared side
--- these were accepted and advertised in its history
-pub record SharedHas (history : List Operation) (messages : List Raw) (advertised : List ℕ) :
+-- these were accepted and advertised in the history of its writer, which was not cut off
+pub record SharedHas (writer : Writing) (messages : List Raw) (advertised : List ℕ) :
     Type 0 where
-  pub accepted_is : accepted_by history ≡ messages
-  pub advertised_is : advertised_by history ≡ advertised
+  pub reaches : writer.cut_off ≡ false
+  pub accepted_is : accepted_by writer.history ≡ messages
+  pub advertised_is : advertised_by writer.history ≡ advertised

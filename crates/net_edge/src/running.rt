@@ -308,7 +308,7 @@ fn demo_of<J: Naming, R: FixedRun, W: Wait, N: Net>(
     ensures { DoesDemo (setting number count) result (N.calls net.old) (N.calls net.new)
         (N.faults net.old) (N.faults net.new) out.old.items out.new.items }
 {
-    match SharedMarket::<J, R, &W>::open(alloc, rt, opened) {
+    match SharedMarket::<J, R, &W>::open(rt, alloc, opened) {
         Ok(mut market) => demo_over(alloc, net, &mut market, number, count, out),
         Err(MakeError::NoPlace) => demo_plain(alloc, net, number, count, out),
         Err(MakeError::OutOfMemory) => Err(DemoError::OutOfMemory),

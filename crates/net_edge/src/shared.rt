@@ -17,11 +17,10 @@ use std::sync::Wait;
 use unit_packets::DatagramList;
 use venue_core::plan_command;
 
-/// A writer and its two servers. Contracts see the writer's history.
+/// A writer and its two servers. Contracts see the writer.
 ///
 /// Before a server is looked up in it is told of all that the writer did, and afterwards it has
-/// seen no more than that: so it answered from just that. That it has seen more never comes, as
-/// nobody else writes; the answer would be OutOfMemory.
+/// seen no more than that, as nobody else writes: so it answered from just that.
 #[derive(Drop)]
 pub(crate) struct SharedMarket<J: Naming, R: FixedRun, W: Wait + Drop> {
     writer: Writer<J, R, W>,
@@ -32,16 +31,16 @@ pub(crate) struct SharedMarket<J: Naming, R: FixedRun, W: Wait + Drop> {
 }
 
 impl<J: Naming, R: FixedRun, W: Wait + Drop> Model for SharedMarket<J, R, W> {
-    ghost use Rattle.std.specs.Prelude.{◌≡◌, ◌≤◌, false, List, length};
-    ghost use Rattle.pitch_model.specs.Advertising.{Operation};
-    ghost use Rattle.shared_unit.specs.Coding.{history_code};
+    ghost use Rattle.std.specs.Prelude.{◌≡◌, ◌≤◌, false, length};
+    ghost use Rattle.shared_unit.specs.Coding.{writing_code};
+    ghost use Rattle.shared_unit.specs.Moments.{Writing};
     ghost use Rattle.net_edge.specs.Due.{kept_messages};
 
-    ghost Value = { List Operation };
+    ghost Value = { Writing };
 
-    ghost coded = { history_code };
+    ghost coded = { writing_code };
 
-    ghost view = { λ m. m.writer.history };
+    ghost view = { λ m. m.writer };
 
     ghost invariant = { λ m. (length m.writer.history ≤ m.done)
         × (J.kept ≡ kept_messages) × (R.fixed ≡ false) };
@@ -50,8 +49,8 @@ impl<J: Naming, R: FixedRun, W: Wait + Drop> Model for SharedMarket<J, R, W> {
 impl<J: Naming, R: FixedRun, W: Wait + Drop> SharedMarket<J, R, W> {
     /// The writer of a pair that was opened for two servers, which has done nothing, and the two.
     pub(crate) fn open(
-        alloc: Global,
         rt: W,
+        alloc: Global,
         opened: Opened<R>,
     ) -> Result<SharedMarket<J, R, W>, MakeError>
         requires book { opened.seen.book ≡ J.book }
@@ -59,12 +58,13 @@ impl<J: Naming, R: FixedRun, W: Wait + Drop> SharedMarket<J, R, W> {
         requires demo { J.kept ≡ kept_messages }
         requires free { R.fixed ≡ false }
         requires servers { opened.servers ≡ 2 }
-        ensures { IfOk result (λ market. market ≡ []) }
+        ensures nothing { IfOk result (λ market. market.history ≡ []) }
+        ensures reaches { IfOk result (λ market. market.cut_off ≡ false) }
     {
         let mut places = LeftRightPlaces::make();
         let (writer, mut servers) = make::<J, R, W, LeftRightPlaces>(
-            alloc,
             rt,
+            alloc,
             opened,
             &mut places,
         )?;
@@ -121,9 +121,7 @@ impl<J: Naming, R: FixedRun, W: Wait + Drop> VenueSide for SharedMarket<J, R, W>
     ) -> Result<(), OutOfMemory> {
         self.gaps.hear_told(self.writer.tell());
         server.feed(piece, budget, Some(&mut self.gaps), said, lines)?;
-        if !self.writer.covers(&self.gaps) {
-            return Err(OutOfMemory);
-        }
+        self.writer.covers(&self.gaps);
         Ok(())
     }
 
@@ -135,9 +133,7 @@ impl<J: Naming, R: FixedRun, W: Wait + Drop> VenueSide for SharedMarket<J, R, W>
     ) -> Result<(), OutOfMemory> {
         self.images.hear_told(self.writer.tell());
         server.feed(piece, &mut self.images, said)?;
-        if !self.writer.covers(&self.images) {
-            return Err(OutOfMemory);
-        }
+        self.writer.covers(&self.images);
         Ok(())
     }
 }

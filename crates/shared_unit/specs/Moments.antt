@@ -1,19 +1,22 @@
 -- All that happens to a shared unit, in one order, and what each end knows of it.
-use Rattle.std.specs.Prelude.{◌≡◌, ℕ, ◌≤◌, Bool, false, List, [], ◌∷◌, ◌++◌, length, flat_map}
-use Rattle.std.specs.Prelude.{sum_by, slice_get, IfSome}
+use Rattle.std.specs.Prelude.{◌≡◌, ℕ, ◌≤◌, Bool, false, true, List, [], ◌∷◌, ◌++◌, length}
+use Rattle.std.specs.Prelude.{flat_map, sum_by, slice_get, IfSome}
 use mathlib.Core.List.{IsPrefix}
 use Rattle.pitch_model.specs.Advertising.{Operation}
 
--- the writer does an operation; it publishes the oldest that it has not published yet; or the
--- server with this number begins an answer
+-- the writer is given a right; it does an operation, which takes that right and gives the next; it
+-- publishes the oldest that it has not published yet; or the server with this number begins an
+-- answer. A right is named by the cell whose pen it is.
 pub data Moment : Type 0 where
-  Doing : (operation : Operation) → Moment
+  Opening : (right : ℕ) → Moment
+  Doing : (operation : Operation) → (right : ℕ) → Moment
   Publishing : Moment
   Answering : (server : ℕ) → Moment
 
 -- the operation that is done, as a list of one or none
 abbrev pub done_at : Moment → List Operation
-done_at (Doing operation) = operation ∷ []
+done_at (Opening right) = []
+done_at (Doing operation right) = operation ∷ []
 done_at Publishing = []
 done_at (Answering server) = []
 
@@ -21,9 +24,21 @@ done_at (Answering server) = []
 abbrev pub history_in : List Moment → List Operation
 history_in moments = flat_map done_at moments
 
+-- the right that is given, as a list of one or none
+abbrev pub right_at : Moment → List ℕ
+right_at (Opening right) = right ∷ []
+right_at (Doing operation right) = right ∷ []
+right_at Publishing = []
+right_at (Answering server) = []
+
+-- the rights that were given, the first first
+abbrev pub rights_in : List Moment → List ℕ
+rights_in moments = flat_map right_at moments
+
 -- the operation that is published, as a number
 abbrev pub published_at : Moment → ℕ
-published_at (Doing operation) = 0
+published_at (Opening right) = 0
+published_at (Doing operation right) = 0
 published_at Publishing = 1
 published_at (Answering server) = 0
 
@@ -43,9 +58,20 @@ pub record Account : Type 0 where
   pub history : List Operation
   pub moments : List Moment
 
--- all operations of the history were published
-abbrev pub IsPublished : Account → Type 0
-IsPublished told = length told.history ≤ published_in told.moments
+-- all operations of a history were published, as far as was seen
+abbrev pub IsPublished : List Operation → List Moment → Type 0
+IsPublished history moments = length history ≤ published_in moments
+
+-- a writer has a history, and all that it saw happen. It was cut off where it had no memory to
+-- publish an operation
+pub record Writing : Type 0 where
+  pub cut_off : Bool
+  pub history : List Operation
+  pub moments : List Moment
+
+-- all else is as it was
+abbrev pub cut : Writing → Writing
+cut writer = record writer { cut_off = true }
 
 -- a server has a number. It knows the longest history that it has answered from or was told of, all
 -- that it saw happen, and whether it was cut off: could not have what was published

@@ -1,17 +1,18 @@
-//! All that happens, which is known to proofs alone: what threads share of it is how many
-//! operations were done, and how many of them were published.
+//! All that happens, which is known to proofs alone: what threads share of it is how many rights to
+//! do an operation were given, and how many operations were published.
 ghost use Rattle.std.specs.Prelude.{◌≡◌, ◌+◌, ◌==◌, ◌<◌, ◌≤◌, ◌^◌, ◌++◌, ◌∷◌, ◌⊎◌, [], length};
 ghost use Rattle.std.specs.Prelude.{MatchBool, IfOk, IfSome};
 ghost use mathlib.Core.List.{IsPrefix};
+ghost use Rattle.logbook.specs.Pages.{may_write};
 ghost use Rattle.pitch_fields.specs.Limits.{most_held};
 ghost use Rattle.shared_unit.specs.Histories.{IsLegal, then_done};
 ghost use Rattle.shared_unit.specs.Moments.{Answering, HappensAfter, history_in, published_in};
-ghost use Rattle.shared_unit.specs.Rules.{length_word, published_word};
+ghost use Rattle.shared_unit.specs.Rules.{rights_word, published_word};
 ghost use Rattle.shared_unit.specs.Stored.{AreBlank, operation_of};
 
 use crate::published::{Shelves, What};
 use crate::run::{FixedRun, Naming};
-use logbook::{Gain, Offer, Plain, Play, Rule, Seen, Start, Word};
+use logbook::{Gain, Offer, Pen, Plain, Play, Rule, Seen, Start, Word};
 use pitch_fields::OutOfMemory;
 use pitch_messages::Raw;
 use std::alloc::Global;
@@ -22,6 +23,7 @@ use std::marker::{Model, PhantomData};
 pub struct Entry {
     operation: Option<Option<Raw>>,
     server: Option<u64>,
+    right: Option<u64>,
 }
 
 impl Model for Entry {
@@ -32,11 +34,12 @@ impl Model for Entry {
 
     ghost coded = { moment_code };
 
-    ghost view = { λ e. moment_from e.operation e.server };
+    ghost view = { λ e. moment_from e.operation e.server e.right };
 }
 
-/// The rule of what happens: the history is as long as the first shared word says, and legal for
-/// its run; so many of its operations were published as the second says.
+/// The rule of what happens: so many rights were given as the first shared word says, and all but
+/// the last were taken; the history is legal for its run; so many of its operations were published
+/// as the second word says.
 pub struct Law<R: FixedRun> {
     of: PhantomData<R>,
 }
@@ -68,6 +71,40 @@ impl Gain<Entry, u64> for Nothing {
     ghost after = { λ names about answer. ftrue };
 }
 
+// A step that gives the first right.
+pub(crate) struct First;
+
+impl Play<Entry, u64> for First {
+    ghost use Rattle.shared_unit.specs.Rules.{GivesFirst};
+
+    ghost then = { GivesFirst };
+}
+
+// A step that makes one cell more.
+pub(crate) struct More;
+
+impl Play<Entry, u64> for More {
+    ghost use Rattle.shared_unit.specs.Rules.{MakesCell};
+
+    ghost then = { MakesCell };
+}
+
+// A step that looks whether anybody added.
+pub(crate) struct Look;
+
+impl Play<Entry, u64> for Look {
+    ghost use Rattle.shared_unit.specs.Rules.{SeesWhole};
+
+    ghost then = { SeesWhole };
+}
+
+// What is done next, and the pen that is the right to do more afterwards.
+#[derive(Drop)]
+pub(crate) struct Next {
+    what: What,
+    pen: Pen,
+}
+
 // A step that adds an operation.
 pub(crate) struct Add<R: FixedRun> {
     of: PhantomData<R>,
@@ -80,14 +117,14 @@ impl<R: FixedRun> Play<Entry, u64> for Add<R> {
 }
 
 // It asks for the operation that is to be published.
-impl<R: FixedRun> Plain<What, Entry, u64> for Add<R> {
+impl<R: FixedRun> Plain<Next, Entry, u64> for Add<R> {
     ghost use Rattle.std.specs.Prelude.{None};
     ghost use Rattle.shared_unit.specs.Moments.{Doing};
     ghost use Rattle.shared_unit.specs.Stored.{operation_of};
 
-    ghost ask = { λ what. Doing (operation_of what) };
+    ghost ask = { λ next. Doing (operation_of next.what) next.pen.nib.key };
 
-    ghost state = { λ what. None };
+    ghost state = { λ next. None };
 }
 
 // A step that says that one operation more was published.
@@ -141,7 +178,7 @@ pub struct Opened<R: FixedRun> {
     first: Shelves,
     second: Shelves,
     pub ghost empty: { seen.log ≡ [] },
-    pub ghost head_is: { head ≡ length_word seen.book },
+    pub ghost head_is: { head ≡ rights_word seen.book },
     pub ghost published_is: { published ≡ published_word seen.book },
     pub ghost some: { (0 < servers) × (servers < 256) },
     pub ghost blank: { AreBlank kept first },
@@ -226,14 +263,14 @@ pub(crate) struct Named<J: Naming, R: FixedRun> {
     pub(crate) second: Shelves,
 }
 
-// The words that all threads share: the length of the history, and how many of its operations were
+// The words that all threads share: how many rights were given, and how many operations were
 // published.
 #[derive(Drop)]
 pub(crate) struct Book<J: Naming, R: FixedRun> {
     head: Word<Entry, u64, Law<R>>,
     published: Word<Entry, u64, Law<R>>,
     of: PhantomData<J>,
-    ghost head_is: { head ≡ length_word J.book },
+    ghost head_is: { head ≡ rights_word J.book },
     ghost published_is: { published ≡ published_word J.book },
 }
 
@@ -294,30 +331,123 @@ impl<J: Naming, R: FixedRun> Front<J, R> {
         }
         true
     }
+}
 
-    // This front with an operation more, where nobody else added one.
-    pub(crate) fn extended(&self, book: &Book<J, R>, what: &What) -> Option<Front<J, R>>
-        requires room { length self.now < 2 ^ 63 }
-        requires legal { IsLegal R.fixed R.plan (then_done self.now (operation_of what.now)) }
-        ensures { IfSome result (λ front. front ≡ then_done self.now (operation_of what.now)) }
+impl<J: Naming, R: FixedRun> Book<J, R> {
+    // The pen of a cell of its own.
+    fn cell(&self, seen: &Seen<Entry, u64, Law<R>>) -> Pen
+        requires { seen.now.book ≡ J.book }
+        ensures { (result.book ≡ J.book) × (result.nib.right ≡ may_write) }
     {
-        let mut seen = self.seen.again();
-        let mut offer: Offer<Entry, u64, Law<R>, Nothing> = seen.plain::<Nothing, What, Add<R>>(
-            what,
-        );
+        let mut seen = seen.again();
+        let mut offer: Offer<Entry, u64, Law<R>, Nothing> = seen.plain::<Nothing, u64, Publish>(&0);
         let mut pen = seen.no_pen();
-        let count = self.count;
+        self.head
+            .compare_exchange::<More, Nothing>(0, 0, &mut seen, &mut offer, &mut pen);
+        let _word: Word<Entry, u64, Law<R>> = Word::tracked(0, &mut pen);
+        pen
+    }
+}
+
+// The right to add to the history, which one end at most has. It has seen the whole history.
+// Contracts see that.
+#[derive(Drop)]
+pub(crate) struct Right<J: Naming, R: FixedRun> {
+    count: u64,
+    seen: Seen<Entry, u64, Law<R>>,
+    pen: Pen,
+    of: PhantomData<J>,
+}
+
+impl<J: Naming, R: FixedRun> Model for Right<J, R> {
+    ghost use Rattle.std.specs.Prelude.{◌≡◌, List, length};
+    ghost use Rattle.pitch_model.specs.Advertising.{Operation};
+    ghost use Rattle.shared_unit.specs.Coding.{history_code};
+    ghost use Rattle.shared_unit.specs.Moments.{history_in};
+    ghost use Rattle.shared_unit.specs.Rules.{MayAdd};
+
+    ghost Value = { List Operation };
+
+    ghost coded = { history_code };
+
+    ghost view = { λ r. history_in r.seen.log };
+
+    ghost invariant = { λ r. (r.count ≡ length (history_in r.seen.log)) × (r.seen.book ≡ J.book)
+        × (r.pen.book ≡ J.book) × MayAdd R.fixed R.plan r.seen.log r.pen.nib };
+}
+
+impl<J: Naming, R: FixedRun> Right<J, R> {
+    // The first right, where none was given yet.
+    pub(crate) fn first(book: &Book<J, R>, front: &Front<J, R>) -> Option<Right<J, R>>
+        ensures { IfSome result (λ right. right ≡ []) }
+    {
+        let mut seen = front.seen.again();
+        let mut offer: Offer<Entry, u64, Law<R>, Nothing> = seen.plain::<Nothing, u64, Publish>(&0);
+        let mut pen = seen.no_pen();
         let found = book
             .head
-            .compare_exchange::<Add<R>, Nothing>(count, count + 1, &mut seen, &mut offer, &mut pen);
-        if found != count {
+            .compare_exchange::<First, Nothing>(0, 1, &mut seen, &mut offer, &mut pen);
+        if found != 0 {
             return None;
         }
-        Some(Front {
-            count: count + 1,
+        let _word: Word<Entry, u64, Law<R>> = Word::tracked(0, &mut pen);
+        Some(Right {
+            count: 0,
             seen,
+            pen,
             of: PhantomData,
         })
+    }
+
+    // The whole history.
+    pub(crate) fn front(&self) -> Front<J, R>
+        ensures { result ≡ self.now }
+    {
+        Front {
+            count: self.count,
+            seen: self.seen.again(),
+            of: PhantomData,
+        }
+    }
+
+    // Adds an operation, and hands it back. The right is taken by that, and is the next one then.
+    pub(crate) fn add(&mut self, book: &Book<J, R>, what: What) -> What
+        requires room { length self.old < 2 ^ 63 }
+        requires legal { IsLegal R.fixed R.plan (then_done self.old (operation_of what)) }
+        ensures added { self.new ≡ then_done self.old (operation_of what) }
+        ensures same { result ≡ what }
+    {
+        let next = Next {
+            what,
+            pen: book.cell(&self.seen),
+        };
+        let mut offer: Offer<Entry, u64, Law<R>, Nothing> = self
+            .seen
+            .plain::<Nothing, Next, Add<R>>(&next);
+        let rights = self.count + 1;
+        book.head.compare_exchange::<Add<R>, Nothing>(
+            rights,
+            rights + 1,
+            &mut self.seen,
+            &mut offer,
+            &mut self.pen,
+        );
+        let Next { what, pen } = next;
+        self.pen = pen;
+        self.count += 1;
+        what
+    }
+
+    // Nobody else adds, so what another end has seen begins this history.
+    pub(crate) fn covers(&mut self, book: &Book<J, R>, other: &Front<J, R>)
+        ensures same { self.new ≡ self.old }
+        ensures begins { IsPrefix other.now self.old }
+    {
+        let mut both = self.seen.again();
+        both.learn(&other.seen);
+        let mut offer: Offer<Entry, u64, Law<R>, Nothing> = both.plain::<Nothing, u64, Publish>(&0);
+        book.head
+            .compare_exchange::<Look, Nothing>(0, 0, &mut both, &mut offer, &mut self.pen);
     }
 }
 

@@ -1,11 +1,11 @@
 //! The end that publishes.
-ghost use Rattle.std.specs.Prelude.{◌≡◌, ◌<◌, ◌^◌, [], length, IfOk, OnOk, MatchResult};
+ghost use Rattle.std.specs.Prelude.{◌≡◌, ◌<◌, ◌^◌, [], false, length, IfOk, OnOk, MatchResult};
 ghost use mathlib.Core.List.{IsPrefix};
 ghost use Rattle.shared_unit.specs.Histories.{IsLegal, then_done};
-ghost use Rattle.shared_unit.specs.Moments.{IsNew, IsPublished};
+ghost use Rattle.shared_unit.specs.Moments.{IsNew, IsPublished, cut};
 ghost use Rattle.shared_unit.specs.Stored.{AreBlank, ComesAfter, HasSequences, operation_of};
 
-use crate::book::{Book, Eye, Opened};
+use crate::book::{Book, Eye, Opened, Right};
 use crate::holder::Holder;
 use crate::past::Past;
 use crate::published::What;
@@ -18,12 +18,16 @@ use std::alloc::Global;
 use std::marker::Model;
 use std::sync::{Arc, Wait};
 
-// The pair of copies, the words that are shared and what is known of them. Contracts see the
-// history, all of which was published, and all that was seen happen.
+// The pair of copies, the words that are shared, the right to add to the history and what is known
+// of it. Contracts see the history, all of which was published, all that was seen happen, and
+// whether it was cut off.
 #[derive(Drop)]
 pub(crate) struct Desk<J: Naming, R: FixedRun, W: Wait + Drop> {
     holder: Holder<Store<J, R>, Published<J, R>, W>,
     book: Arc<Book<J, R>>,
+    right: Right<J, R>,
+    // whether an operation was added for which there was no memory then
+    cut_off: bool,
     past: Past<J, R>,
     eye: Eye<J, R>,
     // what a new server knows
@@ -32,34 +36,63 @@ pub(crate) struct Desk<J: Naming, R: FixedRun, W: Wait + Drop> {
 }
 
 impl<J: Naming, R: FixedRun, W: Wait + Drop> Model for Desk<J, R, W> {
-    ghost use Rattle.std.specs.Prelude.{◌≡◌, ◌≤◌, [], length};
-    ghost use Rattle.shared_unit.specs.Coding.{account_code};
-    ghost use Rattle.shared_unit.specs.Moments.{Account, published_in};
+    ghost use Rattle.std.specs.Prelude.{◌≡◌, ◌≤◌, [], false, length};
+    ghost use Rattle.shared_unit.specs.Coding.{writing_code};
+    ghost use Rattle.shared_unit.specs.Moments.{Writing, published_in};
 
-    ghost Value = { Account };
+    ghost Value = { Writing };
 
-    ghost coded = { account_code };
+    ghost coded = { writing_code };
 
-    ghost view = { λ d. record { history = d.past; moments = d.eye } };
+    ghost view = { λ d. record { cut_off = d.cut_off; history = d.past; moments = d.eye } };
 
     ghost invariant = { λ d. (d.holder.0 ≡ d.past) × (d.holder.1 ≡ [])
-        × (d.none ≡ []) × (d.shut ≡ []) × (length d.past ≤ published_in d.eye) };
+        × (d.none ≡ []) × (d.shut ≡ []) × (length d.past ≤ published_in d.eye)
+        × (d.cut_off ≡ false → d.right ≡ d.past) };
+}
+
+// Adds an operation to the history, by the right to. Answers what is known then, and what is to be
+// published.
+fn add<J: Naming, R: FixedRun>(
+    book: &Book<J, R>,
+    right: &mut Right<J, R>,
+    past: &Past<J, R>,
+    what: What,
+) -> (Past<J, R>, Published<J, R>)
+    requires whole { right.old ≡ past.now }
+    requires room { length past.now < 2 ^ 63 }
+    requires legal { IsLegal R.fixed R.plan (then_done past.now (operation_of what)) }
+    requires follows { ComesAfter what past.now }
+    requires few { HasSequences (then_done past.now (operation_of what)) }
+    ensures right { right.new ≡ then_done past.now (operation_of what) }
+    ensures past { result.0 ≡ then_done past.now (operation_of what) }
+    ensures published { result.1 ≡ then_done past.now (operation_of what) }
+{
+    let what = right.add(book, what);
+    let after = past.extended(right.front(), &what);
+    let published = Published::new(what, after.again());
+    (after, published)
 }
 
 impl<J: Naming, R: FixedRun, W: Wait + Drop> Desk<J, R, W> {
     // The pair that was opened, under its name.
     #[tactic(auto, using(crate::proofs::Growing::grown_none))]
     pub(crate) fn open(
-        alloc: Global,
         rt: W,
+        alloc: Global,
         opened: Opened<R>,
     ) -> Result<Desk<J, R, W>, OutOfMemory>
         requires book { opened.seen.book ≡ J.book }
         requires kept { opened.kept ≡ J.kept }
-        ensures { IfOk result (λ desk. desk.history ≡ []) }
+        ensures nothing { IfOk result (λ desk. desk.history ≡ []) }
+        ensures reaches { IfOk result (λ desk. desk.cut_off ≡ false) }
     {
         let servers = opened.servers;
         let named = opened.named::<J>();
+        // nobody else opened this pair, so the right is there
+        let Some(right) = Right::first(&named.book, &named.front) else {
+            return Err(OutOfMemory);
+        };
         let none = Past::none(named.front);
         let first = Store::new(named.first, none.again());
         let second = Store::new(named.second, none.again());
@@ -71,6 +104,8 @@ impl<J: Naming, R: FixedRun, W: Wait + Drop> Desk<J, R, W> {
         Ok(Desk {
             holder,
             book: Arc::new(alloc, named.book)?,
+            right,
+            cut_off: false,
             past: none.again(),
             eye: named.eye.again(),
             none,
@@ -88,12 +123,13 @@ impl<J: Naming, R: FixedRun, W: Wait + Drop> Desk<J, R, W> {
     // What stands for the history, which was published.
     pub(crate) fn told(&self) -> Told<J, R>
         ensures history { result.history ≡ self.now.history }
-        ensures published { IsPublished result }
+        ensures published { IsPublished result.history result.moments }
     {
         Told::new(self.past.again(), self.eye.again())
     }
 
-    // Adds an operation to the history and publishes it. All is as before after OutOfMemory.
+    // Adds an operation to the history and publishes it. After OutOfMemory it is cut off, and all
+    // else is as before.
     #[tactic(auto, using(crate::proofs::Writing::done_length))]
     pub(crate) fn publish(&mut self, what: What) -> Result<(), OutOfMemory>
         requires room { length self.old.history < 2 ^ 63 }
@@ -102,20 +138,33 @@ impl<J: Naming, R: FixedRun, W: Wait + Drop> Desk<J, R, W> {
         requires few { HasSequences (then_done self.old.history (operation_of what)) }
         ensures history { MatchResult result
             (λ _. self.new.history ≡ then_done self.old.history (operation_of what))
-            (λ _. self.new ≡ self.old) }
-        ensures published { OnOk result (IsPublished self.new) }
+            (λ _. self.new ≡ cut self.old) }
+        ensures published { OnOk result (IsPublished self.new.history self.new.moments) }
+        ensures reached { OnOk result (self.old.cut_off ≡ false) }
+        ensures reaches { OnOk result (self.new.cut_off ≡ false) }
     {
-        let Some(past) = self.past.extended(&*self.book, &what) else {
+        if self.cut_off {
             return Err(OutOfMemory);
-        };
-        let published = Published::new(what, past.again());
+        }
+        let (past, published) = add(&*self.book, &mut self.right, &self.past, what);
         match self.holder.push(published) {
             Ok(()) => {}
-            Err(_) => return Err(OutOfMemory),
+            Err(_) => {
+                self.cut_off = true;
+                return Err(OutOfMemory);
+            }
         }
         self.eye.publish(&*self.book, past.front());
         self.past = past;
         Ok(())
+    }
+
+    // Nobody else adds, so what another end has seen begins the history.
+    pub(crate) fn covers(&mut self, other: &Past<J, R>)
+        ensures same { self.new ≡ self.old }
+        ensures begins { self.old.cut_off ≡ false → IsPrefix other.now self.old.history }
+    {
+        self.right.covers(&*self.book, other.front());
     }
 
     // One more server, which has seen nothing.
@@ -132,6 +181,8 @@ impl<J: Naming, R: FixedRun, W: Wait + Drop> Desk<J, R, W> {
         let Self {
             holder,
             book: _,
+            right: _,
+            cut_off: _,
             past: _,
             eye: _,
             none: _,

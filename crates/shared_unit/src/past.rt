@@ -1,12 +1,12 @@
 //! What is known of the history.
-ghost use Rattle.std.specs.Prelude.{◌≡◌, ◌==◌, ◌<◌, ◌^◌, ◌⊎◌, [], length, MatchBool, IfSome, Some};
+ghost use Rattle.std.specs.Prelude.{◌≡◌, ◌==◌, ◌<◌, ◌⊎◌, [], length, MatchBool, Some};
 ghost use mathlib.Core.List.{IsPrefix};
 ghost use Rattle.std.specs.List.{list_any};
 ghost use Rattle.pitch_model.specs.Advertising.{advertised_by, last_ten, newest_of};
 ghost use Rattle.shared_unit.specs.Histories.{IsLegal, then_done};
 ghost use Rattle.shared_unit.specs.Stored.{ComesAfter, operation_of, served_with};
 
-use crate::book::{Book, Front};
+use crate::book::Front;
 use crate::published::What;
 use crate::run::{FixedRun, Naming};
 use crate::sequences::Sequences;
@@ -116,16 +116,14 @@ impl<J: Naming, R: FixedRun> Past<J, R> {
         self.served.has(sequence)
     }
 
-    // This past with an operation more, where nobody else added one.
-    pub(crate) fn extended(&self, book: &Book<J, R>, what: &What) -> Option<Past<J, R>>
-        requires room { length self.now < 2 ^ 63 }
-        requires legal { IsLegal R.fixed R.plan (then_done self.now (operation_of what.now)) }
+    // This past with an operation more, which ends that front.
+    pub(crate) fn extended(&self, front: Front<J, R>, what: &What) -> Past<J, R>
+        requires ends { front ≡ then_done self.now (operation_of what.now) }
         requires follows { ComesAfter what.now self.now }
-        ensures { IfSome result (λ past. past ≡ then_done self.now (operation_of what.now)) }
+        ensures { result ≡ then_done self.now (operation_of what.now) }
     {
-        let front = self.front.extended(book, what)?;
         let served = served_after(&self.served, what);
-        Some(Past { front, served })
+        Past { front, served }
     }
 }
 

@@ -1,5 +1,5 @@
 //! Where the places of servers come from.
-ghost use Rattle.std.specs.Prelude.{◌≡◌, ◌≤◌, ℕ, [], IfOk, IfErr, OnOk, length};
+ghost use Rattle.std.specs.Prelude.{◌≡◌, ◌≤◌, ℕ, [], false, IfOk, IfErr, OnOk, length};
 ghost use Rattle.std.specs.List.{AllByRecursion};
 ghost use Rattle.pitch_io.specs.Causes.{Rose};
 ghost use Rattle.shared_unit.specs.Moments.{IsNew, AreNumbered};
@@ -145,8 +145,8 @@ fn place_all<J: Naming, R: FixedRun, W: Wait + Drop, P: Places<J, R, W>>(
 /// The writer and as many servers as the pair was opened for, with the empty history. The error is
 /// that of `places`, or OutOfMemory; nothing is handed back then.
 pub fn make<J: Naming, R: FixedRun, W: Wait + Drop, P: Places<J, R, W>>(
-    alloc: Global,
     rt: W,
+    alloc: Global,
     opened: Opened<R>,
     places: &mut P,
 ) -> Result<(Writer<J, R, W>, Vec<Server<J, R>>), MakeError>
@@ -154,6 +154,7 @@ pub fn make<J: Naming, R: FixedRun, W: Wait + Drop, P: Places<J, R, W>>(
     requires book { opened.seen.book ≡ J.book }
     requires kept { opened.kept ≡ J.kept }
     ensures writer { IfOk result (λ made. made.0.history ≡ []) }
+    ensures reaches { IfOk result (λ made. made.0.cut_off ≡ false) }
     ensures servers { IfOk result (λ made. AllByRecursion IsNew made.1.items) }
     // The number of each is its place.
     ensures numbers { IfOk result (λ made. AreNumbered made.1.items) }
@@ -165,7 +166,7 @@ pub fn make<J: Naming, R: FixedRun, W: Wait + Drop, P: Places<J, R, W>>(
 {
     let (unit, count) = (opened.unit, opened.servers);
     let mut servers = Vec::new(alloc);
-    let desk = Desk::open(alloc, rt, opened)?;
+    let desk = Desk::open(rt, alloc, opened)?;
     let mut writer = Writer::new(alloc, desk, unit);
     match place_all(places, &mut writer, count, &mut servers) {
         Ok(()) => Ok((writer, servers)),

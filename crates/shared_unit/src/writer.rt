@@ -1,16 +1,17 @@
 //! The writer.
-ghost use Rattle.std.specs.Prelude.{◌≡◌, ◌+◌, ◌<◌, ◌^◌, [], length, Some, IfOk, OnOk, MatchBool};
-ghost use Rattle.std.specs.Prelude.{MatchResult};
+ghost use Rattle.std.specs.Prelude.{◌≡◌, ◌+◌, ◌<◌, ◌^◌, ◌⊎◌, [], false, length, Some, IfOk};
+ghost use Rattle.std.specs.Prelude.{IfErr, OnOk, OnErr, MatchResult};
 ghost use mathlib.Core.List.{IsPrefix};
 ghost use Rattle.std.specs.Option.{option_copied};
 ghost use Rattle.pitch_model.specs.Advertising.{Accept, Advertise, accepted_by};
 ghost use Rattle.venue_core.specs.Commands.{raw_of};
 ghost use Rattle.venue_core.specs.Refusals.{refusal, IsAnswer};
+ghost use Rattle.venue_core.specs.declared.error.VenueError.TheVariants as errors;
 ghost use Rattle.pitch_model.specs.History.{adds};
 ghost use Rattle.pitch_model.specs.Image.{image_of};
 ghost use Rattle.venue_core.specs.Stands.{last_of};
 ghost use Rattle.shared_unit.specs.Histories.{IsLegal, then_done};
-ghost use Rattle.shared_unit.specs.Moments.{IsNew, IsPublished};
+ghost use Rattle.shared_unit.specs.Moments.{IsNew, IsPublished, cut};
 ghost use Rattle.shared_unit.specs.Stored.{ComesAfter, operation_of, raws_in};
 
 use crate::desk::Desk;
@@ -28,7 +29,8 @@ use std::sync::{Arc, Wait};
 use venue_core::{Venue, VenueError};
 
 /// The one who writes: it accepts the commands of a unit and advertises its images. Contracts see
-/// the history of what it did, and all that it saw happen.
+/// the history of what it did, all that it saw happen, and whether it was cut off: had no memory to
+/// publish an operation. One that was cut off does none from then on.
 ///
 /// A call may wait until a server has left what it looks at. Once the writer was let go without
 /// [`Writer::close`], its servers are out of memory for each look-up.
@@ -42,12 +44,12 @@ pub struct Writer<J: Naming, R: FixedRun, W: Wait + Drop> {
 impl<J: Naming, R: FixedRun, W: Wait + Drop> Model for Writer<J, R, W> {
     ghost use Rattle.pitch_model.specs.Advertising.{accepted_by};
     ghost use Rattle.venue_core.specs.Stands.{Stands};
-    ghost use Rattle.shared_unit.specs.Coding.{account_code};
-    ghost use Rattle.shared_unit.specs.Moments.{Account};
+    ghost use Rattle.shared_unit.specs.Coding.{writing_code};
+    ghost use Rattle.shared_unit.specs.Moments.{Writing};
 
-    ghost Value = { Account };
+    ghost Value = { Writing };
 
-    ghost coded = { account_code };
+    ghost coded = { writing_code };
 
     ghost view = { λ w. w.desk };
 
@@ -74,8 +76,10 @@ fn picture_of(alloc: Global, book: &UnitBook, sequence: u32) -> Result<Picture, 
 
 impl<J: Naming, R: FixedRun, W: Wait + Drop> Writer<J, R, W> {
     pub(crate) fn new(alloc: Global, desk: Desk<J, R, W>, unit: u8) -> Writer<J, R, W>
-        requires { desk.history ≡ [] }
-        ensures { result.history ≡ [] }
+        requires nothing { desk.history ≡ [] }
+        requires reaches { desk.cut_off ≡ false }
+        ensures nothing { result.history ≡ [] }
+        ensures reaches { result.cut_off ≡ false }
     {
         Writer {
             alloc,
@@ -114,8 +118,8 @@ impl<J: Naming, R: FixedRun, W: Wait + Drop> Writer<J, R, W> {
     /// Accepts a command, as [`Venue::accept`], and publishes its message. The history is as before
     /// after a refusal.
     ///
-    /// Once it was out of memory here, each later call may be. The history has fewer than 2^63
-    /// operations; where the run fixes its messages, the command's is the next of them.
+    /// The history has fewer than 2^63 operations; where the run fixes its messages, the command's
+    /// is the next of them.
     pub fn accept(&mut self, command: &Command) -> Result<u32, VenueError>
         requires few { length self.old.history < 2 ^ 63 }
         requires run { IsLegal R.fixed R.plan
@@ -124,10 +128,17 @@ impl<J: Naming, R: FixedRun, W: Wait + Drop> Writer<J, R, W> {
         ensures answer { IsAnswer (refusal (accepted_by self.old.history) command.now)
             (length (accepted_by self.old.history) + 1) result }
         // Just this operation is added to the history, where it is Ok.
-        ensures history { MatchResult result (λ _. self.new.history
-            ≡ then_done self.old.history (Accept (raw_of command.now))) (λ _. self.new ≡ self.old) }
+        ensures history { MatchResult result
+            (λ _. self.new.history ≡ then_done self.old.history (Accept (raw_of command.now)))
+            (λ _. self.new.history ≡ self.old.history) }
         // Then all of the history was published.
-        ensures published { OnOk result (IsPublished self.new) }
+        ensures published { OnOk result (IsPublished self.new.history self.new.moments) }
+        // It was not cut off, and is not.
+        ensures reached { OnOk result (self.old.cut_off ≡ false) }
+        ensures reaches { OnOk result (self.new.cut_off ≡ false) }
+        // Else all is as before, but that for want of memory it may be cut off.
+        ensures same { IfErr result (λ error. (self.new ≡ self.old)
+            ⊎ ((error ≡ errors.OutOfMemory) × (self.new ≡ cut self.old))) }
     {
         let raw = match self.venue.prepare(command) {
             Ok(raw) => raw,
@@ -148,10 +159,16 @@ impl<J: Naming, R: FixedRun, W: Wait + Drop> Writer<J, R, W> {
         ensures sequence { IfOk result
             (λ sequence. sequence ≡ length (accepted_by self.old.history)) }
         // Just this operation is added to the history, where it is Ok.
-        ensures history { MatchResult result (λ _. self.new.history
-            ≡ then_done self.old.history Advertise) (λ _. self.new ≡ self.old) }
+        ensures history { MatchResult result
+            (λ _. self.new.history ≡ then_done self.old.history Advertise)
+            (λ _. self.new.history ≡ self.old.history) }
         // Then all of the history was published.
-        ensures published { OnOk result (IsPublished self.new) }
+        ensures published { OnOk result (IsPublished self.new.history self.new.moments) }
+        // It was not cut off, and is not.
+        ensures reached { OnOk result (self.old.cut_off ≡ false) }
+        ensures reaches { OnOk result (self.new.cut_off ≡ false) }
+        // Else all is as before, but that it may be cut off.
+        ensures same { OnErr result ((self.new ≡ self.old) ⊎ (self.new ≡ cut self.old)) }
     {
         // What was done is legal, and advertising accepts nothing.
         let _done = self.desk.past().len();
@@ -172,20 +189,20 @@ impl<J: Naming, R: FixedRun, W: Wait + Drop> Writer<J, R, W> {
     pub fn tell(&mut self) -> Told<J, R>
         ensures told { result.history ≡ self.old.history }
         // Whoever hears it knows that all of it was published.
-        ensures published { IsPublished result }
+        ensures published { IsPublished result.history result.moments }
         ensures same { self.new ≡ self.old }
     {
         self.desk.told()
     }
 
-    /// Whether what a server has seen begins this history. It always does; but that nobody else
-    /// writes is not a clause, so who rests on it asks.
-    pub fn covers(&self, server: &Server<J, R>) -> bool
-        ensures { MatchBool result (IsPrefix server.now.history self.now.history)
-            (IsPrefix self.now.history server.now.history
-            × (length self.now.history < length server.now.history)) }
+    /// Nobody else writes: what a server has seen begins this history, unless the writer was cut
+    /// off. It tests nothing and changes nothing; who rests on it calls it.
+    pub fn covers(&mut self, server: &Server<J, R>)
+        ensures same { self.new ≡ self.old }
+        ensures begins { self.old.cut_off ≡ false
+            → IsPrefix server.now.history self.old.history }
     {
-        self.desk.past().covers(&server.past)
+        self.desk.covers(&server.past);
     }
 
     /// Ends writing. Servers go on answering.

@@ -258,7 +258,7 @@ fn run_unit<
     ensures { IfOk result (λ line. line.items ≡ drill_line course.number course.unit course.count) }
 {
     let mut places = LeftRightPlaces::make();
-    match make::<J, R, &W, LeftRightPlaces>(alloc, rt, opened, &mut places) {
+    match make::<J, R, &W, LeftRightPlaces>(rt, alloc, opened, &mut places) {
         Ok((writer, servers)) => {
             line_of_parties(rt, alloc, gate, &course, writer, only(servers))
         }

@@ -1,8 +1,9 @@
-use Rattle.std.proofs.Common.{◌∙◌, List, sym, ap}
+use Rattle.std.proofs.Common.{◌∙◌, sym, ap}
 use Rattle.std.specs.Option.{option_copied}
-use Rattle.pitch_model.specs.Advertising.{Operation, Accept}
+use Rattle.pitch_model.specs.Advertising.{Accept}
 use Rattle.pitch_text.specs.declared.command.Command.{Command}
 use Rattle.shared_unit.specs.Histories.{then_done}
+use Rattle.shared_unit.specs.Moments.{Writing}
 use Rattle.venue_core.specs.Commands.{raw_of}
 use Rattle.net_edge.proofs.Sharing.{accepted_is, accepted_there, accepts}
 use Rattle.net_edge.proofs.shared.SharedMarketVenueSide.accept.Goals as goal
@@ -19,6 +20,6 @@ returns-clause-raw g c = λ advertised has.
 
 pub returns-clause-keeps : goal.returns-clause-keeps
 returns-clause-keeps g c = λ advertised has.
-    accepts c.args.self.now c.accept.new.self.history c.args.number c.args.index advertised c.requires
-    (c.in-Ok.ensures.history ∙ ap (λ (h : List Operation). then_done h (Accept (raw_of c.plan_command.result))) c.self.view_is
-    ∙ ap (λ (k : Command). then_done c.args.self.now (Accept (raw_of k))) c.plan_command.ensures) has
+    accepts c.args.self.now c.accept.new.self c.args.number c.args.index advertised c.requires c.in-Ok.ensures.reaches
+    (c.in-Ok.ensures.history ∙ ap (λ (w : Writing). then_done w.history (Accept (raw_of c.plan_command.result))) c.self.view_is
+    ∙ ap (λ (k : Command). then_done c.args.self.now.history (Accept (raw_of k))) c.plan_command.ensures) has

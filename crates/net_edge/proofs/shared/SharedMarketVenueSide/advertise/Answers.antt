@@ -1,9 +1,10 @@
-use Rattle.std.proofs.Common.{◌∙◌, List, ap}
-use Rattle.pitch_model.specs.Advertising.{Operation, Advertise}
+use Rattle.std.proofs.Common.{◌∙◌, ap}
+use Rattle.pitch_model.specs.Advertising.{Advertise}
+use Rattle.shared_unit.specs.Moments.{Writing}
 use Rattle.shared_unit.specs.Histories.{then_done}
 use Rattle.net_edge.proofs.Sharing.{advertises}
 use Rattle.net_edge.proofs.shared.SharedMarketVenueSide.advertise.Goals as goal
 
 pub returns-clause-keeps : goal.returns-clause-keeps
 returns-clause-keeps g c = λ messages advertised has.
-    advertises c.args.self.now c.advertise.new.self.history messages advertised (c.in_ok-sequence.ensures.history ∙ ap (λ (h : List Operation). then_done h Advertise) c.self.view_is) has
+    advertises c.args.self.now c.advertise.new.self messages advertised c.in_ok-sequence.ensures.reaches (c.in_ok-sequence.ensures.history ∙ ap (λ (w : Writing). then_done w.history Advertise) c.self.view_is) has

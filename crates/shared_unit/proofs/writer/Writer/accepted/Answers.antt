@@ -1,7 +1,7 @@
 use Rattle.std.proofs.Common.{◌≡◌, ◌+◌, List, length, subst, arith}
 use Rattle.pitch_model.specs.Advertising.{Operation, accepted_by}
 use Rattle.venue_core.specs.Stands.{Stands}
-use Rattle.shared_unit.specs.Moments.{Account}
+use Rattle.shared_unit.specs.Moments.{Writing}
 use Rattle.shared_unit.proofs.writer.Writer.accepted.Goals as goal
 
 pub overflow_sub-result : goal.overflow_sub-result
@@ -9,5 +9,5 @@ overflow_sub-result g c = omega (arith, c.next_sequence.ensures _ 0 c.self.invar
 
 pub returns : goal.returns
 returns g c =
-    let next : c.next_sequence.result ≡ length (accepted_by c.args.self.now.history) + 1 = c.next_sequence.ensures _ 0 (subst (λ (h : Account). Stands c.self.inside.venue (accepted_by h.history) 0) c.self.view_is c.self.invariant) in
+    let next : c.next_sequence.result ≡ length (accepted_by c.args.self.now.history) + 1 = c.next_sequence.ensures _ 0 (subst (λ (h : Writing). Stands c.self.inside.venue (accepted_by h.history) 0) c.self.view_is c.self.invariant) in
     omega (arith, next)
