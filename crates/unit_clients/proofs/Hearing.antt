@@ -1,6 +1,7 @@
 -- A unit's client hears a block.
 use Rattle.std.proofs.Common.{◌≡◌, ◌≢◌, ℕ, ◌<◌, inl, inr, Bool, true, false, ◌||◌, List, [], ◌∷◌, eqb, refl, sym, ap, ◌∙◌, subst, arith, Option, Some, None, slice_get}
 use Rattle.std.proofs.Math.ListN.{set}
+use Rattle.std.specs.Option.{option_flatten}
 use Rattle.std.proofs.lemmas.Bool.{cases_eq, eq-eqb, ne_eqb}
 use Rattle.unit_packets.specs.Blocks.{Block}
 use Rattle.pitch_model.specs.History.{Entry, Raw}
@@ -9,8 +10,9 @@ use Rattle.heard_items.specs.Units.{unit_history}
 use Rattle.heard_items.proofs.Units.{history_same, history_other}
 use Rattle.client_core.specs.Tracks.{Tracks}
 use Rattle.client_core.specs.declared.client.UnitClient.{UnitClient}
-use Rattle.unit_clients.specs.Clients.{is_named, IsClient, TracksAt, IsSlotAsBefore, Clients, KeepsTo, AllKeep}
-use Rattle.unit_clients.proofs.Placing.{each_set}
+use Rattle.unit_clients.specs.Clients.{Units, is_named, IsClient, TracksAt, IsSlotAsBefore, Clients, KeepsTo, AllKeep, HaveHeard, client_of}
+use Rattle.unit_clients.specs.Tables.{with_place}
+use Rattle.unit_clients.proofs.Placing.{each_set, set_there}
 
 -- ---- Units that no block names
 not_named : (block : Block) (before : List Block) (unit : ℕ) → is_named (block ∷ before) unit ≡ false → (block.unit ≢ unit) × (is_named before unit ≡ false)
@@ -84,6 +86,20 @@ clients_still H u clients was slot before there same stands =
 
 pub all_keep_still : (Vs : ℕ → List Raw) (u : ℕ) (clients : List (Option UnitClient)) (was slot : Option UnitClient) → slice_get clients u ≡ Some was → IsSlotAsBefore was slot → AllKeep Vs clients → AllKeep Vs (set clients u slot)
 all_keep_still Vs u clients was slot there same keeps = clients_keep Vs u clients slot keeps (keeps_still (Vs u) was slot same (keeps.each u was there))
+
+pub all_still : (units : Units) (u : ℕ) (was slot : Option UnitClient) → slice_get units.places u ≡ Some was → IsSlotAsBefore was slot → (before : List Block) → HaveHeard units before → HaveHeard (with_place units u slot) before
+all_still units u was slot there same before heard = record {
+  clients = clients_still units.limit u units.places was slot before there same heard.clients;
+  named = heard.named;
+  keep = λ Image Vs honest. all_keep_still Vs u units.places was slot there same (heard.keep Image Vs honest);
+}
+
+-- ---- The client of a unit
+pub client_at : (units : Units) (u : ℕ) (was : Option UnitClient) → slice_get units.places u ≡ Some was → client_of units u ≡ was
+client_at units u was there = ap option_flatten there
+
+pub client_put : (units : Units) (u : ℕ) (was slot : Option UnitClient) → slice_get units.places u ≡ Some was → client_of (with_place units u slot) u ≡ slot
+client_put units u was slot there = ap option_flatten (set_there units.places u slot was there)
 
 -- ---- Units
 -- a block more

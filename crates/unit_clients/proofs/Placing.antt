@@ -16,6 +16,12 @@ get_set (x ∷ xs) (suc i) (suc q) y r e = elim (get_set xs i q y r e) [
   | inr other ↦ inr ((λ same. other.0 (omega arith)), other.1)
 ]
 
+-- what was set stands there
+pub set_there : {X : Type 0} (xs : List X) (i : ℕ) (y r : X) → slice_get xs i ≡ Some r → slice_get (set xs i y) i ≡ Some y
+set_there [] i y r e = absurd (none-some r e)
+set_there (x ∷ xs) zero y r e = refl
+set_there (x ∷ xs) (suc i) y r e = set_there xs i y r e
+
 -- ---- Places
 -- what holds of the place of one unit that was left so, and of all others as they were, holds of each
 pub each_set : {T : Type 0} (P P' : ℕ → Option T → Type 0) (places : List (Option T)) (u : ℕ) (place : Option T)

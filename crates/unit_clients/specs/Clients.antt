@@ -1,5 +1,7 @@
 -- What the clients of all units stand for, once some blocks were heard. Blocks stand newest first.
 use Rattle.std.specs.Prelude.{◌≡◌, ℕ, ◌<◌, Bool, true, false, ◌==◌, List, Option, Some, None}
+use Rattle.std.specs.Prelude.{slice_get}
+use Rattle.std.specs.Option.{option_flatten}
 use Rattle.std.specs.List.{list_any}
 use Rattle.unit_packets.specs.Blocks.{Block}
 use Rattle.pitch_model.specs.History.{Raw, Entry}
@@ -12,6 +14,10 @@ use Rattle.unit_clients.specs.Tables.{UnitTable, AtEach}
 -- the clients of all units
 abbrev pub Units : Type 0
 Units = UnitTable UnitClient
+
+-- the client of a unit, where it has one
+abbrev pub client_of : Units → ℕ → Option UnitClient
+client_of units unit = option_flatten (slice_get units.places unit)
 
 -- a block names the unit
 abbrev pub is_named : List Block → ℕ → Bool

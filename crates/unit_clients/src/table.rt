@@ -91,4 +91,13 @@ impl<T> UnitTable<T> {
         let unit = block.header().unit as usize;
         &mut self.places[unit]
     }
+    /// The place of a unit.
+    #[inline]
+    pub fn place_at(&mut self, unit: u8) -> &mut Option<T>
+        // Whatever is left there, the other places stay.
+        ensures* writes_back { sem 𝓛 (LendsPlace T.row self.entry unit result) }
+        ensures there { slice_get self.old.places unit ≡ Some result.now }
+    {
+        &mut self.places[unit as usize]
+    }
 }

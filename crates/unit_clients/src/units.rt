@@ -1,6 +1,8 @@
 //! The clients of a whole stream, each made at the first block of its unit.
 
-ghost use Rattle.std.specs.Prelude.{◌≡◌, ◌≤◌, ℕ, List, [], ◌∷◌, OnOk, OnErr, IfOk, length};
+ghost use Rattle.std.specs.Prelude.{◌≡◌, ◌≤◌, ℕ, List, [], ◌∷◌, OnOk, OnErr, IfOk, IsOk, length};
+ghost use Rattle.std.specs.Prelude.{IfSome};
+ghost use Rattle.std.specs.Option.{IsSome, IsSomeAnd};
 ghost use Rattle.pitch_fields.specs.Limits.{most_held};
 ghost use Rattle.unit_packets.specs.Blocks.{Block};
 ghost use Rattle.pitch_model.specs.History.{Raw, Entry};
@@ -10,9 +12,10 @@ ghost use Rattle.heard_items.specs.Heard.{heard_block};
 ghost use Rattle.heard_items.specs.Changes.{block_change};
 ghost use Rattle.client_core.specs.Hearing.{Changes, HearsBlock, KeepsBlock};
 ghost use Rattle.client_core.specs.Tracks.{Tracks, Keeps};
-ghost use Rattle.client_core.specs.Client.{IsAsBefore};
+ghost use Rattle.client_core.specs.Client.{IsAsBefore, KeepsRoom, spare_of};
 ghost use Rattle.unit_clients.specs.Clients.{IsClient, TracksAt, IsSlotAsBefore, KeepsTo};
-ghost use Rattle.unit_clients.specs.Clients.{HaveHeard};
+ghost use Rattle.unit_clients.specs.Clients.{HaveHeard, client_of};
+ghost use Rattle.unit_clients.specs.Room.{HearsFreely, HearFreely, HaveSpare, KeepRoom};
 
 use crate::table::UnitTable;
 use client_core::{Change, UnitClient};
@@ -48,6 +51,8 @@ fn hear(client: &mut UnitClient, block: &BlockView<'_>) -> Result<Change, OutOfM
     ensures keeps { OnOk result (KeepsBlock client.old client.new block.now) }
     ensures change { IfOk result (λ change. Changes client.old change block.now) }
     ensures err { OnErr result (IsAsBefore client.old client.new) }
+    ensures memory { HearsFreely client.old block.now → IsOk result }
+    ensures room { OnOk result (KeepsRoom client.old client.new (length block.now.raws)) }
 {
     client.hear_block(block.header().sequence, block.raws())
 }
@@ -73,6 +78,9 @@ fn hear_at(
     ensures change { IfOk result (λ change. (before : List Block) (unit : ℕ) → IsClient limit
         before unit slot.old → change ≡ block_change limit (unit_history unit before) block.now) }
     ensures err { OnErr result (IsSlotAsBefore slot.old slot.new) }
+    ensures memory { IsSomeAnd slot.old (λ client. HearsFreely client block.now) → IsOk result }
+    ensures room { OnOk result (IfSome slot.old (λ client. IsSomeAnd slot.new
+        (λ client'. KeepsRoom client client' (length block.now.raws)))) }
 {
     match slot {
         Some(client) => hear(client, block),
@@ -90,6 +98,23 @@ fn hear_at(
                 }
             }
         }
+    }
+}
+
+// Takes memory ahead for so many messages of the client at a place, where there is one.
+fn reserve_at(slot: &mut Option<UnitClient>, messages: u32) -> Result<(), OutOfMemory>
+    ensures same { IsSlotAsBefore slot.old slot.new }
+    ensures room { OnOk result (IsSome slot.old
+        → IsSomeAnd slot.new (λ client. messages ≤ spare_of client)) }
+{
+    match slot {
+        Some(client) => {
+            if messages > u32::MAX - client.book().len() {
+                return Err(OutOfMemory);
+            }
+            client.reserve(messages)
+        }
+        None => Ok(()),
     }
 }
 
@@ -124,10 +149,28 @@ impl Units {
         // After an error they stand for the blocks for which they stood before.
         ensures err { OnErr result
             ((before : List Block) → HaveHeard self.old before → HaveHeard self.new before) }
+        // No error comes where the unit has a client with memory enough for the block.
+        ensures memory { HearFreely self.old block.now → IsOk result }
+        // Memory that was taken ahead for this block and for more messages still serves those.
+        ensures room { OnOk result (KeepRoom self.old self.new block.now) }
     {
         let limit = self.clients.limit();
         let change = hear_at(alloc, limit, self.clients.place_of(block), block)?;
         Ok(change)
+    }
+
+    /// Takes memory ahead for so many messages of a unit, where it has a client. The clients are as
+    /// before in either case. More than the orders that a book can have is answered as want of
+    /// memory.
+    pub fn reserve(&mut self, unit: u8, messages: u32) -> Result<(), OutOfMemory>
+        ensures limit { self.new.limit ≡ self.old.limit }
+        ensures still { (before : List Block) → HaveHeard self.old before
+            → HaveHeard self.new before }
+        ensures room { OnOk result (IsSome (client_of self.old unit)
+            → HaveSpare self.new unit messages) }
+    {
+        reserve_at(self.clients.place_at(unit), messages)?;
+        Ok(())
     }
 
     /// The place of each unit, at its number. It is empty where no block named the unit.

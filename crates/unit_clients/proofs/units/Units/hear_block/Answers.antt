@@ -6,7 +6,7 @@ use Rattle.pitch_model.specs.History.{Raw}
 use Rattle.pitch_model.specs.Honest.{Honest}
 use Rattle.unit_clients.specs.Clients.{HaveHeard, AllKeep}
 use Rattle.unit_clients.specs.Tables.{with_place}
-use Rattle.unit_clients.proofs.Hearing.{low_more, clients_hear, clients_keep, clients_still, all_keep_still}
+use Rattle.unit_clients.proofs.Hearing.{low_more, clients_hear, clients_keep, all_still}
 use Rattle.pitch_model.proofs.Results.{on_err}
 use Rattle.heard_items.specs.Heard.{heard_block}
 use Rattle.heard_items.specs.Units.{unit_history, AllHonest}
@@ -46,13 +46,6 @@ pub returns-in_err-change-clause-err : goal.returns-in_err-change-clause-err
 returns-in_err-change-clause-err c = rw (← c.self.view_is) (
     let table = c.self.inside.clients in
     let unit = c.args.block.now.unit in
-    let was = c.place_of.result.now in
     let slot = c.hear_at.new.slot in
-    let there : slice_get table.places unit ≡ Some was = c.place_of.ensures.there in
-    let same = c.in_err-change.ensures.err in
-    on_err ((before : List Block) → HaveHeard table before → HaveHeard (with_place table unit slot) before) c.from_residual.result (λ before heard.
-    record {
-      clients = clients_still table.limit unit table.places was slot before there same heard.clients;
-      named = heard.named;
-      keep = λ Image Vs honest. all_keep_still Vs unit table.places was slot there same (heard.keep Image Vs honest);
-    }))
+    on_err ((before : List Block) → HaveHeard table before → HaveHeard (with_place table unit slot) before) c.from_residual.result
+    (all_still table unit c.place_of.result.now slot c.place_of.ensures.there c.in_err-change.ensures.err))
