@@ -1,28 +1,99 @@
 #!/usr/bin/env python3
-"""Compares the C header and the other languages' declarations with the exports of crates/pitch_c.
+"""Compares what C, Rust and Python are told of the library with the exports of crates/pitch_c.
 
     examples/c/check_header.py
 
-The exports and their structs are read from the crate's source, and turned into C by the rules by
-which they cross: a `Global` is not passed, a slice is a pointer and a length, a reference to a
-struct or an array is a pointer. Each has to stand in the header as it is written here, but for its
-comments and line ends, and the codes have to be the same. The exit status is 0 where all is so.
-Python 3, the standard library alone.
+The exports and their structs are read from the crate's source, and written in each language by the
+rules by which they cross: a `Global` is not passed, a slice is a pointer and a length, and a
+reference to a number, a struct or an array is a pointer. Each has to stand so in pitch_client.h,
+pitch_client.rs and pitch_client.py, but for comments, blanks and line ends. The codes have to be
+those of the header, and its list of codes and texts is as long as its numbers go. It writes what is
+not there, and its status is 1 where anything is not.
 """
 import os
 import re
 import sys
 
-TOP = os.path.join(os.path.dirname(os.path.abspath(__file__)), "..", "..")
-SRC = os.path.join(TOP, "crates", "pitch_c", "src")
-NUMBERS = {"u8": "uint8_t", "u32": "uint32_t", "u64": "uint64_t", "usize": "size_t"}
-STRUCTS = {
-    "Client": "pitch_client",
-    "StatusOut": "pitch_status_out",
-    "BestOut": "pitch_best_out",
-    "OrderOut": "pitch_order_out",
-    "HeardOut": "pitch_heard_out",
-}
+HERE = os.path.dirname(os.path.abspath(__file__))
+SRC = os.path.join(HERE, "..", "..", "crates", "pitch_c", "src")
+OF_HEADER_ALONE = {"NULL": 9, "OTHER_ABI": 10}
+
+
+class C:
+    file = "pitch_client.h"
+    numbers = {"u8": "uint8_t", "u32": "uint32_t", "u64": "uint64_t", "usize": "size_t"}
+    names = {
+        "Client": "pitch_client",
+        "StatusOut": "pitch_status_out",
+        "BestOut": "pitch_best_out",
+        "OrderOut": "pitch_order_out",
+        "HeardOut": "pitch_heard_out",
+    }
+
+    def field(self, name, kind, count):
+        return f"{kind} {name}[{count}];" if count else f"{kind} {name};"
+
+    def struct(self, name, fields):
+        return f"typedef struct {name} {{{''.join(fields)}}} {name};"
+
+    def number(self, name, kind):
+        return f"{kind} {name}"
+
+    def pointer(self, name, kind, fixed, count):
+        kind = f"const {kind}" if fixed else kind
+        return f"{kind} {name}[{count}]" if count else f"{kind} *{name}"
+
+    def call(self, name, given, told):
+        return f"{told or 'void'} {name}({', '.join(given) or 'void'});"
+
+
+class Rust:
+    file = "pitch_client.rs"
+    numbers = {it: it for it in ("u8", "u32", "u64", "usize")}
+    names = {
+        "Client": "Raw",
+        "StatusOut": "Status",
+        "BestOut": "BestOut",
+        "OrderOut": "Order",
+        "HeardOut": "Heard",
+    }
+
+    def field(self, name, kind, count):
+        return f"{name}: [{kind}; {count}]," if count else f"{name}: {kind},"
+
+    def struct(self, name, fields):
+        return f"struct {name} {{{''.join(fields)}}}"
+
+    def number(self, name, kind):
+        return f"{name}: {kind}"
+
+    def pointer(self, name, kind, fixed, count):
+        kind = f"[{kind}; {count}]" if count else kind
+        return f"{name}: *{'const' if fixed else 'mut'} {kind}"
+
+    def call(self, name, given, told):
+        return f"fn {name}({', '.join(given)}){f' -> {told}' if told else ''};"
+
+
+class Python:
+    file = "pitch_client.py"
+    numbers = {"u8": "U8", "u32": "U32", "u64": "U64", "usize": "SIZE"}
+    names = {**Rust.names, "BestOut": "Best"}
+
+    def field(self, name, kind, count):
+        return f'("{name}", {kind} * {count}), ' if count else f'("{name}", {kind}), '
+
+    def struct(self, name, fields):
+        return f"class {name}(ctypes.Structure): _fields_ = [{''.join(fields).rstrip(', ')}]"
+
+    def number(self, name, kind):
+        return kind
+
+    def pointer(self, name, kind, fixed, count):
+        return "BYTES" if fixed else f"of({kind})"
+
+    def call(self, name, given, told):
+        return f'"{name}": ([{", ".join(given)}], {told}),'
 
 
 def text(*path):
@@ -31,50 +102,74 @@ def text(*path):
 
 
 def plain(code):
+    """Code without comments and without blanks that tell nothing."""
     code = re.sub(r"/\*.*?\*/", " ", code, flags=re.S)
-    return re.sub(r"\s*([(),;{}*\[\]=])\s*", r"\1", re.sub(r"\s+", " ", code))
+    code = re.sub(r"//.*|\bpub ", " ", code)
+    code = re.sub(r",\s*\)", ")", re.sub(r"\s+", " ", code))
+    return re.sub(r"\s*([(),;:{}*\[\]=])\s*", r"\1", code)
 
 
-def field(name, kind):
-    array = re.fullmatch(r"\[(\w+); (\d+)\]", kind)
-    if array:
-        return f"{NUMBERS[array[1]]} {name}[{array[2]}];"
-    return f"{NUMBERS.get(kind) or STRUCTS[kind]} {name};"
+def named(language, kind):
+    return language.numbers.get(kind) or language.names[kind]
 
 
-def parameter(name, kind):
-    if kind == "Global":
-        return []
-    if kind == "&[u8]":
-        return [f"const uint8_t *{name}", "size_t len"]
-    array = re.fullmatch(r"&\[u8; (\d+)\]", kind)
-    if array:
-        return [f"const uint8_t {name}[{array[1]}]"]
-    if kind.startswith("&mut "):
-        return [f"{STRUCTS[kind[5:]]} *{name}"]
-    return [f"{NUMBERS[kind]} {name}"]
+def parameters(language, given):
+    for name, kind in re.findall(r"(\w+): ((?:\[[^\]]*\]|[^,])+)", given):
+        kind = kind.strip()
+        fixed = not kind.startswith("&mut ")
+        inner = re.sub(r"^&(mut )?", "", kind)
+        if kind == "Global":
+            continue
+        if not kind.startswith("&"):
+            yield language.number(name, named(language, kind))
+        elif found := re.fullmatch(r"\[(\w+); (\d+)\]", inner):
+            yield language.pointer(name, named(language, found[1]), fixed, found[2])
+        elif found := re.fullmatch(r"\[(\w+)\]", inner):
+            yield language.pointer(name, named(language, found[1]), fixed, None)
+            yield language.number("len", language.numbers["usize"])
+        else:
+            yield language.pointer(name, named(language, inner), fixed, None)
 
 
-def wanted():
-    reports, lib, codes = (text(SRC, name) for name in ("reports.rt", "lib.rt", "codes.rt"))
-    for found in re.finditer(r"#\[repr\(C\)\][^{]*pub struct (\w+) \{(.*?)\n\}", reports, re.S):
-        fields = re.findall(r"pub (\w+): ([^,]+),", found[2])
-        name = STRUCTS[found[1]]
-        body = "".join(field(n, k) for n, k in fields)
-        yield f"typedef struct {name} {{{body}}} {name};"
+def wanted(language):
+    """Each struct and each call, as the language has to have it."""
+    for found in re.finditer(r"pub struct (\w+) \{(.*?)\n\}", text(SRC, "reports.rt"), re.S):
+        fields = []
+        for name, kind in re.findall(r"pub (\w+): (.+),\n", found[2] + "\n"):
+            array = re.fullmatch(r"\[(\w+); (\d+)\]", kind)
+            inner, count = (array[1], array[2]) if array else (kind, None)
+            fields.append(language.field(name, named(language, inner), count))
+        yield language.struct(language.names[found[1]], fields)
     exports = r'#\[unsafe\(no_mangle\)\]\s*pub extern "C" fn (\w+)\((.*?)\)(?: -> (\w+))?\s'
-    for found in re.finditer(exports, lib, re.S):
-        given = [p for n, k in re.findall(r"(\w+): ([^,]+?)(?:,|$)", found[2].strip()) for p in parameter(n, k)]
-        yield f"{NUMBERS.get(found[3], 'void')} {found[1]}({', '.join(given)});"
-    for name, number in re.findall(r"pub const (\w+): u32 = (\d+);", codes):
-        yield f"PITCH_{name} = {number}"
+    for found in re.finditer(exports, text(SRC, "lib.rt"), re.S):
+        told = language.numbers[found[3]] if found[3] else None
+        yield language.call(found[1], parameters(language, found[2]), told)
+
+
+def wrong_codes(header):
+    source = text(SRC, "codes.rt")
+    codes = {name: int(n) for name, n in re.findall(r"pub const (\w+): u32 = (\d+);", source)}
+    abi = codes.pop("ABI")
+    there = {name: int(n) for name, n in re.findall(r"PITCH_(\w+) = (\d+),? *(?=/|\n)", header)}
+    states = {"SILENT", "CURRENT", "BEHIND"}
+    there = {name: n for name, n in there.items() if name not in states}
+    if there != {**codes, **OF_HEADER_ALONE}:
+        yield f"the codes {sorted({**codes, **OF_HEADER_ALONE}.items(), key=lambda it: it[1])}"
+    if f"#define PITCH_ABI {abi}\n" not in header:
+        yield f"#define PITCH_ABI {abi}"
+    words = re.search(r"words\[\] = \{(.*?)\};", header, re.S)[1]
+    if len(re.findall(r'"[^"]*"', words)) != len(there):
+        yield f"a text for each of {len(there)} codes"
 
 
 def main():
-    header = plain(text(TOP, "examples", "c", "pitch_client.h"))
-    missing = [it for it in wanted() if plain(it) not in header]
-    for it in missing:
-        print(f"examples/c/pitch_client.h: not there: {it}")
+    missing = []
+    for language in (C(), Rust(), Python()):
+        there = plain(text(HERE, language.file))
+        missing += [(language.file, it) for it in wanted(language) if plain(it) not in there]
+    missing += [(C.file, it) for it in wrong_codes(text(HERE, C.file))]
+    for file, it in missing:
+        print(f"examples/c/{file}: not there: {it}")
     return 1 if missing else 0
 
 

@@ -1,5 +1,6 @@
 /* What crates/own_client does, from C: hears the blocks on standard input, and prints of each unit
- * how far its book is and the best prices of a symbol. */
+ * how far its book is and the best prices of a symbol. A number of bytes to read at once may be
+ * given. */
 #include "pitch_client.h"
 
 #include <inttypes.h>
@@ -7,53 +8,47 @@
 #include <stdlib.h>
 #include <string.h>
 
+static int failed(const char *call, uint32_t code) {
+    fprintf(stderr, "%s: %s\n", call, pitch_strerror(code));
+    return 3;
+}
+
 static void print_side(pitch_client *client, uint32_t unit, uint8_t side, const char *word) {
     pitch_best_out best;
-    if (pitch_best(client, unit, (const uint8_t *)"ACME    ", side, &best) != PITCH_OK) exit(4);
-    printf("%s ", word);
-    if (best.there)
-        printf("%" PRIu64 " at %" PRIu64 ".%04" PRIu64, best.shares, best.price / 10000,
-               best.price % 10000);
+    uint32_t code = pitch_best(client, unit, (const uint8_t *)"ACME    ", side, &best);
+    if (code != PITCH_OK) exit(failed("best", code));
+    if (!best.there)
+        printf("%s none", word);
     else
-        printf("none");
+        printf("%s %" PRIu64 " at %" PRIu64 ".%04" PRIu64, word, best.shares, best.price / 10000,
+               best.price % 10000);
 }
 
 int main(int argc, char **argv) {
-    size_t piece = argc > 1 ? strtoul(argv[1], NULL, 10) : 65536;
-    size_t room = piece + 65536, have = 0, count;
-    uint8_t *buffer = malloc(room);
+    size_t piece = argc > 1 ? strtoul(argv[1], NULL, 10) : 65536, have = 0, at, count;
+    uint8_t *buffer = malloc(piece + 65536);
     pitch_client client = PITCH_CLIENT_INIT;
     pitch_heard_out told;
+    pitch_status_out status;
     uint32_t code = pitch_open(&client, 4096);
-    if (code != PITCH_OK) {
-        fprintf(stderr, "open: %s\n", pitch_strerror(code));
-        return 3;
-    }
+    if (code != PITCH_OK) return failed("open", code);
     while ((count = fread(buffer + have, 1, piece, stdin)) > 0) {
-        size_t at = 0;
         have += count;
-        while ((code = pitch_hear(&client, buffer + at, have - at, &told)) == PITCH_OK) at += told.used;
-        if (code != PITCH_TRUNCATED) {
-            fprintf(stderr, "hear: %s\n", pitch_strerror(code));
-            return 3;
-        }
+        for (at = 0; (code = pitch_hear(&client, buffer + at, have - at, &told)) == PITCH_OK;)
+            at += told.used;
+        if (code != PITCH_TRUNCATED) return failed("hear", code);
         have -= at;
         memmove(buffer, buffer + at, have);
     }
-    if (have > 0) {
-        fprintf(stderr, "hear: %s\n", pitch_strerror(PITCH_TRUNCATED));
-        return 3;
-    }
+    if (have > 0) return failed("hear", PITCH_TRUNCATED);
     for (uint32_t unit = 0; unit < 256; unit++) {
-        pitch_status_out status;
         code = pitch_status(&client, unit, &status);
         if (code == PITCH_NO_CLIENT) continue;
-        if (code != PITCH_OK) return 4;
+        if (code != PITCH_OK) return failed("status", code);
         printf("unit %" PRIu32 " %s at %" PRIu32 ": ", unit,
                status.state == PITCH_CURRENT ? "current" : "behind", status.reach);
         print_side(&client, unit, 'B', "bid");
-        printf(", ");
-        print_side(&client, unit, 'S', "offer");
+        print_side(&client, unit, 'S', ", offer");
         printf("\n");
     }
     pitch_close(&client);

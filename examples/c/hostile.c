@@ -19,12 +19,14 @@ int main(int argc, char **argv) {
     pitch_heard_out h;
     pitch_status_out s;
     pitch_best_out b;
+    pitch_order_out o;
     const uint8_t sym[8] = "ACME    ";
     if (argc > 1) state ^= strtoull(argv[1], NULL, 10) * 0x9e3779b97f4a7c15ull;
     /* closed */
     if (pitch_hear(&c, sym, 8, &h) != PITCH_CLOSED) return 1;
     if (pitch_status(&c, 1, &s) != PITCH_CLOSED) return 2;
     if (pitch_best(&c, 1, sym, 'B', &b) != PITCH_CLOSED) return 3;
+    if (pitch_order(&c, 1, 1, &o) != PITCH_CLOSED || pitch_reserve(&c, 1, 1) != PITCH_CLOSED) return 22;
     pitch_close(&c);
     /* the hold */
     if (pitch_open(&c, 0) != PITCH_BAD_HOLD) return 4;
@@ -38,6 +40,12 @@ int main(int argc, char **argv) {
     if (pitch_status(&c, 0xffffffffu, &s) != PITCH_NO_CLIENT) return 11;
     if (pitch_best(&c, 0xffffffffu, sym, 'S', &b) != PITCH_NO_CLIENT) return 12;
     if (pitch_best(&c, 1, sym, 'x', &b) != PITCH_NO_SIDE) return 13;
+    if (pitch_order(&c, 1, 1, &o) != PITCH_NO_CLIENT || pitch_order(&c, 256, 1, &o) != PITCH_NO_CLIENT) return 25;
+    if (pitch_c_reserve(&c, 9, 1) != PITCH_NO_CLIENT || pitch_reserve(&c, 256, 1) != PITCH_NO_CLIENT) return 28;
+    /* a unit that was reserved is silent, and has nothing */
+    if (pitch_reserve(&c, 200, 1000) != PITCH_OK || pitch_status(&c, 200, &s) != PITCH_OK) return 29;
+    if (s.state != PITCH_SILENT || s.reach || s.top || s.spare[0] || s.spare[4]) return 32;
+    if (pitch_order(&c, 200, 1, &o) != PITCH_OK || o.there) return 35;
     /* no bytes, also at null; too few */
     if (pitch_hear(&c, sym, 0, &h) != PITCH_TRUNCATED) return 14;
     if (pitch_hear(&c, NULL, 0, &h) != PITCH_TRUNCATED) return 15;
@@ -45,6 +53,7 @@ int main(int argc, char **argv) {
     if (pitch_hear(&c, NULL, 1, &h) != PITCH_NULL || pitch_hear(NULL, sym, 8, &h) != PITCH_NULL) return 16;
     if (pitch_hear(&c, sym, 8, NULL) != PITCH_NULL || pitch_open(NULL, 1) != PITCH_NULL) return 17;
     if (pitch_status(&c, 1, NULL) != PITCH_NULL || pitch_best(&c, 1, NULL, 'B', &b) != PITCH_NULL) return 18;
+    if (pitch_order(&c, 1, 1, NULL) != PITCH_NULL || pitch_reserve(NULL, 1, 1) != PITCH_NULL) return 37;
     uint8_t *most = calloc(1, 65536);
     if (pitch_hear(&c, most, (size_t)-1, &h) != PITCH_NOT_A_BLOCK) return 19;
     free(most);
@@ -81,6 +90,7 @@ int main(int argc, char **argv) {
             for (int k = 0; k < 8; k++) name[k] = (uint8_t)next();
             pitch_status(&c, unit, &s);
             pitch_best(&c, unit, name, next() % 2 ? 'B' : 'S', &b);
+            pitch_order(&c, unit, next() % 256, &o);
         }
         free(bytes);
     }

@@ -1,12 +1,13 @@
 /* The clients of a feed, from C.
  *
- * Link libpitch_c.a, and the kit's heap.c (or its archive): the library takes its memory by malloc,
- * realloc and free.
+ * Link libpitch_c.a, and heap.c beside this file: the library takes its memory by malloc, realloc
+ * and free.
  *
  * A client is a struct of the caller's. It begins as PITCH_CLIENT_INIT, pitch_open makes it ready,
  * and pitch_close frees what it has. Do not read, write or copy its fields. No function keeps a
  * pointer that it was passed. No function calls back, starts a thread, or has a global of its own.
- * Each client is used by one call at a time, on the thread that opened it; two clients share
+ * A client is used by one call at a time. Another thread may go on with it, where a lock, a start
+ * or a join of a thread, or a sequentially consistent atomic orders the two; two clients share
  * nothing.
  *
  * Every pointer must be to what its type says, and those of one call must not overlap. Null is told
@@ -22,21 +23,23 @@
 extern "C" {
 #endif
 
+/* What pitch_c_abi answers where the library has the structs and functions of this header. */
 #define PITCH_ABI 1
 
 /* What the functions answer. Where it is not PITCH_OK, the clients stand for what they stood for,
- * and nothing was written but what is said. */
+ * and nothing was written. */
 enum pitch_code {
     PITCH_OK = 0,
     PITCH_CLOSED = 1,      /* the client is not open */
     PITCH_IS_OPEN = 2,     /* the client is open already */
-    PITCH_NO_MEMORY = 3,   /* hear the same bytes again once there is memory */
+    PITCH_NO_MEMORY = 3,   /* the same call may be made again once there is memory */
     PITCH_BAD_HOLD = 4,    /* the hold is not from 1 to 65,536 */
     PITCH_TRUNCATED = 5,   /* more bytes may complete the block */
-    PITCH_NOT_A_BLOCK = 6, /* the bytes begin with no block */
+    PITCH_NOT_A_BLOCK = 6, /* the bytes begin with no block, whatever follows */
     PITCH_NO_CLIENT = 7,   /* no block named this unit yet */
     PITCH_NO_SIDE = 8,     /* the side is neither 'B' nor 'S' */
-    PITCH_NULL = 9         /* a pointer is null: told by this header alone */
+    PITCH_NULL = 9,        /* a pointer is null: told by this header alone */
+    PITCH_OTHER_ABI = 10   /* the library is of another header: told by this one alone */
 };
 
 typedef struct pitch_client {
@@ -48,24 +51,29 @@ typedef struct pitch_client {
 
 enum pitch_state { PITCH_SILENT = 1, PITCH_CURRENT = 2, PITCH_BEHIND = 3 };
 
+/* Each struct that is told ends with room for fields to come, which is 0. */
 typedef struct pitch_status_out {
-    uint32_t state;
+    uint32_t state; /* a pitch_state */
     uint32_t reach; /* every message up to this sequence is in the book */
     uint32_t top;   /* the greatest sequence that the unit told of */
+    uint32_t spare[5];
 } pitch_status_out;
 
 typedef struct pitch_best_out {
     uint64_t there;  /* 0 where the side is empty, else 1 */
     uint64_t price;  /* in ten-thousandths of a dollar */
     uint64_t shares;
+    uint64_t spare[5];
 } pitch_best_out;
 
 typedef struct pitch_order_out {
     uint64_t there;    /* 0 where no order of this id is open, else 1 */
+    uint64_t id;
     uint64_t price;    /* in ten-thousandths of a dollar */
     uint32_t quantity; /* in shares */
     uint32_t side;     /* 'B' or 'S' */
     uint8_t symbol[8]; /* with spaces at its end */
+    uint64_t spare[3];
 } pitch_order_out;
 
 typedef struct pitch_heard_out {
@@ -76,13 +84,16 @@ typedef struct pitch_heard_out {
     uint32_t fresh;     /* how many of them were neither known nor held */
     uint32_t overflows; /* how often the hold overflowed */
     pitch_status_out after;
+    uint32_t spare[2];
 } pitch_heard_out;
 
 /* ---- The library's own functions, which test nothing that C must keep anyway: no pointer is null,
  * also where a length is 0, and no length is above PTRDIFF_MAX. Bindings may call them. */
+uint32_t pitch_c_abi(void);
 uint32_t pitch_c_open(pitch_client *client, uint32_t hold);
 void pitch_c_close(pitch_client *client);
 uint32_t pitch_c_hear(pitch_client *client, const uint8_t *bytes, size_t len, pitch_heard_out *told);
+uint32_t pitch_c_reserve(pitch_client *client, uint32_t unit, uint32_t messages);
 uint32_t pitch_c_status(pitch_client *client, uint32_t unit, pitch_status_out *told);
 uint32_t pitch_c_best(pitch_client *client, uint32_t unit, const uint8_t symbol[8], uint8_t side,
                       pitch_best_out *told);
@@ -94,6 +105,7 @@ uint32_t pitch_c_order(pitch_client *client, uint32_t unit, uint64_t id, pitch_o
  * before them is missing. */
 static inline uint32_t pitch_open(pitch_client *client, uint32_t hold) {
     if (!client) return PITCH_NULL;
+    if (pitch_c_abi() != PITCH_ABI) return PITCH_OTHER_ABI;
     return pitch_c_open(client, hold);
 }
 
@@ -111,6 +123,21 @@ static inline uint32_t pitch_hear(pitch_client *client, const uint8_t *bytes, si
     return pitch_c_hear(client, bytes ? bytes : (const uint8_t *)"", len, told);
 }
 
+/* Takes memory ahead for so many messages of a unit: a block takes none whose messages, with those
+ * that are held, are no more. A unit that no block named gets its client by a block without
+ * messages and without a sequence, which tells it of nothing. More than the orders that a book can
+ * have is PITCH_NO_MEMORY. */
+static inline uint32_t pitch_reserve(pitch_client *client, uint32_t unit, uint32_t messages) {
+    const uint8_t silent[8] = { 8, 0, 0, (uint8_t)unit, 0, 0, 0, 0 };
+    pitch_heard_out told;
+    uint32_t code;
+    if (!client) return PITCH_NULL;
+    code = pitch_c_reserve(client, unit, messages);
+    if (code != PITCH_NO_CLIENT || unit > 255) return code;
+    code = pitch_c_hear(client, silent, sizeof silent, &told);
+    return code == PITCH_OK ? pitch_c_reserve(client, unit, messages) : code;
+}
+
 /* How far the client of a unit is. */
 static inline uint32_t pitch_status(pitch_client *client, uint32_t unit, pitch_status_out *told) {
     if (!client || !told) return PITCH_NULL;
@@ -118,7 +145,7 @@ static inline uint32_t pitch_status(pitch_client *client, uint32_t unit, pitch_s
 }
 
 /* The best price of a symbol, of eight bytes with spaces at its end, on a side, 'B' or 'S', in a
- * unit's book. */
+ * unit's book. It goes through all open orders of the unit. */
 static inline uint32_t pitch_best(pitch_client *client, uint32_t unit, const uint8_t symbol[8],
                                   uint8_t side, pitch_best_out *told) {
     if (!client || !symbol || !told) return PITCH_NULL;
@@ -136,24 +163,21 @@ static inline const char *pitch_strerror(uint32_t code) {
     static const char *const words[] = {
         "ok", "the client is closed", "the client is open already", "out of memory",
         "the hold is not from 1 to 65536", "truncated", "not a block", "no such unit", "no such side",
-        "a null pointer",
+        "a null pointer", "the library is of another header",
     };
     return code < sizeof words / sizeof words[0] ? words[code] : "unknown code";
 }
 
 #ifdef __cplusplus
 }
-static_assert(sizeof(pitch_client) == 16, "pitch_client");
-static_assert(sizeof(pitch_status_out) == 12, "pitch_status_out");
-static_assert(sizeof(pitch_best_out) == 24, "pitch_best_out");
-static_assert(sizeof(pitch_heard_out) == 36, "pitch_heard_out");
-static_assert(sizeof(pitch_order_out) == 32, "pitch_order_out");
+#define PITCH_ASSERT_SIZE(name, size) static_assert(sizeof(name) == size, #name)
 #else
-_Static_assert(sizeof(pitch_client) == 16, "pitch_client");
-_Static_assert(sizeof(pitch_status_out) == 12, "pitch_status_out");
-_Static_assert(sizeof(pitch_best_out) == 24, "pitch_best_out");
-_Static_assert(sizeof(pitch_heard_out) == 36, "pitch_heard_out");
-_Static_assert(sizeof(pitch_order_out) == 32, "pitch_order_out");
+#define PITCH_ASSERT_SIZE(name, size) _Static_assert(sizeof(name) == size, #name)
 #endif
+PITCH_ASSERT_SIZE(pitch_client, 16);
+PITCH_ASSERT_SIZE(pitch_status_out, 32);
+PITCH_ASSERT_SIZE(pitch_best_out, 64);
+PITCH_ASSERT_SIZE(pitch_order_out, 64);
+PITCH_ASSERT_SIZE(pitch_heard_out, 64);
 
 #endif

@@ -1,8 +1,14 @@
-"""The clients of a feed, from Python: over a shared object made of libpitch_c.a."""
+"""The clients of a feed, from Python: over a shared object made of libpitch_c.a.
+
+    python3 pitch_client.py ./libpitch.so < FEED
+
+prints of each unit how far its book is and the best prices of a symbol.
+"""
 import ctypes
 import sys
 
-U8, U32, U64 = ctypes.c_uint8, ctypes.c_uint32, ctypes.c_uint64
+U8, U32, U64, SIZE = ctypes.c_uint8, ctypes.c_uint32, ctypes.c_uint64, ctypes.c_size_t
+NO_CLIENT, OTHER_ABI = 7, 10
 
 
 class Raw(ctypes.Structure):
@@ -10,15 +16,38 @@ class Raw(ctypes.Structure):
 
 
 class Status(ctypes.Structure):
-    _fields_ = [("state", U32), ("reach", U32), ("top", U32)]
+    _fields_ = [("state", U32), ("reach", U32), ("top", U32), ("spare", U32 * 5)]
 
 
 class Best(ctypes.Structure):
-    _fields_ = [("there", U64), ("price", U64), ("shares", U64)]
+    _fields_ = [("there", U64), ("price", U64), ("shares", U64), ("spare", U64 * 5)]
+
+
+class Order(ctypes.Structure):
+    _fields_ = [("there", U64), ("id", U64), ("price", U64), ("quantity", U32), ("side", U32),
+                ("symbol", U8 * 8), ("spare", U64 * 3)]
 
 
 class Heard(ctypes.Structure):
-    _fields_ = [(n, U32) for n in ("used", "unit", "sequence", "count", "fresh", "overflows")] + [("after", Status)]
+    _fields_ = [("used", U32), ("unit", U32), ("sequence", U32), ("count", U32), ("fresh", U32),
+                ("overflows", U32), ("after", Status), ("spare", U32 * 2)]
+
+
+def of(kind):
+    return ctypes.POINTER(kind)
+
+
+BYTES = ctypes.c_char_p
+CALLS = {
+    "pitch_c_abi": ([], U32),
+    "pitch_c_open": ([of(Raw), U32], U32),
+    "pitch_c_close": ([of(Raw)], None),
+    "pitch_c_hear": ([of(Raw), BYTES, SIZE, of(Heard)], U32),
+    "pitch_c_reserve": ([of(Raw), U32, U32], U32),
+    "pitch_c_status": ([of(Raw), U32, of(Status)], U32),
+    "pitch_c_best": ([of(Raw), U32, BYTES, U8, of(Best)], U32),
+    "pitch_c_order": ([of(Raw), U32, U64, of(Order)], U32),
+}
 
 
 class PitchError(Exception):
@@ -28,54 +57,74 @@ class PitchError(Exception):
 
 
 class Client:
-    def __init__(self, library, hold=4096):
-        self.lib = ctypes.CDLL(library)
-        self.lib.pitch_c_hear.argtypes = [ctypes.POINTER(Raw), ctypes.c_void_p, ctypes.c_size_t, ctypes.POINTER(Heard)]
-        self.lib.pitch_c_best.argtypes = [ctypes.POINTER(Raw), U32, ctypes.c_char_p, U8, ctypes.POINTER(Best)]
-        for name in ("open", "hear", "status", "best"):
-            getattr(self.lib, "pitch_c_" + name).restype = U32
-        self.lib.pitch_c_close.restype = None
-        self.raw = Raw()
-        self._ok(self.lib.pitch_c_open(ctypes.byref(self.raw), U32(hold)))
+    """The clients of all units of a feed, for one thread at a time."""
 
-    def _ok(self, code):
+    def __init__(self, library, hold=4096):
+        self.raw = Raw()
+        self.lib = ctypes.CDLL(library)
+        for name, (given, told) in CALLS.items():
+            getattr(self.lib, name).argtypes = given
+            getattr(self.lib, name).restype = told
+        if self.lib.pitch_c_abi() != 1:
+            raise PitchError(OTHER_ABI)
+        self._ask("open", hold)
+
+    def _ask(self, name, *given):
+        code = getattr(self.lib, "pitch_c_" + name)(self.raw, *given)
         if code:
             raise PitchError(code)
 
-    def hear(self, buffer, at=0):
+    def hear(self, block):
+        """Hears the block at the start of some bytes, and tells what it has and changed."""
         told = Heard()
-        view = (U8 * (len(buffer) - at)).from_buffer(buffer, at) if len(buffer) > at else (U8 * 1)()
-        self._ok(self.lib.pitch_c_hear(self.raw, ctypes.addressof(view), len(buffer) - at, told))
+        self._ask("hear", block, len(block), told)
         return told
+
+    def reserve(self, unit, messages):
+        """Takes memory ahead for so many messages of a unit, which gets a client."""
+        try:
+            self.status(unit)
+        except PitchError:
+            self.hear(bytes([8, 0, 0, unit, 0, 0, 0, 0]))
+        self._ask("reserve", unit, messages)
 
     def status(self, unit):
         told = Status()
-        self._ok(self.lib.pitch_c_status(ctypes.byref(self.raw), U32(unit), ctypes.byref(told)))
+        self._ask("status", unit, told)
         return told
 
     def best(self, unit, symbol, side):
+        """The best price, in ten-thousandths of a dollar, with its shares; None where none is."""
         told = Best()
-        self._ok(self.lib.pitch_c_best(self.raw, unit, symbol.ljust(8).encode("ascii")[:8], ord(side), told))
+        self._ask("best", unit, symbol.ljust(8).encode("ascii")[:8], ord(side), told)
         return (told.price, told.shares) if told.there else None
 
+    def order(self, unit, order_id):
+        told = Order()
+        self._ask("order", unit, order_id, told)
+        return told if told.there else None
+
     def close(self):
-        self.lib.pitch_c_close(ctypes.byref(self.raw))
+        self.lib.pitch_c_close(self.raw)
+
+
+def shown(best):
+    return f"{best[1]} at {best[0] // 10000}.{best[0] % 10000:04}" if best else "none"
 
 
 def main():
     client = Client(sys.argv[1])
-    rest = bytearray(sys.stdin.buffer.read())
-    at = 0
-    while at < len(rest):
-        at += client.hear(rest, at).used
-    side = lambda b: f"{b[1]} at {b[0] // 10000}.{b[0] % 10000:04}" if b else "none"
+    rest = memoryview(sys.stdin.buffer.read())
+    while rest:
+        rest = rest[client.hear(bytes(rest[:65535])).used :]
     for unit in range(256):
         try:
-            s = client.status(unit)
+            status = client.status(unit)
         except PitchError:
             continue
-        print(f"unit {unit} {'current' if s.state == 2 else 'behind'} at {s.reach}: "
-              f"bid {side(client.best(unit, 'ACME', 'B'))}, offer {side(client.best(unit, 'ACME', 'S'))}")
+        word = "current" if status.state == 2 else "behind"
+        bid, offer = (shown(client.best(unit, "ACME", side)) for side in "BS")
+        print(f"unit {unit} {word} at {status.reach}: bid {bid}, offer {offer}")
     client.close()
 
 

@@ -1,2 +1,4 @@
 pub mod Shapes
 pub mod Telling
+pub mod Answering
+pub mod Examples

@@ -1,7 +1,6 @@
 -- What a client that C holds stands for, and what C is told of it. Blocks stand newest first.
 use Rattle.std.specs.Prelude.{◌≡◌, ℕ, List, ◌∷◌, take, Option}
 use Rattle.std.specs.Option.{IsSomeAnd}
-use Rattle.std.specs.Result.{IsErr}
 use Rattle.std.specs.FinMap as map
 use Rattle.pitch_fields.specs.Side.{side_of}
 use Rattle.pitch_model.specs.History.{Raw}
@@ -11,7 +10,6 @@ use Rattle.pitch_model.specs.Reach.{reach}
 use Rattle.pitch_model.specs.Status.{status_of}
 use Rattle.unit_packets.specs.Blocks.{Block}
 use Rattle.unit_packets.specs.Held.{StandsFirst}
-use Rattle.unit_packets.specs.Judging.{judge}
 use Rattle.unit_packets.specs.Lending.{header_for}
 use Rattle.heard_items.specs.Units.{unit_history, AllHonest}
 use Rattle.heard_items.specs.Changes.{block_change}
@@ -29,10 +27,6 @@ HasHeard feed before = IsSomeAnd feed (λ units. HaveHeard units before)
 -- they stand for whatever blocks they stood for
 abbrev pub StillHave : Units → Units → Type 0
 StillHave old new = (before : List Block) → HaveHeard old before → HaveHeard new before
-
--- the bytes begin with no block
-abbrev pub BeginWithNone : List ℕ → Type 0
-BeginWithNone bytes = IsErr (judge bytes)
 
 -- a block stands first in the bytes; whatever blocks came before, the clients then stand for these
 -- with the block after them; and this is told of the block

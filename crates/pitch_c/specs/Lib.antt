@@ -1,3 +1,5 @@
 pub mod Owned
+pub mod Codes
+pub mod Answers
 pub mod Clients
 pub mod Reports

@@ -1,5 +1,5 @@
--- What the structs that C reads say.
-use Rattle.std.specs.Prelude.{ℕ, [], ◌∷◌, Option, None, Some}
+-- What the structs that C reads say. Each ends with room for fields to come, which is 0.
+use Rattle.std.specs.Prelude.{ℕ, replicate, Option, None, Some}
 use Rattle.pitch_fields.specs.Side.{byte_of}
 use Rattle.pitch_messages.specs.declared.order.Order.{Order}
 use Rattle.pitch_model.specs.declared.status.Status.{Status}
@@ -13,30 +13,35 @@ use Rattle.pitch_c.specs.declared.reports.OrderOut.{OrderOut}
 
 -- how far a client is
 abbrev pub status_shown : Status → StatusOut
-status_shown Silent = record { state = 1; reach = 0; top = 0 }
-status_shown (Current n) = record { state = 2; reach = n; top = n }
-status_shown (Behind n top) = record { state = 3; reach = n; top = top }
+status_shown Silent = record { state = 1; reach = 0; top = 0; spare = replicate 5 0 }
+status_shown (Current n) = record { state = 2; reach = n; top = n; spare = replicate 5 0 }
+status_shown (Behind n top) = record { state = 3; reach = n; top = top; spare = replicate 5 0 }
 
 -- a best price with its shares, where there is one
 abbrev pub best_shown : Option (ℕ × ℕ) → BestOut
-best_shown None = record { there = 0; price = 0; shares = 0 }
-best_shown (Some best) = record { there = 1; price = best.0; shares = best.1 }
+best_shown None = record { there = 0; price = 0; shares = 0; spare = replicate 5 0 }
+best_shown (Some best) =
+    record { there = 1; price = best.0; shares = best.1; spare = replicate 5 0 }
 
 -- an open order, where there is one
 abbrev pub order_shown : Option Order → OrderOut
 order_shown None = record {
   there = 0;
+  id = 0;
   price = 0;
   quantity = 0;
   side = 0;
-  symbol = 32 ∷ 32 ∷ 32 ∷ 32 ∷ 32 ∷ 32 ∷ 32 ∷ 32 ∷ [];
+  symbol = replicate 8 32;
+  spare = replicate 3 0;
 }
 order_shown (Some order) = record {
   there = 1;
+  id = order.id;
   price = order.price;
   quantity = order.quantity;
   side = byte_of order.side;
   symbol = order.symbol;
+  spare = replicate 3 0;
 }
 
 -- the header of a block that was heard, and what it changed
@@ -49,4 +54,5 @@ heard_shown header change = record {
   fresh = change.fresh;
   overflows = change.overflows;
   after = status_shown change.after;
+  spare = replicate 2 0;
 }

@@ -1,13 +1,21 @@
 //! Hearing a block, and asking, over the clients of all units.
 
-ghost use Rattle.std.specs.Prelude.{◌≡◌, ◌≤◌, ℕ, List, Some, take, IfSome, slice_get};
+ghost use Rattle.std.specs.Prelude.{◌≡◌, ◌≤◌, ◌<◌, ℕ, List, Some, None, take, IfSome, IfNone, slice_get};
 ghost use Rattle.std.specs.FinMap as map;
+ghost use Rattle.pitch_fields.specs.Side.{side_of};
 ghost use Rattle.pitch_model.specs.History.{Entry, Raw};
 ghost use Rattle.pitch_model.specs.Book.{book_after};
 ghost use Rattle.pitch_model.specs.Levels.{best};
 ghost use Rattle.pitch_model.specs.Reach.{reach};
 ghost use Rattle.client_core.specs.Tracks.{Tracks, Keeps};
-ghost use Rattle.pitch_c.specs.Clients.{StillHave, BeginWithNone, HearFirst, TellStatus, TellBest, TellOrder};
+ghost use Rattle.unit_packets.specs.Judging.{judge};
+ghost use Rattle.unit_clients.specs.Clients.{client_of};
+ghost use Rattle.unit_clients.specs.Room.{HaveSpare};
+ghost use Rattle.pitch_c.specs.Codes as code;
+ghost use Rattle.pitch_c.specs.Answers.{Answers, judged_code, client_code, side_code};
+ghost use Rattle.pitch_c.specs.Answers.{MayTakeMemory};
+ghost use Rattle.pitch_c.specs.Clients.{StillHave, HearFirst};
+ghost use Rattle.pitch_c.specs.Clients.{TellStatus, TellBest, TellOrder};
 
 use crate::codes::{NO_CLIENT, NO_MEMORY, NO_SIDE, NOT_A_BLOCK, OK, TRUNCATED};
 use crate::reports::{
@@ -22,9 +30,10 @@ use unit_packets::view_block;
 
 // Hands the block at the start of some bytes to the client of its unit.
 pub(crate) fn hear_first(alloc: Global, units: &mut Units, bytes: &[u8], told: &mut HeardOut) -> u32
-    ensures heard { result ≡ 0 → HearFirst bytes.now units.old units.new told.new }
-    ensures still { 2 ≤ result → StillHave units.old units.new }
-    ensures judged { 5 ≤ result → BeginWithNone bytes.now }
+    ensures heard { result ≡ code.ok → HearFirst bytes.now units.old units.new told.new }
+    ensures still { 1 ≤ result → StillHave units.old units.new }
+    ensures answer { Answers (judged_code (judge bytes.now)) result }
+    ensures memory { result ≡ code.no_memory → MayTakeMemory bytes.now units.old }
 {
     match view_block(bytes) {
         Ok(block) => match units.hear_block(alloc, &block) {
@@ -46,11 +55,29 @@ pub(crate) fn hear_first(alloc: Global, units: &mut Units, bytes: &[u8], told: &
 
 // The client of a unit.
 fn find(units: &Units, unit: u32) -> Option<&UnitClient>
-    ensures { IfSome result (λ client. slice_get units.now.places unit ≡ Some (Some client.now)) }
+    ensures there { IfSome result
+        (λ client. slice_get units.now.places unit ≡ Some (Some client.now)) }
+    ensures within { IfSome result (λ client. unit < 256) }
+    ensures none { IfNone result (client_of units.now unit ≡ None) }
 {
     match units.clients().get(unit as usize) {
-        Some(Some(client)) => Some(client),
-        _ => None,
+        Some(place) => place.as_ref(),
+        None => None,
+    }
+}
+
+// Takes memory ahead for so many messages of a unit that has a client.
+pub(crate) fn reserve_for(units: &mut Units, unit: u32, messages: u32) -> u32
+    ensures spare { result ≡ code.ok → HaveSpare units.new unit messages }
+    ensures still { StillHave units.old units.new }
+    ensures answer { Answers (client_code (client_of units.old unit)) result }
+{
+    match find(units, unit) {
+        Some(_) => match units.reserve(unit as u8, messages) {
+            Ok(()) => OK,
+            Err(_) => NO_MEMORY,
+        },
+        None => NO_CLIENT,
     }
 }
 
@@ -63,7 +90,8 @@ fn best_price(client: &UnitClient, symbol: Symbol, side: Side) -> Option<(Price,
 }
 
 pub(crate) fn tell_status(units: &Units, unit: u32, told: &mut StatusOut) -> u32
-    ensures status { result ≡ 0 → TellStatus units.now unit told.new }
+    ensures status { result ≡ code.ok → TellStatus units.now unit told.new }
+    ensures answer { result ≡ client_code (client_of units.now unit) }
 {
     match find(units, unit) {
         Some(client) => {
@@ -81,7 +109,8 @@ pub(crate) fn tell_best(
     side: u8,
     told: &mut BestOut,
 ) -> u32
-    ensures best { result ≡ 0 → TellBest units.now unit symbol.now side told.new }
+    ensures best { result ≡ code.ok → TellBest units.now unit symbol.now side told.new }
+    ensures answer { result ≡ side_code (side_of side) (client_code (client_of units.now unit)) }
 {
     let Some(side) = Side::from_byte(side) else {
         return NO_SIDE;
@@ -104,7 +133,8 @@ fn open_order(client: &UnitClient, id: u64) -> Option<Order>
 }
 
 pub(crate) fn tell_order(units: &Units, unit: u32, id: u64, told: &mut OrderOut) -> u32
-    ensures order { result ≡ 0 → TellOrder units.now unit id told.new }
+    ensures order { result ≡ code.ok → TellOrder units.now unit id told.new }
+    ensures answer { result ≡ client_code (client_of units.now unit) }
 {
     match find(units, unit) {
         Some(client) => {

@@ -1,4 +1,4 @@
-//! What the functions answer.
+//! What the functions answer, as specs/Codes.antt has it.
 
 pub const OK: u32 = 0;
 
@@ -17,3 +17,5 @@ pub const NOT_A_BLOCK: u32 = 6;
 pub const NO_CLIENT: u32 = 7;
 
 pub const NO_SIDE: u32 = 8;
+
+pub const ABI: u32 = 1;

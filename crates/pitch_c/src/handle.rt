@@ -58,6 +58,9 @@ impl Handle {
     }
 }
 
+// What it owns may be used by any thread.
+unsafe impl Send for Handle {}
+
 /// What C holds: the pointer, and 1 where it is open. C begins with a null pointer and 0.
 #[repr(C)]
 #[derive(Drop)]
@@ -89,7 +92,7 @@ pub(crate) fn opened(units: Box<Units>) -> Client
 // Takes the clients out, which closes the handle. None where it is closed.
 pub(crate) fn take(alloc: Global, client: &mut Client) -> Option<Box<Units>>
     ensures taken { IfSome result (λ units. client.old.handle.value ≡ Some units.value) }
-    ensures live { IsSome client.old.handle.value → IsSome result }
+    ensures none { IfNone result (client.old.handle.value ≡ None) }
     ensures closed { IfSome result (λ units. client.new.handle.value ≡ None) }
     ensures same { IfNone result (client.new.handle.value ≡ client.old.handle.value) }
 {

@@ -6,14 +6,20 @@ mod codes;
 mod handle;
 mod reports;
 
-ghost use Rattle.std.specs.Prelude.{◌≡◌, ◌≤◌, IfErr, IfOk, None, []};
+ghost use Rattle.std.specs.Prelude.{◌≡◌, ◌≤◌, IfErr, IfNone, IfOk, IfSome, None, []};
 ghost use Rattle.std.specs.Option.{IsSomeAnd};
-ghost use Rattle.unit_clients.specs.Clients.{HaveHeard};
-ghost use Rattle.pitch_c.specs.Clients.{HasHeard, StillHave, BeginWithNone, HearFirst};
+ghost use Rattle.pitch_fields.specs.Side.{side_of};
+ghost use Rattle.unit_packets.specs.Judging.{judge};
+ghost use Rattle.unit_clients.specs.Clients.{HaveHeard, client_of};
+ghost use Rattle.unit_clients.specs.Room.{HaveSpare};
+ghost use Rattle.pitch_c.specs.Codes as code;
+ghost use Rattle.pitch_c.specs.Answers.{Answers, hold_code, judged_code, client_code, side_code};
+ghost use Rattle.pitch_c.specs.Answers.{MayTakeMemory};
+ghost use Rattle.pitch_c.specs.Clients.{HasHeard, StillHave, HearFirst};
 ghost use Rattle.pitch_c.specs.Clients.{TellStatus, TellBest, TellOrder};
 
-use crate::asking::{hear_first, tell_best, tell_order, tell_status};
-use crate::codes::{BAD_HOLD, CLOSED, IS_OPEN, NO_MEMORY, OK};
+use crate::asking::{hear_first, reserve_for, tell_best, tell_order, tell_status};
+use crate::codes::{ABI, BAD_HOLD, CLOSED, IS_OPEN, NO_MEMORY, OK};
 use crate::handle::{Client, opened, take};
 use crate::reports::{BestOut, HeardOut, OrderOut, StatusOut};
 use std::alloc::Global;
@@ -22,7 +28,9 @@ use unit_clients::Units;
 // Boxes new clients.
 fn boxed(alloc: Global, hold: u32) -> Result<Box<Units>, u32>
     ensures heard { IfOk result (λ units. HaveHeard units.value []) }
-    ensures err { IfErr result (λ code. 1 ≤ code) }
+    ensures ok { IfOk result (λ units. hold_code hold ≡ code.ok) }
+    ensures answer { IfErr result (λ n. Answers (hold_code hold) n) }
+    ensures err { IfErr result (λ n. 1 ≤ n) }
 {
     if hold == 0 || hold > 65536 {
         return Err(BAD_HOLD);
@@ -36,11 +44,21 @@ fn boxed(alloc: Global, hold: u32) -> Result<Box<Units>, u32>
     }
 }
 
+/// The number of what the header has to match: the structs and the functions.
+#[unsafe(no_mangle)]
+pub extern "C" fn pitch_c_abi() -> u32
+    ensures { result ≡ code.abi }
+{
+    ABI
+}
+
 /// Opens a client that is closed. Each unit will hold at most `hold` messages, from 1 to 65,536.
 #[unsafe(no_mangle)]
 pub extern "C" fn pitch_c_open(alloc: Global, client: &mut Client, hold: u32) -> u32
-    ensures heard { result ≡ 0 → HasHeard client.new.handle.value [] }
+    ensures heard { result ≡ code.ok → HasHeard client.new.handle.value [] }
     ensures same { 1 ≤ result → client.new.handle.value ≡ client.old.handle.value }
+    ensures is_open { IfSome client.old.handle.value (λ units. result ≡ code.is_open) }
+    ensures answer { IfNone client.old.handle.value (Answers (hold_code hold) result) }
 {
     if let Some(units) = take(alloc, client) {
         *client = opened(units);
@@ -71,16 +89,44 @@ pub extern "C" fn pitch_c_hear(
     bytes: &[u8],
     told: &mut HeardOut,
 ) -> u32
-    ensures heard { result ≡ 0 → IsSomeAnd client.old.handle.value
+    ensures heard { result ≡ code.ok → IsSomeAnd client.old.handle.value
         (λ old. IsSomeAnd client.new.handle.value (λ new. HearFirst bytes.now old new told.new)) }
-    ensures still { 2 ≤ result → IsSomeAnd client.old.handle.value
+    ensures still { 1 ≤ result → IfSome client.old.handle.value
         (λ old. IsSomeAnd client.new.handle.value (λ new. StillHave old new)) }
-    ensures judged { 5 ≤ result → BeginWithNone bytes.now }
+    ensures closed { IfNone client.old.handle.value (result ≡ code.closed) }
+    ensures answer { IfSome client.old.handle.value
+        (λ old. Answers (judged_code (judge bytes.now)) result) }
+    ensures memory { result ≡ code.no_memory
+        → IsSomeAnd client.old.handle.value (λ old. MayTakeMemory bytes.now old) }
 {
     let Some(mut units) = take(alloc, client) else {
         return CLOSED;
     };
     let code = hear_first(alloc, &mut units, bytes, told);
+    *client = opened(units);
+    code
+}
+
+/// Takes memory ahead for so many messages of a unit that has a client.
+#[unsafe(no_mangle)]
+pub extern "C" fn pitch_c_reserve(
+    alloc: Global,
+    client: &mut Client,
+    unit: u32,
+    messages: u32,
+) -> u32
+    ensures spare { result ≡ code.ok
+        → IsSomeAnd client.new.handle.value (λ units. HaveSpare units unit messages) }
+    ensures still { IfSome client.old.handle.value
+        (λ old. IsSomeAnd client.new.handle.value (λ new. StillHave old new)) }
+    ensures closed { IfNone client.old.handle.value (result ≡ code.closed) }
+    ensures answer { IfSome client.old.handle.value
+        (λ units. Answers (client_code (client_of units unit)) result) }
+{
+    let Some(mut units) = take(alloc, client) else {
+        return CLOSED;
+    };
+    let code = reserve_for(&mut units, unit, messages);
     *client = opened(units);
     code
 }
@@ -93,9 +139,12 @@ pub extern "C" fn pitch_c_status(
     unit: u32,
     told: &mut StatusOut,
 ) -> u32
-    ensures status { result ≡ 0 → IsSomeAnd client.old.handle.value
+    ensures status { result ≡ code.ok → IsSomeAnd client.old.handle.value
         (λ units. TellStatus units unit told.new) }
     ensures same { client.new.handle.value ≡ client.old.handle.value }
+    ensures closed { IfNone client.old.handle.value (result ≡ code.closed) }
+    ensures answer { IfSome client.old.handle.value
+        (λ units. result ≡ client_code (client_of units unit)) }
 {
     let Some(units) = take(alloc, client) else {
         return CLOSED;
@@ -115,9 +164,12 @@ pub extern "C" fn pitch_c_best(
     side: u8,
     told: &mut BestOut,
 ) -> u32
-    ensures best { result ≡ 0 → IsSomeAnd client.old.handle.value
+    ensures best { result ≡ code.ok → IsSomeAnd client.old.handle.value
         (λ units. TellBest units unit symbol.now side told.new) }
     ensures same { client.new.handle.value ≡ client.old.handle.value }
+    ensures closed { IfNone client.old.handle.value (result ≡ code.closed) }
+    ensures answer { IfSome client.old.handle.value
+        (λ units. result ≡ side_code (side_of side) (client_code (client_of units unit))) }
 {
     let Some(units) = take(alloc, client) else {
         return CLOSED;
@@ -136,9 +188,12 @@ pub extern "C" fn pitch_c_order(
     id: u64,
     told: &mut OrderOut,
 ) -> u32
-    ensures order { result ≡ 0 → IsSomeAnd client.old.handle.value
+    ensures order { result ≡ code.ok → IsSomeAnd client.old.handle.value
         (λ units. TellOrder units unit id told.new) }
     ensures same { client.new.handle.value ≡ client.old.handle.value }
+    ensures closed { IfNone client.old.handle.value (result ≡ code.closed) }
+    ensures answer { IfSome client.old.handle.value
+        (λ units. result ≡ client_code (client_of units unit)) }
 {
     let Some(units) = take(alloc, client) else {
         return CLOSED;

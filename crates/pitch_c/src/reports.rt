@@ -10,13 +10,14 @@ use pitch_model::Status;
 use unit_packets::Header;
 
 /// How far a client is: 1 silent, 2 current, 3 behind; its reach, and the greatest sequence that it
-/// was told of.
+/// was told of. Each struct ends with room for fields to come, which is 0.
 #[repr(C)]
 #[derive(Clone, Copy)]
 pub struct StatusOut {
     pub state: u32,
     pub reach: u32,
     pub top: u32,
+    pub spare: [u32; 5],
 }
 
 /// A best price in ten-thousandths of a dollar with its shares; `there` is 0 where the side is
@@ -27,6 +28,7 @@ pub struct BestOut {
     pub there: u64,
     pub price: u64,
     pub shares: u64,
+    pub spare: [u64; 5],
 }
 
 /// An open order; `there` is 0 where none of this id is open, and `side` is `B` or `S`.
@@ -34,10 +36,12 @@ pub struct BestOut {
 #[derive(Clone, Copy)]
 pub struct OrderOut {
     pub there: u64,
+    pub id: u64,
     pub price: u64,
     pub quantity: u32,
     pub side: u32,
     pub symbol: [u8; 8],
+    pub spare: [u64; 3],
 }
 
 /// What was heard: the bytes that the block has, its header, how many of its messages were new, how
@@ -52,6 +56,7 @@ pub struct HeardOut {
     pub fresh: u32,
     pub overflows: u32,
     pub after: StatusOut,
+    pub spare: [u32; 2],
 }
 
 pub(crate) fn status_out(status: Status) -> StatusOut
@@ -62,16 +67,19 @@ pub(crate) fn status_out(status: Status) -> StatusOut
             state: 1,
             reach: 0,
             top: 0,
+            spare: [0; 5],
         },
         Status::Current { n } => StatusOut {
             state: 2,
             reach: n,
             top: n,
+            spare: [0; 5],
         },
         Status::Behind { n, top } => StatusOut {
             state: 3,
             reach: n,
             top,
+            spare: [0; 5],
         },
     }
 }
@@ -84,11 +92,13 @@ pub(crate) fn best_out(best: Option<(Price, u64)>) -> BestOut
             there: 0,
             price: 0,
             shares: 0,
+            spare: [0; 5],
         },
         Some((price, shares)) => BestOut {
             there: 1,
             price: price.ten_thousandths(),
             shares,
+            spare: [0; 5],
         },
     }
 }
@@ -99,17 +109,21 @@ pub(crate) fn order_out(order: Option<Order>) -> OrderOut
     match order {
         None => OrderOut {
             there: 0,
+            id: 0,
             price: 0,
             quantity: 0,
             side: 0,
             symbol: [32; 8],
+            spare: [0; 3],
         },
         Some(order) => OrderOut {
             there: 1,
+            id: order.id,
             price: order.price.ten_thousandths(),
             quantity: order.quantity,
             side: u32::from(order.side.byte()),
             symbol: order.symbol.bytes(),
+            spare: [0; 3],
         },
     }
 }
@@ -125,5 +139,6 @@ pub(crate) fn heard_out(header: Header, change: Change) -> HeardOut
         fresh: change.fresh,
         overflows: change.overflows,
         after: status_out(change.after),
+        spare: [0; 2],
     }
 }

@@ -1,6 +1,7 @@
-use Rattle.std.proofs.Common.{ap, ◌∙◌}
+use Rattle.std.proofs.Common.{ap, sym, ◌∙◌}
 use Rattle.heard_items.specs.Units.{unit_history}
 use Rattle.pitch_c.specs.Reports.{order_shown}
+use Rattle.pitch_c.proofs.Answering.{client_is}
 use Rattle.pitch_c.proofs.Telling.{tracks_there, keeps_there}
 use Rattle.pitch_c.proofs.asking.tell_order.Goals as goal
 
@@ -8,6 +9,7 @@ pub returns-in-Some : goal.returns-in-Some
 returns-in-Some c = record {
   order = λ zero before Image Vs h honest. c.order_out.ensures ∙ ap order_shown
       (c.open_order.ensures c.args.units.now.limit (unit_history c.args.unit before) (Vs c.args.unit)
-      (tracks_there c.args.units.now c.args.unit c.in-Some.client.now c.in-Some.ensures before h)
-      (keeps_there c.args.units.now c.args.unit c.in-Some.client.now c.in-Some.ensures before h Image Vs honest));
+      (tracks_there c.args.units.now c.args.unit c.in-Some.client.now c.in-Some.ensures.there before h)
+      (keeps_there c.args.units.now c.args.unit c.in-Some.client.now c.in-Some.ensures.there before h Image Vs honest));
+  answer = sym (client_is c.args.units.now c.args.unit c.in-Some.client.now c.in-Some.ensures.there);
 }

@@ -1,6 +1,7 @@
-use Rattle.std.proofs.Common.{ap, ◌∙◌}
+use Rattle.std.proofs.Common.{ap, sym, ◌∙◌}
 use Rattle.heard_items.specs.Units.{unit_history}
 use Rattle.pitch_c.specs.Reports.{status_shown}
+use Rattle.pitch_c.proofs.Answering.{client_is}
 use Rattle.pitch_c.proofs.Telling.{tracks_there}
 use Rattle.pitch_c.proofs.asking.tell_status.Goals as goal
 
@@ -8,5 +9,6 @@ pub returns-in-Some : goal.returns-in-Some
 returns-in-Some c = record {
   status = λ zero before h. c.status_out.ensures ∙ ap status_shown
       (c.status.ensures c.args.units.now.limit (unit_history c.args.unit before)
-      (tracks_there c.args.units.now c.args.unit c.in-Some.client.now c.in-Some.ensures before h));
+      (tracks_there c.args.units.now c.args.unit c.in-Some.client.now c.in-Some.ensures.there before h));
+  answer = sym (client_is c.args.units.now c.args.unit c.in-Some.client.now c.in-Some.ensures.there);
 }

@@ -1,0 +1,55 @@
+-- Worked examples of what C is told.
+use Rattle.std.proofs.Common.{◌≡◌, ℕ, true, [], ◌∷◌, Some, None, Ok, Err, refl}
+use Rattle.pitch_fields.specs.declared.side.Side.TheVariants.{Buy, Sell}
+use Rattle.pitch_messages.specs.declared.order.Order.{Order}
+use Rattle.pitch_model.specs.declared.status.Status.TheVariants.{Silent, Current, Behind}
+use Rattle.unit_packets.specs.declared.header.Header.{Header}
+use Rattle.unit_packets.specs.declared.header.BlockError.TheVariants.{Truncated, Spare}
+use Rattle.pitch_c.specs.Answers.{hold_code, judged_code, side_code}
+use Rattle.pitch_c.specs.Reports.{status_shown, best_shown, order_shown}
+use Rattle.pitch_c.specs.declared.reports.StatusOut.{StatusOut}
+use Rattle.pitch_c.specs.declared.reports.BestOut.{BestOut}
+use Rattle.pitch_c.specs.declared.reports.OrderOut.{OrderOut}
+
+-- ---- Codes
+holds : ((hold_code 0 ≡ 4) × (hold_code 1 ≡ 0)) × ((hold_code 65536 ≡ 0) × (hold_code 65537 ≡ 4))
+holds = ((refl, refl), (refl, refl))
+
+judged : (header : Header) → (judged_code (Ok header) ≡ 0) × ((judged_code (Err (Truncated 7 8)) ≡ 5) × (judged_code (Err (Spare 12)) ≡ 6))
+judged header = (refl, (refl, refl))
+
+sides : (side_code None 0 ≡ 8) × ((side_code (Some Buy) 0 ≡ 0) × (side_code (Some Sell) 7 ≡ 7))
+sides = (refl, (refl, refl))
+
+-- ---- Structs
+behind : status_shown (Behind 2 4) ≡ record { state = 3; reach = 2; top = 4; spare = 0 ∷ 0 ∷ 0 ∷ 0 ∷ 0 ∷ [] }
+behind = refl
+
+current : status_shown (Current 4) ≡ record { state = 2; reach = 4; top = 4; spare = 0 ∷ 0 ∷ 0 ∷ 0 ∷ 0 ∷ [] }
+current = refl
+
+bid : best_shown (Some (123456, 300)) ≡ record { there = 1; price = 123456; shares = 300; spare = 0 ∷ 0 ∷ 0 ∷ 0 ∷ 0 ∷ [] }
+bid = refl
+
+-- buy 500 ACME at 12.3456, order 100
+abbrev acme : Order
+acme = record {
+  id = 100;
+  side = Buy;
+  quantity = 500;
+  symbol = 65 ∷ 67 ∷ 77 ∷ 69 ∷ 32 ∷ 32 ∷ 32 ∷ 32 ∷ [];
+  price = 123456;
+  display = true;
+  participant = 32 ∷ 32 ∷ 32 ∷ 32 ∷ [];
+}
+
+acme_told : order_shown (Some acme) ≡ record {
+  there = 1;
+  id = 100;
+  price = 123456;
+  quantity = 500;
+  side = 66;
+  symbol = 65 ∷ 67 ∷ 77 ∷ 69 ∷ 32 ∷ 32 ∷ 32 ∷ 32 ∷ [];
+  spare = 0 ∷ 0 ∷ 0 ∷ [];
+}
+acme_told = refl
