@@ -1,27 +1,49 @@
 #!/usr/bin/env python3
-"""Feeds `pitch follow` with streams that could bring it to its knees, and says what each costs.
+"""Feeds the program with streams that could bring it to its knees, and says what each costs a byte.
 
-    bench/robust.py PROGRAM [--rounds R] [--only NAME]
+    bench/robust.py PROGRAM [--rounds R] [--only NAME] [--commands follow,quotes,relay]
 
-PROGRAM is the path of the built program: `crates/pitch/out/pitch` after `./pitch` or `rt run`. The streams, all of one unit:
+PROGRAM is the path of the built program: `crates/pitch/out/pitch` after `./pitch` or `rt run`. A C compiler finds the ids of
+`collide`. The streams:
 
-    many      1,000,000 orders are added, and stay open
-    shifted   the same with the ids k * 2^40, which share their 40 low bits
-    spaced    the same with the ids k * 2^32, which share their 32 low bits
-    random    the same with ids without an order, to compare with the three above
-    one       one order is modified 10,000,000 times
-    rising    400,000 symbols get a trading status each, in the order of their names
-    falling   the same from the last name to the first
+    usual      200,000 orders of 2,704 symbols are added, and deleted in random order: what the others are compared with
+    many       1,000,000 orders are added, and stay open
+    shifted    the same with the ids k * 2^40, which share their 40 low bits
+    spaced     the same with the ids k * 2^32, which share their 32 low bits
+    random     the same with ids without an order, to compare with the three above
+    collide    100,000 orders are added whose ids collide in the map's hasher, which has no seed
+    one        one order is modified 10,000,000 times
+    rising     400,000 symbols get a trading status each, in the order of their names
+    falling    the same from the last name to the first
+    emptied    150,000 orders are added and deleted, and 100,000 Unit Clears follow
+    cleared    150,000 orders are added and deleted, and 20,000 times an add and a Unit Clear follow
+    symbols    150,000 orders of as many symbols are added, and cleared by one Unit Clear
+    backwards  60 times the hold is filled by blocks of 30 messages from the last to the first, and then the gap is filled
+    single     the same in blocks of one message
+    most       the same once, in blocks of one message, with the largest hold
+    least      the same in the shortest blocks that there are, one message of 2 bytes
+    overflow   each block is beyond a gap, and the hold overflows again and again
+    prices     524,288 orders at as many prices of one symbol are added and deleted in random order
+    swing      one order is moved 400,000 times between two far prices, with 65,536 others between them
+    takeover   seven ids are added 400,000 times, each time with another symbol
+    units      256 units in turn, 400,000 blocks of one message
+    blocks     one unit, 400,000 blocks of one message
+    deletes    800,000 deletions of orders that are not open, 99 a block
+    tiny       1,600,000 messages of 2 bytes, 255 a block
+    heartbeats 1,200,000 blocks without a message
+    old        400,000 messages that were heard before
 
-Each stream is written to the program's standard input piece by piece, and is never held whole, neither here nor there. Each is run at
-its tenth as well. For each stream a line says the processor time of the program (user and system, the least of R rounds), its peak of
-memory, and how many times the processor time of the tenth that is. The number of orders and statuses in the book that it printed is
-compared with what the stream leaves. The exit status is 0 where all of them are right.
+Each stream is run whole and at its tenth, by each command. For each a line says the processor time of the program (user and system,
+the least of R rounds), how many nanoseconds a byte that is, how many times the cost a byte of `usual` by the same command, how many
+times the processor time of the tenth, and the peak of memory. The number of orders and statuses that `follow` prints is compared with
+what the stream leaves. The last lines are of `replay` on a text with a `quote` after each of its adds. The exit status is 0 where all
+numbers are right.
 
-Python 3, the standard library alone.
+Python 3 and its standard library.
 """
 import argparse
 import os
+import random
 import struct
 import subprocess
 import sys
@@ -30,12 +52,21 @@ import tempfile
 UNIT = 1
 MOST = 250  # messages of a block
 MASK = 2**64 - 1
+HOLD = 4096  # messages that a client holds unless it is told otherwise
+LARGEST = 65536
+HERE = os.path.dirname(os.path.abspath(__file__))
 
 
-def block(sequence, messages):
-    """A block of the unit with these messages, from this sequence on."""
+def block(sequence, messages, unit=UNIT):
+    """A block of a unit with these messages, from this sequence on."""
     body = b"".join(messages)
-    return struct.pack("<HBBI", 8 + len(body), len(messages), UNIT, sequence) + body
+    return struct.pack("<HBBI", 8 + len(body), len(messages), unit, sequence) + body
+
+
+def blocks(messages, most, first=1):
+    """The messages in blocks of at most so many, from a sequence on."""
+    for start in range(0, len(messages), most):
+        yield block(first + start, messages[start : start + most])
 
 
 def add(order_id):
@@ -43,9 +74,29 @@ def add(order_id):
     return struct.pack("<BBIQBI6sQB", 34, 0x21, 0, order_id, ord("B"), 100, b"ACME  ", 123400, 1)
 
 
+def add_at(order_id, price, symbol=b"ACME  ", side=b"B"):
+    """The same at a price, for a symbol, on a side."""
+    return struct.pack("<BBIQcI6sQB", 34, 0x21, 0, order_id, side, 100, symbol, price, 1)
+
+
+def add_short(order_id):
+    """An Add Order Message in the short form."""
+    return struct.pack("<BBIQcH6sHB", 26, 0x22, 0, order_id, b"B", 100, b"ACME  ", 1234, 1)
+
+
+def delete(order_id):
+    """A Delete Order Message."""
+    return struct.pack("<BBIQ", 14, 0x29, 0, order_id)
+
+
 def modify(order_id, quantity):
     """A Modify Order Message in the short form."""
     return struct.pack("<BBIQHHB", 19, 0x28, 0, order_id, quantity, 1234, 1)
+
+
+def move(order_id, price):
+    """A Modify Order Message in the long form."""
+    return struct.pack("<BBIQIQB", 27, 0x27, 0, order_id, 1, price, 1)
 
 
 def status(number):
@@ -54,26 +105,48 @@ def status(number):
     return struct.pack("<BBI8sBB2s", 18, 0x31, 0, name, ord("H"), ord("0"), b"  ")
 
 
+CLEAR = struct.pack("<BBI", 6, 0x97, 0)
+TINY = b"\x02\x2d"
+
+
+def shuffled(count):
+    """The numbers from 1 to count, in random order."""
+    numbers = list(range(1, count + 1))
+    random.Random(3).shuffle(numbers)
+    return numbers
+
+
+def usual(count):
+    """Orders of many symbols, added and deleted in random order."""
+    symbols = [b"%c%c%c   " % (65 + k % 26, 65 + k // 26 % 26, 65 + k // 676 % 4) for k in range(2704)]
+    ids = range(1, count + 1)
+    made = [add_at(i, 1000000 + 100 * (i % 97), symbols[i % 2704], b"BS"[i & 1 :][:1]) for i in ids]
+    return blocks(made + [delete(i) for i in shuffled(count)], 30)
+
+
 def statuses(number_of):
-    """A stream of so many statuses, of symbols whose numbers are those of a function; it leaves them all."""
-
-    def stream(count):
-        for start in range(0, count, MOST):
-            places = range(start, min(start + MOST, count))
-            yield block(start + 1, [status(number_of(k, count)) for k in places])
-
-    return stream, lambda count: count
+    """A stream of so many statuses, of symbols whose numbers are those of a function."""
+    return lambda count: blocks([status(number_of(k, count)) for k in range(count)], MOST)
 
 
 def adds(id_of):
-    """A stream that adds so many orders, whose ids are those of a function; it leaves them all."""
+    """A stream that adds so many orders, whose ids are those of a function."""
 
     def stream(count):
         for start in range(0, count, MOST):
             ids = range(start, min(start + MOST, count))
             yield block(start + 1, [add(id_of(k + 1)) for k in ids])
 
-    return stream, lambda count: count
+    return stream
+
+
+def collide(count):
+    """A stream that adds so many orders, whose ids have the same place in the map's table."""
+    with tempfile.TemporaryDirectory() as folder:
+        found = os.path.join(folder, "collide")
+        subprocess.run(["cc", "-O2", "-o", found, os.path.join(HERE, "collide.c")], check=True)
+        ids = subprocess.run([found, str(count), "14"], check=True, capture_output=True).stdout
+    return blocks([add_short(int(i)) for i in ids.split()], 30)
 
 
 def modifications(count):
@@ -87,68 +160,193 @@ def modifications(count):
         yield block(count - count % MOST + 2, [modify(7, 1)] * (count % MOST))
 
 
+def emptied(count):
+    """Orders are added and deleted, half as many again as there are clears after them."""
+    ids = range(1, count * 3 // 2 + 1)
+    return blocks([add_short(i) for i in ids] + [delete(i) for i in ids] + [CLEAR] * count, 200)
+
+
+def cleared(count):
+    """The same with an add before each clear, and 15 orders for two of them."""
+    ids = range(1, count * 15 // 2 + 1)
+    pairs = [each for i in range(count) for each in (add_short(i), CLEAR)]
+    return blocks([add_short(i) for i in ids] + [delete(i) for i in ids] + pairs, 30)
+
+
+def symbols(count):
+    """An order for each of so many symbols, and a clear."""
+    return blocks([add_at(i, 100, b"%06d" % i) for i in range(1, count + 1)] + [CLEAR], 30)
+
+
+def backwards(hold, most, message):
+    """A stream of messages that fill a hold from the last to the first, and then its gap."""
+
+    def stream(count):
+        first = 1
+        while first <= count:
+            held = min(hold, count)
+            made = list(blocks([message(first + 1 + k) for k in range(held)], most, first + 1))
+            yield from reversed(made)
+            yield block(first, [message(first)])
+            first += held + 1
+
+    return stream
+
+
+def told_backwards(hold):
+    """How many orders such a stream leaves."""
+    return lambda count: sum(min(hold, count) + 1 for _ in range(1, count + 1, min(hold, count) + 1))
+
+
+def overflow(count):
+    """Blocks of 30 messages, all beyond a gap."""
+    return blocks([delete(1)] * count, 30, 2)
+
+
+def prices(count):
+    """Orders at prices of their own, added and deleted in random order."""
+    numbers = shuffled(count)
+    return blocks([add_at(i, 100 * i) for i in numbers] + [delete(i) for i in reversed(numbers)], 30)
+
+
+def swing(count):
+    """An order that is moved to and fro over many prices."""
+    between = min(65536, count // 6)
+    made = [add_at(i + 2, 1000 + i, side=b"S") for i in range(between)] + [add_at(1, 1, side=b"S")]
+    return blocks(made + [move(1, (1, 10**9)[k & 1]) for k in range(count)], 30)
+
+
+def takeover(count):
+    """Ids that are open are added again."""
+    names = [b"%c     " % (65 + k) for k in range(26)]
+    return blocks([add_at(1 + k % 7, 100 * (1 + k % 50), names[k % 26]) for k in range(count)], 30)
+
+
+def units(count):
+    """All units in turn, an order a block."""
+    for k in range(count):
+        yield block(k // 256 + 1, [add_short(k + 1)], k % 256)
+
+
+def old(count):
+    """A block that is heard again and again."""
+    yield block(1, [add_short(1)] * 200)
+    for _ in range(count // 30):
+        yield block(1, [add_short(1)] * 30)
+
+
+# Each with its greatest count, what it leaves, and the words of `follow`, `quotes` and `relay`.
 STREAMS = {
-    "many": (1_000_000, *adds(lambda k: k)),
-    "shifted": (1_000_000, *adds(lambda k: k << 40 & MASK)),
-    "spaced": (1_000_000, *adds(lambda k: k << 32)),
-    "random": (1_000_000, *adds(lambda k: k * 0x9E3779B97F4A7C15 & MASK)),
+    "usual": (200_000, usual, lambda count: 0),
+    "many": (1_000_000, adds(lambda k: k), lambda count: count),
+    "shifted": (1_000_000, adds(lambda k: k << 40 & MASK), lambda count: count),
+    "spaced": (1_000_000, adds(lambda k: k << 32), lambda count: count),
+    "random": (1_000_000, adds(lambda k: k * 0x9E3779B97F4A7C15 & MASK), lambda count: count),
+    "collide": (100_000, collide, lambda count: count),
     "one": (10_000_000, modifications, lambda count: 1),
-    "rising": (400_000, *statuses(lambda k, count: k)),
-    "falling": (400_000, *statuses(lambda k, count: count - 1 - k)),
+    "rising": (400_000, statuses(lambda k, count: k), lambda count: count),
+    "falling": (400_000, statuses(lambda k, count: count - 1 - k), lambda count: count),
+    "emptied": (100_000, emptied, lambda count: 0),
+    "cleared": (20_000, cleared, lambda count: 0),
+    "symbols": (150_000, symbols, lambda count: 0),
+    "backwards": (60 * (HOLD + 1), backwards(HOLD, 30, add), told_backwards(HOLD)),
+    "single": (60 * (HOLD + 1), backwards(HOLD, 1, add), told_backwards(HOLD)),
+    "most": (LARGEST, backwards(LARGEST, 1, add), told_backwards(LARGEST)),
+    "least": (LARGEST, backwards(LARGEST, 1, lambda k: TINY), lambda count: 0),
+    "overflow": (400_000, overflow, lambda count: 0),
+    "prices": (1 << 19, prices, lambda count: 0),
+    "swing": (400_000, swing, lambda count: min(65536, count // 6) + 1),
+    "takeover": (400_000, takeover, lambda count: 7),
+    "units": (400_000, units, lambda count: count),
+    "blocks": (400_000, lambda count: blocks([add_short(k + 1) for k in range(count)], 1), lambda count: count),
+    "deletes": (800_000, lambda count: blocks([delete(k + 1) for k in range(count)], 99), lambda count: 0),
+    "tiny": (1_600_000, lambda count: blocks([TINY] * count, 255), lambda count: 0),
+    "heartbeats": (1_200_000, lambda count: (block(1, []) for _ in range(count)), lambda count: 0),
+    "old": (400_000, old, lambda count: 1),
 }
+LARGE = ("most", "least")
 
 
 def left_in(text):
-    """The number of orders and statuses in the only book that was printed, or None where none was."""
-    found = None
+    """The number of orders and statuses in the books, which are printed last."""
+    left, in_book = 0, False
     for line in text:
         if line.startswith(b"book "):
-            found = 0
-        elif found is not None:
-            found += 1
-    return found
+            in_book = True
+        elif in_book:
+            left += 1
+    return left
 
 
-def run(program, blocks):
-    """Runs the program on the blocks: its processor time, its peak of memory in MB, and how many orders and statuses it printed."""
-    with tempfile.TemporaryFile() as out:
-        child = subprocess.Popen([program, "follow"], stdin=subprocess.PIPE, stdout=out)
-        piece = []
-        for one in blocks:
-            piece.append(one)
-            if len(piece) == 32:
-                child.stdin.write(b"".join(piece))
-                piece.clear()
-        child.stdin.write(b"".join(piece))
-        child.stdin.close()
-        _, status, use = os.wait4(child.pid, 0)
-        child.returncode = os.waitstatus_to_exitcode(status)
+def run(program, words, stream):
+    """Runs the program on a file: its processor time, its peak of memory in MB, and how many orders and statuses it printed."""
+    with open(stream, "rb") as given, tempfile.TemporaryFile() as out:
+        child = subprocess.Popen([program, *words], stdin=given, stdout=out)
+        _, ended, use = os.wait4(child.pid, 0)
+        child.returncode = os.waitstatus_to_exitcode(ended)
         if child.returncode:
-            sys.exit(f"{program} ended with status {child.returncode}")
+            sys.exit(f"{program} {words} ended with status {child.returncode}")
         out.seek(0)
-        return use.ru_utime + use.ru_stime, use.ru_maxrss / 1024, left_in(out)
+        left = left_in(out) if words[0] == "follow" else None
+        return use.ru_utime + use.ru_stime, use.ru_maxrss / 1024, left
+
+
+def schedule(count):
+    """A text of so many adds, with a question for the quote after each."""
+    made = ("1 add %d B 100 ACME %d.00\n1 flush\n1 a rest\n1 quote ACME\n" % (k, k % 1000 + 1) for k in range(1, count + 1))
+    return "".join(made).encode()
+
+
+def measure(program, words, pieces, rounds):
+    """The least of so many runs on these pieces, and how many bytes they have."""
+    with tempfile.NamedTemporaryFile() as stream:
+        for piece in pieces:
+            stream.write(piece)
+        stream.flush()
+        size = os.path.getsize(stream.name)
+        return min(run(program, words, stream.name) for _ in range(rounds)), size
+
+
+def row(name, command, size, least, usual_cost, tenth):
+    """A line of the table."""
+    time, peak, _ = least
+    cost = time * 1e9 / size
+    times = "" if usual_cost is None else f"{cost / usual_cost:6.1f}"
+    grown = "" if tenth is None else f"{time / tenth:6.1f}"
+    print(f"{name:10} {command:7} {size:10} {time:7.3f} {cost:8.1f} {times:>6} {grown:>6} {peak:7.0f}", flush=True)
 
 
 def main():
     words = argparse.ArgumentParser(description=__doc__, formatter_class=argparse.RawDescriptionHelpFormatter)
     words.add_argument("program")
     words.add_argument("--rounds", type=int, default=3)
-    words.add_argument("--only", choices=STREAMS)
+    words.add_argument("--only", choices=[*STREAMS, "quote"], action="append")
+    words.add_argument("--commands", default="follow,quotes,relay")
     given = words.parse_args()
     right = True
-    print(f"{'stream':8} {'messages':>10} {'cpu s':>7} {'peak MB':>8} {'left':>8}   times the tenth")
+    usual_cost = {}
+    print(f"{'stream':10} {'command':7} {'bytes':>10} {'cpu s':>7} {'ns/byte':>8} {'usual':>6} {'tenth':>6} {'peak MB':>7}")
     for name, (count, stream, left) in STREAMS.items():
-        if given.only not in (None, name):
+        if given.only and name not in (*given.only, "usual"):
             continue
+        for command in given.commands.split(","):
+            form = [command] + (["--hold", str(LARGEST)] if name in LARGE else [])
+            tenth = None
+            for messages in (count // 10, count):
+                least, size = measure(given.program, form, stream(messages), given.rounds)
+                row(name, command, size, least, usual_cost.get(command), tenth)
+                tenth = least[0]
+                if least[2] not in (None, left(messages)):
+                    print(f"WRONG: {least[2]} orders and statuses were printed, and {left(messages)} are left")
+                    right = False
+            if name == "usual":
+                usual_cost[command] = tenth * 1e9 / size
+    if not given.only or "quote" in given.only:
         tenth = None
-        for messages in (count // 10, count):
-            rounds = [run(given.program, stream(messages)) for _ in range(given.rounds)]
-            time, peak, orders = min(rounds)
-            right = right and all(it[2] == left(messages) for it in rounds)
-            wrong = "" if orders == left(messages) else f"   WRONG: {left(messages)} are left"
-            times = "" if tenth is None else f"   {time / tenth:.1f}"
-            print(f"{name:8} {messages:10} {time:7.2f} {peak:8.1f} {orders:8}{times}{wrong}", flush=True)
-            tenth = time
+        for adds_made in (2_000, 20_000):
+            least, size = measure(given.program, ["replay"], [schedule(adds_made)], given.rounds)
+            row("quote", "replay", size, least, None, tenth)
+            tenth = least[0]
     sys.exit(0 if right else 1)
 
 
