@@ -35,16 +35,30 @@ fn add(id: u8) -> [u8; 26] {
     add
 }
 
+// Pushes the add of an order.
+fn push(rt: &impl Abort, shelf: &mut ImageShelf, id: u8) {
+    let raw = Raw::from_bytes(&add(id)).expect(rt, "a raw");
+    assert!(rt; shelf.pushed() < 4294967294);
+    shelf.push(&raw).expect(rt, "memory");
+}
+
 // A shelf of so many adds, each advertised as soon as it was pushed.
 fn shelf(rt: &impl Abort, alloc: Global, count: u8) -> ImageShelf {
     let mut shelf = ImageShelf::make(alloc);
     for id in 0..count {
-        let raw = Raw::from_bytes(&add(id + 1)).expect(rt, "a raw");
-        assert!(rt; shelf.pushed() < 4294967294);
-        shelf.push(&raw).expect(rt, "memory");
+        push(rt, &mut shelf, id + 1);
         shelf.advertise().expect(rt, "memory");
     }
     shelf
+}
+
+#[test]
+fn a_shelf_keeps_no_message_before_it_advertises(rt: HostRuntime) {
+    let mut shelf = ImageShelf::make(rt.alloc());
+    for id in 0..12u8 {
+        push(&rt, &mut shelf, id + 1);
+    }
+    assert!(rt; (shelf.pushed(), shelf.retained()) == (12, 0));
 }
 
 // What is fed, and what is replied to it: a login, a request for 2, and two requests for 12.
