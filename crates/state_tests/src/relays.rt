@@ -3,7 +3,7 @@
 use relay_unit::{Outlet, Relay};
 use std::process::Abort;
 use std::test::Fail;
-use unit_packets::{DatagramList, view_block};
+use unit_packets::{BlockList, BlockReader, BlockView, DatagramList, view_block};
 
 // A heartbeat behind message 2, a spin of an image through it that has one order, and a line's
 // deletion of that order.
@@ -52,5 +52,24 @@ fn datagrams_are_laid_one_behind_another(rt: HostRuntime) -> Result<(), Fail> {
     }
     assert!(rt; out.len() == IMAGE.len() + DELETION.len());
     assert!(rt; out.starts_with(IMAGE) && out.ends_with(DELETION));
+    Ok(())
+}
+
+// The blocks of a reader own their messages, and are lent to the relay.
+#[test]
+fn the_blocks_of_a_reader_are_heard(rt: HostRuntime) -> Result<(), Fail> {
+    let mut reader = BlockReader::make(rt.alloc());
+    let mut blocks = BlockList::make(rt.alloc());
+    for bytes in [HEARTBEAT, AVAILABLE, REPLY, ORDER, FINISHED, DELETION] {
+        assert!(rt; reader.feed(bytes, &mut blocks).is_ok());
+    }
+    let mut relay = Relay::make(rt.alloc(), 1, 16)?;
+    let mut out = DatagramList::make(rt.alloc());
+    for block in blocks.as_slice() {
+        let heard = relay.hear(&BlockView::of_block(block), &mut out);
+        assert!(rt; heard.is_ok());
+    }
+    assert!(rt; blocks.len() == 6 && out.len() == 2);
+    assert!(rt; out.as_slice()[0].bytes() == IMAGE && out.as_slice()[1].bytes() == DELETION);
     Ok(())
 }
