@@ -55,11 +55,11 @@ fn workers_change_no_byte_of_a_schedule(rt: HostRuntime) -> Result<(), Fail> {
     let storm = Storm {
         number: 1,
         units: 2,
-        steps: 200,
+        steps: 2000,
     };
     generate(storm, &mut schedule)?;
     let alone = run_over(&rt, rt.alloc(), "replay", &schedule, &mut NoNet, &FreeGate)?;
-    assert!(rt; alone.written().len() > 10_000);
+    assert!(rt; alone.written().len() > 100_000);
     for line in [
         "replay --workers 1",
         "replay --workers 2",
@@ -75,12 +75,13 @@ fn workers_change_no_byte_of_a_schedule(rt: HostRuntime) -> Result<(), Fail> {
 #[test]
 fn workers_change_no_byte_of_a_storm(rt: HostRuntime) -> Result<(), Fail> {
     for line in [
-        "storm --number 0 --units 2 --steps 16",
-        "storm --number 0 --units 2 --steps 16 --workers 2",
-        "storm --number 0 --units 2 --steps 16 --workers 7",
+        "storm --number 1 --units 2 --steps 2000",
+        "storm --number 1 --units 2 --steps 2000 --workers 1",
+        "storm --number 1 --units 2 --steps 2000 --workers 2",
+        "storm --number 1 --units 2 --steps 2000 --workers 7",
     ] {
         let outcome = run_over(&rt, rt.alloc(), line, b"", &mut NoNet, &FreeGate)?;
-        assert!(rt; outcome.is(ExitStatus::Done, STORMS[1].1.as_bytes(), ""));
+        assert!(rt; outcome.is(ExitStatus::Done, AFTER_2000.as_bytes(), ""));
     }
     Ok(())
 }
