@@ -16,6 +16,7 @@ unfolding digits
 long_stream = refl
 
 two_to_the_30 : trouble_text (Blocks TooLong) ≡ codes "pitch: input is longer than 1073741824 bytes\n"
+unfolding digits
 two_to_the_30 = refl
 
 long_text : trouble_text LongText ≡ codes "pitch: input is longer than " ++ (decimal text_limit ++ codes " bytes\n")
@@ -23,6 +24,7 @@ unfolding digits
 long_text = refl
 
 two_to_the_26 : trouble_text LongText ≡ codes "pitch: input is longer than 67108864 bytes\n"
+unfolding digits
 two_to_the_26 = refl
 
 no_memory : memory_text ≡ codes "pitch: out of memory\n"
