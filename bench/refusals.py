@@ -52,8 +52,9 @@ def capture():
 
 def with_an_image():
     """The sample, and then a unit from its middle on: it is behind when an image comes."""
-    order = [pcap.add_long(1)]
-    return sample() + make_input.block(9, 100, order) + b''.join(carry.image(9, 99, order, 1))
+    book = carry.Book(carry.BOOK.match('book unit 9 at 99 second - orders 1'))
+    book.raws = [pcap.add_long(1)]
+    return sample() + make_input.block(9, 100, book.raws) + b''.join(book.image())
 
 
 def audited(program):

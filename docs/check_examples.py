@@ -37,6 +37,8 @@ NOT_HERE = {"eth1": "a card", "10.0.0.5": "a card", "-f growing": "a growing fil
 NOT_HERE |= {"sudo": "the machine itself", "/usr/local": "the machine itself"}
 # The script's own words, which docs/check_launcher.py tries.
 NOT_HERE |= {"--unproved": "the script ./pitch", "./pitch follow examples/": "the script ./pitch"}
+# What examples/c/check.sh tries.
+NOT_HERE |= {"libpitch.so": "the library for C"}
 # The small files in the place of those that recipes name.
 CAPTURES = ("feed", "day", "all", "incident", "cut", "piece1", "piece2", "feed-0930", "feed-0940")
 COMMANDS = """time 34200
