@@ -1,5 +1,7 @@
 //! Runs in which a call of a device fails.
 
+ghost use Rattle.std.specs.Prelude.{◌<◌};
+
 use crate::nets::NoNet;
 use crate::runs::{stream_of, words_of};
 use crate::streams::{ADD, BEAT, DELETE, DELETED_TEXT, FIRST_LINE, TIME};
