@@ -1,5 +1,6 @@
 #!/usr/bin/env python3
-"""Runs the checks of the scripts beside the program: on the built program, and what needs none.
+"""Runs the checks of the scripts beside the program: on the built program, and what needs none. Of
+the program it also wants the exit status of five calls.
 
     docs/check_scripts.py [PROGRAM]
 
@@ -31,6 +32,22 @@ def counts_of(words):
     return passed, failed or int(done.returncode != 0 or not found)
 
 
+# What the shell gives the program, and the exit status that it has to end with.
+STATUSES = {'follow < examples/sample.pitch': 0, '': 2, 'follow < examples/captures/sample.pcap': 3,
+            'follow <&-': 4, 'follow < examples/sample.pitch > /dev/full': 5}
+
+
+def statuses_of(program):
+    """How many of these statuses the program ends with, and how many not."""
+    wrong = 0
+    for words, status in STATUSES.items():
+        done = subprocess.run(['bash', '-c', '"$0" ' + words, program], cwd=TOP, capture_output=True)
+        if done.returncode != status:
+            print('pitch %s: status %d, and not %d' % (words, done.returncode, status))
+            wrong += 1
+    return len(STATUSES) - wrong, wrong
+
+
 def main():
     if len(sys.argv) > 2:
         sys.exit('usage: check_scripts.py [PROGRAM]')
@@ -43,6 +60,10 @@ def main():
         check = os.path.join(TOP, folder, 'check.py')
         counts = counts_of([check, program] if stands else [check])
         print('%s: %d passed, %d failed' % (folder, *counts))
+        passed, failed = passed + counts[0], failed + counts[1]
+    if stands:
+        counts = statuses_of(program)
+        print('statuses: %d passed, %d failed' % counts)
         passed, failed = passed + counts[0], failed + counts[1]
     if left:
         print('no program stands at %s, so these were not tried: %s, and what else needs it'
