@@ -12,7 +12,7 @@ holds, kept messages and limits of 1 to 3 and more, venues that end, silent tick
 by a finish, and the status of its last line is judged. F is one of these, or `all`:
 
   image   both connections are cut, and one round with a Spin Server. Wanted is `current` at all
-          that was accepted; this is the law `recovery_ends` of `world_model`
+          that was accepted; this is the law `recovery_ends` of `world_laws`
   gaps    the heartbeat comes, a new connection with the proxy, and rounds of tick, grp up all,
           grp down all, g rest. Wanted is that each round raises the reach by what was asked for,
           unless the request was refused

@@ -36,8 +36,8 @@ use Rattle.world_model.specs.State.{State, Connection, connection_of, datagrams_
 use Rattle.world_model.specs.Ends.{link_of}
 use Rattle.world_model.specs.Verbs.{Done, done, next_state, state_of, commanded_on, connected_on, up_on, down_on, delivered_on, numbered, ended_where, shut, link_ticked, link_ticks, servers_tick, client_ticks, asked, client_book}
 use Rattle.world_model.specs.declared.limits.Limits.{Limits}
-use Rattle.world_model.proofs.Finish.{proxy_cut_current, proxy_cut_accepted, book_of_all}
-use Rattle.world_model.proofs.Reached.{AreSayable, sayable_verbs}
+use Rattle.world_laws.proofs.Finish.{proxy_cut_current, proxy_cut_accepted, book_of_all}
+use Rattle.world_laws.proofs.Reached.{AreSayable, sayable_verbs}
 use Rattle.schedule_replay.specs.Replay.{verbs_of, limits_of, default_limits}
 use Rattle.storm_replay.specs.Ended.{whole_text}
 use Rattle.storm_replay.specs.Limits.{most_units, most_steps}

@@ -10,21 +10,8 @@ pub mod SpinWitness
 pub mod SpinCarrying
 pub mod Pumping
 mod Acting
-mod Sessions
-mod SpinActing
-mod Ticking
+pub mod Sessions
+pub mod SpinActing
+pub mod Ticking
 mod Examples
 mod PrintedLines
-pub mod Spending
-pub mod OneBlock
-pub mod LinkHears
-pub mod ServerRun
-pub mod ImageRound
-pub mod RoundVerbs
-pub mod ImageTaken
-pub mod Lasting
-pub mod Recovered
-pub mod Quiet
-pub mod CommandRaws
-pub mod Reached
-pub mod Finish

@@ -9,5 +9,3 @@ pub mod Carried
 pub mod Hearing
 pub mod Stands
 pub mod Steps
-pub mod Spending
-pub mod Recovery

@@ -1,6 +1,6 @@
-use Rattle.world_model.proofs.Finish.{recovery_current, recovery_book}
-use Rattle.world_model.proofs.Reached.{sayable_verbs}
-use Rattle.world_model.proofs.laws.recovery_ends.Goals as goal
+use Rattle.world_laws.proofs.Finish.{recovery_current, recovery_book}
+use Rattle.world_laws.proofs.Reached.{sayable_verbs}
+use Rattle.world_laws.proofs.laws.recovery_ends.Goals as goal
 
 pub returns-clause-current : goal.returns-clause-current
 returns-clause-current c = λ unit limits done small all. recovery_current unit limits done small (sayable_verbs done all)

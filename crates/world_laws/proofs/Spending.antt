@@ -28,7 +28,7 @@ use Rattle.grp_session.specs.Serving.{Source, grp_answer, said_answer, message_a
 use Rattle.venue_core.specs.declared.error.VenueError.{VenueError}
 use Rattle.venue_core.specs.Refusals.{refusal}
 use Rattle.world_model.specs.Ends.{grp_server}
-use Rattle.world_model.specs.Spending.{ticks_in, SpendsWithin}
+use Rattle.world_laws.specs.Spending.{ticks_in, SpendsWithin}
 use Rattle.world_model.specs.State.{State, Connection, LooksIn, connection_of, with_connection, waiting, datagrams_on}
 use Rattle.world_model.specs.Verbs.{Done, does, state_of, commanded_on, delivered_on, numbered, connected_on, cut_on, ended, ended_where, wanted, source_of, grp_fed, server_fed, with_up, took, up_on, down_on}
 use Rattle.world_model.specs.declared.limits.Limits.{Limits}

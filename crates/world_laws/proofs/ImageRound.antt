@@ -18,8 +18,8 @@ use Rattle.world_model.specs.Ends.{spin_server, spin_says}
 use Rattle.world_model.specs.State.{Connection, Pipe, waiting}
 use Rattle.world_model.specs.Verbs.{put_in, took, at_server_of, pumps, pumped_times, sent_whole}
 use Rattle.world_model.proofs.Carrying.{piped_put, piped_taken}
-use Rattle.world_model.proofs.LinkHears.{Ready, Hears, hears_none, hears_beat}
-use Rattle.world_model.proofs.ServerRun.{Serves, pump_serves, told_serves, tick_serves}
+use Rattle.world_laws.proofs.LinkHears.{Ready, Hears, hears_none, hears_beat}
+use Rattle.world_laws.proofs.ServerRun.{Serves, pump_serves, told_serves, tick_serves}
 
 abbrev pub SpinConnection : Type 0
 SpinConnection = Connection (List Served)

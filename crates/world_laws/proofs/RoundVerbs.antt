@@ -26,8 +26,8 @@ use Rattle.world_model.specs.State.{State, waiting}
 use Rattle.world_model.specs.Verbs.{took, at_link, with_up, with_down, at_server_of, sent_whole, views_of, next_state, asked, done, ended_where, link_fed, link_hears}
 use Rattle.world_model.specs.declared.limits.Limits.{Limits}
 use Rattle.world_model.specs.declared.outcome.Outcome.TheVariants as outcome
-use Rattle.world_model.proofs.LinkHears.{Hears}
-use Rattle.world_model.proofs.ImageRound.{SpinConnection}
+use Rattle.world_laws.proofs.LinkHears.{Hears}
+use Rattle.world_laws.proofs.ImageRound.{SpinConnection}
 
 -- a state in which no connection with the proxy stands
 abbrev pub at : State → Spent → List ℕ → Option SpinConnection → List Entry → State

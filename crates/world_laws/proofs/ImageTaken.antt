@@ -42,10 +42,10 @@ use Rattle.world_model.specs.State.{State, waiting}
 use Rattle.world_model.specs.Verbs.{put_in, took, connection, at_link, with_up, at_server_of, sent_whole, login_of, next_state}
 use Rattle.world_model.specs.declared.limits.Limits.{Limits}
 use Rattle.world_model.proofs.Carrying.{piped_put}
-use Rattle.world_model.proofs.LinkHears.{Ready, Hears, hears_none, hears_both, hears_login, hears_available, hears_reply, hears_finished, image_hears, Brings}
-use Rattle.world_model.proofs.ServerRun.{Serves, login_accepted, login_seen, login_answered, login_serves, request_seen, request_answered, request_serves}
-use Rattle.world_model.proofs.ImageRound.{SpinConnection, Round, piped_all, at_round, pump_round, told_round, beat_or_none, beat_hears, tick_round, none_sent, image_left, image_sent}
-use Rattle.world_model.proofs.RoundVerbs.{at, fed_up, fed_down, both_ticked, up_step, down_step, tick_open, tick_step}
+use Rattle.world_laws.proofs.LinkHears.{Ready, Hears, hears_none, hears_both, hears_login, hears_available, hears_reply, hears_finished, image_hears, Brings}
+use Rattle.world_laws.proofs.ServerRun.{Serves, login_accepted, login_seen, login_answered, login_serves, request_seen, request_answered, request_serves}
+use Rattle.world_laws.proofs.ImageRound.{SpinConnection, Round, piped_all, at_round, pump_round, told_round, beat_or_none, beat_hears, tick_round, none_sent, image_left, image_sent}
+use Rattle.world_laws.proofs.RoundVerbs.{at, fed_up, fed_down, both_ticked, up_step, down_step, tick_open, tick_step}
 
 -- ---- What a login and an advertised sequence tell
 -- the newest that was advertised before, if any

@@ -47,7 +47,7 @@ use Rattle.world_model.specs.Verbs.{Done, done, next_state, state_of, commanded_
 use Rattle.world_model.specs.Witness.{Witnessed}
 use Rattle.world_model.specs.declared.limits.Limits.{Limits}
 use Rattle.world_model.specs.declared.outcome.Outcome.TheVariants as outcome
-use Rattle.world_model.proofs.CommandRaws.{command_raw, next_there}
+use Rattle.world_laws.proofs.CommandRaws.{command_raw, next_there}
 use Rattle.world_model.proofs.LinkItems.{gap_link_tells}
 use Rattle.world_model.proofs.Pieces.{Pieces, pieces_append, pieces_after, piece_at, blocks_of_pieces, pieces_more}
 use Rattle.world_model.proofs.Replies.{proxy_pieces, views_same}

@@ -30,10 +30,10 @@ use Rattle.world_model.specs.State.{State, waiting}
 use Rattle.world_model.specs.Verbs.{next_state, asked, done, ended_where, link_hears, took, with_down}
 use Rattle.world_model.specs.declared.limits.Limits.{Limits}
 use Rattle.world_model.specs.declared.outcome.Outcome.TheVariants as outcome
-use Rattle.world_model.proofs.Lasting.{Lasts, items_last, reached_lasts, IsTold, told_lasts}
-use Rattle.world_model.proofs.ImageRound.{SpinConnection}
-use Rattle.world_model.proofs.RoundVerbs.{at, fed_up, up_step, tick_step, both_ticked}
-use Rattle.world_model.proofs.ImageTaken.{login_items, newest, c3, c6, E1, advertised_state, told_state, asked_state, served_state, image_reached, ticked_open}
+use Rattle.world_laws.proofs.Lasting.{Lasts, items_last, reached_lasts, IsTold, told_lasts}
+use Rattle.world_laws.proofs.ImageRound.{SpinConnection}
+use Rattle.world_laws.proofs.RoundVerbs.{at, fed_up, up_step, tick_step, both_ticked}
+use Rattle.world_laws.proofs.ImageTaken.{login_items, newest, c3, c6, E1, advertised_state, told_state, asked_state, served_state, image_reached, ticked_open}
 
 -- ---- What was heard of a login and an advertised sequence
 told_spin : (n : ℕ) (o : Option ℕ) (E : List Entry) → spin_of (heard_all (login_items o n) E) ≡ spin_of E

@@ -35,7 +35,7 @@ use Rattle.client_links.proofs.Whole.{tells_once}
 use Rattle.spin_path.specs.Paths.{heard_all}
 use Rattle.spin_path.proofs.Links.{link_of}
 use Rattle.spin_path.proofs.Pieces.{IsOther, one_told, beat_told, others_told}
-use Rattle.world_model.proofs.OneBlock.{rest_more, new_is, closed_is, none_new, none_closed}
+use Rattle.world_laws.proofs.OneBlock.{rest_more, new_is, closed_is, none_new, none_closed}
 
 -- a link that is open, behind whole blocks
 pub record Ready (u : ℕ) (ls : List (Event Lookups)) : Type 0 where

@@ -23,16 +23,16 @@ use Rattle.pitch_model.specs.Status.{top_of, status_at, status_of}
 use Rattle.spin_path.specs.PathLaws.{IsFeed}
 use Rattle.spin_server.specs.Served.{Served}
 use Rattle.grp_session.specs.Serving.{Source}
-use Rattle.world_model.specs.Recovery.{recovery}
+use Rattle.world_laws.specs.Recovery.{recovery}
 use Rattle.world_model.specs.State.{State, Connection}
 use Rattle.world_model.specs.Verbs.{Done, done, next_state, state_of, connected_on, cut_on, ended, ended_where, up_on, down_on, link_ticked, link_ticks, servers_tick, shut, client_book}
 use Rattle.world_model.specs.Ends.{link_of}
 use Rattle.world_model.specs.State.{connection_of}
 use Rattle.world_model.specs.declared.limits.Limits.{Limits}
-use Rattle.world_model.proofs.Quiet.{quiet}
-use Rattle.world_model.proofs.Reached.{Advertises, AreSayable, reached, reached_feed, reached_whole}
-use Rattle.world_model.proofs.Recovered.{whole, whole_current}
-use Rattle.world_model.proofs.RoundVerbs.{at}
+use Rattle.world_laws.proofs.Quiet.{quiet}
+use Rattle.world_laws.proofs.Reached.{Advertises, AreSayable, reached, reached_feed, reached_whole}
+use Rattle.world_laws.proofs.Recovered.{whole, whole_current}
+use Rattle.world_laws.proofs.RoundVerbs.{at}
 
 -- ---- Lists
 last_dropped : (j : ℕ) (xs : List ℕ) (x : ℕ) → slice_get xs (length xs - 1) ≡ Some x → j < length xs → slice_get (drop j xs) (length (drop j xs) - 1) ≡ Some x

@@ -9,9 +9,9 @@ ghost use Rattle.pitch_model.specs.Book.{book_after};
 ghost use Rattle.pitch_model.specs.Status.{status_of};
 ghost use Rattle.pitch_model.specs.declared.status.Status.TheVariants.{Current};
 ghost use Rattle.spin_path.specs.PathLaws.{HasWholeImages};
-ghost use Rattle.world_model.specs.Recovery.{recovery};
+ghost use Rattle.world_laws.specs.Recovery.{recovery};
 ghost use Rattle.world_model.specs.Sound.{Sound};
-ghost use Rattle.world_model.specs.Spending.{SpendsWithin, ticks_in};
+ghost use Rattle.world_laws.specs.Spending.{SpendsWithin, ticks_in};
 ghost use Rattle.world_model.specs.Verbs.{state_of, client_book};
 ghost use Rattle.world_model.specs.declared.limits.Limits.{Limits};
 
