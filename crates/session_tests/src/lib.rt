@@ -5,6 +5,8 @@
 #![tactic(auto)]
 
 #[cfg(test)]
+mod client_ends;
+#[cfg(test)]
 mod ends;
 #[cfg(test)]
 mod links;

@@ -1,0 +1,6 @@
+use Rattle.std.proofs.Common.{take}
+use Rattle.client_end.specs.Hearing.{HearsItems}
+use Rattle.client_end.proofs.hearing.hear_told.Given as goal
+
+abbrev pub invariant-told : goal.invariant-told
+invariant-told l = HearsItems l.fn.client l.client (take l.item-index l.items)
