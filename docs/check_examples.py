@@ -1,17 +1,22 @@
 #!/usr/bin/env python3
 """Runs the examples and the recipes of the documents.
 
-    docs/check_examples.py PROGRAM
+    docs/check_examples.py PROGRAM [--kit]
 
-An example is a line `    $ COMMAND` of README.md or of a page in docs/ or examples/, with further
-lines while one ends in a backslash, and below it all that is written. A line `..` stands for any
-lines. A recipe is a command there without the `$`: it has to end with status 0, with small files in
-the place of those that it names. One that wants what no machine has, a card or Docker for one, or a
-tool that is not there, is not run, and a line says so.
+An example is a line `    $ COMMAND` of README.md or of a page in docs/, examples/ or a crate, with
+further lines while one ends in a backslash, and below it all that is written. A line `..` stands
+for any lines. A recipe is a command there without the `$`: it has to end with status 0, with small
+files in the place of those that it names.
 
 Each runs in bash in a copy of the tree, in which ./pitch is PROGRAM, the path of the built program;
-those of a page run in one copy, in their order. The last line is `N passed, M failed`, and the
-status is 0 only where none failed.
+those of a page run in one copy, in their order. Recipes that listen at a card or go on until Ctrl-C
+are run by docs/check_card.py, and those that change a machine by docs/check_root.py; both want
+root. What builds the program where it isn't built is run by the script ./pitch itself, in a copy of
+a tree in which it is built. With --kit those are run too, in this tree, that call the kit: minutes,
+and the proofs of what isn't proved yet.
+
+A line says of what is not run why it is not. The last line is `N passed, M failed`, and the status
+is 0 only where none failed.
 """
 
 import os
@@ -24,21 +29,28 @@ import tempfile
 from pathlib import Path
 
 TOP = Path(__file__).resolve().parent.parent
-PAGES = ("README.md", "docs/*.md", "examples/**/*.md")
+PAGES = ("README.md", "docs/*.md", "examples/**/*.md", "crates/*/README.md")
 SECONDS = 600
 # How a command begins that is no example.
 COMMAND = re.compile(
     r"\(?(\./pitch |examples/|docs/|packages/)"
     r"|(TZ=|tcpdump|tshark|editcap|mergecap|dumpcap|tail|pv|python3|install|sudo|docker|\. <)"
+    r"|\(cd |cc |rustc |\./follow "
 )
 TOOLS = ("tcpdump", "tshark", "editcap", "mergecap", "dumpcap", "pv", "xxd", "gnuplot", "dpkg-deb")
-# What a recipe names that is not to be had, or not to be changed, here.
-NOT_HERE = {"eth1": "a card", "10.0.0.5": "a card", "-f growing": "a growing file", "docker": "Docker"}
-NOT_HERE |= {"sudo": "the machine itself", "/usr/local": "the machine itself"}
-# The script's own words, which docs/check_launcher.py tries.
-NOT_HERE |= {"--unproved": "the script ./pitch", "./pitch follow examples/": "the script ./pitch"}
-# What examples/c/check.sh tries.
-NOT_HERE |= {"libpitch.so": "the library for C"}
+# The scripts that run what this one doesn't, by what stands in it.
+OTHERS = {
+    "docs/check_card.py": re.compile(r"\beth1\b|10\.0\.0\.5|-f growing"),
+    "docs/check_root.py": re.compile(r"\bsudo\b|/usr/local|\bdocker\b"),
+}
+# What the script ./pitch does of its own, and what calls the kit.
+BUILDS = re.compile(r"# proves and builds it")
+KIT = re.compile(r"\brt \w|--unproved")
+# What the kit makes, by what a recipe that needs it has in it.
+MADE = {
+    "crates/pitch_c/out/libpitch_c.a": re.compile(r"libpitch_c\.a|libpitch\.so|\./follow "),
+    "crates/own_client/out/own_client": re.compile(r"own_client/out/"),
+}
 # The small files in the place of those that recipes name.
 CAPTURES = ("feed", "day", "all", "incident", "cut", "piece1", "piece2", "feed-0930", "feed-0940")
 COMMANDS = """time 34200
@@ -55,10 +67,13 @@ class Command:
     def __init__(self, place, text, is_example):
         self.place, self.lines, self.is_example, self.wanted = place, [text], is_example, []
 
+    def text(self):
+        return "\n".join(self.lines)
+
     def goes_on(self):
         if self.lines[-1].endswith("\\"):
             return True
-        words = ["bash", "-n", "-c", "\n".join(self.lines)]
+        words = ["bash", "-n", "-c", self.text()]
         return not self.is_example and subprocess.run(words, capture_output=True).returncode != 0
 
 
@@ -98,6 +113,12 @@ def copy_tree(program, into):
     (into / "pitch").symlink_to(program)
     (into / "crates/pitch/out").mkdir(parents=True)
     (into / "crates/pitch/out/pitch").symlink_to(program)
+    (into / "crates/own_client").mkdir()
+    shutil.copy(TOP / "crates/own_client/stdin", into / "crates/own_client")
+    for name in MADE:
+        if (TOP / name).exists():
+            (into / name).parent.mkdir(parents=True, exist_ok=True)
+            (into / name).symlink_to(TOP / name)
 
 
 def packet(data):
@@ -124,6 +145,26 @@ def put_files(folder):
         run("editcap -F pcapng incident.pcap incident.pcapng", folder)
 
 
+def copy_built(into):
+    """A copy of this tree that keeps the times of its files, with a kit that proves nothing."""
+    for name in ("pitch", "crates.txt", "examples"):
+        copy = shutil.copytree if (TOP / name).is_dir() else shutil.copy2
+        into.mkdir(exist_ok=True)
+        copy(TOP / name, into / name)
+    out = shutil.ignore_patterns("out", "must-fail")
+    shutil.copytree(TOP / "crates", into / "crates", ignore=out)
+    built = into / "crates/pitch/out"
+    built.mkdir()
+    for name in ("pitch", "build.of"):
+        shutil.copy2(TOP / "crates/pitch/out" / name, built / name)
+    kit = into / "kit"
+    (kit / "bin").mkdir(parents=True)
+    (kit / "KIT-ID").write_text((built / "build.of").read_text().splitlines()[0] + "\n")
+    (kit / "bin/rt").write_text("#!/bin/sh\nexit 1\n")
+    (kit / "bin/rt").chmod(0o755)
+    return kit / "bin"
+
+
 def run(command, folder):
     try:
         done = subprocess.run(
@@ -140,9 +181,9 @@ def run(command, folder):
 
 
 def lacking(command):
-    """What a recipe wants that is not here."""
-    text = "\n".join(command.lines)
-    missing = [what for word, what in NOT_HERE.items() if word in text]
+    """What a command wants that is not here."""
+    text = command.text()
+    missing = [it for it, words in MADE.items() if words.search(text) and not (TOP / it).exists()]
     needs = [it for it in TOOLS if re.search(rf"(?<![\w-]){it}(?![\w-])", text)]
     needs += ["gnuplot"] * bool(re.search(r"plot(_day)?\.sh", text))
     needs += ["dpkg-deb"] * ("deb.sh" in text)
@@ -151,7 +192,7 @@ def lacking(command):
 
 def fault_of(command, folder):
     """What is wrong with a command; an empty text where nothing is."""
-    text = "\n".join(command.lines)
+    text = command.text()
     if command.is_example:
         written = run(text, folder)[1]
         wanted = "\n".join(command.wanted)
@@ -160,30 +201,96 @@ def fault_of(command, folder):
     return f"it ended with status {status}\n{written}" if status else ""
 
 
+class Counts:
+    """What passed and what failed, and which recipes other scripts are to run."""
+
+    def __init__(self, program, with_kit):
+        self.program, self.with_kit, self.passed, self.failed = program, with_kit, 0, 0
+        self.others = {script: [] for script in OTHERS}
+
+    def take(self, command, fault):
+        self.passed, self.failed = self.passed + (not fault), self.failed + bool(fault)
+        if fault:
+            print(f"{command.place}: {fault}")
+
+    def try_build(self, command):
+        """By the script ./pitch itself, which finds the program built."""
+        built = TOP / "crates/pitch/out/pitch"
+        if self.program != built.resolve() or not built.with_name("build.of").exists():
+            print(f"{command.place}: not run, since PROGRAM is not what ./pitch built in this tree")
+            return
+        with tempfile.TemporaryDirectory() as kept:
+            folder = Path(kept, "tree")
+            kit = copy_built(folder)
+            self.take(command, fault_of(command, folder) if run(f"PATH={kit}:$PATH; ./pitch show", folder)[0] == 0
+                      else "this tree is not built, or was edited since")
+
+    def try_kit(self, command, page):
+        """In this tree, since the kit works beside its sources."""
+        if self.with_kit:
+            self.take(command, fault_of(command, page.parent if page.parts[-3] == "examples" else TOP))
+        else:
+            print(f"{command.place}: not run without --kit, which proves")
+
+    def try_one(self, command, page, folder):
+        text = command.text()
+        other = [script for script, words in OTHERS.items() if words.search(text)]
+        if other and not command.is_example:
+            self.others[other[0]].append(command)
+        elif BUILDS.search(text):
+            self.try_build(command)
+        elif KIT.search(text):
+            self.try_kit(command, page)
+        elif why := lacking(command):
+            print(f"{command.place}: not run, for want of {', '.join(why)}")
+        else:
+            self.take(command, fault_of(command, folder))
+
+    def try_others(self):
+        """Each other script says what was wrong, and counts; or, with status 3, why it can't."""
+        for script, commands in self.others.items():
+            if not commands:
+                continue
+            done = subprocess.run([TOP / script, self.program], capture_output=True, text=True)
+            lines = (done.stdout + done.stderr).splitlines() or [""]
+            found = re.fullmatch(r"(\d+) passed, (\d+) failed", lines[-1])
+            if done.returncode == 3:
+                lines = [f"{it.place}: {lines[0]} ({script})" for it in commands]
+            elif found:
+                self.passed, self.failed = self.passed + int(found[1]), self.failed + int(found[2])
+                lines.pop()
+            else:
+                self.failed += 1
+            print("".join(it + "\n" for it in lines), end="")
+
+
 def main():
-    if len(sys.argv) != 2 or not os.access(sys.argv[1], os.X_OK):
+    words = sys.argv[1:]
+    with_kit = "--kit" in words
+    words = [it for it in words if it != "--kit"]
+    if len(words) != 1 or not os.path.isfile(words[0]) or not os.access(words[0], os.X_OK):
         print(__doc__)
         return 2
-    pages = [it for glob in PAGES for it in sorted(TOP.glob(glob))]
-    passed = failed = 0
-    for page in pages:
+    program = Path(words[0]).resolve()
+    counts = Counts(program, with_kit)
+    for page in (it for glob in PAGES for it in sorted(TOP.glob(glob))):
         commands = commands_in(page)
         with tempfile.TemporaryDirectory() as kept:
             folder = Path(kept, "tree")
             if commands:
-                copy_tree(Path(sys.argv[1]).resolve(), folder)
+                copy_tree(program, folder)
                 put_files(folder)
+            # The recipes for C stand beside its sources, as its page does.
+            at = folder / "examples/c" if page.parent.name == "c" else folder
             for command in commands:
-                if not command.is_example and (why := lacking(command)):
-                    print(f"{command.place}: not run, for want of {', '.join(why)}")
-                elif fault := fault_of(command, folder):
-                    failed += 1
-                    print(f"{command.place}: {fault}")
-                else:
-                    passed += 1
-    print(f"{passed} passed, {failed} failed")
-    return 1 if failed else 0
+                counts.try_one(command, page, at)
+    counts.try_others()
+    print(f"{counts.passed} passed, {counts.failed} failed")
+    return 1 if counts.failed else 0
 
 
 if __name__ == "__main__":
-    sys.exit(main())
+    try:
+        sys.exit(main())
+    except (OSError, subprocess.SubprocessError) as error:
+        sys.exit(f"check_examples.py: {error}")

@@ -117,4 +117,10 @@ def main():
 
 
 if __name__ == '__main__':
-    main()
+    try:
+        main()
+        sys.stdout.flush()
+    except OSError as error:
+        # Whoever read it is gone: nothing is left to be written at the end.
+        os.dup2(os.open(os.devnull, os.O_WRONLY), 1)
+        sys.exit('texts.py: %s' % error.strerror)
