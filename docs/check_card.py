@@ -317,8 +317,11 @@ def main():
     if words == ["--far"]:
         return send_all()
     inside, words = words[:1] == ["--inside"], words[words[:1] == ["--inside"]:]
-    if len(words) != 1 or not os.path.isfile(words[0]) or not os.access(words[0], os.X_OK):
-        print(__doc__)
+    if len(words) != 1 or words[0].startswith("-"):
+        print("usage: check_card.py PROGRAM", file=sys.stderr)
+        return 2
+    if not os.path.isfile(words[0]) or not os.access(words[0], os.X_OK):
+        print(f"check_card.py: {words[0]} is no program", file=sys.stderr)
         return 2
     if missing := lacking():
         print(f"not tried, for want of {missing}")

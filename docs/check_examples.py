@@ -5,8 +5,9 @@
 
 An example is a line `    $ COMMAND` of README.md or of a page in docs/, examples/ or a crate, with
 further lines while one ends in a backslash, and below it all that is written. A line `..` stands
-for any lines. A recipe is a command there without the `$`: it has to end with status 0, with small
-files in the place of those that it names.
+for any lines. A recipe is a command there without the `$`, or one in backticks that has a pipe, a
+redirection or `-w -`: it has to end with status 0, with small files in the place of those that it
+names.
 
 Each runs in bash in a copy of the tree, in which ./pitch is PROGRAM, the path of the built program;
 those of a page run in one copy, in their order. Recipes that listen at a card or go on until Ctrl-C
@@ -37,6 +38,7 @@ COMMAND = re.compile(
     r"|(TZ=|tcpdump|tshark|editcap|mergecap|dumpcap|tail|pv|python3|install|sudo|docker|\. <)"
     r"|\(cd |cc |rustc |\./follow "
 )
+INLINE = re.compile(r"(?<!`)`((?:\./pitch|tcpdump|tshark|editcap|mergecap) [^`]*(?: [|<] | -w - )[^`]*)`")
 TOOLS = ("tcpdump", "tshark", "editcap", "mergecap", "dumpcap", "pv", "xxd", "gnuplot", "dpkg-deb")
 # The scripts that run what this one doesn't, by what stands in it.
 OTHERS = {
@@ -78,9 +80,10 @@ class Command:
 
 
 def commands_in(path):
-    """The examples and the recipes of a page."""
+    """The examples and the recipes of a page, those in backticks last."""
     found, after_blank, inside = [], True, False
-    for number, line in enumerate(path.read_text(encoding="utf-8").splitlines(), 1):
+    page = path.read_text(encoding="utf-8")
+    for number, line in enumerate(page.splitlines(), 1):
         # A list may go in by two columns more.
         text = re.sub(r"^ {4}( {2}(?=\S))?", "", line)
         inside = line.startswith("    ") and (after_blank or inside)
@@ -96,6 +99,9 @@ def commands_in(path):
             current.wanted.append(line[4:])
         elif COMMAND.match(text):
             found.append(current := Command(place, text, False))
+    for it in INLINE.finditer(page):
+        place = f"{path.relative_to(TOP)}:{page.count(chr(10), 0, it.start()) + 1}"
+        found.append(Command(place, " ".join(it[1].split()), False))
     return found
 
 
@@ -136,7 +142,7 @@ def put_files(folder):
     head = struct.pack("<IHHIIII", 0xA1B2C3D4, 2, 4, 0, 0, 65535, 1)
     for name in [f"{it}.pcap" for it in CAPTURES] + ["FILE"]:
         (folder / name).write_bytes(head + packet(feed))
-    for name in ("FEED", "feed.pitch", "day.pitch"):
+    for name in ("FEED", "feed.pitch", "day.pitch", "merged"):
         (folder / name).write_bytes(feed)
     sample = "examples/sample.pitch"
     made = f"./pitch follow < {sample} > report && examples/audit/make_input.py {sample} report > input"
@@ -268,8 +274,11 @@ def main():
     words = sys.argv[1:]
     with_kit = "--kit" in words
     words = [it for it in words if it != "--kit"]
-    if len(words) != 1 or not os.path.isfile(words[0]) or not os.access(words[0], os.X_OK):
-        print(__doc__)
+    if len(words) != 1 or words[0].startswith("-"):
+        print("usage: check_examples.py PROGRAM [--kit]", file=sys.stderr)
+        return 2
+    if not os.path.isfile(words[0]) or not os.access(words[0], os.X_OK):
+        print(f"check_examples.py: {words[0]} is no program", file=sys.stderr)
         return 2
     program = Path(words[0]).resolve()
     counts = Counts(program, with_kit)

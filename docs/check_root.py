@@ -239,8 +239,11 @@ def main():
     words = sys.argv[1:]
     if words[:1] == ["--inside"]:
         return try_all(Path(words[1]), words[2])
-    if len(words) != 1 or not os.path.isfile(words[0]) or not os.access(words[0], os.X_OK):
-        print(__doc__)
+    if len(words) != 1 or words[0].startswith("-"):
+        print("usage: check_root.py PROGRAM", file=sys.stderr)
+        return 2
+    if not os.path.isfile(words[0]) or not os.access(words[0], os.X_OK):
+        print(f"check_root.py: {words[0]} is no program", file=sys.stderr)
         return 2
     if missing := lacking():
         print(f"not tried, for want of {missing}")
