@@ -7,9 +7,10 @@ a container.
 PROGRAM is the path of the built program. It wants Linux, root and `unshare`. What is changed is an
 overlay over this machine's root, in namespaces of its own: nothing of it is left when the script
 ends. There `sudo` runs its words, since it is root. A container's recipes want `docker` and
-`dockerd` on the path (of Debian's docker.io, unpacked anywhere: `dpkg -x`); the engine is started
-on a socket of its own, with no network. What is installed, or runs in a container, has to write of
-a feed what PROGRAM writes, and a removed package has to leave nothing.
+`dockerd` on the path; the engine is started on a socket of its own, with no network. It need not be
+installed: `apt-get download docker.io containerd runc tini`, and `dpkg -x` of each into a folder
+whose usr/bin and usr/sbin stand on the path. What is installed, or runs in a container, has to
+write of a feed what PROGRAM writes, and a removed package has to leave nothing.
 
 A line says so of each recipe that can't be run. The last line is `N passed, M failed`; the status
 is 0 only where none failed, and 3 where none can be tried on this machine.
