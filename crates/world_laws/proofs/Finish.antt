@@ -187,10 +187,10 @@ round_current unit limits before small said begun grp spin =
     let old = old_within s.accepted s.advertised tells in
     let served = newest_served (with_sequence s.advertised (length s.accepted)) (length s.accepted) (newest_is s.accepted s.advertised tells) in
     let same : s ≡ at s s.spent s.advertised None s.heard = λ i. record s { begun = begun i; grp = grp i; spin = spin i } in
-    let y : State = whole unit small limits s s.spent s.advertised s.heard venues old served (q.grp grp) off.idle off.none in
+    let y : State = whole unit small limits s s.spent s.advertised s.heard venues old served (q.grp grp).down off.idle off.none in
     let is : x ≡ y = ap (after_round unit limits) same in
     ap (λ (z : State). status_of limits.hold z.heard) is
-    ∙ whole_current unit small limits s s.spent s.advertised s.heard venues old served (q.grp grp) off.idle off.none
+    ∙ whole_current unit small limits s s.spent s.advertised s.heard venues old served (q.grp grp).down off.idle off.none
     (subst (λ (z : State). Honest image s.accepted z.heard) is (subst (λ (V : List Raw). Honest image V x.heard) kept.accepted_is honest))
 
 -- ---- Before the round
@@ -200,14 +200,14 @@ module _ (unit : ℕ) (limits : Limits) (s : State) where
     pub cut : none x
     pub accepted_is : x.accepted ≡ s.accepted
 
-  cut_grp : CutOff (λ x. (x.grp ≡ None) × (x.spin ≡ s.spin)) (next_state unit limits (verbs.Cut Grp) s)
+  pub cut_grp : CutOff (λ x. (x.grp ≡ None) × (x.spin ≡ s.spin)) (next_state unit limits (verbs.Cut Grp) s)
   cut_grp = by s.grp refl
     where
       by : (o : Option (Connection Source)) → s.grp ≡ o → CutOff (λ x. (x.grp ≡ None) × (x.spin ≡ s.spin)) (record (cut_on o (ended Grp s) s).state { begun = true })
       by None e = record { cut = (e, refl); accepted_is = refl }
       by (Some c) e = record { cut = (refl, refl); accepted_is = refl }
 
-  cut_spin : CutOff (λ x. (x.spin ≡ None) × (x.grp ≡ s.grp)) (next_state unit limits (verbs.Cut Spin) s)
+  pub cut_spin : CutOff (λ x. (x.spin ≡ None) × (x.grp ≡ s.grp)) (next_state unit limits (verbs.Cut Spin) s)
   cut_spin = by s.spin refl
     where
       by : (o : Option (Connection (List Served))) → s.spin ≡ o → CutOff (λ x. (x.spin ≡ None) × (x.grp ≡ s.grp)) (record (cut_on o (ended Spin s) s).state { begun = true })

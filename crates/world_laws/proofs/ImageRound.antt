@@ -65,7 +65,7 @@ pub told_round : (unit n : ℕ) (c : SpinConnection) (up down : List ℕ) → Ro
 told_round unit n c up down r = at_round unit c up down None None r (Told n) (message_bytes unit (SpinAvailable n)) (told_said unit n c.server r.server) (told_serves unit c.server None r.server n)
 
 -- at a tick it sends a heartbeat, or nothing
-pub beat_or_none : ℕ → Bool → List ℕ
+unfoldable pub beat_or_none : ℕ → Bool → List ℕ
 beat_or_none unit b = cond b [] (heartbeat_bytes unit)
 
 -- of which a link tells nothing

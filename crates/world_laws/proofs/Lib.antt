@@ -11,3 +11,15 @@ pub mod RoundVerbs
 pub mod ImageTaken
 pub mod Recovered
 pub mod Finish
+mod Runs
+mod Missing
+mod LinkPieces
+mod GapHears
+mod ProxyRun
+mod ProxyVerbs
+mod ProxyRound
+mod Asked
+mod Brought
+mod GapPassed
+mod ProxyRounds
+mod Examples

@@ -1,5 +1,5 @@
 -- What the link with a Spin Server tells of what such a server sends, block by block.
-use Rattle.std.proofs.Common.{◌≡◌, ℕ, ◌<◌, ◌≤◌, Bool, true, false, ◌||◌, cond, List, [], ◌∷◌, ◌++◌, length, refl, sym, ap, ◌∙◌, subst, arith, append_assoc, Option, None, is_some, option_map, inl}
+use Rattle.std.proofs.Common.{◌≡◌, ℕ, ◌<◌, ◌≤◌, Bool, true, false, ◌||◌, List, [], ◌∷◌, ◌++◌, length, refl, sym, ap, ◌∙◌, subst, arith, append_assoc, Option, None, option_map, inl}
 use Rattle.std.specs.List.{AllByRecursion, concat}
 use Rattle.std.proofs.lemmas.List.{append-nil}
 use Rattle.pitch_fields.proofs.Lists.{all_split}
@@ -11,77 +11,47 @@ use Rattle.pitch_messages.specs.declared.session.SessionMessage.TheVariants.{Log
 use Rattle.pitch_messages.proofs.SessionTrip.{login_reply_back, spin_available_back, spin_reply_back, spin_finished_back}
 use Rattle.unit_packets.specs.Blocks.{Block, IsBlock}
 use Rattle.unit_packets.specs.BlockBytes.{heartbeat_block, session_block}
-use Rattle.unit_packets.specs.Cutting.{rest_of}
 use Rattle.unit_packets.specs.Packing.{IsPacking, IsDatagram}
 use Rattle.unit_packets.proofs.Written.{written_is, session_is}
 use Rattle.heard_items.specs.declared.item.Item.{Item}
 use Rattle.heard_items.specs.declared.item.Item.TheVariants as item
 use Rattle.pitch_model.specs.History.{Entry, Raw, Running, spin_of, spin_more}
-use Rattle.session_ends.specs.declared.closed.Closed.{Closed}
 use Rattle.session_ends.specs.declared.closed.CloseCause.{CloseCause}
 use Rattle.session_ends.specs.declared.role.Role.TheVariants.{SpinLink}
 use Rattle.session_ends.specs.declared.role.Said.{Said}
 use Rattle.session_ends.specs.declared.role.Said.TheVariants as said
-use Rattle.session_ends.specs.Closing.{closed_of, first_cause, cause_of_message, cause_of_said, logged_in, or_else}
-use Rattle.session_ends.specs.Events.{Event, Fed, fed_of}
+use Rattle.session_ends.specs.Closing.{first_cause, cause_of_message, cause_of_said, or_else}
+use Rattle.session_ends.specs.Events.{Event, Fed}
 use Rattle.session_ends.specs.Items.{closed_at, messages_from, onward}
 use Rattle.session_ends.specs.Saying.{said_to, said_by, is_login}
-use Rattle.session_ends.specs.Sending.{message_bytes, heartbeat_bytes, new_items}
-use Rattle.session_ends.specs.declared.inbox.Heard.{Heard}
-use Rattle.session_ends.proofs.Cuts.{closes_once}
-use Rattle.client_links.specs.Linking.{Lookups, NoLookup, link_tells}
+use Rattle.session_ends.specs.Sending.{message_bytes, heartbeat_bytes}
+use Rattle.client_links.specs.Linking.{Lookups, NoLookup}
 use Rattle.client_links.specs.Telling.{tells, told_of}
-use Rattle.client_links.proofs.Whole.{tells_once}
 use Rattle.spin_path.specs.Paths.{heard_all}
 use Rattle.spin_path.proofs.Links.{link_of}
 use Rattle.spin_path.proofs.Pieces.{IsOther, one_told, beat_told, others_told}
-use Rattle.world_laws.proofs.OneBlock.{rest_more, new_is, closed_is, none_new, none_closed}
+use Rattle.world_laws.proofs.LinkPieces.{IsReady, TellsOf, tells_none, tells_both, tells_one}
 
--- a link that is open, behind whole blocks
-pub record Ready (u : ℕ) (ls : List (Event Lookups)) : Type 0 where
-  pub open_is : closed_of (link_of u) ls ≡ None
-  pub whole : rest_of (fed_of ls) ≡ []
+-- such a link that is open, behind whole blocks
+abbrev pub Ready : ℕ → List (Event Lookups) → Type 0
+Ready u ls = IsReady (link_of u) ls
 
 -- it is fed a piece, of which it tells these items, and is ready again
-pub record Hears (u : ℕ) (ls : List (Event Lookups)) (piece : List ℕ) (items : List Item) : Type 0 where
-  pub told : link_tells (link_of u) ls piece ≡ items
-  pub after : Ready u (Fed piece NoLookup ∷ ls)
+abbrev pub Hears : ℕ → List (Event Lookups) → List ℕ → List Item → Type 0
+Hears u ls piece items = TellsOf (link_of u) ls piece items
 
-told_here : (u : ℕ) (ls : List (Event Lookups)) (piece : List ℕ) (o : Option Closed) → List Item
-told_here u ls piece o = cond (is_some o) [] (tells (link_of u) (logged_in SpinLink ls) (new_items ls piece))
-
--- ---- Pieces one after another
 pub hears_none : (u : ℕ) (ls : List (Event Lookups)) → Ready u ls → Hears u ls [] []
-unfolding told_here
-hears_none u ls r = record {
-  told = ap (told_here u ls []) r.open_is ∙ ap (λ (l : List Heard). tells (link_of u) (logged_in SpinLink ls) l) (none_new (link_of u) ls NoLookup);
-  after = record { open_is = none_closed (link_of u) ls NoLookup r.open_is; whole = ap rest_of (append-nil (fed_of ls)) ∙ r.whole };
-}
+hears_none u ls r = tells_none (link_of u) ls r
 
 pub hears_both : (u : ℕ) (ls : List (Event Lookups)) (a b : List ℕ) (xs ys : List Item) → Hears u ls a xs → Hears u (Fed a NoLookup ∷ ls) b ys → Hears u ls (a ++ b) (xs ++ ys)
-hears_both u ls a b xs ys h k = record {
-  told = tells_once (link_of u) ls a b ∙ ap (λ (l : List Item). l ++ link_tells (link_of u) (Fed a NoLookup ∷ ls) b) h.told ∙ ap (λ (l : List Item). xs ++ l) k.told;
-  after = record {
-    open_is = sym (closes_once (link_of u) ls a b NoLookup NoLookup NoLookup) ∙ k.after.open_is;
-    whole = ap rest_of (sym (append_assoc (fed_of ls) a b)) ∙ k.after.whole;
-  };
-}
+hears_both u ls a b xs ys h k = tells_both (link_of u) ls a b xs ys h k
 
 -- ---- One block
 module _ (u : ℕ) (ls : List (Event Lookups)) (r : Ready u ls) where
   one_hears : (piece : List ℕ) (block : Block) (items : List Item) → IsBlock piece block → block.sequence ≡ 0
       → ((logged : Bool) (place : ℕ) → tells (link_of u) logged (messages_from place block.raws) ≡ items)
       → ((logged : Bool) (place : ℕ) → first_cause (link_of u) logged (messages_from place block.raws) ≡ None) → Hears u ls piece items
-  unfolding told_here
-  one_hears piece block items is zero tell calm = record {
-    told = ap (told_here u ls piece) r.open_is
-        ∙ ap (λ (l : List Heard). tells (link_of u) (logged_in SpinLink ls) l) (new_is (link_of u) ls piece block NoLookup r.whole is zero)
-        ∙ tell _ _;
-    after = record {
-      open_is = closed_is (link_of u) ls piece block NoLookup r.whole is zero r.open_is ∙ calm _ _;
-      whole = rest_more (link_of u) ls piece block NoLookup r.whole is zero;
-    };
-  }
+  one_hears piece block items is zero tell calm = tells_one (link_of u) ls r piece block items is zero tell calm
 
   pub hears_beat : (h : ℕ) → h < 256 → Hears u ls (heartbeat_bytes h) []
   hears_beat h small =

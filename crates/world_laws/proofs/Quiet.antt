@@ -1,5 +1,5 @@
--- Where no connection of a session stands, the client knows of none: its end is down, and no spin is
--- under way.
+-- Where no connection of a session stands, the client knows of none: its end is down, and no reply
+-- is owed and no spin under way.
 use Rattle.std.proofs.Common.{◌≡◌, ℕ, ◌+◌, Bool, true, false, ◌&&◌, ◌||◌, not, cond, List, [], ◌∷◌, refl, ap, ◌∙◌, Option, Some, None, nat_lt, nat_eq, length, take, drop}
 use Rattle.std.specs.List.{AllByRecursion, flat_map}
 use Rattle.std.specs.Option.{option_map}
@@ -18,7 +18,7 @@ use Rattle.heard_items.specs.Datagrams.{heard_blocks}
 use Rattle.heard_items.specs.Heard.{heard, heard_block, heard_messages, heard_sequenced}
 use Rattle.pitch_model.specs.declared.ask.Ask.{Ask}
 use Rattle.pitch_model.specs.declared.ask.Ask.TheVariants as asks
-use Rattle.pitch_model.specs.Asking.{is_grp_up, is_spin_up, advertised_of, ask_of, ask_with, spin_or_gap, gap_or_none, gap_ask, asks_spin, wants, is_idle, least_held, owes}
+use Rattle.pitch_model.specs.Asking.{is_grp_up, is_spin_up, advertised_of, ask_of, ask_with, spin_or_gap, gap_or_none, gap_ask, asks_spin, wants, is_idle, least_held, owes, asked_at}
 use Rattle.pitch_model.specs.History.{Entry, Raw, NoSpin, spin_of, spin_asked}
 use Rattle.pitch_model.specs.History as entry
 use Rattle.pitch_model.specs.Reach.{reach}
@@ -48,12 +48,13 @@ pub record SpinOff (E : List Entry) : Type 0 where
   pub idle : spin_of E ≡ NoSpin
   pub none : advertised_of E ≡ None
 
-pub record Quiet (s : State) : Type 0 where
-  pub grp : s.grp ≡ None → is_grp_up s.heard ≡ false
-  pub spin : s.spin ≡ None → SpinOff s.heard
+pub record GrpOff (E : List Entry) : Type 0 where
+  pub down : is_grp_up E ≡ false
+  pub free : owes E ≡ false
 
-abbrev GrpOff : List Entry → Type 0
-GrpOff E = is_grp_up E ≡ false
+pub record Quiet (s : State) : Type 0 where
+  pub grp : s.grp ≡ None → GrpOff s.heard
+  pub spin : s.spin ≡ None → SpinOff s.heard
 
 -- ---- What blocks tell
 module _ (P : List Entry → Type 0) (message : (E : List Entry) (k : ℕ) (raw : Raw) → P E → P (entry.Message k raw ∷ E)) (next : (E : List Entry) (k : ℕ) → P E → P (entry.Next k ∷ E)) where
@@ -76,8 +77,11 @@ module _ (P : List Entry → Type 0) (message : (E : List Entry) (k : ℕ) (raw 
 off_entry : (x : Entry) (E : List Entry) → is_spin_up (x ∷ E) ≡ is_spin_up E → spin_of (x ∷ E) ≡ spin_of E → advertised_of (x ∷ E) ≡ advertised_of E → SpinOff E → SpinOff (x ∷ E)
 off_entry x E up spin none off = record { down = up ∙ off.down; idle = spin ∙ off.idle; none = none ∙ off.none }
 
+off_grp : (x : Entry) (E : List Entry) → is_grp_up (x ∷ E) ≡ is_grp_up E → owes (x ∷ E) ≡ owes E → GrpOff E → GrpOff (x ∷ E)
+off_grp x E up owed off = record { down = up ∙ off.down; free = owed ∙ off.free }
+
 blocks_grp : (blocks : List Block) (E : List Entry) → GrpOff E → GrpOff (heard_blocks blocks E)
-blocks_grp = by_blocks GrpOff (λ E k raw p. p) (λ E k p. p)
+blocks_grp = by_blocks GrpOff (λ E k raw p. off_grp (entry.Message k raw) E refl refl p) (λ E k p. off_grp (entry.Next k) E refl refl p)
 
 blocks_spin : (blocks : List Block) (E : List Entry) → SpinOff E → SpinOff (heard_blocks blocks E)
 blocks_spin = by_blocks SpinOff (λ E k raw p. off_entry (entry.Message k raw) E refl refl refl p) (λ E k p. off_entry (entry.Next k) E refl refl refl p)
@@ -98,24 +102,24 @@ gap_items (item.SpinReply n orders status ∷ items) E all off = absurd all.0
 gap_items (item.ImageMessages raws ∷ items) E all off = absurd all.0
 gap_items (item.SpinFinished n ∷ items) E all off = absurd all.0
 
--- an item that says nothing of the proxy
+-- an item with which the proxy stays down and owes nothing
 abbrev NoProxy : Item → Type 0
-NoProxy x = (E : List Entry) → is_grp_up (heard x E) ≡ is_grp_up E
+NoProxy x = (E : List Entry) → GrpOff E → GrpOff (heard x E)
 
 no_proxy_run : (raws : List (List ℕ)) → AllByRecursion NoProxy (run_of SpinLink raws)
 no_proxy_run [] = tt
-no_proxy_run (raw ∷ raws) = (λ E. refl, tt)
+no_proxy_run (raw ∷ raws) = (λ E off. off_grp _ E refl refl off, tt)
 
 no_proxy_message : (m : SessionMessage) → AllByRecursion NoProxy (told_of true m)
 no_proxy_message (LoginReply status) = by (nat_eq status 65)
   where
     by : (b : Bool) → AllByRecursion NoProxy (cond b (item.SpinUp ∷ []) [])
-    by true = (λ E. refl, tt)
+    by true = (λ E off. off_grp entry.SpinUp E refl refl off, tt)
     by false = tt
-no_proxy_message (GapReply unit k count status) = (λ E. refl, tt)
-no_proxy_message (SpinAvailable n) = (λ E. refl, tt)
-no_proxy_message (SpinReply n orders status) = (λ E. refl, tt)
-no_proxy_message (SpinFinished n) = (λ E. refl, tt)
+no_proxy_message (GapReply unit k count status) = (λ E off. record { down = off.down; free = refl }, tt)
+no_proxy_message (SpinAvailable n) = (λ E off. off_grp _ E refl refl off, tt)
+no_proxy_message (SpinReply n orders status) = (λ E off. off_grp _ E refl refl off, tt)
+no_proxy_message (SpinFinished n) = (λ E off. off_grp _ E refl refl off, tt)
 no_proxy_message (Login sub user password) = tt
 no_proxy_message (GapRequest unit k count) = tt
 no_proxy_message (SpinRequest n) = tt
@@ -127,7 +131,7 @@ no_proxy_said (Message m) = no_proxy_message m
 
 spin_items : (items : List Item) (E : List Entry) → AllByRecursion NoProxy items → GrpOff E → GrpOff (heard_all items E)
 spin_items [] E all off = off
-spin_items (x ∷ items) E all off = spin_items items (heard x E) all.1 (all.0 E ∙ off)
+spin_items (x ∷ items) E all off = spin_items items (heard x E) all.1 (all.0 E off)
 
 spin_tells : (unit : ℕ) (before : List (Event Lookups)) (bytes : List ℕ) → AllByRecursion NoProxy (link_tells (spin_link unit) before bytes)
 spin_tells unit before bytes = link_all NoProxy (spin_link unit) no_proxy_run (λ h. no_proxy_said (heard_by SpinLink h)) before bytes
@@ -160,6 +164,29 @@ no_spin_asked H E down = by (top_of E)
     by None = refl
     by (Some top) = at_top top (nat_eq (reach H E) top)
 
+-- no messages are asked for where the proxy is down
+no_gap_asked : (H : ℕ) (E : List Entry) (b : Bool) → is_grp_up E ≡ false → asked_at (ask_of H E) b ≡ b
+no_gap_asked H E b down = by (top_of E)
+  where
+    gap : (top : ℕ) → asked_at (gap_or_none H E top) b ≡ b
+    gap top = ap (λ (up : Bool). asked_at (cond (up && not (owes E)) (Some (gap_ask (reach H E) (least_held H E) top)) None) b) down
+
+    either : (top n : ℕ) (c : Bool) → asked_at (cond c (Some (asks.Spin n)) (gap_or_none H E top)) b ≡ b
+    either top n true = refl
+    either top n false = gap top
+
+    asked_now : (top : ℕ) (o : Option ℕ) → asked_at (spin_or_gap H E top o) b ≡ b
+    asked_now top None = gap top
+    asked_now top (Some n) = either top n (asks_spin H E top n)
+
+    at_top : (top : ℕ) (c : Bool) → asked_at (cond c None (spin_or_gap H E top (advertised_of E))) b ≡ b
+    at_top top true = refl
+    at_top top false = asked_now top (advertised_of E)
+
+    by : (o : Option ℕ) → asked_at (ask_with H E o) b ≡ b
+    by None = refl
+    by (Some top) = at_top top (nat_eq (reach H E) top)
+
 -- ---- Parts of verbs
 some_none : {X : Type 0} (x : X) → ◌≡◌ {A = Option X} (Some x) None → ⊥
 some_none x e = cc
@@ -169,8 +196,8 @@ map_none f None e = refl
 map_none f (Some x) e = absurd (some_none (f x) e)
 
 ended_quiet : (session : Session) (s : State) → Quiet s → Quiet (ended session s)
-ended_quiet Grp s q = record { grp = λ e. refl; spin = λ e. off_entry entry.GrpDown s.heard refl refl refl (q.spin e) }
-ended_quiet Spin s q = record { grp = q.grp; spin = λ e. record { down = refl; idle = refl; none = refl } }
+ended_quiet Grp s q = record { grp = λ e. record { down = refl; free = refl }; spin = λ e. off_entry entry.GrpDown s.heard refl refl refl (q.spin e) }
+ended_quiet Spin s q = record { grp = λ e. off_grp entry.SpinDown s.heard refl refl (q.grp e); spin = λ e. record { down = refl; idle = refl; none = refl } }
 
 where_quiet : (b : Bool) (session : Session) (s : State) → Quiet s → Quiet (ended_where b session s)
 where_quiet true session s q = ended_quiet session s q
@@ -196,7 +223,9 @@ asked_spin unit (Some (asks.Spin n)) g e = map_none _ g e
 
 client_quiet : (unit : ℕ) (limits : Limits) (s : State) → Quiet s → Quiet (client_ticks unit limits s).state
 client_quiet unit limits s q = record {
-  grp = λ e. q.grp (asked_grp unit (ask_of limits.hold s.heard) s.grp e);
+  grp = λ e.
+      let off = q.grp (asked_grp unit (ask_of limits.hold s.heard) s.grp e) in
+      record { down = off.down; free = no_gap_asked limits.hold s.heard (owes s.heard) off.down ∙ off.free };
   spin = λ e.
       let off = q.spin (asked_spin unit (ask_of limits.hold s.heard) s.spin e) in
       record { down = off.down; idle = ap (spin_asked (ask_of limits.hold s.heard)) off.idle ∙ no_spin_asked limits.hold s.heard off.down; none = off.none };
@@ -297,5 +326,5 @@ module _ (unit : ℕ) (limits : Limits) (s : State) (q : Quiet s) where
   quiet_verb (verbs.Quote symbol) = record { grp = q.grp; spin = q.spin }
 
 pub quiet : (unit : ℕ) (limits : Limits) (done : List Verb) → Quiet (state_of unit limits done)
-quiet unit limits [] = record { grp = λ e. refl; spin = λ e. record { down = refl; idle = refl; none = refl } }
+quiet unit limits [] = record { grp = λ e. record { down = refl; free = refl }; spin = λ e. record { down = refl; idle = refl; none = refl } }
 quiet unit limits (verb ∷ before) = quiet_verb unit limits (state_of unit limits before) (quiet unit limits before) verb

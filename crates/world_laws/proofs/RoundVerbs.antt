@@ -34,10 +34,10 @@ abbrev pub at : State → Spent → List ℕ → Option SpinConnection → List 
 at s spent advertised spin heard = record s { begun = true; spent = spent; advertised = advertised; grp = None; spin = spin; heard = heard }
 
 -- ---- Carrying all
-carried_all : (w : List ℕ) → nat_lt (length w) (length w) ≡ false
+pub carried_all : (w : List ℕ) → nat_lt (length w) (length w) ≡ false
 carried_all w = le-ltb (length w) (length w) (omega arith)
 
-all_of : (w : List ℕ) → take (length w) w ≡ w
+pub all_of : (w : List ℕ) → take (length w) w ≡ w
 all_of w = take_all (length w) w (omega arith)
 
 module _ (unit : ℕ) (limits : Limits) (s : State) (t : Spent) (A : List ℕ) (E : List Entry) (c : SpinConnection) where

@@ -37,7 +37,7 @@ abbrev limits_of : Limits → budget.Limits
 limits_of l = record { second = l.second; minute = l.minute; day = l.day }
 
 -- ---- Counts
-none_passes : (p : ℕ → Bool) (n : ℕ) (ticks : List ℕ) → ((t : ℕ) → t ≤ n → p t ≡ false) → AllByRecursion (λ tick. tick ≤ n) ticks → how_many p ticks ≡ 0
+pub none_passes : (p : ℕ → Bool) (n : ℕ) (ticks : List ℕ) → ((t : ℕ) → t ≤ n → p t ≡ false) → AllByRecursion (λ tick. tick ≤ n) ticks → how_many p ticks ≡ 0
 none_passes p n [] fails all = refl
 none_passes p n (t ∷ ticks) fails all = ap (λ (b : Bool). cond b (suc (how_many p ticks)) (how_many p ticks)) (fails t all.0) ∙ none_passes p n ticks fails all.1
 

@@ -1,16 +1,18 @@
 //! Laws of the definitions. These functions do nothing: what they ensure is proved of the
 //! definitions alone.
 
-ghost use Rattle.std.specs.Prelude.{◌≡◌, ◌<◌, ℕ, List, ◌++◌, length, reverse};
+ghost use Rattle.std.specs.Prelude.{◌≡◌, ◌<◌, ◌≤◌, ℕ, ◌+◌, List, ◌++◌, length, reverse, Some};
 ghost use Rattle.std.specs.List.{AllByRecursion};
 ghost use Rattle.pitch_text.specs.WellFormed.{IsVerb};
 ghost use Rattle.pitch_text.specs.declared.verb.Verb.{Verb};
 ghost use Rattle.pitch_model.specs.Book.{book_after};
-ghost use Rattle.pitch_model.specs.Status.{status_of};
+ghost use Rattle.pitch_model.specs.Status.{status_of, top_of};
 ghost use Rattle.pitch_model.specs.declared.status.Status.TheVariants.{Current};
 ghost use Rattle.spin_path.specs.PathLaws.{HasWholeImages};
 ghost use Rattle.world_laws.specs.Recovery.{recovery};
 ghost use Rattle.world_model.specs.Sound.{Sound};
+ghost use Rattle.world_laws.specs.Rounds.{AreAccepted, AreLeft, BringsAsked, KeepsMissing};
+ghost use Rattle.world_laws.specs.Rounds.{rounds_needed, state_after};
 ghost use Rattle.world_laws.specs.Spending.{SpendsWithin, ticks_in};
 ghost use Rattle.world_model.specs.Verbs.{state_of, client_book};
 ghost use Rattle.world_model.specs.declared.limits.Limits.{Limits};
@@ -48,4 +50,38 @@ pub fn recovery_ends()
         → unit < 256 → AllByRecursion IsVerb done
         → client_book limits (state_of unit limits (reverse recovery ++ done))
         ≡ book_after (state_of unit limits done).accepted }
+{}
+
+/// With the Gap Request Proxy alone a client comes back too, where its requests are accepted: each
+/// round brings what it asked for, and there are as many rounds as the runs of missing messages
+/// need, at most 100 messages of one run in each. Wherever verbs led before, its connections are
+/// cut, and a new one with the proxy logs in.
+pub fn rounds_with_the_proxy_end()
+    // Each round takes the reach on by as many messages as were asked for, one at least.
+    ensures each { (unit : ℕ) (limits : Limits) (done : List Verb) (n : ℕ)
+        → unit < 256 → AllByRecursion IsVerb done → 1 ≤ limits.hold
+        → n < rounds_needed limits.hold (state_after unit limits done 0).heard
+        → AreAccepted unit limits done (n + 1) → BringsAsked limits.hold
+        (state_after unit limits done n).heard (state_after unit limits done (n + 1)).heard }
+    // After each of them one less is needed.
+    ensures left { (unit : ℕ) (limits : Limits) (done : List Verb) (n : ℕ)
+        → unit < 256 → AllByRecursion IsVerb done → 1 ≤ limits.hold
+        → n ≤ rounds_needed limits.hold (state_after unit limits done 0).heard
+        → AreAccepted unit limits done n
+        → rounds_needed limits.hold (state_after unit limits done n).heard + n
+        ≡ rounds_needed limits.hold (state_after unit limits done 0).heard }
+    // After all of them the client is current at the last message that it was told of.
+    ensures current { (unit : ℕ) (limits : Limits) (done : List Verb) (n top : ℕ)
+        → unit < 256 → AllByRecursion IsVerb done → 1 ≤ limits.hold
+        → n ≡ rounds_needed limits.hold (state_after unit limits done 0).heard
+        → AreAccepted unit limits done n
+        → top_of (state_after unit limits done 0).heard ≡ Some top
+        → status_of limits.hold (state_after unit limits done n).heard ≡ Current top }
+    // A proxy that keeps what the client lacks, and whose limits leave that many, accepts them.
+    ensures allowed { (unit : ℕ) (limits : Limits) (done : List Verb) (n : ℕ)
+        → unit < 256 → AllByRecursion IsVerb done → 1 ≤ limits.hold
+        → n ≤ rounds_needed limits.hold (state_after unit limits done 0).heard
+        → KeepsMissing limits (state_after unit limits done 0)
+        → AreLeft limits (state_after unit limits done 0).spent n
+        → AreAccepted unit limits done n }
 {}

@@ -6,4 +6,7 @@
 
 mod laws;
 
-pub use crate::laws::{every_state_is_sound, recovery_ends, requests_stay_within_their_limits};
+pub use crate::laws::{
+    every_state_is_sound, recovery_ends, requests_stay_within_their_limits,
+    rounds_with_the_proxy_end,
+};
