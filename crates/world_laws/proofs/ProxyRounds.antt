@@ -1,6 +1,6 @@
 -- Rounds with the proxy alone, one after another: each brings what was asked for, and one round less
 -- is needed.
-use Rattle.std.proofs.Common.{◌≡◌, ℕ, zero, suc, ◌+◌, ◌-◌, ◌/◌, ◌^◌, ◌<◌, ◌≤◌, Bool, true, false, cond, List, [], ◌∷◌, ◌++◌, length, drop, refl, sym, ap, ◌∙◌, subst, arith, max, inl, inr, Option, Some, None, nat_eq, unwrap_or, length-append}
+use Rattle.std.proofs.Common.{◌≡◌, ℕ, zero, suc, ◌+◌, ◌-◌, ◌/◌, ◌^◌, ◌<◌, ◌≤◌, Bool, true, false, cond, List, [], ◌∷◌, ◌++◌, length, take, drop, refl, sym, ap, ◌∙◌, subst, arith, max, inl, inr, Option, Some, None, nat_eq, unwrap_or, length-append}
 use Rattle.std.specs.List.{AllByRecursion, flat_map}
 use Rattle.std.proofs.lemmas.Bool.{cases_lt, eq-eqb, ne_eqb, lt-leb}
 use Rattle.std.proofs.lemmas.List.{length-take-le, length-drop}
@@ -15,6 +15,7 @@ use Rattle.unit_packets.specs.Cutting.{blocks_of}
 use Rattle.unit_packets.specs.Packing.{packed}
 use Rattle.unit_packets.proofs.OnePacking.{packing_is_computed}
 use Rattle.pitch_model.specs.declared.status.Status.TheVariants.{Current, Behind}
+use Rattle.pitch_model.specs.Book.{book_after}
 use Rattle.pitch_model.specs.History.{Entry, Raw, Message, GrpUp}
 use Rattle.pitch_model.specs.Reach.{reach}
 use Rattle.pitch_model.specs.Status.{top_of, status_at, status_of}
@@ -29,13 +30,13 @@ use Rattle.gap_store.specs.Look.{slice_of}
 use Rattle.grp_session.specs.Asking.{status_here}
 use Rattle.grp_session.specs.Budget.{Spent, IsPast, how_many, this_second, this_minute, limit_reached, next_second, spending}
 use Rattle.world_model.specs.State.{State}
-use Rattle.world_model.specs.Verbs.{next_state, state_of, noted_blocks}
+use Rattle.world_model.specs.Verbs.{next_state, state_of, client_book, noted_blocks}
 use Rattle.world_model.specs.declared.limits.Limits.{Limits}
 use Rattle.world_model.specs.declared.passed.Passed.{Passed}
 use Rattle.world_laws.specs.Rounds.{with_rounds, state_after, rounds_needed, KeepsMissing, AreAccepted, BringsAsked}
 use Rattle.world_laws.proofs.Asked.{HasProxy, Lacks, lacks, count, accepted_here}
 use Rattle.world_laws.proofs.Brought.{packing_brings}
-use Rattle.world_laws.proofs.Finish.{cut_grp, cut_spin}
+use Rattle.world_laws.proofs.Finish.{cut_grp, cut_spin, current_reach}
 use Rattle.world_laws.proofs.GapPassed.{gap_within}
 use Rattle.world_laws.proofs.Missing.{reached_not_fresh, messages_missing, messages_top}
 use Rattle.world_laws.proofs.ProxyRound.{Idle, budget_limits, kept_view, logged_in, login_state, login_idle, lines', c4, answered_heard, answered_state, answered_idle, brought_rest}
@@ -288,6 +289,12 @@ module _ (unit : ℕ) (small : unit < 256) (limits : Limits) (done : List Verb) 
         gap_is = omega (arith, w);
       }
 
+  base_accepted : base.accepted ≡ (state_of unit limits done).accepted
+  base_accepted =
+      let first = cut_grp unit limits (state_of unit limits done) in
+      let second = cut_spin unit limits (state_of unit limits (verbs.Cut Grp ∷ done)) in
+      second.accepted_is ∙ first.accepted_is
+
   -- ---- Round by round
   feeds : (n : ℕ) → Reached unit (state_after unit limits done n)
   feeds n = reached unit limits (with_rounds n done) small (sayable_rounds n done said)
@@ -397,6 +404,17 @@ module _ (unit : ℕ) (small : unit < 256) (limits : Limits) (done : List Verb) 
         let P = goes n (omega arith) all.kept all.allowed in
         let left = P.left in
         ap (λ (y : State). status_of limits.hold y.heard) P.stands.is ∙ current_by limits.hold top P.stands.heard P.stands.has (P.told ∙ told) (omega (arith, left))
+
+    -- its book is then the one that the messages up to the top leave
+    pub ends_book : (top : ℕ) → top_of (state_after unit limits done 0).heard ≡ Some top → AreAccepted unit limits done (rounds_needed limits.hold (state_after unit limits done 0).heard)
+        → client_book limits (state_after unit limits done (rounds_needed limits.hold (state_after unit limits done 0).heard)) ≡ book_after (take top (state_of unit limits done).accepted)
+    ends_book top told all =
+        let n : ℕ = rounds_needed limits.hold (state_after unit limits done 0).heard in
+        let x : State = state_after unit limits done n in
+        let P = goes n (omega arith) all.kept all.allowed in
+        let reached_top : reach limits.hold x.heard ≡ top = current_reach limits.hold top x.heard (ends_current top told all) in
+        let accepted : x.accepted ≡ (state_of unit limits done).accepted = ap (λ (y : State). y.accepted) P.stands.is ∙ base_accepted in
+        (λ i. book_after (take (reached_top i) (accepted i)))
 
     -- ---- Where the limits leave enough
     module _ (second : 1 ≤ limits.second) (kept : KeepsMissing limits (state_after unit limits done 0)) where

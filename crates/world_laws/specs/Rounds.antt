@@ -66,7 +66,7 @@ abbrev pub rounds_needed : ℕ → List Entry → ℕ
 rounds_needed H E = sum_by rounds_for (missing_runs H E)
 
 -- ---- What is asked of the proxy, and what a round brings
--- the proxy keeps all messages behind the client's reach
+-- the proxy keeps all messages after the client's reach
 abbrev pub KeepsMissing : Limits → State → Type 0
 KeepsMissing limits s = length s.accepted ≤ reach limits.hold s.heard + limits.kept
 
@@ -84,7 +84,7 @@ pub record AreLeft (limits : Limits) (spent : Spent) (rounds : ℕ) : Type 0 whe
   pub minute : length spent.accepted + rounds ≤ limits.minute
   pub day : length spent.accepted + rounds ≤ limits.day
 
--- from one history to a later one a client asked the proxy for the messages behind its reach, at
+-- from one history to a later one a client asked the proxy for the messages after its reach, at
 -- least one of them, and got all that it asked for
 pub record BringsAsked (H : ℕ) (E F : List Entry) : Type 0 where
   pub count : ℕ

@@ -1,7 +1,7 @@
 //! Laws of the definitions. These functions do nothing: what they ensure is proved of the
 //! definitions alone.
 
-ghost use Rattle.std.specs.Prelude.{◌≡◌, ◌<◌, ◌≤◌, ℕ, ◌+◌, List, ◌++◌, length, reverse, Some};
+ghost use Rattle.std.specs.Prelude.{◌≡◌, ◌<◌, ◌≤◌, ℕ, ◌+◌, List, ◌++◌, length, reverse, take, Some};
 ghost use Rattle.std.specs.List.{AllByRecursion};
 ghost use Rattle.pitch_text.specs.WellFormed.{IsVerb};
 ghost use Rattle.pitch_text.specs.declared.verb.Verb.{Verb};
@@ -9,8 +9,8 @@ ghost use Rattle.pitch_model.specs.Book.{book_after};
 ghost use Rattle.pitch_model.specs.Status.{status_of, top_of};
 ghost use Rattle.pitch_model.specs.declared.status.Status.TheVariants.{Current};
 ghost use Rattle.spin_path.specs.PathLaws.{HasWholeImages};
-ghost use Rattle.world_laws.specs.Recovery.{recovery};
 ghost use Rattle.world_model.specs.Sound.{Sound};
+ghost use Rattle.world_laws.specs.Recovery.{recovery};
 ghost use Rattle.world_laws.specs.Rounds.{AreAccepted, AreLeft, BringsAsked, KeepsMissing};
 ghost use Rattle.world_laws.specs.Rounds.{rounds_needed, state_after};
 ghost use Rattle.world_laws.specs.Spending.{SpendsWithin, ticks_in};
@@ -77,6 +77,14 @@ pub fn rounds_with_the_proxy_end()
         → AreAccepted unit limits done n
         → top_of (state_after unit limits done 0).heard ≡ Some top
         → status_of limits.hold (state_after unit limits done n).heard ≡ Current top }
+    // Its book is the one that the messages up to there leave.
+    ensures book { (unit : ℕ) (limits : Limits) (done : List Verb) (n top : ℕ)
+        → unit < 256 → AllByRecursion IsVerb done → 1 ≤ limits.hold
+        → n ≡ rounds_needed limits.hold (state_after unit limits done 0).heard
+        → AreAccepted unit limits done n
+        → top_of (state_after unit limits done 0).heard ≡ Some top
+        → client_book limits (state_after unit limits done n)
+        ≡ book_after (take top (state_of unit limits done).accepted) }
     // A proxy that keeps what the client lacks, and whose limits leave that many, accepts them.
     ensures allowed { (unit : ℕ) (limits : Limits) (done : List Verb) (n : ℕ)
         → unit < 256 → AllByRecursion IsVerb done → 1 ≤ limits.hold
