@@ -22,4 +22,5 @@ mod Asked
 mod Brought
 mod GapPassed
 mod ProxyRounds
+mod Heartbeat
 mod Examples

@@ -247,7 +247,7 @@ limits_free limits t past day minute second =
     (λ i. cond (lt-leb limits.day (length t.accepted) day i) (Some 68) (cond (lt-leb limits.minute (this_minute (next_second t)) (omega (arith, few, minute)) i) (Some 77) (cond (lt-leb limits.second (this_second (next_second t)) (omega (arith, none, second)) i) (Some 83) None)))
 
 -- ---- After the login
-sayable_rounds : (n : ℕ) (done : List Verb) → AreSayable done → AreSayable (with_rounds n done)
+pub sayable_rounds : (n : ℕ) (done : List Verb) → AreSayable done → AreSayable (with_rounds n done)
 sayable_rounds zero done said = (tt, (tt, (tt, (tt, (tt, (tt, said))))))
 sayable_rounds (suc n) done said = (tt, (tt, (tt, (tt, sayable_rounds n done said))))
 
@@ -268,12 +268,18 @@ module _ (unit : ℕ) (small : unit < 256) (limits : Limits) (done : List Verb) 
   base_spin : base.spin ≡ None
   base_spin = (cut_spin unit limits (state_of unit limits (verbs.Cut Grp ∷ done))).cut.0
 
+  pub start_state : state_after unit limits done 0 ≡ at base base.spent base.replayed (Some (logged_in unit limits base base.spent base.replayed base.heard base.notes base.passed)) (GrpUp ∷ base.heard) base.notes base.passed
+  start_state =
+      let s : State = base in
+      let same : base ≡ at base s.spent s.replayed None s.heard s.notes s.passed = λ i. record s { grp = base_grp i; spin = base_spin i } in
+      ap (λ (x : State). next_state unit limits (verbs.Down Grp None) (next_state unit limits (verbs.Up Grp None) (next_state unit limits (verbs.Connect Grp) x))) same
+      ∙ login_state unit limits base s.spent s.replayed s.heard s.notes s.passed
+
   pub start : Stands unit base (state_after unit limits done 0)
   start =
       let s : State = base in
       let q = quiet unit limits cut in
       let off = q.grp base_grp in
-      let same : base ≡ at base s.spent s.replayed None s.heard s.notes s.passed = λ i. record s { grp = base_grp i; spin = base_spin i } in
       let w = gap_within unit limits (verbs.Cut Spin ∷ verbs.Cut Grp ∷ done) in
       record {
         spent = s.spent;
@@ -282,14 +288,13 @@ module _ (unit : ℕ) (small : unit < 256) (limits : Limits) (done : List Verb) 
         heard = GrpUp ∷ s.heard;
         notes = s.notes;
         passed = s.passed;
-        is = ap (λ (x : State). next_state unit limits (verbs.Down Grp None) (next_state unit limits (verbs.Up Grp None) (next_state unit limits (verbs.Connect Grp) x))) same
-            ∙ login_state unit limits base s.spent s.replayed s.heard s.notes s.passed;
+        is = start_state;
         idle = login_idle unit limits base s.spent s.replayed s.heard s.notes s.passed;
         has = record { up = refl; free = off.free; spin = (q.spin base_spin).down };
         gap_is = omega (arith, w);
       }
 
-  base_accepted : base.accepted ≡ (state_of unit limits done).accepted
+  pub base_accepted : base.accepted ≡ (state_of unit limits done).accepted
   base_accepted =
       let first = cut_grp unit limits (state_of unit limits done) in
       let second = cut_spin unit limits (state_of unit limits (verbs.Cut Grp ∷ done)) in

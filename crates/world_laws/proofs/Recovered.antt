@@ -55,7 +55,7 @@ told_newest n (Some m) E few none =
     ap (λ (x : Option ℕ). raised (n ∷ []) (raised (m ∷ []) x)) none ∙ ap Some (omega (arith, le))
 
 -- the advertised sequence was told of
-told_by : (n : ℕ) (o : Option ℕ) → (q : ℕ) × ((raised (n ∷ []) o ≡ Some q) × (n ≤ q))
+pub told_by : (n : ℕ) (o : Option ℕ) → (q : ℕ) × ((raised (n ∷ []) o ≡ Some q) × (n ≤ q))
 told_by n None = (n, (refl, omega arith))
 told_by n (Some t) = (max n t, (refl, omega arith))
 

@@ -2,7 +2,7 @@
 use Rattle.std.specs.Prelude.{◌≡◌, ℕ, zero, suc, ◌+◌, ◌/◌, ◌≤◌, ◌<◌, Bool, List, [], ◌∷◌, ◌++◌}
 use Rattle.std.specs.Prelude.{length, reverse, None, Some, unwrap_or, if◌then◌else◌}
 use Rattle.std.specs.List.{sum_by}
-use Rattle.pitch_io.specs.declared.line.Line.TheVariants.{Gap}
+use Rattle.pitch_io.specs.declared.line.Line.TheVariants.{A, Gap}
 use Rattle.pitch_text.specs.declared.verb.Session.TheVariants.{Grp, Spin}
 use Rattle.pitch_text.specs.declared.verb.Verb.{Verb}
 use Rattle.pitch_text.specs.declared.verb.Verb.TheVariants as verbs
@@ -24,6 +24,13 @@ abbrev pub proxy_login : List Verb
 proxy_login =
     verbs.Cut Grp ∷ verbs.Cut Spin ∷ verbs.Rest Gap
     ∷ verbs.Connect Grp ∷ verbs.Up Grp None ∷ verbs.Down Grp None ∷ []
+
+-- what is pending goes out after some verbs, which stand newest first, and the heartbeat behind it
+-- comes to the client
+abbrev pub with_heartbeat : ℕ → Limits → List Verb → List Verb
+with_heartbeat unit limits done =
+    verbs.Deliver A (length (state_of unit limits (verbs.Beat ∷ verbs.Flush ∷ done)).sent)
+    ∷ verbs.Beat ∷ verbs.Flush ∷ done
 
 -- a second passes, what the client asks for is carried up and the reply down, and the datagrams
 -- come

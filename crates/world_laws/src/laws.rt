@@ -12,7 +12,7 @@ ghost use Rattle.spin_path.specs.PathLaws.{HasWholeImages};
 ghost use Rattle.world_model.specs.Sound.{Sound};
 ghost use Rattle.world_laws.specs.Recovery.{recovery};
 ghost use Rattle.world_laws.specs.Rounds.{AreAccepted, AreLeft, BringsAsked, KeepsMissing};
-ghost use Rattle.world_laws.specs.Rounds.{rounds_needed, state_after};
+ghost use Rattle.world_laws.specs.Rounds.{rounds_needed, state_after, with_heartbeat};
 ghost use Rattle.world_laws.specs.Spending.{SpendsWithin, ticks_in};
 ghost use Rattle.world_model.specs.Verbs.{state_of, client_book};
 ghost use Rattle.world_model.specs.declared.limits.Limits.{Limits};
@@ -85,6 +85,11 @@ pub fn rounds_with_the_proxy_end()
         → top_of (state_after unit limits done 0).heard ≡ Some top
         → client_book limits (state_after unit limits done n)
         ≡ book_after (take top (state_of unit limits done).accepted) }
+    // Where a heartbeat came behind all that was sent, that is all that the venue accepted.
+    ensures told { (unit : ℕ) (limits : Limits) (done : List Verb)
+        → unit < 256 → AllByRecursion IsVerb done
+        → top_of (state_after unit limits (with_heartbeat unit limits done) 0).heard
+        ≡ Some (length (state_of unit limits done).accepted) }
     // A proxy that keeps what the client lacks, and whose limits leave that many, accepts them.
     ensures allowed { (unit : ℕ) (limits : Limits) (done : List Verb) (n : ℕ)
         → unit < 256 → AllByRecursion IsVerb done → 1 ≤ limits.hold
