@@ -6,7 +6,9 @@ use Rattle.pitch_model.specs.Honest.{Honest}
 use Rattle.pitch_model.specs.Levels.{level}
 use Rattle.heard_items.specs.HeardBlocks.{heard_block}
 use Rattle.client_core.specs.Tracks.{Tracks, Keeps}
-use Rattle.client_core.specs.Client.{current_book}
+use Rattle.order_book.specs.Turns.{turns_of}
+use Rattle.order_book.specs.declared.turn.Turn.{Turn}
+use Rattle.client_core.specs.Client.{current_book, Applied}
 use Rattle.client_core.specs.declared.client.UnitClient.{UnitClient}
 use Rattle.best_quotes.specs.Leveling.{Entries, Has}
 use Rattle.best_quotes.specs.Quoting.{quotes_of_block}
@@ -26,6 +28,11 @@ Tells client levels lines lines' block =
     (Image : List Raw → ℕ → List Raw) (V : List Raw) → (H : ℕ) (E : List Entry)
     → Tracks client H E → Honest Image V (heard_block block E) → Keeps client V
     → Has levels (level (current_book client)) → lines' ≡ lines ++ quotes_of_block H V E block
+
+-- a client applied messages that did all this to its orders
+abbrev pub TurnsBook : UnitClient → UnitClient → List Turn → Type 0
+TurnsBook old new turns =
+    (raws : List Raw) × (turns ≡ turns_of (current_book old) raws) × Applied old new raws
 
 -- ---- A quoted unit
 -- whatever history a unit stood for, it then stands for that history and the block

@@ -11,6 +11,8 @@ mod clearing;
 mod hearing;
 mod ladder;
 pub mod laws;
+mod leveled;
+mod leveled_units;
 mod levels;
 mod lines;
 mod prices;
@@ -23,6 +25,8 @@ mod units;
 
 pub use crate::bests::QuoteList;
 pub use crate::ladder::Ladder;
+pub use crate::leveled::LeveledUnit;
+pub use crate::leveled_units::LeveledUnits;
 pub use crate::lines::QuoteLines;
 pub use crate::quote::{Quote, QuoteLine};
 pub use crate::text::{append_quotes, put_quote_line};
