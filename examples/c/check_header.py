@@ -27,6 +27,7 @@ class C:
         "StatusOut": "pitch_status_out",
         "BestOut": "pitch_best_out",
         "OrderOut": "pitch_order_out",
+        "StateOut": "pitch_state_out",
         "HeardOut": "pitch_heard_out",
     }
 
@@ -55,6 +56,7 @@ class Rust:
         "StatusOut": "Status",
         "BestOut": "BestOut",
         "OrderOut": "Order",
+        "StateOut": "State",
         "HeardOut": "Heard",
     }
 

@@ -1,6 +1,6 @@
 /* What crates/own_client does, from C: hears the blocks on standard input, and prints of each unit
- * how far its book is and the best prices of a symbol. A number of bytes to read at once may be
- * given. */
+ * how far its book is and the best prices of a symbol, whose shares have to be those of the open
+ * orders there. A number of bytes to read at once may be given. */
 #include "pitch_client.h"
 
 #include <inttypes.h>
@@ -13,10 +13,27 @@ static int failed(const char *call, uint32_t code) {
     return 3;
 }
 
+/* The shares of the open orders at a price, by the list of all orders. */
+static uint64_t shares_at(pitch_client *client, uint32_t unit, uint8_t side, uint64_t price) {
+    uint64_t number, shares = 0;
+    pitch_order_out *orders;
+    uint32_t code = pitch_orders(client, unit, NULL, 0, &number);
+    if (code != PITCH_OK) exit(failed("orders", code));
+    orders = malloc(number * sizeof *orders);
+    code = pitch_orders(client, unit, orders, number, &number);
+    if (code != PITCH_OK) exit(failed("orders", code));
+    for (uint64_t k = 0; k < number; k++)
+        if (orders[k].side == side && orders[k].price == price && !memcmp(orders[k].symbol, "ACME    ", 8))
+            shares += orders[k].quantity;
+    free(orders);
+    return shares;
+}
+
 static void print_side(pitch_client *client, uint32_t unit, uint8_t side, const char *word) {
     pitch_best_out best;
     uint32_t code = pitch_best(client, unit, (const uint8_t *)"ACME    ", side, &best);
     if (code != PITCH_OK) exit(failed("best", code));
+    if (best.there && shares_at(client, unit, side, best.price) != best.shares) exit(4);
     if (!best.there)
         printf("%s none", word);
     else

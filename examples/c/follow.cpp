@@ -31,6 +31,14 @@ public:
         return told;
     }
 
+    std::vector<pitch_order_out> orders(uint32_t unit) {
+        uint64_t number;
+        must(pitch_orders(&raw_, unit, nullptr, 0, &number));
+        std::vector<pitch_order_out> told(number);
+        must(pitch_orders(&raw_, unit, told.data(), told.size(), &number));
+        return told;
+    }
+
 private:
     static void must(uint32_t code) {
         if (code != PITCH_OK) throw std::runtime_error(pitch_strerror(code));
@@ -53,6 +61,14 @@ int main() try {
     pitch_status_out status;
     for (uint32_t unit = 0; unit < 256; unit++) {
         if (!client.status(unit, status)) continue;
+        for (char side : { 'B', 'S' }) {
+            pitch_best_out best = client.best(unit, "ACME    ", side);
+            for (const pitch_order_out &order : client.orders(unit))
+                if (order.side == static_cast<uint32_t>(side) && order.price == best.price &&
+                    std::string(order.symbol, order.symbol + 8) == "ACME    ")
+                    best.shares -= order.quantity;
+            if (best.shares) throw std::runtime_error("a best price has other shares");
+        }
         std::cout << "unit " << unit << (status.state == PITCH_CURRENT ? " current" : " behind")
                   << " at " << status.reach << ": bid " << shown(client.best(unit, "ACME    ", 'B'))
                   << ", offer " << shown(client.best(unit, "ACME    ", 'S')) << "\n";

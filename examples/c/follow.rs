@@ -1,6 +1,6 @@
-//! What crates/own_client does, from Rust.
+//! What crates/own_client does, from Rust; and that the orders at a best price have its shares.
 mod pitch_client;
-use pitch_client::{Client, TRUNCATED};
+use pitch_client::{Client, Order, TRUNCATED};
 use std::io::Read;
 
 fn main() {
@@ -25,8 +25,16 @@ fn main() {
     assert!(rest.is_empty());
     for unit in 0..=255u8 {
         let Ok(status) = client.status(unit) else { continue };
+        let mut orders = vec![Order::default(); client.orders(unit, &mut []).expect("count") as usize];
+        client.orders(unit, &mut orders).expect("orders");
         let mut side = |side| match client.best(unit, b"ACME    ", side).expect("best") {
-            Some((price, shares)) => format!("{shares} at {}.{:04}", price / 10000, price % 10000),
+            Some((price, shares)) => {
+                let there = orders.iter().filter(|order| {
+                    order.symbol == *b"ACME    " && order.side == u32::from(side) && order.price == price
+                });
+                assert_eq!(shares, there.map(|order| u64::from(order.quantity)).sum::<u64>());
+                format!("{shares} at {}.{:04}", price / 10000, price % 10000)
+            }
             None => "none".to_string(),
         };
         let (bid, offer) = (side(b'B'), side(b'S'));

@@ -19,7 +19,9 @@ int main(int argc, char **argv) {
     pitch_heard_out h;
     pitch_status_out s;
     pitch_best_out b;
-    pitch_order_out o;
+    pitch_order_out o, os[3];
+    pitch_state_out st[2];
+    uint64_t n = 77;
     const uint8_t sym[8] = "ACME    ";
     if (argc > 1) state ^= strtoull(argv[1], NULL, 10) * 0x9e3779b97f4a7c15ull;
     /* closed */
@@ -27,6 +29,7 @@ int main(int argc, char **argv) {
     if (pitch_status(&c, 1, &s) != PITCH_CLOSED) return 2;
     if (pitch_best(&c, 1, sym, 'B', &b) != PITCH_CLOSED) return 3;
     if (pitch_order(&c, 1, 1, &o) != PITCH_CLOSED || pitch_reserve(&c, 1, 1) != PITCH_CLOSED) return 22;
+    if (pitch_orders(&c, 1, os, 3, &n) != PITCH_CLOSED || pitch_states(&c, 1, st, 2, &n) != PITCH_CLOSED) return 40;
     pitch_close(&c);
     /* the hold */
     if (pitch_open(&c, 0) != PITCH_BAD_HOLD) return 4;
@@ -42,10 +45,31 @@ int main(int argc, char **argv) {
     if (pitch_best(&c, 1, sym, 'x', &b) != PITCH_NO_SIDE) return 13;
     if (pitch_order(&c, 1, 1, &o) != PITCH_NO_CLIENT || pitch_order(&c, 256, 1, &o) != PITCH_NO_CLIENT) return 25;
     if (pitch_c_reserve(&c, 9, 1) != PITCH_NO_CLIENT || pitch_reserve(&c, 256, 1) != PITCH_NO_CLIENT) return 28;
+    if (pitch_orders(&c, 1, os, 3, &n) != PITCH_NO_CLIENT || pitch_orders(&c, 256, os, 3, &n) != PITCH_NO_CLIENT) return 41;
+    if (pitch_states(&c, 1, st, 2, &n) != PITCH_NO_CLIENT || pitch_states(&c, 0xffffffffu, st, 2, &n) != PITCH_NO_CLIENT) return 42;
+    if (n != 77) return 43;
     /* a unit that was reserved is silent, and has nothing */
     if (pitch_reserve(&c, 200, 1000) != PITCH_OK || pitch_status(&c, 200, &s) != PITCH_OK) return 29;
     if (s.state != PITCH_SILENT || s.reach || s.top || s.spare[0] || s.spare[4]) return 32;
     if (pitch_order(&c, 200, 1, &o) != PITCH_OK || o.there) return 35;
+    if (pitch_orders(&c, 200, NULL, 0, &n) != PITCH_OK || n) return 44;
+    n = 77;
+    if (pitch_states(&c, 200, NULL, 0, &n) != PITCH_OK || n) return 45;
+    /* more orders than the array holds: it is filled by rising id, and nothing behind it is written */
+    {
+        uint8_t block[8 + 3 * 34] = { 8 + 3 * 34, 0, 3, 201, 1, 0, 0, 0 };
+        for (int k = 0; k < 3; k++) {
+            uint8_t *add = block + 8 + 34 * k;
+            add[0] = 34, add[1] = 0x21, add[6] = (uint8_t)(30 - 10 * k), add[14] = 'B', add[15] = (uint8_t)(k + 1);
+            memcpy(add + 19, "ACME  ", 6), add[25] = 100;
+        }
+        if (pitch_hear(&c, block, sizeof block, &h) != PITCH_OK || h.fresh != 3) return 46;
+        os[2].id = 99;
+        if (pitch_orders(&c, 201, os, 2, &n) != PITCH_OK || n != 3) return 47;
+        if (os[0].id != 10 || os[1].id != 20 || os[0].quantity != 3 || os[2].id != 99) return 48;
+        if (pitch_orders(&c, 201, os, 3, &n) != PITCH_OK || n != 3 || os[2].id != 30) return 49;
+        if (pitch_best(&c, 201, sym, 'B', &b) != PITCH_OK || !b.there || b.price != 100 || b.shares != 6) return 50;
+    }
     /* no bytes, also at null; too few */
     if (pitch_hear(&c, sym, 0, &h) != PITCH_TRUNCATED) return 14;
     if (pitch_hear(&c, NULL, 0, &h) != PITCH_TRUNCATED) return 15;
@@ -54,6 +78,8 @@ int main(int argc, char **argv) {
     if (pitch_hear(&c, sym, 8, NULL) != PITCH_NULL || pitch_open(NULL, 1) != PITCH_NULL) return 17;
     if (pitch_status(&c, 1, NULL) != PITCH_NULL || pitch_best(&c, 1, NULL, 'B', &b) != PITCH_NULL) return 18;
     if (pitch_order(&c, 1, 1, NULL) != PITCH_NULL || pitch_reserve(NULL, 1, 1) != PITCH_NULL) return 37;
+    if (pitch_orders(&c, 1, NULL, 1, &n) != PITCH_NULL || pitch_orders(&c, 1, os, 3, NULL) != PITCH_NULL) return 38;
+    if (pitch_states(&c, 1, NULL, 1, &n) != PITCH_NULL || pitch_states(NULL, 1, st, 2, &n) != PITCH_NULL) return 39;
     uint8_t *most = calloc(1, 65536);
     if (pitch_hear(&c, most, (size_t)-1, &h) != PITCH_NOT_A_BLOCK) return 19;
     free(most);
@@ -91,6 +117,8 @@ int main(int argc, char **argv) {
             pitch_status(&c, unit, &s);
             pitch_best(&c, unit, name, next() % 2 ? 'B' : 'S', &b);
             pitch_order(&c, unit, next() % 256, &o);
+            pitch_orders(&c, unit, os, next() % 4, &n);
+            pitch_states(&c, unit, st, next() % 3, &n);
         }
         free(bytes);
     }

@@ -24,7 +24,7 @@ extern "C" {
 #endif
 
 /* What pitch_c_abi answers where the library has the structs and functions of this header. */
-#define PITCH_ABI 1
+#define PITCH_ABI 2
 
 /* What the functions answer. Where it is not PITCH_OK, the clients stand for what they stood for,
  * and nothing was written. */
@@ -76,6 +76,13 @@ typedef struct pitch_order_out {
     uint64_t spare[3];
 } pitch_order_out;
 
+typedef struct pitch_state_out {
+    uint8_t symbol[8]; /* with spaces at its end */
+    uint32_t halt;     /* the two bytes of its trading status */
+    uint32_t sho;
+    uint64_t spare[2];
+} pitch_state_out;
+
 typedef struct pitch_heard_out {
     uint32_t used;      /* the bytes of the block; those after it are of the next */
     uint32_t unit;
@@ -88,7 +95,7 @@ typedef struct pitch_heard_out {
 } pitch_heard_out;
 
 /* ---- The library's own functions, which test nothing that C must keep anyway: no pointer is null,
- * also where a length is 0, and no length is above PTRDIFF_MAX. Bindings may call them. */
+ * also where a length is 0, and no array has more bytes than PTRDIFF_MAX. Bindings may call them. */
 uint32_t pitch_c_abi(void);
 uint32_t pitch_c_open(pitch_client *client, uint32_t hold);
 void pitch_c_close(pitch_client *client);
@@ -98,6 +105,10 @@ uint32_t pitch_c_status(pitch_client *client, uint32_t unit, pitch_status_out *t
 uint32_t pitch_c_best(pitch_client *client, uint32_t unit, const uint8_t symbol[8], uint8_t side,
                       pitch_best_out *told);
 uint32_t pitch_c_order(pitch_client *client, uint32_t unit, uint64_t id, pitch_order_out *told);
+uint32_t pitch_c_orders(pitch_client *client, uint32_t unit, pitch_order_out *told, size_t len,
+                        uint64_t *number);
+uint32_t pitch_c_states(pitch_client *client, uint32_t unit, pitch_state_out *told, size_t len,
+                        uint64_t *number);
 
 /* ---- The functions for C */
 
@@ -145,7 +156,8 @@ static inline uint32_t pitch_status(pitch_client *client, uint32_t unit, pitch_s
 }
 
 /* The best price of a symbol, of eight bytes with spaces at its end, on a side, 'B' or 'S', in a
- * unit's book. It goes through all open orders of the unit. */
+ * unit's book. It is looked up, unless memory for the unit's price levels ran out: then it goes
+ * through all open orders of the unit. */
 static inline uint32_t pitch_best(pitch_client *client, uint32_t unit, const uint8_t symbol[8],
                                   uint8_t side, pitch_best_out *told) {
     if (!client || !symbol || !told) return PITCH_NULL;
@@ -157,6 +169,25 @@ static inline uint32_t pitch_order(pitch_client *client, uint32_t unit, uint64_t
                                    pitch_order_out *told) {
     if (!client || !told) return PITCH_NULL;
     return pitch_c_order(client, unit, id, told);
+}
+
+/* The open orders of a unit by rising id: as many as fit in an array of `len`, and in `number` how
+ * many there are. What is behind them in the array stays. An array of none may be null. */
+static inline uint32_t pitch_orders(pitch_client *client, uint32_t unit, pitch_order_out *told,
+                                    size_t len, uint64_t *number) {
+    pitch_order_out none;
+    if (!client || !number || (!told && len)) return PITCH_NULL;
+    if (len > PTRDIFF_MAX / sizeof none) len = PTRDIFF_MAX / sizeof none;
+    return pitch_c_orders(client, unit, told ? told : &none, len, number);
+}
+
+/* The trading statuses of a unit by rising bytes of their symbols, likewise. */
+static inline uint32_t pitch_states(pitch_client *client, uint32_t unit, pitch_state_out *told,
+                                    size_t len, uint64_t *number) {
+    pitch_state_out none;
+    if (!client || !number || (!told && len)) return PITCH_NULL;
+    if (len > PTRDIFF_MAX / sizeof none) len = PTRDIFF_MAX / sizeof none;
+    return pitch_c_states(client, unit, told ? told : &none, len, number);
 }
 
 static inline const char *pitch_strerror(uint32_t code) {
@@ -178,6 +209,7 @@ PITCH_ASSERT_SIZE(pitch_client, 16);
 PITCH_ASSERT_SIZE(pitch_status_out, 32);
 PITCH_ASSERT_SIZE(pitch_best_out, 64);
 PITCH_ASSERT_SIZE(pitch_order_out, 64);
+PITCH_ASSERT_SIZE(pitch_state_out, 32);
 PITCH_ASSERT_SIZE(pitch_heard_out, 64);
 
 #endif

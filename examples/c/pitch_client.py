@@ -2,7 +2,8 @@
 
     python3 pitch_client.py ./libpitch.so < FEED
 
-prints of each unit how far its book is and the best prices of a symbol.
+prints of each unit how far its book is and the best prices of a symbol, whose shares have to be
+those of the open orders there.
 """
 import ctypes
 import sys
@@ -28,6 +29,10 @@ class Order(ctypes.Structure):
                 ("symbol", U8 * 8), ("spare", U64 * 3)]
 
 
+class State(ctypes.Structure):
+    _fields_ = [("symbol", U8 * 8), ("halt", U32), ("sho", U32), ("spare", U64 * 2)]
+
+
 class Heard(ctypes.Structure):
     _fields_ = [("used", U32), ("unit", U32), ("sequence", U32), ("count", U32), ("fresh", U32),
                 ("overflows", U32), ("after", Status), ("spare", U32 * 2)]
@@ -47,6 +52,8 @@ CALLS = {
     "pitch_c_status": ([of(Raw), U32, of(Status)], U32),
     "pitch_c_best": ([of(Raw), U32, BYTES, U8, of(Best)], U32),
     "pitch_c_order": ([of(Raw), U32, U64, of(Order)], U32),
+    "pitch_c_orders": ([of(Raw), U32, of(Order), SIZE, of(U64)], U32),
+    "pitch_c_states": ([of(Raw), U32, of(State), SIZE, of(U64)], U32),
 }
 
 
@@ -65,7 +72,7 @@ class Client:
         for name, (given, told) in CALLS.items():
             getattr(self.lib, name).argtypes = given
             getattr(self.lib, name).restype = told
-        if self.lib.pitch_c_abi() != 1:
+        if self.lib.pitch_c_abi() != 2:
             raise PitchError(OTHER_ABI)
         self._ask("open", hold)
 
@@ -104,6 +111,22 @@ class Client:
         self._ask("order", unit, order_id, told)
         return told if told.there else None
 
+    def _list(self, name, kind, unit):
+        """All items of a list of a unit: how many there are is asked first."""
+        number, items = U64(), (kind * 0)()
+        self._ask(name, unit, items, 0, number)
+        items = (kind * number.value)()
+        self._ask(name, unit, items, len(items), number)
+        return list(items)
+
+    def orders(self, unit):
+        """The open orders of a unit by rising id."""
+        return self._list("orders", Order, unit)
+
+    def states(self, unit):
+        """The trading statuses of a unit by rising bytes of their symbols."""
+        return self._list("states", State, unit)
+
     def close(self):
         self.lib.pitch_c_close(self.raw)
 
@@ -123,6 +146,13 @@ def main():
         except PitchError:
             continue
         word = "current" if status.state == 2 else "behind"
+        best = {side: client.best(unit, "ACME", side) for side in "BS"}
+        for order in client.orders(unit):
+            side, symbol = chr(order.side), bytes(order.symbol)
+            if symbol == b"ACME    " and best[side][0] == order.price:
+                best[side] = (order.price, best[side][1] - order.quantity)
+        if any(it and it[1] for it in best.values()):
+            sys.exit("a best price has other shares")
         bid, offer = (shown(client.best(unit, "ACME", side)) for side in "BS")
         print(f"unit {unit} {word} at {status.reach}: bid {bid}, offer {offer}")
     client.close()

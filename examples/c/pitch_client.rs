@@ -38,6 +38,16 @@ pub struct Order {
     spare: [u64; 3],
 }
 
+/// The trading status of a symbol: the two bytes of its message.
+#[repr(C)]
+#[derive(Clone, Copy, Debug, Default, PartialEq, Eq)]
+pub struct State {
+    pub symbol: [u8; 8],
+    pub halt: u32,
+    pub sho: u32,
+    spare: [u64; 2],
+}
+
 /// What was heard.
 #[repr(C)]
 #[derive(Clone, Copy, Debug, Default, PartialEq, Eq)]
@@ -67,6 +77,20 @@ unsafe extern "C" {
         told: *mut BestOut,
     ) -> u32;
     fn pitch_c_order(client: *mut Raw, unit: u32, id: u64, told: *mut Order) -> u32;
+    fn pitch_c_orders(
+        client: *mut Raw,
+        unit: u32,
+        told: *mut Order,
+        len: usize,
+        number: *mut u64,
+    ) -> u32;
+    fn pitch_c_states(
+        client: *mut Raw,
+        unit: u32,
+        told: *mut State,
+        len: usize,
+        number: *mut u64,
+    ) -> u32;
 }
 
 /// Why a call had no answer: a `pitch_code` of the header, never 0.
@@ -94,7 +118,7 @@ impl Client {
     pub fn open(hold: u32) -> Result<Client, Code> {
         let mut raw = Raw { at: std::ptr::null_mut(), mark: 0 };
         // SAFETY: it takes nothing.
-        if unsafe { pitch_c_abi() } != 1 {
+        if unsafe { pitch_c_abi() } != 2 {
             return Err(OTHER_ABI);
         }
         // SAFETY: a closed client, which nothing else refers to.
@@ -148,6 +172,24 @@ impl Client {
         // SAFETY: as above.
         answered(unsafe { pitch_c_order(&mut self.raw, unit.into(), id, &mut told) })?;
         Ok((told.there != 0).then_some(told))
+    }
+
+    /// Writes the open orders of a unit by rising id, as many as fit, and tells how many there are.
+    pub fn orders(&mut self, unit: u8, told: &mut [Order]) -> Result<u64, Code> {
+        let mut number = 0;
+        let (at, len) = (told.as_mut_ptr(), told.len());
+        // SAFETY: as above; no more than the slice is written.
+        answered(unsafe { pitch_c_orders(&mut self.raw, unit.into(), at, len, &mut number) })?;
+        Ok(number)
+    }
+
+    /// Writes the trading statuses of a unit by rising bytes of their symbols, likewise.
+    pub fn states(&mut self, unit: u8, told: &mut [State]) -> Result<u64, Code> {
+        let mut number = 0;
+        let (at, len) = (told.as_mut_ptr(), told.len());
+        // SAFETY: as above.
+        answered(unsafe { pitch_c_states(&mut self.raw, unit.into(), at, len, &mut number) })?;
+        Ok(number)
     }
 }
 

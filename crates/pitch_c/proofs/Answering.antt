@@ -1,5 +1,5 @@
 -- Which answer is given.
-use Rattle.std.proofs.Common.{◌≡◌, ◌≤◌, ◌<◌, ◌∙◌, ◌⊎◌, inl, inr, ℕ, true, false, List, Option, None, Some, Result, Ok, Err, slice_get, refl, sym, ap, arith}
+use Rattle.std.proofs.Common.{◌≡◌, ◌≤◌, ◌<◌, ◌∙◌, ℕ, true, false, List, Option, None, Some, Ok, Err, slice_get, refl, ap, arith}
 use Rattle.std.proofs.lemmas.Bool.Decides.{nat_tests}
 use Rattle.std.specs.Option.{option_flatten, IsSome}
 use Rattle.unit_packets.specs.Cutting.{is_truncated}
@@ -8,7 +8,7 @@ use Rattle.unit_packets.specs.declared.header.Header.{Header}
 use Rattle.unit_packets.specs.declared.header.BlockError.{BlockError}
 use Rattle.client_core.specs.declared.client.UnitClient.{UnitClient}
 use Rattle.unit_clients.specs.Clients.{Units, client_of}
-use Rattle.pitch_c.specs.Answers.{Answers, hold_code, judged_code, client_code}
+use Rattle.pitch_c.specs.Answers.{hold_code, judged_code, client_code}
 
 pub none_of : {X : Type 0} (o : Option X) → (IsSome o → ⊥) → o ≡ None
 none_of None none = refl

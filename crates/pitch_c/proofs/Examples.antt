@@ -2,14 +2,12 @@
 use Rattle.std.proofs.Common.{◌≡◌, ℕ, true, [], ◌∷◌, Some, None, Ok, Err, refl}
 use Rattle.pitch_fields.specs.declared.side.Side.TheVariants.{Buy, Sell}
 use Rattle.pitch_messages.specs.declared.order.Order.{Order}
-use Rattle.pitch_model.specs.declared.status.Status.TheVariants.{Silent, Current, Behind}
+use Rattle.pitch_model.specs.declared.status.Status.TheVariants.{Current, Behind}
 use Rattle.unit_packets.specs.declared.header.Header.{Header}
 use Rattle.unit_packets.specs.declared.header.BlockError.TheVariants.{Truncated, Spare}
 use Rattle.pitch_c.specs.Answers.{hold_code, judged_code, side_code}
-use Rattle.pitch_c.specs.Reports.{status_shown, best_shown, order_shown}
-use Rattle.pitch_c.specs.declared.reports.StatusOut.{StatusOut}
-use Rattle.pitch_c.specs.declared.reports.BestOut.{BestOut}
-use Rattle.pitch_c.specs.declared.reports.OrderOut.{OrderOut}
+use Rattle.pitch_c.specs.Arrays.{filled}
+use Rattle.pitch_c.specs.Reports.{status_shown, best_shown, order_shown, state_shown}
 
 -- ---- Codes
 holds : ((hold_code 0 ≡ 4) × (hold_code 1 ≡ 0)) × ((hold_code 65536 ≡ 0) × (hold_code 65537 ≡ 4))
@@ -20,6 +18,14 @@ judged header = (refl, (refl, refl))
 
 sides : (side_code None 0 ≡ 8) × ((side_code (Some Buy) 0 ≡ 0) × (side_code (Some Sell) 7 ≡ 7))
 sides = (refl, (refl, refl))
+
+-- ---- Arrays
+-- two items in three places, and three in two
+roomy : filled {T = ℕ} (1 ∷ 2 ∷ []) (7 ∷ 8 ∷ 9 ∷ []) ≡ 1 ∷ 2 ∷ 9 ∷ []
+roomy = refl
+
+narrow : filled {T = ℕ} (1 ∷ 2 ∷ 3 ∷ []) (7 ∷ 8 ∷ []) ≡ 1 ∷ 2 ∷ []
+narrow = refl
 
 -- ---- Structs
 behind : status_shown (Behind 2 4) ≡ record { state = 3; reach = 2; top = 4; spare = 0 ∷ 0 ∷ 0 ∷ 0 ∷ 0 ∷ [] }
@@ -53,3 +59,8 @@ acme_told : order_shown (Some acme) ≡ record {
   spare = 0 ∷ 0 ∷ 0 ∷ [];
 }
 acme_told = refl
+
+-- ACME, T with 0
+halted : state_shown (record { symbol = 65 ∷ 67 ∷ 77 ∷ 69 ∷ 32 ∷ 32 ∷ 32 ∷ 32 ∷ []; halt = 84; sho = 48 })
+    ≡ record { symbol = 65 ∷ 67 ∷ 77 ∷ 69 ∷ 32 ∷ 32 ∷ 32 ∷ 32 ∷ []; halt = 84; sho = 48; spare = 0 ∷ 0 ∷ [] }
+halted = refl

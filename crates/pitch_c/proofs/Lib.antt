@@ -1,4 +1,5 @@
 pub mod Shapes
 pub mod Telling
 pub mod Answering
+pub mod Filling
 pub mod Examples

@@ -2,7 +2,6 @@
 use Rattle.std.specs.Prelude.{◌≡◌, ◌⊎◌, ℕ, ◌==◌, nat_lt, List, Option, None, Some, if◌then◌else◌}
 use Rattle.std.specs.Prelude.{Result, Ok, Err}
 use Rattle.pitch_fields.specs.Limits.{most_held}
-use Rattle.pitch_fields.specs.Side.{side_of}
 use Rattle.pitch_fields.specs.declared.side.Side.{Side}
 use Rattle.unit_packets.specs.Blocks.{Block}
 use Rattle.unit_packets.specs.Cutting.{is_truncated}
@@ -10,7 +9,7 @@ use Rattle.unit_packets.specs.Held.{StandsFirst}
 use Rattle.unit_packets.specs.declared.header.Header.{Header}
 use Rattle.unit_packets.specs.declared.header.BlockError.{BlockError}
 use Rattle.client_core.specs.declared.client.UnitClient.{UnitClient}
-use Rattle.unit_clients.specs.Clients.{Units, client_of}
+use Rattle.unit_clients.specs.Clients.{Units}
 use Rattle.unit_clients.specs.Room.{HearFreely}
 use Rattle.pitch_c.specs.Codes as code
 

@@ -1,24 +1,28 @@
 -- What a client that C holds stands for, and what C is told of it. Blocks stand newest first.
-use Rattle.std.specs.Prelude.{◌≡◌, ℕ, List, ◌∷◌, take, Option}
+use Rattle.std.specs.Prelude.{◌≡◌, ℕ, List, ◌∷◌, map as mapped, take, Option, Some}
 use Rattle.std.specs.Option.{IsSomeAnd}
 use Rattle.std.specs.FinMap as map
 use Rattle.pitch_fields.specs.Side.{side_of}
 use Rattle.pitch_model.specs.History.{Raw}
 use Rattle.pitch_model.specs.Book.{Book, book_after}
-use Rattle.pitch_model.specs.Levels.{best}
+use Rattle.pitch_model.specs.Levels.{best, orders_of}
 use Rattle.pitch_model.specs.Reach.{reach}
 use Rattle.pitch_model.specs.Status.{status_of}
+use Rattle.pitch_model.specs.Statuses.{statuses_of}
 use Rattle.unit_packets.specs.Blocks.{Block}
 use Rattle.unit_packets.specs.Held.{StandsFirst}
 use Rattle.unit_packets.specs.Lending.{header_for}
 use Rattle.heard_items.specs.Units.{unit_history, AllHonest}
 use Rattle.heard_items.specs.Changes.{block_change}
 use Rattle.unit_clients.specs.Clients.{Units, HaveHeard}
+use Rattle.pitch_c.specs.Arrays.{Fills}
 use Rattle.pitch_c.specs.Reports.{status_shown, best_shown, heard_shown, order_shown}
+use Rattle.pitch_c.specs.Reports.{state_shown}
 use Rattle.pitch_c.specs.declared.reports.StatusOut.{StatusOut}
 use Rattle.pitch_c.specs.declared.reports.BestOut.{BestOut}
 use Rattle.pitch_c.specs.declared.reports.HeardOut.{HeardOut}
 use Rattle.pitch_c.specs.declared.reports.OrderOut.{OrderOut}
+use Rattle.pitch_c.specs.declared.reports.StateOut.{StateOut}
 
 -- the clients stand for the blocks
 abbrev pub HasHeard : Option Units → List Block → Type 0
@@ -64,3 +68,16 @@ TellBest units unit symbol side told =
 abbrev pub TellOrder : Units → ℕ → ℕ → OrderOut → Type 0
 TellOrder units unit id told =
     OfReachedBook units unit (λ book. told ≡ order_shown (map.get book.orders id))
+
+-- ---- Lists: the array before and after, and how many items there are
+-- all open orders, by rising id
+abbrev pub TellOrders : Units → ℕ → List OrderOut → List OrderOut → ℕ → Type 0
+TellOrders units unit old new number =
+    OfReachedBook units unit
+    (λ book. Fills (mapped (λ order. order_shown (Some order)) (orders_of book)) old new number)
+
+-- all trading statuses, by rising bytes of their symbols
+abbrev pub TellStates : Units → ℕ → List StateOut → List StateOut → ℕ → Type 0
+TellStates units unit old new number =
+    OfReachedBook units unit
+    (λ book. Fills (mapped state_shown (statuses_of book)) old new number)

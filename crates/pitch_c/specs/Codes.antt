@@ -38,4 +38,4 @@ no_side = 8
 
 -- what the struct and the functions are, as the header that C was compiled with has it
 abbrev pub abi : ℕ
-abi = 1
+abi = 2

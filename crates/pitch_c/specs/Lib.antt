@@ -1,5 +1,6 @@
 pub mod Owned
 pub mod Codes
+pub mod Arrays
 pub mod Answers
 pub mod Clients
 pub mod Reports

@@ -2,6 +2,7 @@
 use Rattle.std.specs.Prelude.{ℕ, replicate, Option, None, Some}
 use Rattle.pitch_fields.specs.Side.{byte_of}
 use Rattle.pitch_messages.specs.declared.order.Order.{Order}
+use Rattle.pitch_messages.specs.declared.trading_state.TradingState.{TradingState}
 use Rattle.pitch_model.specs.declared.status.Status.{Status}
 use Rattle.pitch_model.specs.declared.status.Status.TheVariants.{Silent, Current, Behind}
 use Rattle.heard_items.specs.declared.change.Change.{Change}
@@ -9,6 +10,7 @@ use Rattle.unit_packets.specs.declared.header.Header.{Header}
 use Rattle.pitch_c.specs.declared.reports.StatusOut.{StatusOut}
 use Rattle.pitch_c.specs.declared.reports.BestOut.{BestOut}
 use Rattle.pitch_c.specs.declared.reports.HeardOut.{HeardOut}
+use Rattle.pitch_c.specs.declared.reports.StateOut.{StateOut}
 use Rattle.pitch_c.specs.declared.reports.OrderOut.{OrderOut}
 
 -- how far a client is
@@ -43,6 +45,11 @@ order_shown (Some order) = record {
   symbol = order.symbol;
   spare = replicate 3 0;
 }
+
+-- the trading status of a symbol
+abbrev pub state_shown : TradingState → StateOut
+state_shown state =
+    record { symbol = state.symbol; halt = state.halt; sho = state.sho; spare = replicate 2 0 }
 
 -- the header of a block that was heard, and what it changed
 abbrev pub heard_shown : Header → Change → HeardOut

@@ -1,6 +1,6 @@
 //! Hearing a block, and asking, over the clients of all units.
 
-ghost use Rattle.std.specs.Prelude.{◌≡◌, ◌≤◌, ◌<◌, ℕ, List, Some, None, take, IfSome, IfNone, slice_get};
+ghost use Rattle.std.specs.Prelude.{◌≡◌, ◌≤◌, ℕ, List, take};
 ghost use Rattle.std.specs.FinMap as map;
 ghost use Rattle.pitch_fields.specs.Side.{side_of};
 ghost use Rattle.pitch_model.specs.History.{Entry, Raw};
@@ -21,15 +21,19 @@ use crate::codes::{NO_CLIENT, NO_MEMORY, NO_SIDE, NOT_A_BLOCK, OK, TRUNCATED};
 use crate::reports::{
     BestOut, HeardOut, OrderOut, StatusOut, best_out, heard_out, order_out, status_out,
 };
-use client_core::UnitClient;
+use best_quotes::{LeveledUnit, LeveledUnits};
 use pitch_fields::{Price, Side, Symbol};
 use pitch_messages::Order;
 use std::alloc::Global;
-use unit_clients::Units;
 use unit_packets::view_block;
 
 // Hands the block at the start of some bytes to the client of its unit.
-pub(crate) fn hear_first(alloc: Global, units: &mut Units, bytes: &[u8], told: &mut HeardOut) -> u32
+pub(crate) fn hear_first(
+    alloc: Global,
+    units: &mut LeveledUnits,
+    bytes: &[u8],
+    told: &mut HeardOut,
+) -> u32
     ensures heard { result ≡ code.ok → HearFirst bytes.now units.old units.new told.new }
     ensures still { 1 ≤ result → StillHave units.old units.new }
     ensures answer { Answers (judged_code (judge bytes.now)) result }
@@ -53,26 +57,13 @@ pub(crate) fn hear_first(alloc: Global, units: &mut Units, bytes: &[u8], told: &
     }
 }
 
-// The client of a unit.
-fn find(units: &Units, unit: u32) -> Option<&UnitClient>
-    ensures there { IfSome result
-        (λ client. slice_get units.now.places unit ≡ Some (Some client.now)) }
-    ensures within { IfSome result (λ client. unit < 256) }
-    ensures none { IfNone result (client_of units.now unit ≡ None) }
-{
-    match units.clients().get(unit as usize) {
-        Some(place) => place.as_ref(),
-        None => None,
-    }
-}
-
 // Takes memory ahead for so many messages of a unit that has a client.
-pub(crate) fn reserve_for(units: &mut Units, unit: u32, messages: u32) -> u32
+pub(crate) fn reserve_for(units: &mut LeveledUnits, unit: u32, messages: u32) -> u32
     ensures spare { result ≡ code.ok → HaveSpare units.new unit messages }
     ensures still { StillHave units.old units.new }
     ensures answer { Answers (client_code (client_of units.old unit)) result }
 {
-    match find(units, unit) {
+    match units.unit(unit) {
         Some(_) => match units.reserve(unit as u8, messages) {
             Ok(()) => OK,
             Err(_) => NO_MEMORY,
@@ -82,20 +73,21 @@ pub(crate) fn reserve_for(units: &mut Units, unit: u32, messages: u32) -> u32
 }
 
 // The best price of a symbol in a unit's book.
-fn best_price(client: &UnitClient, symbol: Symbol, side: Side) -> Option<(Price, u64)>
+fn best_price(client: &LeveledUnit, symbol: Symbol, side: Side) -> Option<(Price, u64)>
     ensures { (H : ℕ) (E : List Entry) (V : List Raw) → Tracks client.now H E → Keeps client.now V
         → result ≡ best (book_after (take (reach H E) V)) symbol side }
 {
-    client.book().best(symbol, side)
+    let _book = client.client().book();
+    client.best(symbol, side)
 }
 
-pub(crate) fn tell_status(units: &Units, unit: u32, told: &mut StatusOut) -> u32
+pub(crate) fn tell_status(units: &LeveledUnits, unit: u32, told: &mut StatusOut) -> u32
     ensures status { result ≡ code.ok → TellStatus units.now unit told.new }
     ensures answer { result ≡ client_code (client_of units.now unit) }
 {
-    match find(units, unit) {
+    match units.unit(unit) {
         Some(client) => {
-            *told = status_out(client.status());
+            *told = status_out(client.client().status());
             OK
         }
         None => NO_CLIENT,
@@ -103,7 +95,7 @@ pub(crate) fn tell_status(units: &Units, unit: u32, told: &mut StatusOut) -> u32
 }
 
 pub(crate) fn tell_best(
-    units: &Units,
+    units: &LeveledUnits,
     unit: u32,
     symbol: &[u8; 8],
     side: u8,
@@ -115,7 +107,7 @@ pub(crate) fn tell_best(
     let Some(side) = Side::from_byte(side) else {
         return NO_SIDE;
     };
-    match find(units, unit) {
+    match units.unit(unit) {
         Some(client) => {
             *told = best_out(best_price(client, Symbol::from_eight(*symbol), side));
             OK
@@ -125,18 +117,18 @@ pub(crate) fn tell_best(
 }
 
 // The open order of an id in a unit's book.
-fn open_order(client: &UnitClient, id: u64) -> Option<Order>
+fn open_order(client: &LeveledUnit, id: u64) -> Option<Order>
     ensures { (H : ℕ) (E : List Entry) (V : List Raw) → Tracks client.now H E → Keeps client.now V
         → result ≡ map.get (book_after (take (reach H E) V)).orders id }
 {
-    client.book().order(id)
+    client.client().book().order(id)
 }
 
-pub(crate) fn tell_order(units: &Units, unit: u32, id: u64, told: &mut OrderOut) -> u32
+pub(crate) fn tell_order(units: &LeveledUnits, unit: u32, id: u64, told: &mut OrderOut) -> u32
     ensures order { result ≡ code.ok → TellOrder units.now unit id told.new }
     ensures answer { result ≡ client_code (client_of units.now unit) }
 {
-    match find(units, unit) {
+    match units.unit(unit) {
         Some(client) => {
             *told = order_out(open_order(client, id));
             OK

@@ -18,4 +18,4 @@ pub const NO_CLIENT: u32 = 7;
 
 pub const NO_SIDE: u32 = 8;
 
-pub const ABI: u32 = 1;
+pub const ABI: u32 = 2;

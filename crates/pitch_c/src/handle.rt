@@ -5,13 +5,13 @@ ghost use Rattle.std.specs.Option.{IsSome};
 ghost use Rattle.std.specs.Coded.{coded_option};
 ghost use Rattle.std.proofs.Props.{props};
 ghost use Rattle.unit_clients.specs.Clients.{Units};
-ghost use Rattle.unit_clients.specs.contracts.units.Units.{the_row};
+ghost use Rattle.best_quotes.specs.contracts.leveled_units.LeveledUnits.{the_row};
 ghost use Rattle.pitch_c.specs.Owned.{owns_at};
 
+use best_quotes::LeveledUnits;
 use box_parts::Parts;
 use std::alloc::Global;
 use std::marker::Model;
-use unit_clients::Units;
 
 /// The pointer to the clients, which owns them where it is open.
 #[repr(C)]
@@ -27,7 +27,7 @@ impl Model for Handle {
 }
 
 impl Handle {
-    fn opened(parts: Parts<Units, Global>) -> Handle
+    fn opened(parts: Parts<LeveledUnits, Global>) -> Handle
         ensures { result.value ≡ Some parts.value }
     {
         let Parts { ptr, alloc } = parts;
@@ -37,13 +37,13 @@ impl Handle {
         }
     }
 
-    fn into_parts(self) -> Parts<Units, Global>
+    fn into_parts(self) -> Parts<LeveledUnits, Global>
         requires { IsSome self.value }
         ensures { self.value ≡ Some result.value }
     {
         let Handle { at, alloc } = self;
         Parts {
-            ptr: at as *mut Units,
+            ptr: at as *mut LeveledUnits,
             alloc,
         }
     }
@@ -80,7 +80,7 @@ pub(crate) fn closed(alloc: Global) -> Client
     }
 }
 
-pub(crate) fn opened(units: Box<Units>) -> Client
+pub(crate) fn opened(units: Box<LeveledUnits>) -> Client
     ensures { result.handle.value ≡ Some units.value }
 {
     Client {
@@ -90,7 +90,7 @@ pub(crate) fn opened(units: Box<Units>) -> Client
 }
 
 // Takes the clients out, which closes the handle. None where it is closed.
-pub(crate) fn take(alloc: Global, client: &mut Client) -> Option<Box<Units>>
+pub(crate) fn take(alloc: Global, client: &mut Client) -> Option<Box<LeveledUnits>>
     ensures taken { IfSome result (λ units. client.old.handle.value ≡ Some units.value) }
     ensures none { IfNone result (client.old.handle.value ≡ None) }
     ensures closed { IfSome result (λ units. client.new.handle.value ≡ None) }

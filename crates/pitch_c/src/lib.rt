@@ -4,6 +4,7 @@
 mod asking;
 mod codes;
 mod handle;
+mod lists;
 mod reports;
 
 ghost use Rattle.std.specs.Prelude.{◌≡◌, ◌≤◌, IfErr, IfNone, IfOk, IfSome, None, []};
@@ -16,17 +17,18 @@ ghost use Rattle.pitch_c.specs.Codes as code;
 ghost use Rattle.pitch_c.specs.Answers.{Answers, hold_code, judged_code, client_code, side_code};
 ghost use Rattle.pitch_c.specs.Answers.{MayTakeMemory};
 ghost use Rattle.pitch_c.specs.Clients.{HasHeard, StillHave, HearFirst};
-ghost use Rattle.pitch_c.specs.Clients.{TellStatus, TellBest, TellOrder};
+ghost use Rattle.pitch_c.specs.Clients.{TellStatus, TellBest, TellOrder, TellOrders, TellStates};
 
 use crate::asking::{hear_first, reserve_for, tell_best, tell_order, tell_status};
 use crate::codes::{ABI, BAD_HOLD, CLOSED, IS_OPEN, NO_MEMORY, OK};
 use crate::handle::{Client, opened, take};
-use crate::reports::{BestOut, HeardOut, OrderOut, StatusOut};
+use crate::lists::{tell_orders, tell_states};
+use crate::reports::{BestOut, HeardOut, OrderOut, StateOut, StatusOut};
+use best_quotes::LeveledUnits;
 use std::alloc::Global;
-use unit_clients::Units;
 
 // Boxes new clients.
-fn boxed(alloc: Global, hold: u32) -> Result<Box<Units>, u32>
+fn boxed(alloc: Global, hold: u32) -> Result<Box<LeveledUnits>, u32>
     ensures heard { IfOk result (λ units. HaveHeard units.value []) }
     ensures ok { IfOk result (λ units. hold_code hold ≡ code.ok) }
     ensures answer { IfErr result (λ n. Answers (hold_code hold) n) }
@@ -35,7 +37,7 @@ fn boxed(alloc: Global, hold: u32) -> Result<Box<Units>, u32>
     if hold == 0 || hold > 65536 {
         return Err(BAD_HOLD);
     }
-    let Ok(units) = Units::make(alloc, hold) else {
+    let Ok(units) = LeveledUnits::make(alloc, hold) else {
         return Err(NO_MEMORY);
     };
     match Box::new(alloc, units) {
@@ -199,6 +201,57 @@ pub extern "C" fn pitch_c_order(
         return CLOSED;
     };
     let code = tell_order(&units, unit, id, told);
+    *client = opened(units);
+    code
+}
+
+/// The open orders of a unit by rising id: as many as fit, and how many there are.
+#[unsafe(no_mangle)]
+pub extern "C" fn pitch_c_orders(
+    alloc: Global,
+    client: &mut Client,
+    unit: u32,
+    told: &mut [OrderOut],
+    number: &mut u64,
+) -> u32
+    ensures orders { result ≡ code.ok → IsSomeAnd client.old.handle.value
+        (λ units. TellOrders units unit told.old told.new number.new) }
+    ensures kept { 1 ≤ result → (told.new ≡ told.old) × (number.new ≡ number.old) }
+    ensures same { client.new.handle.value ≡ client.old.handle.value }
+    ensures closed { IfNone client.old.handle.value (result ≡ code.closed) }
+    ensures answer { IfSome client.old.handle.value
+        (λ units. Answers (client_code (client_of units unit)) result) }
+{
+    let Some(units) = take(alloc, client) else {
+        return CLOSED;
+    };
+    let code = tell_orders(alloc, &units, unit, told, number);
+    *client = opened(units);
+    code
+}
+
+/// The trading statuses of a unit by rising bytes of their symbols: as many as fit, and how many
+/// there are.
+#[unsafe(no_mangle)]
+pub extern "C" fn pitch_c_states(
+    alloc: Global,
+    client: &mut Client,
+    unit: u32,
+    told: &mut [StateOut],
+    number: &mut u64,
+) -> u32
+    ensures states { result ≡ code.ok → IsSomeAnd client.old.handle.value
+        (λ units. TellStates units unit told.old told.new number.new) }
+    ensures kept { 1 ≤ result → (told.new ≡ told.old) × (number.new ≡ number.old) }
+    ensures same { client.new.handle.value ≡ client.old.handle.value }
+    ensures closed { IfNone client.old.handle.value (result ≡ code.closed) }
+    ensures answer { IfSome client.old.handle.value
+        (λ units. Answers (client_code (client_of units unit)) result) }
+{
+    let Some(units) = take(alloc, client) else {
+        return CLOSED;
+    };
+    let code = tell_states(alloc, &units, unit, told, number);
     *client = opened(units);
     code
 }

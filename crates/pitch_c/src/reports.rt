@@ -2,10 +2,11 @@
 
 ghost use Rattle.std.specs.Prelude.{◌≡◌};
 ghost use Rattle.pitch_c.specs.Reports.{status_shown, best_shown, heard_shown, order_shown};
+ghost use Rattle.pitch_c.specs.Reports.{state_shown};
 
 use heard_items::Change;
 use pitch_fields::Price;
-use pitch_messages::Order;
+use pitch_messages::{Order, TradingState};
 use pitch_model::Status;
 use unit_packets::Header;
 
@@ -42,6 +43,16 @@ pub struct OrderOut {
     pub side: u32,
     pub symbol: [u8; 8],
     pub spare: [u64; 3],
+}
+
+/// The trading status of a symbol: the two bytes of its message.
+#[repr(C)]
+#[derive(Clone, Copy)]
+pub struct StateOut {
+    pub symbol: [u8; 8],
+    pub halt: u32,
+    pub sho: u32,
+    pub spare: [u64; 2],
 }
 
 /// What was heard: the bytes that the block has, its header, how many of its messages were new, how
@@ -125,6 +136,17 @@ pub(crate) fn order_out(order: Option<Order>) -> OrderOut
             symbol: order.symbol.bytes(),
             spare: [0; 3],
         },
+    }
+}
+
+pub(crate) fn state_out(state: TradingState) -> StateOut
+    ensures { result ≡ state_shown state }
+{
+    StateOut {
+        symbol: state.symbol.bytes(),
+        halt: u32::from(state.halt),
+        sho: u32::from(state.sho),
+        spare: [0; 2],
     }
 }
 

@@ -5,22 +5,15 @@ use Rattle.pitch_model.specs.Levels.{best}
 use Rattle.heard_items.specs.Units.{unit_history}
 use Rattle.pitch_c.specs.Clients.{OfReachedBook, reached_book}
 use Rattle.pitch_c.specs.Reports.{best_shown}
-use Rattle.unit_clients.specs.Clients.{client_of}
-use Rattle.pitch_c.specs.Answers.{client_code, side_code}
-use Rattle.pitch_c.proofs.Answering.{client_is}
 use Rattle.pitch_c.proofs.Telling.{tracks_there, keeps_there}
 use Rattle.pitch_c.proofs.asking.tell_best.Goals as goal
 
-pub returns-in-Some-find : goal.returns-in-Some-find
-returns-in-Some-find c = record {
-  best = λ zero. subst
-      (λ (o : Option Side). IsSomeAnd o (λ s. OfReachedBook c.args.units.now c.args.unit (λ book. c.best_out.result ≡ best_shown (best book c.args.symbol.now s))))
-      (sym c.in-Some.is ∙ c.from_byte.ensures)
-      (λ before Image Vs h honest. c.best_out.ensures ∙ ap best_shown
-      (c.best_price.ensures c.args.units.now.limit (unit_history c.args.unit before) (Vs c.args.unit)
-      (tracks_there c.args.units.now c.args.unit c.in-Some-find.client.now c.in-Some-find.ensures.there before h)
-      (keeps_there c.args.units.now c.args.unit c.in-Some-find.client.now c.in-Some-find.ensures.there before h Image Vs honest)
-      ∙ ap (λ (symbol : List ℕ). best (reached_book c.args.units.now c.args.unit before Vs) symbol c.in-Some.side) c.from_eight.ensures));
-  answer = sym (client_is c.args.units.now c.args.unit c.in-Some-find.client.now c.in-Some-find.ensures.there)
-      ∙ ap (λ (o : Option Side). side_code o (client_code (client_of c.args.units.now c.args.unit))) (sym c.in-Some.is ∙ c.from_byte.ensures);
-}
+pub returns-in-Some-unit-clause-best : goal.returns-in-Some-unit-clause-best
+returns-in-Some-unit-clause-best c zero =
+    subst (λ (o : Option Side). IsSomeAnd o (λ s. OfReachedBook c.args.units.now c.args.unit (λ book. c.best_out.result ≡ best_shown (best book c.args.symbol.now s))))
+    (sym c.in-Some.is ∙ c.from_byte.ensures)
+    (λ before Image Vs h honest. c.best_out.ensures ∙ ap best_shown
+    (c.best_price.ensures c.args.units.now.limit (unit_history c.args.unit before) (Vs c.args.unit)
+    (tracks_there c.args.units.now c.args.unit c.in-Some-unit.client.now c.in-Some-unit.ensures.there before h)
+    (keeps_there c.args.units.now c.args.unit c.in-Some-unit.client.now c.in-Some-unit.ensures.there before h Image Vs honest)
+    ∙ ap (λ (symbol : List ℕ). best (reached_book c.args.units.now c.args.unit before Vs) symbol c.in-Some.side) c.from_eight.ensures))

@@ -1,5 +1,7 @@
-use Rattle.std.proofs.Common.{ap, sym, ◌∙◌}
+use Rattle.std.proofs.Common.{ap, sym, ◌∙◌, subst}
 use Rattle.heard_items.specs.Units.{unit_history}
+use Rattle.client_core.specs.Tracks.{Tracks}
+use Rattle.client_core.specs.declared.client.UnitClient.{UnitClient}
 use Rattle.pitch_c.specs.Reports.{status_shown}
 use Rattle.pitch_c.proofs.Answering.{client_is}
 use Rattle.pitch_c.proofs.Telling.{tracks_there}
@@ -9,6 +11,7 @@ pub returns-in-Some : goal.returns-in-Some
 returns-in-Some c = record {
   status = λ zero before h. c.status_out.ensures ∙ ap status_shown
       (c.status.ensures c.args.units.now.limit (unit_history c.args.unit before)
-      (tracks_there c.args.units.now c.args.unit c.in-Some.client.now c.in-Some.ensures.there before h));
+      (subst (λ (client : UnitClient). Tracks client c.args.units.now.limit (unit_history c.args.unit before)) (sym c.client.ensures)
+      (tracks_there c.args.units.now c.args.unit c.in-Some.client.now c.in-Some.ensures.there before h)));
   answer = sym (client_is c.args.units.now c.args.unit c.in-Some.client.now c.in-Some.ensures.there);
 }

@@ -1,0 +1,19 @@
+use Rattle.std.proofs.Common.{length, Some, sym, ap, ◌∙◌}
+use Rattle.pitch_messages.specs.declared.order.Order.{Order}
+use Rattle.pitch_model.specs.Levels.{orders_of}
+use Rattle.heard_items.specs.Units.{unit_history}
+use Rattle.pitch_c.specs.Clients.{reached_book}
+use Rattle.pitch_c.specs.Reports.{order_shown}
+use Rattle.pitch_c.proofs.Filling.{fills_list}
+use Rattle.pitch_c.proofs.Telling.{tracks_there, keeps_there}
+use Rattle.pitch_c.proofs.lists.tell_orders.Goals as goal
+
+pub returns-in-Ok-clause-orders : goal.returns-in-Ok-clause-orders
+returns-in-Ok-clause-orders c zero before Image Vs h honest =
+    let units = c.args.units.now in
+    let unit = c.args.unit in
+    let client = c.in-Some.client.now in
+    let there = c.in-Some.ensures.there in
+    let are = c.in-Ok.ensures units.limit (unit_history unit before) (Vs unit) (tracks_there units unit client there before h) (keeps_there units unit client there before h Image Vs honest) in
+    fills_list (λ (order : Order). order_shown (Some order)) (orders_of (reached_book units unit before Vs)) c.as_slice.result.now c.args.told.now c.fill_orders.new.told c.len.result
+    (c.as_slice.ensures ∙ are) c.fill_orders.ensures (c.len.ensures ∙ ap length (sym c.as_slice.ensures))
