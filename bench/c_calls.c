@@ -40,7 +40,7 @@ int main(int argc, char **argv) {
     rewind(file);
     bytes = malloc(len + 1);
     if (!bytes || fread(bytes, 1, len, file) != len) return 2;
-    if (pitch_open(&client, 4096) != PITCH_OK) return 3;
+    if (pitch_open(&client, 4096, argc < 3) != PITCH_OK) return 3;
     double begun = now();
     for (at = 0; at < len && pitch_hear(&client, bytes + at, len - at, &heard) == PITCH_OK;) {
         at += heard.used;

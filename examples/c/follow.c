@@ -47,7 +47,7 @@ int main(int argc, char **argv) {
     pitch_client client = PITCH_CLIENT_INIT;
     pitch_heard_out told;
     pitch_status_out status;
-    uint32_t code = pitch_open(&client, 4096);
+    uint32_t code = pitch_open(&client, 4096, 1);
     if (code != PITCH_OK) return failed("open", code);
     while ((count = fread(buffer + have, 1, piece, stdin)) > 0) {
         have += count;

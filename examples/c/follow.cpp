@@ -10,7 +10,7 @@
 
 class Client {
 public:
-    explicit Client(uint32_t hold) { must(pitch_open(&raw_, hold)); }
+    explicit Client(uint32_t hold) { must(pitch_open(&raw_, hold, 1)); }
     ~Client() { pitch_close(&raw_); }
     Client(const Client &) = delete;
     Client &operator=(const Client &) = delete;

@@ -4,7 +4,7 @@ use pitch_client::{Client, Order, TRUNCATED};
 use std::io::Read;
 
 fn main() {
-    let mut client = Client::open(4096).expect("open");
+    let mut client = Client::open(4096, true).expect("open");
     let (mut rest, mut piece) = (Vec::new(), vec![0u8; 65536]);
     loop {
         let count = std::io::stdin().read(&mut piece).expect("read");

@@ -32,11 +32,11 @@ int main(int argc, char **argv) {
     if (pitch_orders(&c, 1, os, 3, &n) != PITCH_CLOSED || pitch_states(&c, 1, st, 2, &n) != PITCH_CLOSED) return 40;
     pitch_close(&c);
     /* the hold */
-    if (pitch_open(&c, 0) != PITCH_BAD_HOLD) return 4;
-    if (pitch_open(&c, 65537) != PITCH_BAD_HOLD) return 5;
-    if (pitch_open(&c, 0xffffffffu) != PITCH_BAD_HOLD) return 6;
-    if (pitch_open(&c, 16) != PITCH_OK) return 7;
-    if (pitch_open(&c, 16) != PITCH_IS_OPEN) return 8;
+    if (pitch_open(&c, 0, 1) != PITCH_BAD_HOLD) return 4;
+    if (pitch_open(&c, 65537, 1) != PITCH_BAD_HOLD) return 5;
+    if (pitch_open(&c, 0xffffffffu, 1) != PITCH_BAD_HOLD) return 6;
+    if (pitch_open(&c, 16, 1) != PITCH_OK) return 7;
+    if (pitch_open(&c, 16, 1) != PITCH_IS_OPEN) return 8;
     /* no unit yet; units that no header can name; sides */
     if (pitch_status(&c, 1, &s) != PITCH_NO_CLIENT) return 9;
     if (pitch_status(&c, 256, &s) != PITCH_NO_CLIENT) return 10;
@@ -75,7 +75,7 @@ int main(int argc, char **argv) {
     if (pitch_hear(&c, NULL, 0, &h) != PITCH_TRUNCATED) return 15;
     /* nulls, and a length that no memory has */
     if (pitch_hear(&c, NULL, 1, &h) != PITCH_NULL || pitch_hear(NULL, sym, 8, &h) != PITCH_NULL) return 16;
-    if (pitch_hear(&c, sym, 8, NULL) != PITCH_NULL || pitch_open(NULL, 1) != PITCH_NULL) return 17;
+    if (pitch_hear(&c, sym, 8, NULL) != PITCH_NULL || pitch_open(NULL, 1, 1) != PITCH_NULL) return 17;
     if (pitch_status(&c, 1, NULL) != PITCH_NULL || pitch_best(&c, 1, NULL, 'B', &b) != PITCH_NULL) return 18;
     if (pitch_order(&c, 1, 1, NULL) != PITCH_NULL || pitch_reserve(NULL, 1, 1) != PITCH_NULL) return 37;
     if (pitch_orders(&c, 1, NULL, 1, &n) != PITCH_NULL || pitch_orders(&c, 1, os, 3, NULL) != PITCH_NULL) return 38;
@@ -126,7 +126,7 @@ int main(int argc, char **argv) {
     pitch_close(&c);
     pitch_close(&c);
     if (pitch_hear(&c, sym, 8, &h) != PITCH_CLOSED) return 30;
-    if (pitch_open(&c, 65536) != PITCH_OK) return 31;
+    if (pitch_open(&c, 65536, 1) != PITCH_OK) return 31;
     pitch_close(&c);
     return 0;
 }

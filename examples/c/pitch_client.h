@@ -97,7 +97,7 @@ typedef struct pitch_heard_out {
 /* ---- The library's own functions, which test nothing that C must keep anyway: no pointer is null,
  * also where a length is 0, and no array has more bytes than PTRDIFF_MAX. Bindings may call them. */
 uint32_t pitch_c_abi(void);
-uint32_t pitch_c_open(pitch_client *client, uint32_t hold);
+uint32_t pitch_c_open(pitch_client *client, uint32_t hold, uint32_t levels);
 void pitch_c_close(pitch_client *client);
 uint32_t pitch_c_hear(pitch_client *client, const uint8_t *bytes, size_t len, pitch_heard_out *told);
 uint32_t pitch_c_reserve(pitch_client *client, uint32_t unit, uint32_t messages);
@@ -113,11 +113,12 @@ uint32_t pitch_c_states(pitch_client *client, uint32_t unit, pitch_state_out *to
 /* ---- The functions for C */
 
 /* Opens a closed client. Each unit will hold at most `hold` messages, from 1 to 65,536, while one
- * before them is missing. */
-static inline uint32_t pitch_open(pitch_client *client, uint32_t hold) {
+ * before them is missing. Where `levels` is not 0, price levels are kept beside each book, so that
+ * best prices are looked up; hearing a message then takes some five times as long. */
+static inline uint32_t pitch_open(pitch_client *client, uint32_t hold, uint32_t levels) {
     if (!client) return PITCH_NULL;
     if (pitch_c_abi() != PITCH_ABI) return PITCH_OTHER_ABI;
-    return pitch_c_open(client, hold);
+    return pitch_c_open(client, hold, levels);
 }
 
 /* Closes a client and frees what it has. A closed one stays closed. */
@@ -156,8 +157,8 @@ static inline uint32_t pitch_status(pitch_client *client, uint32_t unit, pitch_s
 }
 
 /* The best price of a symbol, of eight bytes with spaces at its end, on a side, 'B' or 'S', in a
- * unit's book. It is looked up, unless memory for the unit's price levels ran out: then it goes
- * through all open orders of the unit. */
+ * unit's book. It is looked up where levels are kept, unless memory for those of the unit ran out.
+ * Otherwise it goes through all open orders of the unit. */
 static inline uint32_t pitch_best(pitch_client *client, uint32_t unit, const uint8_t symbol[8],
                                   uint8_t side, pitch_best_out *told) {
     if (!client || !symbol || !told) return PITCH_NULL;

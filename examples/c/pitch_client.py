@@ -45,7 +45,7 @@ def of(kind):
 BYTES = ctypes.c_char_p
 CALLS = {
     "pitch_c_abi": ([], U32),
-    "pitch_c_open": ([of(Raw), U32], U32),
+    "pitch_c_open": ([of(Raw), U32, U32], U32),
     "pitch_c_close": ([of(Raw)], None),
     "pitch_c_hear": ([of(Raw), BYTES, SIZE, of(Heard)], U32),
     "pitch_c_reserve": ([of(Raw), U32, U32], U32),
@@ -66,7 +66,7 @@ class PitchError(Exception):
 class Client:
     """The clients of all units of a feed, for one thread at a time."""
 
-    def __init__(self, library, hold=4096):
+    def __init__(self, library, hold=4096, levels=True):
         self.raw = Raw()
         self.lib = ctypes.CDLL(library)
         for name, (given, told) in CALLS.items():
@@ -74,7 +74,7 @@ class Client:
             getattr(self.lib, name).restype = told
         if self.lib.pitch_c_abi() != 2:
             raise PitchError(OTHER_ABI)
-        self._ask("open", hold)
+        self._ask("open", hold, levels)
 
     def _ask(self, name, *given):
         code = getattr(self.lib, "pitch_c_" + name)(self.raw, *given)

@@ -64,7 +64,7 @@ pub struct Heard {
 
 unsafe extern "C" {
     fn pitch_c_abi() -> u32;
-    fn pitch_c_open(client: *mut Raw, hold: u32) -> u32;
+    fn pitch_c_open(client: *mut Raw, hold: u32, levels: u32) -> u32;
     fn pitch_c_close(client: *mut Raw);
     fn pitch_c_hear(client: *mut Raw, bytes: *const u8, len: usize, told: *mut Heard) -> u32;
     fn pitch_c_reserve(client: *mut Raw, unit: u32, messages: u32) -> u32;
@@ -115,14 +115,15 @@ unsafe impl Send for Client {}
 
 // The library marks a client closed while it reads it, so asking takes a `&mut`.
 impl Client {
-    pub fn open(hold: u32) -> Result<Client, Code> {
+    /// Price levels are kept where best prices are to be looked up.
+    pub fn open(hold: u32, levels: bool) -> Result<Client, Code> {
         let mut raw = Raw { at: std::ptr::null_mut(), mark: 0 };
         // SAFETY: it takes nothing.
         if unsafe { pitch_c_abi() } != 2 {
             return Err(OTHER_ABI);
         }
         // SAFETY: a closed client, which nothing else refers to.
-        answered(unsafe { pitch_c_open(&mut raw, hold) })?;
+        answered(unsafe { pitch_c_open(&mut raw, hold, levels.into()) })?;
         Ok(Client { raw })
     }
 

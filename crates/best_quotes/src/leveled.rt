@@ -1,7 +1,7 @@
 //! A client with the price levels of its book beside it, for best prices at any time.
 
 ghost use Rattle.std.specs.Prelude.{◌≡◌, ◌≤◌, ◌+◌, ℕ, List, [], OnOk, OnErr, IfOk, IsOk, length};
-ghost use Rattle.std.specs.Prelude.{fold};
+ghost use Rattle.std.specs.Prelude.{fold, IfSome};
 ghost use Rattle.pitch_fields.specs.Limits.{most_held};
 ghost use Rattle.pitch_model.specs.Book.{Book, IsBook, after};
 ghost use Rattle.pitch_model.specs.History.{Raw};
@@ -27,8 +27,8 @@ use unit_packets::BlockView;
 
 /// A client of one unit with the open shares of its book by symbol, side and price, in order.
 ///
-/// It stands for whatever its client stands for. Where memory for the levels runs out they go, and
-/// from then on a best price is looked for among all open orders.
+/// It stands for whatever its client stands for. Levels are kept where they were asked for, and go
+/// where memory for them runs out; without them a best price is looked for among all open orders.
 #[derive(Drop)]
 pub struct LeveledUnit {
     alloc: Global,
@@ -52,6 +52,17 @@ impl Model for LeveledUnit {
     ghost view = { λ u. u.client };
 
     ghost invariant = { λ u. AreLevels u.levels (current_book u.client) };
+}
+
+// Empty levels, where any are to be kept. They take no memory.
+fn first_levels(alloc: Global, leveled: bool) -> Option<Levels>
+    ensures { IfSome result (λ levels. levels.entries ≡ []) }
+{
+    if leveled {
+        Some(IndexMap::new(alloc))
+    } else {
+        None
+    }
 }
 
 // Hands a block to a client.
@@ -135,7 +146,8 @@ fn hear_followed(
     Ok(change)
 }
 
-// Hands a block to a client, and turns the levels of its book, where there is memory for that.
+// Hands a block to a client, and turns the levels of its book, where there are any and there is
+// memory for that.
 fn hear(
     alloc: Global,
     client: &mut UnitClient,
@@ -153,6 +165,9 @@ fn hear(
     ensures memory { HearsFreely client.old block.now → IsOk result }
     ensures room { OnOk result (KeepsRoom client.old client.new (length block.now.raws)) }
 {
+    if levels.is_none() {
+        return hear_alone(client, block);
+    }
     let wanted = block.header().count as usize + client.held() as usize;
     match turns.reserve(wanted) {
         Ok(()) => hear_followed(alloc, client, levels, turns, lines, block),
@@ -164,9 +179,9 @@ fn hear(
 }
 
 impl LeveledUnit {
-    /// A unit that has heard nothing. Its client will hold at most `limit` messages, from 1 to
-    /// 65,536.
-    pub fn make(alloc: Global, limit: u32) -> Result<LeveledUnit, OutOfMemory>
+    /// A unit that has heard nothing, with levels where it is `leveled`. Its client will hold at
+    /// most `limit` messages, from 1 to 65,536.
+    pub fn make(alloc: Global, limit: u32, leveled: bool) -> Result<LeveledUnit, OutOfMemory>
         requires { (1 ≤ limit) × (limit ≤ most_held) }
         ensures tracks { IfOk result (λ unit. Tracks unit limit []) }
         // What it has heard, which is nothing, is of every venue.
@@ -176,7 +191,7 @@ impl LeveledUnit {
         Ok(LeveledUnit {
             alloc,
             client,
-            levels: Some(IndexMap::new(alloc)),
+            levels: first_levels(alloc, leveled),
             turns: TurnList::make(alloc),
             lines: QuoteLines::make(alloc),
         })

@@ -28,6 +28,8 @@ use unit_packets::BlockView;
 #[derive(Drop)]
 pub struct LeveledUnits {
     units: UnitTable<LeveledUnit>,
+    // whether levels are kept
+    leveled: bool,
 }
 
 impl Model for LeveledUnits {
@@ -47,6 +49,7 @@ impl Model for LeveledUnits {
 fn hear_at(
     alloc: Global,
     limit: u32,
+    leveled: bool,
     slot: &mut Option<LeveledUnit>,
     block: &BlockView<'_>,
 ) -> Result<Change, OutOfMemory>
@@ -69,7 +72,7 @@ fn hear_at(
     match slot {
         Some(unit) => unit.hear(block),
         None => {
-            let mut unit = LeveledUnit::make(alloc, limit)?;
+            let mut unit = LeveledUnit::make(alloc, limit, leveled)?;
             // It is dropped by calls: a function that drops one itself takes long to prove.
             match unit.hear(block) {
                 Ok(change) => {
@@ -98,14 +101,15 @@ fn reserve_at(slot: &mut Option<LeveledUnit>, messages: u32) -> Result<(), OutOf
 }
 
 impl LeveledUnits {
-    /// No unit has a client yet. Each will hold at most `limit` messages, from 1 to 65,536.
-    pub fn make(alloc: Global, limit: u32) -> Result<LeveledUnits, OutOfMemory>
+    /// No unit has a client yet. Each will hold at most `limit` messages, from 1 to 65,536, and have
+    /// levels where they are `leveled`.
+    pub fn make(alloc: Global, limit: u32, leveled: bool) -> Result<LeveledUnits, OutOfMemory>
         requires { (1 ≤ limit) × (limit ≤ most_held) }
         ensures limit { IfOk result (λ units. units.limit ≡ limit) }
         ensures heard { IfOk result (λ units. HaveHeard units []) }
     {
         let units = UnitTable::make(alloc, limit)?;
-        Ok(LeveledUnits { units })
+        Ok(LeveledUnits { units, leveled })
     }
 
     /// Hands a block to the client of its unit, and answers what it changed there.
@@ -134,7 +138,8 @@ impl LeveledUnits {
         ensures room { OnOk result (KeepRoom self.old self.new block.now) }
     {
         let limit = self.units.limit();
-        let change = hear_at(alloc, limit, self.units.place_of(block), block)?;
+        let leveled = self.leveled;
+        let change = hear_at(alloc, limit, leveled, self.units.place_of(block), block)?;
         Ok(change)
     }
 

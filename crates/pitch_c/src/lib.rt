@@ -28,7 +28,7 @@ use best_quotes::LeveledUnits;
 use std::alloc::Global;
 
 // Boxes new clients.
-fn boxed(alloc: Global, hold: u32) -> Result<Box<LeveledUnits>, u32>
+fn boxed(alloc: Global, hold: u32, levels: bool) -> Result<Box<LeveledUnits>, u32>
     ensures heard { IfOk result (λ units. HaveHeard units.value []) }
     ensures ok { IfOk result (λ units. hold_code hold ≡ code.ok) }
     ensures answer { IfErr result (λ n. Answers (hold_code hold) n) }
@@ -37,7 +37,7 @@ fn boxed(alloc: Global, hold: u32) -> Result<Box<LeveledUnits>, u32>
     if hold == 0 || hold > 65536 {
         return Err(BAD_HOLD);
     }
-    let Ok(units) = LeveledUnits::make(alloc, hold) else {
+    let Ok(units) = LeveledUnits::make(alloc, hold, levels) else {
         return Err(NO_MEMORY);
     };
     match Box::new(alloc, units) {
@@ -54,9 +54,10 @@ pub extern "C" fn pitch_c_abi() -> u32
     ABI
 }
 
-/// Opens a client that is closed. Each unit will hold at most `hold` messages, from 1 to 65,536.
+/// Opens a client that is closed. Each unit will hold at most `hold` messages, from 1 to 65,536, and
+/// have price levels where `levels` is not 0.
 #[unsafe(no_mangle)]
-pub extern "C" fn pitch_c_open(alloc: Global, client: &mut Client, hold: u32) -> u32
+pub extern "C" fn pitch_c_open(alloc: Global, client: &mut Client, hold: u32, levels: u32) -> u32
     ensures heard { result ≡ code.ok → HasHeard client.new.handle.value [] }
     ensures same { 1 ≤ result → client.new.handle.value ≡ client.old.handle.value }
     ensures is_open { IfSome client.old.handle.value (λ units. result ≡ code.is_open) }
@@ -66,7 +67,7 @@ pub extern "C" fn pitch_c_open(alloc: Global, client: &mut Client, hold: u32) ->
         *client = opened(units);
         return IS_OPEN;
     }
-    match boxed(alloc, hold) {
+    match boxed(alloc, hold, levels != 0) {
         Ok(units) => {
             *client = opened(units);
             OK
