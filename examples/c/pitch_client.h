@@ -114,7 +114,7 @@ uint32_t pitch_c_states(pitch_client *client, uint32_t unit, pitch_state_out *to
 
 /* Opens a closed client. Each unit will hold at most `hold` messages, from 1 to 65,536, while one
  * before them is missing. Where `levels` is not 0, price levels are kept beside each book, so that
- * best prices are looked up; hearing a message then takes some five times as long. */
+ * best prices are looked up; hearing a message then takes some four times as long. */
 static inline uint32_t pitch_open(pitch_client *client, uint32_t hold, uint32_t levels) {
     if (!client) return PITCH_NULL;
     if (pitch_c_abi() != PITCH_ABI) return PITCH_OTHER_ABI;

@@ -101,8 +101,8 @@ fn reserve_at(slot: &mut Option<LeveledUnit>, messages: u32) -> Result<(), OutOf
 }
 
 impl LeveledUnits {
-    /// No unit has a client yet. Each will hold at most `limit` messages, from 1 to 65,536, and have
-    /// levels where they are `leveled`.
+    /// No unit has a client yet. Each will hold at most `limit` messages, from 1 to 65,536, and
+    /// have levels where they are `leveled`.
     pub fn make(alloc: Global, limit: u32, leveled: bool) -> Result<LeveledUnits, OutOfMemory>
         requires { (1 ≤ limit) × (limit ≤ most_held) }
         ensures limit { IfOk result (λ units. units.limit ≡ limit) }

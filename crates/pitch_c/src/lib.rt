@@ -54,8 +54,8 @@ pub extern "C" fn pitch_c_abi() -> u32
     ABI
 }
 
-/// Opens a client that is closed. Each unit will hold at most `hold` messages, from 1 to 65,536, and
-/// have price levels where `levels` is not 0.
+/// Opens a client that is closed. Each unit will hold at most `hold` messages, from 1 to 65,536,
+/// and have price levels where `levels` is not 0.
 #[unsafe(no_mangle)]
 pub extern "C" fn pitch_c_open(alloc: Global, client: &mut Client, hold: u32, levels: u32) -> u32
     ensures heard { result ≡ code.ok → HasHeard client.new.handle.value [] }
