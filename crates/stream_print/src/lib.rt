@@ -27,8 +27,11 @@ mod stream_form;
 mod task;
 
 pub use crate::carrier::Carrier;
-pub use crate::failure::{StreamFailure, StreamTrouble};
+pub use crate::failure::{PrintError, StreamFailure, StreamTrouble};
+pub use crate::page::Page;
 pub use crate::pieces::{PIECE, piece_buffer, take_at_most};
+pub use crate::printer::Printer;
 pub use crate::putting::{PutFailed, put_all};
 pub use crate::stream::{INPUT_LIMIT, print_stream};
 pub use crate::stream_form::StreamForm;
+pub use crate::task::Task;

@@ -21,8 +21,8 @@ pub struct Printer {
 }
 
 impl Printer {
-    ghost use Rattle.std.specs.Prelude.{◌≡◌, ◌≢◌, ◌<◌, ◌+◌, ◌^◌, [], ◌∷◌, List, OnOk, OnErr, IfOk};
-    ghost use Rattle.std.specs.Prelude.{IfErr, Err};
+    ghost use Rattle.std.specs.Prelude.{◌≡◌, ◌≢◌, ◌<◌, ◌+◌, ◌-◌, ◌^◌, [], ◌∷◌, List, OnOk, OnErr};
+    ghost use Rattle.std.specs.Prelude.{IfOk, IfErr, Err};
     ghost use Rattle.unit_packets.specs.Blocks.{Block};
     ghost use Rattle.stream_print.specs.Sinks.{PagePrintsSuch, PutsPrefixSuch, CountsFault};
     ghost use Rattle.stream_print.specs.Holding.{CanHold};
@@ -51,7 +51,7 @@ impl Printer {
         block: &BlockView<'_>,
         out: &mut O,
     ) -> Result<(), PrintError>
-        requires few { self.old.number < 2 ^ 32 }
+        requires few { self.old.number < 2 ^ 64 - 1 }
         ensures prints { OnOk result (
             PrintsBlocks self.old self.new (O.written out.old) (O.written out.new)
             (block.now ∷ [])) }
