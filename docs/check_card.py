@@ -55,7 +55,7 @@ def send_all():
     print("ready", flush=True)
     for line in sys.stdin:
         group, port, data = line.rstrip("\n").split(" ")
-        one.setsockopt(socket.IPPROTO_IP, socket.IP_MULTICAST_IF, socket.inet_aton("10.0.0.1"))
+        one.setsockopt(socket.IPPROTO_IP, socket.IP_MULTICAST_IF, socket.inet_aton("10.0.0.2"))
         one.sendto(bytes.fromhex(data), (group, int(port)))
         time.sleep(0.002)
 
@@ -77,7 +77,7 @@ def lay_cable():
     call("ip", "link", "add", "eth1", "type", "veth", "peer", "name", "eth2", "netns", str(far.pid))
     call("ip", "addr", "add", "10.0.0.5/24", "dev", "eth1")
     call("ip", "link", "set", "eth1", "up")
-    call(*there, "ip", "addr", "add", "10.0.0.1/24", "dev", "eth2")
+    call(*there, "ip", "addr", "add", "10.0.0.2/24", "dev", "eth2")
     call(*there, "ip", "link", "set", "eth2", "up")
     return far
 
@@ -257,15 +257,45 @@ class Try:
         self.hold("status", self.terminal.ended, 0)
         self.hold_books(self.terminal.text)
 
+    def replayed_capture(self):
+        """tcpreplay of a storm at the card, and listen.py at the far end."""
+        make = "examples/desk/storm_feed.py ./pitch 1 1 2000 --filled --pcap > storm.pcap"
+        subprocess.run(["bash", "-c", make], cwd=self.folder, check=True)
+        with open(self.folder / "storm.pcap", "rb") as capture:
+            wanted = [data for _, _, _, data in desk.datagrams_of(capture)]
+        words = ["nsenter", "-t", str(self.far.pid), "-n", "examples/desk/listen.py", "10.0.0.2"]
+        words += [f"233.218.133.{host}:{port}" for host, port in ((80, 30501), (96, 31501), (112, 32501))]
+        with open(self.folder / "heard", "wb") as heard:
+            listener = subprocess.Popen(words, cwd=self.folder, stdout=heard, stderr=subprocess.DEVNULL)
+        try:
+            there = f"/proc/{listener.pid}/net/igmp"
+            self.terminal.wait_until("the groups", lambda: "7085DAE9" in Path(there).read_text(encoding="ascii"))
+            os.write(self.terminal.end, b"go\n")
+            self.terminal.close(b"")
+            time.sleep(QUIET_SECONDS)
+        finally:
+            listener.terminate()
+            listener.wait()
+        self.hold("status", self.terminal.ended, 0)
+        # Of three sockets the order is not that of the capture.
+        heard = desk.blocks_of((self.folder / "heard").read_bytes())
+        self.hold("all was heard", sorted(heard) == sorted(wanted), True)
+        words = "cmp <(./pitch follow < heard | grep -v ^block)" \
+            " <(./pitch follow --pcap < storm.pcap | grep -v -e ^block -e ^packets)"
+        self.hold("books", subprocess.run(["bash", "-c", words], cwd=self.folder).returncode, 0)
+
     def run(self):
         ways = {"tcpdump": self.live_capture, "dumpcap": self.captured_file, "tail": self.growing_file}
         ways |= {"examples/desk/listen.py": self.joined_groups, "python3": self.socket_as_input}
+        ways["tcpreplay"] = self.replayed_capture
         way = ways.get(self.recipe.split()[0])
         if not way:
             raise Fault("no way to try it is known")
         if way == self.growing_file:
             (self.folder / "growing.pcap").touch()
-        self.terminal = Terminal(self.recipe, self.folder)
+        # A recipe that sends waits for a line, until who is to hear it listens.
+        held = "read -r line; " if way == self.replayed_capture else ""
+        self.terminal = Terminal(held + self.recipe, self.folder)
         try:
             way()
         finally:
@@ -304,7 +334,7 @@ def lacking():
     """What this machine has not, of what the script wants."""
     if os.geteuid() != 0:
         return "root"
-    for name in ("ip", "unshare", "nsenter", "tcpdump", "dumpcap"):
+    for name in ("ip", "unshare", "nsenter", "tcpdump", "dumpcap", "tcpreplay"):
         if not shutil.which(name):
             return name
     if subprocess.run(["unshare", "-m", "-n", "true"], capture_output=True).returncode:

@@ -35,7 +35,7 @@ SECONDS = 600
 # How a command begins that is no example.
 COMMAND = re.compile(
     r"\(?(\./pitch |examples/|docs/|packages/)"
-    r"|(TZ=|tcpdump|tshark|editcap|mergecap|dumpcap|tail|pv|python3|install|sudo|docker|\. <)"
+    r"|(TZ=|tcpdump|tcpreplay|tshark|editcap|mergecap|dumpcap|tail|pv|python3|install|sudo|docker|\. <)"
     r"|\(cd |cc |rustc |\./follow "
 )
 INLINE = re.compile(r"(?<!`)`((?:\./pitch|tcpdump|tshark|editcap|mergecap) [^`]*(?: [|<] | -w - )[^`]*)`")

@@ -259,7 +259,7 @@ def of_plots():
 # ---- Whatever is wrong is one line
 CUT = CAPTURE_HEAD + STRAY[:-3]
 FAULTS = (
-    ('times.py', '', b'', 2),
+    ('times.py', 'x', b'', 2),
     ('times.py', '0', b'', 1),
     ('times.py', '0', contents(SAMPLE), 1),
     ('times.py', '0', b'\x0a\x0d\x0d\x0a' + bytes(40), 1),

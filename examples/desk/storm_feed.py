@@ -70,12 +70,20 @@ def messages(program, number, unit, steps):
         assert place == end
 
 
+def checked(head):
+    """The head of an IP packet with its checksum, without which a host drops it."""
+    total = sum(struct.unpack('>10H', head))
+    while total > 0xffff:
+        total = (total & 0xffff) + (total >> 16)
+    return head[:10] + struct.pack('>H', total ^ 0xffff) + head[12:]
+
+
 def packet(line, data, clock):
     """A record of a capture: a block in a UDP datagram to the line's group and port."""
-    udp = struct.pack('>HHHH', 5000, PORTS[line], 8 + len(data), 0) + data
-    ip = struct.pack('>BBHHHBBH', 0x45, 0, 20 + len(udp), 0, 0, 16, 17, 0)
-    ip += bytes((10, 0, 0, 1, 233, 218, 133, HOSTS[line]))
-    frame = bytes.fromhex('01005e5a85500200000000010800') + ip + udp
+    ip = struct.pack('>BBHHHBBH', 0x45, 0, 28 + len(data), 0, 0, 16, 17, 0)
+    ip = checked(ip + bytes((10, 0, 0, 1, 233, 218, 133, HOSTS[line])))
+    frame = bytes.fromhex('01005e5a85%02x0200000000010800' % HOSTS[line]) + ip
+    frame += struct.pack('>HHHH', 5000, PORTS[line], 8 + len(data), 0) + data
     return struct.pack('<IIII', 1700000000 + clock // 1000000, clock % 1000000, len(frame), len(frame)) + frame
 
 

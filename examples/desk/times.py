@@ -1,12 +1,12 @@
 #!/usr/bin/env python3
 """Prints, for each block that `pitch follow --pcap` numbers, the time of its packet: `K SECONDS`.
 
-    examples/desk/times.py PORT < FILE.pcap
+    examples/desk/times.py [PORT] < FILE.pcap
 
-PORT 0 is any, as where `--port` is left away. Beside the lines of `follow` (in bash):
+Without PORT, or with 0, it is any, as where `--port` is left away. Beside the lines of `follow` (in
+bash):
 
-    paste -d' ' <(examples/desk/times.py 30501 < FILE.pcap) \\
-        <(./pitch follow --pcap --port 30501 < FILE.pcap | grep ^block)
+    paste -d' ' <(examples/desk/times.py < FILE.pcap) <(./pitch follow --pcap < FILE.pcap | grep ^block)
 """
 import sys
 
@@ -15,7 +15,7 @@ from desk import Words, blocks_of, datagrams_of, run
 
 def main():
     words = Words(__doc__)
-    words.add_argument('PORT', type=int)
+    words.add_argument('PORT', type=int, nargs='?', default=0)
     port, number = words.parse_args().PORT, 0
     for (second, nanosecond), _, _, data in datagrams_of(sys.stdin.buffer, [port] if port else []):
         for _ in blocks_of(data):
