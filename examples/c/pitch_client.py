@@ -159,4 +159,9 @@ def main():
 
 
 if __name__ == "__main__":
-    main()
+    if len(sys.argv) != 2:
+        sys.exit("usage: pitch_client.py LIBRARY")
+    try:
+        main()
+    except (PitchError, OSError) as error:
+        sys.exit(f"pitch_client.py: {error}")

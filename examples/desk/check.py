@@ -252,7 +252,7 @@ def of_plots():
     said = 'plot_day.sh: IBM has no row with a time\n'
     yield 'no day', tried(plot, TIMED_HEAD.encode(), PATH=path), (1, b'', said)
     two = CROSSED.replace('006,,1', '006,,2').encode()
-    said = 'plot_day.sh: IBM is in units 1 and 2: take the rows of one\n'
+    said = 'plot_day.sh: IBM is in units 1 and 2: take the rows of one, such as $3 == 1\n'
     yield 'a day of two units', tried(plot, two, PATH=path), (1, b'', said)
 
 

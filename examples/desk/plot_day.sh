@@ -20,7 +20,7 @@ for symbol; do
         function price(field) { return field == "" ? "NaN" : field }
         NR > 1 && $1 != "" && $5 == ENVIRON["symbol"] {
             if (unit != "" && unit != $3) {
-                say("is in units " unit " and " $3 ": take the rows of one")
+                say("is in units " unit " and " $3 ": take the rows of one, such as $3 == " unit)
                 exit failed = 1
             }
             unit = $3
