@@ -1,0 +1,4 @@
+pub mod Due
+pub mod Heard
+pub mod Listening
+pub mod Counting
