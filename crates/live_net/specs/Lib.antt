@@ -1,1 +1,2 @@
 pub mod LineCalls
+pub mod Scripts

@@ -5,6 +5,8 @@
 //! A count of faults rises where a call fails, and in no other.
 #![tactic(auto)]
 
+mod memory_lines;
 mod net;
 
+pub use crate::memory_lines::{LineStep, MemoryLines};
 pub use crate::net::{LineNet, Received, Woken};
