@@ -1,0 +1,41 @@
+//! The input, whose end is the end of a run.
+
+use mio::unix::SourceFd;
+use mio::{Interest, Registry, Token};
+use std::io;
+use std::io::{ErrorKind, Read};
+use std::os::fd::AsRawFd;
+
+/// The token by which a wait tells of the input.
+pub(crate) const INPUT: Token = Token(0);
+
+/// Has the wait tell of the input. A file, or an input that is closed, is never waited for: then
+/// this answers an error, which is no fault.
+pub(crate) fn register_input(input: &impl AsRawFd, registry: &Registry) -> io::Result<()> {
+    let number = input.as_raw_fd();
+    registry.register(&mut SourceFd(&number), INPUT, Interest::READABLE)
+}
+
+// A wait tells of a change alone: what was there before it, as an end that came with the last
+// bytes, is told only where the input is asked for again.
+fn ask_again(input: &impl AsRawFd, registry: &Registry) -> io::Result<()> {
+    let number = input.as_raw_fd();
+    registry.reregister(&mut SourceFd(&number), INPUT, Interest::READABLE)
+}
+
+/// Reads the input once, and passes over what it says. Answers whether it is at its end, which one
+/// that fails is too.
+pub(crate) fn has_ended<I: Read + AsRawFd>(input: &mut I, registry: &Registry) -> io::Result<bool> {
+    let mut said = [0u8; 4_096];
+    let ended = match input.read(&mut said) {
+        Ok(count) => count == 0,
+        Err(error) => match error.kind() {
+            ErrorKind::WouldBlock | ErrorKind::Interrupted => false,
+            _ => true,
+        },
+    };
+    if !ended {
+        ask_again(input, registry)?;
+    }
+    Ok(ended)
+}

@@ -1,0 +1,14 @@
+//! Lines of datagrams over UDP, and one wait for all of them.
+//!
+//! [`LineSockets`] serves a caller that is generic over [`live_net::LineNet`]. Its sockets are
+//! bound here, or were bound, and joined to their groups, by whoever started the program. Its
+//! contract does not follow the bytes. It says that only a call that fails is counted as a fault,
+//! and that a line that is not there fails.
+#![tactic(auto)]
+
+mod input;
+mod port;
+mod sockets;
+
+pub use crate::port::Port;
+pub use crate::sockets::{LineSockets, Trouble};

@@ -1,0 +1,69 @@
+//! Where a line's datagrams come from.
+
+use mio::net::UdpSocket;
+use os::FromRawFd;
+use std::net::{Ipv4Addr, Net, SocketAddr};
+use std::os::fd::AsRawFd;
+use std::{io, net};
+
+/// Where a line's datagrams come from.
+#[derive(Clone, Copy, Debug, PartialEq, Eq)]
+pub enum Port {
+    /// An address of this machine, which is bound here.
+    Bound(SocketAddr),
+    /// A socket that whoever started the program has bound, and joined to its groups, by the number
+    /// of its descriptor.
+    Given(u16),
+}
+
+// How many bytes a receive buffer is asked to have. The system grants at most its own limit.
+const ROOM: u32 = 8_388_608;
+
+// Asks for a receive buffer. Less than was asked for is no fault.
+fn ask_for_room(socket: &UdpSocket) {
+    let mut value = [0u8; 16];
+    value[..4].copy_from_slice(&ROOM.to_le_bytes());
+    let _status = unsafe {
+        libc::net::setsockopt(
+            socket.as_raw_fd(),
+            libc::net::SOL_SOCKET,
+            libc::net::SO_RCVBUF,
+            &value,
+            4,
+        )
+    };
+}
+
+// The socket that was handed in. That its number is no file of another owner's is its giver's word.
+fn take_given(number: u16) -> io::Result<UdpSocket> {
+    let socket = unsafe { net::UdpSocket::from_raw_fd(i32::from(number)) };
+    socket.set_nonblocking(true)?;
+    // What is no socket has no address.
+    socket.local_addr()?;
+    Ok(UdpSocket::from_std(socket))
+}
+
+/// Opens a port.
+pub(crate) fn open_port<R: Net>(rt: &R, port: Port) -> io::Result<UdpSocket> {
+    let socket = match port {
+        Port::Bound(addr) => UdpSocket::bind(rt, addr)?,
+        Port::Given(number) => take_given(number)?,
+    };
+    ask_for_room(&socket);
+    Ok(socket)
+}
+
+/// Takes those of the descriptors 0 to 2 that are free. A socket there would be taken for a
+/// standard stream.
+pub(crate) fn take_low<R: Net>(rt: &R) -> io::Result<[Option<net::UdpSocket>; 3]> {
+    let any_port = SocketAddr::from((Ipv4Addr::LOCALHOST, 0));
+    let mut low = [None, None, None];
+    for place in &mut low {
+        let socket = net::UdpSocket::bind(rt, any_port)?;
+        if socket.as_raw_fd() > 2 {
+            break;
+        }
+        *place = Some(socket);
+    }
+    Ok(low)
+}
