@@ -1,0 +1,34 @@
+//! A number, and a port, in a word.
+
+ghost use Rattle.std.specs.Prelude.{ℕ, IfNone, IfSome};
+ghost use Rattle.pitch_words.specs.Numbers.{IsNumber};
+
+use line_sockets::Port;
+use std::net::SocketAddr;
+
+// The number that the text writes by 1 to 20 digits, where it lies within the range.
+pub(crate) fn number(text: &str, least: u64, most: u64) -> Option<u64>
+    ensures some { IfSome result (λ n. IsNumber least most text.now n) }
+    ensures none { IfNone result ((n : ℕ) → ¬ IsNumber least most text.now n) }
+{
+    let bytes = text.as_bytes();
+    if bytes.len() > 20 || bytes.first() == Some(&b'+') {
+        return None;
+    }
+    match text.parse::<u64>() {
+        Ok(n) if least <= n && n <= most => Some(n),
+        _ => None,
+    }
+}
+
+// The descriptors from here on are no standard streams.
+const FIRST_GIVEN: u64 = 3;
+
+// The port that the text names.
+pub(crate) fn port_of(text: &str) -> Option<Port> {
+    if let Ok(addr) = SocketAddr::parse_ascii(text.as_bytes()) {
+        return Some(Port::Bound(addr));
+    }
+    let number = number(text.strip_prefix("fd:")?, FIRST_GIVEN, u64::from(u16::MAX))?;
+    Some(Port::Given(number as u16))
+}
