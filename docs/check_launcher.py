@@ -1,5 +1,5 @@
 #!/usr/bin/env python3
-"""Tries what the script ./pitch does itself, with stand-ins for the program and for the kit.
+"""Tries what the scripts ./pitch and ./pitch_live do themselves, with stand-ins for program and kit.
 
     docs/check_launcher.py
 
@@ -8,7 +8,7 @@ the first use goes by `rt all check`. Nothing is proved. A case that wants a com
 the path is left out. The last line is `N passed, M failed`; the exit status is 0 only where none
 failed.
 """
-import gzip, os, shutil, subprocess, sys, tempfile
+import gzip, os, shutil, signal, subprocess, sys, tempfile, time
 from pathlib import Path
 
 TOP = Path(__file__).resolve().parent.parent
@@ -27,7 +27,7 @@ if words[0] == 'try':
 elif words[:2] == ['all', 'check']:
     print('== pitch_fields', '== summary', sep='\\n')
 elif words[0] == 'run':
-    shutil.copy(os.environ['STAND_IN'], 'out/pitch')
+    shutil.copy(os.environ['STAND_IN'], 'out/' + os.path.basename(os.getcwd()))
 sys.exit(int(os.environ.get('RT_' + words[0].upper(), '0')))
 '''
 SAMPLE, CAPTURE = 'examples/sample.pitch', 'examples/captures/sample.pcap'
@@ -54,7 +54,8 @@ WORDS = [
 def prepared(folder):
     """A copy of the tree with sources of one crate, and the environment in which rt is the stand-in."""
     tree, kit = folder / 'tree', folder / 'kit'
-    for name in ('pitch', 'README.md', 'crates.txt', 'examples', 'bench', 'crates/pitch/src'):
+    sources = ('crates/pitch/src', 'crates/pitch_live/src')
+    for name in ('pitch', 'pitch_live', 'README.md', 'crates.txt', 'examples', 'bench', *sources):
         copy = shutil.copytree if (TOP / name).is_dir() else shutil.copy
         (tree / name).parent.mkdir(parents=True, exist_ok=True)
         copy(TOP / name, tree / name)
@@ -129,12 +130,33 @@ class Checks:
         done = self.run('pack --help')
         self.hold('help of a command', done.stdout.startswith('  pack --unit U '), done)
 
+    def live(self):
+        """./pitch_live: its input ends by a signal, by the end of a pipe, and not by that of a file."""
+        how = {'cwd': self.tree, 'env': self.environ, 'text': True}
+        done = subprocess.run(['./pitch_live', 'listen'], input='', capture_output=True, **how)
+        self.hold('a first use of pitch_live', (done.returncode, done.stdout) == (0, 'listen: 0\n'), done)
+        how = {**how, 'env': {**self.environ, 'STATUS': '5'}}
+        told = {'stdin': subprocess.PIPE, 'stdout': subprocess.PIPE, 'stderr': subprocess.PIPE}
+        for signum in (signal.SIGINT, signal.SIGTERM):
+            with subprocess.Popen(['./pitch_live', 'listen', '--a', 'X'], **how, **{**told, 'stdin': subprocess.DEVNULL}) as run:
+                time.sleep(3)
+                waits = run.poll() is None
+                run.send_signal(signum)
+                out, err = run.communicate(timeout=20)
+                done = subprocess.CompletedProcess('', run.returncode, out, err)
+                self.hold(f'an end by {signum.name}', waits and (run.returncode, out) == (5, 'listen --a X: 0\n'), done)
+        done = subprocess.run(['./pitch_live', 'listen'], input='four', capture_output=True, **how)
+        self.hold('an end of a pipe', (done.returncode, done.stdout) == (5, 'listen: 4\n'), done)
+        done = subprocess.run(['./pitch_live', '--help'], capture_output=True, **how)
+        self.hold('help of pitch_live', done.returncode == 0 and 'pitch_live listen' in done.stdout, done)
+
 
 def main():
     with tempfile.TemporaryDirectory() as folder:
         checks = Checks(Path(folder))
         checks.build()
         checks.words()
+        checks.live()
     print(f'{checks.passed} passed, {checks.failed} failed')
     return 1 if checks.failed else 0
 

@@ -1,0 +1,352 @@
+#!/usr/bin/env python3
+"""Runs `pitch_live listen` against senders of datagrams on 127.0.0.1.
+
+    bench/live_lines.py LIVE PROGRAM [--numbers N] [--steps M] [--rate R] [--only NAME] [--count C]
+
+LIVE is the path of the built `pitch_live`, PROGRAM that of `pitch`. The feeds are those of
+examples/desk/storm_feed.py, of the units 1 to 8 with M steps (300) each, mixed and cut into datagrams
+at random; the runs `whole`, `lossy` and `rubbish` are made N times (3), at R datagrams a second (2000):
+
+    whole     one line, bound by the program, and no loss, while the process is stopped and continued
+              now and then: the text is that of `follow` of the same datagrams, byte for byte
+    lossy     lines A (bound) and B (a socket that is handed in). Each loses 20 of a hundred datagrams,
+              has 20 twice, 20 after the next one, and 5 spoiled: cut, empty, noise, or of a unit that
+              is not listened to. Each datagram comes whole on one of them: the books are those of
+              `follow`
+    rubbish   the same, and three senders beside, of noise, empty datagrams and blocks of other units
+    end       datagrams that are sent just before the end of the input: all are heard
+    words     words that ask for nothing, and ports that can't be opened: status and standard error
+    speed     C datagrams (300000) of 20 messages, at 100,000 a second: none is lost by the program; and
+              2,000 at 1,000 a second: the time from the sending to the line
+
+The exit status is 0 where all was so. Of `speed` the figures are said, and nothing is wanted.
+"""
+import argparse, os, random, signal, socket, statistics, struct, subprocess, sys, tempfile, threading, time
+
+HERE = os.path.dirname(os.path.abspath(__file__))
+sys.path.insert(0, os.path.join(os.path.dirname(HERE), 'examples', 'desk'))
+import storm_feed
+
+HOST = '127.0.0.1'
+UNITS = range(1, 9)
+OTHER_UNIT = 99
+PATIENCE = 60
+ROOM = 8 << 20
+
+
+def block(unit, sequence, messages):
+    body = b''.join(messages)
+    return struct.pack('<HBBI', 8 + len(body), len(messages), unit, sequence) + body
+
+
+def datagrams_of(program, number, steps, dice):
+    """The datagrams of all units: blocks of one to eight messages, one to three of them a datagram."""
+    waiting = []
+    for unit in UNITS:
+        messages = list(storm_feed.messages(program, number, unit, steps))
+        blocks, at = [], 0
+        while at < len(messages):
+            count = dice.randint(1, 8)
+            blocks.append(block(unit, at + 1, messages[at:at + count]))
+            at += len(messages[at:at + count])
+        waiting.append(blocks + [block(unit, len(messages) + 1, [])])
+    made = []
+    while waiting:
+        part = b''
+        for _ in range(dice.randint(1, 3)):
+            if waiting:
+                blocks = dice.choice(waiting)
+                part += blocks.pop(0)
+                waiting = [it for it in waiting if it]
+        made.append(part)
+    return made
+
+
+def followed(program, datagrams):
+    """What `follow` writes of the datagrams."""
+    return subprocess.run([program, 'follow'], input=b''.join(datagrams), capture_output=True, check=True).stdout
+
+
+def books_of(text):
+    at = text.find(b'book unit ')
+    return text[at:] if at >= 0 else b''
+
+
+def free_port():
+    with socket.socket(socket.AF_INET, socket.SOCK_DGRAM) as probe:
+        probe.bind((HOST, 0))
+        return probe.getsockname()[1]
+
+
+def wait_for(port):
+    """Waits until somebody has bound the port."""
+    until = time.monotonic() + PATIENCE
+    wanted = ':%04X ' % port
+    while time.monotonic() < until:
+        with open('/proc/net/udp') as table:
+            if wanted in table.read():
+                return
+        time.sleep(0.01)
+    sys.exit('the program does not listen')
+
+
+class Listener:
+    """A run of the program over a pipe: line A is bound by it, and a line B is handed in."""
+
+    def __init__(self, live, words=(), both=False):
+        self.a, given, handed = free_port(), [], []
+        self.b = None
+        if both:
+            line = socket.socket(socket.AF_INET, socket.SOCK_DGRAM)
+            line.setsockopt(socket.SOL_SOCKET, socket.SO_RCVBUF, ROOM)
+            line.bind((HOST, 0))
+            self.b = line.getsockname()[1]
+            given, handed = [line], ['--b=fd:%d' % line.fileno()]
+        self.out = tempfile.TemporaryFile()
+        self.run = subprocess.Popen([live, 'listen', '--a', '%s:%d' % (HOST, self.a), *handed, *words], stdin=subprocess.PIPE,
+                                    stdout=self.out, stderr=subprocess.PIPE, pass_fds=[it.fileno() for it in given])
+        for it in given:
+            it.close()
+        wait_for(self.a)
+
+    def end(self):
+        """Ends its input. Returns its status, what it wrote, and what it counted."""
+        self.run.stdin.close()
+        said = self.run.stderr.read().decode()
+        status = self.run.wait(PATIENCE)
+        self.out.seek(0)
+        return status, self.out.read(), said.strip()
+
+
+class Sender:
+    """Sends to ports, at so many a second."""
+
+    def __init__(self, rate):
+        self.socket = socket.socket(socket.AF_INET, socket.SOCK_DGRAM)
+        self.rate, self.sent, self.begun = rate, 0, time.perf_counter()
+
+    def send(self, port, datagram):
+        self.socket.sendto(datagram, (HOST, port))
+        self.sent += 1
+        ahead = self.sent / self.rate - (time.perf_counter() - self.begun)
+        if ahead > 0.001:
+            time.sleep(ahead)
+
+
+def spoiled(datagram, dice):
+    return dice.choice((
+        datagram[:dice.randrange(len(datagram))],
+        b'',
+        b'\xff\xff' + dice.randbytes(dice.randrange(200)),
+        block(OTHER_UNIT, dice.randint(1, 9), []),
+    ))
+
+
+def copies_of(datagrams, dice):
+    """What each line carries: pairs of a datagram's number and its bytes."""
+    lines = ([], [])
+    for number, datagram in enumerate(datagrams):
+        sure = dice.randrange(2)
+        for side, line in enumerate(lines):
+            copy = datagram
+            if side != sure and dice.random() < 0.2:
+                continue
+            if side != sure and dice.random() < 0.1:
+                copy = spoiled(datagram, dice)
+            line.append((number, copy))
+            if dice.random() < 0.2:
+                line.append((number, copy))
+    for line in lines:
+        for at in range(len(line) - 1):
+            if dice.random() < 0.2:
+                line[at], line[at + 1] = line[at + 1], line[at]
+    return lines
+
+
+def run_whole(live, program, rate, number, datagrams, dice):
+    listener = Listener(live)
+    sender = Sender(rate)
+    for at, datagram in enumerate(datagrams):
+        sender.send(listener.a, datagram)
+        if at % 20 == 0:
+            listener.run.send_signal(signal.SIGSTOP)
+            listener.run.send_signal(signal.SIGCONT)
+    status, text, said = listener.end()
+    return status == 0 and text == followed(program, datagrams), f'{len(datagrams)} datagrams, {len(text)} bytes; {said}'
+
+
+def send_both(listener, rate, lines):
+    sender = Sender(rate)
+    for at in range(max(map(len, lines))):
+        for port, line in zip((listener.a, listener.b), lines):
+            if at < len(line):
+                sender.send(port, line[at][1])
+
+
+def run_lossy(live, program, rate, number, datagrams, dice):
+    listener = Listener(live, [f'--unit={it}' for it in UNITS], both=True)
+    lines = copies_of(datagrams, dice)
+    send_both(listener, rate, lines)
+    status, text, said = listener.end()
+    right = books_of(followed(program, datagrams))
+    return status == 0 and right and books_of(text) == right, f'{sum(map(len, lines))} copies; {said}'
+
+
+def rubbish(ports, stop, number):
+    dice, sender = random.Random(number), Sender(500)
+    while not stop.is_set():
+        port = dice.choice(ports)
+        kind = dice.randrange(4)
+        if kind == 0:
+            sender.send(port, dice.randbytes(dice.randrange(1400)).replace(b'\x01', b'\xfe'))
+        elif kind == 1:
+            sender.send(port, b'')
+        elif kind == 2:
+            sender.send(port, b'\x07\0' + dice.randbytes(40))
+        else:
+            sender.send(port, block(OTHER_UNIT + dice.randrange(100), dice.randint(1, 2 ** 32 - 1), [b'\x02\x2d']))
+
+
+def run_rubbish(live, program, rate, number, datagrams, dice):
+    listener = Listener(live, [f'--unit={it}' for it in UNITS], both=True)
+    stop = threading.Event()
+    beside = [threading.Thread(target=rubbish, args=((listener.a, listener.b), stop, k)) for k in range(3)]
+    for it in beside:
+        it.start()
+    lines = copies_of(datagrams, dice)
+    send_both(listener, rate, lines)
+    stop.set()
+    for it in beside:
+        it.join()
+    status, text, said = listener.end()
+    right = books_of(followed(program, datagrams))
+    return status == 0 and right and books_of(text) == right, said
+
+
+def run_end(live, program, rate, number, datagrams, dice):
+    """All at once, and then the end at once: nothing that was sent is missed."""
+    listener = Listener(live, both=True)
+    some = datagrams[:200]
+    sender = Sender(10 ** 9)
+    listener.run.stdin.write(b'the input says something')
+    for datagram in some:
+        sender.send(listener.b, datagram)
+    listener.run.stdin.write(b', and ends')
+    listener.run.stdin.flush()
+    status, text, said = listener.end()
+    return status == 0 and text == followed(program, some), said
+
+
+def check_words(live):
+    """Words that ask for nothing, and ports that can't be opened."""
+    with socket.socket(socket.AF_INET, socket.SOCK_DGRAM) as taken:
+        taken.bind((HOST, 0))
+        port = taken.getsockname()[1]
+        cases = [
+            ('', 2, 'the words are'),
+            ('listen', 2, 'the words are'),
+            ('listen --a', 2, 'the words are'),
+            ('listen --a 127.0.0.1:0 --hold 0', 2, 'the words are'),
+            ('listen --a 127.0.0.1:0 --hold 65537', 2, 'the words are'),
+            ('listen --a 127.0.0.1:0 --unit 256', 2, 'the words are'),
+            ('listen --a 127.0.0.1:0 --seconds 0 --seconds 0', 2, 'the words are'),
+            ('listen --a localhost:1', 2, 'the words are'),
+            ('listen --a fd:2', 2, 'the words are'),
+            ('listen --a 127.0.0.1:0 --', 2, 'the words are'),
+            ('listen --help', 2, 'the words are'),
+            (f'listen --a {HOST}:{port}', 7, 'pitch_live: a: Address already in use'),
+            (f'listen --a {HOST}:0 --b {HOST}:0 --gap={HOST}:{port}', 7, 'pitch_live: gap: Address already in use'),
+            ('listen --a 192.0.2.1:0', 7, 'pitch_live: a: Cannot assign requested address'),
+            ('listen --b fd:77', 7, 'pitch_live: b: Bad file descriptor'),
+            (f'listen --a {HOST}:0 --seconds 0', 0, 'pitch_live: datagrams 0 faulty 0 blocks 0 stray 0'),
+            (f'listen --b [::1]:0 --gap={HOST}:0 --seconds=0', 0, 'pitch_live: datagrams 0 faulty 0 blocks 0 stray 0'),
+        ]
+        right = True
+        for words, status, said in cases:
+            done = subprocess.run([live, *words.split()], capture_output=True, text=True, timeout=PATIENCE, stdin=subprocess.DEVNULL)
+            is_so = done.returncode == status and said in done.stderr and done.stderr.count('\n') == 1 and not done.stdout
+            if not is_so:
+                print(f'words: {words}: {done.returncode} {done.stderr!r} {done.stdout!r}')
+            right = right and is_so
+        return right, f'{len(cases)} command lines'
+
+
+def fast_datagrams(count):
+    """So many datagrams of 20 messages: ten orders are added, and deleted."""
+    made, sequence = [], 1
+    for at in range(count):
+        ids = range(10 * at + 1, 10 * at + 11)
+        adds = [struct.pack('<BBIQcH6sHB', 26, 0x22, 0, it, b'B', 100, b'ACME  ', 1234 + it % 50, 1) for it in ids]
+        made.append(block(1, sequence, adds + [struct.pack('<BBIQ', 14, 0x29, 0, it) for it in ids]))
+        sequence += 20
+    return made
+
+
+def run_speed(live, count):
+    datagrams = fast_datagrams(count)
+    listener = Listener(live)
+    line = socket.socket(socket.AF_INET, socket.SOCK_DGRAM)
+    line.connect((HOST, listener.a))
+    begun = time.perf_counter()
+    for at in range(0, count, 100):
+        for datagram in datagrams[at:at + 100]:
+            line.send(datagram)
+        while (time.perf_counter() - begun) * 100000 < at:
+            pass
+    took = time.perf_counter() - begun
+    used = os.times()
+    status, text, said = listener.end()
+    spent = os.times()
+    heard = text.count(b'\n') - 1
+    cost = spent.children_user + spent.children_system - used.children_user - used.children_system
+    return f'{count} datagrams of 20 messages, {count / took:.0f} a second: {count - heard} lost; {cost:.2f} s of processor time; {said}'
+
+
+def run_delay(live, count=2000):
+    """How long it takes from the sending of a datagram to its line."""
+    datagrams, port = fast_datagrams(count), free_port()
+    run = subprocess.Popen([live, 'listen', '--a', f'{HOST}:{port}'], stdin=subprocess.PIPE, stdout=subprocess.PIPE, stderr=subprocess.DEVNULL)
+    wait_for(port)
+    line, times = socket.socket(socket.AF_INET, socket.SOCK_DGRAM), []
+    for datagram in datagrams:
+        begun = time.perf_counter()
+        line.sendto(datagram, (HOST, port))
+        run.stdout.readline()
+        times.append((time.perf_counter() - begun) * 1e6)
+        time.sleep(0.001)
+    run.stdin.close()
+    run.stdout.read()
+    run.wait(PATIENCE)
+    times.sort()
+    return f'from the sending to the line: median {statistics.median(times):.0f} us, 99th {times[len(times) * 99 // 100]:.0f} us'
+
+
+def main():
+    words = argparse.ArgumentParser()
+    words.add_argument('live')
+    words.add_argument('program')
+    for name, default in (('--numbers', 3), ('--steps', 300), ('--rate', 2000), ('--count', 300000)):
+        words.add_argument(name, type=int, default=default)
+    words.add_argument('--only')
+    given = words.parse_args()
+    right = True
+    runs = {'whole': run_whole, 'lossy': run_lossy, 'rubbish': run_rubbish, 'end': run_end}
+    for number in range(1, given.numbers + 1):
+        dice = random.Random(number)
+        wanted = [it for it in runs if given.only in (None, it)]
+        datagrams = datagrams_of(given.program, number, given.steps, dice) if wanted else []
+        for name in wanted:
+            is_so, said = runs[name](given.live, given.program, given.rate, number, datagrams, dice)
+            print(f'{name} {number}: {"right" if is_so else "WRONG"}; {said}', flush=True)
+            right = right and bool(is_so)
+    if given.only in (None, 'words'):
+        is_so, said = check_words(given.live)
+        print(f'words: {"right" if is_so else "WRONG"}; {said}', flush=True)
+        right = right and is_so
+    if given.only in (None, 'speed'):
+        print(f'speed: {run_speed(given.live, given.count)}', flush=True)
+        print(f'speed: {run_delay(given.live)}', flush=True)
+    sys.exit(0 if right else 1)
+
+
+main()
