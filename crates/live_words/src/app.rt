@@ -1,40 +1,99 @@
 //! The program's command, as `clap` reads it.
 
+ghost use Rattle.std.specs.Prelude.{◌≡◌, IfOk, false, [], ◌∷◌, codes};
+ghost use Rattle.clap.specs.Walk.{rule_of};
+ghost use Rattle.clap.specs.Simple.{app_of, with_rule};
+ghost use Rattle.clap.specs.declared.builder.command.Command.TheViews.{out-Command as fields_of};
+ghost use Rattle.long_options.specs.Apps.{command_app, empty_program, option_rule};
+ghost use Rattle.long_options.specs.Words.{may_have};
+ghost use Rattle.live_words.specs.Asked.{any_times as any_times_rule, listen_shape, pitch_live};
+
 use clap::{Arg, ArgAction, Command};
 use std::alloc::{AllocError, Global};
 
 // An option `--name` with a value, once.
-fn once<'a>(alloc: Global, name: &'a str) -> Arg<'a> {
+fn once<'a>(alloc: Global, name: &'a str) -> Arg<'a>
+    ensures rule { rule_of result ≡ option_rule (may_have name.now) }
+    ensures local { result.global ≡ false }
+{
     Arg::new(alloc, name).long(name).action(ArgAction::Set)
 }
 
 // An option `--name` with a value, any number of times.
-fn any_times<'a>(alloc: Global, name: &'a str) -> Arg<'a> {
+fn any_times<'a>(alloc: Global, name: &'a str) -> Arg<'a>
+    ensures rule { rule_of result ≡ any_times_rule name.now }
+    ensures local { result.global ≡ false }
+{
     Arg::new(alloc, name).long(name).action(ArgAction::Append)
 }
 
-// `listen` with its options
-fn listen<'a>(alloc: Global) -> Result<Command<'a>, AllocError> {
-    let command = Command::new(alloc, "listen")
-        .disable_help_flag(true)
-        .disable_version_flag(true);
-    let with_lines = command
-        .arg(any_times(alloc, "a"))?
-        .arg(any_times(alloc, "b"))?
-        .arg(any_times(alloc, "gap"))?;
-    with_lines
-        .arg(any_times(alloc, "unit"))?
-        .arg(once(alloc, "hold"))?
-        .arg(once(alloc, "seconds"))
+// The command with one option more.
+fn with_once<'a>(
+    alloc: Global,
+    command: Command<'a>,
+    name: &'a str,
+) -> Result<Command<'a>, AllocError>
+    ensures app { IfOk result (λ r. app_of r
+        ≡ with_rule (app_of command.entry) (option_rule (may_have name.now))) }
+    ensures local { IfOk result
+        (λ r. (fields_of command.entry).has_globals ≡ false → (fields_of r).has_globals ≡ false) }
+{
+    command.arg(once(alloc, name))
 }
 
-// The program with its command.
-pub(crate) fn app<'a>(alloc: Global) -> Result<Command<'a>, AllocError> {
+// The command with one option more, which may be given several times.
+fn with_any_times<'a>(
+    alloc: Global,
+    command: Command<'a>,
+    name: &'a str,
+) -> Result<Command<'a>, AllocError>
+    ensures app { IfOk result
+        (λ r. app_of r ≡ with_rule (app_of command.entry) (any_times_rule name.now)) }
+    ensures local { IfOk result
+        (λ r. (fields_of command.entry).has_globals ≡ false → (fields_of r).has_globals ≡ false) }
+{
+    command.arg(any_times(alloc, name))
+}
+
+// A command without options.
+fn command<'a>(alloc: Global, name: &'a str) -> Command<'a>
+    ensures app { app_of result ≡ command_app (name.now, []) }
+    ensures local { (fields_of result).has_globals ≡ false }
+{
+    Command::new(alloc, name)
+        .disable_help_flag(true)
+        .disable_version_flag(true)
+}
+
+// `listen` with its options
+fn listen<'a>(alloc: Global) -> Result<Command<'a>, AllocError>
+    ensures app { IfOk result (λ r. app_of r ≡ record { top = listen_shape; subs = [] }) }
+    ensures local { IfOk result (λ r. (fields_of r).has_globals ≡ false) }
+{
+    let a = with_any_times(alloc, command(alloc, "listen"), "a")?;
+    let b = with_any_times(alloc, a, "b")?;
+    let gap = with_any_times(alloc, b, "gap")?;
+    let unit = with_any_times(alloc, gap, "unit")?;
+    let hold = with_once(alloc, unit, "hold")?;
+    with_once(alloc, hold, "seconds")
+}
+
+// The program without its command, which must be there.
+fn top<'a>(alloc: Global) -> Command<'a>
+    ensures app { app_of result ≡ empty_program (codes "pitch_live") }
+    ensures local { (fields_of result).has_globals ≡ false }
+{
     Command::new(alloc, "pitch_live")
         .no_binary_name(true)
         .disable_help_flag(true)
         .disable_help_subcommand(true)
         .disable_version_flag(true)
         .subcommand_required(true)
-        .subcommand(listen(alloc)?)
+}
+
+// The program with its command.
+pub(crate) fn app<'a>(alloc: Global) -> Result<Command<'a>, AllocError>
+    ensures app { IfOk result (λ r. app_of r ≡ pitch_live) }
+{
+    top(alloc).subcommand(listen(alloc)?)
 }

@@ -20,6 +20,7 @@
 mod app;
 mod found;
 mod listen_words;
+mod parse;
 mod port;
 mod reading;
 

@@ -2,6 +2,8 @@
 
 ghost use Rattle.std.specs.Prelude.{ℕ, IfNone, IfSome};
 ghost use Rattle.pitch_words.specs.Numbers.{IsNumber};
+ghost use Rattle.line_sockets.specs.declared.port.Port.{Port as PortOf};
+ghost use Rattle.live_words.specs.Asked.{IsPortText};
 
 use line_sockets::Port;
 use std::net::SocketAddr;
@@ -25,10 +27,14 @@ pub(crate) fn number(text: &str, least: u64, most: u64) -> Option<u64>
 const FIRST_GIVEN: u64 = 3;
 
 // The port that the text names.
-pub(crate) fn port_of(text: &str) -> Option<Port> {
+pub(crate) fn port_of(text: &str) -> Option<Port>
+    ensures some { IfSome result (IsPortText text.now) }
+    ensures none { IfNone result ((port : PortOf) → ¬ IsPortText text.now port) }
+{
     if let Ok(addr) = SocketAddr::parse_ascii(text.as_bytes()) {
         return Some(Port::Bound(addr));
     }
-    let number = number(text.strip_prefix("fd:")?, FIRST_GIVEN, u64::from(u16::MAX))?;
+    let digits = text.strip_prefix("fd:")?;
+    let number = number(digits, FIRST_GIVEN, 65_535)?;
     Some(Port::Given(number as u16))
 }

@@ -1,35 +1,35 @@
 //! What the program's words ask for.
 
-ghost use Rattle.std.specs.Prelude.{IfOk, IfSome};
-ghost use Rattle.live_words.specs.Asked.{IsInRange};
+ghost use Rattle.std.specs.Prelude.{◌≡◌, IfOk, MatchOption, map, string_bytes};
+ghost use Rattle.long_options.specs.Plain.{has_dashes as some_dashes};
+ghost use Rattle.live_words.specs.Asked.{IsAsked};
+ghost use Rattle.live_words.specs.declared.listen_words.ListenWords.{ListenWords as AskedFor};
 
-use crate::app::app;
-use crate::found::listen_of;
+use crate::found::listen_in;
 use crate::listen_words::ListenWords;
-use clap::error::ErrorKind;
+use crate::parse::parse;
 use pitch_fields::OutOfMemory;
 use std::alloc::Global;
 
-/// What the words ask for, or `None` where they ask for nothing.
+// Whether a word is `--`.
+fn has_dashes(words: &[String]) -> bool
+    ensures { result ≡ some_dashes (map string_bytes words.now) }
+{
+    words.iter().any(|word| word.as_str() == "--")
+}
+
+/// What the words ask for, or `None` exactly where they ask for nothing.
 ///
 /// `words` are the words after the program's own name. The one error is want of memory.
 pub fn read(alloc: Global, words: &[String]) -> Result<Option<ListenWords>, OutOfMemory>
-    ensures range { IfOk result (λ answer. IfSome answer IsInRange) }
+    ensures asked { IfOk result (λ answer. MatchOption answer ((asked : AskedFor)
+        → ¬ IsAsked (map string_bytes words.now) asked) (IsAsked (map string_bytes words.now))) }
 {
-    if words.iter().any(|word| word.as_str() == "--") {
+    if has_dashes(words) {
         return Ok(None);
     }
-    let Ok(app) = app(alloc) else {
-        return Err(OutOfMemory);
-    };
-    match app.try_get_matches_from(words) {
-        Ok(matches) => match matches.subcommand() {
-            Some(("listen", inner)) => listen_of(alloc, inner),
-            _ => Ok(None),
-        },
-        Err(error) => match error.kind() {
-            ErrorKind::OutOfMemory => Err(OutOfMemory),
-            _ => Ok(None),
-        },
+    match parse(alloc, words)? {
+        Some(matches) => listen_in(alloc, &matches),
+        None => Ok(None),
     }
 }
