@@ -31,7 +31,7 @@ use Rattle.client_core.specs.Client.{current_book}
 use Rattle.client_core.specs.declared.client.UnitClient.{UnitClient}
 use Rattle.client_links.specs.Linking.{Lookups, NoLookup, link_tells}
 use Rattle.spin_path.specs.Paths.{heard_all}
-use Rattle.world_model.specs.Ends.{gap_link, spin_link}
+use Rattle.client_end.specs.Links.{gap_link, spin_link}
 use Rattle.world_model.specs.State.{Connection}
 use Rattle.world_model.specs.Verbs.{at_link, pumps}
 use Rattle.world_model.specs.Witness.{Witnessed}

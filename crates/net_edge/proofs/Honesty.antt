@@ -17,11 +17,11 @@ use Rattle.session_ends.specs.Events.{Event, Fed, Ticked}
 use Rattle.spin_server.specs.Served.{Served}
 use Rattle.client_links.specs.Linking.{Lookups, NoLookup, link_tells}
 use Rattle.spin_path.specs.Paths.{heard_all}
-use Rattle.world_model.specs.Ends.{gap_link, spin_link}
+use Rattle.client_end.specs.Links.{gap_link, spin_link}
 use Rattle.world_model.specs.State.{Connection, Pipe}
 use Rattle.world_model.specs.Verbs.{at_link}
 use Rattle.world_model.specs.Witness.{Witnessed}
-use Rattle.world_model.proofs.LinkItems.{gap_link_tells}
+use Rattle.client_end.proofs.LinkItems.{gap_link_tells}
 use Rattle.world_model.proofs.SpinWitness as spin
 use Rattle.world_model.proofs.Witness as witness
 use Rattle.net_edge.specs.Acting.{ours, where_stands, image_asked}

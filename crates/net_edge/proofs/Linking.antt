@@ -26,9 +26,8 @@ use Rattle.client_links.specs.Telling.{without_spare}
 use Rattle.spin_path.specs.Paths.{heard_all}
 use Rattle.spin_path.proofs.Moves.{spare_is_unheard}
 use Rattle.world_model.specs.State.{Connection, Pipe}
-use Rattle.world_model.specs.Hearing.{IsTold, HearsItems}
-use Rattle.world_model.proofs.HeardItems.{honest_first}
-use Rattle.world_model.proofs.LinkItems.{link_told, told_spare}
+use Rattle.client_end.specs.Hearing.{HearsItems}
+use Rattle.client_end.proofs.Told as of_link
 use Rattle.net_edge.specs.Acting.{is_group_open, end_puts, end_took, taken_at}
 use Rattle.net_edge.specs.Due.{Setting, call_room, hold_limit}
 use Rattle.net_edge.specs.Playing.{Plays, ClientHas, LinkHas, LinkSays, LinkTells, HearsLink, closes, told_down}
@@ -46,14 +45,7 @@ pub heard_told : (setup : Setup) (link link' : Ending) (client client' : UnitCli
     → ((es : List (Event Lookups)) → LinkStands link es → map without_spare items ≡ map without_spare none ++ link_tells link.setup es piece)
     → HearsItems client client' items → ClientHas client' (heard_all (link_tells setup events piece) E)
 heard_told setup link link' client client' none items piece events E is has nothing tells hears =
-    let told : map without_spare items ≡ link_tells setup events piece =
-    tells events is.stands ∙ ap (λ (xs : List Item). map without_spare xs ++ link_tells link.setup events piece) nothing ∙ ap (λ (m : Setup). link_tells m events piece) is.made in
-    let all : AllByRecursion IsTold items = told_spare items (subst (AllByRecursion IsTold) (sym told) (link_told setup events piece)) in
-    let same : heard_all items E ≡ heard_all (link_tells setup events piece) E = sym (spare_is_unheard items E) ∙ ap (λ (xs : List Item). heard_all xs E) told in
-    subst (ClientHas client') same (record {
-      tracks = hears.tracks all hold_limit E has.tracks;
-      keeps = λ V bytes h. hears.keeps all V bytes hold_limit E has.tracks h (has.keeps V bytes (honest_first V items E all h));
-    })
+    subst (λ (m : Setup). ClientHas client' (heard_all (link_tells m events piece) E)) is.made (of_link.heard_told hold_limit link client client' none items piece events E is.stands has nothing tells hears)
 
 pub linked : (setup : Setup) (link link' : Ending) (event : Event Lookups) (events : List (Event Lookups)) → LinkHas setup link events → link'.setup ≡ link.setup → ((es : List (Event Lookups)) → LinkStands link es → LinkStands link' (event ∷ es)) → LinkHas setup link' (event ∷ events)
 linked setup link link' event events is same stands = record { made = same ∙ is.made; stands = stands events is.stands }

@@ -11,7 +11,8 @@ use Rattle.spin_server.specs.Served.{Served}
 use Rattle.spin_server.specs.Serving.{Serving, SpinStands}
 use Rattle.spin_path.specs.Paths.{says_at}
 use Rattle.client_links.specs.Linking.{Lookups, LinkStands}
-use Rattle.world_model.specs.Ends.{grp_server, spin_server, link_says}
+use Rattle.client_end.specs.Links.{link_says}
+use Rattle.world_model.specs.Ends.{grp_server, spin_server}
 use Rattle.world_model.specs.State.{Connection}
 use Rattle.pitch_text.specs.declared.verb.Session.TheVariants.{Grp, Spin}
 use Rattle.world_model.specs.Verbs.{at_server_of, at_link}

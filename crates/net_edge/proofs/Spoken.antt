@@ -17,7 +17,7 @@ use Rattle.session_ends.specs.Events.{Fed, Ticked, Told, Pumped}
 use Rattle.session_ends.specs.Sending.{new_items}
 use Rattle.spin_server.specs.Served.{Served}
 use Rattle.spin_path.specs.Paths.{IsShown}
-use Rattle.world_model.specs.Ends.{spin_link}
+use Rattle.client_end.specs.Links.{spin_link}
 use Rattle.world_model.specs.State.{Connection}
 use Rattle.pitch_text.specs.declared.verb.Session.TheVariants.{Spin}
 use Rattle.world_model.specs.Verbs.{at_server_of, at_link, pumped_times, pumps}

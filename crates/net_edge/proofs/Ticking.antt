@@ -12,7 +12,7 @@ use Rattle.grp_session.specs.Serving.{Source}
 use Rattle.spin_server.specs.Served.{Served}
 use Rattle.spin_server.specs.Serving.{Serving}
 use Rattle.client_core.specs.declared.client.UnitClient.{UnitClient}
-use Rattle.world_model.specs.Ends.{gap_link, spin_link}
+use Rattle.client_end.specs.Links.{gap_link, spin_link}
 use Rattle.world_model.specs.State.{Connection, Pipe}
 use Rattle.pitch_text.specs.declared.verb.Session.TheVariants.{Grp, Spin}
 use Rattle.world_model.specs.Verbs.{at_server_of, at_link}

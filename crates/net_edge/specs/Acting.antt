@@ -30,7 +30,8 @@ use Rattle.grp_session.specs.Serving.{Source, proxy_answer}
 use Rattle.spin_server.specs.Served.{Served}
 use Rattle.spin_path.specs.Paths.{heard_all}
 use Rattle.client_links.specs.Linking.{NoLookup, link_tells}
-use Rattle.world_model.specs.Ends.{grp_server, gap_link, spin_link}
+use Rattle.client_end.specs.Links.{gap_link, spin_link}
+use Rattle.world_model.specs.Ends.{grp_server}
 use Rattle.world_model.specs.State.{Connection}
 use Rattle.pitch_text.specs.declared.verb.Session.TheVariants.{Grp, Spin}
 use Rattle.world_model.specs.Verbs.{at_server_of, at_link, sent_whole}

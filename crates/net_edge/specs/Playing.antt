@@ -1,8 +1,6 @@
 -- What the code knows of a run that is under way. No caller needs it.
 use Rattle.std.specs.Prelude.{◌≡◌, ◌≤◌, ℕ, Bool, true, false, not, ◌||◌, ◌&&◌, List, [], ◌∷◌, ◌++◌}
 use Rattle.std.specs.Prelude.{Option, None, Some, is_some, Result, OnOk, IfErr, if◌then◌else◌}
-use Rattle.std.specs.List.{AllByRecursion}
-use Rattle.pitch_fields.specs.Fields.{AreBytes}
 use Rattle.pitch_io.specs.declared.line.Line.{Line}
 use Rattle.pitch_io.specs.declared.line.Line.TheVariants.{A, B, Gap}
 use Rattle.pitch_io.specs.declared.net.LinkEnd.TheVariants.{GrpServer, SpinServer, GrpClient}
@@ -17,19 +15,18 @@ use Rattle.session_ends.specs.Closing.{Setup, closed_of}
 use Rattle.session_ends.specs.Ending.{Ending}
 use Rattle.session_ends.specs.Answering.{Answer}
 use Rattle.session_ends.specs.Events.{Event, Fed}
-use Rattle.pitch_model.specs.History.{Entry, Raw}
-use Rattle.pitch_model.specs.Honest.{Honest}
-use Rattle.pitch_model.specs.Image.{image}
+use Rattle.pitch_model.specs.History.{Entry}
 use Rattle.spin_server.specs.Served.{Served}
 use Rattle.spin_server.specs.Serving.{Serving, SpinStands}
 use Rattle.grp_session.specs.Budget.{Spent, Counted}
 use Rattle.grp_session.specs.Serving.{Source, ProxyStands, proxy_answer}
-use Rattle.client_core.specs.Tracks.{Tracks, Keeps}
 use Rattle.client_core.specs.declared.client.UnitClient.{UnitClient}
 use Rattle.client_links.specs.Linking.{Lookups, NoLookup, LinkStands, link_tells}
 use Rattle.spin_path.specs.Paths.{heard_all}
 use Rattle.world_model.specs.Verbs.{down_of}
-use Rattle.world_model.specs.Ends.{grp_server, spin_server, gap_link, spin_link}
+use Rattle.client_end.specs.Links.{gap_link, spin_link}
+use Rattle.client_end.specs.Stands.{ClientHeard}
+use Rattle.world_model.specs.Ends.{grp_server, spin_server}
 use Rattle.world_model.specs.State.{Connection, Pipe, LooksIn}
 use Rattle.net_edge.specs.Acting.{scene_of, is_group_open, source_at, sent_on, end_puts, taken_at}
 use Rattle.net_edge.specs.Acting.{all_tick}
@@ -121,9 +118,8 @@ pub record LinkHas (setup : Setup) (link : Ending) (events : List (Event Lookups
   pub stands : LinkStands link events
 
 -- the client is where what it heard brings it
-pub record ClientHas (client : UnitClient) (E : List Entry) : Type 0 where
-  pub tracks : Tracks client hold_limit E
-  pub keeps : (V : List Raw) → AllByRecursion AreBytes V → Honest image V E → Keeps client V
+abbrev pub ClientHas : UnitClient → List Entry → Type 0
+ClientHas client E = ClientHeard hold_limit client E
 
 -- ---- Within a turn: what one part of it has done so far; all else is as it was
 -- on a line the client heard what came

@@ -23,12 +23,12 @@ use crate::lines::MOST_CALLS;
 use crate::net_peer::NetPeer;
 use crate::putting::put_whole;
 use client_core::UnitClient;
+use client_end::hear_told;
 use client_links::{ItemList, Link};
 use pitch_fields::OutOfMemory;
 use pitch_io::{Net, NetTaken};
 use pitch_model::Ask;
 use std::alloc::Global;
-use world_model::hear_told;
 
 // Where the link has closed whose connection stood, the client hears it. Answers whether the
 // connection is cut then.

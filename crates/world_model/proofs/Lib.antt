@@ -1,8 +1,6 @@
 pub mod Witness
 pub mod Pieces
 pub mod HeardBlocks
-pub mod HeardItems
-pub mod LinkItems
 pub mod Replies
 mod Booking
 pub mod Carrying

@@ -29,8 +29,9 @@ use Rattle.unit_market.specs.Markets.{MarketHas}
 use Rattle.unit_market.specs.Standing.{MarketState}
 use Rattle.world_model.specs.Connections.{IsProxy, IsSpinServer, HasConnection, HasGrp, HasSpin, IsBudget, journal_of}
 use Rattle.world_model.specs.Carried.{IsGrpConnection, CarriedUp, CarriedDown}
-use Rattle.world_model.specs.Ends.{grp_server, gap_link, spin_link, link_of}
-use Rattle.world_model.specs.Hearing.{HearsItems, IsTold}
+use Rattle.client_end.specs.Links.{gap_link, spin_link}
+use Rattle.world_model.specs.Ends.{grp_server, link_of}
+use Rattle.client_end.specs.Hearing.{HearsItems, IsTold}
 use Rattle.world_model.specs.Stands.{WorldHas}
 use Rattle.world_model.specs.Steps.{Acts, Marks, Passes}
 use Rattle.world_model.specs.State.{State, Connection, Pipe, LooksIn, connection_of, with_connection, waiting}
@@ -42,8 +43,8 @@ use Rattle.world_model.specs.declared.outcome.Outcome.TheVariants as outcome
 use Rattle.world_model.specs.declared.world.Acted.{Acted}
 use Rattle.world_model.specs.declared.world.World.{World}
 use Rattle.world_model.proofs.Acting.{JoinedOf, calm_of, acts_passed, passes_none, with_grp, with_heard, honest_of, marks_none, marks_then, marks_one, with_spin}
-use Rattle.world_model.proofs.HeardItems.{AreTold}
-use Rattle.world_model.proofs.LinkItems.{gap_link_tells, link_told, told_spare}
+use Rattle.client_end.proofs.HeardItems.{AreTold}
+use Rattle.client_end.proofs.LinkItems.{gap_link_tells, link_told, told_spare}
 use Rattle.world_model.proofs.Pieces.{pieces_append}
 use Rattle.world_model.proofs.Replies.{proxy_pieces, views_same}
 use Rattle.world_model.proofs.SpinWitness.{opens, ends, carries, link_ticks}

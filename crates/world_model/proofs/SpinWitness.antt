@@ -14,7 +14,8 @@ use Rattle.spin_path.specs.Paths.{Path, Move, Serves, Links, Cuts, path_of, move
 use Rattle.spin_path.specs.Paths.{says_at, heard_all, MayServe, MayLink}
 use Rattle.spin_path.specs.PathLaws.{takes_all}
 use Rattle.spin_path.proofs.Moves.{all_are_taken}
-use Rattle.world_model.specs.Ends.{spin_server, spin_link}
+use Rattle.client_end.specs.Links.{spin_link}
+use Rattle.world_model.specs.Ends.{spin_server}
 use Rattle.world_model.specs.State.{Connection, Pipe, waiting}
 use Rattle.world_model.specs.Verbs.{took, connection, at_link, with_up, with_down, at_server_of, pumped_times}
 use Rattle.world_model.specs.Witness.{Witnessed}

@@ -13,7 +13,7 @@ use Rattle.client_core.specs.declared.client.UnitClient.{UnitClient}
 use Rattle.client_links.specs.Linking.{NoLookup, link_tells}
 use Rattle.client_links.specs.Telling.{without_spare}
 use Rattle.world_model.specs.Ends.{grp_server, spin_server, link_of}
-use Rattle.world_model.specs.Hearing.{HearsItems}
+use Rattle.client_end.specs.Hearing.{HearsItems}
 use Rattle.world_model.specs.State.{State, Connection, LooksIn, waiting}
 use Rattle.world_model.specs.Verbs.{at_server_of, at_link, source_of, took, with_up, with_down}
 use Rattle.world_model.specs.declared.limits.Limits.{Limits}

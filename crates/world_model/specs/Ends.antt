@@ -11,7 +11,7 @@ use Rattle.session_ends.specs.declared.role.Role.TheVariants as roles
 use Rattle.grp_session.specs.Serving.{Source, grp_sends}
 use Rattle.spin_server.specs.Served.{Served}
 use Rattle.spin_path.specs.Paths.{says_at}
-use Rattle.client_links.specs.Linking.{Lookups, link_setup, link_sends}
+use Rattle.client_end.specs.Links.{gap_link, spin_link}
 use Rattle.world_model.specs.State.{LooksIn}
 
 -- ---- How they are made
@@ -26,12 +26,6 @@ grp_server unit =
 abbrev pub spin_server : ℕ → Setup
 spin_server unit =
     record { role = roles.SpinServer; unit = unit; accounts = the_account ∷ []; in_use = false }
-
-abbrev pub gap_link : Setup
-gap_link = link_setup roles.GapLink 0
-
-abbrev pub spin_link : ℕ → Setup
-spin_link unit = link_setup roles.SpinLink unit
 
 -- the client's end of a session
 abbrev pub link_of : ℕ → Session → Setup
@@ -52,7 +46,3 @@ abbrev pub server_says : ℕ → (session : Session)
     → Event (LooksIn session) → List (Event (LooksIn session)) → List ℕ
 server_says unit Grp event before = grp_says unit event before
 server_says unit Spin event before = spin_says unit event before
-
-abbrev pub link_says : Setup → Event Lookups → List (Event Lookups) → List ℕ
-link_says s Ticked before = sent_at_tick (link_sends s) s before
-link_says s event before = link_sends s event before

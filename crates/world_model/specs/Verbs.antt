@@ -41,8 +41,10 @@ use Rattle.spin_server.specs.Served.{Served}
 use Rattle.spin_server.specs.Serving.{running_spin, blocks_left, runs}
 use Rattle.spin_path.specs.Paths.{heard_all}
 use Rattle.client_links.specs.Linking.{Lookups, NoLookup, login_bytes, link_tells}
-use Rattle.world_model.specs.Ends.{the_account, grp_server, spin_server, gap_link, spin_link}
-use Rattle.world_model.specs.Ends.{link_of, server_says, link_says}
+use Rattle.client_end.specs.Links.{gap_link, spin_link}
+use Rattle.world_model.specs.Ends.{the_account, grp_server, spin_server}
+use Rattle.client_end.specs.Links.{link_says}
+use Rattle.world_model.specs.Ends.{link_of, server_says}
 use Rattle.world_model.specs.State.{State, Connection, Pipe, start, waiting, datagrams_on}
 use Rattle.world_model.specs.State.{passed_on, passed_to, LooksIn, connection_of, with_connection}
 use Rattle.world_model.specs.declared.limits.Limits.{Limits}

@@ -15,9 +15,9 @@ ghost use Rattle.world_model.specs.State.{LooksIn, waiting};
 ghost use Rattle.world_model.specs.State.{Connection as ConnectionSaid};
 ghost use Rattle.world_model.specs.Verbs.{at_server_of, at_link, shut, took, with_down};
 
-use crate::hearing::hear_told;
 use crate::pipe::ByteQueue;
 use client_core::UnitClient;
+use client_end::hear_told;
 use client_links::{ItemList, Link, Peer};
 use pitch_fields::OutOfMemory;
 use std::alloc::Global;

@@ -1,15 +1,13 @@
-//! What the client hears of datagrams, and of its links.
+//! What the client hears of datagrams.
 
-ghost use Rattle.std.specs.Prelude.{◌≡◌, ◌||◌, ◌∷◌, [], IsTrue, true, OnOk, IfOk};
+ghost use Rattle.std.specs.Prelude.{◌≡◌, ◌||◌, ◌∷◌, [], IfOk};
 ghost use Rattle.std.specs.List.{flat_map};
 ghost use Rattle.unit_packets.specs.Cutting.{blocks_of};
 ghost use Rattle.heard_items.specs.Datagrams.{block_messages};
 ghost use Rattle.unit_packets.specs.Packing.{bytes_in};
-ghost use Rattle.heard_items.specs.Changes.{IsItem};
-ghost use Rattle.world_model.specs.Hearing.{HearsBlocks, HearsItems, IsTold};
+ghost use Rattle.world_model.specs.Hearing.{HearsBlocks};
 
-use client_core::{UnitClient, images_of_bytes_are_images};
-use heard_items::Item;
+use client_core::UnitClient;
 use line_arbiter::Arbiter;
 use pitch_fields::OutOfMemory;
 use pitch_io::Line;
@@ -88,38 +86,4 @@ fn either(one: bool, other: bool) -> bool
     ensures { result ≡ (one || other) }
 {
     one || other
-}
-
-// Whether a link can tell the item.
-fn can_be_told(item: &Item) -> bool
-    ensures item { IsTrue result → IsItem item.now }
-    ensures told { IsTold item.now → result ≡ true }
-{
-    match item {
-        Item::Messages { .. } => false,
-        Item::Next { .. } => false,
-        _ => true,
-    }
-}
-
-// The client hears an item that a link told.
-fn hear_item(client: &mut UnitClient, item: &Item) -> Result<(), OutOfMemory>
-    ensures { OnOk result (HearsItems client.old client.new (item.now ∷ [])) }
-{
-    images_of_bytes_are_images();
-    if can_be_told(item) {
-        let _change = client.hear(item)?;
-    }
-    Ok(())
-}
-
-/// The client hears what a link told, one item after another. After OutOfMemory it has heard some
-/// of the items.
-pub fn hear_told(client: &mut UnitClient, items: &[Item]) -> Result<(), OutOfMemory>
-    ensures { OnOk result (HearsItems client.old client.new items.now) }
-{
-    'told: for item in items {
-        hear_item(client, item)?;
-    }
-    Ok(())
 }

@@ -4,7 +4,7 @@ use Rattle.session_ends.specs.Events.{Asked}
 use Rattle.world_model.specs.Connections.{HasSpin, IsSpinServer}
 use Rattle.world_model.specs.declared.connection.Connection.{Connection as Joined}
 use Rattle.pitch_text.specs.declared.verb.Session.TheVariants.{Spin}
-use Rattle.world_model.specs.Ends.{spin_link}
+use Rattle.client_end.specs.Links.{spin_link}
 use Rattle.world_model.specs.Verbs.{at_link}
 use Rattle.world_model.proofs.Carrying.{on_some}
 use Rattle.world_model.proofs.spin.ask_image.Goals as goal

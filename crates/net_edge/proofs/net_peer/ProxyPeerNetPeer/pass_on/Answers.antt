@@ -2,7 +2,7 @@ use Rattle.std.proofs.Common.{Option, Some, ap, ◌∙◌}
 use Rattle.pitch_messages.specs.declared.session.SessionMessage.TheVariants.{GapRequest}
 use Rattle.pitch_model.specs.declared.ask.Ask.{Ask}
 use Rattle.session_ends.specs.Events.{Asked}
-use Rattle.world_model.specs.Ends.{gap_link}
+use Rattle.client_end.specs.Links.{gap_link}
 use Rattle.world_model.specs.Verbs.{at_link}
 use Rattle.net_edge.specs.Acting.{gap_asked}
 use Rattle.net_edge.proofs.Linking.{asked_as}

@@ -1,6 +1,0 @@
-use Rattle.world_model.proofs.HeardItems.{hears_item}
-use Rattle.world_model.proofs.hearing.hear_item.Goals as goal
-
-pub returns-in_ok-_change : goal.returns-in_ok-_change
-returns-in_ok-_change c =
-    hears_item c.args.client.now c.hear.new.self c.args.item.now c.images_of_bytes_are_images.ensures c.in_ok-_change.ensures.tracks c.in_ok-_change.ensures.keeps

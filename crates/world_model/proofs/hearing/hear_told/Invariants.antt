@@ -1,6 +1,0 @@
-use Rattle.std.proofs.Common.{take}
-use Rattle.world_model.specs.Hearing.{HearsItems}
-use Rattle.world_model.proofs.hearing.hear_told.Given as goal
-
-abbrev pub invariant-told : goal.invariant-told
-invariant-told l = HearsItems l.fn.client l.client (take l.item-index l.items)
