@@ -22,7 +22,7 @@ use Rattle.session_ends.specs.Saying.{said_to, said_by}
 use Rattle.session_ends.specs.Sending.{message_bytes, heartbeat_bytes}
 use Rattle.client_links.specs.Linking.{Lookups}
 use Rattle.client_links.specs.Telling.{before_more, other_in, others, after_others, or_items, told_of, told_said, run_of, tells}
-use Rattle.world_model.specs.Ends.{gap_link}
+use Rattle.client_end.specs.Links.{gap_link}
 use Rattle.world_laws.proofs.LinkPieces.{IsReady, TellsOf, tells_one}
 
 -- what it tells of a session message

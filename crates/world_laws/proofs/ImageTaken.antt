@@ -37,7 +37,8 @@ use Rattle.spin_path.specs.Paths.{heard_all}
 use Rattle.spin_path.specs.PathLaws.{IsFeed}
 use Rattle.spin_path.proofs.Pictures.{image_raws, image_others, image_adds}
 use Rattle.world_model.specs.Connections.{IsPipe}
-use Rattle.world_model.specs.Ends.{spin_server, spin_link, spin_says, link_says}
+use Rattle.client_end.specs.Links.{spin_link, link_says}
+use Rattle.world_model.specs.Ends.{spin_server, spin_says}
 use Rattle.world_model.specs.State.{State, waiting}
 use Rattle.world_model.specs.Verbs.{put_in, took, connection, at_link, with_up, at_server_of, sent_whole, login_of, next_state}
 use Rattle.world_model.specs.declared.limits.Limits.{Limits}

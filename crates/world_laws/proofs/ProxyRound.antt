@@ -30,7 +30,8 @@ use Rattle.grp_session.specs.Budget as budget
 use Rattle.grp_session.specs.Serving.{Source, grp_sends, proxy_answer}
 use Rattle.client_links.specs.Linking.{Lookups, NoLookup, link_sends}
 use Rattle.world_model.specs.Connections.{IsPipe}
-use Rattle.world_model.specs.Ends.{grp_server, gap_link, grp_says, link_says}
+use Rattle.client_end.specs.Links.{gap_link, link_says}
+use Rattle.world_model.specs.Ends.{grp_server, grp_says}
 use Rattle.world_model.specs.State.{State, waiting}
 use Rattle.world_model.specs.Verbs.{put_in, took, connection, at_link, at_server_of, with_up, login_of, next_state}
 use Rattle.world_model.specs.declared.limits.Limits.{Limits}

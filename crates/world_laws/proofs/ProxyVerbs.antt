@@ -22,7 +22,8 @@ use Rattle.grp_session.specs.Budget.{Spent, next_second}
 use Rattle.grp_session.specs.Serving.{Source, proxy_answer}
 use Rattle.client_links.specs.Linking.{NoLookup}
 use Rattle.spin_path.specs.Paths.{heard_all}
-use Rattle.world_model.specs.Ends.{grp_server, gap_link}
+use Rattle.client_end.specs.Links.{gap_link}
+use Rattle.world_model.specs.Ends.{grp_server}
 use Rattle.world_model.specs.State.{State, Connection, waiting}
 use Rattle.world_model.specs.Verbs.{took, at_link, with_up, with_down, at_server_of, source_of, noted_blocks, next_state, asked, done, ended_where, link_fed, link_hears, link_ticks, client_ticks}
 use Rattle.world_model.specs.declared.limits.Limits.{Limits}

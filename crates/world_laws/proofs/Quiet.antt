@@ -35,13 +35,13 @@ use Rattle.venue_core.specs.declared.error.VenueError.{VenueError}
 use Rattle.client_links.specs.Linking.{Lookups, link_tells}
 use Rattle.client_links.specs.Telling.{told_of, told_said, run_of}
 use Rattle.spin_path.specs.Paths.{heard_all}
-use Rattle.world_model.specs.Ends.{gap_link, spin_link}
+use Rattle.client_end.specs.Links.{gap_link, spin_link}
 use Rattle.world_model.specs.State.{State, Connection, Pipe, LooksIn, waiting, datagrams_on, passed_on}
 use Rattle.world_model.specs.Verbs.{Done, done, next_state, state_of, commanded_on, delivered_on, numbered, connected_on, cut_on, ended, ended_where, carried, wanted, up_on, down_on, link_fed, link_hears, link_ticked, link_ticks, server_has, servers_tick, budget_ticks, client_ticks, asked, took, with_down, hears}
 use Rattle.world_model.specs.declared.limits.Limits.{Limits}
 use Rattle.world_model.specs.declared.outcome.Outcome.TheVariants as outcome
 use Rattle.pitch_model.specs.Advertising.{with_sequence}
-use Rattle.world_model.proofs.LinkItems.{AreGapTold, gap_link_tells, link_all}
+use Rattle.client_end.proofs.LinkItems.{AreGapTold, gap_link_tells, link_all}
 
 pub record SpinOff (E : List Entry) : Type 0 where
   pub down : is_spin_up E ≡ false

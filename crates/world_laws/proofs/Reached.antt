@@ -40,7 +40,8 @@ use Rattle.spin_path.specs.PathLaws.{IsFeed, HasWholeImages}
 use Rattle.venue_core.specs.Commands.{raw_of}
 use Rattle.venue_core.specs.Refusals.{refusal}
 use Rattle.venue_core.specs.declared.error.VenueError.{VenueError}
-use Rattle.world_model.specs.Ends.{grp_server, gap_link, link_of}
+use Rattle.client_end.specs.Links.{gap_link}
+use Rattle.world_model.specs.Ends.{grp_server, link_of}
 use Rattle.world_model.specs.Sound.{Sound}
 use Rattle.world_model.specs.State.{State, Connection, Pipe, waiting, datagrams_on, passed_on, connection_of}
 use Rattle.world_model.specs.Verbs.{Done, done, next_state, state_of, commanded_on, pending, numbered, delivered_on, connected_on, cut_on, ended, ended_where, carried, wanted, up_on, down_on, at_server_of, views_of, source_of, sent_whole, pumps, took, with_up, with_down, server_fed, link_fed, link_hears, link_ticked, link_ticks, shut, login_of, servers_tick, client_ticks, asked}
@@ -48,7 +49,7 @@ use Rattle.world_model.specs.Witness.{Witnessed}
 use Rattle.world_model.specs.declared.limits.Limits.{Limits}
 use Rattle.world_model.specs.declared.outcome.Outcome.TheVariants as outcome
 use Rattle.world_laws.proofs.CommandRaws.{command_raw, next_there}
-use Rattle.world_model.proofs.LinkItems.{gap_link_tells}
+use Rattle.client_end.proofs.LinkItems.{gap_link_tells}
 use Rattle.world_model.proofs.Pieces.{Pieces, pieces_append, pieces_after, piece_at, blocks_of_pieces, pieces_more}
 use Rattle.world_model.proofs.Replies.{proxy_pieces, views_same}
 use Rattle.world_model.proofs.Sessions.{ticked_witness}

@@ -25,7 +25,7 @@ use Rattle.spin_server.specs.Served.{is_served}
 use Rattle.spin_path.specs.Paths.{heard_all}
 use Rattle.spin_path.specs.PathLaws.{IsFeed}
 use Rattle.client_links.specs.Linking.{NoLookup, link_tells}
-use Rattle.world_model.specs.Ends.{spin_link}
+use Rattle.client_end.specs.Links.{spin_link}
 use Rattle.world_model.specs.State.{State, waiting}
 use Rattle.world_model.specs.Verbs.{next_state, asked, done, ended_where, link_hears, took, with_down}
 use Rattle.world_model.specs.declared.limits.Limits.{Limits}

@@ -21,7 +21,7 @@ use Rattle.grp_session.specs.Budget.{Spent, next_second}
 use Rattle.spin_server.specs.Served.{Served}
 use Rattle.client_links.specs.Linking.{NoLookup}
 use Rattle.spin_path.specs.Paths.{heard_all}
-use Rattle.world_model.specs.Ends.{spin_link}
+use Rattle.client_end.specs.Links.{spin_link}
 use Rattle.world_model.specs.State.{State, waiting}
 use Rattle.world_model.specs.Verbs.{took, at_link, with_up, with_down, at_server_of, sent_whole, views_of, next_state, asked, done, ended_where, link_fed, link_hears}
 use Rattle.world_model.specs.declared.limits.Limits.{Limits}
