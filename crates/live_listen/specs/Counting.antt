@@ -1,25 +1,22 @@
 -- What a listener counts of the datagrams that came.
-use Rattle.std.specs.Prelude.{ℕ, ◌+◌, Bool, true, not, ◌||◌, List, [], ◌∷◌, length, filter}
-use Rattle.std.specs.Prelude.{if◌then◌else◌}
-use Rattle.std.specs.List.{flat_map}
-use Rattle.unit_packets.specs.Cutting.{blocks_of, rest_of}
+use Rattle.std.specs.Prelude.{ℕ, Bool, not, List, length}
+use Rattle.std.specs.List.{flat_map, count_by}
+use Rattle.unit_packets.specs.Blocks.{Block}
+use Rattle.unit_packets.specs.Cutting.{blocks_of}
+use Rattle.stream_print.specs.Carriers.{is_faulty}
 use Rattle.live_listen.specs.Heard.{is_wanted, blocks_heard}
 use Rattle.live_listen.specs.declared.counts.Counts.{Counts}
 
-abbrev pub is_nothing : List ℕ → Bool
-is_nothing [] = true
-is_nothing (byte ∷ bytes) = false
+-- its unit is not listened to
+abbrev pub is_stray : List ℕ → Block → Bool
+is_stray units block = not (is_wanted units block)
 
--- a datagram that is empty, or has a rest behind its whole blocks, is faulty
-abbrev pub is_faulty : List ℕ → Bool
-is_faulty datagram = is_nothing datagram || not (is_nothing (rest_of datagram))
-
--- the datagrams, the faulty ones among them, the blocks that were heard, and those of units that
--- are not listened to
+-- the datagrams, those of them that are empty or have a rest behind their whole blocks, the blocks
+-- that were heard, and the stray ones
 abbrev pub counts_of : List ℕ → List (List ℕ) → Counts
 counts_of units datagrams = record {
   datagrams = length datagrams;
-  faulty = length (filter is_faulty datagrams);
+  faulty = count_by is_faulty datagrams;
   blocks = length (blocks_heard units datagrams);
-  stray = length (filter (λ block. not (is_wanted units block)) (flat_map blocks_of datagrams));
+  stray = count_by (is_stray units) (flat_map blocks_of datagrams);
 }

@@ -1,6 +1,7 @@
 -- How a listener ends, and what it has written by then.
-use Rattle.std.specs.Prelude.{◌≡◌, ℕ, List, [], ◌∷◌, ◌++◌, Bool, Option, None, Some, reverse}
+use Rattle.std.specs.Prelude.{◌≡◌, ◌≤◌, ℕ, List, [], ◌∷◌, ◌++◌, Option, None, Some, reverse}
 use Rattle.std.specs.Prelude.{Result, Ok, Err}
+use Rattle.pitch_fields.specs.Limits.{most_held}
 use Rattle.pitch_io.specs.Putting.{Grows}
 use Rattle.unit_packets.specs.Blocks.{Block}
 use Rattle.pitch_model.specs.History.{Raw}
@@ -24,13 +25,20 @@ pub record Setup : Type 0 where
   pub units : List ℕ
   pub hold : ℕ
 
+-- there is a line, and a hold has a place at least, and at most as many as a client may hold
+pub record CanListen (lines hold : ℕ) : Type 0 where
+  pub line : 1 ≤ lines
+  pub place : 1 ≤ hold
+  pub within : hold ≤ most_held
+
 abbrev pub heard_of : Setup → List LineCall → List Block
 heard_of s run = blocks_heard s.units (datagrams_of run)
 
--- the calls that a run added, where the net lists its calls
+-- where the net lists its calls after a run, it listed them before, and those of the run were added
 abbrev pub AddsRun : List LineCall → Option (List LineCall) → Option (List LineCall) → Type 0
-AddsRun run (Some before) (Some after) = after ≡ run ++ before
-AddsRun run before after = Unit {0}
+AddsRun run old None = Unit {0}
+AddsRun run None (Some calls) = ⊥
+AddsRun run (Some before) (Some calls) = calls ≡ run ++ before
 
 -- a run of a listener: its calls, each of which was due, and the text that was written
 pub record IsRun (s : Setup) (calls calls' : Option (List LineCall)) (out : Told)
@@ -52,6 +60,8 @@ AreLines H blocks text = text ≡ lines_after H [] blocks
 
 -- a prefix of the whole text
 pub record BeginsText (H : ℕ) (blocks : List Block) (text : List ℕ) : Type 0 where
+  pub lines : (books : List ℕ)
+      × ((more : List ℕ) × (lines_after H [] blocks ++ books ≡ text ++ more))
   pub honest : (Image : List Raw → ℕ → List Raw) (Vs : ℕ → List Raw)
       → AllHonest Image Vs (reverse blocks)
       → (more : List ℕ) × (follow_text H Vs blocks ≡ text ++ more)

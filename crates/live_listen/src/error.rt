@@ -1,5 +1,8 @@
 //! Why a listener ends early.
 
+use pitch_fields::OutOfMemory;
+use stream_print::{PrintError, PutFailed};
+
 /// Why a listener ends early.
 #[derive(Clone, Copy, PartialEq, Eq)]
 pub enum ListenError {
@@ -9,4 +12,42 @@ pub enum ListenError {
     Write,
     /// Memory ran out.
     OutOfMemory,
+}
+
+impl From<PutFailed> for ListenError {
+    ghost use Rattle.std.specs.Prelude.{◌≡◌};
+    ghost use Rattle.live_listen.specs.declared.error.ListenError.TheVariants as errors;
+
+    ghost from_gives = { λ _ error. error ≡ errors.Write };
+
+    fn from(_: PutFailed) -> ListenError {
+        ListenError::Write
+    }
+}
+
+impl From<OutOfMemory> for ListenError {
+    ghost use Rattle.std.specs.Prelude.{◌≡◌};
+    ghost use Rattle.live_listen.specs.declared.error.ListenError.TheVariants as errors;
+
+    ghost from_gives = { λ _ error. error ≡ errors.OutOfMemory };
+
+    fn from(_: OutOfMemory) -> ListenError {
+        ListenError::OutOfMemory
+    }
+}
+
+impl From<PrintError> for ListenError {
+    ghost use Rattle.std.specs.Prelude.{◌≡◌};
+    ghost use Rattle.live_listen.specs.Failures.{unheard};
+
+    ghost from_gives = { λ printing error. error ≡ unheard printing };
+
+    // No line of `follow` needs a sequence, so none is ever spent.
+    fn from(error: PrintError) -> ListenError {
+        match error {
+            PrintError::SequencesSpent => ListenError::OutOfMemory,
+            PrintError::Write => ListenError::Write,
+            PrintError::OutOfMemory => ListenError::OutOfMemory,
+        }
+    }
 }

@@ -1,0 +1,9 @@
+//! Worked examples of a listener: what it hears, prints and counts, and what ends it.
+//!
+//! There are tests alone here, in a crate of their own for the reason that `wire_tests` gives.
+#![tactic(auto)]
+
+#[cfg(test)]
+mod listening;
+#[cfg(test)]
+mod turns;

@@ -1,0 +1,267 @@
+-- How a run ends.
+use Rattle.std.proofs.Common.{◌≡◌, ℕ, Bool, true≢false, List, [], ◌∷◌, ◌++◌, length, take, drop, reverse, refl, sym, ap, ◌∙◌, subst, arith, append_assoc, Option, Some, Result, Ok, Err}
+use Rattle.std.specs.Result.{IsErr, IsErrAnd}
+use Rattle.std.specs.List.{flat_map, count_by}
+use Rattle.std.proofs.lemmas.List.{append-nil, take-append-drop, length-reverse}
+use Rattle.pitch_io.specs.Putting.{Grows}
+use Rattle.unit_packets.specs.Blocks.{Block}
+use Rattle.unit_packets.specs.Cutting.{blocks_of}
+use Rattle.pitch_model.specs.History.{Raw}
+use Rattle.feed_lines.specs.Follow.{lines_after, books_of, follow_text}
+use Rattle.stream_print.specs.Carriers.{is_faulty}
+use Rattle.stream_print.specs.Knowing.{task_form, HasPrinted}
+use Rattle.stream_print.specs.Page.{Prints, PrintsSuch}
+use Rattle.stream_print.specs.Printing.{Fails, FailsBlocks}
+use Rattle.stream_print.specs.Putting.{PutsSome}
+use Rattle.stream_print.specs.Sinks.{PutsSuch}
+use Rattle.stream_print.specs.TextLaws.{AreTextsAfter, BeginTextsAfter, IsEnd, IsPrefixOfEnd}
+use Rattle.stream_print.specs.Told.{between}
+use Rattle.stream_print.specs.declared.failure.PrintError.{PrintError}
+use Rattle.stream_print.specs.declared.failure.PrintError.TheVariants as printing
+use Rattle.stream_print.specs.declared.stream_form.StreamForm.{StreamForm}
+use Rattle.stream_print.specs.declared.stream_form.StreamForm.TheVariants.{Follow}
+use Rattle.stream_print.proofs.Flow.{grows_none}
+use Rattle.stream_print.proofs.Printing.{prints_flushed, prints_whole, prints_more, puts_after, puts_so_far, puts_then}
+use Rattle.stream_print.proofs.Streaming.{fails_more}
+use Rattle.live_net.specs.LineCalls.{LineCall, Receive, AddsCall}
+use Rattle.live_net.specs.declared.net.Received.TheVariants as received
+use Rattle.live_listen.specs.Counting.{is_stray, counts_of}
+use Rattle.live_listen.specs.Due.{due, due_of, Receives, AreDue}
+use Rattle.live_listen.specs.Failures.{unheard}
+use Rattle.live_listen.specs.Heard.{datagrams_of, heard_in, blocks_heard}
+use Rattle.live_listen.specs.Listening.{Setup, AddsRun, heard_of, IsWholeText, AreLines, BeginsText, HasFailed, IsOver, ListenEnds}
+use Rattle.live_listen.specs.Standing.{Devices, Stands, Steps, NamesNoDevice}
+use Rattle.live_listen.specs.declared.counts.Counts.{Counts}
+use Rattle.live_listen.specs.declared.error.ListenError.{ListenError}
+use Rattle.live_listen.specs.declared.error.ListenError.TheVariants as errors
+use Rattle.live_listen.specs.declared.listener.Listener.{Listener}
+use Rattle.live_listen.proofs.Standing.{adds_none, adds_more, more_heard}
+
+no_venues : ℕ → List Raw
+no_venues unit = []
+
+-- what was printed, once the page is written out
+prints_out : (a b c : Option (List ℕ)) (t x : List ℕ) → Prints a [] b t x → Grows b c t → Grows a c x
+prints_out a b c t x p g = subst (Grows a c) (append-nil x) (prints_whole a c [] (x ++ []) (prints_more a b c [] t [] x [] p (prints_flushed b c t g)))
+
+-- ---- Prefixes of the whole text
+module _ (H : ℕ) (blocks : List Block) where
+  lines : List ℕ
+  lines = lines_after H [] blocks
+
+  begins_lines : (text more : List ℕ) → lines_after H [] blocks ≡ text ++ more → BeginsText H blocks text
+  begins_lines text more is = record {
+    lines = ([], (more, append-nil (lines_after H [] blocks) ∙ is));
+    honest = λ Image Vs honest.
+        let books : List ℕ = books_of H Vs (reverse blocks) in
+        (more ++ books, ap (λ (t : List ℕ). t ++ books) is ∙ append_assoc text more books);
+  }
+
+  -- all lines, and a prefix of the books
+  begins_books : (text books : List ℕ) → text ≡ lines_after H [] blocks → IsPrefixOfEnd (Follow H) (reverse blocks) books → BeginsText H blocks (text ++ books)
+  begins_books text books are first = record {
+    lines = (books, ([], ap (λ (t : List ℕ). t ++ books) (sym are) ∙ sym (append-nil (text ++ books))));
+    honest = λ Image Vs honest.
+        let here = first Image Vs honest in
+        (here.0, ap (λ (t : List ℕ). t ++ books_of H Vs (reverse blocks)) (sym are) ∙ ap (λ (t : List ℕ). text ++ t) here.1 ∙ sym (append_assoc text books here.0));
+  }
+
+  begins_less : (n : ℕ) (text : List ℕ) → BeginsText H blocks text → BeginsText H blocks (take n text)
+  begins_less n text b =
+      let all : take n text ++ drop n text ≡ text = take-append-drop n text in
+      record {
+        lines = (b.lines.0, (drop n text ++ b.lines.1.0, b.lines.1.1 ∙ ap (λ (t : List ℕ). t ++ b.lines.1.0) (sym all) ∙ append_assoc (take n text) (drop n text) b.lines.1.0));
+        honest = λ Image Vs honest.
+            let here = b.honest Image Vs honest in
+            (drop n text ++ here.0, here.1 ∙ ap (λ (t : List ℕ). t ++ here.0) (sym all) ∙ append_assoc (take n text) (drop n text) here.0);
+      }
+
+-- ---- Runs that end
+module _ (s : Setup) (start v : Devices) (run : List LineCall) (adds : AddsRun run start.calls v.calls) (due_each : AreDue s.lines run) where
+  -- memory ran out, or the sink failed
+  ends_begun : (text : List ℕ) (e : PrintError) → BeginsText s.hold (heard_of s run) text → PutsSome start.written v.written text → ListenEnds s (Err (unheard e)) start.calls v.calls (between start.written v.written)
+  ends_begun text e begins puts = by e
+    where
+      some : List ℕ
+      some = take puts.count text
+
+      by : (e : PrintError) → ListenEnds s (Err (unheard e)) start.calls v.calls (between start.written v.written)
+      by printing.SequencesSpent = record { run = run; text = some; is_run = record { adds = adds; due = due_each; writes = puts.grows }; is_end = begins_less s.hold (heard_of s run) puts.count text begins }
+      by printing.Write = record { run = run; text = some; is_run = record { adds = adds; due = due_each; writes = puts.grows }; is_end = begins_less s.hold (heard_of s run) puts.count text begins }
+      by printing.OutOfMemory = record { run = run; text = some; is_run = record { adds = adds; due = due_each; writes = puts.grows }; is_end = begins_less s.hold (heard_of s run) puts.count text begins }
+
+  -- the lines of the blocks were not all printed
+  ends_failed : (form : StreamForm) (e : PrintError) (page : List ℕ) → form ≡ Follow s.hold → page ≡ [] → Fails e form [] (heard_of s run) start.written page v.written → ListenEnds s (Err (unheard e)) start.calls v.calls (between start.written v.written)
+  ends_failed form e page is empty fails = by e (subst (λ (f : StreamForm). Fails e f [] (heard_of s run) start.written [] v.written) is (subst (λ (p : List ℕ). Fails e form [] (heard_of s run) start.written p v.written) empty fails))
+    where
+      puts : (e : PrintError) → PutsSuch (BeginTextsAfter (Follow s.hold) [] (heard_of s run)) start.written [] v.written → ListenEnds s (Err (unheard e)) start.calls v.calls (between start.written v.written)
+      puts e some =
+          let begins = some.such no_venues tt in
+          ends_begun some.text e (begins_lines s.hold (heard_of s run) some.text begins.0 begins.1) some.puts
+
+      by : (e : PrintError) → Fails e (Follow s.hold) [] (heard_of s run) start.written [] v.written → ListenEnds s (Err (unheard e)) start.calls v.calls (between start.written v.written)
+      by printing.SequencesSpent outruns = absurd outruns.outruns
+      by printing.Write some = puts printing.Write some
+      by printing.OutOfMemory some = puts printing.OutOfMemory some
+
+-- ---- What a listener that stands has printed
+module _ (s : Setup) (start u : Devices) (l : Listener) (run : List LineCall) (st : Stands s start u l run) where
+  form_now : task_form l.printer.task ≡ Follow s.hold
+  form_now = st.prints.form_is ∙ st.form_is
+
+  pub known_now : HasPrinted l.printer (reverse (heard_of s run))
+  known_now = subst (HasPrinted l.printer) (append-nil (reverse (heard_of s run))) (st.prints.known [] st.known)
+
+  printed_first : PrintsSuch (AreTextsAfter (Follow s.hold) [] (heard_of s run)) start.written [] u.written l.printer.page.text
+  printed_first =
+      subst (λ (f : StreamForm). PrintsSuch (AreTextsAfter f [] (heard_of s run)) start.written [] u.written l.printer.page.text) st.form_is
+      (subst (λ (p : List ℕ). PrintsSuch (AreTextsAfter (task_form st.first.task) [] (heard_of s run)) start.written p u.written l.printer.page.text) st.empty (st.prints.printed [] st.known))
+
+  -- it has printed the lines
+  text_now : List ℕ
+  text_now = printed_first.text
+
+  lines_now : text_now ≡ lines_after s.hold [] (heard_of s run)
+  unfolding text_now printed_first
+  lines_now = printed_first.such no_venues tt
+
+  printed_now : Prints start.written [] u.written l.printer.page.text text_now
+  unfolding text_now printed_first
+  printed_now = printed_first.printed
+
+  begins_now : BeginsText s.hold (heard_of s run) text_now
+  begins_now = begins_lines s.hold (heard_of s run) text_now [] (sym lines_now ∙ sym (append-nil text_now))
+
+  -- no memory is left
+  pub ends_now : ListenEnds s (Err errors.OutOfMemory) start.calls u.calls (between start.written u.written)
+  ends_now = ends_begun s start u run st.adds st.due_each text_now printing.OutOfMemory begins_now (puts_so_far start.written u.written [] l.printer.page.text text_now printed_now)
+
+  -- the sink failed while the page was written out
+  pub ends_unflushed : (v : Devices) (e : PrintError) → v.calls ≡ u.calls → PutsSome u.written v.written l.printer.page.text → ListenEnds s (Err (unheard e)) start.calls v.calls (between start.written v.written)
+  ends_unflushed v e same puts =
+      ends_begun s start v run (subst (AddsRun run start.calls) (sym same) st.adds) st.due_each text_now e begins_now (puts_after start.written u.written v.written [] l.printer.page.text text_now printed_now puts)
+
+  -- the net failed, and nothing is left on the page
+  pub ends_cut_off : l.printer.page.text ≡ [] → HasFailed run → ListenEnds s (Err errors.Net) start.calls u.calls (between start.written u.written)
+  ends_cut_off none failed = record {
+    run = run;
+    text = text_now;
+    is_run = record {
+      adds = st.adds;
+      due = st.due_each;
+      writes = prints_whole start.written u.written [] text_now (subst (λ (p : List ℕ). Prints start.written [] u.written p text_now) none printed_now);
+    };
+    is_end = record { failed = failed; text_is = lines_now };
+  }
+
+  -- a datagram came that was not printed
+  pub ends_unprinted : (v : Devices) (e : PrintError) (line room n : ℕ) (bytes : List ℕ) → AddsCall u.calls v.calls (Receive line room bytes (received.Got n)) → due s.lines run ≡ Some (Receives line room)
+      → FailsBlocks e l.printer u.written v.written (heard_in s.units bytes) → ListenEnds s (Err (unheard e)) start.calls v.calls (between start.written v.written)
+  ends_unprinted v e line room n bytes adds is_due fails =
+      let call : LineCall = Receive line room bytes (received.Got n) in
+      let more : List Block = heard_in s.units bytes in
+      ends_failed s start v (call ∷ run) (adds_more run call start.calls u.calls v.calls st.adds adds) (is_due, st.due_each) (task_form st.first.task) e st.first.page.text st.form_is st.empty
+      (fails_more st.first l.printer e start.written u.written v.written (heard_of s (call ∷ run)) (heard_of s run) more []
+      (more_heard s.units (datagrams_of run) bytes ∙ ap (λ (bs : List Block). heard_of s run ++ bs) (sym (append-nil more))) st.prints fails [] st.known)
+
+  -- ---- The books
+  -- the sink failed while they were printed
+  pub ends_unbooked : (v : Devices) (e : PrintError) → v.calls ≡ u.calls → PutsSuch (IsPrefixOfEnd (task_form l.printer.task) (reverse (heard_of s run))) u.written l.printer.page.text v.written
+      → ListenEnds s (Err (unheard e)) start.calls v.calls (between start.written v.written)
+  ends_unbooked v e same some =
+      ends_begun s start v run (subst (AddsRun run start.calls) (sym same) st.adds) st.due_each (text_now ++ some.text) e
+      (begins_books s.hold (heard_of s run) text_now some.text lines_now (subst (λ (f : StreamForm). IsPrefixOfEnd f (reverse (heard_of s run)) some.text) form_now some.such))
+      (puts_then start.written u.written v.written [] l.printer.page.text text_now some.text printed_now some.puts)
+
+  module _ (w : Option (List ℕ)) (page : List ℕ) (printed : PrintsSuch (IsEnd (task_form l.printer.task) (reverse (heard_of s run))) u.written l.printer.page.text w page) where
+    whole : Prints start.written [] w page (text_now ++ printed.text)
+    whole = prints_more start.written u.written w [] l.printer.page.text page text_now printed.text printed_now printed.printed
+
+    books_are : IsEnd (Follow s.hold) (reverse (heard_of s run)) printed.text
+    books_are = subst (λ (f : StreamForm). IsEnd f (reverse (heard_of s run)) printed.text) form_now printed.such
+
+    -- or at the last page
+    pub ends_unwritten : (v : Devices) (e : PrintError) → v.calls ≡ u.calls → PutsSome w v.written page → ListenEnds s (Err (unheard e)) start.calls v.calls (between start.written v.written)
+    ends_unwritten v e same puts =
+        ends_begun s start v run (subst (AddsRun run start.calls) (sym same) st.adds) st.due_each (text_now ++ printed.text) e
+        (begins_books s.hold (heard_of s run) text_now printed.text lines_now (λ Image Vs honest. ([], sym (books_are Image Vs honest) ∙ sym (append-nil printed.text))))
+        (puts_after start.written w v.written [] page (text_now ++ printed.text) whole puts)
+
+    -- all was written
+    pub ends_done : (v : Devices) → v.calls ≡ u.calls → Grows w v.written page → IsOver run
+        → ListenEnds s (Ok (record { datagrams = l.datagrams; faulty = l.faulty; blocks = l.printer.number; stray = l.stray })) start.calls v.calls (between start.written v.written)
+    ends_done v same grows over = record {
+      run = run;
+      text = text_now ++ printed.text;
+      is_run = record {
+        adds = subst (AddsRun run start.calls) (sym same) st.adds;
+        due = st.due_each;
+        writes = prints_out start.written w v.written page (text_now ++ printed.text) whole grows;
+      };
+      is_end = record {
+        over = over;
+        text_is = record {
+          lines = (printed.text, ap (λ (t : List ℕ). t ++ printed.text) lines_now);
+          honest = λ Image Vs honest.
+              ap (λ (t : List ℕ). t ++ printed.text) lines_now ∙ ap (λ (t : List ℕ). lines_after s.hold [] (heard_of s run) ++ t) (books_are Image Vs honest);
+        };
+        counts_are = same_counts s.units (datagrams_of run) l.datagrams l.faulty l.printer.number l.stray st.datagrams_are st.faulty_are (known_now.number_is ∙ length-reverse (heard_of s run)) st.stray_are;
+      };
+    }
+      where
+        same_counts : (units : List ℕ) (ds : List (List ℕ)) (a b c d : ℕ) → a ≡ length ds → b ≡ count_by is_faulty ds → c ≡ length (blocks_heard units ds) → d ≡ count_by (is_stray units) (flat_map blocks_of ds)
+            → ◌≡◌ {A = Counts} (record { datagrams = a; faulty = b; blocks = c; stray = d }) (counts_of units ds)
+        same_counts units ds a b c d p q r t =
+            ap (λ (n : ℕ). counts n b c d) p ∙ ap (λ (n : ℕ). counts (length ds) n c d) q
+            ∙ ap (λ (n : ℕ). counts (length ds) (count_by is_faulty ds) n d) r ∙ ap (λ (n : ℕ). counts (length ds) (count_by is_faulty ds) (length (blocks_heard units ds)) n) t
+          where
+            counts : ℕ → ℕ → ℕ → ℕ → Counts
+            counts a b c d = record { datagrams = a; faulty = b; blocks = c; stray = d }
+
+-- ---- The answer of a `?` is its error
+pub ends_same : (s : Setup) (answer : Result Counts ListenError) (error : ListenError) (calls calls' : Option (List LineCall)) (a b : Option (List ℕ)) → IsErr answer × IsErrAnd answer (λ e. e ≡ error)
+    → ListenEnds s (Err error) calls calls' (between a b) → ListenEnds s answer calls calls' (between a b)
+ends_same s (Ok done) error calls calls' a b is ends = absurd (true≢false (sym is.0))
+ends_same s (Err e) error calls calls' a b is ends = subst (λ (x : ListenError). ListenEnds s (Err x) calls calls' (between a b)) (sym is.1) ends
+
+pub steps_same : (s : Setup) (answer : Result Bool ListenError) (error : ListenError) (start now : Devices) (l : Listener) → IsErr answer × IsErrAnd answer (λ e. e ≡ error)
+    → ListenEnds s (Err error) start.calls now.calls (between start.written now.written) → Steps s answer start now l
+steps_same s (Ok done) error start now l is ends = absurd (true≢false (sym is.0))
+steps_same s (Err e) error start now l is ends = subst (λ (x : ListenError). ListenEnds s (Err x) start.calls now.calls (between start.written now.written)) (sym is.1) ends
+
+-- ---- Before the first call
+begins_none : (H : ℕ) (blocks : List Block) → BeginsText H blocks []
+begins_none H blocks = record {
+  lines = ([], (lines_after H [] blocks ++ [], refl));
+  honest = λ Image Vs honest. (follow_text H Vs blocks, refl);
+}
+
+pub ends_none : (s : Setup) (calls : Option (List LineCall)) (w : Option (List ℕ)) → ListenEnds s (Err errors.OutOfMemory) calls calls (between w w)
+ends_none s calls w = record {
+  run = [];
+  text = [];
+  is_run = record { adds = adds_none calls; due = tt; writes = grows_none w };
+  is_end = begins_none s.hold [];
+}
+
+-- an answer that names no device
+pub done_names_none : {A : Type 0} (x : A) → NamesNoDevice (Ok x)
+done_names_none {A} x = (no errors.Net, no errors.Write)
+  where
+    no : (e : ListenError) → ◌≡◌ {A = Result A ListenError} (Ok x) (Err e) → ⊥
+    no e is = cc
+
+-- the error that a `?` answers is that of the call
+pub same_answer : {A : Type 0} (answer : Result A ListenError) (error other : ListenError) → IsErr answer × IsErrAnd answer (λ e. e ≡ error) → answer ≡ Err other → error ≡ other
+same_answer (Ok done) error other is e = absurd (true≢false (sym is.0))
+same_answer {A} (Err x) error other is e = sym is.1 ∙ same x other e
+  where
+    same : (x y : ListenError) → ◌≡◌ {A = Result A ListenError} (Err x) (Err y) → x ≡ y
+    same x y e = cc
+
+pub names_same : {A B : Type 0} (answer : Result A ListenError) (error : ListenError) → IsErr answer × IsErrAnd answer (λ e. e ≡ error) → NamesNoDevice answer → NamesNoDevice {A = B} (Err error)
+names_same (Ok done) error is none = absurd (true≢false (sym is.0))
+names_same {A} {B} (Err x) error is none = (λ e. none.0 (ap Err (is.1 ∙ same error errors.Net e)), λ e. none.1 (ap Err (is.1 ∙ same error errors.Write e)))
+  where
+    same : (x y : ListenError) → ◌≡◌ {A = Result B ListenError} (Err x) (Err y) → x ≡ y
+    same x y e = cc

@@ -1,0 +1,5 @@
+pub mod Ending
+pub mod Examples
+pub mod Hearing
+pub mod Placing
+pub mod Standing
