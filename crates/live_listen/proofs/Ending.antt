@@ -1,5 +1,5 @@
 -- How a run ends.
-use Rattle.std.proofs.Common.{◌≡◌, ℕ, Bool, true≢false, List, [], ◌∷◌, ◌++◌, length, take, drop, reverse, refl, sym, ap, ◌∙◌, subst, arith, append_assoc, Option, Some, Result, Ok, Err}
+use Rattle.std.proofs.Common.{◌≡◌, ℕ, Bool, true≢false, List, [], ◌∷◌, ◌++◌, length, take, drop, reverse, refl, sym, ap, ◌∙◌, subst, append_assoc, Option, Some, Result, Ok, Err}
 use Rattle.std.specs.Result.{IsErr, IsErrAnd}
 use Rattle.std.specs.List.{flat_map, count_by}
 use Rattle.std.proofs.lemmas.List.{append-nil, take-append-drop, length-reverse}
@@ -26,10 +26,10 @@ use Rattle.stream_print.proofs.Streaming.{fails_more}
 use Rattle.live_net.specs.LineCalls.{LineCall, Receive, AddsCall}
 use Rattle.live_net.specs.declared.net.Received.TheVariants as received
 use Rattle.live_listen.specs.Counting.{is_stray, counts_of}
-use Rattle.live_listen.specs.Due.{due, due_of, Receives, AreDue}
+use Rattle.live_listen.specs.Due.{due, Receives, AreDue}
 use Rattle.live_listen.specs.Failures.{unheard}
 use Rattle.live_listen.specs.Heard.{datagrams_of, heard_in, blocks_heard}
-use Rattle.live_listen.specs.Listening.{Setup, AddsRun, heard_of, IsWholeText, AreLines, BeginsText, HasFailed, IsOver, ListenEnds}
+use Rattle.live_listen.specs.Listening.{Setup, AddsRun, heard_of, BeginsText, HasFailed, IsOver, ListenEnds}
 use Rattle.live_listen.specs.Standing.{Devices, Stands, Steps, NamesNoDevice}
 use Rattle.live_listen.specs.declared.counts.Counts.{Counts}
 use Rattle.live_listen.specs.declared.error.ListenError.{ListenError}

@@ -1,5 +1,5 @@
 -- Which call of its net a listener makes next. The calls of a run stand newest first.
-use Rattle.std.specs.Prelude.{◌≡◌, ℕ, ◌+◌, ◌==◌, nat_lt, Bool, true, false, ◌||◌, List, [], ◌∷◌}
+use Rattle.std.specs.Prelude.{◌≡◌, ℕ, ◌+◌, ◌==◌, nat_lt, Bool, false, ◌||◌, List, [], ◌∷◌}
 use Rattle.std.specs.Prelude.{Option, None, Some, if◌then◌else◌}
 use Rattle.live_net.specs.LineCalls.{LineCall, Wait, Receive}
 use Rattle.live_net.specs.declared.net.Woken.TheVariants as woken

@@ -1,6 +1,6 @@
 -- What a listener hears in a run. The calls of a run stand newest first, datagrams and blocks in
 -- their order.
-use Rattle.std.specs.Prelude.{ℕ, ◌==◌, Bool, true, not, List, [], ◌∷◌, ◌++◌, filter}
+use Rattle.std.specs.Prelude.{ℕ, ◌==◌, Bool, true, List, [], ◌∷◌, ◌++◌, filter}
 use Rattle.std.specs.List.{flat_map, list_any}
 use Rattle.unit_packets.specs.Blocks.{Block}
 use Rattle.unit_packets.specs.Cutting.{blocks_of}

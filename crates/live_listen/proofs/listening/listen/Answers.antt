@@ -1,4 +1,4 @@
-use Rattle.std.proofs.Common.{rules, ◌≡◌, ◌≤◌, Bool, true, false, ℕ, List, [], ◌++◌, length, drop, Ok, Err, refl, sym, ap, ◌∙◌, subst, arith, length-append, length-drop, length-take}
+use Rattle.std.proofs.Common.{rules, ◌≡◌, ◌≤◌, Bool, true, false, ℕ, List, [], ◌++◌, length, drop, Ok, Err, refl, ap, ◌∙◌, subst, arith, length-append, length-drop, length-take}
 use Rattle.stream_print.proofs.Taking.{later_cause}
 use Rattle.live_listen.specs.Standing.{devices, Steps}
 use Rattle.live_listen.specs.declared.error.ListenError.TheVariants as errors

@@ -1,4 +1,4 @@
-use Rattle.std.proofs.Common.{◌≡◌, ◌∷◌, sym, arith}
+use Rattle.std.proofs.Common.{◌≡◌, ◌∷◌, arith}
 use Rattle.live_net.specs.LineCalls.{Receive}
 use Rattle.live_net.specs.declared.net.Received.TheVariants as received
 use Rattle.live_listen.specs.Due.{taken_from}

@@ -1,4 +1,4 @@
-use Rattle.std.proofs.Common.{◌≡◌, ℕ, List, [], ◌∷◌, take, length, refl, sym, ap, subst}
+use Rattle.std.proofs.Common.{ℕ, List, [], ◌∷◌, take, length, refl, sym, ap, subst}
 use Rattle.stream_print.specs.Page.{Page}
 use Rattle.stream_print.specs.declared.failure.PrintError.TheVariants.{Write}
 use Rattle.stream_print.proofs.Streaming.{prints_no_block}

@@ -1,7 +1,7 @@
-use Rattle.std.proofs.Common.{◌≡◌, ◌∷◌, refl, ap, arith}
+use Rattle.std.proofs.Common.{◌∷◌, refl, ap, arith}
 use Rattle.stream_print.specs.Page.{Page}
 use Rattle.stream_print.specs.declared.failure.PrintError.TheVariants.{Write}
-use Rattle.live_net.specs.LineCalls.{LineCall, Wait}
+use Rattle.live_net.specs.LineCalls.{Wait}
 use Rattle.live_net.specs.declared.net.Woken.TheVariants as woken
 use Rattle.live_listen.specs.Standing.{devices}
 use Rattle.live_listen.proofs.Ending.{ends_unflushed, ends_cut_off, steps_same}
