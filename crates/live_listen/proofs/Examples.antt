@@ -1,5 +1,5 @@
 -- Worked examples of what is due and of what is counted.
-use Rattle.std.proofs.Common.{◌≡◌, ℕ, false, [], ◌∷◌, List, refl}
+use Rattle.std.proofs.Common.{◌≡◌, ℕ, false, true, [], ◌∷◌, List, refl}
 use Rattle.pitch_messages.specs.Raw.{raws_of}
 use Rattle.unit_packets.specs.Cutting.{blocks_by, blocks_of, rest_by, rest_of}
 use Rattle.unit_packets.specs.Judging.{judge, messages_end}
@@ -8,6 +8,7 @@ use Rattle.live_net.specs.declared.net.Woken.TheVariants as woken
 use Rattle.live_net.specs.declared.net.Received.TheVariants as received
 use Rattle.live_listen.specs.Counting.{counts_of}
 use Rattle.live_listen.specs.Due.{AreDue}
+use Rattle.live_listen.specs.Heard.{is_listened}
 
 -- a run over two lines, newest first: line 0 had a datagram, line 1 none, and then the wait was over
 abbrev pub a_run : List LineCall
@@ -28,3 +29,13 @@ of_another = 8 ∷ 0 ∷ 0 ∷ 2 ∷ 1 ∷ 0 ∷ 0 ∷ 0 ∷ []
 three_datagrams : counts_of (1 ∷ []) (with_a_byte ∷ [] ∷ of_another ∷ []) ≡ record { datagrams = 3; faulty = 2; blocks = 2; stray = 1 }
 unfolding blocks_of blocks_by rest_of rest_by judge messages_end raws_of
 three_datagrams = refl
+
+-- where no unit is named, each is listened to; else those that are
+every_unit : is_listened [] 7 ≡ true
+every_unit = refl
+
+a_named_unit : is_listened (1 ∷ 7 ∷ []) 7 ≡ true
+a_named_unit = refl
+
+another_unit : is_listened (1 ∷ 7 ∷ []) 2 ≡ false
+another_unit = refl
