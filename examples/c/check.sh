@@ -29,6 +29,12 @@ for name in follow hostile; do
 done
 for piece in 1 7 65536; do same "$made/follow" "$piece"; done
 "$made/hostile" > "$made/said" || fail "hostile ends with $?"
+for name in recover hostile_end; do
+    "$cc" -std=c11 -O2 -Wall -Wextra -Werror "$name.c" "$library" "$made/heap.o" -o "$made/$name" ||
+        fail "$name.c does not build"
+done
+"$made/hostile_end" || fail "hostile_end ends with $?"
+"$made/recover" | cmp -s - recover.wanted || fail "recover writes something else"
 said="$said; C ran"
 if command -v "${CXX:-c++}" > "$made/said"; then
     "${CXX:-c++}" -std=c++17 -O2 -Wall -Wextra -Werror follow.cpp "$library" "$made/heap.o" \

@@ -17,6 +17,8 @@ import sys
 HERE = os.path.dirname(os.path.abspath(__file__))
 SRC = os.path.join(HERE, "..", "..", "crates", "pitch_c", "src")
 OF_HEADER_ALONE = {"NULL": 9, "OTHER_ABI": 10}
+# Ends with their sessions are told to C alone: their exports and structs, and where they stand.
+ENDS = {"exports": "ends.rt", "structs": "end_reports.rt", "file": "pitch_end.h"}
 
 
 class C:
@@ -29,6 +31,9 @@ class C:
         "OrderOut": "pitch_order_out",
         "StateOut": "pitch_state_out",
         "HeardOut": "pitch_heard_out",
+        "End": "pitch_end",
+        "DatagramOut": "pitch_datagram_out",
+        "SentOut": "pitch_sent_out",
     }
 
     def field(self, name, kind, count):
@@ -133,9 +138,9 @@ def parameters(language, given):
             yield language.pointer(name, named(language, inner), fixed, None)
 
 
-def wanted(language):
+def wanted(language, structs="reports.rt", calls="lib.rt"):
     """Each struct and each call, as the language has to have it."""
-    for found in re.finditer(r"pub struct (\w+) \{(.*?)\n\}", text(SRC, "reports.rt"), re.S):
+    for found in re.finditer(r"pub struct (\w+) \{(.*?)\n\}", text(SRC, structs), re.S):
         fields = []
         for name, kind in re.findall(r"pub (\w+): (.+),\n", found[2] + "\n"):
             array = re.fullmatch(r"\[(\w+); (\d+)\]", kind)
@@ -143,7 +148,7 @@ def wanted(language):
             fields.append(language.field(name, named(language, inner), count))
         yield language.struct(language.names[found[1]], fields)
     exports = r'#\[unsafe\(no_mangle\)\]\s*pub extern "C" fn (\w+)\((.*?)\)(?: -> (\w+))?\s'
-    for found in re.finditer(exports, text(SRC, "lib.rt"), re.S):
+    for found in re.finditer(exports, text(SRC, calls), re.S):
         told = language.numbers[found[3]] if found[3] else None
         yield language.call(found[1], parameters(language, found[2]), told)
 
@@ -169,6 +174,12 @@ def main():
     for language in (C(), Rust(), Python()):
         there = plain(text(HERE, language.file))
         missing += [(language.file, it) for it in wanted(language) if plain(it) not in there]
+    there = plain(text(HERE, ENDS["file"]))
+    of_ends = wanted(C(), ENDS["structs"], ENDS["exports"])
+    sessions = re.findall(r"(\d+) => Some\(Session::(\w+)\)", text(SRC, ENDS["exports"]))
+    words = [(n, re.sub(r"(?<=.)([A-Z])", r"_\1", it).upper()) for n, it in sessions]
+    named_so = [f"PITCH_{it} = {n}" for n, it in words]
+    missing += [(ENDS["file"], it) for it in [*of_ends, *named_so] if plain(it) not in there]
     missing += [(C.file, it) for it in wrong_codes(text(HERE, C.file))]
     for file, it in missing:
         print(f"examples/c/{file}: not there: {it}")

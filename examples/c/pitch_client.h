@@ -38,6 +38,8 @@ enum pitch_code {
     PITCH_NOT_A_BLOCK = 6, /* the bytes begin with no block, whatever follows */
     PITCH_NO_CLIENT = 7,   /* no block named this unit yet */
     PITCH_NO_SIDE = 8,     /* the side is neither 'B' nor 'S' */
+    PITCH_BAD_UNIT = 11,   /* the unit of an end is not from 1 to 255 */
+    PITCH_NO_SESSION = 12, /* the session is none of pitch_session */
     PITCH_NULL = 9,        /* a pointer is null: told by this header alone */
     PITCH_OTHER_ABI = 10   /* the library is of another header: told by this one alone */
 };
@@ -196,6 +198,7 @@ static inline const char *pitch_strerror(uint32_t code) {
         "ok", "the client is closed", "the client is open already", "out of memory",
         "the hold is not from 1 to 65536", "truncated", "not a block", "no such unit", "no such side",
         "a null pointer", "the library is of another header",
+        "the unit is not from 1 to 255", "no such session",
     };
     return code < sizeof words / sizeof words[0] ? words[code] : "unknown code";
 }

@@ -36,6 +36,14 @@ no_client = 7
 abbrev pub no_side : ℕ
 no_side = 8
 
+-- an end's unit is not from 1 to 255; 9 and 10 are the header's alone
+abbrev pub bad_unit : ℕ
+bad_unit = 11
+
+-- the session is neither that with the proxy nor that with the Spin Server
+abbrev pub no_session : ℕ
+no_session = 12
+
 -- what the struct and the functions are, as the header that C was compiled with has it
 abbrev pub abi : ℕ
 abi = 2

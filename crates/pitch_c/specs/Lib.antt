@@ -4,3 +4,4 @@ pub mod Arrays
 pub mod Answers
 pub mod Clients
 pub mod Reports
+pub mod Ends

@@ -3,6 +3,9 @@
 
 mod asking;
 mod codes;
+mod end_handle;
+mod end_reports;
+mod ends;
 mod handle;
 mod lists;
 mod reports;
