@@ -68,8 +68,7 @@ fn say_out_of_memory(rt: &HostRuntime) -> u8 {
 }
 
 fn say_usage(rt: &HostRuntime) -> u8 {
-    let _said = eprintln!(
-        rt;
+    let _said = eprintln!(rt;
         "pitch_live: the words are: listen --a PORT.. --b PORT.. [--gap PORT..] [--hold H] \
          [--unit U].. [--seconds N], with at least one PORT, which is ADDR:NUMBER or fd:N"
     );
@@ -88,13 +87,9 @@ fn say_trouble(rt: &HostRuntime, asked: &ListenWords, trouble: &Trouble) -> u8 {
 
 // Says what was counted, on a line of standard error.
 fn say_counts(rt: &HostRuntime, counts: &Counts) -> u8 {
-    let _said = eprintln!(
-        rt;
+    let _said = eprintln!(rt;
         "pitch_live: datagrams {} faulty {} blocks {} stray {}",
-        counts.datagrams,
-        counts.faulty,
-        counts.blocks,
-        counts.stray
+        counts.datagrams, counts.faulty, counts.blocks, counts.stray
     );
     DONE
 }
