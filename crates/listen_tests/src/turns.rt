@@ -1,7 +1,7 @@
 //! A net of two lines whose datagrams come in turns: those of a turn are there from the wait that
 //! begins it.
 
-ghost use Rattle.std.specs.Prelude.{◌≡◌, ◌<◌, Option, None, List, length};
+ghost use Rattle.std.specs.Prelude.{◌≡◌, ◌<◌, Option, None, List, length, true, false};
 ghost use Rattle.pitch_io.specs.Causes.{HasCause};
 ghost use Rattle.live_net.specs.LineCalls.{LineCall, Wait, Receive, AddsCall, WaitFailed};
 ghost use Rattle.live_net.specs.LineCalls.{ReceiveFailed, ReceivedWithin, datagram_in};
@@ -37,20 +37,33 @@ impl Turns {
         }
     }
 
-    // Counts a call. Answers whether it fails.
-    fn fails(&mut self) -> bool {
+    // Counts a call. Answers whether it fails, which is a fault.
+    fn fails(&mut self) -> bool
+        ensures failed { result ≡ true → HasCause self.old.faults self.new.faults (Unit {0}) }
+        ensures quiet { result ≡ false → HasCause self.old.faults self.new.faults ⊥ }
+        ensures still { result ≡ false → self.new.faults ≡ self.old.faults }
+    {
         self.calls = self.calls.saturating_add(1);
-        self.calls == self.failing
+        if self.calls == self.failing {
+            self.faults = self.faults.saturating_add(1);
+            return true;
+        }
+        false
     }
+}
 
-    // The next datagram of a line in the turn that was begun last.
-    fn next_of(&mut self, line: usize) -> Option<&'static [u8]> {
-        let turn = self.turns.get(self.begun.checked_sub(1)?)?;
-        let taken = self.taken.get_mut(line)?;
-        let datagram = turn.get(line)?.get(*taken)?;
-        *taken = taken.saturating_add(1);
-        Some(*datagram)
-    }
+// The next datagram of a line in the turn that was begun last.
+fn next_of(
+    turns: &'static [Turn],
+    begun: usize,
+    taken: &mut [usize; 2],
+    line: usize,
+) -> Option<&'static [u8]> {
+    let turn = turns.get(begun.checked_sub(1)?)?;
+    let place = taken.get_mut(line)?;
+    let datagram = turn.get(line)?.get(*place)?;
+    *place = place.saturating_add(1);
+    Some(*datagram)
 }
 
 impl LineNet for Turns {
@@ -60,7 +73,6 @@ impl LineNet for Turns {
 
     fn wait(&mut self, more: bool) -> Woken {
         if self.fails() {
-            self.faults = self.faults.saturating_add(1);
             return Woken::Failed;
         }
         if more {
@@ -77,10 +89,9 @@ impl LineNet for Turns {
 
     fn receive(&mut self, line: u16, into: &mut [u8]) -> Received {
         if self.fails() {
-            self.faults = self.faults.saturating_add(1);
             return Received::Failed;
         }
-        match self.next_of(usize::from(line)) {
+        match next_of(self.turns, self.begun, &mut self.taken, usize::from(line)) {
             Some(datagram) => {
                 let count = datagram.len().min(into.len());
                 into[..count].copy_from_slice(&datagram[..count]);
