@@ -31,6 +31,7 @@ from pathlib import Path
 
 sys.dont_write_bytecode = True
 from check_examples import OTHERS, PAGES, TOP, commands_in, copy_tree
+from check_examples import lacking as wanting
 
 sys.path.insert(0, str(TOP / "examples/desk"))
 import desk
@@ -248,6 +249,24 @@ class Try:
         self.hold("status", self.terminal.ended, 0)
         self.hold_books(self.terminal.text)
 
+    def live_lines(self):
+        """Two lines at addresses of this machine, at the live program."""
+        bound = lambda: "0500000A:7725" in Path("/proc/net/udp").read_text(encoding="ascii")
+        self.terminal.wait_until("the line", bound)
+        at = {LINE_A: ("10.0.0.5", 30501), LINE_B: ("10.0.0.5", 31501)}
+        self.wait_for_lines(self.send((at[line], data) for line, data in self.feed.on_two_lines()))
+        self.terminal.close(CTRL_C)
+        self.hold("status", self.terminal.ended, 0)
+        self.hold_books(self.terminal.text)
+
+    def live_group(self):
+        """A group that a script joins, at the live program."""
+        self.terminal.wait_until("the group", self.has_joined)
+        self.wait_for_lines(self.send(self.feed.on_one_line()))
+        self.terminal.close(CTRL_C)
+        self.hold("status", self.terminal.ended, 0)
+        self.hold_books(self.terminal.text)
+
     def socket_as_input(self):
         """One line at the program itself, which an empty datagram ends."""
         self.terminal.wait_until("the group", self.has_joined)
@@ -287,7 +306,8 @@ class Try:
     def run(self):
         ways = {"tcpdump": self.live_capture, "dumpcap": self.captured_file, "tail": self.growing_file}
         ways |= {"examples/desk/listen.py": self.joined_groups, "python3": self.socket_as_input}
-        ways["tcpreplay"] = self.replayed_capture
+        ways |= {"tcpreplay": self.replayed_capture, "./pitch_live": self.live_lines}
+        ways["examples/live/join.py"] = self.live_group
         way = ways.get(self.recipe.split()[0])
         if not way:
             raise Fault("no way to try it is known")
@@ -312,6 +332,9 @@ def try_all(program):
     passed = failed = 0
     feed, far = Feed(program), lay_cable()
     for recipe in recipes():
+        if why := wanting(recipe):
+            print(f"{recipe.place}: not run, for want of {', '.join(why)}", flush=True)
+            continue
         with tempfile.TemporaryDirectory() as kept:
             folder = Path(kept, "tree")
             copy_tree(Path(program), folder)

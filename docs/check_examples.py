@@ -34,7 +34,7 @@ PAGES = ("README.md", "docs/*.md", "examples/**/*.md", "crates/*/README.md")
 SECONDS = 600
 # How a command begins that is no example.
 COMMAND = re.compile(
-    r"\(?(\./pitch |examples/|docs/|packages/)"
+    r"\(?(\./pitch(_live)? |examples/|docs/|packages/)"
     r"|(TZ=|tcpdump|tcpreplay|tshark|editcap|mergecap|dumpcap|tail|pv|python3|install|sudo|docker|\. <)"
     r"|\(cd |cc |rustc |\./follow "
 )
@@ -52,6 +52,7 @@ KIT = re.compile(r"\brt \w|--unproved")
 MADE = {
     "crates/pitch_c/out/libpitch_c.a": re.compile(r"libpitch_c\.a|libpitch\.so|\./follow "),
     "crates/own_client/out/own_client": re.compile(r"own_client/out/"),
+    "crates/pitch_live/out/pitch_live": re.compile(r"\./pitch_live "),
 }
 # The small files in the place of those that recipes name.
 CAPTURES = ("feed", "day", "all", "incident", "cut", "piece1", "piece2", "feed-0930", "feed-0940")
@@ -115,8 +116,10 @@ def copy_tree(program, into):
     """A copy of what examples name, with the program in the place of the script."""
     left_out = shutil.ignore_patterns("out", "__pycache__", ".git", "crates")
     shutil.copytree(TOP, into, ignore=left_out, symlinks=True)
-    (into / "pitch").unlink()
-    (into / "pitch").symlink_to(program)
+    # ./pitch_live asks ./pitch for its program.
+    live = into / "crates/pitch_live/out/pitch_live"
+    words = f'#!/bin/sh\n[ "$1" = --program ] && echo {live} && exit\nexec {program} "$@"\n'
+    (into / "pitch").write_text(words, encoding="utf-8")
     (into / "crates/pitch/out").mkdir(parents=True)
     (into / "crates/pitch/out/pitch").symlink_to(program)
     (into / "crates/own_client").mkdir()
