@@ -18,7 +18,7 @@ use Rattle.pitch_messages.specs.declared.order.Order.{Order}
 use Rattle.pitch_model.specs.Levels.{best_of, shares, level, with_level, best, prices_on}
 use Rattle.order_book.specs.Symbols.{StatusMap}
 use Rattle.order_book.specs.Standing.{book_of}
-use Rattle.order_book.specs.Totals.{is_on, quantities}
+use Rattle.order_book.specs.Totals.{is_on, quantities, best_level}
 use Rattle.order_book.proofs.Maps.{id_keys, looks, absent}
 use Rattle.order_book.proofs.Bests.{with_price, prices_swap}
 
@@ -133,8 +133,15 @@ pub price_of : (second : Option ℕ) (es : List (ℕ × Order)) (statuses : Stat
 unfolding chosen
 price_of second es statuses symbol side unique = any_order (chosen side (is_on symbol side)) (chosen_add side (is_on symbol side)) (chosen_step side (is_on symbol side)) (chosen_swap side (is_on symbol side)) es unique
 
--- the best price of the entries, with its level, is the best of the book
+same_answers : {A B : Type 0} → (f g : A → B) → ((a : A) → f a ≡ g a) → (o : Option A) → option_map f o ≡ option_map g o
+same_answers f g same None = refl
+same_answers f g same (Some a) = ap Some (same a)
+
+-- the best level of the entries is the best of the book
 pub best_of_entries : (second : Option ℕ) (es : List (ℕ × Order)) (statuses : StatusMap) (symbol : List ℕ) (side : Side) → IsDistinct nat_eq (keys_of es)
-    → option_map (with_level (book_of second es statuses) symbol side) (best_of side (map (λ order. order.price) (filter (is_on symbol side) (values_of es)))) ≡ best (book_of second es statuses) symbol side
+    → best_level side (filter (is_on symbol side) (values_of es)) ≡ best (book_of second es statuses) symbol side
 unfolding best
-best_of_entries second es statuses symbol side unique = ap (option_map (with_level (book_of second es statuses) symbol side)) (price_of second es statuses symbol side unique)
+best_of_entries second es statuses symbol side unique =
+    let book = book_of second es statuses in
+    same_answers (λ price. (price, quantities (filter (λ order. price == order.price) (filter (is_on symbol side) (values_of es))))) (with_level book symbol side) (λ price. ap (λ (n : ℕ). (price, n)) (level_of second es statuses symbol side price unique)) (best_of side (map (λ order. order.price) (filter (is_on symbol side) (values_of es))))
+    ∙ ap (option_map (with_level book symbol side)) (price_of second es statuses symbol side unique)

@@ -19,7 +19,7 @@ use crate::change::{make_change, shares_left};
 use crate::naming::{Touches, named_order, touched};
 use crate::order_list::{OrderList, append_by_id};
 use crate::statuses::{StatusList, Statuses};
-use crate::totals::{all_shares, best_price, shares_at};
+use crate::totals::{all_shares, best_level, shares_at};
 use crate::turn::Turn;
 use arrayvec::ArrayVec;
 use indexmap::IndexMap;
@@ -263,10 +263,7 @@ impl UnitBook {
         ensures level { IfSome result (λ best. best.1 ≡ level self.now.book symbol side best.0) }
         ensures none { IfNone result (orders_on self.now.book symbol side ≡ []) }
     {
-        let Some(price) = best_price(&self.orders, symbol, side) else {
-            return None;
-        };
-        Some((price, self.level(symbol, side, price)))
+        best_level(&self.orders, symbol, side)
     }
 
     /// Appends all open orders by rising id. The list is as before after OutOfMemory.
