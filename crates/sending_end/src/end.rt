@@ -12,10 +12,11 @@ ghost use Rattle.pitch_model.specs.Image.{image};
 ghost use Rattle.pitch_model.specs.Reach.{reach};
 ghost use Rattle.pitch_model.specs.Status.{status_of};
 ghost use Rattle.unit_packets.specs.Cutting.{blocks_of, rest_of};
+ghost use Rattle.heard_items.specs.Changes.{block_change};
 
 use crate::queue::{keep_where, take_front};
 use crate::session::Session;
-use client_end::{Account, ClientEnd, Status};
+use client_end::{Account, Change, ClientEnd, Status};
 use order_book::UnitBook;
 use pitch_fields::OutOfMemory;
 use std::alloc::Global;
@@ -41,12 +42,13 @@ pub struct SendingEnd {
 }
 
 impl SendingEnd {
-    ghost use Rattle.client_end.specs.Came.{EndSetup, GrpMade, GrpTook, GrpCut, GrpLost, SpinMade};
-    ghost use Rattle.client_end.specs.Came.{SpinTook, SpinCut, SpinLost, Second};
+    ghost use Rattle.client_end.specs.Came.{EndSetup, Heard, GrpMade, GrpTook, GrpCut, GrpLost};
+    ghost use Rattle.client_end.specs.Came.{SpinMade, SpinTook, SpinCut, SpinLost, Second};
     ghost use Rattle.client_end.specs.Came.{end_after, end_history};
     ghost use Rattle.client_end.specs.Stands.{OfEnd};
     ghost use Rattle.sending_end.specs.Waiting.{SendingStands, OfSending, StaysSo, Passes, LosesAll};
-    ghost use Rattle.sending_end.specs.Waiting.{HearsBlocks, HearsBegun, NoneWaits, of_unit};
+    ghost use Rattle.sending_end.specs.Waiting.{HearsBlocks, HearsBegun, NoneWaits, WaitsStill};
+    ghost use Rattle.sending_end.specs.Waiting.{of_unit};
     ghost use Rattle.sending_end.specs.Waiting.{made, took, ended, lost, link_of, kept_for, waiting};
 
     /// An end to which nothing came yet, as `ClientEnd` makes it. Nothing waits.
@@ -71,6 +73,20 @@ impl SendingEnd {
         })
     }
 
+    /// A block of the unit came on a line. Answers what it changed.
+    pub fn hear_block(&mut self, block: &BlockView<'_>) -> Result<Change, OutOfMemory>
+        ensures stands { OnOk result (OfSending self.old
+            (λ s before. SendingStands s self.new (Heard block.now ∷ before))) }
+        ensures change { IfOk result (λ change. OfSending self.old
+            (λ s before. change ≡ block_change s.hold (end_history s before) block.now)) }
+        ensures waits { WaitsStill self.old self.new }
+        ensures same_unit { self.new.unit ≡ self.old.unit }
+        ensures err { OnErr result (StaysSo self.old self.new) }
+        ensures heartbeat { block.now.raws ≡ [] → IsOk result }
+    {
+        self.end.hear_block(block)
+    }
+
     // A block of a datagram came. Answers whether it is of the unit.
     fn hear_if_ours(&mut self, block: &BlockView<'_>) -> Result<bool, OutOfMemory>
         ensures hears { OnOk result (HearsBlocks self.old self.new (block.now ∷ [])) }
@@ -84,7 +100,7 @@ impl SendingEnd {
         if block.header().unit != self.unit {
             return Ok(false);
         }
-        self.end.hear_block(block)?;
+        self.hear_block(block)?;
         Ok(true)
     }
 
@@ -289,6 +305,13 @@ impl SendingEnd {
             (λ s before. result ≡ status_of s.hold (end_history s before)) }
     {
         self.end.status()
+    }
+
+    /// The sequence up to which the client has every message.
+    pub fn reach(&self) -> u32
+        ensures { OfSending self.now (λ s before. result ≡ reach s.hold (end_history s before)) }
+    {
+        self.end.reach()
     }
 
     /// The book as the messages up to the reach leave it.
