@@ -26,6 +26,7 @@ mod stream;
 mod stream_form;
 mod task;
 
+pub use crate::books::print_book;
 pub use crate::carrier::Carrier;
 pub use crate::failure::{PrintError, StreamFailure, StreamTrouble};
 pub use crate::page::Page;
