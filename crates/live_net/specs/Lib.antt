@@ -1,2 +1,3 @@
 pub mod LineCalls
+pub mod LiveCalls
 pub mod Scripts

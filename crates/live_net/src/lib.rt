@@ -5,8 +5,10 @@
 //! A count of faults rises where a call fails, and in no other.
 #![tactic(auto)]
 
+mod live;
 mod memory_lines;
 mod net;
 
+pub use crate::live::{LiveNet, PeerOpened, PeerPut, PeerTaken, WaitEnd};
 pub use crate::memory_lines::{LineStep, MemoryLines};
 pub use crate::net::{LineNet, Received, Woken};
