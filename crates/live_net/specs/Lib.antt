@@ -1,3 +1,4 @@
 pub mod LineCalls
 pub mod LiveCalls
+pub mod LiveScripts
 pub mod Scripts
