@@ -242,7 +242,8 @@ impl Listener {
     /// Prints the books, and answers what was counted.
     pub fn finish<O: Sink>(&mut self, alloc: Global, out: &mut O) -> Result<Counts, ListenError>
         // Whatever run led here, whose last call was a wait that was over.
-        ensures ends { (s : Setup) (start : Devices) (calls : Option (List LineCall)) (run : List LineCall)
+        ensures ends { (s : Setup) (start : Devices) (calls : Option (List LineCall))
+            (run : List LineCall)
             → Stands s start (devices calls (O.written out.old)) self.old run → IsOver run
             → ListenEnds s result start.calls calls
             (between start.written (O.written out.new)) }

@@ -1,8 +1,8 @@
 //! A net for tests that stays in memory, answers by a script, lists its calls, and fails where it
 //! is told to.
 
-ghost use Rattle.std.specs.Prelude.{◌≡◌, ◌↔◌, ◌<◌, ◌⊎◌, [], Some, None, true, false, Contains, length};
-ghost use Rattle.std.specs.Prelude.{option_map, ℕ};
+ghost use Rattle.std.specs.Prelude.{◌≡◌, ◌↔◌, ◌<◌, ◌⊎◌, [], Some, None, true, false, Contains};
+ghost use Rattle.std.specs.Prelude.{length, option_map, ℕ};
 ghost use Rattle.std.specs.Global.{Vec as VecOf};
 ghost use Rattle.pitch_io.specs.Causes.{HasCause};
 ghost use Rattle.live_net.specs.LineCalls.{Wait, Receive, AddsCall, WaitFailed};

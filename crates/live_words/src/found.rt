@@ -1,7 +1,7 @@
 //! What is asked for, in what `clap` found.
 
-ghost use Rattle.std.specs.Prelude.{◌≡◌, ℕ, ◌^◌, ◌-◌, IfNone, IfOk, IfSome, List, MatchOption, Option};
-ghost use Rattle.std.specs.Prelude.{codes, map, option_map, unwrap_or, []};
+ghost use Rattle.std.specs.Prelude.{◌≡◌, ℕ, ◌^◌, ◌-◌, IfNone, IfOk, IfSome, List, MatchOption};
+ghost use Rattle.std.specs.Prelude.{Option, codes, map, option_map, unwrap_or, []};
 ghost use Rattle.clap.specs.Matches.{found_of};
 ghost use Rattle.clap.specs.Simple.{subcommand_rows_of};
 ghost use Rattle.clap.specs.Walk.{all_of, first_of, rows_of};

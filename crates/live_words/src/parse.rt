@@ -34,8 +34,9 @@ pub(crate) fn parse<'a>(
     alloc: Global,
     words: &'a [String],
 ) -> Result<Option<ArgMatches<'a>>, OutOfMemory>
-    ensures { IfOk result (λ read. MatchOption read (fault_of pitch_live (map string_bytes words.now)
-        ≢ []) (λ m. (fault_of pitch_live (map string_bytes words.now) ≡ [])
+    ensures { IfOk result (λ read. MatchOption read (fault_of pitch_live
+        (map string_bytes words.now) ≢ [])
+        (λ m. (fault_of pitch_live (map string_bytes words.now) ≡ [])
         × (subcommand_rows_of m ≡ subcommand_of pitch_live (map string_bytes words.now)))) }
 {
     let Ok(app) = app(alloc) else {

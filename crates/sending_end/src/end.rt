@@ -46,10 +46,10 @@ impl SendingEnd {
     ghost use Rattle.client_end.specs.Came.{SpinMade, SpinTook, SpinCut, SpinLost, Second};
     ghost use Rattle.client_end.specs.Came.{end_after, end_history};
     ghost use Rattle.client_end.specs.Stands.{OfEnd};
-    ghost use Rattle.sending_end.specs.Waiting.{SendingStands, OfSending, StaysSo, Passes, LosesAll};
-    ghost use Rattle.sending_end.specs.Waiting.{HearsBlocks, HearsBegun, NoneWaits, WaitsStill};
-    ghost use Rattle.sending_end.specs.Waiting.{of_unit};
-    ghost use Rattle.sending_end.specs.Waiting.{made, took, ended, lost, link_of, kept_for, waiting};
+    ghost use Rattle.sending_end.specs.Waiting.{SendingStands, OfSending, StaysSo, Passes};
+    ghost use Rattle.sending_end.specs.Waiting.{LosesAll, HearsBlocks, HearsBegun, NoneWaits};
+    ghost use Rattle.sending_end.specs.Waiting.{WaitsStill, of_unit, made, took, ended, lost};
+    ghost use Rattle.sending_end.specs.Waiting.{link_of, kept_for, waiting};
 
     /// An end to which nothing came yet, as `ClientEnd` makes it. Nothing waits.
     pub fn make(
