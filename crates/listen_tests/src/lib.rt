@@ -5,5 +5,3 @@
 
 #[cfg(test)]
 mod listening;
-#[cfg(test)]
-mod turns;

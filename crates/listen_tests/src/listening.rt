@@ -1,8 +1,9 @@
 //! Runs of a listener over two lines.
 
-use crate::turns::{Turn, Turns};
 use live_listen::{Counts, ListenError, ListenSetup, listen};
+use live_net::{LineStep, MemoryLines};
 use pitch_io::MemorySink;
+use std::collections::VecDeque;
 use std::process::Abort;
 use std::rt::HostRuntime;
 
@@ -22,38 +23,75 @@ const FIRST: &[u8] = b"block 1 unit 1 first 1 count 1; current 1\n";
 const FIRST_TWO: &[u8] = b"block 1 unit 1 first 1 count 1; current 1\n\
     block 2 unit 1 first 1 count 1; current 1\n";
 
+// What happens next: a wait ends, or a datagram comes on line A or B.
+#[derive(Clone, Copy)]
+enum Step {
+    Turn,
+    A(&'static [u8]),
+    B(&'static [u8]),
+}
+
 // What a run came to.
 #[derive(Drop)]
 struct Came {
     answer: Result<Counts, ListenError>,
     text: Vec<u8>,
-    net: Turns,
+    calls: u64,
 }
 
-// Hears such turns of two lines. The call of the net with that number fails, and that put.
-fn hear_turns<R: Abort + AllocGlobal>(
+fn datagram<R: Abort + AllocGlobal>(rt: &R, line: u16, bytes: &[u8]) -> LineStep {
+    let bytes = Vec::from_slice(rt.alloc(), bytes).expect(rt, "memory");
+    LineStep::Comes(line, bytes)
+}
+
+// The script of a net, from its parts.
+fn script_of<R: Abort + AllocGlobal>(rt: &R, parts: &[&[Step]]) -> VecDeque<LineStep> {
+    let mut script = VecDeque::new(rt.alloc());
+    for part in parts {
+        for step in part.iter() {
+            let next = match *step {
+                Step::Turn => LineStep::Turn,
+                Step::A(bytes) => datagram(rt, 0, bytes),
+                Step::B(bytes) => datagram(rt, 1, bytes),
+            };
+            script.push_back(next).expect(rt, "memory");
+        }
+    }
+    script
+}
+
+// Hears two lines by such a script. The call of the net with that number fails, and that put.
+fn hear_lines<R: Abort + AllocGlobal>(
     rt: &R,
-    turns: &'static [Turn],
+    parts: &[&[Step]],
     units: &[u8],
     failing: u64,
     failing_put: u64,
 ) -> Came {
     let units = Vec::from_slice(rt.alloc(), units).expect(rt, "memory");
     let setup = ListenSetup::make(2, units, 16).expect(rt, "a setup");
-    let mut net = Turns::make(turns, failing);
+    let calls = Vec::from_slice(rt.alloc(), &[failing]).expect(rt, "memory");
+    let mut net = MemoryLines::make(rt.alloc(), script_of(rt, parts), calls);
     let puts = Vec::from_slice(rt.alloc(), &[failing_put]).expect(rt, "memory");
     let mut out = MemorySink::make(rt.alloc(), 1024, puts);
     let answer = listen(rt.alloc(), &setup, &mut net, &mut out);
     let text = Vec::from_slice(rt.alloc(), out.written()).expect(rt, "memory");
-    Came { answer, text, net }
+    Came {
+        answer,
+        text,
+        calls: net.called(),
+    }
 }
 
 // Both lines have the same datagram, and then A one without bytes and a heartbeat.
-const TWICE: [Turn; 2] = [[&[MIXED], &[MIXED]], [&[b"", BEAT], &[]]];
+const TWICE: [&[Step]; 2] = [
+    &[Step::Turn, Step::A(MIXED), Step::B(MIXED)],
+    &[Step::Turn, Step::A(b""), Step::A(BEAT)],
+];
 
 #[test]
 fn blocks_of_named_units_are_heard(rt: HostRuntime) {
-    let came = hear_turns(&rt, &TWICE, b"\x01", 0, 0);
+    let came = hear_lines(&rt, &TWICE, b"\x01", 0, 0);
     let counts = Counts {
         datagrams: 4,
         faulty: 3,
@@ -67,12 +105,14 @@ fn blocks_of_named_units_are_heard(rt: HostRuntime) {
         book unit 1 at 1 second 34200 orders 0\n";
     assert!(rt; came.text.as_slice() == text.as_slice());
     // A wait, each line until it is quiet, and that once more; then the wait that is over.
-    assert!(rt; came.net.calls == 5 + 5 + 1);
+    assert!(rt; came.calls == 5 + 5 + 1);
 }
+
+const ONCE: [&[Step]; 1] = [&[Step::Turn, Step::A(TIME), Step::B(OTHER)]];
 
 #[test]
 fn blocks_of_every_unit_are_heard(rt: HostRuntime) {
-    let came = hear_turns(&rt, &[[&[TIME], &[OTHER]]], b"", 0, 0);
+    let came = hear_lines(&rt, &ONCE, b"", 0, 0);
     let counts = Counts {
         datagrams: 2,
         faulty: 0,
@@ -87,16 +127,20 @@ fn blocks_of_every_unit_are_heard(rt: HostRuntime) {
     assert!(rt; came.text.as_slice() == text.as_slice());
 }
 
-// Line A has 70 datagrams, line B one.
-const MANY: [Turn; 1] = [[&[BEAT; 70], &[BEAT]]];
+// Line A has 70 datagrams, line B one, which is asked for after 64 of them.
+const MANY: [&[Step]; 4] = [
+    &[Step::Turn],
+    &[Step::A(BEAT); 64],
+    &[Step::B(BEAT)],
+    &[Step::A(BEAT); 6],
+];
 
 #[test]
 fn a_full_line_lets_the_other_have_its_turn(rt: HostRuntime) {
-    let came = hear_turns(&rt, &MANY, b"", 0, 0);
+    let came = hear_lines(&rt, &MANY, b"", 0, 0);
     assert!(rt; matches!(&came.answer, Ok(counts) if counts.datagrams == 71));
     // The wait, 64 datagrams of A, and B's; a wait that does not, the other 6, and the last wait.
-    assert!(rt; came.net.calls == 1 + 64 + 2 + 1 + 7 + 1 + 1);
-    assert!(rt; came.net.full_waits == 1);
+    assert!(rt; came.calls == 1 + 64 + 2 + 1 + 7 + 1 + 1);
 }
 
 #[test]
@@ -108,20 +152,19 @@ fn what_came_is_written_where_the_net_fails(rt: HostRuntime) {
         (5, FIRST_TWO),
         (6, FIRST_TWO),
     ] {
-        let came = hear_turns(&rt, &TWICE, b"\x01", failing, 0);
+        let came = hear_lines(&rt, &TWICE, b"\x01", failing, 0);
         assert!(rt; came.answer == Err(ListenError::Net));
         assert!(rt; came.text.as_slice() == text);
-        assert!(rt; came.net.faults == 1);
     }
 }
 
 #[test]
 fn each_turn_is_written_before_the_next_wait(rt: HostRuntime) {
     for (failing_put, text, calls) in [(1, b"".as_slice(), 5), (2, FIRST_TWO, 10)] {
-        let came = hear_turns(&rt, &TWICE, b"\x01", 0, failing_put);
+        let came = hear_lines(&rt, &TWICE, b"\x01", 0, failing_put);
         assert!(rt; came.answer == Err(ListenError::Write));
         assert!(rt; came.text.as_slice() == text);
-        assert!(rt; came.net.calls == calls);
+        assert!(rt; came.calls == calls);
     }
 }
 

@@ -111,6 +111,13 @@ impl MemoryLines {
         }
     }
 
+    /// How many calls there were.
+    pub fn called(&self) -> u64
+        ensures { result ≡ self.now.count }
+    {
+        self.count
+    }
+
     // Counts a call. Answers whether it is listed as one that fails.
     fn is_listed(&mut self) -> bool
         ensures next { IsNextCall self.old self.new }
