@@ -8,7 +8,7 @@ use Rattle.live_net.specs.declared.net.Woken.TheVariants as woken
 use Rattle.live_net.specs.declared.net.Received.TheVariants as received
 use Rattle.live_listen.specs.Counting.{counts_of}
 use Rattle.live_listen.specs.Due.{AreDue}
-use Rattle.live_listen.specs.Heard.{is_listened}
+use Rattle.live_listen.specs.Heard.{datagrams_of, is_listened}
 
 -- a run over two lines, newest first: line 0 had a datagram, line 1 none, and then the wait was over
 abbrev pub a_run : List LineCall
@@ -18,6 +18,17 @@ a_run =
 
 pub each_call_is_due : AreDue 2 a_run
 each_call_is_due = (refl, (refl, (refl, (refl, (refl, tt)))))
+
+-- line 0 had two datagrams, line 1 one, and then a wait failed: they are told in the order in which
+-- they came, the oldest first
+abbrev three_came : List LineCall
+three_came =
+    Wait false woken.Failed ∷ Receive 1 65536 [] received.Quiet ∷ Receive 1 65536 (9 ∷ []) (received.Got 1)
+    ∷ Receive 0 65536 [] received.Quiet ∷ Receive 0 65536 (8 ∷ []) (received.Got 1)
+    ∷ Receive 0 65536 (7 ∷ []) (received.Got 1) ∷ Wait false woken.Ready ∷ []
+
+pub in_their_order : datagrams_of three_came ≡ (7 ∷ []) ∷ (8 ∷ []) ∷ (9 ∷ []) ∷ []
+in_their_order = refl
 
 -- two heartbeats of unit 1 with a byte behind them, one of unit 2, and a datagram without bytes
 abbrev with_a_byte : List ℕ
