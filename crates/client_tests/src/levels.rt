@@ -1,0 +1,32 @@
+//! Units with the levels of their books, and without.
+
+use best_quotes::LeveledUnits;
+use pitch_fields::{Price, Side, Symbol};
+use std::process::Abort;
+use unit_packets::view_block;
+
+// Message 1 of unit 7 adds an order to buy 100 ABC at 1.01.
+const FIRST: &[u8] =
+    b"\x22\0\x01\x07\x01\0\0\0\x1a\x22\0\0\0\0\x01\0\0\0\0\0\0\0B\x64\0ABC   \x65\0\x01";
+
+// The units that have heard it, in ample memory.
+fn units_of<R: Abort + AllocGlobal>(rt: &R, leveled: bool) -> LeveledUnits {
+    let mut units = LeveledUnits::make(rt.alloc(), 16, leveled).expect(rt, "memory");
+    let block = view_block(FIRST).expect(rt, "a block");
+    units.hear_block(rt.alloc(), &block).expect(rt, "memory");
+    units.reserve(7, 2).expect(rt, "memory");
+    units
+}
+
+#[test]
+fn the_best_bid_is_that_of_the_order(rt: HostRuntime) {
+    let symbol = Symbol::from_eight(*b"ABC     ");
+    for leveled in [true, false] {
+        let units = units_of(&rt, leveled);
+        let unit = units.unit(7).expect(&rt, "a client");
+        let bid = unit.best(symbol, Side::Buy);
+        assert!(rt; bid == Some((Price::from_long(10_100), 100)));
+        assert!(rt; unit.best(symbol, Side::Sell).is_none());
+        assert!(rt; units.unit(1).is_none());
+    }
+}
