@@ -5,7 +5,9 @@
 
 LIVE is the path of the built `pitch_live`, PROGRAM that of `pitch`. The feeds are those of
 examples/desk/storm_feed.py, of the units 1 to 8 with M steps (300) each, mixed and cut into datagrams
-at random; the runs `whole`, `lossy` and `rubbish` are made N times (3), at R datagrams a second (2000):
+at random. The runs but for `words` and `speed` are made N times (3), at R datagrams a second (2000)
+or fewer: nothing is sent to a port at which more than a few datagrams wait, so that a machine that
+is busy, or has small buffers (net.core.rmem_max), loses none.
 
     whole     one line, bound by the program, and no loss, while the process is stopped and continued
               now and then: the text is that of `follow` of the same datagrams, byte for byte
@@ -15,11 +17,14 @@ at random; the runs `whole`, `lossy` and `rubbish` are made N times (3), at R da
               `follow`
     rubbish   the same, and three senders beside, of noise, empty datagrams and blocks of other units
     end       datagrams that are sent just before the end of the input: all are heard
+    prompt    a datagram is sent once the lines of the one before are written
     words     words that ask for nothing, and ports that can't be opened: status and standard error
     speed     C datagrams (300000) of 20 messages, at 100,000 a second: none is lost by the program; and
-              2,000 at 1,000 a second: the time from the sending to the line
+              2,000 at 1,000 a second: the time from the sending to the line. With 0 it is not run
 
-The exit status is 0 where all was so. Of `speed` the figures are said, and nothing is wanted.
+The last line is `N passed, M failed`, and the exit status is 0 where none failed. Of `speed` the
+figures are said, and nothing is wanted. A program that takes nothing, writes nothing or does not
+end fails after a minute.
 """
 import argparse, os, random, signal, socket, statistics, struct, subprocess, sys, tempfile, threading, time
 
@@ -32,6 +37,12 @@ UNITS = range(1, 9)
 OTHER_UNIT = 99
 PATIENCE = 60
 ROOM = 8 << 20
+HEARD_NOTHING = 'pitch_live: datagrams 0 faulty 0 blocks 0 stray 0'
+STARTED = []
+
+
+class Stuck(Exception):
+    """The program does not do what is waited for."""
 
 
 def block(unit, sequence, messages):
@@ -78,16 +89,37 @@ def free_port():
         return probe.getsockname()[1]
 
 
+def waiting_at(port):
+    """How many bytes wait at a port of this machine, or None where nobody has bound it."""
+    with open('/proc/net/udp') as table:
+        rows = [it.split() for it in table][1:]
+    counts = [int(it[4].split(':')[1], 16) for it in rows if int(it[1].split(':')[1], 16) == port]
+    return max(counts, default=None)
+
+
+def buffer_of(line):
+    """Asks for a buffer. Returns how many bytes may wait in the one that the system grants."""
+    line.setsockopt(socket.SOL_SOCKET, socket.SO_RCVBUF, ROOM)
+    return line.getsockopt(socket.SOL_SOCKET, socket.SO_RCVBUF)
+
+
+def few():
+    """How many bytes may wait at a port, as the system counts them, when a datagram is sent."""
+    with socket.socket(socket.AF_INET, socket.SOCK_DGRAM) as probe:
+        return min(4096, buffer_of(probe) // 16)
+
+
+def wait_until(is_so, what):
+    until = time.monotonic() + PATIENCE
+    while not is_so():
+        if time.monotonic() > until:
+            raise Stuck('after %d s %s' % (PATIENCE, what))
+        time.sleep(0.0005)
+
+
 def wait_for(port):
     """Waits until somebody has bound the port."""
-    until = time.monotonic() + PATIENCE
-    wanted = ':%04X ' % port
-    while time.monotonic() < until:
-        with open('/proc/net/udp') as table:
-            if wanted in table.read():
-                return
-        time.sleep(0.01)
-    sys.exit('the program does not listen')
+    wait_until(lambda: waiting_at(port) is not None, 'nobody listens')
 
 
 class Listener:
@@ -95,37 +127,44 @@ class Listener:
 
     def __init__(self, live, words=(), both=False):
         self.a, given, handed = free_port(), [], []
-        self.b = None
+        self.b, self.room = None, few()
         if both:
             line = socket.socket(socket.AF_INET, socket.SOCK_DGRAM)
-            line.setsockopt(socket.SOL_SOCKET, socket.SO_RCVBUF, ROOM)
+            self.room = buffer_of(line) // 2
             line.bind((HOST, 0))
             self.b = line.getsockname()[1]
             given, handed = [line], ['--b=fd:%d' % line.fileno()]
         self.out = tempfile.TemporaryFile()
         self.run = subprocess.Popen([live, 'listen', '--a', '%s:%d' % (HOST, self.a), *handed, *words], stdin=subprocess.PIPE,
                                     stdout=self.out, stderr=subprocess.PIPE, pass_fds=[it.fileno() for it in given])
+        STARTED.append(self.run)
         for it in given:
             it.close()
         wait_for(self.a)
 
+    def wrote(self):
+        """What it has written so far."""
+        return os.pread(self.out.fileno(), os.fstat(self.out.fileno()).st_size, 0)
+
     def end(self):
         """Ends its input. Returns its status, what it wrote, and what it counted."""
-        self.run.stdin.close()
-        said = self.run.stderr.read().decode()
-        status = self.run.wait(PATIENCE)
-        self.out.seek(0)
-        return status, self.out.read(), said.strip()
+        try:
+            _, said = self.run.communicate(timeout=PATIENCE)
+        except subprocess.TimeoutExpired:
+            raise Stuck('it does not end')
+        return self.run.returncode, self.wrote(), said.decode().strip()
 
 
 class Sender:
-    """Sends to ports, at so many a second."""
+    """Sends to ports, at so many a second at most, and only where no more bytes wait than these."""
 
-    def __init__(self, rate):
+    def __init__(self, rate, most=None):
         self.socket = socket.socket(socket.AF_INET, socket.SOCK_DGRAM)
+        self.most = few() if most is None else most
         self.rate, self.sent, self.begun = rate, 0, time.perf_counter()
 
     def send(self, port, datagram):
+        wait_until(lambda: (waiting_at(port) or 0) <= self.most, 'datagrams still wait')
         self.socket.sendto(datagram, (HOST, port))
         self.sent += 1
         ahead = self.sent / self.rate - (time.perf_counter() - self.begun)
@@ -192,19 +231,24 @@ def run_lossy(live, program, rate, number, datagrams, dice):
     return status == 0 and right and books_of(text) == right, f'{sum(map(len, lines))} copies; {said}'
 
 
+def noise(dice):
+    kind = dice.randrange(4)
+    if kind == 0:
+        return dice.randbytes(dice.randrange(1400)).replace(b'\x01', b'\xfe')
+    if kind == 1:
+        return b''
+    if kind == 2:
+        return b'\x07\0' + dice.randbytes(40)
+    return block(OTHER_UNIT + dice.randrange(100), dice.randint(1, 2 ** 32 - 1), [b'\x02\x2d'])
+
+
 def rubbish(ports, stop, number):
     dice, sender = random.Random(number), Sender(500)
-    while not stop.is_set():
-        port = dice.choice(ports)
-        kind = dice.randrange(4)
-        if kind == 0:
-            sender.send(port, dice.randbytes(dice.randrange(1400)).replace(b'\x01', b'\xfe'))
-        elif kind == 1:
-            sender.send(port, b'')
-        elif kind == 2:
-            sender.send(port, b'\x07\0' + dice.randbytes(40))
-        else:
-            sender.send(port, block(OTHER_UNIT + dice.randrange(100), dice.randint(1, 2 ** 32 - 1), [b'\x02\x2d']))
+    try:
+        while not stop.is_set():
+            sender.send(dice.choice(ports), noise(dice))
+    except Stuck:
+        pass
 
 
 def run_rubbish(live, program, rate, number, datagrams, dice):
@@ -213,11 +257,12 @@ def run_rubbish(live, program, rate, number, datagrams, dice):
     beside = [threading.Thread(target=rubbish, args=((listener.a, listener.b), stop, k)) for k in range(3)]
     for it in beside:
         it.start()
-    lines = copies_of(datagrams, dice)
-    send_both(listener, rate, lines)
-    stop.set()
-    for it in beside:
-        it.join()
+    try:
+        send_both(listener, rate, copies_of(datagrams, dice))
+    finally:
+        stop.set()
+        for it in beside:
+            it.join()
     status, text, said = listener.end()
     right = books_of(followed(program, datagrams))
     return status == 0 and right and books_of(text) == right, said
@@ -227,7 +272,7 @@ def run_end(live, program, rate, number, datagrams, dice):
     """All at once, and then the end at once: nothing that was sent is missed."""
     listener = Listener(live, both=True)
     some = datagrams[:200]
-    sender = Sender(10 ** 9)
+    sender = Sender(10 ** 9, listener.room)
     listener.run.stdin.write(b'the input says something')
     for datagram in some:
         sender.send(listener.b, datagram)
@@ -235,6 +280,35 @@ def run_end(live, program, rate, number, datagrams, dice):
     listener.run.stdin.flush()
     status, text, said = listener.end()
     return status == 0 and text == followed(program, some), said
+
+
+def blocks_in(datagram):
+    count, at = 0, 0
+    while at < len(datagram):
+        count, at = count + 1, at + struct.unpack_from('<H', datagram, at)[0]
+    return count
+
+
+def run_prompt(live, program, rate, number, datagrams, dice):
+    """The lines of a datagram are there while nothing else comes."""
+    listener, lines, some = Listener(live), 0, datagrams[:50]
+    sender = Sender(rate)
+    for datagram in some:
+        sender.send(listener.a, datagram)
+        lines += blocks_in(datagram)
+        wait_until(lambda: listener.wrote().count(b'\n') >= lines, 'a line is not written')
+    status, text, said = listener.end()
+    return status == 0 and text == followed(program, some), said
+
+
+def has_host(host):
+    """Whether ports of it can be bound here."""
+    try:
+        with socket.socket(socket.AF_INET6, socket.SOCK_DGRAM) as probe:
+            probe.bind((host, 0))
+        return True
+    except OSError:
+        return False
 
 
 def check_words(live):
@@ -258,9 +332,10 @@ def check_words(live):
             (f'listen --a {HOST}:0 --b {HOST}:0 --gap={HOST}:{port}', 7, 'pitch_live: gap: Address already in use'),
             ('listen --a 192.0.2.1:0', 7, 'pitch_live: a: Cannot assign requested address'),
             ('listen --b fd:77', 7, 'pitch_live: b: Bad file descriptor'),
-            (f'listen --a {HOST}:0 --seconds 0', 0, 'pitch_live: datagrams 0 faulty 0 blocks 0 stray 0'),
-            (f'listen --b [::1]:0 --gap={HOST}:0 --seconds=0', 0, 'pitch_live: datagrams 0 faulty 0 blocks 0 stray 0'),
+            (f'listen --a {HOST}:0 --seconds 0', 0, HEARD_NOTHING),
         ]
+        if has_host('::1'):
+            cases.append((f'listen --b [::1]:0 --gap={HOST}:0 --seconds=0', 0, HEARD_NOTHING))
         right = True
         for words, status, said in cases:
             done = subprocess.run([live, *words.split()], capture_output=True, text=True, timeout=PATIENCE, stdin=subprocess.DEVNULL)
@@ -329,24 +404,37 @@ def main():
         words.add_argument(name, type=int, default=default)
     words.add_argument('--only')
     given = words.parse_args()
-    right = True
-    runs = {'whole': run_whole, 'lossy': run_lossy, 'rubbish': run_rubbish, 'end': run_end}
-    for number in range(1, given.numbers + 1):
-        dice = random.Random(number)
-        wanted = [it for it in runs if given.only in (None, it)]
-        datagrams = datagrams_of(given.program, number, given.steps, dice) if wanted else []
-        for name in wanted:
-            is_so, said = runs[name](given.live, given.program, given.rate, number, datagrams, dice)
-            print(f'{name} {number}: {"right" if is_so else "WRONG"}; {said}', flush=True)
-            right = right and bool(is_so)
-    if given.only in (None, 'words'):
-        is_so, said = check_words(given.live)
-        print(f'words: {"right" if is_so else "WRONG"}; {said}', flush=True)
-        right = right and is_so
-    if given.only in (None, 'speed'):
-        print(f'speed: {run_speed(given.live, given.count)}', flush=True)
-        print(f'speed: {run_delay(given.live)}', flush=True)
-    sys.exit(0 if right else 1)
+    runs = {'whole': run_whole, 'lossy': run_lossy, 'rubbish': run_rubbish, 'end': run_end,
+            'prompt': run_prompt}
+    passed, failed = 0, 0
+
+    def tell(name, run, *more):
+        nonlocal passed, failed
+        try:
+            is_so, said = run(given.live, *more)
+        except (Stuck, subprocess.TimeoutExpired) as stuck:
+            is_so, said = False, stuck
+        print(f'{name}: {"right" if is_so else "WRONG"}; {said}', flush=True)
+        passed, failed = passed + bool(is_so), failed + (not is_so)
+
+    try:
+        for number in range(1, given.numbers + 1):
+            dice = random.Random(number)
+            wanted = [it for it in runs if given.only in (None, it)]
+            datagrams = datagrams_of(given.program, number, given.steps, dice) if wanted else []
+            for name in wanted:
+                tell(f'{name} {number}', runs[name], given.program, given.rate, number, datagrams, dice)
+        if given.only in (None, 'words'):
+            tell('words', check_words)
+        if given.only in (None, 'speed') and given.count:
+            print(f'speed: {run_speed(given.live, given.count)}', flush=True)
+            print(f'speed: {run_delay(given.live)}', flush=True)
+    finally:
+        for it in STARTED:
+            if it.poll() is None:
+                it.kill()
+    print(f'{passed} passed, {failed} failed')
+    sys.exit(1 if failed else 0)
 
 
 main()

@@ -1,12 +1,13 @@
 #!/usr/bin/env python3
 """Runs the checks of the scripts beside the program: on the built program, and what needs none. Of
-the program it also wants the exit status of five calls.
+the program it also wants the exit status of five calls, and of `pitch_live` what it makes of
+datagrams on 127.0.0.1.
 
-    docs/check_scripts.py [PROGRAM]
+    docs/check_scripts.py [PROGRAM [LIVE]]
 
-PROGRAM is crates/pitch/out/pitch where it is not given. Where no program stands, a line says so,
-and what needs none is tried. The last line is `N passed, M failed`; the exit status is 0 only where
-none failed.
+PROGRAM is crates/pitch/out/pitch and LIVE crates/pitch_live/out/pitch_live where they are not
+given. Where no program stands, a line says so, and what needs none is tried. The last line is
+`N passed, M failed`; the exit status is 0 only where none failed.
 """
 import os
 import re
@@ -14,7 +15,7 @@ import subprocess
 import sys
 
 TOP = os.path.join(os.path.dirname(os.path.abspath(__file__)), '..')
-BUILT = os.path.join(TOP, 'crates', 'pitch', 'out', 'pitch')
+BUILT = [os.path.join(TOP, 'crates', name, 'out', name) for name in ('pitch', 'pitch_live')]
 # The folders with a check, and whether it has a part that needs no program.
 FOLDERS = {'examples/desk': True, 'packages': True, 'examples/audit': False, 'examples/quotes': False,
            'examples/schedules': False, 'examples/storms': False}
@@ -32,6 +33,9 @@ def counts_of(words):
     return passed, failed or int(done.returncode != 0 or not found)
 
 
+# Datagrams to `pitch_live`, each of whose runs is counted.
+LINES = os.path.join(TOP, 'bench', 'live_lines.py')
+
 # What the shell gives the program, and the exit status that it has to end with.
 STATUSES = {'follow < examples/sample.pitch': 0, '': 2, 'follow < examples/captures/sample.pcap': 3,
             'follow <&-': 4, 'follow < examples/sample.pitch > /dev/full': 5}
@@ -48,11 +52,16 @@ def statuses_of(program):
     return len(STATUSES) - wrong, wrong
 
 
+def is_built(program):
+    return os.path.isfile(program) and os.access(program, os.X_OK)
+
+
 def main():
-    if len(sys.argv) > 2:
-        sys.exit('usage: check_scripts.py [PROGRAM]')
-    program, passed, failed, left = os.path.abspath((sys.argv[1:] or [BUILT])[0]), 0, 0, []
-    stands = os.path.isfile(program) and os.access(program, os.X_OK)
+    given = sys.argv[1:]
+    if len(given) > 2:
+        sys.exit('usage: check_scripts.py [PROGRAM [LIVE]]')
+    program, live = map(os.path.abspath, given + BUILT[len(given):])
+    passed, failed, left, stands = 0, 0, [], is_built(program)
     for folder, has_own in FOLDERS.items():
         if not stands and not has_own:
             left.append(folder)
@@ -65,6 +74,13 @@ def main():
         counts = statuses_of(program)
         print('statuses: %d passed, %d failed' % counts)
         passed, failed = passed + counts[0], failed + counts[1]
+    if stands and is_built(live):
+        counts = counts_of([LINES, live, program, '--numbers', '1', '--count', '0'])
+        print('pitch_live: %d passed, %d failed' % counts)
+        passed, failed = passed + counts[0], failed + counts[1]
+    else:
+        print('no programs stand at %s and %s, so what lines of datagrams come to was not tried'
+              % (os.path.relpath(program, TOP), os.path.relpath(live, TOP)))
     if left:
         print('no program stands at %s, so these were not tried: %s, and what else needs it'
               % (os.path.relpath(program, TOP), ', '.join(left)))
