@@ -66,8 +66,10 @@ def main():
         if not stands and not has_own:
             left.append(folder)
             continue
-        check = os.path.join(TOP, folder, 'check.py')
-        counts = counts_of([check, program] if stands else [check])
+        words = [os.path.join(TOP, folder, 'check.py')] + ([program] if stands else [])
+        # Both programs are packed.
+        words += [live] if folder == 'packages' and stands and is_built(live) else []
+        counts = counts_of(words)
         print('%s: %d passed, %d failed' % (folder, *counts))
         passed, failed = passed + counts[0], failed + counts[1]
     if stands:

@@ -1,11 +1,12 @@
 #!/usr/bin/env python3
 """Tries the scripts of this folder.
 
-    packages/check.py [PROGRAM]
+    packages/check.py [PROGRAM [LIVE]]
 
-PROGRAM is the path of the built program: a folder, a Debian package and a root filesystem are made
-of it and tried, where dpkg-deb stands and root may chroot. Without it the man page and the
-completion are. The last line is `N passed, M failed`; the exit status is 0 only where none failed.
+PROGRAM is the path of the built program, LIVE that of the built `pitch_live`: a folder, a Debian
+package and a root filesystem are made of them and tried, where dpkg-deb stands and root may chroot.
+Without any the man page and the completion are. The last line is `N passed, M failed`; the exit
+status is 0 only where none failed.
 """
 import os
 import re
@@ -60,6 +61,8 @@ def of_faults():
             ('dist.sh', '--what'), ('dist.sh', folder, '--program'), ('dist.sh', folder, folder),
             ('dist.sh', folder + '/new', '--program', folder + '/none'),
             ('dist.sh', folder, '--program', '/bin/sh'),
+            ('dist.sh', folder + '/new', '--live', '/bin/sh'),
+            ('dist.sh', folder + '/new', '--program', '/bin/sh', '--live', folder + '/none'),
             ('dist.sh', folder + '/new', '--program', os.path.join(HERE, 'dist.sh')),
             ('deb.sh',), ('deb.sh', folder), ('container.sh', folder), ('texts.py',),
             ('container.sh', folder, folder + '/new.tar'),
@@ -86,23 +89,35 @@ def last_line(words, sample):
     return lines[-1] if lines else ''
 
 
-def of_program(program):
+# Words with which `pitch_live` ends at once, and what it then says.
+AT_ONCE = ['listen', '--a', '127.0.0.1:0', '--seconds', '0']
+HEARD_NOTHING = (0, '', 'pitch_live: datagrams 0 faulty 0 blocks 0 stray 0\n')
+
+
+def of_program(program, live):
+    of_live = ['--live', live] if live else []
     with tempfile.TemporaryDirectory() as room:
         folder, sample = room + '/dist', os.path.join(TOP, 'examples', 'sample.pitch')
-        status, about, said = script('dist.sh', folder, '--program', program)
+        status, about, said = script('dist.sh', folder, '--program', program, *of_live)
         yield 'a folder', (status, said), (0, '')
-        total = tried(['sha256sum', program])[1].split()[0]
-        yield 'the sum of the program', re.findall(r'^program (\w*), given by name', about, re.M), [total]
+        totals = [tried(['sha256sum', it])[1].split()[0] for it in (program, live) if it]
+        found = re.findall(r'^(?:program|live   ) (\w*), given by name', about, re.M)
+        yield 'the sums of the programs', found, totals
         yield 'the sums', tried(['sha256sum', '-c', '--quiet', 'SHA256SUMS'], cwd=folder), (0, '', '')
         yield 'no link leads nowhere', list(broken_links(folder)), []
         yield 'nothing of the kit', [it for it in KIT_ONLY if os.path.exists('%s/%s' % (folder, it))], []
         yield 'it runs there', last_line([folder + '/pitch', 'follow'], folder + '/examples/sample.pitch'), LAST
+        if live:
+            yield 'the live one runs there', tried([folder + '/pitch_live', *AT_ONCE]), HEARD_NOTHING
         check = tried([folder + '/examples/audit/check.py', folder + '/pitch'])
         yield 'examples run there', (check[0], check[1].endswith(' passed, 0 failed\n')), (0, True)
         if shutil.which('dpkg-deb'):
             yield 'a package', script('deb.sh', folder, room + '/it.deb')[::2], (0, '')
             tried(['dpkg-deb', '-x', room + '/it.deb', room + '/deb'])
             yield 'it runs from it', last_line([room + '/deb/usr/bin/pitch', 'follow'], sample), LAST
+            if live:
+                live_there = tried([room + '/deb/usr/bin/pitch_live', *AT_ONCE])
+                yield 'the live one runs from it', live_there, HEARD_NOTHING
             depends = tried(['dpkg-deb', '-f', room + '/it.deb', 'Package', 'Depends'])[1]
             yield 'what it depends on', bool(re.search(r'^Depends: libc6 \(>= 2\.\d+\)$', depends, re.M)), True
         yield 'a root', script('container.sh', folder, room + '/it.tar')[::2], (0, '')
@@ -111,16 +126,21 @@ def of_program(program):
         if os.geteuid() == 0 and tried(['chroot', '/', 'true'])[0] == 0:
             chroot = ['chroot', room + '/root', '/pitch', 'follow']
             yield 'it runs there alone', last_line(chroot, sample), LAST
+            if live:
+                alone = tried(['chroot', room + '/root', '/pitch_live', *AT_ONCE])
+                yield 'the live one runs there alone', alone, HEARD_NOTHING
 
 
 def main():
-    if len(sys.argv) > 2:
-        sys.exit('usage: check.py [PROGRAM]')
-    if len(sys.argv) == 2 and not os.access(sys.argv[1], os.X_OK):
-        sys.exit('check.py: %s is no program' % sys.argv[1])
+    given = [os.path.abspath(it) for it in sys.argv[1:]]
+    if len(given) > 2:
+        sys.exit('usage: check.py [PROGRAM [LIVE]]')
+    for it in given:
+        if not os.access(it, os.X_OK):
+            sys.exit('check.py: %s is no program' % it)
     groups = [of_texts(), of_faults()]
-    if len(sys.argv) == 2:
-        groups.append(of_program(os.path.abspath(sys.argv[1])))
+    if given:
+        groups.append(of_program(*(given + [None])[:2]))
     passed = failed = 0
     for name, got, wanted in (case for group in groups for case in group):
         if got == wanted:

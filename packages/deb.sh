@@ -3,7 +3,7 @@
 #
 #     packages/deb.sh FOLDER [FILE.deb]
 #
-# The program goes to /usr/bin, its man page and completion to their places, and the rest to
+# The programs go to /usr/bin, the man page and the completion to their places, and the rest to
 # /usr/share/doc/pitch-feed. FILE.deb is pitch-feed_VERSION_amd64.deb where it is not given.
 set -eu
 fail() {
@@ -21,14 +21,17 @@ trap 'rm -rf "$work"' EXIT
 chmod 755 "$work"
 
 docs=$work/usr/share/doc/pitch-feed
-install -D -m 755 "$1/pitch" "$work/usr/bin/pitch"
+mkdir -p "$docs" "$work/DEBIAN"
+for name in pitch pitch_live; do
+    [ -x "$1/$name" ] || continue
+    install -D -m 755 "$1/$name" "$work/usr/bin/$name"
+    # The documents call ./pitch.
+    ln -s "/usr/bin/$name" "$docs/$name"
+done
 install -D -m 644 "$1/pitch.1" "$work/usr/share/man/man1/pitch.1"
 gzip -9n "$work/usr/share/man/man1/pitch.1"
 install -D -m 644 "$1/pitch.bash" "$work/usr/share/bash-completion/completions/pitch"
-mkdir -p "$docs" "$work/DEBIAN"
 cp -r "$1/README.md" "$1/ABOUT" "$1/docs" "$1/examples" "$docs/"
-# The documents call ./pitch.
-ln -s /usr/bin/pitch "$docs/pitch"
 chmod -R u+rwX,go+rX,go-w "$work"
 cat > "$work/DEBIAN/control" <<END
 Package: pitch-feed

@@ -2,42 +2,55 @@
 # Writes a folder with the built program and what can be used of it without the kit: documents,
 # examples, a man page, the completion of bash; what it was built of, and the sums of all.
 #
-#     packages/dist.sh [FOLDER] [--program FILE]
+#     packages/dist.sh [FOLDER] [--program FILE [--live FILE]]
 #
 # FOLDER must not stand yet; it is pitch-VERSION where it is not given. The program is that of this
 # tree: ./pitch proves and builds it first where it is not built. FILE is another one, and ABOUT then
-# says that nobody looked of what it was built.
+# says that nobody looked of what it was built. The folder has pitch_live too, where that was built in
+# this tree (where a source is newer it is built anew), or is the FILE of --live.
 set -eu
 fail() {
     echo "dist.sh: $1" >&2
     exit "${2:-1}"
 }
 root=$(CDPATH='' cd -P -- "$(dirname -- "$(readlink -f -- "$0")")/.." && pwd)
-usage="usage: dist.sh [FOLDER] [--program FILE]"
+usage="usage: dist.sh [FOLDER] [--program FILE [--live FILE]]"
 folder=
 program=
+live=
 while [ $# -gt 0 ]; do
     case $1 in
         --program) [ $# -ge 2 ] || fail "$usage" 2; program=$2; shift ;;
+        --live) [ $# -ge 2 ] || fail "$usage" 2; live=$2; shift ;;
         -*) fail "$usage" 2 ;;
         *) [ -z "$folder" ] || fail "$usage" 2; folder=$1 ;;
     esac
     shift
 done
 
+[ -z "$live" ] || [ -n "$program" ] || fail "$usage" 2
 source="of the commit"
 if [ -n "$program" ]; then
-    [ -f "$program" ] && [ -x "$program" ] || fail "$program is no program"
+    for it in "$program" ${live:+"$live"}; do
+        [ -f "$it" ] && [ -x "$it" ] || fail "$it is no program"
+    done
     source="given by name; nobody looked whether it is of the commit"
 else
     "$root/pitch" follow < /dev/null > /dev/null || fail "the program is not built"
     program=$root/crates/pitch/out/pitch
+    if [ -x "$root/crates/pitch_live/out/pitch_live" ]; then
+        live=$("$root/pitch" --program pitch_live listen --a 127.0.0.1:0 --seconds 0) ||
+            fail "pitch_live is not built"
+    fi
 fi
+programs=("$program" ${live:+"$live"})
 
-# What it runs on, by its own head and the versions of symbols that it asks of the C library.
-[ "$(od -An -tx1 -j4 -N1 "$program")$(od -An -tx1 -j18 -N2 "$program")" = " 02 3e 00" ] ||
-    fail "$program is no program of x86-64"
-glibc=$(LC_ALL=C grep -ao 'GLIBC_[0-9][0-9.]*' "$program" | cut -d_ -f2 | sort -uV | tail -n 1)
+# What they run on, by their own heads and the versions of symbols that they ask of the C library.
+for it in "${programs[@]}"; do
+    [ "$(od -An -tx1 -j4 -N1 "$it")$(od -An -tx1 -j18 -N2 "$it")" = " 02 3e 00" ] ||
+        fail "$it is no program of x86-64"
+done
+glibc=$(LC_ALL=C grep -aoh 'GLIBC_[0-9][0-9.]*' "${programs[@]}" | cut -d_ -f2 | sort -uV | tail -n 1)
 in_git() { git -C "$root" "$@" 2> /dev/null || echo unknown; }
 commit=$(in_git describe --always --dirty --abbrev=40 --exclude '*')
 version=$(in_git show -s --format=%cd --date=format:%Y%m%d HEAD).$(echo "$commit" | cut -c1-8)
@@ -54,8 +67,9 @@ mkdir -p -- "$folder/docs"
 trap 'rm -rf -- "$folder"' EXIT
 folder=$(CDPATH='' cd -P -- "$folder" && pwd)
 install -m 755 -- "$program" "$folder/pitch"
+[ -z "$live" ] || install -m 755 -- "$live" "$folder/pitch_live"
 cp -- "$root/README.md" "$folder/"
-for page in CAPTURES FEED INCIDENTS INSTALL LIMITS; do cp -- "$root/docs/$page.md" "$folder/docs/"; done
+for page in CAPTURES FEED INCIDENTS INSTALL LIMITS LIVE; do cp -- "$root/docs/$page.md" "$folder/docs/"; done
 cp -- "$root/docs/quotes.png" "$folder/docs/"
 # Of the examples those in C want a library, which the kit builds.
 (cd -- "$root" && find examples -name __pycache__ -prune -o -path examples/c -prune -o -type f -print0 |
@@ -63,10 +77,12 @@ cp -- "$root/docs/quotes.png" "$folder/docs/"
 "$root/packages/texts.py" man > "$folder/pitch.1"
 "$root/packages/texts.py" completion > "$folder/pitch.bash"
 "$root/packages/texts.py" links "$folder"
+sum() { sha256sum < "$1" | cut -c1-64; }
 cat > "$folder/ABOUT" <<END
 version $version
 commit  $commit
-program $(sha256sum < "$program" | cut -c1-64), $source
+program $(sum "$program"), $source${live:+
+live    $(sum "$live"), $source}
 kit     $kit
 runs on Linux, x86-64, glibc $glibc or later; nothing else is wanted
 END
