@@ -7,8 +7,14 @@
 #![tactic(auto)]
 
 mod input;
+mod lines;
 mod port;
 mod sockets;
+mod trouble;
+mod waiter;
 
-pub use crate::port::Port;
-pub use crate::sockets::{LineSockets, Trouble};
+pub use crate::lines::{Lines, MOST_TRIES};
+pub use crate::port::{Port, take_low};
+pub use crate::sockets::LineSockets;
+pub use crate::trouble::Trouble;
+pub use crate::waiter::Waiter;

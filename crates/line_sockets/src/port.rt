@@ -55,7 +55,7 @@ pub(crate) fn open_port<R: Net>(rt: &R, port: Port) -> io::Result<UdpSocket> {
 
 /// Takes those of the descriptors 0 to 2 that are free. A socket there would be taken for a
 /// standard stream.
-pub(crate) fn take_low<R: Net>(rt: &R) -> io::Result<[Option<net::UdpSocket>; 3]> {
+pub fn take_low<R: Net>(rt: &R) -> io::Result<[Option<net::UdpSocket>; 3]> {
     let any_port = SocketAddr::from((Ipv4Addr::LOCALHOST, 0));
     let mut low = [None, None, None];
     for place in &mut low {

@@ -1,5 +1,6 @@
 -- The calls of a net of lines and peers.
-use Rattle.std.specs.Prelude.{◌≡◌, ℕ, ◌<◌, ◌≤◌, Bool, List, [], ◌∷◌, length, take, Option, None, Some}
+use Rattle.std.specs.Prelude.{◌≡◌, ℕ, ◌<◌, ◌≤◌, Bool, List, [], ◌∷◌, length, take}
+use Rattle.std.specs.Prelude.{Option, None, Some}
 use Rattle.live_net.specs.declared.net.Received.{Received}
 use Rattle.live_net.specs.declared.live.WaitEnd.{WaitEnd}
 use Rattle.live_net.specs.declared.live.WaitEnd.TheVariants as wait_end

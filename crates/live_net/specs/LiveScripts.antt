@@ -150,6 +150,7 @@ with_live_call None newest = None
 with_live_call (Some calls) newest = Some (newest ∷ calls)
 
 -- a call was kept, or memory was refused, and the net lists no more
-abbrev pub LeavesLiveCalls : Option (List LiveCall) → Option (List LiveCall) → LiveCall → Bool → Type 0
+abbrev pub LeavesLiveCalls
+    : Option (List LiveCall) → Option (List LiveCall) → LiveCall → Bool → Type 0
 LeavesLiveCalls old new newest true = new ≡ with_live_call old newest
 LeavesLiveCalls old new newest false = new ≡ None

@@ -1,4 +1,5 @@
-//! What a live end hears from: lines of datagrams, and one wait for all of them.
+//! What a live end hears from: lines of datagrams, connections with peers, and one wait for all of
+//! them.
 //!
 //! No call but the wait waits, and a net may list its calls: a contract says what each adds to the
 //! list, so that a program over a net can say which calls it made, and what it did with what came.

@@ -1,0 +1,108 @@
+//! The sockets of the lines.
+
+ghost use Rattle.std.specs.Prelude.{◌≡◌, ◌<◌, length, IfOk};
+ghost use Rattle.live_net.specs.LineCalls.{ReceiveFailed, ReceivedWithin};
+
+use crate::port::{Port, open_port};
+use crate::trouble::Trouble;
+use live_net::Received;
+use mio::net::UdpSocket;
+use mio::{Interest, Registry, Token};
+use std::alloc::Global;
+use std::io::ErrorKind;
+use std::marker::Model;
+use std::{io, net};
+
+/// How often a call is tried that a signal breaks off, or that tells of a datagram that was sent
+/// from a socket of these: none is, unless by whoever handed it in.
+pub const MOST_TRIES: u32 = 1_000;
+
+// The token of each line: on every wait all are asked.
+const LINE: Token = Token(1);
+
+/// A socket for each line. A caller sees how many there are.
+#[derive(Drop)]
+pub struct Lines {
+    sockets: Vec<UdpSocket>,
+}
+
+impl Model for Lines {
+    ghost use Rattle.std.specs.Prelude.{vec_len, ℕ};
+
+    ghost Value = { ℕ };
+
+    ghost view = { λ lines. vec_len lines.sockets };
+}
+
+// Opens a port, of which a wait tells.
+fn open_line<R: net::Net>(rt: &R, registry: &Registry, port: Port) -> io::Result<UdpSocket> {
+    let mut socket = open_port(rt, port)?;
+    registry.register(&mut socket, LINE, Interest::READABLE)?;
+    Ok(socket)
+}
+
+// Takes the next datagram of a socket.
+fn receive(socket: &UdpSocket, into: &mut [u8]) -> io::Result<Received>
+    ensures count { IfOk result (λ answer. ReceivedWithin answer into.new) }
+    ensures fails { IfOk result (λ answer. ¬ ReceiveFailed answer) }
+{
+    for _ in 0..MOST_TRIES {
+        match socket.recv(into) {
+            Ok(count) => return Ok(Received::Got(count)),
+            Err(error) => match error.kind() {
+                ErrorKind::WouldBlock => return Ok(Received::Quiet),
+                ErrorKind::Interrupted
+                | ErrorKind::ConnectionRefused
+                | ErrorKind::ConnectionReset
+                | ErrorKind::HostUnreachable
+                | ErrorKind::NetworkUnreachable => {}
+                _ => return Err(error),
+            },
+        }
+    }
+    Err(io::Error::from(ErrorKind::TimedOut))
+}
+
+impl Lines {
+    /// Opens a line for each port, in their order. The registry's wait tells of them.
+    pub fn open<R: net::Net>(
+        rt: &R,
+        alloc: Global,
+        registry: &Registry,
+        ports: &[Port],
+    ) -> Result<Lines, Trouble>
+        ensures { IfOk result (λ lines. lines ≡ length ports.now) }
+    {
+        let mut sockets = Vec::new(alloc);
+        let mut line = 0u16;
+        for port in ports {
+            match open_line(rt, registry, *port) {
+                Ok(socket) => {
+                    if sockets.push(socket).is_err() {
+                        let reason = io::Error::from(ErrorKind::OutOfMemory);
+                        return Err(Trouble::of_wait(reason));
+                    }
+                }
+                Err(reason) => return Err(Trouble::of_line(line, reason)),
+            }
+            line = line.saturating_add(1);
+        }
+        Ok(Lines { sockets })
+    }
+
+    /// Takes the next datagram of a line to the start of the slice; one that is longer is cut.
+    pub fn receive(&self, line: u16, into: &mut [u8]) -> Result<Received, Trouble>
+        ensures count { IfOk result (λ answer. ReceivedWithin answer into.new) }
+        ensures fails { IfOk result (λ answer. ¬ ReceiveFailed answer) }
+        ensures open { IfOk result (λ _. line < self.now) }
+    {
+        let answer = match self.sockets.get(usize::from(line)) {
+            Some(socket) => receive(socket, into),
+            None => Err(io::Error::from(ErrorKind::NotFound)),
+        };
+        match answer {
+            Ok(received) => Ok(received),
+            Err(reason) => Err(Trouble::of_line(line, reason)),
+        }
+    }
+}
