@@ -1,0 +1,39 @@
+-- The book that stands at the end of a unit.
+use Rattle.std.proofs.Common.{◌≡◌, ℕ, Bool, true, false, cond, List, [], ◌++◌, take, Option, refl, sym, ap, ◌∙◌}
+use Rattle.std.specs.List.{AllByRecursion}
+use Rattle.pitch_fields.specs.Fields.{AreBytes}
+use Rattle.pitch_model.specs.Book.{Book, book_after}
+use Rattle.pitch_model.specs.History.{Raw}
+use Rattle.pitch_model.specs.Honest.{Honest}
+use Rattle.pitch_model.specs.Image.{image}
+use Rattle.pitch_model.specs.Reach.{reach}
+use Rattle.feed_lines.specs.BookText.{book_text}
+use Rattle.client_end.specs.Came.{Came, EndSetup, end_history}
+use Rattle.stream_print.specs.Page.{Prints, PrintsSuch}
+use Rattle.stream_print.specs.Putting.{PutsSome}
+use Rattle.stream_print.specs.Sinks.{PutsSuch}
+use Rattle.stream_print.proofs.Printing.{prints_none}
+use Rattle.live_units.specs.LiveText.{end_book, is_told_of}
+use Rattle.live_units.specs.Standing.{IsBookText}
+
+module _ (s : EndSetup) (before : List Came) where
+  -- of a unit that was not told of nothing is printed
+  pub no_book : is_told_of s before ≡ false → (w : Option (List ℕ)) (t : List ℕ) → PrintsSuch (IsBookText s before) w t w t
+  no_book none w t = record {
+    text = [];
+    printed = prints_none w t;
+    such = λ V bytes honest. sym (ap (λ (b : Bool). cond b (end_book s V before) []) none);
+  }
+
+  module _ (told : is_told_of s before ≡ true) (unit n : ℕ) (book : Book) (unit_is : unit ≡ s.unit) (reach_is : n ≡ reach s.hold (end_history s before))
+      (book_is : (V : List Raw) → AllByRecursion AreBytes V → Honest image V (end_history s before) → book ≡ book_after (take (reach s.hold (end_history s before)) V)) where
+    is_text : IsBookText s before (book_text unit n book)
+    is_text V bytes honest =
+        ap (λ (u : ℕ). book_text u n book) unit_is ∙ ap (λ (m : ℕ). book_text s.unit m book) reach_is ∙ ap (book_text s.unit (reach s.hold (end_history s before))) (book_is V bytes honest)
+        ∙ sym (ap (λ (b : Bool). cond b (end_book s V before) []) told)
+
+    pub has_book : (w : Option (List ℕ)) (t : List ℕ) (v : Option (List ℕ)) (u : List ℕ) → Prints w t v u (book_text unit n book) → PrintsSuch (IsBookText s before) w t v u
+    has_book w t v u printed = record { text = book_text unit n book; printed = printed; such = is_text }
+
+    pub book_begun : (w : Option (List ℕ)) (t : List ℕ) (v : Option (List ℕ)) → PutsSome w v (t ++ book_text unit n book) → PutsSuch (IsBookText s before) w t v
+    book_begun w t v puts = record { text = book_text unit n book; puts = puts; such = is_text }

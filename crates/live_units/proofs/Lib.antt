@@ -1,0 +1,4 @@
+mod Examples
+pub mod Booking
+pub mod Moving
+pub mod Passing

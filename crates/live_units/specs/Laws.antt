@@ -1,0 +1,22 @@
+-- What is printed where only blocks came.
+use Rattle.std.specs.Prelude.{◌≡◌, ℕ, ◌+◌, ◌==◌, List, length, map, filter}
+use Rattle.unit_packets.specs.Blocks.{Block}
+use Rattle.pitch_model.specs.History.{Raw}
+use Rattle.feed_lines.specs.Follow.{line_after, unit_text}
+use Rattle.client_end.specs.Came.{Came, EndSetup, Heard}
+use Rattle.live_units.specs.LiveText.{came_text, end_book}
+
+-- of some blocks, the newest first, those of a unit came to it
+abbrev pub only_blocks : ℕ → List Block → List Came
+only_blocks unit blocks = map (λ block. Heard block) (filter (λ block. block.unit == unit) blocks)
+
+-- the line of the next block is that of `follow`
+abbrev pub LinesAreFollows : Type 0
+LinesAreFollows = (s : EndSetup) (blocks : List Block) (block : Block) → block.unit ≡ s.unit
+    → came_text s (length blocks + 1) (Heard block) (only_blocks s.unit blocks)
+    ≡ line_after s.hold blocks block
+
+-- and so is the book
+abbrev pub BooksAreFollows : Type 0
+BooksAreFollows = (s : EndSetup) (Vs : ℕ → List Raw) (blocks : List Block)
+    → end_book s (Vs s.unit) (only_blocks s.unit blocks) ≡ unit_text s.hold Vs blocks s.unit

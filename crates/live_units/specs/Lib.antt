@@ -1,0 +1,4 @@
+pub mod Failures
+pub mod Laws
+pub mod LiveText
+pub mod Standing
