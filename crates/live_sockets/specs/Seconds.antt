@@ -1,0 +1,6 @@
+-- What a second is.
+use Rattle.std.specs.Prelude.{ℕ}
+
+-- in nanoseconds
+abbrev pub second : ℕ
+second = 1000000000

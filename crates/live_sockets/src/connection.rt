@@ -1,0 +1,137 @@
+//! A connection that was begun with a peer.
+
+ghost use Rattle.std.specs.Prelude.{◌≡◌, ◌<◌, length, IfOk, IfErr};
+ghost use Rattle.std.specs.IoError.{error_kind};
+ghost use Rattle.live_net.specs.LiveCalls.{PeerPutWithin, PeerTakenWithin};
+ghost use Rattle.live_sockets.specs.Answers.{read_gives, read_fails, write_gives, write_fails};
+
+use line_sockets::{MOST_TRIES, take_low};
+use live_net::{PeerPut, PeerTaken};
+use mio::net::TcpStream;
+use mio::{Interest, Registry, Token};
+use std::io::{ErrorKind, Read, Write};
+use std::net::SocketAddr;
+use std::{io, net};
+
+// The token of each connection: on every wait all are asked.
+const PEER: Token = Token(2);
+
+/// A connection, of which it may not be known yet whether it stands.
+#[derive(Drop)]
+pub struct Connection {
+    stream: TcpStream,
+    stands: bool,
+}
+
+// The answer of a read. One that a signal broke off has none.
+fn of_read(read: io::Result<usize>) -> Option<PeerTaken>
+    ensures ok { IfOk read (λ n. result ≡ read_gives n) }
+    ensures err { IfErr read (λ error. result ≡ read_fails (error_kind error)) }
+{
+    match read {
+        Ok(0) => Some(PeerTaken::Ended),
+        Ok(count) => Some(PeerTaken::Got(count)),
+        Err(error) => match error.kind() {
+            ErrorKind::Interrupted => None,
+            ErrorKind::WouldBlock => Some(PeerTaken::Quiet),
+            _ => Some(PeerTaken::Ended),
+        },
+    }
+}
+
+// The answer of a write. One that a signal broke off has none.
+fn of_write(write: io::Result<usize>) -> Option<PeerPut>
+    ensures ok { IfOk write (λ n. result ≡ write_gives n) }
+    ensures err { IfErr write (λ error. result ≡ write_fails (error_kind error)) }
+{
+    match write {
+        Ok(0) => Some(PeerPut::Ended),
+        Ok(count) => Some(PeerPut::Wrote(count)),
+        Err(error) => match error.kind() {
+            ErrorKind::Interrupted => None,
+            ErrorKind::WouldBlock => Some(PeerPut::Full),
+            _ => Some(PeerPut::Ended),
+        },
+    }
+}
+
+impl Connection {
+    /// Begins a connection, of which the registry's wait tells. It takes none of the descriptors 0
+    /// to 2.
+    pub(crate) fn begin<R: net::Net>(
+        rt: &R,
+        registry: &Registry,
+        addr: SocketAddr,
+    ) -> io::Result<Connection> {
+        let _low = take_low(rt)?;
+        let mut stream = TcpStream::connect(rt, addr)?;
+        // What is said is not held back to be sent together.
+        stream.set_nodelay(true)?;
+        registry.register(&mut stream, PEER, Interest::READABLE | Interest::WRITABLE)?;
+        Ok(Connection {
+            stream,
+            stands: false,
+        })
+    }
+
+    /// Closes it. The wait tells of it no more.
+    pub(crate) fn end(mut self, registry: &Registry) {
+        let _was_registered = registry.deregister(&mut self.stream);
+    }
+
+    // Whether it stands, or fails where it was refused.
+    fn stands(&mut self) -> io::Result<bool> {
+        if self.stands {
+            return Ok(true);
+        }
+        if let Some(error) = self.stream.take_error()? {
+            return Err(error);
+        }
+        match self.stream.peer_addr() {
+            Ok(_) => {
+                self.stands = true;
+                Ok(true)
+            }
+            Err(error) if error.kind() == ErrorKind::NotConnected => Ok(false),
+            Err(error) => Err(error),
+        }
+    }
+
+    /// Takes the next bytes to the start of the slice.
+    pub(crate) fn take(&mut self, into: &mut [u8]) -> PeerTaken
+        requires { 0 < length into.old }
+        ensures { PeerTakenWithin result into.new }
+    {
+        match self.stands() {
+            Ok(true) => {}
+            Ok(false) => return PeerTaken::Quiet,
+            Err(_) => return PeerTaken::Ended,
+        }
+        for _ in 0..MOST_TRIES {
+            match of_read(self.stream.read(into)) {
+                Some(answer) => return answer,
+                None => {}
+            }
+        }
+        PeerTaken::Ended
+    }
+
+    /// Puts the first bytes of a piece.
+    pub(crate) fn put(&mut self, piece: &[u8]) -> PeerPut
+        requires { 0 < length piece.now }
+        ensures { PeerPutWithin result piece.now }
+    {
+        match self.stands() {
+            Ok(true) => {}
+            Ok(false) => return PeerPut::Full,
+            Err(_) => return PeerPut::Ended,
+        }
+        for _ in 0..MOST_TRIES {
+            match of_write(self.stream.write(piece)) {
+                Some(answer) => return answer,
+                None => {}
+            }
+        }
+        PeerPut::Ended
+    }
+}

@@ -1,0 +1,14 @@
+//! Lines of datagrams over UDP, peers over TCP, and one wait for all of them, which tells the
+//! seconds.
+//!
+//! [`LiveSockets`] serves a caller that is generic over [`live_net::LiveNet`]. Its contract does
+//! not follow the bytes. It says which peers have a connection, that only a wait or a line that
+//! fails is counted as a fault, and that a line that is not there fails.
+#![tactic(auto)]
+
+mod connection;
+mod peers;
+mod seconds;
+mod sockets;
+
+pub use crate::sockets::LiveSockets;

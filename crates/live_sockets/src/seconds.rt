@@ -1,0 +1,47 @@
+//! The seconds that a wait tells.
+
+ghost use Rattle.std.specs.Prelude.{◌≡◌, ◌↔◌, ◌≤◌, true};
+ghost use Rattle.std.specs.Duration.{as_nanos};
+ghost use Rattle.live_sockets.specs.Seconds.{second};
+
+use std::io;
+use std::time::{Clock, Duration, Instant};
+
+const SECOND: u64 = 1;
+
+/// When a second was told last.
+#[derive(Clone, Copy)]
+pub(crate) struct Seconds {
+    last: Instant,
+}
+
+// Whether a second has passed.
+fn is_second(passed: Duration) -> bool
+    ensures { result ≡ true ↔ second ≤ as_nanos passed }
+{
+    passed >= Duration::from_secs(SECOND)
+}
+
+impl Seconds {
+    /// The first second begins now.
+    pub(crate) fn start<R: Clock>(rt: &R) -> io::Result<Seconds> {
+        Ok(Seconds {
+            last: Instant::now(rt)?,
+        })
+    }
+
+    /// How long it is to the end of this second.
+    pub(crate) fn left<R: Clock>(&self, rt: &R) -> io::Result<Duration> {
+        Ok(Duration::from_secs(SECOND).saturating_sub(self.last.elapsed(rt)?))
+    }
+
+    /// Whether this second is over. Then the next one begins now, however long it took.
+    pub(crate) fn is_over<R: Clock>(&mut self, rt: &R) -> io::Result<bool> {
+        let now = Instant::now(rt)?;
+        let over = is_second(now.duration_since(self.last));
+        if over {
+            self.last = now;
+        }
+        Ok(over)
+    }
+}
