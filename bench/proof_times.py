@@ -5,9 +5,9 @@
     bench/proof_times.py CRATE FUNCTION..       what these take
 
 FUNCTION is a name as `rt check` prints it, without the crate: `running::make_ends`. `rt check --jobs 1`
-has proved the crate before. A check that finds nothing to do is timed first. Then, for each function,
-the files that the checker kept of its statements and its proof are removed, and what the check that
-makes them anew takes above the first is the function's.
+has proved the crate before, or `rt check --test --jobs 1` a crate of tests. A check that finds nothing to
+do is timed first. Then, for each function, the files that the checker kept of its statements and its
+proof are removed, and what the check that makes them anew takes above the first is the function's.
 
 Processor seconds grow on a loaded machine too, by a half and more, so compare two forms of a function
 in turn. The list goes by the times at which a first check kept its files: what else ran then is in
@@ -33,7 +33,7 @@ def kept_files(folder):
     """The files that checks kept in a crate's folder, and those of each function."""
     files = [path for path in (folder / 'out/incremental').rglob('*.oantt') if path.parent.name != 'records']
     if not files:
-        sys.exit('nothing is kept: run rt check --jobs 1 in the folder of the crate')
+        sys.exit('nothing is kept: run rt check --jobs 1 in the crate, with --test in a crate of tests')
     functions = collections.defaultdict(list)
     for path in files:
         functions[function_of(path)].append(path)
@@ -41,9 +41,11 @@ def kept_files(folder):
 
 
 def checked(folder):
-    """The processor seconds of a check of the crate over what is kept."""
+    """The processor seconds of a check of the crate over what is kept, with its tests if it has any."""
+    has_tests = any('#[test]' in file.read_text() for file in (folder / 'src').rglob('*.rt'))
+    words = ['rt', 'check', *['--test'] * has_tests, '--jobs', '1']
     before = resource.getrusage(resource.RUSAGE_CHILDREN)
-    done = subprocess.run(['rt', 'check', '--jobs', '1'], cwd=folder, capture_output=True, text=True)
+    done = subprocess.run(words, cwd=folder, capture_output=True, text=True)
     if done.returncode:
         sys.exit(f'{done.stdout[-2000:]}{done.stderr}the crate is not proved')
     after = resource.getrusage(resource.RUSAGE_CHILDREN)
