@@ -1,10 +1,11 @@
 //! Captures: records in pieces and where they stand, both byte orders, and faults.
 
 use pcap_feed::{
-    CaptureError, CaptureFault, CaptureFeedError, CaptureReader, RecordList, payload_in,
-    payload_of, view_record,
+    ByteOrder, CaptureError, CaptureFault, CaptureFeedError, CaptureReader, Record, RecordList,
+    payload_in, payload_of, view_record,
 };
 use std::alloc::Global;
+use std::process::Abort;
 
 // A header, and a record of 60 bytes with one block.
 const FILE: &[u8] = b"\xd4\xc3\xb2\xa1\x02\0\x04\0\0\0\0\0\0\0\0\0\0\0\x04\0\x01\0\0\0\
@@ -78,79 +79,103 @@ fn feed_in_pieces(alloc: Global, bytes: &[u8], size: usize) -> Outcome {
     }
 }
 
+// The datagram of the record in `FILE`.
+const DATAGRAM: &[u8] = b"\x0e\0\x01\x01\x01\0\0\0\x06\x20\x98\x85\0\0";
+
+// The record has 60 bytes and this datagram, which goes to port 30001.
+fn has_datagram(rt: &impl Abort, record: &Record, datagram: &[u8]) {
+    assert!(rt; record.original == 60);
+    assert!(rt; payload_of(record, Some(30001)) == Some((42, 14)));
+    assert!(rt; payload_of(record, Some(30002)).is_none());
+    assert!(rt; payload_of(record, None) == Some((42, 14)));
+    assert!(rt; &record.bytes.bytes()[42..56] == datagram);
+}
+
+// The file has one record, in pieces of each of these sizes.
+fn has_one_datagram(rt: &impl Abort, alloc: Global, sizes: &[usize]) {
+    for size in sizes {
+        let outcome = feed_in_pieces(alloc, FILE, *size);
+        assert!(rt; outcome.last == Ok(()) && outcome.end == Ok(()));
+        assert!(rt; outcome.records.len() == 1);
+        let record = outcome.records.get(0).expect(rt, "a record");
+        has_datagram(rt, record, DATAGRAM);
+    }
+}
+
 #[test]
 fn one_datagram_in_any_pieces(rt: HostRuntime) {
-    for size in [1, 2, 7, 23, 24, 25, 64, 100, 200] {
-        let outcome = feed_in_pieces(rt.alloc(), FILE, size);
-        assert_eq!(rt; outcome.last, Ok(()));
-        assert_eq!(rt; outcome.end, Ok(()));
-        assert_eq!(rt; outcome.records.len(), 1);
-        let record = outcome.records.get(0).expect(&rt, "a record");
-        assert_eq!(rt; record.original, 60);
-        assert_eq!(rt; payload_of(record, None), Some((42, 14)));
-        assert_eq!(rt; payload_of(record, Some(30001)), Some((42, 14)));
-        assert_eq!(rt; payload_of(record, Some(30002)), None);
-        assert!(rt;
-            &record.bytes.bytes()[42..56]
-                == b"\x0e\0\x01\x01\x01\0\0\0\x06\x20\x98\x85\0\0".as_slice()
-        );
-    }
+    has_one_datagram(&rt, rt.alloc(), &[1, 2, 7, 23, 24, 25, 64, 100, 200]);
+}
+
+// Reads the header from a reader that has it in two pieces.
+fn begin(rt: &impl Abort, reader: &mut CaptureReader, file: &[u8]) -> ByteOrder {
+    assert!(rt; file.len() == 100);
+    reader.load(&file[..20]).expect(rt, "memory");
+    assert!(rt; reader.begin() == Err(CaptureError::Truncated { has: 20, needs: 24 }));
+    reader.load(&file[20..]).expect(rt, "memory");
+    reader.begin().expect(rt, "a header")
 }
 
 #[test]
 fn records_are_read_where_they_stand(rt: HostRuntime) {
     let mut reader = CaptureReader::make(rt.alloc());
-    reader.load(&FILE[..20]).expect(&rt, "memory");
-    assert_eq!(rt;
-        reader.begin(),
-        Err(CaptureError::Truncated { has: 20, needs: 24 })
-    );
-    reader.load(&FILE[20..]).expect(&rt, "memory");
-    let order = reader.begin().expect(&rt, "a header");
-    assert_eq!(rt; reader.place(), 24);
+    let order = begin(&rt, &mut reader, FILE);
+    assert!(rt; reader.place() == 24);
     let view = view_record(order, reader.rest()).expect(&rt, "a record");
-    assert_eq!(rt;
-        payload_in(view.original, view.bytes, Some(30001)),
-        Some((42, 14))
-    );
+    let place = payload_in(view.original, view.bytes, Some(30001));
+    assert!(rt; place == Some((42, 14)));
     let size = view.size();
-    assert_eq!(rt; size, 76);
+    assert!(rt; size == 76 && reader.rest().len() == 76);
     reader.pass(size);
-    assert_eq!(rt; reader.place(), 100);
-    assert_eq!(rt; reader.finish(), Ok(()));
+    assert!(rt; reader.place() == 100 && reader.finish() == Ok(()));
+}
+
+const TOO_LONG: CaptureFault = CaptureFault {
+    place: 42,
+    error: CaptureError::LongRecord { length: 262145 },
+};
+
+// The record before the fault.
+fn is_short(record: &Record) -> bool {
+    (record.seconds, record.fraction, record.original) == (1, 2, 3)
+        && record.bytes.bytes() == b"\xaa\xbb".as_slice()
+}
+
+// The file has one record and this fault, in pieces of each of these sizes.
+fn has_fault(rt: &impl Abort, alloc: Global, sizes: &[usize], fault: CaptureFault) {
+    for size in sizes {
+        let outcome = feed_in_pieces(alloc, BIG, *size);
+        assert!(rt; outcome.last == Err(CaptureFeedError::Fault(fault)));
+        assert!(rt; outcome.end == Err(fault) && outcome.records.len() == 1);
+        assert!(rt; is_short(outcome.records.get(0).expect(rt, "a record")));
+    }
 }
 
 #[test]
 fn long_record_is_a_fault_behind_the_others(rt: HostRuntime) {
+    has_fault(&rt, rt.alloc(), &[1, 2, 7, 64], TOO_LONG);
+}
+
+// The end of such a file, in pieces of this size, is a fault with this text.
+fn fails_at_its_head(rt: &impl Abort, alloc: Global, head: &Head, size: usize) {
+    let outcome = feed_in_pieces(alloc, head.bytes, size);
     let fault = CaptureFault {
-        place: 42,
-        error: CaptureError::LongRecord { length: 262145 },
+        place: 0,
+        error: head.error,
     };
-    for size in [1, 2, 7, 64] {
-        let outcome = feed_in_pieces(rt.alloc(), BIG, size);
-        assert_eq!(rt; outcome.last, Err(CaptureFeedError::Fault(fault)));
-        assert_eq!(rt; outcome.end, Err(fault));
-        assert_eq!(rt; outcome.records.len(), 1);
-        let record = outcome.records.get(0).expect(&rt, "a record");
-        assert_eq!(rt; record.seconds, 1);
-        assert_eq!(rt; record.fraction, 2);
-        assert_eq!(rt; record.original, 3);
-        assert!(rt; record.bytes.bytes() == b"\xaa\xbb".as_slice());
+    assert!(rt; outcome.end == Err(fault));
+    let text = format!(in alloc; "{fault}").expect(rt, "memory");
+    assert!(rt; text.as_str() == head.text);
+}
+
+fn fail_at_their_heads(rt: &impl Abort, alloc: Global, heads: &[Head]) {
+    for head in heads {
+        fails_at_its_head(rt, alloc, head, 1);
+        fails_at_its_head(rt, alloc, head, 24);
     }
 }
 
 #[test]
 fn headers_have_their_faults(rt: HostRuntime) {
-    for head in &HEADS {
-        for size in [1, 24] {
-            let outcome = feed_in_pieces(rt.alloc(), head.bytes, size);
-            let fault = CaptureFault {
-                place: 0,
-                error: head.error,
-            };
-            assert_eq!(rt; outcome.end, Err(fault));
-            let text = format!(in rt.alloc(); "{fault}").expect(&rt, "memory");
-            assert_eq!(rt; text.as_str(), head.text);
-        }
-    }
+    fail_at_their_heads(&rt, rt.alloc(), &HEADS);
 }

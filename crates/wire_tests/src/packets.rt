@@ -80,6 +80,22 @@ fn at_second_block(error: BlockError) -> BlockFault {
     BlockFault { place: 14, error }
 }
 
+// Whether the first block is that of one time message.
+fn begins_with_time(blocks: &BlockList) -> bool {
+    let header = Header {
+        length: 14,
+        count: 1,
+        unit: 1,
+        sequence: 1,
+    };
+    match blocks.get(0) {
+        Some(first) => {
+            first.header == header && first.raws.get(0) == Some(b"\x06\x20\x98\x85\0\0".as_slice())
+        }
+        None => false,
+    }
+}
+
 fn feed_in_pieces(rt: &impl Abort, alloc: Global, stream: &Stream, size: usize) {
     let mut reader = BlockReader::make(alloc);
     let mut out = BlockList::make(alloc);
@@ -89,49 +105,57 @@ fn feed_in_pieces(rt: &impl Abort, alloc: Global, stream: &Stream, size: usize) 
     }
     let fault = stream.fault.map(at_second_block);
     let end = stream.cut.map(at_second_block).or(fault);
-    assert_eq!(rt; answer.err(), fault.map(FeedError::Fault));
-    assert_eq!(rt; reader.finish().err(), end);
-    assert_eq!(rt; out.len(), stream.blocks);
-    let first = out.get(0).expect(rt, "a block");
-    assert_eq!(rt;
-        first.header,
-        Header {
-            length: 14,
-            count: 1,
-            unit: 1,
-            sequence: 1
+    assert!(rt; answer.err() == fault.map(FeedError::Fault));
+    assert!(rt; reader.finish().err() == end);
+    assert!(rt; out.len() == stream.blocks && begins_with_time(&out));
+}
+
+fn feed_each(rt: &impl Abort, alloc: Global, streams: &[Stream]) {
+    for stream in streams {
+        for size in [1, 2, 7, 64] {
+            feed_in_pieces(rt, alloc, stream, size);
         }
-    );
-    assert!(rt; first.raws.get(0) == Some(b"\x06\x20\x98\x85\0\0".as_slice()));
+    }
 }
 
 #[test]
 fn streams_in_pieces(rt: HostRuntime) {
-    for stream in &STREAMS {
-        for size in [1, 2, 7, 64] {
-            feed_in_pieces(&rt, rt.alloc(), stream, size);
-        }
+    feed_each(&rt, rt.alloc(), &STREAMS);
+}
+
+// The sequence of the last block, or 0.
+fn last_sequence(bytes: &[u8]) -> u32 {
+    let mut last = 0;
+    for block in Blocks::of_bytes(bytes) {
+        last = block.header().sequence;
+    }
+    last
+}
+
+// Whether the next block is a heartbeat of sequence 2.
+fn goes_on_with_a_heartbeat(blocks: &mut Blocks) -> bool {
+    match blocks.next_block() {
+        Some(second) => second.header().sequence == 2 && second.raws().len() == 0,
+        None => false,
+    }
+}
+
+fn blocks_follow(rt: &impl Abort, streams: &[Stream]) {
+    for stream in streams {
+        assert!(rt; last_sequence(stream.bytes) as usize == stream.blocks);
+        let mut blocks = Blocks::of_bytes(stream.bytes);
+        let first = blocks.next_block().expect(rt, "a block");
+        assert!(rt; first.header().length == 14 && blocks.rest() == &stream.bytes[14..]);
+        let is_more = stream.blocks == 2;
+        assert!(rt; !is_more || goes_on_with_a_heartbeat(&mut blocks));
+        assert!(rt; blocks.next_block().is_none());
+        assert!(rt; blocks.rest().is_empty() == is_more);
     }
 }
 
 #[test]
 fn blocks_one_after_another(rt: HostRuntime) {
-    for stream in &STREAMS {
-        let mut blocks = Blocks::of_bytes(stream.bytes);
-        let first = blocks.next_block().expect(&rt, "a block");
-        assert!(rt; first.header().length == 14 && blocks.rest() == &stream.bytes[14..]);
-        let mut last = 0;
-        for block in Blocks::of_bytes(stream.bytes) {
-            last = block.header().sequence;
-        }
-        assert!(rt; last as usize == stream.blocks);
-        if stream.blocks == 2 {
-            let second = blocks.next_block().expect(&rt, "a block");
-            assert!(rt; second.header().sequence == 2 && second.raws().len() == 0);
-        }
-        assert!(rt; blocks.next_block().is_none());
-        assert!(rt; blocks.rest().is_empty() == (stream.blocks == 2));
-    }
+    blocks_follow(&rt, &STREAMS);
 }
 
 // Packs so many messages of this length, and answers the headers of their datagrams.
@@ -163,19 +187,41 @@ fn header(length: u16, count: u8, sequence: u32) -> Header {
     }
 }
 
+// So many messages of a length are packed under these headers.
+fn packs(rt: &impl Abort, alloc: Global, length: u8, count: usize, first: u32, want: &[Header]) {
+    let headers = headers_of(rt, alloc, length, count, first);
+    assert!(rt; headers.as_slice() == want);
+}
+
 #[test]
 fn messages_are_packed(rt: HostRuntime) {
     // 1,400 bytes are not passed, and may be reached; nor are 255 messages.
-    let large = headers_of(&rt, rt.alloc(), 255, 11, 7);
-    assert!(rt;
-        large.as_slice() == [header(1283, 5, 7), header(1283, 5, 12), header(263, 1, 17)].as_slice()
+    let large = [header(1283, 5, 7), header(1283, 5, 12), header(263, 1, 17)];
+    packs(&rt, rt.alloc(), 255, 11, 7, &large);
+    packs(
+        &rt,
+        rt.alloc(),
+        232,
+        7,
+        1,
+        &[header(1400, 6, 1), header(240, 1, 7)],
     );
-    let even = headers_of(&rt, rt.alloc(), 232, 7, 1);
-    assert!(rt; even.as_slice() == [header(1400, 6, 1), header(240, 1, 7)].as_slice());
-    let small = headers_of(&rt, rt.alloc(), 2, 256, 1);
-    assert!(rt; small.as_slice() == [header(518, 255, 1), header(10, 1, 256)].as_slice());
-    let unsequenced = headers_of(&rt, rt.alloc(), 255, 6, 0);
-    assert!(rt; unsequenced.as_slice() == [header(1283, 5, 0), header(263, 1, 0)].as_slice());
+    packs(
+        &rt,
+        rt.alloc(),
+        2,
+        256,
+        1,
+        &[header(518, 255, 1), header(10, 1, 256)],
+    );
+    packs(
+        &rt,
+        rt.alloc(),
+        255,
+        6,
+        0,
+        &[header(1283, 5, 0), header(263, 1, 0)],
+    );
 }
 
 #[test]
@@ -187,22 +233,16 @@ fn lists_are_packed(rt: HostRuntime) {
     }
     let mut out = DatagramList::make(rt.alloc());
     pack(rt.alloc(), 9, 0, raws.raws(), &mut out).expect(&rt, "memory");
+    assert!(rt; out.len() == 1);
     let bytes = out.get(0).expect(&rt, "a datagram").bytes();
-    assert_eq!(rt;
-        bytes,
-        b"\x0d\0\x02\x09\0\0\0\0\x02\x2d\x03\x2d\x07".as_slice()
-    );
-    assert_eq!(rt; out.len(), 1);
+    assert!(rt; bytes == b"\x0d\0\x02\x09\0\0\0\0\x02\x2d\x03\x2d\x07".as_slice());
 }
 
 #[test]
 fn blocks_of_no_and_of_one_message(rt: HostRuntime) {
-    assert_eq!(rt; heartbeat(3, 0x0102_0304), [8, 0, 0, 3, 4, 3, 2, 1]);
+    assert!(rt; heartbeat(3, 0x0102_0304) == [8, 0, 0, 3, 4, 3, 2, 1]);
     let login = Raw::from_bytes(b"\x16\x010001FEED  PITCH     ").expect(&rt, "a raw");
     let mut out = Vec::new(rt.alloc());
     put_session(0, &login, &mut out).expect(&rt, "memory");
-    assert_eq!(rt;
-        out.as_slice(),
-        b"\x1e\0\x01\0\0\0\0\0\x16\x010001FEED  PITCH     ".as_slice()
-    );
+    assert!(rt; out.as_slice() == b"\x1e\0\x01\0\0\0\0\0\x16\x010001FEED  PITCH     ".as_slice());
 }
