@@ -107,7 +107,7 @@ module _ (symbol : List ℕ) (side : Side) (price : ℕ) where
       on_side x (filter (λ order. bytes_eq symbol order.symbol && same_side side order.side) xs) (sum_by (shares_at symbol side price) xs) (bytes_eq symbol x.symbol && same_side side x.side) (level_sum xs)
       ∙ sym (sum_by-cons (shares_at symbol side price) x xs)
 
-  level_total : (book : Book) → level book symbol side price ≡ sum_by (shares_at symbol side price) (finite.values book.orders)
+  pub level_total : (book : Book) → level book symbol side price ≡ sum_by (shares_at symbol side price) (finite.values book.orders)
   unfolding level
   level_total book = level_sum (finite.values book.orders)
 

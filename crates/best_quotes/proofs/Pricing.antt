@@ -29,7 +29,7 @@ module _ (prices : Prices) (p n : ℕ) (there : get nat_cmp prices p ≡ Some n)
       by q e = grind (arith, nat_tests, e)
 
 -- ---- Shares that are set
-unwrapped : (n : ℕ) → unwrap_or (standing n) 0 ≡ n
+pub unwrapped : (n : ℕ) → unwrap_or (standing n) 0 ≡ n
 unwrapped n = by (n == 0) refl
   where
     by : (t : Bool) → (n == 0) ≡ t → unwrap_or (cond t None (Some n)) 0 ≡ n

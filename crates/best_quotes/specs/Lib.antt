@@ -1,4 +1,5 @@
 pub mod Balance
+pub mod BestFirst
 pub mod Changes
 pub mod Hearing
 pub mod Ladders

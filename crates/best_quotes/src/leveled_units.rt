@@ -1,7 +1,7 @@
 //! The clients of a whole stream with their levels, each made at the first block of its unit.
 
 ghost use Rattle.std.specs.Prelude.{◌≡◌, ◌≤◌, ◌<◌, ℕ, List, [], ◌∷◌, OnOk, OnErr, IfOk, IsOk};
-ghost use Rattle.std.specs.Prelude.{IfSome, Some, None, IfNone, length, slice_get};
+ghost use Rattle.std.specs.Prelude.{IfSome, Some, None, IfNone, true, false, length, slice_get};
 ghost use Rattle.std.specs.Option.{IsSome, IsSomeAnd};
 ghost use Rattle.pitch_fields.specs.Limits.{most_held};
 ghost use Rattle.unit_packets.specs.Blocks.{Block};
@@ -14,8 +14,11 @@ ghost use Rattle.client_core.specs.Client.{IsAsBefore, KeepsRoom, spare_of};
 ghost use Rattle.unit_clients.specs.Clients.{IsClient, TracksAt, IsSlotAsBefore, KeepsTo};
 ghost use Rattle.unit_clients.specs.Clients.{HaveHeard, client_of};
 ghost use Rattle.unit_clients.specs.Room.{HearsFreely, HearFreely, HaveSpare, KeepRoom};
+ghost use Rattle.best_quotes.specs.Quoting.{quotes_of_block};
+ghost use Rattle.best_quotes.specs.Hearing.{TellBlock, Advances};
 
-use crate::leveled::LeveledUnit;
+use crate::leveled::{Heard, LeveledUnit};
+use crate::lines::QuoteLines;
 use client_core::Change;
 use pitch_fields::OutOfMemory;
 use std::alloc::Global;
@@ -88,6 +91,50 @@ fn hear_at(
     }
 }
 
+// The same with the quotes of the messages that are applied, which fill `lines` anew.
+fn hear_quoted_at(
+    alloc: Global,
+    limit: u32,
+    slot: &mut Option<LeveledUnit>,
+    block: &BlockView<'_>,
+    lines: &mut QuoteLines,
+) -> Result<Heard, OutOfMemory>
+    requires { (1 ≤ limit) × (limit ≤ most_held) }
+    ensures tracks { OnOk result ((before : List Block) (unit : ℕ) → IsClient limit before unit
+        slot.old → TracksAt limit (heard_block block.now (unit_history unit before)) slot.new) }
+    ensures keeps { OnOk result ((Image : List Raw → ℕ → List Raw) (V : List Raw) (E : List Entry)
+        → Honest Image V (heard_block block.now E) → KeepsTo V slot.old → KeepsTo V slot.new) }
+    ensures change { IfOk result (λ heard. (before : List Block) (unit : ℕ) → IsClient limit
+        before unit slot.old
+        → heard.change ≡ block_change limit (unit_history unit before) block.now) }
+    ensures err { OnErr result (IsSlotAsBefore slot.old slot.new) }
+    ensures quotes { IfOk result (λ heard. heard.told ≡ true
+        → (Image : List Raw → ℕ → List Raw) (V : List Raw) (before : List Block) (unit : ℕ)
+        → IsClient limit before unit slot.old
+        → Honest Image V (heard_block block.now (unit_history unit before)) → KeepsTo V slot.old
+        → lines.new.items ≡ quotes_of_block limit V (unit_history unit before) block.now) }
+    ensures untold { IfOk result (λ heard. heard.told ≡ false → (before : List Block) (unit : ℕ)
+        → IsClient limit before unit slot.old → Advances limit (unit_history unit before) block.now) }
+{
+    match slot {
+        Some(unit) => unit.hear_quoted(block, lines),
+        None => {
+            let mut unit = LeveledUnit::make(alloc, limit, true)?;
+            // It is dropped by calls, as above.
+            match unit.hear_quoted(block, lines) {
+                Ok(heard) => {
+                    drop(slot.replace(unit));
+                    Ok(heard)
+                }
+                Err(error) => {
+                    drop(unit);
+                    Err(error)
+                }
+            }
+        }
+    }
+}
+
 // Takes memory ahead for so many messages of the client at a place, where there is one.
 fn reserve_at(slot: &mut Option<LeveledUnit>, messages: u32) -> Result<(), OutOfMemory>
     ensures same { IsSlotAsBefore slot.old slot.new }
@@ -141,6 +188,36 @@ impl LeveledUnits {
         let leveled = self.leveled;
         let change = hear_at(alloc, limit, leveled, self.units.place_of(block), block)?;
         Ok(change)
+    }
+
+    /// Hears a block as `hear_block` does, and fills `lines` anew with what each message that it
+    /// applies changes of the best prices of its unit. The unit keeps levels from then on.
+    pub fn hear_quoted(
+        &mut self,
+        alloc: Global,
+        block: &BlockView<'_>,
+        lines: &mut QuoteLines,
+    ) -> Result<Heard, OutOfMemory>
+        ensures limit { self.new.limit ≡ self.old.limit }
+        ensures heard { OnOk result ((before : List Block)
+            → HaveHeard self.old before → HaveHeard self.new (block.now ∷ before)) }
+        ensures change { IfOk result (λ heard. (before : List Block) → HaveHeard self.old before
+            → heard.change
+            ≡ block_change self.old.limit (unit_history block.now.unit before) block.now) }
+        ensures err { OnErr result
+            ((before : List Block) → HaveHeard self.old before → HaveHeard self.new before) }
+        // Of the venue's messages, where what was heard speaks of them alone, the lines are those
+        // of the block.
+        ensures quotes { IfOk result (λ heard. heard.told ≡ true
+            → TellBlock self.old lines.new.items block.now) }
+        // They are told wherever the block applies no message.
+        ensures untold { IfOk result (λ heard. heard.told ≡ false → (before : List Block)
+            → HaveHeard self.old before
+            → Advances self.old.limit (unit_history block.now.unit before) block.now) }
+    {
+        let limit = self.units.limit();
+        let heard = hear_quoted_at(alloc, limit, self.units.place_of(block), block, lines)?;
+        Ok(heard)
     }
 
     /// Takes memory ahead for so many messages of a unit, where it has a client. The clients are as

@@ -10,11 +10,11 @@ ghost use Rattle.pitch_fields.specs.declared.side.Side.TheVariants.{Buy, Sell};
 ghost use Rattle.pitch_model.specs.Book.{Book, IsBook};
 ghost use Rattle.pitch_model.specs.Levels.{best, level, same_side};
 ghost use Rattle.best_quotes.specs.Leveling.{MovesPrices, IsNearest, side_of, level_in, Has};
-ghost use Rattle.best_quotes.specs.Leveling.{SameLevels, IsOn, TurnsSide};
+ghost use Rattle.best_quotes.specs.Leveling.{SameLevels, Shares, IsOn, TurnsSide};
 
-use crate::prices::{Best, Prices, best_of, turn};
+use crate::prices::{Best, Prices, best_of, shares_at, turn};
 use indexmap::IndexMap;
-use pitch_fields::{OutOfMemory, Side, Symbol};
+use pitch_fields::{OutOfMemory, Price, Side, Symbol};
 use pitch_messages::Order;
 use std::alloc::Global;
 use std::collections::BTreeMap;
@@ -65,6 +65,26 @@ pub(crate) fn best_level(levels: &Levels, symbol: Symbol, side: Side) -> Best
         → result ≡ best book symbol side }
 {
     nearest(levels, symbol, side)
+}
+
+// A side's prices.
+pub(crate) fn prices_in(sides: &Sides, side: Side) -> &Prices
+    ensures { result.now ≡ side_of side sides.now }
+{
+    match side {
+        Side::Buy => &sides.buy,
+        Side::Sell => &sides.sell,
+    }
+}
+
+// The shares of a symbol on a side at a price.
+pub(crate) fn level_at(levels: &Levels, symbol: Symbol, side: Side, price: Price) -> u64
+    ensures { (shares : Shares) → Has levels.now.entries shares → result ≡ shares symbol side price }
+{
+    match levels.get(&symbol.bytes()) {
+        Some(sides) => shares_at(prices_in(sides, side), price),
+        None => 0,
+    }
 }
 
 // Where a symbol stands, with two empty sides if it is a new one.

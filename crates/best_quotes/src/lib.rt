@@ -6,11 +6,13 @@
 //! a stream; `append_quotes` writes the lines of what they tell.
 #![tactic(auto)]
 
+mod best_first;
 mod bests;
 mod clearing;
 mod hearing;
 mod ladder;
 pub mod laws;
+mod laying;
 mod leveled;
 mod leveled_units;
 mod levels;
@@ -23,9 +25,10 @@ mod text;
 mod unit;
 mod units;
 
+pub use crate::best_first::LevelList;
 pub use crate::bests::QuoteList;
 pub use crate::ladder::Ladder;
-pub use crate::leveled::LeveledUnit;
+pub use crate::leveled::{Heard, LeveledUnit};
 pub use crate::leveled_units::LeveledUnits;
 pub use crate::lines::QuoteLines;
 pub use crate::quote::{Quote, QuoteLine};

@@ -1,6 +1,6 @@
 //! Quotes numbered by the sequences of the messages that made them.
 
-ghost use Rattle.std.specs.Prelude.{◌≡◌, ◌≤◌, ◌+◌, ◌++◌, length, OnOk};
+ghost use Rattle.std.specs.Prelude.{◌≡◌, ◌≤◌, ◌+◌, ◌++◌, [], length, OnOk, IsOk};
 ghost use Rattle.best_quotes.specs.Quoting.{numbered};
 ghost use Rattle.best_quotes.specs.Turning.{TurnsEach};
 
@@ -41,8 +41,10 @@ pub(crate) fn turn_each(
     lines: &mut QuoteLines,
 ) -> Result<(), OutOfMemory>
     requires within { reach + length turns.now ≤ 4294967295 }
-    ensures { OnOk result (TurnsEach (reach + 1) turns.now
+    ensures turned { OnOk result (TurnsEach (reach + 1) turns.now
         levels.old.entries levels.new.entries lines.old.items lines.new.items) }
+    // No turn takes no memory.
+    ensures none { turns.now ≡ [] → IsOk result }
 {
     let mut sequence = reach;
     let mut quotes = QuoteList::make(alloc);

@@ -48,6 +48,16 @@ pub(crate) fn best_of(prices: &Prices, side: Side) -> Best
     }
 }
 
+// The shares at a price.
+pub(crate) fn shares_at(prices: &Prices, price: Price) -> u64
+    ensures { result ≡ unwrap_or (get nat_cmp prices.now price) 0 }
+{
+    match prices.get(&price.ten_thousandths()) {
+        Some(shares) => *shares,
+        None => 0,
+    }
+}
+
 // Takes shares away at a price and puts others there. Their sum never passes the end of its type in
 // a book of at most 4,294,967,295 orders.
 fn change(prices: &mut Prices, price: Price, gone: u32, come: u32) -> Result<(), OutOfMemory>

@@ -51,7 +51,7 @@ fn take_any(levels: &mut Levels, order: &Option<Order>) -> Result<(), OutOfMemor
 }
 
 // Puts the shares of an order, where there is one.
-fn put_any(levels: &mut Levels, order: &Option<Order>) -> Result<(), OutOfMemory>
+pub(crate) fn put_any(levels: &mut Levels, order: &Option<Order>) -> Result<(), OutOfMemory>
     ensures { OnOk result (MovesLevels None order.now levels.old.entries levels.new.entries) }
 {
     match order {

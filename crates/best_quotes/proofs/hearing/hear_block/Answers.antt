@@ -22,7 +22,7 @@ pub returns-clause-levels : goal.returns-clause-levels
 returns-clause-levels c = λ has.
     let a = c.in_ok-change.ensures.applies in
     let book = current_book c.args.client.now in
-    let done = c.in_ok-turn_each.ensures book a.0 (subst IsBook c.book.ensures.same c.len-orders.ensures.book)
+    let done = c.in_ok-turn_each.ensures.turned book a.0 (subst IsBook c.book.ensures.same c.len-orders.ensures.book)
     (turns_are _ _ c.as_slice.result.now book a.0 c.truncate.ensures.items c.as_slice.ensures a.1) has in
     subst (λ (b : Book). Has c.turn_each.new.levels.entries (level b)) (sym a.2.book_is) done.has
 
@@ -34,7 +34,7 @@ returns-clause-lines c = λ block carries Image V H E tracks honest keeps has.
     let within : reach H (heard_block block E) ≤ length V = omega arith in
     let book = current_book c.args.client.now in
     let raws = drop (reach H E) (take (reach H (heard_block block E)) V) in
-    let done = c.in_ok-turn_each.ensures book raws (subst IsBook c.book.ensures.same c.len-orders.ensures.book)
+    let done = c.in_ok-turn_each.ensures.turned book raws (subst IsBook c.book.ensures.same c.len-orders.ensures.book)
     (turns_are _ _ c.as_slice.result.now book raws c.truncate.ensures.items c.as_slice.ensures applied) has in
     lines_of_block H V E block book raws c.args.lines.now.items c.turn_each.new.lines.items c.reach-reach.result (c.reach-reach.ensures.reach H E tracks)
     (sym c.book.ensures.same ∙ c.book.ensures.book H E V tracks keeps) refl within done.tells

@@ -27,8 +27,8 @@ messages-preserved c =
       at = omega arith;
     }
 
-pub returns : goal.returns
-returns c = λ book raws is are has.
+pub returns-clause-turned : goal.returns-clause-turned
+returns-clause-turned c = λ book raws is are has.
     let all : List Turn = c.args.turns.now in
     let i : ℕ = c.messages.turn-index in
     let none : drop i all ≡ [] = drop_all i all (omega arith) in
