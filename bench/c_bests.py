@@ -7,11 +7,14 @@ Wants `crates/pitch_c/out/libpitch_c.a` (`rt lib` there) and a C compiler. N fee
 from number S (1), as `quotes.py --compare` makes them: orders of three symbols on few prices, ids
 that are taken over, Unit Clears, and blocks that are lost, repeated and late. After each block the
 reach, the best price of each symbol and side, and the list of the open orders have to be those of
-the model, which sums all open orders anew. A list is asked for with too few places too, and what
-stands behind it has to stay. Each fourth client keeps no price levels.
+the model, which sums all open orders anew, and so have the levels of each symbol and side, and the
+shares at each price. Every other client is told with each block what it changed of the best prices,
+and has to be told what the model has after each message. A list is asked for with too few places
+too, and what stands behind it has to stay. Each fourth client keeps no price levels.
 
 With --refuse one allocation in K is refused, at random. What is refused for want of memory is asked
-for again; a best price is never refused, also where the price levels went.
+for again; a best price and the shares at a price are never refused, also where the price levels
+went. Where quotes were not told the block has to be heard, and the next block's to be told again.
 
 The exit status is 0 where all answers agree. Python 3, the standard library alone.
 """
@@ -49,12 +52,26 @@ class Model:
         self.book, self.reach, self.held = quotes.Book(), 0, {}
 
     def hear(self, first, messages):
+        """Hears a block, and tells what each message that was applied changed of the bests."""
         for number, raw in enumerate(messages, first):
             if number > self.reach:
                 self.held.setdefault(number, raw)
+        quotes_told, before = [], self.book.bests()
         while self.reach + 1 in self.held:
             self.reach += 1
             self.book.apply(self.held.pop(self.reach))
+            bests = self.book.bests()
+            quotes_told += [(self.reach, *it) for it in quotes.changes(before, bests)]
+            before = bests
+        return quotes_told
+
+    def levels(self, symbol, side):
+        """The prices with their shares, the best first."""
+        shares = {}
+        for its_symbol, its_side, price, quantity in self.book.orders.values():
+            if (its_symbol, its_side) == (symbol, side):
+                shares[price] = shares.get(price, 0) + quantity
+        return sorted(shares.items(), reverse=side == b"B")
 
     def orders(self):
         return [(number, *self.book.orders[number]) for number in sorted(self.book.orders)]
@@ -88,13 +105,24 @@ def few_orders(client, places):
     return [array[k].id for k in range(min(places, number.value))], number.value
 
 
+def compare_side(client, model, symbol, side, best, rng):
+    name, letter = symbol.decode().strip(), side.decode()
+    must(f"best of {name} {side}", client.best(1, name, letter), best)
+    levels = model.levels(symbol, side)
+    must(f"levels of {name} {side}", again(client.levels, 1, name, letter), levels)
+    places = rng.randrange(4)
+    few = again(client.levels, 1, name, letter, places)
+    must(f"few levels of {name} {side}", few, levels[:places])
+    for price, shares in [*levels, (1, 0)]:
+        must(f"level {price} of {name} {side}", client.level(1, name, letter, price), shares)
+
+
 def compare_answers(client, model, rng, tally):
     must("reach", client.status(1).reach, model.reach)
     bests = model.book.bests()
     for symbol in quotes.SYMBOLS:
-        name = symbol.decode().strip()
         for side in (b"B", b"S"):
-            must(f"best of {name} {side}", client.best(1, name, side.decode()), bests.get((symbol, side)))
+            compare_side(client, model, symbol, side, bests.get((symbol, side)), rng)
             tally["bests"] += 1
     told = again(client.orders, 1)
     wanted = model.orders()
@@ -105,11 +133,29 @@ def compare_answers(client, model, rng, tally):
     must("few orders", again(few_orders, client, places), (ids[:places], len(ids)))
 
 
+def hear_quoted(client, model, first, messages, rng, tally):
+    """Has both hear a block, and compares what is told of the best prices."""
+    before, wanted = model.reach, model.hear(first, messages)
+    places = rng.choice((0, 1, 2, 1024))
+    _, told, number = again(client.hear_quoted, quotes.block(first, messages), places)
+    if told is None:
+        must("quotes not told of nothing", model.reach == before, False)
+        tally["untold"] += 1
+        return
+    shown = [(it.sequence, bytes(it.symbol)[:6], bytes([it.side]),
+              (it.price, it.shares) if it.there else None) for it in told]
+    must("quotes", (shown, number), (wanted[:places], len(wanted)))
+    tally["quotes"] += number
+
+
 def compare(library, feed, rng, tally):
     client, model = again(pitch.Client, library, 65536, feed % 4 > 0), Model()
     for first, messages in quotes.random_arrivals(rng):
-        again(client.hear, quotes.block(first, messages))
-        model.hear(first, messages)
+        if feed % 2:
+            hear_quoted(client, model, first, messages, rng, tally)
+        else:
+            again(client.hear, quotes.block(first, messages))
+            model.hear(first, messages)
         compare_answers(client, model, rng, tally)
         tally["blocks"] += 1
     client.close()
@@ -124,7 +170,7 @@ def main():
     if not os.path.exists(LIBRARY):
         sys.exit(f"no {os.path.relpath(LIBRARY, TOP)}")
     rng, wrong = random.Random(options.number), 0
-    tally = {"blocks": 0, "bests": 0}
+    tally = {"blocks": 0, "bests": 0, "quotes": 0, "untold": 0}
     with tempfile.TemporaryDirectory() as folder:
         library = shared_object(folder)
         memory = ctypes.CDLL(library)
@@ -136,7 +182,8 @@ def main():
                 wrong += 1
                 print(f"feed {feed} of number {options.number}: {error}")
         refused = ctypes.c_ulong.in_dll(memory, "refused").value
-    print(f"{options.feeds} feeds, {tally['blocks']} blocks, {tally['bests']} best prices, "
+    print(f"{options.feeds} feeds, {tally['blocks']} blocks, {tally['bests']} sides with their levels, "
+          f"{tally['quotes']} quotes, {tally['untold']} blocks whose quotes were not told, "
           f"{refused} allocations refused, {wrong} feeds with other answers than the model's")
     return 1 if wrong else 0
 

@@ -1,5 +1,6 @@
 /* What the calls of libpitch_c.a cost: hears the blocks of a file from memory, and asks. Prints the
- * processor time of hearing them all, and the time of single calls. */
+ * processor time of hearing them all, and the time of single calls. A second word leaves the price
+ * levels out, or is `quoted`: then the quotes of each block are told too. */
 #define _POSIX_C_SOURCE 199309L
 #include "../examples/c/pitch_client.h"
 
@@ -24,6 +25,21 @@ static uint32_t kept;
         printf("%s %.1f ns\n", what, 1e9 * (now() - begun) / (double)(count));                     \
     } while (0)
 
+/* One of the two thousand symbols of the feed, which are asked for in no order. */
+static const uint8_t *symbol(long turn) {
+    static char name[9];
+    snprintf(name, sizeof name, "S%04u   ", (unsigned)turn * 7919u % 2000u);
+    return (const uint8_t *)name;
+}
+
+static uint32_t hear(pitch_client *client, int quoted, const uint8_t *bytes, size_t len,
+                     pitch_heard_out *heard) {
+    static pitch_quote_out quotes[256];
+    static uint64_t number;
+    if (!quoted) return pitch_hear(client, bytes, len, heard);
+    return pitch_hear_quoted(client, bytes, len, heard, quotes, 256, &number);
+}
+
 int main(int argc, char **argv) {
     FILE *file = argc > 1 ? fopen(argv[1], "rb") : NULL;
     pitch_client client = PITCH_CLIENT_INIT;
@@ -31,6 +47,10 @@ int main(int argc, char **argv) {
     pitch_status_out status;
     pitch_best_out best;
     pitch_order_out order;
+    pitch_level_out level, levels[10];
+    uint64_t number;
+    int quoted = argc > 2 && !strcmp(argv[2], "quoted"), leveled = argc < 3 || quoted;
+    long bests = leveled ? 2000000 : 200;
     uint8_t *bytes, next[8] = { 8, 0, 0, 0, 0, 0, 0, 0 };
     uint64_t open = 0, messages = 0, blocks = 0;
     uint32_t unit = 256;
@@ -40,9 +60,9 @@ int main(int argc, char **argv) {
     rewind(file);
     bytes = malloc(len + 1);
     if (!bytes || fread(bytes, 1, len, file) != len) return 2;
-    if (pitch_open(&client, 4096, argc < 3) != PITCH_OK) return 3;
+    if (pitch_open(&client, 4096, leveled) != PITCH_OK) return 3;
     double begun = now();
-    for (at = 0; at < len && pitch_hear(&client, bytes + at, len - at, &heard) == PITCH_OK;) {
+    for (at = 0; at < len && hear(&client, quoted, bytes + at, len - at, &heard) == PITCH_OK;) {
         at += heard.used;
         messages += heard.count;
         blocks++;
@@ -60,7 +80,11 @@ int main(int argc, char **argv) {
     TIME("no block", 20000000, pitch_hear(&client, (const uint8_t *)"\1\0\0\0\0\0\0", 8, &heard));
     TIME("unsequenced heartbeat", 2000000, pitch_hear(&client, next, 8, &heard));
     TIME("order", 2000000, pitch_order(&client, unit, (uint64_t)turn, &order));
-    TIME("best", 200, pitch_best(&client, unit, (const uint8_t *)"ACME    ", 'B', &best));
+    TIME("symbol", bests, *symbol(turn));
+    TIME("best, with its symbol", bests, pitch_best(&client, unit, symbol(turn), 'B', &best));
+    TIME("level, with its symbol", bests, pitch_level(&client, unit, symbol(turn), 'B', best.price, &level));
+    TIME("ten levels, with their symbol", leveled ? 200000 : 20,
+         pitch_levels(&client, unit, symbol(turn), 'B', levels, 10, &number));
     pitch_close(&client);
     return kept == 1;
 }

@@ -1,17 +1,21 @@
 #!/usr/bin/env python3
 """Measures what the calls of libpitch_c.a cost, beside own_client.
 
-    bench/c_calls.py [--megabytes M] [--rounds R]
+    bench/c_calls.py [--megabytes M] [--rounds R] [--orders N]
 
 Wants `crates/pitch_c/out/libpitch_c.a` (`rt lib` there), `crates/own_client/out/own_client` (`rt
 run` there) and a C compiler. A feed of M megabytes (40) is made: four units, blocks of 20 messages,
 orders that are added and in part deleted again, so that about a tenth of them stays open. own_client
 and examples/c/follow.c follow it in turn, R times (5), and have to write the same; c_calls.c then
-hears it from memory, and asks. Processor times, medians. Python 3, the standard library alone.
+hears it from memory, with and without price levels and with quotes, and asks. It does so again of a
+feed that opens N orders (1,000,000) in one unit. Wanted are at most 1.1 times the processor time of
+own_client for hearing the feed without price levels, and at most 200 ns for a best price with N
+orders open. Processor times, medians. Python 3, the standard library alone.
 """
 import argparse
 import os
 import random
+import re
 import resource
 import statistics
 import struct
@@ -63,6 +67,32 @@ def write_feed(path, size):
             sequence += IN_A_BLOCK
 
 
+def write_deep(path, orders):
+    """So many orders that stay open, in one unit."""
+    rnd = random.Random(2)
+    with open(path, "wb") as file:
+        for first in range(1, orders + 1, IN_A_BLOCK):
+            numbers = range(first, min(first + IN_A_BLOCK, orders + 1))
+            adds = [add(it, rnd.choice((b"B", b"S")), rnd.choice(SYMBOLS), 100000 + rnd.randrange(2000))
+                    for it in numbers]
+            body = b"".join(adds)
+            file.write(struct.pack("<HBBI", 8 + len(body), len(adds), 1, first) + body)
+
+
+def calls(program, feed, rounds, *words):
+    """The median of each time that c_calls.c prints, by what it is of."""
+    times, units = {}, {}
+    for _ in range(rounds):
+        for line in run([program, feed, *words], feed)[0].decode().splitlines():
+            if found := re.fullmatch(r"(.*) ([0-9.]+) (ns|s)", line):
+                times.setdefault(found[1], []).append(float(found[2]))
+                units[found[1]] = found[3]
+    medians = {what: statistics.median(taken) for what, taken in times.items()}
+    for what, taken in medians.items():
+        print(f"{' '.join(words) or 'with levels'}: {what} {taken} {units[what]}")
+    return medians
+
+
 def run(command, feed):
     """The output and the processor time of a program that reads the feed."""
     before = resource.getrusage(resource.RUSAGE_CHILDREN)
@@ -76,6 +106,7 @@ def main():
     parser = argparse.ArgumentParser()
     parser.add_argument("--megabytes", type=float, default=40)
     parser.add_argument("--rounds", type=int, default=5)
+    parser.add_argument("--orders", type=int, default=1000000)
     args = parser.parse_args()
     for path in (LIBRARY, OWN_CLIENT):
         if not os.path.exists(path):
@@ -98,8 +129,15 @@ def main():
                 sys.exit("own_client and follow.c write different things")
         for name, taken in times.items():
             print(f"{name} {statistics.median(taken):.3f} s")
-        sys.stdout.flush()
-        subprocess.run([programs["calls"], feed], check=True)
+        plain = calls(programs["calls"], feed, args.rounds, "plain")["hearing"]
+        share = plain / statistics.median(times["own_client"])
+        print(f"hearing without levels: {share:.2f} times own_client")
+        calls(programs["calls"], feed, args.rounds)
+        calls(programs["calls"], feed, args.rounds, "quoted")
+        write_deep(feed, args.orders)
+        print(f"{args.orders:,} orders open:")
+        deep = calls(programs["calls"], feed, args.rounds)
+        print(f"a best price: {deep['best, with its symbol'] - deep['symbol']:.0f} ns")
 
 
 if __name__ == "__main__":

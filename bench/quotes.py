@@ -181,12 +181,18 @@ class Book:
         return found
 
 
-def lines_of(sequence, old, new):
+def changes(old, new):
+    """Each symbol and side whose best became another, with that."""
     for symbol, side in sorted(set(old) | set(new)):
         best = new.get((symbol, side))
         if best != old.get((symbol, side)):
-            shown = "- -" if best is None else f"{best[0] // 10000}.{best[0] % 10000:04} {best[1]}"
-            yield f"quote unit 1 at {sequence} {symbol.decode().rstrip()} {side.decode()} {shown}\n"
+            yield symbol, side, best
+
+
+def lines_of(sequence, old, new):
+    for symbol, side, best in changes(old, new):
+        shown = "- -" if best is None else f"{best[0] // 10000}.{best[0] % 10000:04} {best[1]}"
+        yield f"quote unit 1 at {sequence} {symbol.decode().rstrip()} {side.decode()} {shown}\n"
 
 
 def model(arrived):

@@ -17,7 +17,7 @@ import sys
 HERE = os.path.dirname(os.path.abspath(__file__))
 SRC = os.path.join(HERE, "..", "..", "crates", "pitch_c", "src")
 OF_HEADER_ALONE = {"NULL": 9, "OTHER_ABI": 10}
-# Ends with their sessions are told to C alone: their exports and structs, and where they stand.
+# Ends with their sessions: their exports and structs, and the header where they stand.
 ENDS = {"exports": "ends.rt", "structs": "end_reports.rt", "file": "pitch_end.h"}
 
 
@@ -30,6 +30,8 @@ class C:
         "BestOut": "pitch_best_out",
         "OrderOut": "pitch_order_out",
         "StateOut": "pitch_state_out",
+        "LevelOut": "pitch_level_out",
+        "QuoteOut": "pitch_quote_out",
         "HeardOut": "pitch_heard_out",
         "End": "pitch_end",
         "DatagramOut": "pitch_datagram_out",
@@ -62,7 +64,12 @@ class Rust:
         "BestOut": "BestOut",
         "OrderOut": "Order",
         "StateOut": "State",
+        "LevelOut": "Level",
+        "QuoteOut": "Quote",
         "HeardOut": "Heard",
+        "End": "RawEnd",
+        "DatagramOut": "Datagram",
+        "SentOut": "Sent",
     }
 
     def field(self, name, kind, count):
@@ -121,6 +128,7 @@ def named(language, kind):
 
 
 def parameters(language, given):
+    slices = 0
     for name, kind in re.findall(r"(\w+): ((?:\[[^\]]*\]|[^,])+)", given):
         kind = kind.strip()
         fixed = not kind.startswith("&mut ")
@@ -133,7 +141,9 @@ def parameters(language, given):
             yield language.pointer(name, named(language, found[1]), fixed, found[2])
         elif found := re.fullmatch(r"\[(\w+)\]", inner):
             yield language.pointer(name, named(language, found[1]), fixed, None)
-            yield language.number("len", language.numbers["usize"])
+            slices += 1
+            length = "len" if slices == 1 else f"{name}_len"
+            yield language.number(length, language.numbers["usize"])
         else:
             yield language.pointer(name, named(language, inner), fixed, None)
 
@@ -169,17 +179,24 @@ def wrong_codes(header):
         yield f"a text for each of {len(there)} codes"
 
 
+def sessions():
+    """Each session with its number, as the header has to have it."""
+    numbers = re.findall(r"(\d+) => Some\(Session::(\w+)\)", text(SRC, ENDS["exports"]))
+    words = [(n, re.sub(r"(?<=.)([A-Z])", r"_\1", it).upper()) for n, it in numbers]
+    return [f"PITCH_{it} = {n}" for n, it in words]
+
+
 def main():
     missing = []
     for language in (C(), Rust(), Python()):
         there = plain(text(HERE, language.file))
         missing += [(language.file, it) for it in wanted(language) if plain(it) not in there]
-    there = plain(text(HERE, ENDS["file"]))
-    of_ends = wanted(C(), ENDS["structs"], ENDS["exports"])
-    sessions = re.findall(r"(\d+) => Some\(Session::(\w+)\)", text(SRC, ENDS["exports"]))
-    words = [(n, re.sub(r"(?<=.)([A-Z])", r"_\1", it).upper()) for n, it in sessions]
-    named_so = [f"PITCH_{it} = {n}" for n, it in words]
-    missing += [(ENDS["file"], it) for it in [*of_ends, *named_so] if plain(it) not in there]
+    for language, file in ((C(), ENDS["file"]), (Rust(), Rust.file), (Python(), Python.file)):
+        there = plain(text(HERE, file))
+        of_ends = [*wanted(language, ENDS["structs"], ENDS["exports"])]
+        if file == ENDS["file"]:
+            of_ends += sessions()
+        missing += [(file, it) for it in of_ends if plain(it) not in there]
     missing += [(C.file, it) for it in wrong_codes(text(HERE, C.file))]
     for file, it in missing:
         print(f"examples/c/{file}: not there: {it}")

@@ -21,6 +21,8 @@ int main(int argc, char **argv) {
     pitch_best_out b;
     pitch_order_out o, os[3];
     pitch_state_out st[2];
+    pitch_level_out l, ls[2];
+    pitch_quote_out qs[3];
     uint64_t n = 77;
     const uint8_t sym[8] = "ACME    ";
     if (argc > 1) state ^= strtoull(argv[1], NULL, 10) * 0x9e3779b97f4a7c15ull;
@@ -30,6 +32,8 @@ int main(int argc, char **argv) {
     if (pitch_best(&c, 1, sym, 'B', &b) != PITCH_CLOSED) return 3;
     if (pitch_order(&c, 1, 1, &o) != PITCH_CLOSED || pitch_reserve(&c, 1, 1) != PITCH_CLOSED) return 22;
     if (pitch_orders(&c, 1, os, 3, &n) != PITCH_CLOSED || pitch_states(&c, 1, st, 2, &n) != PITCH_CLOSED) return 40;
+    if (pitch_levels(&c, 1, sym, 'B', ls, 2, &n) != PITCH_CLOSED || pitch_level(&c, 1, sym, 'B', 1, &l) != PITCH_CLOSED) return 51;
+    if (pitch_hear_quoted(&c, sym, 8, &h, qs, 3, &n) != PITCH_CLOSED) return 52;
     pitch_close(&c);
     /* the hold */
     if (pitch_open(&c, 0, 1) != PITCH_BAD_HOLD) return 4;
@@ -47,6 +51,8 @@ int main(int argc, char **argv) {
     if (pitch_c_reserve(&c, 9, 1) != PITCH_NO_CLIENT || pitch_reserve(&c, 256, 1) != PITCH_NO_CLIENT) return 28;
     if (pitch_orders(&c, 1, os, 3, &n) != PITCH_NO_CLIENT || pitch_orders(&c, 256, os, 3, &n) != PITCH_NO_CLIENT) return 41;
     if (pitch_states(&c, 1, st, 2, &n) != PITCH_NO_CLIENT || pitch_states(&c, 0xffffffffu, st, 2, &n) != PITCH_NO_CLIENT) return 42;
+    if (pitch_levels(&c, 256, sym, 'S', ls, 2, &n) != PITCH_NO_CLIENT || pitch_level(&c, 1, sym, 'S', 1, &l) != PITCH_NO_CLIENT) return 53;
+    if (pitch_levels(&c, 1, sym, 'x', ls, 2, &n) != PITCH_NO_SIDE || pitch_level(&c, 1, sym, 0, 1, &l) != PITCH_NO_SIDE) return 54;
     if (n != 77) return 43;
     /* a unit that was reserved is silent, and has nothing */
     if (pitch_reserve(&c, 200, 1000) != PITCH_OK || pitch_status(&c, 200, &s) != PITCH_OK) return 29;
@@ -69,6 +75,19 @@ int main(int argc, char **argv) {
         if (os[0].id != 10 || os[1].id != 20 || os[0].quantity != 3 || os[2].id != 99) return 48;
         if (pitch_orders(&c, 201, os, 3, &n) != PITCH_OK || n != 3 || os[2].id != 30) return 49;
         if (pitch_best(&c, 201, sym, 'B', &b) != PITCH_OK || !b.there || b.price != 100 || b.shares != 6) return 50;
+        /* a fourth order, at a better price: one quote, and two levels of which one fits */
+        block[0] = 42, block[2] = 1, block[4] = 4, block[14] = 40, block[8 + 25] = 101;
+        qs[1].sequence = 99, n = 77;
+        if (pitch_hear_quoted(&c, block, 42, &h, qs, 3, &n) != PITCH_OK || h.after.reach != 4 || n != 1) return 55;
+        if (qs[0].sequence != 4 || qs[0].side != 'B' || memcmp(qs[0].symbol, sym, 8) || !qs[0].there) return 56;
+        if (qs[0].price != 101 || qs[0].shares != 1 || qs[1].sequence != 99) return 57;
+        if (pitch_hear_quoted(&c, block, 42, &h, NULL, 0, &n) != PITCH_OK || h.fresh || n) return 58;
+        ls[1].price = 99;
+        if (pitch_levels(&c, 201, sym, 'B', ls, 1, &n) != PITCH_OK || n != 2 || ls[0].price != 101 || ls[1].price != 99) return 59;
+        if (pitch_levels(&c, 201, sym, 'B', ls, 2, &n) != PITCH_OK || ls[1].price != 100 || ls[1].shares != 6) return 60;
+        if (pitch_levels(&c, 201, sym, 'S', NULL, 0, &n) != PITCH_OK || n) return 61;
+        if (pitch_level(&c, 201, sym, 'B', 100, &l) != PITCH_OK || l.price != 100 || l.shares != 6 || l.spare[1]) return 62;
+        if (pitch_level(&c, 201, sym, 'B', 99, &l) != PITCH_OK || l.price != 99 || l.shares) return 63;
     }
     /* no bytes, also at null; too few */
     if (pitch_hear(&c, sym, 0, &h) != PITCH_TRUNCATED) return 14;
@@ -80,6 +99,9 @@ int main(int argc, char **argv) {
     if (pitch_order(&c, 1, 1, NULL) != PITCH_NULL || pitch_reserve(NULL, 1, 1) != PITCH_NULL) return 37;
     if (pitch_orders(&c, 1, NULL, 1, &n) != PITCH_NULL || pitch_orders(&c, 1, os, 3, NULL) != PITCH_NULL) return 38;
     if (pitch_states(&c, 1, NULL, 1, &n) != PITCH_NULL || pitch_states(NULL, 1, st, 2, &n) != PITCH_NULL) return 39;
+    if (pitch_levels(&c, 1, NULL, 'B', ls, 2, &n) != PITCH_NULL || pitch_levels(&c, 1, sym, 'B', NULL, 1, &n) != PITCH_NULL) return 64;
+    if (pitch_level(&c, 1, sym, 'B', 1, NULL) != PITCH_NULL || pitch_hear_quoted(&c, sym, 8, &h, NULL, 1, &n) != PITCH_NULL) return 65;
+    if (pitch_hear_quoted(&c, sym, 8, &h, qs, 3, NULL) != PITCH_NULL || pitch_hear_quoted(&c, sym, 8, NULL, qs, 3, &n) != PITCH_NULL) return 66;
     uint8_t *most = calloc(1, 65536);
     if (pitch_hear(&c, most, (size_t)-1, &h) != PITCH_NOT_A_BLOCK) return 19;
     free(most);
@@ -104,7 +126,7 @@ int main(int argc, char **argv) {
             bytes[3] = (uint8_t)(next() % 4);
             if (next() % 8) bytes[4] = (uint8_t)(next() % 64), bytes[5] = bytes[6] = bytes[7] = 0;
         }
-        switch (pitch_hear(&c, bytes, len, &h)) {
+        switch (next() % 2 ? pitch_hear(&c, bytes, len, &h) : pitch_hear_quoted(&c, bytes, len, &h, qs, next() % 4, &n)) {
         case PITCH_OK: heard++; if (h.used > len || h.used < 8) return 20; break;
         case PITCH_TRUNCATED: cut++; break;
         case PITCH_NOT_A_BLOCK: refused++; break;
@@ -119,6 +141,8 @@ int main(int argc, char **argv) {
             pitch_order(&c, unit, next() % 256, &o);
             pitch_orders(&c, unit, os, next() % 4, &n);
             pitch_states(&c, unit, st, next() % 3, &n);
+            pitch_levels(&c, unit, name, next() % 2 ? 'B' : 'S', ls, next() % 3, &n);
+            pitch_level(&c, unit, name, next() % 2 ? 'B' : 'S', next() % 256, &l);
         }
         free(bytes);
     }

@@ -24,10 +24,10 @@ extern "C" {
 #endif
 
 /* What pitch_c_abi answers where the library has the structs and functions of this header. */
-#define PITCH_ABI 2
+#define PITCH_ABI 3
 
-/* What the functions answer. Where it is not PITCH_OK, the clients stand for what they stood for,
- * and nothing was written. */
+/* What the functions answer. Where it is neither PITCH_OK nor PITCH_UNTOLD, the clients stand for
+ * what they stood for, and nothing was written. */
 enum pitch_code {
     PITCH_OK = 0,
     PITCH_CLOSED = 1,      /* the client is not open */
@@ -40,6 +40,7 @@ enum pitch_code {
     PITCH_NO_SIDE = 8,     /* the side is neither 'B' nor 'S' */
     PITCH_BAD_UNIT = 11,   /* the unit of an end is not from 1 to 255 */
     PITCH_NO_SESSION = 12, /* the session is none of pitch_session */
+    PITCH_UNTOLD = 13,     /* the block was heard, but there was no memory to tell its quotes */
     PITCH_NULL = 9,        /* a pointer is null: told by this header alone */
     PITCH_OTHER_ABI = 10   /* the library is of another header: told by this one alone */
 };
@@ -85,6 +86,23 @@ typedef struct pitch_state_out {
     uint64_t spare[2];
 } pitch_state_out;
 
+typedef struct pitch_level_out {
+    uint64_t price; /* in ten-thousandths of a dollar */
+    uint64_t shares;
+    uint64_t spare[2];
+} pitch_level_out;
+
+/* A best price that a message made another one. */
+typedef struct pitch_quote_out {
+    uint32_t sequence; /* of the message */
+    uint32_t side;     /* 'B' or 'S' */
+    uint8_t symbol[8]; /* with spaces at its end */
+    uint64_t there;    /* 0 where the side is empty then, else 1 */
+    uint64_t price;    /* in ten-thousandths of a dollar */
+    uint64_t shares;
+    uint64_t spare[3];
+} pitch_quote_out;
+
 typedef struct pitch_heard_out {
     uint32_t used;      /* the bytes of the block; those after it are of the next */
     uint32_t unit;
@@ -102,6 +120,9 @@ uint32_t pitch_c_abi(void);
 uint32_t pitch_c_open(pitch_client *client, uint32_t hold, uint32_t levels);
 void pitch_c_close(pitch_client *client);
 uint32_t pitch_c_hear(pitch_client *client, const uint8_t *bytes, size_t len, pitch_heard_out *told);
+uint32_t pitch_c_hear_quoted(pitch_client *client, const uint8_t *bytes, size_t len,
+                             pitch_heard_out *told, pitch_quote_out *quotes, size_t quotes_len,
+                             uint64_t *number);
 uint32_t pitch_c_reserve(pitch_client *client, uint32_t unit, uint32_t messages);
 uint32_t pitch_c_status(pitch_client *client, uint32_t unit, pitch_status_out *told);
 uint32_t pitch_c_best(pitch_client *client, uint32_t unit, const uint8_t symbol[8], uint8_t side,
@@ -111,6 +132,11 @@ uint32_t pitch_c_orders(pitch_client *client, uint32_t unit, pitch_order_out *to
                         uint64_t *number);
 uint32_t pitch_c_states(pitch_client *client, uint32_t unit, pitch_state_out *told, size_t len,
                         uint64_t *number);
+
+uint32_t pitch_c_levels(pitch_client *client, uint32_t unit, const uint8_t symbol[8], uint8_t side,
+                        pitch_level_out *told, size_t len, uint64_t *number);
+uint32_t pitch_c_level(pitch_client *client, uint32_t unit, const uint8_t symbol[8], uint8_t side,
+                       uint64_t price, pitch_level_out *told);
 
 /* ---- The functions for C */
 
@@ -137,10 +163,31 @@ static inline uint32_t pitch_hear(pitch_client *client, const uint8_t *bytes, si
     return pitch_c_hear(client, bytes ? bytes : (const uint8_t *)"", len, told);
 }
 
+/* Hears a block as pitch_hear does, and tells what each message that the book took changed of the
+ * best prices: one quote where the best of a symbol on a side, or its shares, became another, in the
+ * order of the messages and then of the symbols, to buy before to sell. The last one of a symbol and
+ * side is its best. As many as fit in an array of `quotes_len`, and in `number` how many there are;
+ * what is behind them in the array stays. An array of none may be null.
+ *
+ * The unit keeps price levels from then on; where it had none they are made first. After
+ * PITCH_NO_MEMORY nothing was heard. After PITCH_UNTOLD the block was heard and `told` is written,
+ * but not the quotes: ask for the best prices that matter. */
+static inline uint32_t pitch_hear_quoted(pitch_client *client, const uint8_t *bytes, size_t len,
+                                         pitch_heard_out *told, pitch_quote_out *quotes,
+                                         size_t quotes_len, uint64_t *number) {
+    pitch_quote_out none;
+    if (!client || !told || !number || (!bytes && len) || (!quotes && quotes_len)) return PITCH_NULL;
+    if (len > 65535) len = 65535;
+    if (quotes_len > PTRDIFF_MAX / sizeof none) quotes_len = PTRDIFF_MAX / sizeof none;
+    return pitch_c_hear_quoted(client, bytes ? bytes : (const uint8_t *)"", len, told,
+                               quotes ? quotes : &none, quotes_len, number);
+}
+
 /* Takes memory ahead for so many messages of a unit: a block takes none whose messages, with those
  * that are held, are no more. A unit that no block named gets its client by a block without
  * messages and without a sequence, which tells it of nothing. More than the orders that a book can
- * have is PITCH_NO_MEMORY. */
+ * have is PITCH_NO_MEMORY. In a client that was opened with price levels, those that went for want of
+ * memory are made anew from the open orders, which takes some microseconds for each. */
 static inline uint32_t pitch_reserve(pitch_client *client, uint32_t unit, uint32_t messages) {
     const uint8_t silent[8] = { 8, 0, 0, (uint8_t)unit, 0, 0, 0, 0 };
     pitch_heard_out told;
@@ -193,12 +240,31 @@ static inline uint32_t pitch_states(pitch_client *client, uint32_t unit, pitch_s
     return pitch_c_states(client, unit, told ? told : &none, len, number);
 }
 
+/* The levels of a symbol on a side, the best first, likewise. Where levels are kept this takes the
+ * time of what is written; otherwise they are made anew from all open orders of the unit. */
+static inline uint32_t pitch_levels(pitch_client *client, uint32_t unit, const uint8_t symbol[8],
+                                    uint8_t side, pitch_level_out *told, size_t len,
+                                    uint64_t *number) {
+    pitch_level_out none;
+    if (!client || !symbol || !number || (!told && len)) return PITCH_NULL;
+    if (len > PTRDIFF_MAX / sizeof none) len = PTRDIFF_MAX / sizeof none;
+    return pitch_c_levels(client, unit, symbol, side, told ? told : &none, len, number);
+}
+
+/* The shares at a price, in ten-thousandths of a dollar: 0 where no order is open there. It is looked
+ * up as pitch_best is. */
+static inline uint32_t pitch_level(pitch_client *client, uint32_t unit, const uint8_t symbol[8],
+                                   uint8_t side, uint64_t price, pitch_level_out *told) {
+    if (!client || !symbol || !told) return PITCH_NULL;
+    return pitch_c_level(client, unit, symbol, side, price, told);
+}
+
 static inline const char *pitch_strerror(uint32_t code) {
     static const char *const words[] = {
         "ok", "the client is closed", "the client is open already", "out of memory",
         "the hold is not from 1 to 65536", "truncated", "not a block", "no such unit", "no such side",
         "a null pointer", "the library is of another header",
-        "the unit is not from 1 to 255", "no such session",
+        "the unit is not from 1 to 255", "no such session", "heard, with no memory to tell quotes",
     };
     return code < sizeof words / sizeof words[0] ? words[code] : "unknown code";
 }
@@ -214,6 +280,8 @@ PITCH_ASSERT_SIZE(pitch_status_out, 32);
 PITCH_ASSERT_SIZE(pitch_best_out, 64);
 PITCH_ASSERT_SIZE(pitch_order_out, 64);
 PITCH_ASSERT_SIZE(pitch_state_out, 32);
+PITCH_ASSERT_SIZE(pitch_level_out, 32);
+PITCH_ASSERT_SIZE(pitch_quote_out, 64);
 PITCH_ASSERT_SIZE(pitch_heard_out, 64);
 
 #endif

@@ -1,4 +1,5 @@
-"""The clients of a feed, from Python: over a shared object made of libpitch_c.a.
+"""The clients of a feed, and an end with its sessions, from Python: over a shared object made of
+libpitch_c.a.
 
     python3 pitch_client.py ./libpitch.so < FEED
 
@@ -9,7 +10,8 @@ import ctypes
 import sys
 
 U8, U32, U64, SIZE = ctypes.c_uint8, ctypes.c_uint32, ctypes.c_uint64, ctypes.c_size_t
-NO_CLIENT, OTHER_ABI = 7, 10
+NO_CLIENT, OTHER_ABI, UNTOLD = 7, 10, 13
+PROXY, SPIN_SERVER = 1, 2
 
 
 class Raw(ctypes.Structure):
@@ -33,9 +35,30 @@ class State(ctypes.Structure):
     _fields_ = [("symbol", U8 * 8), ("halt", U32), ("sho", U32), ("spare", U64 * 2)]
 
 
+class Level(ctypes.Structure):
+    _fields_ = [("price", U64), ("shares", U64), ("spare", U64 * 2)]
+
+
+class Quote(ctypes.Structure):
+    _fields_ = [("sequence", U32), ("side", U32), ("symbol", U8 * 8), ("there", U64), ("price", U64),
+                ("shares", U64), ("spare", U64 * 3)]
+
+
 class Heard(ctypes.Structure):
     _fields_ = [("used", U32), ("unit", U32), ("sequence", U32), ("count", U32), ("fresh", U32),
                 ("overflows", U32), ("after", Status), ("spare", U32 * 2)]
+
+
+class RawEnd(ctypes.Structure):
+    _fields_ = [("at", ctypes.c_void_p), ("mark", U64)]
+
+
+class Datagram(ctypes.Structure):
+    _fields_ = [("heard", U64), ("others", U64), ("rest", U64), ("spare", U64 * 5)]
+
+
+class Sent(ctypes.Structure):
+    _fields_ = [("count", U64), ("left", U64), ("spare", U64 * 2)]
 
 
 def of(kind):
@@ -48,12 +71,29 @@ CALLS = {
     "pitch_c_open": ([of(Raw), U32, U32], U32),
     "pitch_c_close": ([of(Raw)], None),
     "pitch_c_hear": ([of(Raw), BYTES, SIZE, of(Heard)], U32),
+    "pitch_c_hear_quoted": ([of(Raw), BYTES, SIZE, of(Heard), of(Quote), SIZE, of(U64)], U32),
     "pitch_c_reserve": ([of(Raw), U32, U32], U32),
     "pitch_c_status": ([of(Raw), U32, of(Status)], U32),
     "pitch_c_best": ([of(Raw), U32, BYTES, U8, of(Best)], U32),
     "pitch_c_order": ([of(Raw), U32, U64, of(Order)], U32),
     "pitch_c_orders": ([of(Raw), U32, of(Order), SIZE, of(U64)], U32),
     "pitch_c_states": ([of(Raw), U32, of(State), SIZE, of(U64)], U32),
+    "pitch_c_levels": ([of(Raw), U32, BYTES, U8, of(Level), SIZE, of(U64)], U32),
+    "pitch_c_level": ([of(Raw), U32, BYTES, U8, U64, of(Level)], U32),
+}
+END_CALLS = {
+    "pitch_c_end_open": ([of(RawEnd), U32, BYTES, BYTES, BYTES, U32], U32),
+    "pitch_c_end_close": ([of(RawEnd)], None),
+    "pitch_c_end_hear": ([of(RawEnd), BYTES, SIZE, of(Datagram)], U32),
+    "pitch_c_end_connected": ([of(RawEnd), U32], U32),
+    "pitch_c_end_took": ([of(RawEnd), U32, BYTES, SIZE], U32),
+    "pitch_c_end_cut": ([of(RawEnd), U32], U32),
+    "pitch_c_end_second": ([of(RawEnd)], U32),
+    "pitch_c_end_send": ([of(RawEnd), U32, of(U8), SIZE, of(Sent)], U32),
+    "pitch_c_end_connection": ([of(RawEnd), U32, of(U32)], U32),
+    "pitch_c_end_status": ([of(RawEnd), of(Status)], U32),
+    "pitch_c_end_best": ([of(RawEnd), BYTES, U8, of(Best)], U32),
+    "pitch_c_end_order": ([of(RawEnd), U64, of(Order)], U32),
 }
 
 
@@ -63,17 +103,27 @@ class PitchError(Exception):
         self.code = code
 
 
+def opened(library):
+    """The library with its calls declared, where it is one of this file's."""
+    lib = ctypes.CDLL(library)
+    for name, (given, told) in {**CALLS, **END_CALLS}.items():
+        getattr(lib, name).argtypes = given
+        getattr(lib, name).restype = told
+    if lib.pitch_c_abi() != 3:
+        raise PitchError(OTHER_ABI)
+    return lib
+
+
+def padded(text, size):
+    """A text with spaces at its end."""
+    return text.encode("ascii").ljust(size)[:size]
+
+
 class Client:
     """The clients of all units of a feed, for one thread at a time."""
 
     def __init__(self, library, hold=4096, levels=True):
-        self.raw = Raw()
-        self.lib = ctypes.CDLL(library)
-        for name, (given, told) in CALLS.items():
-            getattr(self.lib, name).argtypes = given
-            getattr(self.lib, name).restype = told
-        if self.lib.pitch_c_abi() != 2:
-            raise PitchError(OTHER_ABI)
+        self.raw, self.lib = Raw(), opened(library)
         self._ask("open", hold, levels)
 
     def _ask(self, name, *given):
@@ -86,6 +136,18 @@ class Client:
         told = Heard()
         self._ask("hear", block, len(block), told)
         return told
+
+    def hear_quoted(self, block, most=1024):
+        """Hears a block, and tells what it has and its quotes: at most so many, and how many there
+        are. In the place of the list is None where there was no memory to tell them."""
+        told, number, quotes = Heard(), U64(), (Quote * most)()
+        try:
+            self._ask("hear_quoted", block, len(block), told, quotes, most, number)
+        except PitchError as error:
+            if error.code != UNTOLD:
+                raise
+            return told, None, 0
+        return told, quotes[: min(most, number.value)], number.value
 
     def reserve(self, unit, messages):
         """Takes memory ahead for so many messages of a unit, which gets a client."""
@@ -103,7 +165,7 @@ class Client:
     def best(self, unit, symbol, side):
         """The best price, in ten-thousandths of a dollar, with its shares; None where none is."""
         told = Best()
-        self._ask("best", unit, symbol.ljust(8).encode("ascii")[:8], ord(side), told)
+        self._ask("best", unit, padded(symbol, 8), ord(side), told)
         return (told.price, told.shares) if told.there else None
 
     def order(self, unit, order_id):
@@ -127,8 +189,85 @@ class Client:
         """The trading statuses of a unit by rising bytes of their symbols."""
         return self._list("states", State, unit)
 
+    def levels(self, unit, symbol, side, most=None):
+        """The prices with their shares, the best first: all, or so many at most."""
+        number, items = U64(), (Level * (most or 0))()
+        given = unit, padded(symbol, 8), ord(side)
+        self._ask("levels", *given, items, len(items), number)
+        if most is None:
+            items = (Level * number.value)()
+            self._ask("levels", *given, items, len(items), number)
+        return [(it.price, it.shares) for it in items[: number.value]]
+
+    def level(self, unit, symbol, side, price):
+        """The shares at a price, in ten-thousandths of a dollar."""
+        told = Level()
+        self._ask("level", unit, padded(symbol, 8), ord(side), price, told)
+        return told.shares
+
     def close(self):
         self.lib.pitch_c_close(self.raw)
+
+
+class End:
+    """The client's end of a unit with its sessions, for one thread at a time."""
+
+    def __init__(self, library, unit, sub, user, password, hold=4096):
+        self.raw, self.lib = RawEnd(), opened(library)
+        self._ask("open", unit, padded(sub, 4), padded(user, 4), padded(password, 10), hold)
+
+    def _ask(self, name, *given):
+        code = getattr(self.lib, "pitch_c_end_" + name)(self.raw, *given)
+        if code:
+            raise PitchError(code)
+
+    def hear(self, datagram):
+        told = Datagram()
+        self._ask("hear", datagram, len(datagram), told)
+        return told
+
+    def connected(self, session):
+        self._ask("connected", session)
+
+    def took(self, session, data):
+        """Bytes of a connection came. It is lost where there was no memory for them."""
+        self._ask("took", session, data, len(data))
+
+    def cut(self, session):
+        self._ask("cut", session)
+
+    def second(self):
+        self._ask("second")
+
+    def send(self, session, most=65536):
+        """The first bytes that wait for a session: they wait no more."""
+        into, told = (U8 * most)(), Sent()
+        self._ask("send", session, into, most, told)
+        return bytes(into[: told.count])
+
+    def connection(self, session):
+        """Whether a connection stands."""
+        told = U32()
+        self._ask("connection", session, told)
+        return bool(told.value)
+
+    def status(self):
+        told = Status()
+        self._ask("status", told)
+        return told
+
+    def best(self, symbol, side):
+        told = Best()
+        self._ask("best", padded(symbol, 8), ord(side), told)
+        return (told.price, told.shares) if told.there else None
+
+    def order(self, order_id):
+        told = Order()
+        self._ask("order", order_id, told)
+        return told if told.there else None
+
+    def close(self):
+        self.lib.pitch_c_end_close(self.raw)
 
 
 def shown(best):

@@ -1,4 +1,4 @@
-//! The clients of a feed, safe to use from Rust: over `libpitch_c.a`.
+//! The clients of a feed, and an end with its sessions, safe to use from Rust: over `libpitch_c.a`.
 
 #[repr(C)]
 struct Raw {
@@ -48,6 +48,28 @@ pub struct State {
     spare: [u64; 2],
 }
 
+/// A price with its shares.
+#[repr(C)]
+#[derive(Clone, Copy, Debug, Default, PartialEq, Eq)]
+pub struct Level {
+    pub price: u64,
+    pub shares: u64,
+    spare: [u64; 2],
+}
+
+/// A best price that a message made another one.
+#[repr(C)]
+#[derive(Clone, Copy, Debug, Default, PartialEq, Eq)]
+pub struct Quote {
+    pub sequence: u32,
+    pub side: u32,
+    pub symbol: [u8; 8],
+    pub there: u64,
+    pub price: u64,
+    pub shares: u64,
+    spare: [u64; 3],
+}
+
 /// What was heard.
 #[repr(C)]
 #[derive(Clone, Copy, Debug, Default, PartialEq, Eq)]
@@ -62,11 +84,44 @@ pub struct Heard {
     spare: [u32; 2],
 }
 
+#[repr(C)]
+struct RawEnd {
+    at: *mut u8,
+    mark: u64,
+}
+
+/// What a datagram had: blocks of the end's unit, blocks of others, and bytes behind the last.
+#[repr(C)]
+#[derive(Clone, Copy, Debug, Default, PartialEq, Eq)]
+pub struct Datagram {
+    pub heard: u64,
+    pub others: u64,
+    pub rest: u64,
+    spare: [u64; 5],
+}
+
+#[repr(C)]
+#[derive(Clone, Copy, Default)]
+struct Sent {
+    count: u64,
+    left: u64,
+    spare: [u64; 2],
+}
+
 unsafe extern "C" {
     fn pitch_c_abi() -> u32;
     fn pitch_c_open(client: *mut Raw, hold: u32, levels: u32) -> u32;
     fn pitch_c_close(client: *mut Raw);
     fn pitch_c_hear(client: *mut Raw, bytes: *const u8, len: usize, told: *mut Heard) -> u32;
+    fn pitch_c_hear_quoted(
+        client: *mut Raw,
+        bytes: *const u8,
+        len: usize,
+        told: *mut Heard,
+        quotes: *mut Quote,
+        quotes_len: usize,
+        number: *mut u64,
+    ) -> u32;
     fn pitch_c_reserve(client: *mut Raw, unit: u32, messages: u32) -> u32;
     fn pitch_c_status(client: *mut Raw, unit: u32, told: *mut Status) -> u32;
     fn pitch_c_best(
@@ -91,6 +146,58 @@ unsafe extern "C" {
         len: usize,
         number: *mut u64,
     ) -> u32;
+    fn pitch_c_levels(
+        client: *mut Raw,
+        unit: u32,
+        symbol: *const [u8; 8],
+        side: u8,
+        told: *mut Level,
+        len: usize,
+        number: *mut u64,
+    ) -> u32;
+    fn pitch_c_level(
+        client: *mut Raw,
+        unit: u32,
+        symbol: *const [u8; 8],
+        side: u8,
+        price: u64,
+        told: *mut Level,
+    ) -> u32;
+    fn pitch_c_end_open(
+        end: *mut RawEnd,
+        unit: u32,
+        sub: *const [u8; 4],
+        user: *const [u8; 4],
+        password: *const [u8; 10],
+        hold: u32,
+    ) -> u32;
+    fn pitch_c_end_close(end: *mut RawEnd);
+    fn pitch_c_end_hear(
+        end: *mut RawEnd,
+        bytes: *const u8,
+        len: usize,
+        told: *mut Datagram,
+    ) -> u32;
+    fn pitch_c_end_connected(end: *mut RawEnd, session: u32) -> u32;
+    fn pitch_c_end_took(end: *mut RawEnd, session: u32, bytes: *const u8, len: usize) -> u32;
+    fn pitch_c_end_cut(end: *mut RawEnd, session: u32) -> u32;
+    fn pitch_c_end_second(end: *mut RawEnd) -> u32;
+    fn pitch_c_end_send(
+        end: *mut RawEnd,
+        session: u32,
+        into: *mut u8,
+        len: usize,
+        told: *mut Sent,
+    ) -> u32;
+    fn pitch_c_end_connection(end: *mut RawEnd, session: u32, told: *mut u32) -> u32;
+    fn pitch_c_end_status(end: *mut RawEnd, told: *mut Status) -> u32;
+    fn pitch_c_end_best(
+        end: *mut RawEnd,
+        symbol: *const [u8; 8],
+        side: u8,
+        told: *mut BestOut,
+    ) -> u32;
+    fn pitch_c_end_order(end: *mut RawEnd, id: u64, told: *mut Order) -> u32;
 }
 
 /// Why a call had no answer: a `pitch_code` of the header, never 0.
@@ -98,6 +205,9 @@ unsafe extern "C" {
 pub struct Code(pub u32);
 
 pub const TRUNCATED: Code = Code(5);
+
+/// The block was heard, but there was no memory to tell its quotes.
+pub const UNTOLD: Code = Code(13);
 
 const OTHER_ABI: Code = Code(10);
 
@@ -119,7 +229,7 @@ impl Client {
     pub fn open(hold: u32, levels: bool) -> Result<Client, Code> {
         let mut raw = Raw { at: std::ptr::null_mut(), mark: 0 };
         // SAFETY: it takes nothing.
-        if unsafe { pitch_c_abi() } != 2 {
+        if unsafe { pitch_c_abi() } != 3 {
             return Err(OTHER_ABI);
         }
         // SAFETY: a closed client, which nothing else refers to.
@@ -134,6 +244,29 @@ impl Client {
         // lent.
         answered(unsafe { pitch_c_hear(&mut self.raw, bytes.as_ptr(), bytes.len(), &mut told) })?;
         Ok(told)
+    }
+
+    /// Hears a block, and writes its quotes, as many as fit. It tells how many there are.
+    pub fn hear_quoted(
+        &mut self,
+        bytes: &[u8],
+        quotes: &mut [Quote],
+    ) -> Result<(Heard, u64), Code> {
+        let (mut told, mut number) = (Heard::default(), 0);
+        let (at, len) = (quotes.as_mut_ptr(), quotes.len());
+        // SAFETY: as above; no more than the slice is written.
+        answered(unsafe {
+            pitch_c_hear_quoted(
+                &mut self.raw,
+                bytes.as_ptr(),
+                bytes.len(),
+                &mut told,
+                at,
+                len,
+                &mut number,
+            )
+        })?;
+        Ok((told, number))
     }
 
     /// Takes memory ahead for so many messages of a unit, which gets a client where it has none.
@@ -192,11 +325,162 @@ impl Client {
         answered(unsafe { pitch_c_states(&mut self.raw, unit.into(), at, len, &mut number) })?;
         Ok(number)
     }
+
+    /// Writes the levels of a symbol on a side, the best first, likewise.
+    pub fn levels(
+        &mut self,
+        unit: u8,
+        symbol: &[u8; 8],
+        side: u8,
+        told: &mut [Level],
+    ) -> Result<u64, Code> {
+        let mut number = 0;
+        let (at, len) = (told.as_mut_ptr(), told.len());
+        // SAFETY: as above.
+        answered(unsafe {
+            pitch_c_levels(&mut self.raw, unit.into(), symbol, side, at, len, &mut number)
+        })?;
+        Ok(number)
+    }
+
+    /// The shares at a price.
+    pub fn level(
+        &mut self,
+        unit: u8,
+        symbol: &[u8; 8],
+        side: u8,
+        price: u64,
+    ) -> Result<u64, Code> {
+        let mut told = Level::default();
+        // SAFETY: as above.
+        answered(unsafe {
+            pitch_c_level(&mut self.raw, unit.into(), symbol, side, price, &mut told)
+        })?;
+        Ok(told.shares)
+    }
 }
 
 impl Drop for Client {
     fn drop(&mut self) {
         // SAFETY: the client is not used again.
         unsafe { pitch_c_close(&mut self.raw) }
+    }
+}
+
+/// A session of an end: a `pitch_session` of the header.
+#[derive(Clone, Copy, Debug, PartialEq, Eq)]
+pub enum Session {
+    Proxy = 1,
+    SpinServer = 2,
+}
+
+/// An account of an end: each part with spaces at its end.
+pub struct Account {
+    pub sub: [u8; 4],
+    pub user: [u8; 4],
+    pub password: [u8; 10],
+}
+
+/// The client's end of a unit with its sessions.
+pub struct End {
+    raw: RawEnd,
+}
+
+// SAFETY: as of a client.
+unsafe impl Send for End {}
+
+impl End {
+    pub fn open(unit: u8, account: &Account, hold: u32) -> Result<End, Code> {
+        let mut raw = RawEnd { at: std::ptr::null_mut(), mark: 0 };
+        // SAFETY: it takes nothing.
+        if unsafe { pitch_c_abi() } != 3 {
+            return Err(OTHER_ABI);
+        }
+        let Account { sub, user, password } = account;
+        // SAFETY: a closed end, which nothing else refers to.
+        answered(unsafe { pitch_c_end_open(&mut raw, unit.into(), sub, user, password, hold) })?;
+        Ok(End { raw })
+    }
+
+    /// A datagram came on a line.
+    pub fn hear(&mut self, bytes: &[u8]) -> Result<Datagram, Code> {
+        let mut told = Datagram::default();
+        // SAFETY: the end is open and borrowed for the call alone, as `told` is; the bytes are lent.
+        answered(unsafe {
+            pitch_c_end_hear(&mut self.raw, bytes.as_ptr(), bytes.len(), &mut told)
+        })?;
+        Ok(told)
+    }
+
+    pub fn connected(&mut self, session: Session) -> Result<(), Code> {
+        // SAFETY: as above.
+        answered(unsafe { pitch_c_end_connected(&mut self.raw, session as u32) })
+    }
+
+    /// Bytes of a connection came. It is lost where there was no memory for them.
+    pub fn took(&mut self, session: Session, bytes: &[u8]) -> Result<(), Code> {
+        let (at, len) = (bytes.as_ptr(), bytes.len());
+        // SAFETY: as above.
+        answered(unsafe { pitch_c_end_took(&mut self.raw, session as u32, at, len) })
+    }
+
+    pub fn cut(&mut self, session: Session) -> Result<(), Code> {
+        // SAFETY: as above.
+        answered(unsafe { pitch_c_end_cut(&mut self.raw, session as u32) })
+    }
+
+    pub fn second(&mut self) -> Result<(), Code> {
+        // SAFETY: as above.
+        answered(unsafe { pitch_c_end_second(&mut self.raw) })
+    }
+
+    /// Writes the bytes that wait for a session, as many as fit, and tells how many they are and
+    /// how many wait still.
+    pub fn send(&mut self, session: Session, into: &mut [u8]) -> Result<(u64, u64), Code> {
+        let mut told = Sent::default();
+        let (at, len) = (into.as_mut_ptr(), into.len());
+        // SAFETY: as above; no more than the slice is written.
+        answered(unsafe {
+            pitch_c_end_send(&mut self.raw, session as u32, at, len, &mut told)
+        })?;
+        Ok((told.count, told.left))
+    }
+
+    /// Whether a connection stands.
+    pub fn connection(&mut self, session: Session) -> Result<bool, Code> {
+        let mut told = 0;
+        // SAFETY: as above.
+        answered(unsafe {
+            pitch_c_end_connection(&mut self.raw, session as u32, &mut told)
+        })?;
+        Ok(told != 0)
+    }
+
+    pub fn status(&mut self) -> Result<Status, Code> {
+        let mut told = Status::default();
+        // SAFETY: as above.
+        answered(unsafe { pitch_c_end_status(&mut self.raw, &mut told) })?;
+        Ok(told)
+    }
+
+    pub fn best(&mut self, symbol: &[u8; 8], side: u8) -> Result<Option<(u64, u64)>, Code> {
+        let mut told = BestOut::default();
+        // SAFETY: as above.
+        answered(unsafe { pitch_c_end_best(&mut self.raw, symbol, side, &mut told) })?;
+        Ok((told.there != 0).then_some((told.price, told.shares)))
+    }
+
+    pub fn order(&mut self, id: u64) -> Result<Option<Order>, Code> {
+        let mut told = Order::default();
+        // SAFETY: as above.
+        answered(unsafe { pitch_c_end_order(&mut self.raw, id, &mut told) })?;
+        Ok((told.there != 0).then_some(told))
+    }
+}
+
+impl Drop for End {
+    fn drop(&mut self) {
+        // SAFETY: the end is not used again.
+        unsafe { pitch_c_end_close(&mut self.raw) }
     }
 }

@@ -1,5 +1,5 @@
 -- Which answer is given.
-use Rattle.std.proofs.Common.{◌≡◌, ◌≤◌, ◌<◌, ◌∙◌, ℕ, true, false, List, Option, None, Some, Ok, Err, slice_get, refl, ap, arith}
+use Rattle.std.proofs.Common.{◌≡◌, ◌≤◌, ◌<◌, ◌∙◌, ℕ, true, false, List, Option, None, Some, Ok, Err, inl, inr, slice_get, refl, ap, arith}
 use Rattle.std.proofs.lemmas.Bool.Decides.{nat_tests}
 use Rattle.std.specs.Option.{option_flatten, IsSome}
 use Rattle.unit_packets.specs.Cutting.{is_truncated}
@@ -8,7 +8,7 @@ use Rattle.unit_packets.specs.declared.header.Header.{Header}
 use Rattle.unit_packets.specs.declared.header.BlockError.{BlockError}
 use Rattle.client_core.specs.declared.client.UnitClient.{UnitClient}
 use Rattle.unit_clients.specs.Clients.{Units, client_of}
-use Rattle.pitch_c.specs.Answers.{hold_code, judged_code, client_code}
+use Rattle.pitch_c.specs.Answers.{AnswersQuoted, hold_code, judged_code, client_code}
 
 pub none_of : {X : Type 0} (o : Option X) → (IsSome o → ⊥) → o ≡ None
 none_of None none = refl
@@ -37,3 +37,13 @@ judged_cut bytes error is cut = ap judged_code is ∙ rw cut refl
 
 pub judged_bad : (bytes : List ℕ) (error : BlockError) → judge bytes ≡ Err error → is_truncated error ≡ false → judged_code (judge bytes) ≡ 6
 judged_bad bytes error is whole = ap judged_code is ∙ rw whole refl
+
+-- of the answers of a call that hears a block, the others are 0 and 13
+pub wants_memory : (n : ℕ) → AnswersQuoted 0 n → 1 ≤ n → (n ≡ 13 → ⊥) → n ≡ 3
+wants_memory n answers low told = elim answers [
+  | inl answered ↦ elim answered [
+    | inl ok ↦ absurd (omega arith)
+    | inr memory ↦ memory.1
+  ]
+  | inr untold ↦ absurd (told untold.1)
+]

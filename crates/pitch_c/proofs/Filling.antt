@@ -1,5 +1,5 @@
 -- An array that is filled from its start.
-use Rattle.std.proofs.Common.{◌≡◌, ◌<◌, ℕ, zero, suc, ◌+◌, List, [], ◌∷◌, ◌++◌, length, map, take, drop, Option, Some, slice_get, sym, ap, ◌∙◌, arith}
+use Rattle.std.proofs.Common.{◌≡◌, ◌<◌, ℕ, zero, suc, refl, ◌+◌, List, [], ◌∷◌, ◌++◌, length, map, take, drop, Option, Some, slice_get, sym, ap, ◌∙◌, arith}
 use Rattle.std.proofs.Math.ListN.{set}
 use Rattle.std.specs.Option.{option_map}
 use Rattle.std.specs.Prelude.{unwrap_or}
@@ -34,4 +34,17 @@ module _ {S T : Type 0} (shown : S → T) where
   fills_list items listed old new number same is count = record {
     array = is ∙ ap (λ (l : List S). filled (map shown l) old) same;
     number_is = count ∙ ap length same ∙ sym (length-map items shown);
+  }
+
+  -- what an array does not hold need not be listed
+  filled_first : (items : List S) (old : List T) → filled (map shown (take (length old) items)) old ≡ filled (map shown items) old
+  filled_first [] [] = refl
+  filled_first [] (o ∷ old) = refl
+  filled_first (x ∷ items) [] = refl
+  filled_first (x ∷ items) (o ∷ old) = ap (λ (l : List T). shown x ∷ l) (filled_first items old)
+
+  pub fills_first : (items listed : List S) (old new : List T) (number : ℕ) → listed ≡ take (length old) items → new ≡ filled (map shown listed) old → number ≡ length items → Fills (map shown items) old new number
+  fills_first items listed old new number first is count = record {
+    array = is ∙ ap (λ (l : List S). filled (map shown l) old) first ∙ filled_first items old;
+    number_is = count ∙ sym (length-map items shown);
   }

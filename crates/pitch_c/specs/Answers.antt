@@ -17,6 +17,10 @@ use Rattle.pitch_c.specs.Codes as code
 abbrev pub Answers : ℕ → ℕ → Type 0
 Answers wanted result = (result ≡ wanted) ⊎ ((wanted ≡ code.ok) × (result ≡ code.no_memory))
 
+-- the same; or, in the place of 0, that memory ran out once a block was heard
+abbrev pub AnswersQuoted : ℕ → ℕ → Type 0
+AnswersQuoted wanted result = Answers wanted result ⊎ ((wanted ≡ code.ok) × (result ≡ code.untold))
+
 -- a hold has from 1 to 65,536 places
 abbrev pub hold_code : ℕ → ℕ
 hold_code hold =

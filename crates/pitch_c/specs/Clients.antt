@@ -5,7 +5,7 @@ use Rattle.std.specs.FinMap as map
 use Rattle.pitch_fields.specs.Side.{side_of}
 use Rattle.pitch_model.specs.History.{Raw}
 use Rattle.pitch_model.specs.Book.{Book, book_after}
-use Rattle.pitch_model.specs.Levels.{best, orders_of}
+use Rattle.pitch_model.specs.Levels.{best, orders_of, with_level}
 use Rattle.pitch_model.specs.Reach.{reach}
 use Rattle.pitch_model.specs.Status.{status_of}
 use Rattle.pitch_model.specs.Statuses.{statuses_of}
@@ -15,14 +15,19 @@ use Rattle.unit_packets.specs.Lending.{header_for}
 use Rattle.heard_items.specs.Units.{unit_history, AllHonest}
 use Rattle.heard_items.specs.Changes.{block_change}
 use Rattle.unit_clients.specs.Clients.{Units, HaveHeard}
+use Rattle.best_quotes.specs.BestFirst.{levels_of}
+use Rattle.best_quotes.specs.Hearing.{Advances}
+use Rattle.best_quotes.specs.Quoting.{quotes_of_block}
 use Rattle.pitch_c.specs.Arrays.{Fills}
 use Rattle.pitch_c.specs.Reports.{status_shown, best_shown, heard_shown, order_shown}
-use Rattle.pitch_c.specs.Reports.{state_shown}
+use Rattle.pitch_c.specs.Reports.{state_shown, level_shown, quote_shown}
 use Rattle.pitch_c.specs.declared.reports.StatusOut.{StatusOut}
 use Rattle.pitch_c.specs.declared.reports.BestOut.{BestOut}
 use Rattle.pitch_c.specs.declared.reports.HeardOut.{HeardOut}
 use Rattle.pitch_c.specs.declared.reports.OrderOut.{OrderOut}
 use Rattle.pitch_c.specs.declared.reports.StateOut.{StateOut}
+use Rattle.pitch_c.specs.declared.reports.LevelOut.{LevelOut}
+use Rattle.pitch_c.specs.declared.reports.QuoteOut.{QuoteOut}
 
 -- the clients stand for the blocks
 abbrev pub HasHeard : Option Units → List Block → Type 0
@@ -41,6 +46,47 @@ pub record HearFirst (bytes : List ℕ) (old new : Units) (told : HeardOut) : Ty
   pub told_is : (before : List Block) → HaveHeard old before
       → told ≡ heard_shown (header_for block)
       (block_change old.limit (unit_history block.unit before) block)
+
+-- a block was heard: whatever blocks came before, the clients then stand for these with it after
+-- them; and this is told of it
+pub record Hears (old new : Units) (block : Block) (told : HeardOut) : Type 0 where
+  pub heard : (before : List Block) → HaveHeard old before → HaveHeard new (block ∷ before)
+  pub told_is : (before : List Block) → HaveHeard old before
+      → told ≡ heard_shown (header_for block)
+      (block_change old.limit (unit_history block.unit before) block)
+
+-- of whatever blocks they had heard, where these and the next one speak of one venue's messages for
+-- each unit, the array has what each message with which that took the reach on changed of the best
+-- prices, as many changes as fit
+abbrev pub TellQuotes : Units → Block → List QuoteOut → List QuoteOut → ℕ → Type 0
+TellQuotes units block old new number =
+    (before : List Block) (Image : List Raw → ℕ → List Raw) (Vs : ℕ → List Raw)
+    → HaveHeard units before → AllHonest Image Vs (block ∷ before)
+    → Fills (mapped quote_shown
+    (quotes_of_block units.limit (Vs block.unit) (unit_history block.unit before) block))
+    old new number
+
+-- a block was heard, and its quotes were told
+pub record HearsQuoted (old new : Units) (block : Block) (told : HeardOut)
+    (quotes quotes' : List QuoteOut) (number : ℕ) : Type 0 where
+  pub hears : Hears old new block told
+  pub quotes_told : TellQuotes old block quotes quotes' number
+
+-- a block was heard that took the reach on, and its quotes were not told
+pub record HearsUntold (old new : Units) (block : Block) (told : HeardOut) : Type 0 where
+  pub hears : Hears old new block told
+  pub advances : (before : List Block) → HaveHeard old before
+      → Advances old.limit (unit_history block.unit before) block
+
+-- so it was of the block that stands first in the bytes
+abbrev pub HearQuoted : List ℕ → Units → Units → HeardOut
+    → List QuoteOut → List QuoteOut → ℕ → Type 0
+HearQuoted bytes old new told quotes quotes' number =
+    (block : Block) × StandsFirst bytes block × HearsQuoted old new block told quotes quotes' number
+
+abbrev pub HearUntold : List ℕ → Units → Units → HeardOut → Type 0
+HearUntold bytes old new told =
+    (block : Block) × StandsFirst bytes block × HearsUntold old new block told
 
 -- of whatever blocks they have heard, the status is that of the unit's blocks
 abbrev pub TellStatus : Units → ℕ → StatusOut → Type 0
@@ -69,6 +115,12 @@ abbrev pub TellOrder : Units → ℕ → ℕ → OrderOut → Type 0
 TellOrder units unit id told =
     OfReachedBook units unit (λ book. told ≡ order_shown (map.get book.orders id))
 
+-- the shares at a price, with it
+abbrev pub TellLevel : Units → ℕ → List ℕ → ℕ → ℕ → LevelOut → Type 0
+TellLevel units unit symbol side price told =
+    IsSomeAnd (side_of side)
+    (λ s. OfReachedBook units unit (λ book. told ≡ level_shown (with_level book symbol s price)))
+
 -- ---- Lists: the array before and after, and how many items there are
 -- all open orders, by rising id
 abbrev pub TellOrders : Units → ℕ → List OrderOut → List OrderOut → ℕ → Type 0
@@ -81,3 +133,10 @@ abbrev pub TellStates : Units → ℕ → List StateOut → List StateOut → �
 TellStates units unit old new number =
     OfReachedBook units unit
     (λ book. Fills (mapped state_shown (statuses_of book)) old new number)
+
+-- all levels of a symbol on a side, the best first
+abbrev pub TellLevels : Units → ℕ → List ℕ → ℕ → List LevelOut → List LevelOut → ℕ → Type 0
+TellLevels units unit symbol side old new number =
+    IsSomeAnd (side_of side)
+    (λ s. OfReachedBook units unit
+    (λ book. Fills (mapped level_shown (levels_of book symbol s)) old new number))

@@ -44,6 +44,10 @@ bad_unit = 11
 abbrev pub no_session : ℕ
 no_session = 12
 
+-- a block was heard, and memory ran out before its quotes were told
+abbrev pub untold : ℕ
+untold = 13
+
 -- what the struct and the functions are, as the header that C was compiled with has it
 abbrev pub abi : ℕ
-abi = 2
+abi = 3

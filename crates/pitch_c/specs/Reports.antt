@@ -7,11 +7,14 @@ use Rattle.pitch_model.specs.declared.status.Status.{Status}
 use Rattle.pitch_model.specs.declared.status.Status.TheVariants.{Silent, Current, Behind}
 use Rattle.heard_items.specs.declared.change.Change.{Change}
 use Rattle.unit_packets.specs.declared.header.Header.{Header}
+use Rattle.best_quotes.specs.declared.quote.QuoteLine.{QuoteLine}
 use Rattle.pitch_c.specs.declared.reports.StatusOut.{StatusOut}
 use Rattle.pitch_c.specs.declared.reports.BestOut.{BestOut}
 use Rattle.pitch_c.specs.declared.reports.HeardOut.{HeardOut}
 use Rattle.pitch_c.specs.declared.reports.StateOut.{StateOut}
 use Rattle.pitch_c.specs.declared.reports.OrderOut.{OrderOut}
+use Rattle.pitch_c.specs.declared.reports.LevelOut.{LevelOut}
+use Rattle.pitch_c.specs.declared.reports.QuoteOut.{QuoteOut}
 
 -- how far a client is
 abbrev pub status_shown : Status → StatusOut
@@ -24,6 +27,23 @@ abbrev pub best_shown : Option (ℕ × ℕ) → BestOut
 best_shown None = record { there = 0; price = 0; shares = 0; spare = replicate 5 0 }
 best_shown (Some best) =
     record { there = 1; price = best.0; shares = best.1; spare = replicate 5 0 }
+
+-- a price with its shares
+abbrev pub level_shown : ℕ × ℕ → LevelOut
+level_shown level = record { price = level.0; shares = level.1; spare = replicate 2 0 }
+
+-- what a message changed: the best price of a symbol on a side then, with its shares, where the
+-- side has an order
+abbrev pub quote_shown : QuoteLine → QuoteOut
+quote_shown line = record {
+  sequence = line.sequence;
+  side = byte_of line.quote.side;
+  symbol = line.quote.symbol;
+  there = (best_shown line.quote.best).there;
+  price = (best_shown line.quote.best).price;
+  shares = (best_shown line.quote.best).shares;
+  spare = replicate 3 0;
+}
 
 -- an open order, where there is one
 abbrev pub order_shown : Option Order → OrderOut

@@ -18,8 +18,10 @@ pub const NO_CLIENT: u32 = 7;
 
 pub const NO_SIDE: u32 = 8;
 
-pub const ABI: u32 = 2;
+pub const ABI: u32 = 3;
 
 pub const BAD_UNIT: u32 = 11;
 
 pub const NO_SESSION: u32 = 12;
+
+pub const UNTOLD: u32 = 13;

@@ -7,7 +7,9 @@ mod end_handle;
 mod end_reports;
 mod ends;
 mod handle;
+mod levels;
 mod lists;
+mod quoting;
 mod reports;
 
 ghost use Rattle.std.specs.Prelude.{◌≡◌, ◌≤◌, IfErr, IfNone, IfOk, IfSome, None, []};
@@ -18,15 +20,19 @@ ghost use Rattle.unit_clients.specs.Clients.{HaveHeard, client_of};
 ghost use Rattle.unit_clients.specs.Room.{HaveSpare};
 ghost use Rattle.pitch_c.specs.Codes as code;
 ghost use Rattle.pitch_c.specs.Answers.{Answers, hold_code, judged_code, client_code, side_code};
-ghost use Rattle.pitch_c.specs.Answers.{MayTakeMemory};
+ghost use Rattle.pitch_c.specs.Answers.{MayTakeMemory, AnswersQuoted};
 ghost use Rattle.pitch_c.specs.Clients.{HasHeard, StillHave, HearFirst};
+ghost use Rattle.pitch_c.specs.Clients.{HearQuoted, HearUntold};
 ghost use Rattle.pitch_c.specs.Clients.{TellStatus, TellBest, TellOrder, TellOrders, TellStates};
+ghost use Rattle.pitch_c.specs.Clients.{TellLevel, TellLevels};
 
 use crate::asking::{hear_first, reserve_for, tell_best, tell_order, tell_status};
 use crate::codes::{ABI, BAD_HOLD, CLOSED, IS_OPEN, NO_MEMORY, OK};
 use crate::handle::{Client, opened, take};
+use crate::levels::{tell_level, tell_levels};
 use crate::lists::{tell_orders, tell_states};
-use crate::reports::{BestOut, HeardOut, OrderOut, StateOut, StatusOut};
+use crate::quoting::hear_quoted_first;
+use crate::reports::{BestOut, HeardOut, LevelOut, OrderOut, QuoteOut, StateOut, StatusOut};
 use best_quotes::LeveledUnits;
 use std::alloc::Global;
 
@@ -113,7 +119,40 @@ pub extern "C" fn pitch_c_hear(
     code
 }
 
-/// Takes memory ahead for so many messages of a unit that has a client.
+/// Hears the block at the start of some bytes, and tells what it changed of the best prices: as many
+/// changes as fit, and how many there are. The unit keeps price levels from then on.
+#[unsafe(no_mangle)]
+pub extern "C" fn pitch_c_hear_quoted(
+    alloc: Global,
+    client: &mut Client,
+    bytes: &[u8],
+    told: &mut HeardOut,
+    quotes: &mut [QuoteOut],
+    number: &mut u64,
+) -> u32
+    ensures quoted { result ≡ code.ok → IsSomeAnd client.old.handle.value
+        (λ old. IsSomeAnd client.new.handle.value
+        (λ new. HearQuoted bytes.now old new told.new quotes.old quotes.new number.new)) }
+    ensures untold { result ≡ code.untold → IsSomeAnd client.old.handle.value
+        (λ old. IsSomeAnd client.new.handle.value
+        (λ new. HearUntold bytes.now old new told.new)) }
+    ensures still { 1 ≤ result → (result ≡ code.untold → ⊥) → IfSome client.old.handle.value
+        (λ old. IsSomeAnd client.new.handle.value (λ new. StillHave old new)) }
+    ensures kept { 1 ≤ result → (quotes.new ≡ quotes.old) × (number.new ≡ number.old) }
+    ensures closed { IfNone client.old.handle.value (result ≡ code.closed) }
+    ensures answer { IfSome client.old.handle.value
+        (λ old. AnswersQuoted (judged_code (judge bytes.now)) result) }
+{
+    let Some(mut units) = take(alloc, client) else {
+        return CLOSED;
+    };
+    let code = hear_quoted_first(alloc, &mut units, bytes, told, quotes, number);
+    *client = opened(units);
+    code
+}
+
+/// Takes memory ahead for so many messages of a unit that has a client. Price levels that went for
+/// want of memory come back.
 #[unsafe(no_mangle)]
 pub extern "C" fn pitch_c_reserve(
     alloc: Global,
@@ -256,6 +295,60 @@ pub extern "C" fn pitch_c_states(
         return CLOSED;
     };
     let code = tell_states(alloc, &units, unit, told, number);
+    *client = opened(units);
+    code
+}
+
+/// The levels of a symbol on a side in a unit's book, the best first: as many as fit, and how many
+/// there are.
+#[unsafe(no_mangle)]
+pub extern "C" fn pitch_c_levels(
+    alloc: Global,
+    client: &mut Client,
+    unit: u32,
+    symbol: &[u8; 8],
+    side: u8,
+    told: &mut [LevelOut],
+    number: &mut u64,
+) -> u32
+    ensures levels { result ≡ code.ok → IsSomeAnd client.old.handle.value
+        (λ units. TellLevels units unit symbol.now side told.old told.new number.new) }
+    ensures kept { 1 ≤ result → (told.new ≡ told.old) × (number.new ≡ number.old) }
+    ensures same { client.new.handle.value ≡ client.old.handle.value }
+    ensures closed { IfNone client.old.handle.value (result ≡ code.closed) }
+    ensures answer { IfSome client.old.handle.value (λ units. Answers
+        (side_code (side_of side) (client_code (client_of units unit))) result) }
+{
+    let Some(units) = take(alloc, client) else {
+        return CLOSED;
+    };
+    let code = tell_levels(alloc, &units, unit, symbol, side, told, number);
+    *client = opened(units);
+    code
+}
+
+/// The shares of the open orders for a symbol on a side at a price, 0 where none is open there.
+#[unsafe(no_mangle)]
+pub extern "C" fn pitch_c_level(
+    alloc: Global,
+    client: &mut Client,
+    unit: u32,
+    symbol: &[u8; 8],
+    side: u8,
+    price: u64,
+    told: &mut LevelOut,
+) -> u32
+    ensures level { result ≡ code.ok → IsSomeAnd client.old.handle.value
+        (λ units. TellLevel units unit symbol.now side price told.new) }
+    ensures same { client.new.handle.value ≡ client.old.handle.value }
+    ensures closed { IfNone client.old.handle.value (result ≡ code.closed) }
+    ensures answer { IfSome client.old.handle.value
+        (λ units. result ≡ side_code (side_of side) (client_code (client_of units unit))) }
+{
+    let Some(units) = take(alloc, client) else {
+        return CLOSED;
+    };
+    let code = tell_level(&units, unit, symbol, side, price, told);
     *client = opened(units);
     code
 }

@@ -23,7 +23,7 @@ use pitch_messages::{Order, TradingState};
 use std::alloc::Global;
 
 // The fewer of what there is and what there is room for.
-fn fitting(count: usize, room: usize) -> usize
+pub(crate) fn fitting(count: usize, room: usize) -> usize
     ensures within { (result ≤ count) × (result ≤ room) }
     ensures most { (result ≡ count) ⊎ (result ≡ room) }
 {

@@ -2,8 +2,9 @@
 
 ghost use Rattle.std.specs.Prelude.{◌≡◌};
 ghost use Rattle.pitch_c.specs.Reports.{status_shown, best_shown, heard_shown, order_shown};
-ghost use Rattle.pitch_c.specs.Reports.{state_shown};
+ghost use Rattle.pitch_c.specs.Reports.{state_shown, level_shown, quote_shown};
 
+use best_quotes::{Quote, QuoteLine};
 use heard_items::Change;
 use pitch_fields::Price;
 use pitch_messages::{Order, TradingState};
@@ -53,6 +54,29 @@ pub struct StateOut {
     pub halt: u32,
     pub sho: u32,
     pub spare: [u64; 2],
+}
+
+/// A price in ten-thousandths of a dollar with its shares.
+#[repr(C)]
+#[derive(Clone, Copy)]
+pub struct LevelOut {
+    pub price: u64,
+    pub shares: u64,
+    pub spare: [u64; 2],
+}
+
+/// What the message of a sequence changed of the best prices: what the best of a symbol on a side,
+/// `B` or `S`, then is; `there` is 0 where the side is empty.
+#[repr(C)]
+#[derive(Clone, Copy)]
+pub struct QuoteOut {
+    pub sequence: u32,
+    pub side: u32,
+    pub symbol: [u8; 8],
+    pub there: u64,
+    pub price: u64,
+    pub shares: u64,
+    pub spare: [u64; 3],
 }
 
 /// What was heard: the bytes that the block has, its header, how many of its messages were new, how
@@ -147,6 +171,33 @@ pub(crate) fn state_out(state: TradingState) -> StateOut
         halt: u32::from(state.halt),
         sho: u32::from(state.sho),
         spare: [0; 2],
+    }
+}
+
+pub(crate) fn level_out(level: (Price, u64)) -> LevelOut
+    ensures { result ≡ level_shown level }
+{
+    LevelOut {
+        price: level.0.ten_thousandths(),
+        shares: level.1,
+        spare: [0; 2],
+    }
+}
+
+pub(crate) fn quote_out(line: QuoteLine) -> QuoteOut
+    ensures { result ≡ quote_shown line }
+{
+    let QuoteLine { sequence, quote } = line;
+    let Quote { symbol, side, best } = quote;
+    let best = best_out(best);
+    QuoteOut {
+        sequence,
+        side: u32::from(side.byte()),
+        symbol: symbol.bytes(),
+        there: best.there,
+        price: best.price,
+        shares: best.shares,
+        spare: [0; 3],
     }
 }
 
