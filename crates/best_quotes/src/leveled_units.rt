@@ -114,7 +114,8 @@ fn hear_quoted_at(
         → Honest Image V (heard_block block.now (unit_history unit before)) → KeepsTo V slot.old
         → lines.new.items ≡ quotes_of_block limit V (unit_history unit before) block.now) }
     ensures untold { IfOk result (λ heard. heard.told ≡ false → (before : List Block) (unit : ℕ)
-        → IsClient limit before unit slot.old → Advances limit (unit_history unit before) block.now) }
+        → IsClient limit before unit slot.old
+        → Advances limit (unit_history unit before) block.now) }
 {
     match slot {
         Some(unit) => unit.hear_quoted(block, lines),

@@ -119,8 +119,8 @@ pub extern "C" fn pitch_c_hear(
     code
 }
 
-/// Hears the block at the start of some bytes, and tells what it changed of the best prices: as many
-/// changes as fit, and how many there are. The unit keeps price levels from then on.
+/// Hears the block at the start of some bytes, and tells what it changed of the best prices: as
+/// many changes as fit, and how many there are. The unit keeps price levels from then on.
 #[unsafe(no_mangle)]
 pub extern "C" fn pitch_c_hear_quoted(
     alloc: Global,
