@@ -11,6 +11,17 @@ fn pass<G: Gate + Sync>(gate: &G, role: Role, unit: u8, step: u32) {
     gate.after(work);
 }
 
+// Whether a wait gave up there, and how many pieces of work met.
+fn tells(gate: &MeetGate, spent: bool, met: u32) -> bool {
+    gate.spent() == spent && gate.met() == met
+}
+
+// Whether these are the greatest steps that came.
+fn has_most(gate: &MeetGate, publisher: u32, service: u32, client: u32, replay: u32) -> bool {
+    let threads = gate.most(Role::Publisher) == publisher && gate.most(Role::Service) == service;
+    threads && gate.most(Role::Client) == client && gate.most(Role::Replay) == replay
+}
+
 #[test]
 fn a_gate_tells_what_met_and_what_did_not(rt: HostRuntime) {
     pass(&FreeGate, Role::Replay, 1, 1);
@@ -24,16 +35,12 @@ fn a_gate_tells_what_met_and_what_did_not(rt: HostRuntime) {
     ] {
         pass(&gate, role, unit, step);
     }
-    assert_eq!(rt; (gate.spent(), gate.met()), (false, 0));
-    assert_eq!(rt;
-        (gate.most(Role::Publisher), gate.most(Role::Service)),
-        (50, 50)
-    );
-    assert_eq!(rt; (gate.most(Role::Client), gate.most(Role::Replay)), (2, 1));
+    assert!(rt; tells(&gate, false, 0));
+    assert!(rt; has_most(&gate, 50, 50, 2, 1));
     pass(&gate, Role::Replay, 1, 1);
-    assert_eq!(rt; (gate.spent(), gate.met()), (true, 0));
+    assert!(rt; tells(&gate, true, 0));
     pass(&gate, Role::Replay, 2, 1);
-    assert_eq!(rt; (gate.spent(), gate.met()), (true, 1));
+    assert!(rt; tells(&gate, true, 1));
 }
 
 #[test]
@@ -45,12 +52,12 @@ fn work_that_runs_beside_other_work_meets_it(rt: HostRuntime) {
         || pass(shared, Role::Replay, 1, 1),
         || pass(shared, Role::Replay, 2, 1),
     );
-    assert_eq!(rt; (gate.spent(), gate.met()), (false, 2));
+    assert!(rt; tells(&gate, false, 2));
     join(
         &rt,
         || pass(shared, Role::Publisher, 1, 50),
         || pass(shared, Role::Client, 1, 1),
     );
-    assert_eq!(rt; (gate.spent(), gate.met()), (false, 4));
-    assert_eq!(rt; MeetGate::make().most(Role::Client), 0);
+    assert!(rt; tells(&gate, false, 4));
+    assert!(rt; MeetGate::make().most(Role::Client) == 0);
 }

@@ -25,6 +25,12 @@ fn five_takes<R: Abort + AllocGlobal, S: Source>(rt: &R, source: &mut S) -> (Vec
     (bytes, answers)
 }
 
+// Five takes give this, with these letters.
+fn gives<R: Abort + AllocGlobal, S: Source>(rt: &R, source: &mut S, want: &[u8], answers: &str) {
+    let (taken, letters) = five_takes(rt, source);
+    assert!(rt; taken.as_slice() == want && letters.as_str() == answers);
+}
+
 fn answers_of_puts<R: Abort + AllocGlobal, K: Sink>(
     rt: &R,
     sink: &mut K,
@@ -37,6 +43,17 @@ fn answers_of_puts<R: Abort + AllocGlobal, K: Sink>(
         }
     }
     answers
+}
+
+// A sink answers these pieces so.
+fn answers_so<R: Abort + AllocGlobal, K: Sink>(
+    rt: &R,
+    sink: &mut K,
+    pieces: &[&[u8]],
+    want: &[Put],
+) {
+    let answers = answers_of_puts(rt, sink, pieces);
+    assert!(rt; answers.as_slice() == want);
 }
 
 // How many bytes a source of `abcdef` gives at once, the call that fails, what is taken in five
@@ -54,8 +71,7 @@ fn sources_give<R: Abort + AllocGlobal>(rt: &R, sources: &[(usize, u64, &[u8], &
         let bytes = Vec::from_slice(rt.alloc(), b"abcdef").expect(rt, "memory");
         let listed = Vec::from_slice(rt.alloc(), &[*failing]).expect(rt, "memory");
         let mut source = MemorySource::make(bytes, *piece, listed);
-        let (taken, letters) = five_takes(rt, &mut source);
-        assert!(rt; taken.as_slice() == *want && letters.as_str() == *answers);
+        gives(rt, &mut source, want, answers);
     }
 }
 
@@ -64,8 +80,7 @@ fn sources_in_memory_give_pieces_and_fail_where_listed(rt: HostRuntime) {
     sources_give(&rt, &SOURCES);
     let bytes = Vec::from_slice(rt.alloc(), b"abcdef").expect(&rt, "memory");
     let mut source = SteadySource::make(bytes, 2);
-    let (taken, letters) = five_takes(&rt, &mut source);
-    assert!(rt; taken.as_slice() == b"abcdef".as_slice() && letters.as_str() == "gggee");
+    gives(&rt, &mut source, b"abcdef", "gggee");
 }
 
 // The pieces that are put, and what a sink of so much room keeps of them.
@@ -78,8 +93,8 @@ const WHOLE: [Put; 3] = [Put::Wrote(3), Put::Wrote(2), Put::Wrote(1)];
 fn sinks_keep<R: Abort + AllocGlobal>(rt: &R, rooms: &[(usize, &[u8])]) {
     for (room, want) in rooms {
         let mut sink = SteadySink::make(rt.alloc(), *room).expect(rt, "memory");
-        let answers = answers_of_puts(rt, &mut sink, &PIECES);
-        assert!(rt; answers.as_slice() == WHOLE.as_slice() && sink.written() == *want);
+        answers_so(rt, &mut sink, &PIECES, &WHOLE);
+        assert!(rt; sink.written() == *want);
     }
 }
 
@@ -87,9 +102,9 @@ fn sinks_keep<R: Abort + AllocGlobal>(rt: &R, rooms: &[(usize, &[u8])]) {
 fn sinks_in_memory_keep_what_fits(rt: HostRuntime) {
     let listed = Vec::from_slice(rt.alloc(), &[2]).expect(&rt, "memory");
     let mut sink = MemorySink::make(rt.alloc(), 2, listed);
-    let answers = answers_of_puts(&rt, &mut sink, &PIECES);
     let wanted = [Put::Wrote(2), Put::Failed, Put::Wrote(1)];
-    assert!(rt; answers.as_slice() == wanted.as_slice() && sink.written() == b"abf".as_slice());
+    answers_so(&rt, &mut sink, &PIECES, &wanted);
+    assert!(rt; sink.written() == b"abf".as_slice());
     sinks_keep(&rt, &ROOMS);
 }
 
@@ -116,13 +131,9 @@ impl Read for FailsOnce {
 #[test]
 fn a_source_over_a_reader_takes_what_it_reads(rt: HostRuntime) {
     let mut source = StdSource::make(b"abcdef".as_slice());
-    let (taken, letters) = five_takes(&rt, &mut source);
-    assert_eq!(rt; taken.as_slice(), b"abcdef".as_slice());
-    assert_eq!(rt; letters.as_str(), "ggeee");
+    gives(&rt, &mut source, b"abcdef", "ggeee");
     let mut source = StdSource::make(FailsOnce { calls: 0 });
-    let (taken, letters) = five_takes(&rt, &mut source);
-    assert_eq!(rt; taken.as_slice(), b"xx".as_slice());
-    assert_eq!(rt; letters.as_str(), "gfgee");
+    gives(&rt, &mut source, b"xx", "gfgee");
 }
 
 #[test]
@@ -130,15 +141,9 @@ fn a_sink_over_a_writer_writes_what_it_takes(rt: HostRuntime) {
     let mut bytes = [0u8; 5];
     let pieces: [&[u8]; 3] = [b"abc", b"def", b"g"];
     let mut sink = StdSink::make(&mut bytes[..]);
-    let answers = answers_of_puts(&rt, &mut sink, &pieces);
-    assert_eq!(rt;
-        answers.as_slice(),
-        [Put::Wrote(3), Put::Wrote(2), Put::Failed].as_slice(),
-    );
+    let cut = [Put::Wrote(3), Put::Wrote(2), Put::Failed];
+    answers_so(&rt, &mut sink, &pieces, &cut);
     let mut sink = StdSink::make(Vec::new(rt.alloc()));
-    let answers = answers_of_puts(&rt, &mut sink, &pieces);
-    assert_eq!(rt;
-        answers.as_slice(),
-        [Put::Wrote(3), Put::Wrote(3), Put::Wrote(1)].as_slice(),
-    );
+    let whole = [Put::Wrote(3), Put::Wrote(3), Put::Wrote(1)];
+    answers_so(&rt, &mut sink, &pieces, &whole);
 }
