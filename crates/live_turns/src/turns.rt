@@ -178,8 +178,8 @@ impl LiveTurns {
     }
 
     /// The call that is due, where the client's link with the peer whose turn it is is open or not,
-    /// and so many bytes wait for that. None where nothing is due in what is left of its turn: then
-    /// the next turn has begun.
+    /// and so many bytes wait for it; neither matters where it is no peer's turn. None where
+    /// nothing is due at this place: then the turns have moved on, and who calls asks again.
     pub fn due(&mut self, has: bool, waiting: usize) -> Option<Due>
         ensures { (w : Ways) (e : Ends) (run : List LiveCall) → TurnsStand w e self.old run
             → IsSeen e self.old.place has waiting
