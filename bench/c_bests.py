@@ -10,7 +10,8 @@ reach, the best price of each symbol and side, and the list of the open orders h
 the model, which sums all open orders anew, and so have the levels of each symbol and side, and the
 shares at each price. Every other client is told with each block what it changed of the best prices,
 and has to be told what the model has after each message. A list is asked for with too few places
-too, and what stands behind it has to stay. Each fourth client keeps no price levels.
+too, and what stands behind it has to stay. Each fourth client keeps no price levels. And
+examples/c/bests.c follows another feed, and has to print for each block what the model has then.
 
 With --refuse one allocation in K is refused, at random. What is refused for want of memory is asked
 for again; a best price and the shares at a price are never refused, also where the price levels
@@ -161,6 +162,35 @@ def compare(library, feed, rng, tally):
     client.close()
 
 
+def build_program(folder):
+    """bests.c over the library."""
+    made, given = os.path.join(folder, "bests"), os.path.join(TOP, "examples/c")
+    sources = [os.path.join(given, it) for it in ("bests.c", "heap.c")]
+    subprocess.run(["cc", "-std=c11", "-O2", *sources, LIBRARY, "-o", made], check=True)
+    return made
+
+
+def side_text(best):
+    return f"{best[1]} at {best[0] // 10000}.{best[0] % 10000:04}" if best else "none"
+
+
+def compare_program(program, rng, tally):
+    """Has the program follow a feed, and compares its line for each block."""
+    arrivals, symbol, model, top = quotes.random_arrivals(rng), rng.choice(quotes.SYMBOLS), Model(), 0
+    lines = []
+    for first, messages in arrivals:
+        model.hear(first, messages)
+        top, bests = max(top, first + len(messages) - 1), model.book.bests()
+        word = "current" if model.reach == top else "behind"
+        bid, offer = (side_text(bests.get((symbol, side))) for side in (b"B", b"S"))
+        lines.append(f"unit 1 {word} at {model.reach}: bid {bid}, offer {offer}")
+    stream = b"".join(quotes.block(*it) for it in arrivals)
+    words = [program, symbol.decode().strip(), "65536"]
+    told = subprocess.run(words, input=stream, capture_output=True, check=True).stdout.decode()
+    must("the program's lines", told.splitlines(), lines + lines[-1:])
+    tally["lines"] += len(lines)
+
+
 def main():
     parser = argparse.ArgumentParser(description="libpitch_c.a beside a plain model")
     parser.add_argument("--feeds", type=int, default=1000)
@@ -170,20 +200,22 @@ def main():
     if not os.path.exists(LIBRARY):
         sys.exit(f"no {os.path.relpath(LIBRARY, TOP)}")
     rng, wrong = random.Random(options.number), 0
-    tally = {"blocks": 0, "bests": 0, "quotes": 0, "untold": 0}
+    tally = {"blocks": 0, "bests": 0, "quotes": 0, "untold": 0, "lines": 0}
     with tempfile.TemporaryDirectory() as folder:
-        library = shared_object(folder)
+        library, program = shared_object(folder), build_program(folder)
         memory = ctypes.CDLL(library)
         ctypes.c_ulong.in_dll(memory, "refuse_one_in").value = options.refuse
         for feed in range(options.feeds):
             try:
                 compare(library, feed, rng, tally)
+                compare_program(program, rng, tally)
             except Wrong as error:
                 wrong += 1
                 print(f"feed {feed} of number {options.number}: {error}")
         refused = ctypes.c_ulong.in_dll(memory, "refused").value
     print(f"{options.feeds} feeds, {tally['blocks']} blocks, {tally['bests']} sides with their levels, "
-          f"{tally['quotes']} quotes, {tally['untold']} blocks whose quotes were not told, "
+          f"{tally['quotes']} quotes, {tally['lines']} lines of bests.c, "
+          f"{tally['untold']} blocks whose quotes were not told, "
           f"{refused} allocations refused, {wrong} feeds with other answers than the model's")
     return 1 if wrong else 0
 

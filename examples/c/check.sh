@@ -23,11 +23,13 @@ fail() { echo "examples/c: $1"; exit 1; }
 same() { "$@" < "$own/stdin" | cmp -s - "$own/stdout" || fail "$* writes something else"; }
 
 "$cc" -std=c11 -O2 -Wall -Wextra -Werror -c heap.c -o "$made/heap.o" || fail "heap.c"
-for name in follow hostile; do
+for name in follow bests hostile; do
     "$cc" -std=c11 -O2 -Wall -Wextra -Werror "$name.c" "$library" "$made/heap.o" -o "$made/$name" ||
         fail "$name.c does not build"
 done
 for piece in 1 7 65536; do same "$made/follow" "$piece"; done
+"$made/bests" < "$own/stdin" | tail -n "$(wc -l < "$own/stdout")" | cmp -s - "$own/stdout" ||
+    fail "bests ends with something else"
 "$made/hostile" > "$made/said" || fail "hostile ends with $?"
 for name in recover hostile_end; do
     "$cc" -std=c11 -O2 -Wall -Wextra -Werror "$name.c" "$library" "$made/heap.o" -o "$made/$name" ||
