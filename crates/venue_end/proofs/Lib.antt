@@ -1,0 +1,5 @@
+mod Examples
+pub mod Tables
+pub mod Feeding
+pub mod Ends
+pub mod Shown

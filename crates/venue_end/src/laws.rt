@@ -1,0 +1,10 @@
+//! A law of all that comes to a venue's end. This function does nothing: what it ensures is proved
+//! of the definitions alone.
+
+ghost use Rattle.venue_end.specs.Laws.{ImagesAreTheVenues};
+
+/// Whatever came, every Spin Server saw the venue's messages alone, so each image that one sends is
+/// that of an advertised sequence, whole.
+pub fn images_are_the_venues()
+    ensures { ImagesAreTheVenues }
+{}
