@@ -25,10 +25,14 @@ static uint32_t kept;
         printf("%s %.1f ns\n", what, 1e9 * (now() - begun) / (double)(count));                     \
     } while (0)
 
-/* One of the two thousand symbols of the feed, which are asked for in no order. */
+#ifndef SYMBOLS
+#define SYMBOLS 2000
+#endif
+
+/* One of the symbols of the feed, which are asked for in no order. */
 static const uint8_t *symbol(long turn) {
     static char name[9];
-    snprintf(name, sizeof name, "S%04u   ", (unsigned)turn * 7919u % 2000u);
+    snprintf(name, sizeof name, "S%04u   ", (unsigned)turn * 7919u % SYMBOLS);
     return (const uint8_t *)name;
 }
 

@@ -1,16 +1,17 @@
 #!/usr/bin/env python3
 """Measures what the calls of libpitch_c.a cost, beside own_client.
 
-    bench/c_calls.py [--megabytes M] [--rounds R] [--orders N]
+    bench/c_calls.py [--megabytes M] [--rounds R] [--orders N] [--symbols S]
 
 Wants `crates/pitch_c/out/libpitch_c.a` (`rt lib` there), `crates/own_client/out/own_client` (`rt
 run` there) and a C compiler. A feed of M megabytes (40) is made: four units, blocks of 20 messages,
 orders that are added and in part deleted again, so that about a tenth of them stays open. own_client
 and examples/c/follow.c follow it in turn, R times (5), and have to write the same; c_calls.c then
 hears it from memory, with and without price levels and with quotes, and asks. It does so again of a
-feed that opens N orders (1,000,000) in one unit. Wanted are at most 1.1 times the processor time of
-own_client for hearing the feed without price levels, and at most 200 ns for a best price with N
-orders open. Processor times, medians. Python 3, the standard library alone.
+feed that opens N orders (1,000,000) in one unit. Either feed has S symbols (2,000). Wanted are at
+most 1.1 times the processor time of own_client for hearing the feed without price levels, and at
+most 200 ns for a best price with N orders open. Processor times, medians. Python 3, the standard
+library alone.
 """
 import argparse
 import os
@@ -28,7 +29,8 @@ LIBRARY = os.path.join(TOP, "crates/pitch_c/out/libpitch_c.a")
 OWN_CLIENT = os.path.join(TOP, "crates/own_client/out/own_client")
 EXAMPLES = os.path.join(TOP, "examples/c")
 UNITS, IN_A_BLOCK = 4, 20
-SYMBOLS = [f"S{k:04} ".encode() for k in range(2000)] + [b"ACME  "] * 20
+# The symbols of the feed, one of them in some orders more.
+SYMBOLS = []
 
 
 def add(order, side, symbol, price):
@@ -107,7 +109,9 @@ def main():
     parser.add_argument("--megabytes", type=float, default=40)
     parser.add_argument("--rounds", type=int, default=5)
     parser.add_argument("--orders", type=int, default=1000000)
+    parser.add_argument("--symbols", type=int, default=2000)
     args = parser.parse_args()
+    SYMBOLS[:] = [f"S{k:04} ".encode() for k in range(args.symbols)] + [b"ACME  "] * 20
     for path in (LIBRARY, OWN_CLIENT):
         if not os.path.exists(path):
             sys.exit(f"no {os.path.relpath(path, TOP)}")
@@ -118,7 +122,8 @@ def main():
         for name, source in (("follow", f"{EXAMPLES}/follow.c"), ("calls", f"{TOP}/bench/c_calls.c")):
             programs[name] = os.path.join(made, name)
             parts = [source, f"{EXAMPLES}/heap.c", LIBRARY]
-            subprocess.run(["cc", "-O2", *parts, "-o", programs[name]], check=True)
+            flags = ["-O2", f"-DSYMBOLS={args.symbols}"]
+            subprocess.run(["cc", *flags, *parts, "-o", programs[name]], check=True)
         times = {"own_client": [], "follow.c": []}
         for _ in range(args.rounds):
             own, taken = run([OWN_CLIENT], feed)
