@@ -18,3 +18,5 @@ mod silences;
 mod spins;
 #[cfg(test)]
 mod stores;
+#[cfg(test)]
+mod venue_ends;
