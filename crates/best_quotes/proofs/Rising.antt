@@ -1,9 +1,10 @@
 -- A map by price has the levels of a book in their order.
-use Rattle.std.proofs.Common.{◌≡◌, ℕ, zero, suc, ◌<◌, ◌||◌, ◌&&◌, Bool, true, false, cond, List, [], ◌∷◌, ◌++◌, map, take, length, Option, Some, None, refl, sym, ap, ◌∙◌, subst, arith, eqb}
+use Rattle.std.proofs.Common.{◌≡◌, ℕ, zero, suc, ◌||◌, ◌&&◌, Bool, true, false, cond, List, [], ◌∷◌, ◌++◌, map, take, length, Option, Some, None, refl, sym, ap, ◌∙◌, subst, arith, eqb}
 use Rattle.std.proofs.Math.Dec.{T}
 use Rattle.std.specs.List.{AllByRecursion}
 use Rattle.std.specs.List.Sorted.{IsStrictlySortedBy}
 use Rattle.std.specs.Map.{lookup}
+use Rattle.std.specs.Option.{is_some}
 use Rattle.std.specs.Set.{is_member}
 use Rattle.std.specs.Ordering.{nat_cmp, eq_by_cmp, is_lt}
 use Rattle.std.specs.declared.cmp.Ordering.{Ordering}
@@ -18,10 +19,11 @@ use Rattle.pitch_fields.proofs.Keys.{same_test}
 use Rattle.pitch_fields.specs.declared.side.Side.{Side}
 use Rattle.pitch_fields.specs.declared.side.Side.TheVariants.{Buy, Sell}
 use Rattle.pitch_model.specs.Book.{Book, IsBook}
-use Rattle.pitch_model.specs.Levels.{level, prices_on}
+use Rattle.pitch_model.specs.Levels.{level, best, prices_on}
+use Rattle.pitch_model.proofs.Prices.{best-none}
 use Rattle.best_quotes.specs.BestFirst.{rising, best_first, levels_of, TellsLevels}
 use Rattle.best_quotes.specs.Leveling.{standing}
-use Rattle.best_quotes.proofs.Besting.{level_has_order, price_has_level}
+use Rattle.best_quotes.proofs.Besting.{level_has_order, price_has_level, none_open}
 
 abbrev pub Levels : Type 0
 Levels = List (ℕ × ℕ)
@@ -103,6 +105,12 @@ module _ (book : Book) (is : IsBook book) (symbol : List ℕ) (side : Side) wher
       by Buy (suc n) = refl
       by Sell zero = refl
       by Sell (suc n) = refl
+
+-- a side that has no best has no level
+pub tells_empty : (book : Book) → IsBook book → (symbol : List ℕ) (side : Side) (found : Option (ℕ × ℕ)) → found ≡ best book symbol side → is_some found ≡ false → (most : ℕ) (told : Levels) → TellsLevels book symbol side most told told 0
+tells_empty book is symbol side None same none most told =
+    tells_none book is symbol side (λ q. ap standing (sym (none_open book is symbol side q (best-none book symbol side (sym same))))) most told
+tells_empty book is symbol side (Some found) same none most told = absurd (false≢true (sym none))
 
 -- ---- Levels that are appended one by one
 module _ (out all : Levels) (k : ℕ) (left : Levels) (told : out ++ take k left ≡ all) where

@@ -69,7 +69,7 @@ module _ (levels levels' : Entries) (symbol : List ℕ) (sides sides' : Sides) (
         turned p =
             let was = shares_on symbol side before on p in
             let is = shares_on symbol side now on' p in
-            turns (shares symbol side) (λ r. sym (level_was side r) ∙ has symbol side r) p ∙ ap standing (omega arith)
+            turns.moves (shares symbol side) (λ r. sym (level_was side r) ∙ has symbol side r) p ∙ ap standing (omega arith)
 
         within : (t : Bool) → same_side s side ≡ t → get nat_cmp (side_of s sides') price ≡ standing (moved before now shares symbol s price)
         within true e =

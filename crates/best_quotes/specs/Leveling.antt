@@ -1,7 +1,8 @@
 -- Levels in maps: for each symbol what is open on either side at each price, where anything is.
-use Rattle.std.specs.Prelude.{◌≡◌, ℕ, ◌+◌, ◌-◌, ◌==◌, List, bytes_eq, Option, Some, None}
+use Rattle.std.specs.Prelude.{◌≡◌, ℕ, ◌+◌, ◌-◌, ◌==◌, false, List, bytes_eq, Option, Some, None}
 use Rattle.std.specs.Prelude.{IsSome, IfSome, if◌then◌else◌}
 use Rattle.std.specs.Map.{lookup}
+use Rattle.std.specs.Option.{IsSomeAnd}
 use Rattle.std.specs.Ordering.{nat_cmp}
 use Rattle.std.specs.BTreeMap.{BTreeMap, get}
 use Rattle.pitch_fields.specs.declared.side.Side.{Side}
@@ -41,10 +42,17 @@ priced price (Some order) = if price == order.price then order.quantity else 0
 abbrev pub moved_at : Option Order → Option Order → (ℕ → ℕ) → ℕ → ℕ
 moved_at before now shares = λ price. (shares price - priced price before) + priced price now
 
--- one order became another
-abbrev pub MovesPrices : Option Order → Option Order → Prices → Prices → Type 0
-MovesPrices before now prices prices' =
-    (shares : ℕ → ℕ) → HasPrices prices shares → HasPrices prices' (moved_at before now shares)
+-- an order, where there is one, has another price
+abbrev pub IsElsewhere : ℕ → Option Order → Type 0
+IsElsewhere price None = Unit {0}
+IsElsewhere price (Some order) = (order.price == price) ≡ false
+
+-- one order became another: their shares moved, and at other prices stands what stood there
+pub record MovesPrices (before now : Option Order) (prices prices' : Prices) : Type 0 where
+  pub moves : (shares : ℕ → ℕ)
+      → HasPrices prices shares → HasPrices prices' (moved_at before now shares)
+  pub others : (price : ℕ) → IsElsewhere price before → IsElsewhere price now
+      → get nat_cmp prices' price ≡ get nat_cmp prices price
 
 -- a price with its shares, which none of the others is better than; or there is none
 abbrev pub IsNearest : Side → (ℕ → Option ℕ) → Option (ℕ × ℕ) → Type 0
@@ -53,6 +61,17 @@ IsNearest side shares (Some best) =
     (shares best.0 ≡ Some best.1)
     × ((price : ℕ) → IsSome (shares price) → better side best.0 price ≡ best.0)
 
+-- an order, where there is one, has a worse price than this
+abbrev pub IsWorse : Side → ℕ → Option Order → Type 0
+IsWorse side price None = Unit {0}
+IsWorse side price (Some order) =
+    (better side price order.price ≡ price) × ((order.price == price) ≡ false)
+
+-- there is a best, and either order is worse
+abbrev pub AreWorse : Side → Option (ℕ × ℕ) → Option Order → Option Order → Type 0
+AreWorse side best before now =
+    IsSomeAnd best (λ b. IsWorse side b.0 before × IsWorse side b.0 now)
+
 -- ---- All symbols
 abbrev pub Entries : Type 0
 Entries = List (List ℕ × Sides)
@@ -60,6 +79,11 @@ Entries = List (List ℕ × Sides)
 abbrev pub side_of : Side → Sides → Prices
 side_of Buy sides = sides.buy
 side_of Sell sides = sides.sell
+
+-- the best of each side of a symbol
+pub record AreBests (sides : Sides) (bid offer : Option (ℕ × ℕ)) : Type 0 where
+  pub bid_is : IsNearest Buy (get nat_cmp sides.buy) bid
+  pub offer_is : IsNearest Sell (get nat_cmp sides.sell) offer
 
 -- what stands at a price of a side, where the symbol has sides
 abbrev pub level_of : Side → ℕ → Option Sides → Option ℕ

@@ -32,7 +32,8 @@ fn append_rising(prices: &Prices, most: usize, out: &mut LevelList) -> Result<()
 
 // Appends levels by falling price, so many at most.
 fn append_falling(prices: &Prices, most: usize, out: &mut LevelList) -> Result<(), OutOfMemory>
-    ensures { OnOk result (out.new.items ≡ out.old.items ++ take most (reverse prices.now.entries)) }
+    ensures { OnOk result
+        (out.new.items ≡ out.old.items ++ take most (reverse prices.now.entries)) }
 {
     let mut left = prices.iter();
     'levels: for _ in 0..most {
@@ -78,12 +79,13 @@ pub(crate) fn append_levels(
     most: usize,
     out: &mut LevelList,
 ) -> Result<usize, OutOfMemory>
-    ensures { IfOk result (λ count. (book : Book) → IsBook book → Has levels.now.entries (level book)
+    ensures { IfOk result (λ count. (book : Book) → IsBook book
+        → Has levels.now.entries (level book)
         → TellsLevels book symbol side most out.old.items out.new.items count) }
 {
     match levels.get(&symbol.bytes()) {
-        Some(sides) => {
-            let count = append_side(prices_in(sides, side), side, most, out)?;
+        Some(depth) => {
+            let count = append_side(prices_in(depth, side), side, most, out)?;
             Ok(count)
         }
         None => Ok(0),

@@ -1,7 +1,7 @@
 //! A client with the price levels of its book beside it, for best prices at any time.
 
 ghost use Rattle.std.specs.Prelude.{◌≡◌, ◌≤◌, ◌+◌, ℕ, true, false, List, [], length, fold};
-ghost use Rattle.std.specs.Prelude.{OnOk, OnErr, IfOk, IsOk, IfSome};
+ghost use Rattle.std.specs.Prelude.{OnOk, OnErr, IfOk, IsOk, IsErr, IfSome};
 ghost use Rattle.std.specs.Option.{IsSome};
 ghost use Rattle.pitch_fields.specs.Limits.{most_held};
 ghost use Rattle.pitch_model.specs.Book.{Book, IsBook, after};
@@ -348,7 +348,8 @@ impl LeveledUnit {
     }
 
     /// Appends the levels of a symbol on a side, the best first, so many at most, and answers how
-    /// many there are. Where no levels are kept they are laid for this answer.
+    /// many there are. Where no levels are kept they are laid for this answer. A side without orders
+    /// wants no memory.
     pub fn levels_best_first(
         &self,
         symbol: Symbol,
@@ -356,10 +357,14 @@ impl LeveledUnit {
         most: usize,
         out: &mut LevelList,
     ) -> Result<usize, OutOfMemory>
-        ensures { IfOk result (TellsLevels (current_book self.now) symbol side most
+        ensures levels { IfOk result (TellsLevels (current_book self.now) symbol side most
             out.old.items out.new.items) }
+        ensures memory { IsErr result → IsSome (best (current_book self.now) symbol side) }
     {
         let _orders = self.client.book().len();
+        if self.best(symbol, side).is_none() {
+            return Ok(0);
+        }
         if let Some(levels) = &self.levels {
             let count = append_levels(levels, symbol, side, most, out)?;
             return Ok(count);

@@ -1,6 +1,6 @@
 //! Price levels for each symbol that has open orders, and how one order's change moves them.
 
-ghost use Rattle.std.specs.Prelude.{◌≡◌, ◌<◌, ℕ, List, false, Some, OnOk, IfOk};
+ghost use Rattle.std.specs.Prelude.{◌≡◌, ◌<◌, ℕ, List, true, false, Some, None, OnOk, IfOk};
 ghost use Rattle.std.specs.Ordering.{nat_cmp};
 ghost use Rattle.std.specs.Str.{bytes_eq};
 ghost use Rattle.std.specs.BTreeMap.{get, IsEmpty};
@@ -12,40 +12,69 @@ ghost use Rattle.pitch_model.specs.Levels.{best, level, same_side};
 ghost use Rattle.best_quotes.specs.Leveling.{MovesPrices, IsNearest, side_of, level_in, Has};
 ghost use Rattle.best_quotes.specs.Leveling.{SameLevels, Shares, IsOn, TurnsSide};
 
-use crate::prices::{Best, Prices, best_of, shares_at, turn};
+use crate::prices::{Best, Prices, shares_at, turn};
 use indexmap::IndexMap;
 use pitch_fields::{OutOfMemory, Price, Side, Symbol};
 use pitch_messages::Order;
 use std::alloc::Global;
 use std::collections::BTreeMap;
+use std::marker::Model;
 
 // The two sides of a symbol.
 #[derive(Drop)]
 pub(crate) struct Sides {
-    pub(crate) buy: Prices,
-    pub(crate) sell: Prices,
+    buy: Prices,
+    sell: Prices,
 }
 
-// The sides of each symbol that has an open order.
-pub(crate) type Levels = IndexMap<[u8; 8], Sides>;
+// The two sides of a symbol with the best of each, which is told so from the symbol's own place: a
+// walk to the end of its prices is one through memory that is in no cache.
+#[derive(Drop)]
+pub(crate) struct Depth {
+    bid: Best,
+    offer: Best,
+    sides: Sides,
+}
+
+impl Model for Depth {
+    ghost use Rattle.best_quotes.specs.contracts.levels.Sides as both;
+    ghost use Rattle.best_quotes.specs.declared.levels.Sides.{Sides};
+    ghost use Rattle.best_quotes.specs.Leveling.{AreBests};
+
+    ghost Value = { Sides };
+
+    ghost coded = { both.the_row.coded };
+
+    ghost view = { λ d. d.sides };
+
+    ghost invariant = { λ d. AreBests d.sides d.bid d.offer };
+}
+
+// The depth of each symbol that has an open order.
+pub(crate) type Levels = IndexMap<[u8; 8], Depth>;
 
 // Two empty sides, which take no memory.
-fn no_sides(alloc: Global) -> Sides
+fn no_sides(alloc: Global) -> Depth
     ensures { IsEmpty result.buy × IsEmpty result.sell }
 {
-    Sides {
+    let sides = Sides {
         buy: BTreeMap::new(alloc),
         sell: BTreeMap::new(alloc),
+    };
+    Depth {
+        bid: None,
+        offer: None,
+        sides,
     }
 }
 
 // The best of a side.
-fn best_in(sides: &Sides, side: Side) -> Best
-    ensures { IsNearest side (get nat_cmp (side_of side sides.now)) result }
+fn best_in(depth: &Depth, side: Side) -> Best
+    ensures { IsNearest side (get nat_cmp (side_of side depth.now)) result }
 {
     match side {
-        Side::Buy => best_of(&sides.buy, Side::Buy),
-        Side::Sell => best_of(&sides.sell, Side::Sell),
+        Side::Buy => depth.bid,
+        Side::Sell => depth.offer,
     }
 }
 
@@ -54,7 +83,7 @@ fn nearest(levels: &Levels, symbol: Symbol, side: Side) -> Best
     ensures { IsNearest side (level_in levels.now.entries symbol side) result }
 {
     match levels.get(&symbol.bytes()) {
-        Some(sides) => best_in(sides, side),
+        Some(depth) => best_in(depth, side),
         None => None,
     }
 }
@@ -68,21 +97,22 @@ pub(crate) fn best_level(levels: &Levels, symbol: Symbol, side: Side) -> Best
 }
 
 // A side's prices.
-pub(crate) fn prices_in(sides: &Sides, side: Side) -> &Prices
-    ensures { result.now ≡ side_of side sides.now }
+pub(crate) fn prices_in(depth: &Depth, side: Side) -> &Prices
+    ensures { result.now ≡ side_of side depth.now }
 {
     match side {
-        Side::Buy => &sides.buy,
-        Side::Sell => &sides.sell,
+        Side::Buy => &depth.sides.buy,
+        Side::Sell => &depth.sides.sell,
     }
 }
 
 // The shares of a symbol on a side at a price.
 pub(crate) fn level_at(levels: &Levels, symbol: Symbol, side: Side, price: Price) -> u64
-    ensures { (shares : Shares) → Has levels.now.entries shares → result ≡ shares symbol side price }
+    ensures { (shares : Shares) → Has levels.now.entries shares
+        → result ≡ shares symbol side price }
 {
     match levels.get(&symbol.bytes()) {
-        Some(sides) => shares_at(prices_in(sides, side), price),
+        Some(depth) => shares_at(prices_in(depth, side), price),
         None => 0,
     }
 }
@@ -106,29 +136,29 @@ fn place_of(levels: &mut Levels, symbol: Symbol) -> Result<usize, OutOfMemory>
 
 // One order of a side becomes another. It answers the best before and after.
 fn turn_in(
-    sides: &mut Sides,
+    depth: &mut Depth,
     side: Side,
     before: &Option<Order>,
     now: &Option<Order>,
 ) -> Result<(Best, Best), OutOfMemory>
     ensures moves { OnOk result (MovesPrices before.now now.now
-        (side_of side sides.old) (side_of side sides.new)) }
+        (side_of side depth.old) (side_of side depth.new)) }
     ensures was { IfOk result (λ bests.
-        IsNearest side (get nat_cmp (side_of side sides.old)) bests.0) }
+        IsNearest side (get nat_cmp (side_of side depth.old)) bests.0) }
     ensures is { IfOk result (λ bests.
-        IsNearest side (get nat_cmp (side_of side sides.new)) bests.1) }
+        IsNearest side (get nat_cmp (side_of side depth.new)) bests.1) }
     ensures others { (other : Side) → same_side other side ≡ false
-        → side_of other sides.new ≡ side_of other sides.old }
+        → side_of other depth.new ≡ side_of other depth.old }
 {
     match side {
-        Side::Buy => {
-            let bests = turn(&mut sides.buy, Side::Buy, before, now)?;
-            Ok(bests)
-        }
-        Side::Sell => {
-            let bests = turn(&mut sides.sell, Side::Sell, before, now)?;
-            Ok(bests)
-        }
+        Side::Buy => turn(&mut depth.sides.buy, &mut depth.bid, Side::Buy, before, now),
+        Side::Sell => turn(
+            &mut depth.sides.sell,
+            &mut depth.offer,
+            Side::Sell,
+            before,
+            now,
+        ),
     }
 }
 
@@ -146,19 +176,27 @@ fn turn_at(
         → IsOn symbol side before.now → IsOn symbol side now.now
         → TurnsSide levels.old.entries levels.new.entries symbol side before.now now.now bests) }
 {
-    let (_, sides) = levels.pair_mut(place);
-    let bests = turn_in(sides, side, before, now)?;
+    let (_, depth) = levels.pair_mut(place);
+    let bests = turn_in(depth, side, before, now)?;
     Ok(bests)
+}
+
+// Whether neither side has an order.
+fn is_empty(depth: &Depth) -> bool
+    ensures { result ≡ true
+        → (side : Side) (price : ℕ) → get nat_cmp (side_of side depth.now) price ≡ None }
+{
+    depth.bid.is_none() && depth.offer.is_none()
 }
 
 // The symbol at a place goes, where it has no order left.
 fn drop_empty(levels: &mut Levels, place: usize)
     ensures { SameLevels levels.old.entries levels.new.entries }
 {
-    let Some((_, sides)) = levels.get_index(place) else {
+    let Some((_, depth)) = levels.get_index(place) else {
         return;
     };
-    if sides.buy.is_empty() && sides.sell.is_empty() {
+    if is_empty(depth) {
         levels.swap_remove_index(place);
     }
 }

@@ -1,10 +1,11 @@
 //! One side of a symbol: open shares by price in an ordered map, and the best among them.
 
-ghost use Rattle.std.specs.Prelude.{◌≡◌, ◌+◌, ◌-◌, Some, None, OnOk, IfOk, unwrap_or};
+ghost use Rattle.std.specs.Prelude.{◌≡◌, ◌+◌, ◌-◌, true, Some, None, OnOk, IfOk, unwrap_or};
 ghost use Rattle.std.specs.Ordering.{nat_cmp};
 ghost use Rattle.std.specs.BTreeMap.{get};
 ghost use Rattle.pitch_fields.specs.declared.side.Side.TheVariants.{Buy, Sell};
 ghost use Rattle.best_quotes.specs.Leveling.{SetsPrice, MovesPrices, IsNearest};
+ghost use Rattle.best_quotes.specs.Leveling.{IsWorse, AreWorse};
 
 use pitch_fields::{OutOfMemory, Price, Side};
 use pitch_messages::Order;
@@ -39,7 +40,7 @@ fn lowest(prices: &Prices) -> Best
 }
 
 // The best price of a side.
-pub(crate) fn best_of(prices: &Prices, side: Side) -> Best
+fn best_of(prices: &Prices, side: Side) -> Best
     ensures { IsNearest side (get nat_cmp prices.now) result }
 {
     match side {
@@ -149,19 +150,73 @@ fn move_shares(
     }
 }
 
-// One order of a side becomes another. It answers the best before and after.
+// Whether an order, where there is one, has a worse price than this.
+fn is_worse(price: Price, side: Side, order: &Option<Order>) -> bool
+    ensures { result ≡ true → IsWorse side price order.now }
+{
+    let Some(order) = order else {
+        return true;
+    };
+    match side {
+        Side::Buy => order.price.ten_thousandths() < price.ten_thousandths(),
+        Side::Sell => price.ten_thousandths() < order.price.ten_thousandths(),
+    }
+}
+
+// Whether there is a best, and either order is worse.
+fn are_worse(best: &Best, side: Side, before: &Option<Order>, now: &Option<Order>) -> bool
+    ensures { result ≡ true → AreWorse side best.now before.now now.now }
+{
+    match best {
+        Some((price, _)) => is_worse(*price, side, before) && is_worse(*price, side, now),
+        None => false,
+    }
+}
+
+// The best of a side once one order became another. It is looked for only where it may have become
+// another.
+fn best_after(
+    prices: &Prices,
+    side: Side,
+    was: &Best,
+    before: &Option<Order>,
+    now: &Option<Order>,
+) -> Best
+    requires { AreWorse side was.now before.now now.now
+        → IsNearest side (get nat_cmp prices.now) was.now }
+    ensures { IsNearest side (get nat_cmp prices.now) result }
+{
+    if are_worse(was, side, before, now) {
+        *was
+    } else {
+        best_of(prices, side)
+    }
+}
+
+// One order of a side becomes another. It answers the best before and after. `best` is that of the
+// prices at any time, also after an error.
 pub(crate) fn turn(
     prices: &mut Prices,
+    best: &mut Best,
     side: Side,
     before: &Option<Order>,
     now: &Option<Order>,
 ) -> Result<(Best, Best), OutOfMemory>
+    requires { IsNearest side (get nat_cmp prices.old) best.old }
+    ensures nearest { IsNearest side (get nat_cmp prices.new) best.new }
     ensures moves { OnOk result (MovesPrices before.now now.now prices.old prices.new) }
     ensures was { IfOk result (λ bests. IsNearest side (get nat_cmp prices.old) bests.0) }
     ensures is { IfOk result (λ bests. IsNearest side (get nat_cmp prices.new) bests.1) }
 {
-    let was = best_of(prices, side);
-    move_shares(prices, before, now)?;
-    let is = best_of(prices, side);
-    Ok((was, is))
+    let was = *best;
+    match move_shares(prices, before, now) {
+        Ok(()) => {
+            *best = best_after(prices, side, &was, before, now);
+            Ok((was, *best))
+        }
+        Err(error) => {
+            *best = best_of(prices, side);
+            Err(error)
+        }
+    }
 }

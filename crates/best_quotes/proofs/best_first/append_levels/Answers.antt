@@ -1,4 +1,4 @@
-use Rattle.std.proofs.Common.{ℕ, List, length, take, sym, ap, ◌++◌, ◌∙◌, subst}
+use Rattle.std.proofs.Common.{ℕ, List, length, take, ap, ◌++◌, ◌∙◌, subst}
 use Rattle.std.specs.Map.{lookup}
 use Rattle.std.specs.Str.{bytes_eq}
 use Rattle.std.specs.Ordering.{nat_cmp}
@@ -15,7 +15,7 @@ returns-in_ok-count-in-Some c = λ book is has.
     let prices = c.prices_in.result.now in
     let are = c.prices_in.ensures in
     let told = c.args.out.now.items in
-    tells_levels book is symbol side (side_of side c.in-Some.sides.now).entries
+    tells_levels book is symbol side (side_of side c.in-Some.depth.now).entries
     (subst (IsOrdered nat_cmp) are c.in_ok-count-in-Some.ensures.ordered)
     (λ q.
     ap (level_of side q) c.in-Some.ensures.value

@@ -10,7 +10,7 @@ use Rattle.best_quotes.proofs.levels.nearest.Goals as goal
 pub returns-in-Some : goal.returns-in-Some
 returns-in-Some c =
     let side = c.args.side in
-    nearest_in side (get nat_cmp (side_of side c.in-Some.sides.now)) (level_in c.args.levels.now.entries c.args.symbol side) c.best_in.result
+    nearest_in side (get nat_cmp (side_of side c.in-Some.depth.now)) (level_in c.args.levels.now.entries c.args.symbol side) c.best_in.result
     (λ price.
     ap (λ (b : List ℕ). level_of side price (lookup (bytes_eq b) c.args.levels.now.entries)) (sym c.bytes.ensures)
     ∙ ap (level_of side price) (sym c.in-Some.ensures.value))

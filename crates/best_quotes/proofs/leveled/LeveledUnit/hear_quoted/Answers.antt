@@ -1,4 +1,4 @@
-use Rattle.std.proofs.Common.{◌≡◌, true, ap, subst, sym}
+use Rattle.std.proofs.Common.{◌≡◌, true, subst, sym}
 use Rattle.pitch_model.specs.Book.{Book}
 use Rattle.client_core.specs.Client.{current_book}
 use Rattle.best_quotes.specs.Hearing.{TellsAnew}
