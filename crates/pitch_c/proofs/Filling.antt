@@ -1,5 +1,5 @@
 -- An array that is filled from its start.
-use Rattle.std.proofs.Common.{◌≡◌, ◌<◌, ℕ, zero, suc, refl, ◌+◌, List, [], ◌∷◌, ◌++◌, length, map, take, drop, Option, Some, slice_get, sym, ap, ◌∙◌, arith}
+use Rattle.std.proofs.Common.{◌≡◌, ◌<◌, ◌⊎◌, inl, inr, ℕ, zero, suc, refl, ◌+◌, List, [], ◌∷◌, ◌++◌, length, map, take, drop, Option, Some, slice_get, sym, ap, ◌∙◌, arith}
 use Rattle.std.proofs.Math.ListN.{set}
 use Rattle.std.specs.Option.{option_map}
 use Rattle.std.specs.Prelude.{unwrap_or}
@@ -48,3 +48,17 @@ module _ {S T : Type 0} (shown : S → T) where
     array = is ∙ ap (λ (l : List S). filled (map shown l) old) first ∙ filled_first items old;
     number_is = count ∙ sym (length-map items shown);
   }
+
+  -- nothing is written where there is no item, or no place
+  pub fills_none : (items : List S) (old : List T) (number : ℕ) → number ≡ length items → (length items ≡ 0) ⊎ (length old ≡ 0) → Fills (map shown items) old old number
+  fills_none items old number count none = record {
+    array = by items old none;
+    number_is = count ∙ sym (length-map items shown);
+  }
+    where
+      by : (items : List S) (old : List T) → (length items ≡ 0) ⊎ (length old ≡ 0) → old ≡ filled (map shown items) old
+      by [] [] none = refl
+      by [] (o ∷ old) none = refl
+      by (x ∷ items) [] none = refl
+      by (x ∷ items) (o ∷ old) (inl none) = absurd (omega arith)
+      by (x ∷ items) (o ∷ old) (inr none) = absurd (omega arith)

@@ -1,6 +1,6 @@
 -- What a client that C holds stands for, and what C is told of it. Blocks stand newest first.
-use Rattle.std.specs.Prelude.{◌≡◌, ℕ, List, ◌∷◌, map as mapped, take, Option, Some}
-use Rattle.std.specs.Option.{IsSomeAnd}
+use Rattle.std.specs.Prelude.{◌≡◌, ◌≤◌, ℕ, List, ◌∷◌, length, map as mapped, take, Option, Some}
+use Rattle.std.specs.Option.{IsSome, IsSomeAnd}
 use Rattle.std.specs.FinMap as map
 use Rattle.pitch_fields.specs.Side.{side_of}
 use Rattle.pitch_model.specs.History.{Raw}
@@ -120,6 +120,17 @@ abbrev pub TellLevel : Units → ℕ → List ℕ → ℕ → ℕ → LevelOut �
 TellLevel units unit symbol side price told =
     IsSomeAnd (side_of side)
     (λ s. OfReachedBook units unit (λ book. told ≡ level_shown (with_level book symbol s price)))
+
+-- ---- Where a list may want memory
+-- that book has an open order, and the array a place
+abbrev pub HasOrders : Units → ℕ → List OrderOut → Type 0
+HasOrders units unit array =
+    (1 ≤ length array) × OfReachedBook units unit (λ book. 1 ≤ map.len book.orders)
+
+-- that book has an open order of a symbol on a side
+abbrev pub HasSide : Units → ℕ → List ℕ → ℕ → Type 0
+HasSide units unit symbol side =
+    IsSomeAnd (side_of side) (λ s. OfReachedBook units unit (λ book. IsSome (best book symbol s)))
 
 -- ---- Lists: the array before and after, and how many items there are
 -- all open orders, by rising id

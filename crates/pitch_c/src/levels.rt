@@ -1,10 +1,11 @@
 //! The levels of a symbol on a side, told into the caller's array, and one of them.
 
-ghost use Rattle.std.specs.Prelude.{◌≡◌, ◌≤◌, ℕ, List, IfOk, length, map as mapped, take};
+ghost use Rattle.std.specs.Prelude.{◌≡◌, ◌≤◌, ℕ, List, IfOk, IsErr, length, map as mapped, take};
+ghost use Rattle.std.specs.Option.{IsSome};
 ghost use Rattle.pitch_fields.specs.Side.{side_of};
 ghost use Rattle.pitch_model.specs.History.{Entry, Raw};
 ghost use Rattle.pitch_model.specs.Book.{book_after};
-ghost use Rattle.pitch_model.specs.Levels.{level};
+ghost use Rattle.pitch_model.specs.Levels.{best, level};
 ghost use Rattle.pitch_model.specs.Reach.{reach};
 ghost use Rattle.client_core.specs.Tracks.{Tracks, Keeps};
 ghost use Rattle.unit_clients.specs.Clients.{client_of};
@@ -12,7 +13,7 @@ ghost use Rattle.best_quotes.specs.BestFirst.{TellsLevels};
 ghost use Rattle.pitch_c.specs.Codes as code;
 ghost use Rattle.pitch_c.specs.Answers.{Answers, client_code, side_code};
 ghost use Rattle.pitch_c.specs.Arrays.{filled};
-ghost use Rattle.pitch_c.specs.Clients.{TellLevel, TellLevels};
+ghost use Rattle.pitch_c.specs.Clients.{TellLevel, TellLevels, HasSide};
 ghost use Rattle.pitch_c.specs.Reports.{level_shown};
 
 use crate::codes::{NO_CLIENT, NO_MEMORY, NO_SIDE, OK};
@@ -40,10 +41,13 @@ fn append_levels(
     most: usize,
     levels: &mut LevelList,
 ) -> Result<usize, OutOfMemory>
-    ensures { IfOk result (λ count. (H : ℕ) (E : List Entry) (V : List Raw)
+    ensures levels { IfOk result (λ count. (H : ℕ) (E : List Entry) (V : List Raw)
         → Tracks client.now H E → Keeps client.now V
         → TellsLevels (book_after (take (reach H E) V)) symbol side most
         levels.old.items levels.new.items count) }
+    ensures memory { IsErr result → (H : ℕ) (E : List Entry) (V : List Raw)
+        → Tracks client.now H E → Keeps client.now V
+        → IsSome (best (book_after (take (reach H E) V)) symbol side) }
 {
     let _reached = client.client().book();
     let count = client.levels_best_first(symbol, side, most, levels)?;
@@ -64,6 +68,7 @@ pub(crate) fn tell_levels(
     ensures kept { 1 ≤ result → (told.new ≡ told.old) × (number.new ≡ number.old) }
     ensures answer { Answers
         (side_code (side_of side) (client_code (client_of units.now unit))) result }
+    ensures memory { result ≡ code.no_memory → HasSide units.now unit symbol.now side }
 {
     let Some(side) = Side::from_byte(side) else {
         return NO_SIDE;

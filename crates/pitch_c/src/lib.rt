@@ -24,7 +24,7 @@ ghost use Rattle.pitch_c.specs.Answers.{MayTakeMemory, AnswersQuoted};
 ghost use Rattle.pitch_c.specs.Clients.{HasHeard, StillHave, HearFirst};
 ghost use Rattle.pitch_c.specs.Clients.{HearQuoted, HearUntold};
 ghost use Rattle.pitch_c.specs.Clients.{TellStatus, TellBest, TellOrder, TellOrders, TellStates};
-ghost use Rattle.pitch_c.specs.Clients.{TellLevel, TellLevels};
+ghost use Rattle.pitch_c.specs.Clients.{TellLevel, TellLevels, HasOrders, HasSide};
 
 use crate::asking::{hear_first, reserve_for, tell_best, tell_order, tell_status};
 use crate::codes::{ABI, BAD_HOLD, CLOSED, IS_OPEN, NO_MEMORY, OK};
@@ -264,6 +264,8 @@ pub extern "C" fn pitch_c_orders(
     ensures closed { IfNone client.old.handle.value (result ≡ code.closed) }
     ensures answer { IfSome client.old.handle.value
         (λ units. Answers (client_code (client_of units unit)) result) }
+    ensures memory { result ≡ code.no_memory → IsSomeAnd client.old.handle.value
+        (λ units. HasOrders units unit told.old) }
 {
     let Some(units) = take(alloc, client) else {
         return CLOSED;
@@ -318,6 +320,8 @@ pub extern "C" fn pitch_c_levels(
     ensures closed { IfNone client.old.handle.value (result ≡ code.closed) }
     ensures answer { IfSome client.old.handle.value (λ units. Answers
         (side_code (side_of side) (client_code (client_of units unit))) result) }
+    ensures memory { result ≡ code.no_memory → IsSomeAnd client.old.handle.value
+        (λ units. HasSide units unit symbol.now side) }
 {
     let Some(units) = take(alloc, client) else {
         return CLOSED;

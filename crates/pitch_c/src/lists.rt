@@ -1,6 +1,7 @@
 //! Lists of a unit's book, told into the caller's arrays: as many items as fit.
 
 ghost use Rattle.std.specs.Prelude.{◌≡◌, ◌≤◌, ◌⊎◌, ℕ, List, Some, IfOk, map as mapped, take};
+ghost use Rattle.std.specs.FinMap as map;
 ghost use Rattle.pitch_model.specs.History.{Entry, Raw};
 ghost use Rattle.pitch_model.specs.Book.{book_after};
 ghost use Rattle.pitch_model.specs.Levels.{orders_of};
@@ -11,7 +12,7 @@ ghost use Rattle.unit_clients.specs.Clients.{client_of};
 ghost use Rattle.pitch_c.specs.Codes as code;
 ghost use Rattle.pitch_c.specs.Answers.{Answers, client_code};
 ghost use Rattle.pitch_c.specs.Arrays.{filled};
-ghost use Rattle.pitch_c.specs.Clients.{TellOrders, TellStates};
+ghost use Rattle.pitch_c.specs.Clients.{TellOrders, TellStates, HasOrders};
 ghost use Rattle.pitch_c.specs.Reports.{order_shown, state_shown};
 
 use crate::codes::{NO_CLIENT, NO_MEMORY, OK};
@@ -72,6 +73,14 @@ fn statuses_of(alloc: Global, client: &LeveledUnit) -> Result<StatusList, OutOfM
     Ok(states)
 }
 
+// How many orders a unit has open.
+fn count_open(client: &LeveledUnit) -> u32
+    ensures { (H : ℕ) (E : List Entry) (V : List Raw) → Tracks client.now H E → Keeps client.now V
+        → result ≡ map.len (book_after (take (reach H E) V)).orders }
+{
+    client.client().book().len()
+}
+
 pub(crate) fn tell_orders(
     alloc: Global,
     units: &LeveledUnits,
@@ -82,10 +91,16 @@ pub(crate) fn tell_orders(
     ensures orders { result ≡ code.ok → TellOrders units.now unit told.old told.new number.new }
     ensures kept { 1 ≤ result → (told.new ≡ told.old) × (number.new ≡ number.old) }
     ensures answer { Answers (client_code (client_of units.now unit)) result }
+    ensures memory { result ≡ code.no_memory → HasOrders units.now unit told.old }
 {
     let Some(client) = units.unit(unit) else {
         return NO_CLIENT;
     };
+    let open = count_open(client);
+    if open == 0 || told.is_empty() {
+        *number = u64::from(open);
+        return OK;
+    }
     match orders_of(alloc, client) {
         Ok(orders) => {
             fill_orders(orders.as_slice(), told);

@@ -1,4 +1,4 @@
-use Rattle.std.proofs.Common.{◌<◌, ℕ, List, length, refl, arith}
+use Rattle.std.proofs.Common.{◌<◌, List, length, refl, arith}
 use Rattle.std.proofs.lemmas.Option.{slice_get_read}
 use Rattle.best_quotes.specs.declared.quote.QuoteLine.{QuoteLine}
 use Rattle.pitch_c.specs.Reports.{quote_shown}
