@@ -348,8 +348,8 @@ impl LeveledUnit {
     }
 
     /// Appends the levels of a symbol on a side, the best first, so many at most, and answers how
-    /// many there are. Where no levels are kept they are laid for this answer. A side without orders
-    /// wants no memory.
+    /// many there are. Where no levels are kept they are laid for this answer. A side that has no
+    /// order wants no memory.
     pub fn levels_best_first(
         &self,
         symbol: Symbol,
