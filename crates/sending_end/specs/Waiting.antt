@@ -60,6 +60,11 @@ abbrev pub waits_for_spin_server : EndSetup → Came → EndState → List ℕ �
 waits_for_spin_server s came now waiting = kept_for (end_step s came now).spin
     (waited_for_spin_server came waiting ++ to_spin_server s came now)
 
+-- and for either session
+abbrev pub waits_after : Session → EndSetup → Came → EndState → List ℕ → List ℕ
+waits_after Proxy s came now waiting = waits_for_proxy s came now waiting
+waits_after SpinServer s came now waiting = waits_for_spin_server s came now waiting
+
 -- what waits for a session
 abbrev pub waiting : Session → SendingEnd → List ℕ
 waiting Proxy e = e.grp_said.items

@@ -14,7 +14,7 @@ ghost use Rattle.pitch_model.specs.Status.{status_of};
 ghost use Rattle.unit_packets.specs.Cutting.{blocks_of, rest_of};
 ghost use Rattle.heard_items.specs.Changes.{block_change};
 
-use crate::queue::{keep_where, take_front};
+use crate::queue::{drop_sent, keep_where, take_front};
 use crate::session::Session;
 use client_end::{Account, Change, ClientEnd, Status};
 use order_book::UnitBook;
@@ -275,6 +275,30 @@ impl SendingEnd {
         match session {
             Session::Proxy => take_front(&mut self.grp_said, into),
             Session::SpinServer => take_front(&mut self.spin_said, into),
+        }
+    }
+
+    /// The bytes that wait for a session.
+    pub fn waiting_bytes(&self, session: Session) -> &[u8]
+        ensures { result.now ≡ waiting session self.now }
+    {
+        match session {
+            Session::Proxy => &self.grp_said,
+            Session::SpinServer => &self.spin_said,
+        }
+    }
+
+    /// So many of the first bytes that wait for a session were sent, and wait no more. Where fewer
+    /// wait, none do then.
+    pub fn sent(&mut self, session: Session, count: usize)
+        ensures left { waiting session self.new ≡ drop count (waiting session self.old) }
+        ensures other { (other : Session) → (other ≡ session → ⊥)
+            → waiting other self.new ≡ waiting other self.old }
+        ensures stands { OfSending self.old (λ s before. SendingStands s self.new before) }
+    {
+        match session {
+            Session::Proxy => drop_sent(&mut self.grp_said, count),
+            Session::SpinServer => drop_sent(&mut self.spin_said, count),
         }
     }
 

@@ -13,6 +13,13 @@ fn drop_front(bytes: &mut Vec<u8>, count: usize)
     bytes.truncate(left);
 }
 
+/// Drops so many of the first bytes, or all.
+pub(crate) fn drop_sent(bytes: &mut Vec<u8>, count: usize)
+    ensures { bytes.new.items ≡ drop count bytes.old.items }
+{
+    drop_front(bytes, count.min(bytes.len()));
+}
+
 /// Takes the first bytes out, as many as there is room for.
 pub(crate) fn take_front(bytes: &mut Vec<u8>, into: &mut [u8]) -> usize
     ensures count { result ≡ min (length bytes.old.items) (length into.old) }
