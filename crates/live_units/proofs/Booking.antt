@@ -1,5 +1,5 @@
 -- The book that stands at the end of a unit.
-use Rattle.std.proofs.Common.{◌≡◌, ℕ, Bool, true, false, cond, List, [], ◌++◌, take, Option, refl, sym, ap, ◌∙◌}
+use Rattle.std.proofs.Common.{◌≡◌, ℕ, Bool, true, false, cond, List, [], ◌++◌, take, Option, sym, ap, ◌∙◌}
 use Rattle.std.specs.List.{AllByRecursion}
 use Rattle.pitch_fields.specs.Fields.{AreBytes}
 use Rattle.pitch_model.specs.Book.{Book, book_after}

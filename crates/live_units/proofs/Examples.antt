@@ -1,7 +1,8 @@
--- Worked examples of what is printed of a unit, computed by the definitions. What came stands
--- newest first.
+-- Worked examples of what is printed of a unit and of two, computed by the definitions. What came
+-- stands newest first.
 use Rattle.std.proofs.Common.{◌≡◌, ℕ, true, false, List, [], ◌∷◌, ◌++◌, refl, codes}
 use Rattle.std.specs.Fmt.{digits}
+use Rattle.unit_packets.specs.Blocks.{Block}
 use Rattle.unit_packets.specs.Cutting.{blocks_of, blocks_by, rest_of, rest_by}
 use Rattle.unit_packets.specs.Judging.{judge, messages_end}
 use Rattle.pitch_messages.specs.Raw.{raws_of}
@@ -10,8 +11,12 @@ use Rattle.pitch_model.specs.Reach.{reach_of, held_count}
 use Rattle.session_ends.specs.Items.{stream_items}
 use Rattle.feed_lines.specs.Follow.{block_line}
 use Rattle.feed_lines.specs.Show.{number_field}
-use Rattle.client_end.specs.Came.{Came, EndSetup, Heard, GrpTook, SpinMade, SpinTook, Second}
+use Rattle.stream_print.specs.Rising.{named_below}
+use Rattle.client_end.specs.Came.{Came, EndSetup, Heard, SpinCut, SpinMade, SpinTook, Second}
+use Rattle.sending_end.specs.declared.session.Session.TheVariants.{Proxy, SpinServer}
+use Rattle.live_units.specs.Coming.{LiveSetup, UnitCame, came_to, has_book, has_unit, live_lines, passed_of, stands_at, to_unit, with_blocks, with_came, with_datagram, with_loss}
 use Rattle.live_units.specs.LiveText.{came_text, image_line, is_told_of}
+use Rattle.live_units.specs.Units.{waits_then}
 
 abbrev seven : EndSetup
 seven = record {
@@ -67,3 +72,78 @@ of_a_block = refl
 of_a_connection : is_told_of seven (SpinTook accepted ∷ SpinMade ∷ []) ≡ false
 unfolding stream_items blocks_of blocks_by rest_of rest_by judge messages_end raws_of session_reads reach_of
 of_a_connection = refl
+
+-- ---- Two units
+-- units 7 and 2 are listened to
+abbrev both : LiveSetup
+both = record { units = 7 ∷ 2 ∷ []; account = seven.account; hold = 10 }
+
+-- where none is named, every unit is
+abbrev every : LiveSetup
+every = record both { units = [] }
+
+every_unit_is : (has_unit both 3 ≡ false) × (has_unit every 3 ≡ true)
+every_unit_is = (refl, refl)
+
+abbrev block : ℕ → ℕ → Block
+block unit sequence = record { unit = unit; sequence = sequence; raws = delete ∷ [] }
+
+-- the first packet of unit 7, one of unit 3, the first of unit 2, and the third of unit 7, whose
+-- second was lost
+abbrev with_a_loss : List Block
+with_a_loss = block 7 1 ∷ block 3 1 ∷ block 2 1 ∷ block 7 3 ∷ []
+
+abbrev came_with_a_loss : List UnitCame
+came_with_a_loss = with_blocks both with_a_loss []
+
+-- that of unit 3 is passed over, and has no number
+lines_with_a_loss : live_lines both came_with_a_loss ≡ codes "block 1 unit 7 first 1 count 1; current 1\n" ++ codes "block 2 unit 2 first 1 count 1; current 1\n" ++ codes "block 3 unit 7 first 3 count 1; behind 1 of 3\n"
+unfolding reach_of held_count block_line digits
+lines_with_a_loss = refl
+
+-- each unit has what came to it
+to_seven : came_to 7 came_with_a_loss ≡ packet 3 ∷ packet 1 ∷ []
+to_seven = refl
+
+-- those that a block came to have a book, that of unit 2 before that of unit 7
+by_rising_number : named_below (has_book both came_with_a_loss) 8 ≡ 2 ∷ 7 ∷ []
+unfolding reach_of held_count named_below
+by_rising_number = refl
+
+of_silence_there_is_none : has_book both [] 7 ≡ false
+unfolding reach_of
+of_silence_there_is_none = refl
+
+-- ---- A datagram
+-- heartbeats of units 7 and 3, and a byte behind them, which no block has
+abbrev beats : List ℕ
+beats = 8 ∷ 0 ∷ 0 ∷ 7 ∷ 1 ∷ 0 ∷ 0 ∷ 0 ∷ 8 ∷ 0 ∷ 0 ∷ 3 ∷ 1 ∷ 0 ∷ 0 ∷ 0 ∷ 255 ∷ []
+
+a_datagram_passes : passed_of both beats ≡ record { heard = 1; others = 1; rest = 1 }
+unfolding blocks_of blocks_by rest_of rest_by judge messages_end raws_of
+a_datagram_passes = refl
+
+a_datagram_came : with_datagram both beats [] ≡ to_unit 7 (Heard (record { unit = 7; sequence = 1; raws = [] })) ∷ []
+unfolding blocks_of blocks_by rest_of rest_by judge messages_end raws_of
+a_datagram_came = refl
+
+-- ---- Sessions of two units
+-- a connection of unit 7 is none of unit 2, and none is of a unit that is not listened to
+abbrev one_made : List UnitCame
+one_made = with_came both (to_unit 3 SpinMade) (with_came both (to_unit 7 SpinMade) [])
+
+it_stands : (stands_at both 7 SpinServer one_made ≡ true) × ((stands_at both 7 Proxy one_made ≡ false) × (stands_at both 2 SpinServer one_made ≡ false))
+it_stands = (refl, (refl, refl))
+
+of_no_other : stands_at both 3 SpinServer one_made ≡ false
+of_no_other = refl
+
+a_loss_ends_it : stands_at both 7 SpinServer (with_loss both 7 one_made) ≡ false
+a_loss_ends_it = refl
+
+-- what waited goes with it; for a unit that is not listened to, what is said is nothing
+what_waited_is_dropped : waits_then both 7 SpinCut one_made SpinServer (1 ∷ 2 ∷ []) ≡ []
+what_waited_is_dropped = refl
+
+nothing_is_said : waits_then both 3 SpinMade [] SpinServer [] ≡ []
+nothing_is_said = refl

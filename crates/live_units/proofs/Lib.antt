@@ -1,4 +1,14 @@
 mod Examples
 pub mod Booking
+pub mod Books
+pub mod Ending
+pub mod Following
+pub mod Hearing
+pub mod Listening
+pub mod Losing
 pub mod Moving
 pub mod Passing
+pub mod Quiet
+pub mod Routing
+pub mod Taking
+pub mod Waits

@@ -1,5 +1,5 @@
 -- The line that tells that a unit's reach has moved.
-use Rattle.std.proofs.Common.{◌≡◌, ℕ, Bool, List, [], eqb, sym, ap, ◌∙◌}
+use Rattle.std.proofs.Common.{◌≡◌, ℕ, List, [], eqb, sym, ap, ◌∙◌}
 use Rattle.std.proofs.lemmas.Bool.{cond-true, cond-false, eq-eqb, ne_eqb}
 use Rattle.pitch_model.specs.History.{Entry}
 use Rattle.pitch_model.specs.Reach.{reach}

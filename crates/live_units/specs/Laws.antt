@@ -1,9 +1,11 @@
 -- What is printed where only blocks came.
-use Rattle.std.specs.Prelude.{◌≡◌, ℕ, ◌+◌, ◌==◌, List, length, map, filter}
+use Rattle.std.specs.Prelude.{◌≡◌, ◌<◌, ℕ, ◌+◌, ◌==◌, List, [], ◌++◌, length, map, filter}
+use Rattle.std.specs.List.{AllByRecursion}
 use Rattle.unit_packets.specs.Blocks.{Block}
 use Rattle.pitch_model.specs.History.{Raw}
-use Rattle.feed_lines.specs.Follow.{line_after, unit_text}
+use Rattle.feed_lines.specs.Follow.{follow_text, line_after, unit_text}
 use Rattle.client_end.specs.Came.{Came, EndSetup, Heard}
+use Rattle.live_units.specs.Coming.{LiveSetup, has_unit, live_books, live_lines, with_blocks}
 use Rattle.live_units.specs.LiveText.{came_text, end_book}
 
 -- of some blocks, the newest first, those of a unit came to it
@@ -20,3 +22,15 @@ LinesAreFollows = (s : EndSetup) (blocks : List Block) (block : Block) → block
 abbrev pub BooksAreFollows : Type 0
 BooksAreFollows = (s : EndSetup) (Vs : ℕ → List Raw) (blocks : List Block)
     → end_book s (Vs s.unit) (only_blocks s.unit blocks) ≡ unit_text s.hold Vs blocks s.unit
+
+-- of some blocks, those whose units are listened to
+abbrev pub listened_of : LiveSetup → List Block → List Block
+listened_of s blocks = filter (λ block. has_unit s block.unit) blocks
+
+-- where blocks alone came to the units of a client, the oldest first, each of which names its unit
+-- by one byte, the whole text is that of `follow` for those whose units are listened to
+abbrev pub TextIsFollows : Type 0
+TextIsFollows = (s : LiveSetup) (Vs : ℕ → List Raw) (blocks : List Block)
+    → AllByRecursion (λ block. block.unit < 256) blocks
+    → live_lines s (with_blocks s blocks []) ++ live_books s Vs (with_blocks s blocks [])
+    ≡ follow_text s.hold Vs (listened_of s blocks)

@@ -1,4 +1,7 @@
+pub mod Coming
 pub mod Failures
 pub mod Laws
 pub mod LiveText
+pub mod Places
 pub mod Standing
+pub mod Units

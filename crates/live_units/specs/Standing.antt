@@ -1,6 +1,6 @@
 -- A unit of a live client, and what came to it.
-use Rattle.std.specs.Prelude.{◌≡◌, ◌⊎◌, ℕ, List, [], ◌∷◌, ◌++◌, Option, Result, OnOk, OnErr, IfOk}
-use Rattle.std.specs.Prelude.{if◌then◌else◌}
+use Rattle.std.specs.Prelude.{◌≡◌, ◌≢◌, ◌⊎◌, ℕ, List, [], ◌∷◌, ◌++◌, Option, Result, OnOk, OnErr}
+use Rattle.std.specs.Prelude.{IfOk, drop, if◌then◌else◌}
 use Rattle.std.specs.List.{AllByRecursion, list_any}
 use Rattle.pitch_fields.specs.Fields.{AreBytes}
 use Rattle.pitch_model.specs.History.{Raw}
@@ -8,6 +8,7 @@ use Rattle.pitch_model.specs.Honest.{Honest}
 use Rattle.pitch_model.specs.Image.{image}
 use Rattle.client_end.specs.Came.{Came, EndSetup, GrpCut, SpinCut, Second, end_history}
 use Rattle.sending_end.specs.Waiting.{NoneWaits, Passes, SendingStands, WaitsStill, lost, took}
+use Rattle.sending_end.specs.Waiting.{waiting}
 use Rattle.sending_end.specs.declared.session.Session.{Session}
 use Rattle.stream_print.specs.Page.{Prints}
 use Rattle.stream_print.specs.Putting.{PutsSome}
@@ -46,6 +47,13 @@ pub record UnitLoses (u u' : LiveUnit) : Type 0 where
   pub stands : OfUnit u (λ s before. UnitStands s u' (SpinCut ∷ GrpCut ∷ before))
       ⊎ OfUnit u (λ s before. UnitStands s u' (SpinCut ∷ GrpCut ∷ Second ∷ before))
   pub waits : NoneWaits u'.end
+
+-- so many of the first bytes that wait for a session wait no more; all else is as before
+pub record UnitSends (session : Session) (count : ℕ) (u u' : LiveUnit) : Type 0 where
+  pub left : waiting session u'.end ≡ drop count (waiting session u.end)
+  pub others : (other : Session) → other ≢ session
+      → waiting other u'.end ≡ waiting other u.end
+  pub stands : OfUnit u (λ s before. UnitStands s u' before)
 
 -- how a session's bytes came: all that they told was heard, or the connection was lost by them
 abbrev pub IsTaken : Taken → Session → List ℕ → Came → Type 0

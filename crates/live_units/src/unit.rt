@@ -1,13 +1,14 @@
 //! A unit of a live client: its end, and what is printed of what comes to it.
 
 ghost use Rattle.std.specs.Prelude.{◌≡◌, ◌≤◌, ◌++◌, [], ◌∷◌, ℕ, List, OnOk, OnErr, IfOk, IsErr};
-ghost use Rattle.std.specs.Prelude.{Err, IsOk, None, is_some, length, min, take, drop};
+ghost use Rattle.std.specs.Prelude.{◌≢◌, Err, IsOk, None, is_some};
 ghost use Rattle.pitch_fields.specs.Limits.{most_held};
 ghost use Rattle.pitch_model.specs.History.{Entry};
 ghost use Rattle.pitch_model.specs.Reach.{reach};
 ghost use Rattle.feed_lines.specs.Follow.{line_at};
 ghost use Rattle.client_end.specs.Came.{Came, EndSetup, Heard, Second, end_after, end_history};
-ghost use Rattle.sending_end.specs.Waiting.{Passes, WaitsStill, made, ended, link_of, waiting};
+ghost use Rattle.sending_end.specs.Waiting.{NoneWaits, Passes, WaitsStill, made, ended, link_of};
+ghost use Rattle.sending_end.specs.Waiting.{waiting};
 ghost use Rattle.stream_print.specs.Sinks.{PagePrints, PagePrintsSuch, PutsPrefix};
 ghost use Rattle.stream_print.specs.Sinks.{PutsPrefixSuch, CountsFault};
 ghost use Rattle.live_units.specs.LiveText.{is_told_of, moved_text};
@@ -41,7 +42,8 @@ pub struct LiveUnit {
 
 impl LiveUnit {
     ghost use Rattle.live_units.specs.Standing.{UnitStands, OfUnit, ComesTo, IsTaken, TakesPiece};
-    ghost use Rattle.live_units.specs.Standing.{UnitPasses, UnitStays, UnitLoses, IsBookText};
+    ghost use Rattle.live_units.specs.Standing.{UnitPasses, UnitStays, UnitLoses, UnitSends};
+    ghost use Rattle.live_units.specs.Standing.{IsBookText};
 
     /// A unit to which nothing came yet, whose client holds at most `limit` messages, from 1 to
     /// 65,536. It logs in with the account.
@@ -54,6 +56,7 @@ impl LiveUnit {
         requires { (1 ≤ limit) × (limit ≤ most_held) }
         ensures stands { IfOk result (λ u. UnitStands
             (record { unit = unit; account = account.now; hold = limit }) u []) }
+        ensures waits { IfOk result (λ u. NoneWaits u.end) }
     {
         Ok(LiveUnit {
             unit,
@@ -78,6 +81,7 @@ impl LiveUnit {
             (line_at s.hold number block.now (end_history s before)))) }
         ensures err { OnErr result (PutsPrefix O.written out.old out.new page.old.text) }
         ensures cause { CountsFault O.faults out.old out.new (result ≡ Err LiveError.Write) }
+        ensures heartbeat { block.now.raws ≡ [] → result ≢ Err LiveError.OutOfMemory }
     {
         page.make_place(out)?;
         let change = self.end.hear_block(block)?;
@@ -112,27 +116,19 @@ impl LiveUnit {
         self.end.second()
     }
 
-    /// Takes the first bytes that wait for a session, as many as there is room for, and answers how
-    /// many.
-    pub fn send(&mut self, session: Session, into: &mut [u8]) -> usize
-        ensures count { result
-            ≡ min (length (waiting session self.old.end)) (length into.old) }
-        ensures into { into.new
-            ≡ take result (waiting session self.old.end) ++ drop result into.old }
-        ensures left { waiting session self.new.end
-            ≡ drop result (waiting session self.old.end) }
-        ensures other { (other : Session) → (other ≡ session → ⊥)
-            → waiting other self.new.end ≡ waiting other self.old.end }
-        ensures stands { OfUnit self.old (λ s before. UnitStands s self.new before) }
+    /// The bytes that wait for a session.
+    pub fn waiting_bytes(&self, session: Session) -> &[u8]
+        ensures { result.now ≡ waiting session self.now.end }
     {
-        self.end.send(session, into)
+        self.end.waiting_bytes(session)
     }
 
-    /// How many bytes wait for a session.
-    pub fn waiting(&self, session: Session) -> usize
-        ensures { result ≡ length (waiting session self.now.end) }
+    /// So many of the first bytes that wait for a session were sent, and wait no more. Where fewer
+    /// wait, none do then.
+    pub fn sent(&mut self, session: Session, count: usize)
+        ensures { UnitSends session count self.old self.new }
     {
-        self.end.waiting(session)
+        self.end.sent(session, count);
     }
 
     /// Whether a connection of a session stands: one was made, and neither ended nor closed.

@@ -1,17 +1,11 @@
-use Rattle.std.proofs.Common.{◌+◌, ℕ, List, length, take, sym, ap, ◌∙◌}
-use Rattle.pitch_model.specs.Book.{book_after}
-use Rattle.pitch_model.specs.History.{Entry}
-use Rattle.pitch_model.specs.Reach.{reach}
-use Rattle.feed_lines.specs.BookText.{book_text}
-use Rattle.feed_lines.specs.Follow.{line_at}
-use Rattle.heard_items.specs.Units.{unit_history}
-use Rattle.client_end.proofs.Lines.{blocks_are_followed}
+use Rattle.live_units.proofs.Following.{books_are, lines_are, text_is}
 use Rattle.live_units.proofs.laws.blocks_alone_print_what_follow_does.Goals as goal
 
 pub returns-clause-lines : goal.returns-clause-lines
-returns-clause-lines c = λ s blocks block ours.
-    ap (λ (E : List Entry). line_at s.hold (length blocks + 1) block E) (blocks_are_followed s blocks ∙ ap (λ (unit : ℕ). unit_history unit blocks) (sym ours))
+returns-clause-lines c = lines_are
 
 pub returns-clause-books : goal.returns-clause-books
-returns-clause-books c = λ s Vs blocks.
-    ap (λ (E : List Entry). book_text s.unit (reach s.hold E) (book_after (take (reach s.hold E) (Vs s.unit)))) (blocks_are_followed s blocks)
+returns-clause-books c = books_are
+
+pub returns-clause-text : goal.returns-clause-text
+returns-clause-text c = text_is

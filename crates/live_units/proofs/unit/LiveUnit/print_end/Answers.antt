@@ -1,8 +1,8 @@
-use Rattle.std.proofs.Common.{rules, ◌≡◌, ◌++◌, ℕ, List, true, false, sym, ◌∙◌}
+use Rattle.std.proofs.Common.{rules, ◌≡◌, true, sym, ◌∙◌}
 use Rattle.pitch_model.proofs.Results.{on_err}
 use Rattle.stream_print.specs.Sinks.{PutsSuch}
 use Rattle.live_units.specs.Standing.{IsBookText, OfUnit}
-use Rattle.live_units.proofs.Booking.{no_book, has_book, book_begun}
+use Rattle.live_units.proofs.Booking.{has_book, book_begun}
 use Rattle.live_units.proofs.unit.LiveUnit.print_end.Goals as goal
 
 pub returns-clause-printed : goal.returns-clause-printed

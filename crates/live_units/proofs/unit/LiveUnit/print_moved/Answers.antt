@@ -1,10 +1,9 @@
-use Rattle.std.proofs.Common.{rules, ◌++◌, ℕ, List, [], sym, subst}
+use Rattle.std.proofs.Common.{rules, ◌++◌, ℕ, List, subst}
 use Rattle.std.proofs.lemmas.Result.{on_ok_weaker, on_err_weaker}
 use Rattle.client_end.specs.Came.{end_history}
 use Rattle.stream_print.specs.Page.{Prints}
 use Rattle.stream_print.specs.Putting.{PutsSome}
-use Rattle.stream_print.proofs.Printing.{prints_none}
-use Rattle.live_units.proofs.Moving.{not_moved, has_moved}
+use Rattle.live_units.proofs.Moving.{has_moved}
 use Rattle.live_units.proofs.unit.LiveUnit.print_moved.Goals as goal
 
 pub returns-clause-printed : goal.returns-clause-printed
