@@ -1,10 +1,12 @@
-//! Worked examples of a listener, what it hears, prints and counts, and what ends it; and of the
-//! turns of lines and peers.
+//! Worked examples of a listener, what it hears, prints and counts, and what ends it; of the turns
+//! of lines and peers; and of two units of a live client, of which one comes back by an image.
 //!
 //! There are tests alone here, in a crate of their own for the reason that `wire_tests` gives.
 #![tactic(auto)]
 
 #[cfg(test)]
 mod listening;
+#[cfg(test)]
+mod units;
 #[cfg(test)]
 mod whose_turn;
