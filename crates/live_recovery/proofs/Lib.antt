@@ -1,0 +1,7 @@
+mod Examples
+pub mod Bringing
+pub mod Counting
+pub mod Ending
+pub mod Going
+pub mod Seeing
+pub mod Starting

@@ -1,0 +1,5 @@
+pub mod Counting
+pub mod Failures
+pub mod Recovering
+pub mod Running
+pub mod Standing

@@ -1,0 +1,68 @@
+-- How a live client ends, and what it has written by then.
+use Rattle.std.specs.Prelude.{◌≡◌, ℕ, List, ◌∷◌, ◌++◌, Option, None, Some, Result, Ok, Err}
+use Rattle.pitch_io.specs.Putting.{Grows}
+use Rattle.stream_print.specs.Told.{Told}
+use Rattle.live_net.specs.LiveCalls.{LiveCall, Wait, Receive}
+use Rattle.live_net.specs.declared.net.Received.TheVariants as received
+use Rattle.live_net.specs.declared.live.WaitEnd.TheVariants as wait_end
+use Rattle.live_units.specs.Coming.{IsLiveText, BeginsLiveText, live_lines}
+use Rattle.live_recovery.specs.Counting.{counts_of}
+use Rattle.live_recovery.specs.Running.{Now, Runs, Setup}
+use Rattle.live_recovery.specs.declared.counts.Counts.{Counts}
+use Rattle.live_recovery.specs.declared.error.RecoverError.{RecoverError}
+use Rattle.live_recovery.specs.declared.error.RecoverError.TheVariants as errors
+
+-- where the net lists its calls after a run, it listed them before, and those of the run were added
+abbrev pub AddsRun : List LiveCall → Option (List LiveCall) → Option (List LiveCall) → Type 0
+AddsRun run old None = Unit {0}
+AddsRun run None (Some calls) = ⊥
+AddsRun run (Some before) (Some calls) = calls ≡ run ++ before
+
+-- a run of a live client: its calls, each of which was due, what came by them, and the text that
+-- was written
+pub record IsRun (s : Setup) (calls calls' : Option (List LiveCall)) (out : Told)
+    (run : List LiveCall) (now : Now) (text : List ℕ) : Type 0 where
+  pub adds : AddsRun run calls calls'
+  pub runs : Runs s run now
+  pub writes : Grows out.old out.new text
+
+-- the last call was a wait that was over; a call that failed
+abbrev pub IsOver : List LiveCall → Type 0
+IsOver (Wait more wait_end.Over ∷ before) = Unit {0}
+IsOver run = ⊥
+
+abbrev pub HasFailed : List LiveCall → Type 0
+HasFailed (Wait more wait_end.Failed ∷ before) = Unit {0}
+HasFailed (Receive line room bytes received.Failed ∷ before) = Unit {0}
+HasFailed run = ⊥
+
+-- at the end the whole text was written: the lines of all that came, and, for every family of
+-- venues of which each unit's history speaks honestly, the books of exactly each unit's first n
+-- messages, n its reach; and what came was counted
+pub record IsDone (s : Setup) (counts : Counts) (run : List LiveCall) (now : Now)
+    (text : List ℕ) : Type 0 where
+  pub over : IsOver run
+  pub text_is : IsLiveText s.listens now.came text
+  pub counts_are : counts ≡ counts_of s.listens run
+
+-- the net failed: the lines of all that came were written
+pub record IsCutOff (s : Setup) (run : List LiveCall) (now : Now) (text : List ℕ)
+    : Type 0 where
+  pub failed : HasFailed run
+  pub text_is : text ≡ live_lines s.listens now.came
+
+-- by the answer: else a prefix of the whole text was
+abbrev pub IsEnd : Setup → Result Counts RecoverError → List LiveCall → Now → List ℕ → Type 0
+IsEnd s (Ok counts) run now text = IsDone s counts run now text
+IsEnd s (Err errors.Net) run now text = IsCutOff s run now text
+IsEnd s (Err errors.Write) run now text = BeginsLiveText s.listens now.came text
+IsEnd s (Err errors.OutOfMemory) run now text = BeginsLiveText s.listens now.came text
+
+-- there is such a run, and such a text was written
+pub record RecoverEnds (s : Setup) (result : Result Counts RecoverError)
+    (calls calls' : Option (List LiveCall)) (out : Told) : Type 0 where
+  pub run : List LiveCall
+  pub now : Now
+  pub text : List ℕ
+  pub is_run : IsRun s calls calls' out run now text
+  pub is_end : IsEnd s result run now text

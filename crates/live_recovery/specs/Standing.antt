@@ -1,0 +1,87 @@
+-- A live client between two calls of its net.
+use Rattle.std.specs.Prelude.{◌≡◌, ◌≢◌, ℕ, List, Bool, true, false, Option, Result, Ok, Err}
+use Rattle.stream_print.specs.Told.{between}
+use Rattle.live_net.specs.LiveCalls.{LiveCall}
+use Rattle.live_turns.specs.Turning.{IsNext, TurnsStand}
+use Rattle.live_turns.specs.declared.due.Due.{Due}
+use Rattle.live_units.specs.Coming.{UnitCame, with_datagram}
+use Rattle.live_units.specs.Units.{AllWait, LiveStands, OfLive, waiting_at}
+use Rattle.live_units.specs.declared.units.LiveUnits.{LiveUnits}
+use Rattle.live_recovery.specs.Counting.{counts_of, with_counted}
+use Rattle.live_recovery.specs.Recovering.{AddsRun, IsOver, RecoverEnds}
+use Rattle.live_recovery.specs.Running.{Now, PassSeconds, Runs, Setup, ends_now, ways}
+use Rattle.live_recovery.specs.declared.error.RecoverError.{RecoverError}
+use Rattle.live_recovery.specs.declared.error.RecoverError.TheVariants as errors
+use Rattle.live_recovery.specs.declared.recovering.Recovering.{Recovering}
+
+-- what a net and a sink tell: the calls, the newest first, and the bytes that were written
+pub record Devices : Type 0 where
+  pub calls : Option (List LiveCall)
+  pub written : Option (List ℕ)
+
+abbrev pub devices : Option (List LiveCall) → Option (List ℕ) → Devices
+devices calls written = record { calls = calls; written = written }
+
+-- what came to some units, and what waits there
+abbrev pub now_of : List UnitCame → LiveUnits → Now
+now_of came units = record { came = came; waits = λ unit session. waiting_at units unit session }
+
+-- each call of the run was due; all that came by it came to the units, which printed it, and was
+-- counted
+pub record Stands (s : Setup) (start now : Devices) (r : Recovering) (run : List LiveCall)
+    (came : List UnitCame) : Type 0 where
+  pub adds : AddsRun run start.calls now.calls
+  pub runs : Runs s run (now_of came r.units)
+  pub units : LiveStands s.listens start.written now.written r.units came
+  pub counts : r.counts ≡ counts_of s.listens run
+
+-- the run goes on
+pub record GoesOn (s : Setup) (start now : Devices) (r : Recovering) : Type 0 where
+  pub run : List LiveCall
+  pub came : List UnitCame
+  pub stands : Stands s start now r run came
+  pub turns : TurnsStand (ways s) (ends_now s (now_of came r.units)) r.turns run
+
+-- and this is due next
+pub record IsAbout (s : Setup) (start now : Devices) (r : Recovering) (what : Due)
+    : Type 0 where
+  pub run : List LiveCall
+  pub came : List UnitCame
+  pub stands : Stands s start now r run came
+  pub turns : TurnsStand (ways s) (ends_now s (now_of came r.units)) r.turns run
+  pub next : IsNext (ways s) (ends_now s (now_of came r.units)) run r.turns.place what
+
+-- its last call was a wait that was over
+pub record IsAtEnd (s : Setup) (start now : Devices) (r : Recovering) : Type 0 where
+  pub run : List LiveCall
+  pub came : List UnitCame
+  pub stands : Stands s start now r run came
+  pub over : IsOver run
+
+-- by the answer of a step
+abbrev pub Steps : Setup → Result Bool RecoverError → (start now : Devices) → Recovering → Type 0
+Steps s (Ok true) start now r = GoesOn s start now r
+Steps s (Ok false) start now r = IsAtEnd s start now r
+Steps s (Err error) start now r =
+    RecoverEnds s (Err error) start.calls now.calls (between start.written now.written)
+
+-- the blocks of a datagram came, and were printed and counted
+pub record Hears (r r' : Recovering) (written written' : Option (List ℕ)) (bytes : List ℕ)
+    : Type 0 where
+  pub units : OfLive r.units written (λ s start came.
+      LiveStands s start written' r'.units (with_datagram s bytes came))
+  pub waits : AllWait r.units r'.units
+  pub counts : OfLive r.units written (λ s start came.
+      r'.counts ≡ with_counted s bytes r.counts)
+  pub turns : r'.turns ≡ r.turns
+
+-- since things were so, a second passed for each of the units below a number
+pub record SecondsPass (s : Setup) (start written : Option (List ℕ)) (first : Now) (count : ℕ)
+    (units : LiveUnits) : Type 0 where
+  pub came : List UnitCame
+  pub stands : LiveStands s.listens start written units came
+  pub passes : PassSeconds s count first (now_of came units)
+
+-- an answer that names no device
+abbrev pub NamesNoDevice : {A : Type 0} → Result A RecoverError → Type 0
+NamesNoDevice result = (result ≢ Err errors.Net) × (result ≢ Err errors.Write)

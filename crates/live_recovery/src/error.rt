@@ -1,0 +1,52 @@
+//! Why a live client ends early.
+
+use live_units::LiveError;
+use pitch_fields::OutOfMemory;
+use stream_print::PutFailed;
+
+/// Why a live client ends early.
+#[derive(Clone, Copy, PartialEq, Eq)]
+pub enum RecoverError {
+    /// The net failed, and its count of faults rose.
+    Net,
+    /// The sink failed, and its count of faults rose.
+    Write,
+    /// Memory ran out.
+    OutOfMemory,
+}
+
+impl From<PutFailed> for RecoverError {
+    ghost use Rattle.std.specs.Prelude.{◌≡◌};
+    ghost use Rattle.live_recovery.specs.declared.error.RecoverError.TheVariants as errors;
+
+    ghost from_gives = { λ _ error. error ≡ errors.Write };
+
+    fn from(_: PutFailed) -> RecoverError {
+        RecoverError::Write
+    }
+}
+
+impl From<OutOfMemory> for RecoverError {
+    ghost use Rattle.std.specs.Prelude.{◌≡◌};
+    ghost use Rattle.live_recovery.specs.declared.error.RecoverError.TheVariants as errors;
+
+    ghost from_gives = { λ _ error. error ≡ errors.OutOfMemory };
+
+    fn from(_: OutOfMemory) -> RecoverError {
+        RecoverError::OutOfMemory
+    }
+}
+
+impl From<LiveError> for RecoverError {
+    ghost use Rattle.std.specs.Prelude.{◌≡◌};
+    ghost use Rattle.live_recovery.specs.Failures.{unheard};
+
+    ghost from_gives = { λ live error. error ≡ unheard live };
+
+    fn from(error: LiveError) -> RecoverError {
+        match error {
+            LiveError::Write => RecoverError::Write,
+            LiveError::OutOfMemory => RecoverError::OutOfMemory,
+        }
+    }
+}
