@@ -1,6 +1,6 @@
 //! The sockets of the lines.
 
-ghost use Rattle.std.specs.Prelude.{◌≡◌, ◌<◌, length, IfOk};
+ghost use Rattle.std.specs.Prelude.{◌≡◌, ◌<◌, ◌≤◌, length, IfOk};
 ghost use Rattle.live_net.specs.LineCalls.{ReceiveFailed, ReceivedWithin};
 
 use crate::port::{Port, open_port};
@@ -8,9 +8,10 @@ use crate::trouble::Trouble;
 use live_net::Received;
 use mio::net::UdpSocket;
 use mio::{Interest, Registry, Token};
-use std::alloc::Global;
+use std::alloc::{AllocError, Global};
 use std::io::ErrorKind;
 use std::marker::Model;
+use std::net::IpAddr;
 use std::{io, net};
 
 /// How often a call is tried that a signal breaks off, or that tells of a datagram that was sent
@@ -24,6 +25,8 @@ const LINE: Token = Token(1);
 #[derive(Drop)]
 pub struct Lines {
     sockets: Vec<UdpSocket>,
+    // Whose datagrams are heard, and everyone's where nobody is named.
+    from: Vec<IpAddr>,
 }
 
 impl Model for Lines {
@@ -41,13 +44,28 @@ fn open_line<R: net::Net>(rt: &R, registry: &Registry, port: Port) -> io::Result
     Ok(socket)
 }
 
-// Takes the next datagram of a socket.
-fn receive(socket: &UdpSocket, into: &mut [u8]) -> io::Result<Received>
+// Takes the next datagram of a socket. One of a sender who isn't named is as one without bytes.
+fn take(socket: &UdpSocket, from: &[IpAddr], into: &mut [u8]) -> io::Result<usize>
+    ensures { IfOk result (λ count. count ≤ length into.new) }
+{
+    if from.is_empty() {
+        return socket.recv(into);
+    }
+    let (count, sender) = socket.recv_from(into)?;
+    if from.contains(&sender.ip().to_canonical()) {
+        Ok(count)
+    } else {
+        Ok(0)
+    }
+}
+
+// Takes the next datagram of a socket, where there is one.
+fn receive(socket: &UdpSocket, from: &[IpAddr], into: &mut [u8]) -> io::Result<Received>
     ensures count { IfOk result (λ answer. ReceivedWithin answer into.new) }
     ensures fails { IfOk result (λ answer. ¬ ReceiveFailed answer) }
 {
     for _ in 0..MOST_TRIES {
-        match socket.recv(into) {
+        match take(socket, from, into) {
             Ok(count) => return Ok(Received::Got(count)),
             Err(error) => match error.kind() {
                 ErrorKind::WouldBlock => return Ok(Received::Quiet),
@@ -64,30 +82,32 @@ fn receive(socket: &UdpSocket, into: &mut [u8]) -> io::Result<Received>
 }
 
 impl Lines {
-    /// Opens a line for each port, in their order. The registry's wait tells of them.
+    /// Opens a line for each port, in their order. The registry's wait tells of them. A datagram is
+    /// taken for one without bytes where senders are named and its own is none of them.
     pub fn open<R: net::Net>(
         rt: &R,
         alloc: Global,
         registry: &Registry,
         ports: &[Port],
+        from: &[IpAddr],
     ) -> Result<Lines, Trouble>
         ensures { IfOk result (λ lines. lines ≡ length ports.now) }
     {
+        let from = Vec::from_slice(alloc, from)?;
         let mut sockets = Vec::new(alloc);
         let mut line = 0u16;
         for port in ports {
             match open_line(rt, registry, *port) {
                 Ok(socket) => {
-                    if sockets.push(socket).is_err() {
-                        let reason = io::Error::from(ErrorKind::OutOfMemory);
-                        return Err(Trouble::of_wait(reason));
+                    if let Err(failed) = sockets.push(socket) {
+                        return Err(AllocError::from(failed).into());
                     }
                 }
                 Err(reason) => return Err(Trouble::of_line(line, reason)),
             }
             line = line.saturating_add(1);
         }
-        Ok(Lines { sockets })
+        Ok(Lines { sockets, from })
     }
 
     /// Takes the next datagram of a line to the start of the slice; one that is longer is cut.
@@ -97,7 +117,7 @@ impl Lines {
         ensures open { IfOk result (λ _. line < self.now) }
     {
         let answer = match self.sockets.get(usize::from(line)) {
-            Some(socket) => receive(socket, into),
+            Some(socket) => receive(socket, &self.from, into),
             None => Err(io::Error::from(ErrorKind::NotFound)),
         };
         match answer {

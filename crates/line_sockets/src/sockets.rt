@@ -13,6 +13,7 @@ use std::alloc::Global;
 use std::io::Read;
 use std::marker::Model;
 use std::net;
+use std::net::IpAddr;
 use std::os::fd::AsRawFd;
 use std::time::Clock;
 
@@ -39,11 +40,13 @@ impl<R, I> Model for LineSockets<R, I> {
 
 impl<R: net::Net + Clock + Drop, I: Read + AsRawFd + Drop> LineSockets<R, I> {
     /// Opens a line for each port, in their order, for so many seconds from now, where they are
-    /// limited. No socket takes one of the descriptors 0 to 2.
+    /// limited. Where senders are named, a datagram of another one is as one without bytes. No
+    /// socket takes one of the descriptors 0 to 2.
     pub fn open(
         rt: R,
         alloc: Global,
         ports: &[Port],
+        from: &[IpAddr],
         input: I,
         seconds: Option<u64>,
     ) -> Result<LineSockets<R, I>, Trouble>
@@ -54,7 +57,7 @@ impl<R: net::Net + Clock + Drop, I: Read + AsRawFd + Drop> LineSockets<R, I> {
         let waiter = Waiter::make(rt, alloc, ports.len(), input, seconds).map_err(
             Trouble::of_wait,
         )?;
-        let lines = Lines::open(waiter.runtime(), alloc, waiter.registry(), ports)?;
+        let lines = Lines::open(waiter.runtime(), alloc, waiter.registry(), ports, from)?;
         Ok(LineSockets {
             waiter,
             lines,

@@ -1,6 +1,8 @@
 //! What the system said.
 
+use std::alloc::AllocError;
 use std::io;
+use std::io::ErrorKind;
 
 /// What the system said of a line, or, where no line is named, of the wait.
 #[derive(Debug, Drop)]
@@ -21,5 +23,12 @@ impl Trouble {
             line: Some(line),
             reason,
         }
+    }
+}
+
+impl From<AllocError> for Trouble {
+    /// Memory was refused at the start, which is told as a trouble of the wait.
+    fn from(_: AllocError) -> Trouble {
+        Trouble::of_wait(io::Error::from(ErrorKind::OutOfMemory))
     }
 }
