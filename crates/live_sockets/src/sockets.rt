@@ -11,10 +11,10 @@ use crate::peers::Peers;
 use crate::seconds::Seconds;
 use line_sockets::{Lines, Port, Trouble, Waiter, take_low};
 use live_net::{LiveNet, PeerOpened, PeerPut, PeerTaken, Received, WaitEnd};
-use std::alloc::{AllocError, Global};
-use std::io::{ErrorKind, Read};
+use std::alloc::Global;
+use std::io::Read;
 use std::marker::Model;
-use std::net::SocketAddr;
+use std::net::{IpAddr, SocketAddr};
 use std::os::fd::AsRawFd;
 use std::time::Clock;
 use std::{io, net};
@@ -45,12 +45,14 @@ impl<R, I> Model for LiveSockets<R, I> {
 
 impl<R: net::Net + Clock + Drop, I: Read + AsRawFd + Drop> LiveSockets<R, I> {
     /// Opens a line for each port, in their order, for so many seconds from now, where they are
-    /// limited. No connection is begun yet with any of the peers. No socket takes one of the
-    /// descriptors 0 to 2.
+    /// limited. Where senders are named, a datagram of another one is as one without bytes. No
+    /// connection is begun yet with any of the peers. No socket takes one of the descriptors 0 to
+    /// 2.
     pub fn make(
         rt: R,
         alloc: Global,
         ports: &[Port],
+        from: &[IpAddr],
         peers: &[SocketAddr],
         input: I,
         seconds: Option<u64>,
@@ -63,8 +65,8 @@ impl<R: net::Net + Clock + Drop, I: Read + AsRawFd + Drop> LiveSockets<R, I> {
         let _low = take_low(&rt).map_err(Trouble::of_wait)?;
         let sockets = ports.len().saturating_add(peers.len());
         let waiter = Waiter::make(rt, alloc, sockets, input, seconds).map_err(Trouble::of_wait)?;
-        let lines = Lines::open(waiter.runtime(), alloc, waiter.registry(), ports)?;
-        let peers = Peers::make(alloc, peers).map_err(out_of_memory)?;
+        let lines = Lines::open(waiter.runtime(), alloc, waiter.registry(), ports, from)?;
+        let peers = Peers::make(alloc, peers)?;
         let seconds = Seconds::start(waiter.runtime()).map_err(Trouble::of_wait)?;
         Ok(LiveSockets {
             waiter,
@@ -104,11 +106,6 @@ impl<R: net::Net + Clock + Drop, I: Read + AsRawFd + Drop> LiveSockets<R, I> {
         }
         Ok(WaitEnd::Ready)
     }
-}
-
-// Memory was refused at the start.
-fn out_of_memory(_: AllocError) -> Trouble {
-    Trouble::of_wait(io::Error::from(ErrorKind::OutOfMemory))
 }
 
 impl<R: net::Net + Clock + Drop, I: Read + AsRawFd + Drop> LiveNet for LiveSockets<R, I> {
