@@ -1,0 +1,4 @@
+pub mod Sums
+pub mod Copies
+pub mod Standing
+pub mod Laws
