@@ -7,7 +7,7 @@ use std::alloc::Global;
 use std::process::Abort;
 use unit_packets::BlockError;
 
-const LOGIN: &[u8] = b"\x1e\0\x01\x01\0\0\0\0\x16\x010001FEED  PITCH     ";
+pub(crate) const LOGIN: &[u8] = b"\x1e\0\x01\x01\0\0\0\0\x16\x010001FEED  PITCH     ";
 
 const ADD: &[u8; 26] = b"\x1a\x22\0\0\0\0\x01\0\0\0\0\0\0\0B\x64\0ABC   \x10\x27\x01";
 

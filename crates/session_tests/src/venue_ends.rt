@@ -1,6 +1,7 @@
 //! The venue's end of a unit: the test carries the bytes.
 
 use crate::proxies::LOGIN;
+use crate::spins::LOGIN as SPIN_LOGIN;
 use pitch_text::Command;
 use std::alloc::Global;
 use std::process::Abort;
@@ -53,4 +54,37 @@ fn a_gap_is_answered_on_the_gap_line(rt: HostRuntime) {
     assert!(rt; resent.bytes() == b"\x0e\0\x01\x01\x02\0\0\0\x06\x20\x22\0\0\0".as_slice());
     end.cut_proxy(4);
     assert_eq!(rt; end.said_by_proxy(4).len(), 0);
+}
+
+// What a Spin Server says to its session, all of which is then put.
+fn says(rt: &impl Abort, end: &mut VenueEnd, said: &[u8]) {
+    assert!(rt; end.said_by_spin(9) == said);
+    end.put_by_spin(9, said.len());
+}
+
+// A client logs in, is told of an image, asks for it and is sent it block by block.
+#[test]
+fn an_image_is_pumped_by_parts(rt: HostRuntime) {
+    let mut end = made(&rt, rt.alloc());
+    assert!(rt; end.accept(&Command::Time { second: 33 }) == Ok(1));
+    end.connect_spin(9).expect(&rt, "memory");
+    end.take_spin(9, SPIN_LOGIN).expect(&rt, "memory");
+    says(&rt, &mut end, b"\x0b\0\x01\x01\0\0\0\0\x03\x02A");
+    assert_eq!(rt; end.advertise().expect(&rt, "memory"), 1);
+    says(&rt, &mut end, b"\x0e\0\x01\x01\0\0\0\0\x06\x80\x01\0\0\0");
+    end.second().expect(&rt, "memory");
+    end.take_spin(9, b"\x0e\0\x01\x01\0\0\0\0\x06\x81\x01\0\0\0")
+        .expect(&rt, "memory");
+    says(
+        &rt,
+        &mut end,
+        b"\x13\0\x01\x01\0\0\0\0\x0b\x82\x01\0\0\0\0\0\0\0A",
+    );
+    assert!(rt; end.pump_spin(9).expect(&rt, "memory"));
+    says(&rt, &mut end, b"\x0e\0\x01\x01\0\0\0\0\x06\x20\x21\0\0\0");
+    assert!(rt; !end.pump_spin(9).expect(&rt, "memory"));
+    says(&rt, &mut end, b"\x0e\0\x01\x01\0\0\0\0\x06\x83\x01\0\0\0");
+    assert!(rt; !end.pump_spin(9).expect(&rt, "memory"));
+    end.cut_spin(9);
+    assert_eq!(rt; end.said_by_spin(9).len(), 0);
 }

@@ -13,8 +13,7 @@ use Rattle.venue_end.specs.declared.setup.VenueSetup.{VenueSetup}
 abbrev pub IsShownTo : List Raw → Session (List Served) → Type 0
 IsShownTo V session = AllByRecursion (MayServe V) session.happened
 
--- whatever came, every Spin Server saw the venue's messages alone: so each image that one sends is
--- that of an advertised sequence, whole
+-- whatever came, every Spin Server saw the venue's messages alone, and no sequence past them
 abbrev pub ImagesAreTheVenues : Type 0
 ImagesAreTheVenues = (s : VenueSetup) (before : List VenueCame)
     → AllByRecursion (IsShownTo (venue_after s before).messages) (venue_after s before).spins

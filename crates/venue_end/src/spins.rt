@@ -119,6 +119,9 @@ impl SessionTable<SpinServer> {
             → more ≡ runs_on s (session_of id sessions)) }
         ensures err { OnErr result ((s : VenueSetup) (sessions : List (Session (List Served)))
             → TableIs IsSpinServer s self.old sessions → TableIs IsSpinServer s self.new sessions) }
+        ensures none { (s : VenueSetup) (sessions : List (Session (List Served)))
+            → TableIs IsSpinServer s self.old sessions
+            → session_of id sessions ≡ None → IsOk result }
     {
         match self.find(id) {
             None => Ok(false),

@@ -1,7 +1,7 @@
 //! The end itself: what comes to it, and what it hands out.
 
-ghost use Rattle.std.specs.Prelude.{◌≡◌, ◌≤◌, ◌+◌, ◌⊎◌, ◌++◌, [], ◌∷◌, OnOk, OnErr, IfOk, IsOk, None};
-ghost use Rattle.std.specs.Prelude.{length};
+ghost use Rattle.std.specs.Prelude.{◌≡◌, ◌≤◌, ◌+◌, ◌⊎◌, ◌++◌, [], ◌∷◌, OnOk, OnErr, IfOk, IsOk};
+ghost use Rattle.std.specs.Prelude.{None, length};
 ghost use Rattle.std.specs.List.{AllByRecursion};
 ghost use Rattle.pitch_fields.specs.Limits.{most_held};
 ghost use Rattle.unit_packets.specs.Packing.{bytes_in};
@@ -229,6 +229,8 @@ impl VenueEnd {
         ensures more { IfOk result (λ more. OfVenue self.old (λ s before.
             more ≡ runs_on s (session_of id (venue_after s before).spins))) }
         ensures err { OnErr result (StandsStill self.old self.new) }
+        ensures none { OfVenue self.old
+            (λ s before. session_of id (venue_after s before).spins ≡ None → IsOk result) }
     {
         self.spins.pump(id)
     }

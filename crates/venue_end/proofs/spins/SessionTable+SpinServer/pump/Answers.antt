@@ -7,7 +7,7 @@ use Rattle.venue_end.specs.Feeding.{runs_on}
 use Rattle.venue_end.specs.Servers.{spin_says}
 use Rattle.venue_end.specs.Sessions.{Session, happens_at}
 use Rattle.venue_end.specs.Stands.{IsSpinServer, PlaceIs}
-use Rattle.venue_end.proofs.Tables.{if_ok_map, missing_at, becomes_at, seen_at, stays_at}
+use Rattle.venue_end.proofs.Tables.{if_ok_map, missing_at, not_missing, becomes_at, seen_at, stays_at}
 use Rattle.venue_end.proofs.spins.SessionTable+SpinServer.pump.Goals as goal
 
 pub returns-in-None-clause-pumps : goal.returns-in-None-clause-pumps
@@ -29,3 +29,6 @@ returns-in-Some-clause-more c = if_ok_map _ _ c.pump.result c.pump.ensures.more 
 pub returns-in-Some-clause-err : goal.returns-in-Some-clause-err
 returns-in-Some-clause-err c = on_err_map _ _ c.pump.result c.pump.ensures.err (λ still s sessions are.
     stays_at IsSpinServer s c.args.id c.in-Some.at c.args.self.now.places.items sessions c.index_mut.result.now c.pump.new.self (sym c.find.ensures ∙ c.in-Some.is) c.index_mut.ensures.value are (still s))
+
+pub returns-in-Some-clause-none : goal.returns-in-Some-clause-none
+returns-in-Some-clause-none c = λ s sessions are none. absurd (not_missing IsSpinServer s c.args.id c.in-Some.at c.args.self.now.places.items sessions (sym c.find.ensures ∙ c.in-Some.is) are none)
