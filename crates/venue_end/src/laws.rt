@@ -3,8 +3,8 @@
 
 ghost use Rattle.venue_end.specs.Laws.{ImagesAreTheVenues};
 
-/// Whatever came, every Spin Server saw the venue's messages alone, and no sequence past them; nor was
-/// one told of a sequence past them.
+/// Whatever came, every Spin Server saw the venue's messages alone and no sequence past them, nor
+/// was one told of a sequence past them.
 pub fn images_are_the_venues()
     ensures { ImagesAreTheVenues }
 {}
