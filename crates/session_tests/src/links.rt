@@ -131,16 +131,22 @@ fn feed(rt: &impl Abort, alloc: Global, case: &Case, items: &mut ItemList) -> Op
     link.closed()
 }
 
+// Whether items tell this.
+fn tell(items: &ItemList, told: &[Told]) -> bool {
+    for (item, wanted) in items.as_slice().iter().zip(told) {
+        if told_by(item) != *wanted {
+            return false;
+        }
+    }
+    items.len() == told.len()
+}
+
 // Feeds each case to a new link, and compares what it tells and why it closes.
 fn all_are_told(rt: &impl Abort, alloc: Global, cases: &[Case]) {
     for case in cases {
         let mut items = ItemList::make(alloc);
         let closed = feed(rt, alloc, case, &mut items);
-        let mut told = Vec::new(alloc);
-        for item in items.as_slice() {
-            told.push(told_by(item)).expect(rt, "memory");
-        }
-        assert!(rt; closed == case.closed && told.as_slice() == case.tells);
+        assert!(rt; closed == case.closed && tell(&items, case.tells));
     }
 }
 

@@ -1,38 +1,30 @@
 //! An image that goes from a shelf over a server and a link to a client's items.
 
-use client_links::{Account, ItemList, SpinLink};
+use crate::links::ACCOUNT;
+use crate::spins::{server, shelf};
+use client_links::{ItemList, SpinLink};
 use heard_items::Item;
-use pitch_messages::Raw;
 use spin_path::{carry, serve};
 use spin_server::{ImageShelf, SpinServer};
+use std::alloc::Global;
 use std::process::Abort;
 
-// A login and a request, and the image of one order, over a server and a link.
-#[test]
-fn an_image_is_carried(rt: HostRuntime) {
-    let mut shelf = ImageShelf::make(rt.alloc());
-    let add = b"\x1a\x22\0\0\0\0\x07\0\0\0\0\0\0\0B\x64\0ABC   \x10\x27\x01";
-    let raw = Raw::from_bytes(add).expect(&rt, "a raw");
-    assert!(rt; shelf.pushed() < 4294967294);
-    shelf.push(&raw).expect(&rt, "memory");
-    let sequence = shelf.advertise().expect(&rt, "memory");
-    let account = Account {
-        sub: *b"0001",
-        user: *b"FEED",
-        password: *b"PITCH     ",
-    };
-    let mut accounts = Vec::new(rt.alloc());
-    accounts.push(account).expect(&rt, "memory");
-    let mut server = SpinServer::make(rt.alloc(), 1, accounts, false);
-    let mut up = Vec::new(rt.alloc());
-    let mut link = SpinLink::make(rt.alloc(), 1, &account, &mut up).expect(&rt, "memory");
-    link.ask(sequence, &mut up).expect(&rt, "memory");
-    let mut down = Vec::new(rt.alloc());
-    assert!(rt; serve(&mut server, &mut shelf, &up, &mut down).expect(&rt, "memory"));
-    assert!(rt; !serve(&mut server, &mut shelf, &[], &mut down).expect(&rt, "memory"));
-    let mut items = ItemList::make(rt.alloc());
-    carry(&mut link, &down, &mut items).expect(&rt, "memory");
-    assert_eq!(rt; items.len(), 5);
+// All that a server says to these bytes, in one block.
+fn answered(
+    rt: &impl Abort,
+    alloc: Global,
+    server: &mut SpinServer,
+    shelf: &mut ImageShelf,
+    up: &[u8],
+) -> Vec<u8> {
+    let mut down = Vec::new(alloc);
+    assert!(rt; serve(server, shelf, up, &mut down) == Ok(true));
+    assert!(rt; serve(server, shelf, &[], &mut down) == Ok(false));
+    down
+}
+
+// Whether the last items are those of the image of one order through 1.
+fn are_of_the_image(items: &ItemList) -> bool {
     let reply = matches!(
         items.get(2),
         Some(Item::SpinReply {
@@ -41,7 +33,35 @@ fn an_image_is_carried(rt: HostRuntime) {
             status: b'A'
         })
     );
-    assert!(rt; reply);
     let finished = matches!(items.get(4), Some(Item::SpinFinished { sequence: 1 }));
-    assert!(rt; finished);
+    reply && finished && items.len() == 5
+}
+
+// A link of unit 1 that has asked for the image through 1.
+fn asking(rt: &impl Abort, alloc: Global, up: &mut Vec<u8>) -> SpinLink {
+    let mut link = SpinLink::make(alloc, 1, &ACCOUNT, up).expect(rt, "memory");
+    link.ask(1, up).expect(rt, "memory");
+    link
+}
+
+// All that a server with the image of one order says to these bytes.
+fn said_to(rt: &impl Abort, alloc: Global, up: &[u8]) -> Vec<u8> {
+    let mut shelf = shelf(rt, alloc, 1);
+    let mut server = server(rt, alloc, false);
+    let down = answered(rt, alloc, &mut server, &mut shelf, up);
+    drop(server);
+    drop(shelf);
+    down
+}
+
+// A login and a request, and the image of one order, over a server and a link.
+#[test]
+fn an_image_is_carried(rt: HostRuntime) {
+    let mut up = Vec::new(rt.alloc());
+    let mut link = asking(&rt, rt.alloc(), &mut up);
+    let down = said_to(&rt, rt.alloc(), &up);
+    let mut items = ItemList::make(rt.alloc());
+    carry(&mut link, &down, &mut items).expect(&rt, "memory");
+    drop(link);
+    assert!(rt; are_of_the_image(&items));
 }

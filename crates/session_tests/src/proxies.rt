@@ -117,21 +117,26 @@ const CASES: [Case; 10] = [
     },
 ];
 
-// Feeds each case to a new server without a gap store, and compares what it replies.
-fn all_end_so(rt: &impl Abort, alloc: Global, cases: &[Case]) {
+// Feeds a case to a new server without a gap store, and compares what it replies.
+fn ends_so(rt: &impl Abort, alloc: Global, case: &Case) {
     let mut budget = GapBudget::make(10, 100, 10000);
     let mut gap_line = DatagramList::make(alloc);
-    for case in cases {
-        let mut server = server(rt, alloc, case.in_use);
-        let mut reply = Vec::new(alloc);
-        for piece in case.fed {
-            server
-                .feed(piece, &mut budget, NO_STORE, &mut reply, &mut gap_line)
-                .expect(rt, "memory");
-        }
-        assert!(rt; reply.as_slice() == case.reply && server.closed() == case.closed);
+    let mut server = server(rt, alloc, case.in_use);
+    let mut reply = Vec::new(alloc);
+    for piece in case.fed {
+        server
+            .feed(piece, &mut budget, NO_STORE, &mut reply, &mut gap_line)
+            .expect(rt, "memory");
     }
+    assert!(rt; reply.as_slice() == case.reply && server.closed() == case.closed);
+    drop(server);
     assert!(rt; gap_line.len() == 0);
+}
+
+fn all_end_so(rt: &impl Abort, alloc: Global, cases: &[Case]) {
+    for case in cases {
+        ends_so(rt, alloc, case);
+    }
 }
 
 pub(crate) const NO_STORE: Option<&mut GapStore> = None;
@@ -153,21 +158,32 @@ struct Proxy {
     line: DatagramList,
 }
 
-fn logged_in(rt: &impl Abort, alloc: Global, budget: GapBudget) -> Proxy {
-    let mut server = server(rt, alloc, false);
-    let mut store = filled(rt, alloc);
-    let mut budget = budget;
-    let mut line = DatagramList::make(alloc);
+// What a proxy replies to a block.
+fn fed(rt: &impl Abort, alloc: Global, proxy: &mut Proxy, block: &[u8]) -> Vec<u8> {
     let mut reply = Vec::new(alloc);
-    server
-        .feed(LOGIN, &mut budget, Some(&mut store), &mut reply, &mut line)
+    let lookup = Some(&mut proxy.store);
+    proxy
+        .server
+        .feed(
+            block,
+            &mut proxy.budget,
+            lookup,
+            &mut reply,
+            &mut proxy.line,
+        )
         .expect(rt, "memory");
-    Proxy {
-        server,
-        store,
+    reply
+}
+
+fn logged_in(rt: &impl Abort, alloc: Global, budget: GapBudget) -> Proxy {
+    let mut proxy = Proxy {
+        server: server(rt, alloc, false),
+        store: filled(rt, alloc),
         budget,
-        line,
-    }
+        line: DatagramList::make(alloc),
+    };
+    let _accepted = fed(rt, alloc, &mut proxy, LOGIN);
+    proxy
 }
 
 // The block of a request.
@@ -195,18 +211,7 @@ fn replied(unit: u8, sequence: u32, count: u16, status: u8) -> [u8; 18] {
 fn ask(rt: &impl Abort, alloc: Global, proxy: &mut Proxy, requests: &[Request]) {
     for ((unit, sequence, count), status) in requests {
         let block = asked(rt, alloc, *unit, *sequence, *count);
-        let mut reply = Vec::new(alloc);
-        let lookup = Some(&mut proxy.store);
-        proxy
-            .server
-            .feed(
-                &block,
-                &mut proxy.budget,
-                lookup,
-                &mut reply,
-                &mut proxy.line,
-            )
-            .expect(rt, "memory");
+        let reply = fed(rt, alloc, proxy, &block);
         let expected = replied(*unit, *sequence, *count, *status);
         assert!(rt; reply.as_slice() == expected.as_slice());
     }
@@ -254,6 +259,17 @@ const TEN: [Request; 11] = [
     ((1, 299, 2), b'S'),
 ];
 
+// The two messages that are accepted.
+const ANSWER: &[u8] = b"\x0c\0\x02\x01\x2b\x01\0\0\x02\x2b\x02\x2c";
+
+// Whether so many datagrams were sent, the first of which has these bytes.
+fn has_sent(line: &DatagramList, count: usize, bytes: &[u8]) -> bool {
+    match line.get(0) {
+        Some(datagram) => datagram.bytes() == bytes && line.len() == count,
+        None => false,
+    }
+}
+
 #[test]
 fn each_status_in_turn(rt: HostRuntime) {
     let mut proxy = logged_in(&rt, rt.alloc(), GapBudget::make(10, 100, 10000));
@@ -263,10 +279,8 @@ fn each_status_in_turn(rt: HostRuntime) {
     proxy.budget.tick();
     ask(&rt, rt.alloc(), &mut proxy, &[ACCEPTED]);
     assert!(rt; ask_without(&rt, rt.alloc(), &mut proxy) == Some(b'U'));
-    assert!(rt; proxy.line.len() == 11);
-    let datagram = proxy.line.get(0).expect(&rt, "a datagram");
-    let bytes = b"\x0c\0\x02\x01\x2b\x01\0\0\x02\x2b\x02\x2c";
-    assert!(rt; datagram.bytes() == bytes.as_slice());
+    assert!(rt; has_sent(&proxy.line, 11, ANSWER));
+    drop(proxy);
 }
 
 // Limits for a second, a minute and a day; what is answered to a second request, to one after 59
@@ -281,16 +295,23 @@ const LIMITS: [Limited; 5] = [
     ((1, 1, 1), *b"DDD"),
 ];
 
-fn limits_hold(rt: &impl Abort, alloc: Global, limits: &[Limited]) {
-    for ((second, minute, day), [then, late, later]) in limits {
-        let mut proxy = logged_in(rt, alloc, GapBudget::make(*second, *minute, *day));
-        ask(rt, alloc, &mut proxy, &[ACCEPTED, ((1, 299, 2), *then)]);
-        for _ in 0..59u8 {
-            proxy.budget.tick();
-        }
-        ask(rt, alloc, &mut proxy, &[((1, 299, 2), *late)]);
+// A proxy holds its limits.
+fn holds(rt: &impl Abort, alloc: Global, proxy: &mut Proxy, statuses: [u8; 3]) {
+    let [then, late, later] = statuses;
+    ask(rt, alloc, proxy, &[ACCEPTED, ((1, 299, 2), then)]);
+    for _ in 0..59u8 {
         proxy.budget.tick();
-        ask(rt, alloc, &mut proxy, &[((1, 299, 2), *later)]);
+    }
+    ask(rt, alloc, proxy, &[((1, 299, 2), late)]);
+    proxy.budget.tick();
+    ask(rt, alloc, proxy, &[((1, 299, 2), later)]);
+}
+
+fn limits_hold(rt: &impl Abort, alloc: Global, limits: &[Limited]) {
+    for ((second, minute, day), statuses) in limits {
+        let mut proxy = logged_in(rt, alloc, GapBudget::make(*second, *minute, *day));
+        holds(rt, alloc, &mut proxy, *statuses);
+        drop(proxy);
     }
 }
 
@@ -305,4 +326,5 @@ fn what_is_gone_comes_before_the_limits(rt: HostRuntime) {
     let mut proxy = logged_in(&rt, rt.alloc(), GapBudget::make(0, 0, 0));
     let requests = [((1, 100, 1), b'O'), ((1, 150, 1), b'D')];
     ask(&rt, rt.alloc(), &mut proxy, &requests);
+    drop(proxy);
 }

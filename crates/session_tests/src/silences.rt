@@ -49,23 +49,28 @@ fn turn(rt: &impl Abort, alloc: Global, server: &mut GrpServer, sent: &mut Vec<u
     assert!(rt; sent.len() == *length);
 }
 
-// Runs each case to its closing; what comes after that changes nothing.
+// Runs a case to its closing; what comes after that changes nothing.
+fn falls_silent(rt: &impl Abort, alloc: Global, case: &Case) {
+    let mut server = server(rt, alloc, false);
+    let mut sent = Vec::new(alloc);
+    for each in case.turns {
+        turn(rt, alloc, &mut server, &mut sent, each);
+    }
+    let closed = Some(Closed {
+        cause: CloseCause::Silent,
+        place: case.place,
+    });
+    assert!(rt; server.closed() == closed);
+    let length = sent.len();
+    turn(rt, alloc, &mut server, &mut sent, &(LOGIN, 0, length));
+    server.tick(&mut sent).expect(rt, "memory");
+    assert!(rt; sent.len() == length && server.closed() == closed);
+    drop(server);
+}
+
 fn all_fall_silent(rt: &impl Abort, alloc: Global, cases: &[Case]) {
     for case in cases {
-        let mut server = server(rt, alloc, false);
-        let mut sent = Vec::new(alloc);
-        for each in case.turns {
-            turn(rt, alloc, &mut server, &mut sent, each);
-        }
-        let closed = Closed {
-            cause: CloseCause::Silent,
-            place: case.place,
-        };
-        assert!(rt; server.closed() == Some(closed));
-        let length = sent.len();
-        turn(rt, alloc, &mut server, &mut sent, &(LOGIN, 0, length));
-        server.tick(&mut sent).expect(rt, "memory");
-        assert!(rt; sent.len() == length && server.closed() == Some(closed));
+        falls_silent(rt, alloc, case);
     }
 }
 

@@ -25,35 +25,55 @@ fn made(rt: &impl Abort, alloc: Global) -> VenueEnd {
     VenueEnd::make(alloc, &setup).expect(rt, "memory")
 }
 
-// Two messages are sent in one datagram; a client asks for the second, and another one for it too.
+// The seconds 33 and 34 as messages 1 and 2, and the second alone.
+const BOTH: &[u8] = b"\x14\0\x02\x01\x01\0\0\0\x06\x20\x21\0\0\0\x06\x20\x22\0\0\0";
+
+const RESENT: &[u8] = b"\x0e\0\x01\x01\x02\0\0\0\x06\x20\x22\0\0\0";
+
+const LOGGED_IN: &[u8] = b"\x0b\0\x01\0\0\0\0\0\x03\x02A";
+
+// Asks for message 2.
+const REQUEST: &[u8] = b"\x11\0\x01\0\0\0\0\0\x09\x03\x01\x02\0\0\0\x01\0";
+
+// Whether this is the only datagram.
+fn is_alone(lines: &DatagramList, bytes: &[u8]) -> bool {
+    match lines.as_slice() {
+        [datagram] => datagram.bytes() == bytes,
+        _ => false,
+    }
+}
+
+// Two messages are sent in one datagram.
+fn sends_two(rt: &impl Abort, alloc: Global, end: &mut VenueEnd) {
+    assert!(rt; end.accept(&Command::Time { second: 33 }) == Ok(1));
+    assert!(rt; end.accept(&Command::Time { second: 34 }) == Ok(2));
+    let mut lines = DatagramList::make(alloc);
+    assert!(rt; end.flush(&mut lines) == Ok(1));
+    assert!(rt; is_alone(&lines, BOTH));
+}
+
+// A client logs in and asks for the second of them, and the reply has this status.
+fn replies(rt: &impl Abort, end: &mut VenueEnd, id: u32, status: u8, line: &mut DatagramList) {
+    end.connect_proxy(id).expect(rt, "memory");
+    end.take_proxy(id, LOGIN, line).expect(rt, "memory");
+    assert!(rt; end.said_by_proxy(id) == LOGGED_IN);
+    end.put_by_proxy(id, LOGGED_IN.len());
+    end.take_proxy(id, REQUEST, line).expect(rt, "memory");
+    let reply = [18, 0, 1, 0, 0, 0, 0, 0, 10, 4, 1, 2, 0, 0, 0, 1, 0, status];
+    assert!(rt; end.said_by_proxy(id) == reply.as_slice());
+}
+
+// A client asks for a message, and another one for it too.
 #[test]
 fn a_gap_is_answered_on_the_gap_line(rt: HostRuntime) {
     let mut end = made(&rt, rt.alloc());
-    assert!(rt; end.accept(&Command::Time { second: 33 }) == Ok(1));
-    assert!(rt; end.accept(&Command::Time { second: 34 }) == Ok(2));
-    let mut lines = DatagramList::make(rt.alloc());
-    let count = end.flush(&mut lines).expect(&rt, "memory");
-    assert_eq!(rt; count, 1);
-    let both = b"\x14\0\x02\x01\x01\0\0\0\x06\x20\x21\0\0\0\x06\x20\x22\0\0\0";
-    let sent = lines.get(0).expect(&rt, "a datagram");
-    assert!(rt; sent.bytes() == both.as_slice());
+    sends_two(&rt, rt.alloc(), &mut end);
     let mut line = DatagramList::make(rt.alloc());
-    let logged_in = b"\x0b\0\x01\0\0\0\0\0\x03\x02A";
-    let request = b"\x11\0\x01\0\0\0\0\0\x09\x03\x01\x02\0\0\0\x01\0";
-    for (id, status) in [(4u32, b'A'), (5, b'S')] {
-        end.connect_proxy(id).expect(&rt, "memory");
-        end.take_proxy(id, LOGIN, &mut line).expect(&rt, "memory");
-        assert!(rt; end.said_by_proxy(id) == logged_in.as_slice());
-        end.put_by_proxy(id, 11);
-        end.take_proxy(id, request, &mut line).expect(&rt, "memory");
-        let reply = [18, 0, 1, 0, 0, 0, 0, 0, 10, 4, 1, 2, 0, 0, 0, 1, 0, status];
-        assert!(rt; end.said_by_proxy(id) == reply.as_slice());
-    }
-    assert_eq!(rt; line.len(), 1);
-    let resent = line.get(0).expect(&rt, "a datagram");
-    assert!(rt; resent.bytes() == b"\x0e\0\x01\x01\x02\0\0\0\x06\x20\x22\0\0\0".as_slice());
+    replies(&rt, &mut end, 4, b'A', &mut line);
+    replies(&rt, &mut end, 5, b'S', &mut line);
+    assert!(rt; is_alone(&line, RESENT));
     end.cut_proxy(4);
-    assert_eq!(rt; end.said_by_proxy(4).len(), 0);
+    assert!(rt; end.said_by_proxy(4).is_empty());
 }
 
 // What a Spin Server says to its session, all of which is then put.
