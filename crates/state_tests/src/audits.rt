@@ -1,9 +1,8 @@
 //! Audits: verdicts on reports, a gap in a log, and inputs that are refused.
 
-use pitch_fields::OutOfMemory;
 use run_audit::{Audit, AuditError, AuditFault, FoundGap, InputError, Verdict, audit_input};
-use std::alloc::{AllocError, Global};
-use std::test::*;
+use std::alloc::Global;
+use std::process::Abort;
 use unit_packets::{BlockError, BlockFault, view_block};
 
 // The time 34200 of unit 1, as its first message and as its second.
@@ -80,18 +79,27 @@ const LONG_REPORTS: [(&str, Verdict); 6] = [
     ),
 ];
 
+// Logs a block, and answers why it is refused.
+fn log_one(rt: &impl Abort, alloc: Global, audit: &mut Audit, bytes: &[u8]) -> Option<AuditError> {
+    let view = view_block(bytes).expect(rt, "a block");
+    let block = view.to_block(alloc).expect(rt, "memory");
+    audit.log(&block).err()
+}
+
 // Logs blocks one after the other, up to the first that is refused.
-fn log_of(alloc: Global, blocks: &[&[u8]]) -> Result<(Audit, Option<AuditError>), OutOfMemory> {
-    let mut audit = Audit::make(alloc);
+fn log_all(
+    rt: &impl Abort,
+    alloc: Global,
+    audit: &mut Audit,
+    blocks: &[&[u8]],
+) -> Option<AuditError> {
     for bytes in blocks {
-        if let Ok(view) = view_block(bytes) {
-            let block = view.to_block(alloc)?;
-            if let Err(error) = audit.log(&block) {
-                return Ok((audit, Some(error)));
-            }
+        let error = log_one(rt, alloc, audit, bytes);
+        if error.is_some() {
+            return error;
         }
     }
-    Ok((audit, None))
+    None
 }
 
 // Whether each report has its verdict.
@@ -101,63 +109,78 @@ fn are_judged(audit: &Audit, reports: &[(&str, Verdict)]) -> bool {
     })
 }
 
-#[test]
-fn reports_of_a_log_of_one_block(rt: HostRuntime) -> Result<(), Fail> {
-    let (audit, error) = log_of(rt.alloc(), &[FIRST])?;
-    assert!(rt; error.is_none());
-    assert!(rt; are_judged(&audit, &REPORTS));
-    Ok(())
+// The blocks are logged up to this error, and then each report has its verdict.
+fn judges(
+    rt: &impl Abort,
+    alloc: Global,
+    blocks: &[&[u8]],
+    error: Option<AuditError>,
+    reports: &[(&str, Verdict)],
+) {
+    let mut audit = Audit::make(alloc);
+    assert!(rt; log_all(rt, alloc, &mut audit, blocks) == error);
+    assert!(rt; are_judged(&audit, reports));
 }
 
 #[test]
-fn reports_with_orders_and_statuses(rt: HostRuntime) -> Result<(), Fail> {
-    let (audit, error) = log_of(rt.alloc(), &[FIRST, HEARTBEAT, ORDER_AND_STATUS])?;
-    assert!(rt; error.is_none());
-    assert!(rt; are_judged(&audit, &LONG_REPORTS));
-    Ok(())
+fn reports_of_a_log_of_one_block(rt: HostRuntime) {
+    judges(&rt, rt.alloc(), &[FIRST], None, &REPORTS);
 }
 
 #[test]
-fn a_gap_is_not_logged(rt: HostRuntime) -> Result<(), Fail> {
-    let (audit, error) = log_of(rt.alloc(), &[SECOND])?;
-    assert!(rt;
-        error
-            == Some(AuditError::Gap {
-                sequence: 2,
-                next: 1
-            })
-    );
-    let none = "book unit 1 at 0 second - orders 0\n";
-    assert!(rt; are_judged(&audit, &[(none, Verdict::Yes { books: 1 })]));
-    let (audit, error) = log_of(rt.alloc(), &[FIRST, FIRST])?;
-    assert!(rt;
-        error
-            == Some(AuditError::Gap {
-                sequence: 1,
-                next: 2
-            })
-    );
-    assert!(rt; are_judged(&audit, &REPORTS));
-    Ok(())
+fn reports_with_orders_and_statuses(rt: HostRuntime) {
+    let blocks = [FIRST, HEARTBEAT, ORDER_AND_STATUS];
+    judges(&rt, rt.alloc(), &blocks, None, &LONG_REPORTS);
 }
 
-// An input: how many bytes its log is said to have, its log and its report.
-fn input_of(alloc: Global, size: u8, log: &[u8], text: &str) -> Result<Vec<u8>, AllocError> {
+// A report of an empty log.
+const EMPTY: [(&str, Verdict); 1] = [(
+    "book unit 1 at 0 second - orders 0\n",
+    Verdict::Yes { books: 1 },
+)];
+
+const TOO_LATE: AuditError = AuditError::Gap {
+    sequence: 2,
+    next: 1,
+};
+
+const AGAIN: AuditError = AuditError::Gap {
+    sequence: 1,
+    next: 2,
+};
+
+#[test]
+fn a_gap_is_not_logged(rt: HostRuntime) {
+    judges(&rt, rt.alloc(), &[SECOND], Some(TOO_LATE), &EMPTY);
+    judges(&rt, rt.alloc(), &[FIRST, FIRST], Some(AGAIN), &REPORTS);
+}
+
+// What is said of an input: how many bytes its log is said to have, its log and its report.
+fn said_of(
+    rt: &impl Abort,
+    alloc: Global,
+    size: u8,
+    log: &[u8],
+    text: &str,
+) -> Result<Verdict, InputError> {
     let mut bytes = Vec::new(alloc);
-    bytes.extend_from_slice(&[size, 0, 0, 0, 0, 0, 0, 0])?;
-    bytes.extend_from_slice(log)?;
-    bytes.extend_from_slice(text.as_bytes())?;
-    Ok(bytes)
+    bytes
+        .extend_from_slice(&[size, 0, 0, 0, 0, 0, 0, 0])
+        .expect(rt, "memory");
+    bytes.extend_from_slice(log).expect(rt, "memory");
+    bytes
+        .extend_from_slice(text.as_bytes())
+        .expect(rt, "memory");
+    assert!(rt; bytes.len() < 1000);
+    audit_input(alloc, &bytes)
 }
 
+const REPORT: &str = "book unit 1 at 1 second 34200 orders 0";
+
 #[test]
-fn inputs_are_judged(rt: HostRuntime) -> Result<(), Fail> {
-    let alloc = rt.alloc();
-    let text = "book unit 1 at 1 second 34200 orders 0";
-    let input = input_of(alloc, 14, FIRST, text)?;
-    assert!(rt; input.len() < 1000);
-    assert!(rt; audit_input(alloc, &input) == Ok(Verdict::Yes { books: 1 }));
-    Ok(())
+fn inputs_are_judged(rt: HostRuntime) {
+    let said = said_of(&rt, rt.alloc(), 14, FIRST, REPORT);
+    assert!(rt; said == Ok(Verdict::Yes { books: 1 }));
 }
 
 // Inputs by the size of their log, the log, and what is wrong with them.
@@ -193,16 +216,16 @@ const FAULTY: [(u8, &[u8], AuditFault); 4] = [
     ),
 ];
 
-#[test]
-fn faulty_inputs_are_refused(rt: HostRuntime) -> Result<(), Fail> {
-    let alloc = rt.alloc();
-    for (size, log, fault) in FAULTY {
-        let input = input_of(alloc, size, log, "")?;
-        assert!(rt; input.len() < 1000);
-        assert!(rt; audit_input(alloc, &input) == Err(InputError::Fault(fault)));
+fn are_refused(rt: &impl Abort, alloc: Global, faulty: &[(u8, &[u8], AuditFault)]) {
+    for (size, log, fault) in faulty {
+        let said = said_of(rt, alloc, *size, log, "");
+        assert!(rt; said == Err(InputError::Fault(*fault)));
     }
-    let seven = [0; 7];
+}
+
+#[test]
+fn faulty_inputs_are_refused(rt: HostRuntime) {
+    are_refused(&rt, rt.alloc(), &FAULTY);
     let fault = AuditFault::NoSize { has: 7 };
-    assert!(rt; audit_input(alloc, &seven) == Err(InputError::Fault(fault)));
-    Ok(())
+    assert!(rt; audit_input(rt.alloc(), &[0; 7]) == Err(InputError::Fault(fault)));
 }

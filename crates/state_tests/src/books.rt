@@ -2,7 +2,7 @@
 
 use order_book::{OrderList, StatusList, UnitBook};
 use pitch_fields::{Price, Side, Symbol};
-use pitch_messages::{Order, Raw};
+use pitch_messages::Raw;
 use std::alloc::Global;
 use std::process::Abort;
 
@@ -102,11 +102,22 @@ const ROWS: [(&[&[u8]], bool, Option<(u32, u64, bool)>); 21] = [
 fn apply_each(rt: &impl Abort, alloc: Global, rows: &[(&[&[u8]], bool, Option<(u32, u64, bool)>)]) {
     for (raws, second, want) in rows {
         let book = book_after(rt, alloc, raws);
-        let got = book.order(5).map(|order: Order| {
-            (order.quantity, order.price.ten_thousandths(), order.display)
-        });
-        assert!(rt; got == *want);
-        assert!(rt; book.second() == if *second { Some(34200) } else { None });
+        assert!(rt; has_order(&book, want));
+        assert!(rt; book.second() == second.then_some(34200));
+        drop(book);
+    }
+}
+
+// Whether order 5 has this quantity, price and display, or is not open.
+fn has_order(book: &UnitBook, want: &Option<(u32, u64, bool)>) -> bool {
+    match (book.order(5), want) {
+        (Some(order), Some((quantity, price, display))) => {
+            order.quantity == *quantity
+                && order.price.ten_thousandths() == *price
+                && order.display == *display
+        }
+        (None, None) => true,
+        _ => false,
     }
 }
 
@@ -115,41 +126,76 @@ fn messages_change_a_book(rt: HostRuntime) {
     apply_each(&rt, rt.alloc(), &ROWS);
 }
 
-#[test]
-fn levels_and_best_prices(rt: HostRuntime) {
+// Whether order 5 alone makes the levels of IBM: four shares to buy at 11.00.
+fn has_one_level(book: &UnitBook) -> bool {
     let ibm = Symbol::from_six(*b"IBM   ");
     let high = Price::from_long(110_000);
+    book.level(ibm, Side::Buy, high) == 4
+        && book.level(ibm, Side::Buy, Price::from_long(100_000)) == 0
+        && book.level(ibm, Side::Sell, high) == 0
+        && book.best(ibm, Side::Buy) == Some((high, 4))
+}
+
+fn has_no_bid(book: &UnitBook) -> bool {
+    book.best(Symbol::from_six(*b"IBM   "), Side::Buy).is_none()
+}
+
+#[test]
+fn levels_and_best_prices(rt: HostRuntime) {
     let book = book_after(&rt, rt.alloc(), &[ADD, MODIFY, REDUCE]);
-    assert!(rt; book.level(ibm, Side::Buy, high) == 4);
-    assert!(rt; book.level(ibm, Side::Buy, Price::from_long(100_000)) == 0);
-    assert!(rt; book.level(ibm, Side::Sell, high) == 0);
-    assert!(rt; book.best(ibm, Side::Buy) == Some((high, 4)));
+    assert!(rt; has_one_level(&book));
+    drop(book);
     let empty = book_after(&rt, rt.alloc(), &[ADD, MODIFY, REDUCE, REDUCE_REST]);
-    assert!(rt; empty.best(ibm, Side::Buy).is_none());
+    assert!(rt; has_no_bid(&empty));
+    drop(empty);
+}
+
+// Gives a book of two orders room for ten more.
+fn make_room(rt: &impl Abort, book: &mut UnitBook) {
+    assert!(rt; book.len() == 2);
+    assert!(rt; book.reserve(10).is_ok());
+    assert!(rt; book.spare() >= 10);
+}
+
+// A copy of the book that messages leave, which has room for ten orders more.
+fn copy_with_room(rt: &impl Abort, alloc: Global, raws: &[&[u8]]) -> UnitBook {
+    let mut book = book_after(rt, alloc, raws);
+    make_room(rt, &mut book);
+    let copy = book.copy().expect(rt, "memory");
+    drop(book);
+    copy
+}
+
+// Whether orders have these ids, in this order.
+fn have_ids(orders: &OrderList, ids: &[u64]) -> bool {
+    for (order, id) in orders.as_slice().iter().zip(ids) {
+        if order.id != *id {
+            return false;
+        }
+    }
+    orders.len() == ids.len()
 }
 
 #[test]
 fn a_copy_and_its_orders_by_id(rt: HostRuntime) {
-    let mut book = book_after(&rt, rt.alloc(), &[ADD, ADD_OTHER]);
-    assert!(rt; book.len() == 2);
-    assert!(rt; book.reserve(10).is_ok());
-    assert!(rt; book.spare() >= 10);
-    let copy = book.copy().expect(&rt, "memory");
+    let copy = copy_with_room(&rt, rt.alloc(), &[ADD, ADD_OTHER]);
     assert!(rt; copy.shares() == 110);
     let mut orders = OrderList::make(rt.alloc());
     assert!(rt; copy.orders_by_id(&mut orders).is_ok());
-    assert!(rt; orders.len() == 2);
-    for (order, id) in orders.as_slice().iter().zip([3, 5]) {
-        assert!(rt; order.id == id);
-    }
+    drop(copy);
+    assert!(rt; have_ids(&orders, &[3, 5]));
+}
+
+// Whether IBM has this status, and AAPL none.
+fn is_halted(book: &UnitBook) -> bool {
+    book.status(Symbol::from_six(*b"IBM   ")) == Some((0x48, 0x30))
+        && book.status(Symbol::from_six(*b"AAPL  ")).is_none()
 }
 
 #[test]
 fn statuses_stay_after_a_clear(rt: HostRuntime) {
     let book = book_after(&rt, rt.alloc(), &[ADD, HALT, CLEAR]);
-    assert!(rt; book.len() == 0);
-    assert!(rt; book.status(Symbol::from_six(*b"IBM   ")) == Some((0x48, 0x30)));
-    assert!(rt; book.status(Symbol::from_six(*b"AAPL  ")).is_none());
+    assert!(rt; book.len() == 0 && is_halted(&book));
     drop(book);
 }
 
@@ -162,17 +208,28 @@ fn append_copied(rt: &impl Abort, alloc: Global, raws: &[&[u8]], states: &mut St
     drop(copy);
 }
 
+// The statuses of both books below: a symbol, its halt and its short sale.
+const STATES: [(&[u8; 8], u8, u8); 3] = [
+    (b"IBM     ", b'H', b'0'),
+    (b"AAPL    ", b'H', b'R'),
+    (b"IBM     ", b'T', b'N'),
+];
+
+// Whether these are the statuses.
+fn have_states(states: &StatusList, wanted: &[(&[u8; 8], u8, u8)]) -> bool {
+    for (state, (symbol, halt, sho)) in states.as_slice().iter().zip(wanted) {
+        if state.symbol.bytes() != **symbol || state.halt != *halt || state.sho != *sho {
+            return false;
+        }
+    }
+    states.len() == wanted.len()
+}
+
 #[test]
 fn statuses_come_by_symbol(rt: HostRuntime) {
     let mut states = StatusList::make(rt.alloc());
     append_copied(&rt, rt.alloc(), &[ADD, HALT, CLEAR], &mut states);
     assert!(rt; states.len() == 1);
     append_copied(&rt, rt.alloc(), &[HALT, OTHER_HALT, TRADE], &mut states);
-    let ibm = Symbol::from_six(*b"IBM   ");
-    let aapl = Symbol::from_six(*b"AAPL  ");
-    let wanted = [(ibm, b'H', b'0'), (aapl, b'H', b'R'), (ibm, b'T', b'N')];
-    assert!(rt; states.len() == 3);
-    for (state, want) in states.as_slice().iter().zip(wanted) {
-        assert!(rt; (state.symbol, state.halt, state.sho) == want);
-    }
+    assert!(rt; have_states(&states, &STATES));
 }

@@ -3,7 +3,6 @@
 use hold_buffer::{Hold, Offer};
 use pitch_messages::Raw;
 use std::process::Abort;
-use std::test::Fail;
 
 // Offers a message under each of some sequences below 100, and compares what becomes of it.
 fn offer_all(rt: &impl Abort, hold: &mut Hold, offers: &[(u32, Offer)]) {
@@ -26,8 +25,8 @@ fn pops_one(hold: &mut Hold) -> bool {
 }
 
 #[test]
-fn a_full_hold_keeps_what_overflows_it(rt: HostRuntime) -> Result<(), Fail> {
-    let mut hold = Hold::make(rt.alloc(), 2)?;
+fn a_full_hold_keeps_what_overflows_it(rt: HostRuntime) {
+    let mut hold = Hold::make(rt.alloc(), 2).expect(&rt, "memory");
     let offers = [
         (3, Offer::Kept),
         (3, Offer::Repeat),
@@ -39,12 +38,11 @@ fn a_full_hold_keeps_what_overflows_it(rt: HostRuntime) -> Result<(), Fail> {
     offer_all(&rt, &mut hold, &[(1, Offer::Next), (1, Offer::Old)]);
     jump(&rt, &mut hold, 6);
     assert!(rt; pops_one(&mut hold));
-    Ok(())
 }
 
 #[test]
-fn a_jump_drops_what_it_passes(rt: HostRuntime) -> Result<(), Fail> {
-    let mut hold = Hold::make(rt.alloc(), 3)?;
+fn a_jump_drops_what_it_passes(rt: HostRuntime) {
+    let mut hold = Hold::make(rt.alloc(), 3).expect(&rt, "memory");
     let offers = [(9, Offer::Kept), (5, Offer::Kept), (7, Offer::Kept)];
     offer_all(&rt, &mut hold, &offers);
     assert!(rt; (hold.len(), hold.first()) == (3, Some(5)));
@@ -53,5 +51,4 @@ fn a_jump_drops_what_it_passes(rt: HostRuntime) -> Result<(), Fail> {
     assert!(rt; hold.len() == 2 && hold.pop_next().is_none());
     offer_all(&rt, &mut hold, &[(6, Offer::Next)]);
     assert!(rt; pops_one(&mut hold) && hold.len() == 1);
-    Ok(())
 }

@@ -3,7 +3,7 @@
 ghost use Rattle.std.specs.Prelude.{◌≡◌, false};
 
 use best_quotes::{Ladder, Quote, QuoteList};
-use pitch_fields::{Price, Side, Symbol};
+use pitch_fields::{Side, Symbol};
 use pitch_messages::Raw;
 use std::alloc::Global;
 use std::process::Abort;
@@ -55,6 +55,7 @@ fn quotes_of(rt: &impl Abort, alloc: Global, raws: &[&[u8]]) -> QuoteList {
     for bytes in raws {
         apply(rt, &mut ladder, bytes, &mut quotes);
     }
+    drop(ladder);
     quotes
 }
 
@@ -81,58 +82,76 @@ fn are_told(quotes: &QuoteList, rows: &[Row]) -> bool {
     true
 }
 
-#[test]
-fn adds_and_deletes_tell_the_best(rt: HostRuntime) {
-    let told = quotes_of(&rt, rt.alloc(), &[ADD_3, ADD_1, ADD_2, DELETE_1, DELETE_2]);
-    let rows: [Row; 5] = [
-        (IBM, Side::Buy, Some((99_900, 10))),
-        (IBM, Side::Buy, Some((100_000, 100))),
-        (IBM, Side::Buy, Some((100_000, 150))),
-        (IBM, Side::Buy, Some((100_000, 50))),
-        (IBM, Side::Buy, Some((99_900, 10))),
-    ];
-    assert!(rt; are_told(&told, &rows));
+// Messages from the empty book on, and the quotes that are told.
+const TOLD: [(&[&[u8]], &[Row]); 3] = [
+    (
+        &[ADD_3, ADD_1, ADD_2, DELETE_1, DELETE_2],
+        &[
+            (IBM, Side::Buy, Some((99_900, 10))),
+            (IBM, Side::Buy, Some((100_000, 100))),
+            (IBM, Side::Buy, Some((100_000, 150))),
+            (IBM, Side::Buy, Some((100_000, 50))),
+            (IBM, Side::Buy, Some((99_900, 10))),
+        ],
+    ),
+    // an id goes to another symbol: both are told, by their bytes
+    (
+        &[ADD_1, ADD_1_ACME],
+        &[
+            (IBM, Side::Buy, Some((100_000, 100))),
+            (ACME, Side::Sell, Some((40_000, 5))),
+            (IBM, Side::Buy, None),
+        ],
+    ),
+    // a clear tells each symbol, once
+    (
+        &[ADD_2, ADD_1_ACME, CLEAR, CLEAR],
+        &[
+            (IBM, Side::Buy, Some((100_000, 50))),
+            (ACME, Side::Sell, Some((40_000, 5))),
+            (ACME, Side::Sell, None),
+            (IBM, Side::Buy, None),
+        ],
+    ),
+];
+
+fn all_are_told(rt: &impl Abort, alloc: Global, cases: &[(&[&[u8]], &[Row])]) {
+    for (raws, rows) in cases {
+        let told = quotes_of(rt, alloc, raws);
+        assert!(rt; are_told(&told, rows));
+    }
 }
 
-// The symbol that loses the order and the one that gains it are both told, by their bytes.
 #[test]
-fn an_id_goes_to_another_symbol(rt: HostRuntime) {
-    let told = quotes_of(&rt, rt.alloc(), &[ADD_1, ADD_1_ACME]);
-    let rows: [Row; 3] = [
-        (IBM, Side::Buy, Some((100_000, 100))),
-        (ACME, Side::Sell, Some((40_000, 5))),
-        (IBM, Side::Buy, None),
-    ];
-    assert!(rt; are_told(&told, &rows));
+fn messages_tell_the_best(rt: HostRuntime) {
+    all_are_told(&rt, rt.alloc(), &TOLD);
 }
 
-#[test]
-fn a_clear_tells_each_symbol(rt: HostRuntime) {
-    let told = quotes_of(&rt, rt.alloc(), &[ADD_2, ADD_1_ACME, CLEAR, CLEAR]);
-    let rows: [Row; 4] = [
-        (IBM, Side::Buy, Some((100_000, 50))),
-        (ACME, Side::Sell, Some((40_000, 5))),
-        (ACME, Side::Sell, None),
-        (IBM, Side::Buy, None),
-    ];
-    assert!(rt; are_told(&told, &rows));
+// An order is reduced, and then to nothing.
+const REDUCED: [Row; 3] = [
+    (IBM, Side::Buy, Some((100_000, 50))),
+    (IBM, Side::Buy, Some((100_000, 30))),
+    (IBM, Side::Buy, None),
+];
+
+// Whether this is the best price to buy IBM.
+fn has_best(ladder: &Ladder, best: Option<(u64, u64)>) -> bool {
+    match (ladder.best(Symbol::from_eight(IBM), Side::Buy), best) {
+        (Some((price, shares)), Some(wanted)) => (price.ten_thousandths(), shares) == wanted,
+        (None, None) => true,
+        _ => false,
+    }
 }
 
 #[test]
 fn a_reduction_empties_a_level(rt: HostRuntime) {
-    let alloc = rt.alloc();
-    let symbol = Symbol::from_eight(IBM);
-    let mut ladder = Ladder::make(alloc);
-    let mut quotes = QuoteList::make(alloc);
+    let mut ladder = Ladder::make(rt.alloc());
+    let mut quotes = QuoteList::make(rt.alloc());
     apply(&rt, &mut ladder, ADD_2, &mut quotes);
     apply(&rt, &mut ladder, REDUCE_2_BY_20, &mut quotes);
-    assert!(rt; ladder.best(symbol, Side::Buy) == Some((Price::from_long(100_000), 30)));
+    assert!(rt; has_best(&ladder, Some((100_000, 30))));
     apply(&rt, &mut ladder, REDUCE_2_BY_30, &mut quotes);
-    assert!(rt; ladder.best(symbol, Side::Buy).is_none());
-    let rows: [Row; 3] = [
-        (IBM, Side::Buy, Some((100_000, 50))),
-        (IBM, Side::Buy, Some((100_000, 30))),
-        (IBM, Side::Buy, None),
-    ];
-    assert!(rt; are_told(&quotes, &rows));
+    assert!(rt; has_best(&ladder, None));
+    drop(ladder);
+    assert!(rt; are_told(&quotes, &REDUCED));
 }

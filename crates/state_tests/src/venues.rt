@@ -5,7 +5,6 @@ use pitch_messages::{Order, Raw};
 use pitch_text::{Command, CommandList, read_commands};
 use std::alloc::Global;
 use std::process::Abort;
-use std::test::*;
 use unit_packets::DatagramList;
 use venue_core::{Venue, VenueError, lost, plan_command};
 
@@ -59,23 +58,21 @@ const ONE_TOO_MUCH: Result<u32, VenueError> = Err(VenueError::TooMuch {
 });
 
 // The command that a text says.
-fn command_of(rt: &impl Abort, alloc: Global, text: &str) -> Result<Command, Fail> {
+fn command_of(rt: &impl Abort, alloc: Global, text: &str) -> Command {
     let mut commands = CommandList::make(alloc);
     assert!(rt; text.len() < 1000);
-    read_commands(text.as_bytes(), &mut commands)?;
-    match commands.as_slice() {
-        [entry] => Ok(entry.command),
-        _ => Err(Fail::from("one command")),
-    }
+    assert!(rt; read_commands(text.as_bytes(), &mut commands).is_ok());
+    assert!(rt; commands.len() == 1);
+    commands.get(0).expect(rt, "a command").command
 }
 
 #[test]
-fn each_command_of_a_session_is_answered(rt: HostRuntime) -> Result<(), Fail> {
+fn each_command_of_a_session_is_answered(rt: HostRuntime) {
     let mut venue = Venue::make(rt.alloc(), 1);
     assert!(rt; venue.last_raw().is_none());
-    play(&rt, rt.alloc(), &mut venue, &SESSION)?;
+    play(&rt, rt.alloc(), &mut venue, &SESSION);
     assert!(rt; is_over(&venue));
-    Ok(())
+    drop(venue);
 }
 
 // Lets a venue judge commands, and compares its answers.
@@ -84,12 +81,11 @@ fn play(
     alloc: Global,
     venue: &mut Venue,
     session: &[(&str, Result<u32, VenueError>)],
-) -> Result<(), Fail> {
+) {
     for (text, expected) in session {
-        let command = command_of(rt, alloc, text)?;
+        let command = command_of(rt, alloc, text);
         assert!(rt; venue.accept(&command) == *expected);
     }
-    Ok(())
 }
 
 // What the session leaves: 14 messages, the last of which ends it, a second and no order.
@@ -99,22 +95,44 @@ fn is_over(venue: &Venue) -> bool {
     (venue.next_sequence(), book.len(), book.second(), last) == (15, 0, Some(34_200), Some(0x2d))
 }
 
-#[test]
-fn a_message_is_made_ready_and_taken(rt: HostRuntime) -> Result<(), Fail> {
-    let mut venue = Venue::make(rt.alloc(), 1);
-    let add = command_of(&rt, rt.alloc(), "add 1 B 100 IBM 10.00")?;
-    assert!(rt; venue.accept(&add) == Ok(1));
-    let delete = Command::Delete { id: 1, offset: 0 };
-    let raw = venue.prepare(&delete).ok().ok_or("refused")?;
-    assert!(rt; raw.bytes() == b"\x0e\x29\0\0\0\0\x01\0\0\0\0\0\0\0".as_slice());
+const DELETE: Command = Command::Delete { id: 1, offset: 0 };
+
+const DELETION: &[u8] = b"\x0e\x29\0\0\0\0\x01\0\0\0\0\0\0\0";
+
+// Makes ready the deletion of order 1, takes it as message 2, and then it is refused.
+fn takes_ready(rt: &impl Abort, venue: &mut Venue) {
+    let raw = venue.prepare(&DELETE).expect(rt, "it is accepted");
+    assert!(rt; raw.bytes() == DELETION);
     assert!(rt; venue.next_sequence() == 2);
     assert!(rt; venue.take_ready() == 2);
-    assert!(rt; venue.prepare(&delete).err() == Some(VenueError::UnknownId));
-    let mut out = DatagramList::make(rt.alloc());
-    assert!(rt; venue.flush(&mut out)? == 1);
-    let datagram = out.get(0).ok_or("a datagram")?;
-    assert!(rt; datagram.bytes().len() == 8 + 26 + 14);
-    Ok(())
+    assert!(rt; venue.prepare(&DELETE).err() == Some(VenueError::UnknownId));
+}
+
+// Sends what was accepted, in datagrams of these sizes.
+fn sends(rt: &impl Abort, alloc: Global, venue: &mut Venue, sizes: &[usize]) {
+    let mut out = DatagramList::make(alloc);
+    let count = venue.flush(&mut out).expect(rt, "memory");
+    assert!(rt; count as usize == sizes.len() && have_sizes(&out, sizes));
+}
+
+// Whether the datagrams have these sizes.
+fn have_sizes(out: &DatagramList, sizes: &[usize]) -> bool {
+    for (datagram, size) in out.as_slice().iter().zip(sizes) {
+        if datagram.len() != *size {
+            return false;
+        }
+    }
+    out.len() == sizes.len()
+}
+
+#[test]
+fn a_message_is_made_ready_and_taken(rt: HostRuntime) {
+    let add = command_of(&rt, rt.alloc(), "add 1 B 100 IBM 10.00");
+    let mut venue = Venue::make(rt.alloc(), 1);
+    assert!(rt; venue.accept(&add) == Ok(1));
+    takes_ready(&rt, &mut venue);
+    sends(&rt, rt.alloc(), &mut venue, &[8 + 26 + 14]);
+    drop(venue);
 }
 
 // Symbols and participants, and whether an add may have them.
@@ -130,29 +148,43 @@ const NAMES: [(&[u8; 8], &[u8; 4], bool); 9] = [
     (b"IBM     ", b" A  ", false),
 ];
 
+// An add with these names.
+fn add_of(symbol: &[u8; 8], participant: &[u8; 4]) -> Command {
+    let order = Order {
+        id: 1,
+        side: Side::Buy,
+        quantity: 1,
+        symbol: Symbol::from_eight(*symbol),
+        price: Price::from_long(1),
+        display: true,
+        participant: *participant,
+    };
+    Command::Add { order, offset: 0 }
+}
+
+// What a new venue answers.
+fn first_answer(alloc: Global, command: &Command) -> Result<u32, VenueError> {
+    let mut venue = Venue::make(alloc, 1);
+    let answer = venue.accept(command);
+    drop(venue);
+    answer
+}
+
+fn are_judged(rt: &impl Abort, alloc: Global, names: &[(&[u8; 8], &[u8; 4], bool)]) {
+    for (symbol, participant, allowed) in names {
+        let answer = first_answer(alloc, &add_of(symbol, participant));
+        let wanted = if *allowed {
+            Ok(1)
+        } else {
+            Err(VenueError::BadSymbol)
+        };
+        assert!(rt; answer == wanted);
+    }
+}
+
 #[test]
 fn an_add_needs_well_formed_names(rt: HostRuntime) {
-    for (symbol, participant, allowed) in NAMES {
-        let mut venue = Venue::make(rt.alloc(), 1);
-        let order = Order {
-            id: 1,
-            side: Side::Buy,
-            quantity: 1,
-            symbol: Symbol::from_eight(*symbol),
-            price: Price::from_long(1),
-            display: true,
-            participant: *participant,
-        };
-        let answer = venue.accept(&Command::Add { order, offset: 0 });
-        assert!(rt;
-            answer
-                == if allowed {
-                    Ok(1)
-                } else {
-                    Err(VenueError::BadSymbol)
-                }
-        );
-    }
+    are_judged(&rt, rt.alloc(), &NAMES);
 }
 
 // Commands that are accepted and then sent; and what the venue's heartbeat is before they are sent
@@ -184,36 +216,29 @@ const SENT: [&[u8]; 3] = [
     b"\x0e\0\x01\x01\x05\0\0\0\x06\x20\x99\x85\0\0",
 ];
 
-// Accepts commands and sends them. Answers the heartbeats before they are sent and after it.
-fn flush_after(
-    rt: &impl Abort,
-    alloc: Global,
-    venue: &mut Venue,
-    texts: &[&str],
-    out: &mut DatagramList,
-) -> Result<([u8; 8], [u8; 8]), Fail> {
+// Accepts commands.
+fn accept_all(rt: &impl Abort, alloc: Global, venue: &mut Venue, texts: &[&str]) {
     for text in texts {
-        let command = command_of(rt, alloc, text)?;
-        venue.accept(&command)?;
+        let command = command_of(rt, alloc, text);
+        assert!(rt; venue.accept(&command).is_ok());
     }
-    let before = venue.beat();
-    venue.flush(out)?;
-    Ok((before, venue.beat()))
 }
 
-// Does so with each of these commands, and compares the heartbeats.
+// Does so with each of these commands and sends them, and compares the heartbeats.
 fn flush_each(
     rt: &impl Abort,
     alloc: Global,
     flushes: &[(&[&str], &[u8; 8], &[u8; 8])],
     out: &mut DatagramList,
-) -> Result<(), Fail> {
+) {
     let mut venue = Venue::make(alloc, 1);
     for (texts, before, after) in flushes {
-        let beats = flush_after(rt, alloc, &mut venue, texts, out)?;
-        assert!(rt; beats == (**before, **after));
+        accept_all(rt, alloc, &mut venue, texts);
+        assert!(rt; venue.beat() == **before);
+        assert!(rt; venue.flush(out).is_ok());
+        assert!(rt; venue.beat() == **after);
     }
-    Ok(())
+    drop(venue);
 }
 
 // Whether these datagrams were sent.
@@ -227,35 +252,27 @@ fn are_sent(out: &DatagramList, expected: &[&[u8]]) -> bool {
 }
 
 #[test]
-fn each_flush_sends_what_is_new(rt: HostRuntime) -> Result<(), Fail> {
+fn each_flush_sends_what_is_new(rt: HostRuntime) {
     let mut out = DatagramList::make(rt.alloc());
-    flush_each(&rt, rt.alloc(), &FLUSHES, &mut out)?;
+    flush_each(&rt, rt.alloc(), &FLUSHES, &mut out);
     assert!(rt; are_sent(&out, &SENT));
-    Ok(())
 }
 
-// Whether the datagrams have these sizes.
-fn have_sizes(out: &DatagramList, sizes: &[usize]) -> bool {
-    for (datagram, size) in out.as_slice().iter().zip(sizes) {
-        if datagram.len() != *size {
-            return false;
-        }
+// Accepts so many seconds from the first on.
+fn accept_seconds(rt: &impl Abort, venue: &mut Venue, count: u32) {
+    for second in 0..count {
+        assert!(rt; venue.accept(&Command::Time { second }) == Ok(second + 1));
     }
-    out.len() == sizes.len()
 }
 
 #[test]
-fn a_full_datagram_is_followed_by_another(rt: HostRuntime) -> Result<(), Fail> {
+fn a_full_datagram_is_followed_by_another(rt: HostRuntime) {
     let mut venue = Venue::make(rt.alloc(), 1);
-    let mut out = DatagramList::make(rt.alloc());
     // 232 messages of 6 bytes fill a datagram of 1,400 bytes.
-    for second in 0..465 {
-        assert!(rt; venue.accept(&Command::Time { second }) == Ok(second + 1));
-    }
-    assert!(rt; venue.flush(&mut out) == Ok(3));
-    assert!(rt; have_sizes(&out, &[1400, 1400, 14]));
+    accept_seconds(&rt, &mut venue, 465);
+    sends(&rt, rt.alloc(), &mut venue, &[1400, 1400, 14]);
     assert!(rt; venue.beat() == *b"\x08\0\0\x01\xd2\x01\0\0");
-    Ok(())
+    drop(venue);
 }
 
 // Some commands of the plan, as text says them.
@@ -277,57 +294,82 @@ const PLAN: [(u64, u8, u32, &str); 10] = [
     ),
 ];
 
-#[test]
-fn the_plan_is_made_of_its_number_unit_and_index(rt: HostRuntime) -> Result<(), Fail> {
-    for (number, unit, index, text) in PLAN {
-        assert!(rt; index >= 1);
-        let command = command_of(&rt, rt.alloc(), text)?;
-        assert!(rt; plan_command(number, unit, index) == command);
+fn are_planned(rt: &impl Abort, alloc: Global, plan: &[(u64, u8, u32, &str)]) {
+    for (number, unit, index, text) in plan {
+        assert!(rt; *index >= 1);
+        let command = command_of(rt, alloc, text);
+        assert!(rt; plan_command(*number, *unit, *index) == command);
     }
-    Ok(())
 }
 
-// The orders and the shares that the first commands leave.
+#[test]
+fn the_plan_is_made_of_its_number_unit_and_index(rt: HostRuntime) {
+    are_planned(&rt, rt.alloc(), &PLAN);
+}
+
+// The number and the unit of a plan, how many of its first commands are accepted, and the orders
+// and the shares that these leave.
+const ACCEPTED: [(u64, u8, u32, u32, u64); 5] = [
+    (0, 1, 16, 5, 1078),
+    (0, 2, 16, 5, 1083),
+    (0, 1, 200, 62, 18_219),
+    (1, 1, 2000, 625, 181_375),
+    (1, 2, 2000, 625, 182_000),
+];
+
+// Accepts the first commands of a plan.
+fn accept_plan(rt: &impl Abort, venue: &mut Venue, number: u64, unit: u8, count: u32) {
+    for index in 1..=count {
+        assert!(rt; venue.accept(&plan_command(number, unit, index)) == Ok(index));
+    }
+}
+
+fn are_accepted(rt: &impl Abort, alloc: Global, plans: &[(u64, u8, u32, u32, u64)]) {
+    for (number, unit, count, orders, shares) in plans {
+        let mut venue = Venue::make(alloc, *unit);
+        accept_plan(rt, &mut venue, *number, *unit, *count);
+        assert!(rt; venue.book().len() == *orders && venue.book().shares() == *shares);
+        drop(venue);
+    }
+}
+
 #[test]
 fn a_venue_accepts_the_plan(rt: HostRuntime) {
-    let cases = [
-        (0, 1, 16, 5, 1078),
-        (0, 2, 16, 5, 1083),
-        (0, 1, 200, 62, 18_219),
-        (1, 1, 2000, 625, 181_375),
-        (1, 2, 2000, 625, 182_000),
-    ];
-    for (number, unit, count, orders, shares) in cases {
-        let mut venue = Venue::make(rt.alloc(), unit);
-        for index in 1..=count {
-            assert!(rt; venue.accept(&plan_command(number, unit, index)) == Ok(index));
+    are_accepted(&rt, rt.alloc(), &ACCEPTED);
+}
+
+// The number and the unit of a plan, how many copies of the first 2,000 datagrams are lost on both
+// lines, and the datagram and the line of the first of them.
+const LOSSES: [(u64, u8, u32, (u32, u8)); 4] = [
+    (0, 1, 202, (2, 2)),
+    (1, 2, 185, (5, 1)),
+    (7, 16, 211, (1, 2)),
+    (u64::MAX, 255, 189, (3, 2)),
+];
+
+// How many of these copies are lost, and the first.
+fn lost_of(number: u64, unit: u8) -> (u32, Option<(u32, u8)>) {
+    let mut count = 0u32;
+    let mut first = None;
+    for index in 1..=2000 {
+        for line in [1, 2] {
+            if lost(number, unit, index, line) {
+                count = count.wrapping_add(1);
+                first = first.or(Some((index, line)));
+            }
         }
-        assert!(rt; venue.book().len() == orders && venue.book().shares() == shares);
+    }
+    (count, first)
+}
+
+fn are_lost(rt: &impl Abort, losses: &[(u64, u8, u32, (u32, u8))]) {
+    for (number, unit, count, first) in losses {
+        assert!(rt; lost_of(*number, *unit) == (*count, Some(*first)));
     }
 }
 
-// How many copies of the first 2,000 datagrams are lost on both lines, and the first of them.
 #[test]
 fn a_copy_of_twenty_is_lost(rt: HostRuntime) {
-    let cases = [
-        (0, 1, 202, 2, 2),
-        (1, 2, 185, 5, 1),
-        (7, 16, 211, 1, 2),
-        (u64::MAX, 255, 189, 3, 2),
-    ];
-    for (number, unit, all, first, on) in cases {
-        let mut count = 0i32;
-        for index in 1..=2000 {
-            for line in [1, 2] {
-                if lost(number, unit, index, line) {
-                    if count == 0 {
-                        assert!(rt; (index, line) == (first, on));
-                    }
-                    count = count.wrapping_add(1);
-                }
-            }
-        }
-        assert!(rt; count == all);
-    }
+    are_lost(&rt, &LOSSES);
     assert!(rt; !lost(u64::MAX, 255, u32::MAX, 255));
 }
