@@ -1,6 +1,5 @@
 //! Audits of printed reports.
 use crate::runs::{all_are_done, all_are_refused};
-use std::test::*;
 
 // The number of the log's bytes, in eight bytes.
 const NONE: &[u8] = b"\0\0\0\0\0\0\0\0";
@@ -119,17 +118,15 @@ static REFUSED: [(&[&[u8]], &str, &str); 6] = [
 ];
 
 #[test]
-fn reports_are_audited(rt: HostRuntime) -> Result<(), Fail> {
+fn reports_are_audited(rt: HostRuntime) {
     for piece in [1, 65536] {
-        assert!(rt; all_are_done(&rt, rt.alloc(), "audit", piece, &INPUTS)?);
+        all_are_done(&rt, rt.alloc(), "audit", piece, &INPUTS);
     }
-    Ok(())
 }
 
 #[test]
-fn faulty_logs_are_refused(rt: HostRuntime) -> Result<(), Fail> {
+fn faulty_logs_are_refused(rt: HostRuntime) {
     for piece in [1, 65536] {
-        assert!(rt; all_are_refused(&rt, rt.alloc(), "audit", piece, &REFUSED)?);
+        all_are_refused(&rt, rt.alloc(), "audit", piece, &REFUSED);
     }
-    Ok(())
 }

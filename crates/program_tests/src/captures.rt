@@ -1,13 +1,12 @@
 //! Captures of datagrams, and what `follow --pcap` prints of them.
 ghost use Rattle.std.specs.Prelude.{◌<◌};
 
-use crate::runs::{all_are_refused, run};
+use crate::runs::{all_are_refused, ends_so};
 use crate::streams::FIRST_LINE;
-use pitch_fields::OutOfMemory;
 use pitch_tool::ExitStatus;
 use std::alloc::Global;
+use std::process::Abort;
 use std::sync::Wait;
-use std::test::*;
 use std::thread::Threads;
 use std::time::Clock;
 
@@ -74,29 +73,25 @@ static FAULTS: [(&[&[u8]], &str, &str); 3] = [
     ),
 ];
 
-// Whether each capture has its text, where at most `piece` bytes come at once.
-fn all_are_followed<R: Threads + Wait + Clock + Sync>(
+// Each capture has its text, where at most `piece` bytes come at once.
+fn all_are_followed<R: Threads + Wait + Clock + Sync + Abort>(
     rt: &R,
     alloc: Global,
     piece: usize,
     captures: &[(&str, &[&[u8]], &str)],
-) -> Result<bool, OutOfMemory>
+)
     requires { 0 < piece }
 {
     for (line, bytes, text) in captures {
-        let outcome = run(rt, alloc, line, bytes, piece)?;
-        if !outcome.is(ExitStatus::Done, text.as_bytes(), "") {
-            return Ok(false);
-        }
+        let wanted = (ExitStatus::Done, text.as_bytes(), "");
+        ends_so(rt, alloc, line, bytes, piece, wanted);
     }
-    Ok(true)
 }
 
 #[test]
-fn each_capture_has_its_text_in_pieces_of_any_size(rt: HostRuntime) -> Result<(), Fail> {
+fn each_capture_has_its_text_in_pieces_of_any_size(rt: HostRuntime) {
     for piece in [1, 7, 65536] {
-        assert!(rt; all_are_followed(&rt, rt.alloc(), piece, &CAPTURES)?);
-        assert!(rt; all_are_refused(&rt, rt.alloc(), "follow --pcap", piece, &FAULTS)?);
+        all_are_followed(&rt, rt.alloc(), piece, &CAPTURES);
+        all_are_refused(&rt, rt.alloc(), "follow --pcap", piece, &FAULTS);
     }
-    Ok(())
 }

@@ -2,16 +2,15 @@
 //! that loses datagrams or ends a connection, and one that carries nothing.
 
 use crate::nets::{NoNet, Trouble, TroubledNet};
-use crate::runs::run_over;
+use crate::runs::ends_so_over;
 use loopback_net::StdNet;
 use net_edge::demo_plain;
-use pitch_fields::OutOfMemory;
 use pitch_io::{FreeGate, MemoryNet, Net, NetCall, NetVerb};
 use pitch_tool::ExitStatus;
 use std::alloc::Global;
 use std::net;
+use std::process::Abort;
 use std::sync::Wait;
-use std::test::*;
 use std::thread::Threads;
 use std::time::Clock;
 
@@ -27,47 +26,46 @@ const CALLS: [(NetVerb, u64); 6] = [
     (NetVerb::Take, 1),
 ];
 
-#[test]
-fn a_demo_ends_current(rt: HostRuntime) -> Result<(), Fail> {
-    let mut net = MemoryNet::make(rt.alloc(), Vec::new(rt.alloc()));
-    let outcome = run_over(&rt, rt.alloc(), DEMO, b"", &mut net, &FreeGate)?;
-    let line = b"unit 1 current 16 orders 5 shares 1078\n";
-    assert!(rt; outcome.is(ExitStatus::Done, line, ""));
-    Ok(())
+// A net in memory, of which these calls fail.
+fn net_of(rt: &impl Abort, alloc: Global, calls: &[NetCall]) -> MemoryNet {
+    MemoryNet::make(alloc, Vec::from_slice(alloc, calls).expect(rt, "memory"))
 }
 
-// Whether a demo ends with a fault of its net, where each of these calls fails.
-fn all_are_faults<R: Threads + Wait + Clock + Sync>(
+#[test]
+fn a_demo_ends_current(rt: HostRuntime) {
+    let mut net = net_of(&rt, rt.alloc(), &[]);
+    let line = b"unit 1 current 16 orders 5 shares 1078\n";
+    let wanted = (ExitStatus::Done, line.as_slice(), "");
+    ends_so_over(&rt, rt.alloc(), DEMO, &mut net, &FreeGate, wanted);
+}
+
+// A demo ends with a fault of its net, where each of these calls fails.
+fn all_are_faults<R: Threads + Wait + Clock + Sync + Abort>(
     rt: &R,
     alloc: Global,
     calls: &[(NetVerb, u64)],
-) -> Result<bool, OutOfMemory> {
+) {
     for (verb, number) in calls {
         let call = NetCall {
             verb: *verb,
             number: *number,
         };
-        let mut net = MemoryNet::make(alloc, Vec::from_slice(alloc, &[call])?);
-        let outcome = run_over(rt, alloc, DEMO, b"", &mut net, &FreeGate)?;
-        if !outcome.is(ExitStatus::NetFault, b"", "pitch: net fault\n") {
-            return Ok(false);
-        }
+        let mut net = net_of(rt, alloc, &[call]);
+        let wanted = (ExitStatus::NetFault, b"".as_slice(), "pitch: net fault\n");
+        ends_so_over(rt, alloc, DEMO, &mut net, &FreeGate, wanted);
     }
-    Ok(true)
 }
 
 #[test]
-fn a_net_that_fails_ends_a_demo(rt: HostRuntime) -> Result<(), Fail> {
-    assert!(rt; all_are_faults(&rt, rt.alloc(), &CALLS)?);
-    Ok(())
+fn a_net_that_fails_ends_a_demo(rt: HostRuntime) {
+    all_are_faults(&rt, rt.alloc(), &CALLS);
 }
 
 #[test]
-fn a_net_that_carries_nothing_leaves_it_silent(rt: HostRuntime) -> Result<(), Fail> {
-    let outcome = run_over(&rt, rt.alloc(), DEMO, b"", &mut NoNet, &FreeGate)?;
+fn a_net_that_carries_nothing_leaves_it_silent(rt: HostRuntime) {
     let line = b"unit 1 silent orders 0 shares 0\n";
-    assert!(rt; outcome.is(ExitStatus::Done, line, ""));
-    Ok(())
+    let wanted = (ExitStatus::Done, line.as_slice(), "");
+    ends_so_over(&rt, rt.alloc(), DEMO, &mut NoNet, &FreeGate, wanted);
 }
 
 // Demos: the number and the count, what is wrong with the net, and the line. By number 2 message 10
@@ -95,58 +93,54 @@ const LOSSES: [(u64, u32, Trouble, &str); 3] = [
     ),
 ];
 
-// Whether a demo over this net ends so.
-fn ends_so<R: Threads + Wait + Clock + Sync, N: Net + Drop>(
+// A demo over this net ends so.
+fn ends_over<R: Threads + Wait + Clock + Sync + Abort, N: Net + Drop>(
     rt: &R,
     alloc: Global,
     net: N,
     case: &(u64, u32, Trouble, &str),
-) -> Result<bool, OutOfMemory> {
+) {
     let (number, count, trouble, line) = case;
-    let words = format!(in alloc; "demo --number {number} --count {count}")?;
+    let words = format!(in alloc; "demo --number {number} --count {count}").expect(rt, "memory");
     let mut net = TroubledNet::make(net, *trouble);
-    let outcome = run_over(rt, alloc, &words, b"", &mut net, &FreeGate)?;
-    Ok(outcome.is(ExitStatus::Done, line.as_bytes(), ""))
+    let wanted = (ExitStatus::Done, line.as_bytes(), "");
+    ends_so_over(rt, alloc, &words, &mut net, &FreeGate, wanted);
 }
 
-// Whether each demo ends so, over memory and over sockets.
-fn all_end_so<R: Threads + Wait + Clock + Sync + net::Net>(
+// Each demo ends so, over memory and over sockets.
+fn all_end_so<R: Threads + Wait + Clock + Sync + Abort + net::Net>(
     rt: &R,
     alloc: Global,
     cases: &[(u64, u32, Trouble, &str)],
-) -> Result<bool, OutOfMemory> {
+) {
     for case in cases {
-        let memory = MemoryNet::make(alloc, Vec::new(alloc));
-        if !ends_so(rt, alloc, memory, case)? || !ends_so(rt, alloc, StdNet::make(rt), case)? {
-            return Ok(false);
-        }
+        ends_over(rt, alloc, net_of(rt, alloc, &[]), case);
+        ends_over(rt, alloc, StdNet::make(rt), case);
     }
-    Ok(true)
 }
 
 #[test]
-fn a_demo_recovers_what_is_lost(rt: HostRuntime) -> Result<(), Fail> {
-    assert!(rt; all_end_so(&rt, rt.alloc(), &LOSSES)?);
-    Ok(())
+fn a_demo_recovers_what_is_lost(rt: HostRuntime) {
+    all_end_so(&rt, rt.alloc(), &LOSSES);
 }
 
-// Whether a demo ends so whose servers answer from a plain store and shelf.
-fn ends_so_plainly(alloc: Global, case: &(u64, u32, Trouble, &str)) -> bool {
+// A demo ends so whose servers answer from a plain store and shelf.
+fn ends_plainly(rt: &impl Abort, alloc: Global, case: &(u64, u32, Trouble, &str)) {
     let (number, count, trouble, line) = case;
-    if *count < 1 || *count > 1000 {
-        return false;
-    }
-    let mut net = TroubledNet::make(MemoryNet::make(alloc, Vec::new(alloc)), *trouble);
+    assert!(rt; *count >= 1 && *count <= 1000);
+    let mut net = TroubledNet::make(net_of(rt, alloc, &[]), *trouble);
     let mut out = Vec::new(alloc);
-    match demo_plain(alloc, &mut net, *number, *count, &mut out) {
-        Ok(()) => out.as_slice() == line.as_bytes(),
-        Err(_) => false,
+    assert!(rt; demo_plain(alloc, &mut net, *number, *count, &mut out).is_ok());
+    assert!(rt; out.as_slice() == line.as_bytes());
+}
+
+fn all_end_plainly(rt: &impl Abort, alloc: Global, cases: &[(u64, u32, Trouble, &str)]) {
+    for case in cases {
+        ends_plainly(rt, alloc, case);
     }
 }
 
 #[test]
 fn a_demo_without_a_shared_unit_is_the_same(rt: HostRuntime) {
-    for case in &LOSSES {
-        assert!(rt; ends_so_plainly(rt.alloc(), case));
-    }
+    all_end_plainly(&rt, rt.alloc(), &LOSSES);
 }

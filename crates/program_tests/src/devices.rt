@@ -3,14 +3,13 @@
 ghost use Rattle.std.specs.Prelude.{◌<◌};
 
 use crate::nets::NoNet;
-use crate::runs::{stream_of, words_of};
+use crate::runs::{pitch_over, stream_of, words_of};
 use crate::streams::{ADD, BEAT, DELETE, DELETED_TEXT, FIRST_LINE, TIME};
-use pitch_fields::OutOfMemory;
 use pitch_io::{FreeGate, MemorySink, MemorySource};
-use pitch_tool::{ExitStatus, pitch};
+use pitch_tool::ExitStatus;
 use std::alloc::Global;
+use std::process::Abort;
 use std::sync::Wait;
-use std::test::*;
 use std::thread::Threads;
 use std::time::Clock;
 
@@ -21,9 +20,6 @@ struct Failing {
     put: u64,
     say: u64,
 }
-
-// How a run ends, and what it wrote and said.
-type Ended = (ExitStatus, MemorySink, MemorySink);
 
 // Words, the calls of `put` and `take` that fail, or 0; how the program ends, what it writes before
 // and what it says. At most 20 bytes come at once, and 7 are taken.
@@ -42,23 +38,39 @@ const UNREAD: &str = "pitch: read fault\n";
 
 const UNWRITTEN: &str = "pitch: write fault\n";
 
+// How a run ends, and what it wrote and said.
+#[derive(Drop)]
+struct Ended {
+    status: ExitStatus,
+    out: MemorySink,
+    err: MemorySink,
+}
+
+// A sink that takes so many bytes at once, of which a call fails.
+fn sink_of(rt: &impl Abort, alloc: Global, piece: usize, failing: u64) -> MemorySink
+    requires { 0 < piece }
+{
+    let failing = Vec::from_slice(alloc, &[failing]).expect(rt, "memory");
+    MemorySink::make(alloc, piece, failing)
+}
+
 // What the program leaves of blocks of which at most `piece` bytes come at once.
-fn run_failing<R: Threads + Wait + Clock + Sync>(
+fn run_failing<R: Threads + Wait + Clock + Sync + Abort>(
     rt: &R,
     alloc: Global,
     line: &str,
     blocks: &[&[u8]],
     piece: usize,
     failing: Failing,
-) -> Result<Ended, OutOfMemory>
+) -> Ended
     requires { 0 < piece }
 {
-    let words = words_of(alloc, line)?;
-    let bytes = stream_of(alloc, blocks)?;
-    let mut input = MemorySource::make(bytes, piece, Vec::from_slice(alloc, &[failing.take])?);
-    let mut out = MemorySink::make(alloc, 7, Vec::from_slice(alloc, &[failing.put])?);
-    let mut err = MemorySink::make(alloc, 64, Vec::from_slice(alloc, &[failing.say])?);
-    let status = pitch(
+    let words = words_of(rt, alloc, line);
+    let takes = Vec::from_slice(alloc, &[failing.take]).expect(rt, "memory");
+    let mut input = MemorySource::make(stream_of(rt, alloc, blocks), piece, takes);
+    let mut out = sink_of(rt, alloc, 7, failing.put);
+    let mut err = sink_of(rt, alloc, 64, failing.say);
+    let status = pitch_over(
         rt,
         alloc,
         words.as_slice(),
@@ -68,23 +80,32 @@ fn run_failing<R: Threads + Wait + Clock + Sync>(
         &mut NoNet,
         &FreeGate,
     );
-    Ok((status, out, err))
+    Ended { status, out, err }
 }
 
-#[test]
-fn a_failing_source_or_sink_is_told_of(rt: HostRuntime) -> Result<(), Fail> {
-    for (line, put, take, status, text, said) in &CASES {
+const BLOCKS: &[&[u8]] = &[TIME, ADD, BEAT, DELETE];
+
+// Each run ends so, wrote this and said this.
+fn all_end_so<R: Threads + Wait + Clock + Sync + Abort>(
+    rt: &R,
+    alloc: Global,
+    cases: &[(&str, u64, u64, ExitStatus, &str, &str)],
+) {
+    for (line, put, take, status, text, said) in cases {
         let failing = Failing {
             take: *take,
             put: *put,
             say: 0,
         };
-        let blocks = [TIME, ADD, BEAT, DELETE];
-        let (ended, out, err) = run_failing(&rt, rt.alloc(), line, &blocks, 20, failing)?;
-        assert!(rt; ended == *status);
-        assert!(rt; out.written() == text.as_bytes() && err.written() == said.as_bytes());
+        let ended = run_failing(rt, alloc, line, BLOCKS, 20, failing);
+        assert!(rt; ended.status == *status && ended.out.written() == text.as_bytes());
+        assert!(rt; ended.err.written() == said.as_bytes());
     }
-    Ok(())
+}
+
+#[test]
+fn a_failing_source_or_sink_is_told_of(rt: HostRuntime) {
+    all_end_so(&rt, rt.alloc(), &CASES);
 }
 
 // The calls of a run that takes and puts 7 bytes at once: 13 takes of the 86 bytes and one of their
@@ -93,25 +114,26 @@ const TAKES: u64 = 14;
 
 const PUTS: u64 = 31;
 
-// Whether a run ends by a fault, and with a part of the text, where a call of it fails; and with
-// all where the call behind its last would.
-fn ends_by<R: Threads + Wait + Clock + Sync>(
+// A run ends by a fault, and with a part of the text, where a call of it fails; and with all where
+// the call behind its last would.
+fn ends_by<R: Threads + Wait + Clock + Sync + Abort>(
     rt: &R,
     alloc: Global,
     failing: Failing,
     fault: Option<ExitStatus>,
-    text: &str,
-) -> Result<bool, OutOfMemory> {
-    let blocks = [TIME, ADD, BEAT, DELETE];
-    let (ended, out, _err) = run_failing(rt, alloc, "follow", &blocks, 7, failing)?;
-    Ok(match fault {
-        Some(fault) => ended == fault && text.as_bytes().starts_with(out.written()),
-        None => ended == ExitStatus::Done && out.written() == text.as_bytes(),
-    })
+    text: &[u8],
+) {
+    let ended = run_failing(rt, alloc, "follow", BLOCKS, 7, failing);
+    let written = ended.out.written();
+    let is_so = match fault {
+        Some(fault) => ended.status == fault && text.starts_with(written),
+        None => ended.status == ExitStatus::Done && written == text,
+    };
+    assert!(rt; is_so);
 }
 
 #[test]
-fn the_source_may_fail_at_each_take(rt: HostRuntime) -> Result<(), Fail> {
+fn the_source_may_fail_at_each_take(rt: HostRuntime) {
     for take in 1..TAKES + 2 {
         let failing = Failing {
             take,
@@ -119,13 +141,12 @@ fn the_source_may_fail_at_each_take(rt: HostRuntime) -> Result<(), Fail> {
             say: 0,
         };
         let fault = (take <= TAKES).then_some(ExitStatus::ReadFault);
-        assert!(rt; ends_by(&rt, rt.alloc(), failing, fault, DELETED_TEXT)?);
+        ends_by(&rt, rt.alloc(), failing, fault, DELETED_TEXT.as_bytes());
     }
-    Ok(())
 }
 
 #[test]
-fn the_sink_may_fail_at_each_put(rt: HostRuntime) -> Result<(), Fail> {
+fn the_sink_may_fail_at_each_put(rt: HostRuntime) {
     for put in 1..PUTS + 2 {
         let failing = Failing {
             take: 0,
@@ -133,21 +154,19 @@ fn the_sink_may_fail_at_each_put(rt: HostRuntime) -> Result<(), Fail> {
             say: 0,
         };
         let fault = (put <= PUTS).then_some(ExitStatus::WriteFault);
-        assert!(rt; ends_by(&rt, rt.alloc(), failing, fault, DELETED_TEXT)?);
+        ends_by(&rt, rt.alloc(), failing, fault, DELETED_TEXT.as_bytes());
     }
-    Ok(())
 }
 
 // What can't be said of a faulty input changes nothing of how the run ends.
 #[test]
-fn standard_error_may_fail(rt: HostRuntime) -> Result<(), Fail> {
+fn standard_error_may_fail(rt: HostRuntime) {
     let failing = Failing {
         take: 0,
         put: 0,
         say: 1,
     };
-    let (ended, out, err) = run_failing(&rt, rt.alloc(), "follow", &[&TIME[..5]], 7, failing)?;
-    assert!(rt; ended == ExitStatus::BadInput);
-    assert!(rt; out.written().is_empty() && err.written().is_empty());
-    Ok(())
+    let ended = run_failing(&rt, rt.alloc(), "follow", &[&TIME[..5]], 7, failing);
+    assert!(rt; ended.status == ExitStatus::BadInput);
+    assert!(rt; ended.out.written().is_empty() && ended.err.written().is_empty());
 }

@@ -2,15 +2,14 @@
 
 use crate::captures::{FRAME, LITTLE, LITTLE_PACKET};
 use crate::nets::NoNet;
-use crate::runs::{stream_of, words_of};
+use crate::runs::{pitch_over, stream_of, words_of};
 use crate::streams::{ADD, BEAT, TIME};
-use pitch_fields::OutOfMemory;
 use pitch_io::{FreeGate, Put, Sink, Source, SteadySink, SteadySource, Taken};
-use pitch_tool::{ExitStatus, pitch};
+use pitch_tool::ExitStatus;
 use std::alloc::Global;
 use std::cell::Cell;
+use std::process::Abort;
 use std::sync::Wait;
-use std::test::*;
 use std::thread::Threads;
 use std::time::Clock;
 
@@ -76,25 +75,25 @@ impl Source for LookingSource<'_> {
     }
 }
 
-// Whether a run is done, and had put just so many bytes before each of its takes.
-fn puts_in_time<R: Threads + Wait + Clock + Sync>(
+// A run is done, and had put just so many bytes before each of its takes.
+fn puts_in_time<R: Threads + Wait + Clock + Sync + Abort>(
     rt: &R,
     alloc: Global,
     line: &str,
     stream: &[&[u8]],
     wanted: &[usize],
-) -> Result<bool, OutOfMemory> {
-    let words = words_of(alloc, line)?;
+) {
+    let words = words_of(rt, alloc, line);
     let put = Cell::new(0);
     let mut input = LookingSource {
-        source: SteadySource::make(stream_of(alloc, stream)?, 20),
+        source: SteadySource::make(stream_of(rt, alloc, stream), 20),
         put: &put,
         wanted,
         differs: false,
     };
     let mut out = CountingSink { put: &put };
-    let mut err = SteadySink::make(alloc, 4096)?;
-    let status = pitch(
+    let mut err = SteadySink::make(alloc, 4096).expect(rt, "memory");
+    let status = pitch_over(
         rt,
         alloc,
         words.as_slice(),
@@ -104,13 +103,20 @@ fn puts_in_time<R: Threads + Wait + Clock + Sync>(
         &mut NoNet,
         &FreeGate,
     );
-    Ok(status == ExitStatus::Done && input.wanted.is_empty() && !input.differs)
+    assert!(rt; status == ExitStatus::Done && input.wanted.is_empty() && !input.differs);
+}
+
+fn all_put_in_time<R: Threads + Wait + Clock + Sync + Abort>(
+    rt: &R,
+    alloc: Global,
+    runs: &[(&str, &[&[u8]], &[usize])],
+) {
+    for (line, stream, wanted) in runs {
+        puts_in_time(rt, alloc, line, stream, wanted);
+    }
 }
 
 #[test]
-fn lines_are_written_while_the_input_goes_on(rt: HostRuntime) -> Result<(), Fail> {
-    for (line, stream, wanted) in &RUNS {
-        assert!(rt; puts_in_time(&rt, rt.alloc(), line, stream, wanted)?);
-    }
-    Ok(())
+fn lines_are_written_while_the_input_goes_on(rt: HostRuntime) {
+    all_put_in_time(&rt, rt.alloc(), &RUNS);
 }

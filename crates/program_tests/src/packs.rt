@@ -1,13 +1,12 @@
 //! Texts of commands, and the feed that `pack` makes of them.
 ghost use Rattle.std.specs.Prelude.{◌<◌};
 
-use crate::runs::run;
+use crate::runs::ends_so;
 use crate::streams::ADDS;
-use pitch_fields::OutOfMemory;
 use pitch_tool::ExitStatus;
 use std::alloc::Global;
+use std::process::Abort;
 use std::sync::Wait;
-use std::test::*;
 use std::thread::Threads;
 use std::time::Clock;
 
@@ -38,22 +37,19 @@ static TEXTS: [(&[u8], &[u8], &str); 6] = [
     ),
 ];
 
-// Whether each text has its bytes, and is refused with what is said.
-fn all_are_packed<R: Threads + Wait + Clock + Sync>(
+// Each text has its bytes, and is refused with what is said.
+fn all_are_packed<R: Threads + Wait + Clock + Sync + Abort>(
     rt: &R,
     alloc: Global,
     piece: usize,
     texts: &[(&[u8], &[u8], &str)],
-) -> Result<bool, OutOfMemory>
+)
     requires { 0 < piece }
 {
     for (text, bytes, said) in texts {
-        let outcome = run(rt, alloc, "pack --unit 1", &[*text], piece)?;
-        if !outcome.is(status_of(said), bytes, said) {
-            return Ok(false);
-        }
+        let wanted = (status_of(said), *bytes, *said);
+        ends_so(rt, alloc, "pack --unit 1", &[*text], piece, wanted);
     }
-    Ok(true)
 }
 
 // A text is done of which nothing is said.
@@ -66,9 +62,8 @@ fn status_of(said: &str) -> ExitStatus {
 }
 
 #[test]
-fn commands_are_packed(rt: HostRuntime) -> Result<(), Fail> {
+fn commands_are_packed(rt: HostRuntime) {
     for piece in [1, 65536] {
-        assert!(rt; all_are_packed(&rt, rt.alloc(), piece, &TEXTS)?);
+        all_are_packed(&rt, rt.alloc(), piece, &TEXTS);
     }
-    Ok(())
 }

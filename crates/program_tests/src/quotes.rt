@@ -1,13 +1,12 @@
 //! What `quotes` writes of the feeds that `pack` makes.
 ghost use Rattle.std.specs.Prelude.{◌<◌};
 
-use crate::runs::run;
+use crate::runs::{ends_so, run};
 use crate::streams::TIME;
-use pitch_fields::OutOfMemory;
 use pitch_tool::ExitStatus;
 use std::alloc::Global;
+use std::process::Abort;
 use std::sync::Wait;
-use std::test::*;
 use std::thread::Threads;
 use std::time::Clock;
 
@@ -38,37 +37,35 @@ static TEXTS: [(&[u8], &[u8]); 5] = [
     ),
 ];
 
-// Whether each text has its quotes.
-fn all_are_quoted<R: Threads + Wait + Clock + Sync>(
+// Each text has its quotes.
+fn all_are_quoted<R: Threads + Wait + Clock + Sync + Abort>(
     rt: &R,
     alloc: Global,
     piece: usize,
     texts: &[(&[u8], &[u8])],
-) -> Result<bool, OutOfMemory>
+)
     requires { 0 < piece }
 {
     for (text, quotes) in texts {
-        let feed = run(rt, alloc, "pack --unit 1", &[*text], 65536)?;
-        let outcome = run(rt, alloc, "quotes", &[feed.written()], piece)?;
-        if !outcome.is(ExitStatus::Done, quotes, "") {
-            return Ok(false);
-        }
+        let feed = run(rt, alloc, "pack --unit 1", &[*text], 65536);
+        let wanted = (ExitStatus::Done, *quotes, "");
+        ends_so(rt, alloc, "quotes", &[feed.written()], piece, wanted);
     }
-    Ok(true)
 }
 
 #[test]
-fn feeds_are_quoted(rt: HostRuntime) -> Result<(), Fail> {
+fn feeds_are_quoted(rt: HostRuntime) {
     for piece in [1, 65536] {
-        assert!(rt; all_are_quoted(&rt, rt.alloc(), piece, &TEXTS)?);
+        all_are_quoted(&rt, rt.alloc(), piece, &TEXTS);
     }
-    Ok(())
 }
 
+const CUT: &[&[u8]] = &[TIME, b"\x08\x00\x00"];
+
+const CUT_SAID: &str = "pitch: bad input at byte 14: truncated, has 3 of 8\n";
+
 #[test]
-fn a_cut_block_ends_quotes(rt: HostRuntime) -> Result<(), Fail> {
-    let outcome = run(&rt, rt.alloc(), "quotes", &[TIME, b"\x08\x00\x00"], 7)?;
-    let said = "pitch: bad input at byte 14: truncated, has 3 of 8\n";
-    assert!(rt; outcome.is(ExitStatus::BadInput, b"", said));
-    Ok(())
+fn a_cut_block_ends_quotes(rt: HostRuntime) {
+    let wanted = (ExitStatus::BadInput, b"".as_slice(), CUT_SAID);
+    ends_so(&rt, rt.alloc(), "quotes", CUT, 7, wanted);
 }

@@ -1,13 +1,12 @@
 //! Merged streams, and what `relay` writes of them.
 ghost use Rattle.std.specs.Prelude.{◌<◌};
 
-use crate::runs::run;
+use crate::runs::{ends_so, run};
 use crate::streams::{ADD, DELETE, TIME};
-use pitch_fields::OutOfMemory;
 use pitch_tool::ExitStatus;
 use std::alloc::Global;
+use std::process::Abort;
 use std::sync::Wait;
-use std::test::*;
 use std::thread::Threads;
 use std::time::Clock;
 
@@ -88,46 +87,58 @@ const BOOK: &str = "book unit 1 at 5 second 34200 orders 1\n\
     order 5 B 70 IBM 10.0000\n\
     status IBM H 0\n";
 
-// Whether each stream is relayed so.
-fn all_are_relayed<R: Threads + Wait + Clock + Sync>(
+// Each stream is relayed so.
+fn all_are_relayed<R: Threads + Wait + Clock + Sync + Abort>(
     rt: &R,
     alloc: Global,
     piece: usize,
     streams: &[(&[&[u8]], &[u8])],
-) -> Result<bool, OutOfMemory>
+)
     requires { 0 < piece }
 {
     for (blocks, sent) in streams {
-        let outcome = run(rt, alloc, "relay", blocks, piece)?;
-        if !outcome.is(ExitStatus::Done, sent, "") {
-            return Ok(false);
-        }
+        ends_so(
+            rt,
+            alloc,
+            "relay",
+            blocks,
+            piece,
+            (ExitStatus::Done, *sent, ""),
+        );
     }
-    Ok(true)
 }
 
 #[test]
-fn streams_are_relayed(rt: HostRuntime) -> Result<(), Fail> {
+fn streams_are_relayed(rt: HostRuntime) {
     for piece in [1, 7, 65536] {
-        assert!(rt; all_are_relayed(&rt, rt.alloc(), piece, &STREAMS)?);
+        all_are_relayed(&rt, rt.alloc(), piece, &STREAMS);
     }
-    Ok(())
+}
+
+const CUT: &[&[u8]] = &[TIME, b"\x08\x00\x00"];
+
+const CUT_SAID: &str = "pitch: bad input at byte 14: truncated, has 3 of 8\n";
+
+#[test]
+fn a_cut_block_ends_a_relay(rt: HostRuntime) {
+    let wanted = (ExitStatus::BadInput, TIME, CUT_SAID);
+    ends_so(&rt, rt.alloc(), "relay", CUT, 7, wanted);
+}
+
+// What is followed of these blocks ends with this book.
+fn ends_with_book<R: Threads + Wait + Clock + Sync + Abort>(
+    rt: &R,
+    alloc: Global,
+    blocks: &[&[u8]],
+    book: &str,
+) {
+    let followed = run(rt, alloc, "follow", blocks, 65536);
+    assert!(rt; followed.written().ends_with(book.as_bytes()));
 }
 
 #[test]
-fn a_cut_block_ends_a_relay(rt: HostRuntime) -> Result<(), Fail> {
-    let outcome = run(&rt, rt.alloc(), "relay", &[TIME, b"\x08\x00\x00"], 7)?;
-    let said = "pitch: bad input at byte 14: truncated, has 3 of 8\n";
-    assert!(rt; outcome.is(ExitStatus::BadInput, TIME, said));
-    Ok(())
-}
-
-#[test]
-fn a_day_from_its_middle_is_relayed_and_followed(rt: HostRuntime) -> Result<(), Fail> {
-    let day = run(&rt, rt.alloc(), "follow", DAY, 65536)?;
-    assert!(rt; day.written().ends_with(BOOK.as_bytes()));
-    let relayed = run(&rt, rt.alloc(), "relay", MIDDAY, 65536)?;
-    let followed = run(&rt, rt.alloc(), "follow", &[relayed.written()], 65536)?;
-    assert!(rt; followed.written().ends_with(BOOK.as_bytes()));
-    Ok(())
+fn a_day_from_its_middle_is_relayed_and_followed(rt: HostRuntime) {
+    ends_with_book(&rt, rt.alloc(), DAY, BOOK);
+    let relayed = run(&rt, rt.alloc(), "relay", MIDDAY, 65536);
+    ends_with_book(&rt, rt.alloc(), &[relayed.written()], BOOK);
 }

@@ -7,32 +7,33 @@ ghost use Rattle.pitch_tool.specs.Program.{IsWhole, IsRefusal};
 ghost use Rattle.pitch_tool.specs.declared.failure.Trouble.{Trouble};
 
 use crate::nets::NoNet;
-use pitch_fields::OutOfMemory;
-use pitch_io::{FreeGate, Gate, Net, Source, SteadySink, SteadySource, Taken};
+use pitch_io::{FreeGate, Gate, Net, Sink, Source, SteadySink, SteadySource, Taken};
 use pitch_tool::{ExitStatus, pitch};
 use std::alloc::Global;
+use std::process::Abort;
 use std::sync::Wait;
 use std::thread::Threads;
 use std::time::Clock;
 
 // The words of a line, which single spaces part.
-pub(crate) fn words_of(alloc: Global, line: &str) -> Result<Vec<String>, OutOfMemory> {
+pub(crate) fn words_of(rt: &impl Abort, alloc: Global, line: &str) -> Vec<String> {
     let mut words = Vec::new(alloc);
     for word in line.split(' ') {
         if !line.is_empty() {
-            words.push(String::from_str(alloc, word)?)?;
+            let word = String::from_str(alloc, word).expect(rt, "memory");
+            words.push(word).expect(rt, "memory");
         }
     }
-    Ok(words)
+    words
 }
 
 // The bytes of the blocks, one after the other.
-pub(crate) fn stream_of(alloc: Global, blocks: &[&[u8]]) -> Result<Vec<u8>, OutOfMemory> {
+pub(crate) fn stream_of(rt: &impl Abort, alloc: Global, blocks: &[&[u8]]) -> Vec<u8> {
     let mut bytes = Vec::new(alloc);
     for block in blocks {
-        bytes.extend_from_slice(block)?;
+        bytes.extend_from_slice(block).expect(rt, "memory");
     }
-    Ok(bytes)
+    bytes
 }
 
 // What the program leaves.
@@ -89,42 +90,63 @@ fn pitch_steadily<R: Threads + Wait + Clock + Sync>(
 }
 
 // Runs the program on blocks of which at most `piece` bytes come at once.
-pub(crate) fn run<R: Threads + Wait + Clock + Sync>(
+pub(crate) fn run<R: Threads + Wait + Clock + Sync + Abort>(
     rt: &R,
     alloc: Global,
     line: &str,
     blocks: &[&[u8]],
     piece: usize,
-) -> Result<Outcome, OutOfMemory>
+) -> Outcome
     requires { 0 < piece }
 {
-    let words = words_of(alloc, line)?;
-    let mut input = SteadySource::make(stream_of(alloc, blocks)?, piece);
-    let mut out = SteadySink::make(alloc, 4096)?;
-    let mut err = SteadySink::make(alloc, 4096)?;
+    let words = words_of(rt, alloc, line);
+    let mut input = SteadySource::make(stream_of(rt, alloc, blocks), piece);
+    let mut out = SteadySink::make(alloc, 4096).expect(rt, "memory");
+    let mut err = SteadySink::make(alloc, 4096).expect(rt, "memory");
     let status = pitch_steadily(rt, alloc, words.as_slice(), &mut input, &mut out, &mut err);
-    Ok(Outcome {
+    Outcome {
         status,
         input,
         out,
         err,
-    })
+    }
+}
+
+// The program over any devices. What calls it knows nothing of it, and has less to prove.
+pub(crate) fn pitch_over<
+    R: Threads + Wait + Clock + Sync,
+    I: Source,
+    O: Sink,
+    E: Sink,
+    N: Net,
+    G: Gate + Sync,
+>(
+    rt: &R,
+    alloc: Global,
+    words: &[String],
+    input: &mut I,
+    out: &mut O,
+    err: &mut E,
+    net: &mut N,
+    gate: &G,
+) -> ExitStatus {
+    pitch(rt, alloc, words, input, out, err, net, gate)
 }
 
 // Runs the program on a text, over a net, with a gate.
-pub(crate) fn run_over<R: Threads + Wait + Clock + Sync, N: Net, G: Gate + Sync>(
+pub(crate) fn run_over<R: Threads + Wait + Clock + Sync + Abort, N: Net, G: Gate + Sync>(
     rt: &R,
     alloc: Global,
     line: &str,
     text: &[u8],
     net: &mut N,
     gate: &G,
-) -> Result<Outcome, OutOfMemory> {
-    let words = words_of(alloc, line)?;
-    let mut input = SteadySource::make(Vec::from_slice(alloc, text)?, 65536);
-    let mut out = SteadySink::make(alloc, 1_000_000)?;
-    let mut err = SteadySink::make(alloc, 4096)?;
-    let status = pitch(
+) -> Outcome {
+    let words = words_of(rt, alloc, line);
+    let mut input = SteadySource::make(stream_of(rt, alloc, &[text]), 65536);
+    let mut out = SteadySink::make(alloc, 1_000_000).expect(rt, "memory");
+    let mut err = SteadySink::make(alloc, 4096).expect(rt, "memory");
+    let status = pitch_over(
         rt,
         alloc,
         words.as_slice(),
@@ -134,48 +156,75 @@ pub(crate) fn run_over<R: Threads + Wait + Clock + Sync, N: Net, G: Gate + Sync>
         net,
         gate,
     );
-    Ok(Outcome {
+    Outcome {
         status,
         input,
         out,
         err,
-    })
+    }
 }
 
-// Whether each stream has its text, where at most `piece` bytes come at once.
-pub(crate) fn all_are_done<R: Threads + Wait + Clock + Sync>(
+// How a run is to end, what it is to write, and what to say.
+pub(crate) type Wanted<'a> = (ExitStatus, &'a [u8], &'a str);
+
+// Runs the program on blocks, and compares.
+pub(crate) fn ends_so<R: Threads + Wait + Clock + Sync + Abort>(
+    rt: &R,
+    alloc: Global,
+    line: &str,
+    blocks: &[&[u8]],
+    piece: usize,
+    wanted: Wanted<'_>,
+)
+    requires { 0 < piece }
+{
+    let (status, wrote, said) = wanted;
+    let outcome = run(rt, alloc, line, blocks, piece);
+    assert!(rt; outcome.is(status, wrote, said));
+}
+
+// Runs the program on a text, over a net, with a gate, and compares.
+pub(crate) fn ends_so_over<R: Threads + Wait + Clock + Sync + Abort, N: Net, G: Gate + Sync>(
+    rt: &R,
+    alloc: Global,
+    line: &str,
+    net: &mut N,
+    gate: &G,
+    wanted: Wanted<'_>,
+) {
+    let (status, wrote, said) = wanted;
+    let outcome = run_over(rt, alloc, line, b"", net, gate);
+    assert!(rt; outcome.is(status, wrote, said));
+}
+
+// Each stream has its text, where at most `piece` bytes come at once.
+pub(crate) fn all_are_done<R: Threads + Wait + Clock + Sync + Abort>(
     rt: &R,
     alloc: Global,
     line: &str,
     piece: usize,
     streams: &[(&[&[u8]], &str)],
-) -> Result<bool, OutOfMemory>
+)
     requires { 0 < piece }
 {
     for (blocks, text) in streams {
-        let outcome = run(rt, alloc, line, blocks, piece)?;
-        if !outcome.is(ExitStatus::Done, text.as_bytes(), "") {
-            return Ok(false);
-        }
+        let wanted = (ExitStatus::Done, text.as_bytes(), "");
+        ends_so(rt, alloc, line, blocks, piece, wanted);
     }
-    Ok(true)
 }
 
-// Whether each faulty stream has its text and its fault, likewise.
-pub(crate) fn all_are_refused<R: Threads + Wait + Clock + Sync>(
+// Each faulty stream has its text and its fault, likewise.
+pub(crate) fn all_are_refused<R: Threads + Wait + Clock + Sync + Abort>(
     rt: &R,
     alloc: Global,
     line: &str,
     piece: usize,
     streams: &[(&[&[u8]], &str, &str)],
-) -> Result<bool, OutOfMemory>
+)
     requires { 0 < piece }
 {
     for (blocks, text, fault) in streams {
-        let outcome = run(rt, alloc, line, blocks, piece)?;
-        if !outcome.is(ExitStatus::BadInput, text.as_bytes(), fault) {
-            return Ok(false);
-        }
+        let wanted = (ExitStatus::BadInput, text.as_bytes(), *fault);
+        ends_so(rt, alloc, line, blocks, piece, wanted);
     }
-    Ok(true)
 }

@@ -1,12 +1,11 @@
 //! Schedules, and what the program writes of them.
 ghost use Rattle.std.specs.Prelude.{◌<◌};
 
-use crate::runs::run;
-use pitch_fields::OutOfMemory;
+use crate::runs::ends_so;
 use pitch_tool::ExitStatus;
 use std::alloc::Global;
+use std::process::Abort;
 use std::sync::Wait;
-use std::test::*;
 use std::thread::Threads;
 use std::time::Clock;
 
@@ -464,33 +463,29 @@ static SCHEDULES: [(&[u8], &str); 12] = [
     IMAGE_OF_A_STATUS,
 ];
 
-// Whether each schedule has its text, where at most `piece` bytes come at once.
-pub(crate) fn all_are_told<R: Threads + Wait + Clock + Sync>(
+// Each schedule has its text, where at most `piece` bytes come at once.
+pub(crate) fn all_are_told<R: Threads + Wait + Clock + Sync + Abort>(
     rt: &R,
     alloc: Global,
     line: &str,
     piece: usize,
     schedules: &[(&[u8], &str)],
-) -> Result<bool, OutOfMemory>
+)
     requires { 0 < piece }
 {
     for (schedule, text) in schedules {
-        let outcome = run(rt, alloc, line, &[*schedule], piece)?;
-        if !outcome.is(ExitStatus::Done, text.as_bytes(), "") {
-            return Ok(false);
-        }
+        let wanted = (ExitStatus::Done, text.as_bytes(), "");
+        ends_so(rt, alloc, line, &[*schedule], piece, wanted);
     }
-    Ok(true)
 }
 
 // However the bytes come, and with any number of workers.
 #[test]
-fn each_schedule_has_its_text(rt: HostRuntime) -> Result<(), Fail> {
-    assert!(rt; all_are_told(&rt, rt.alloc(), "replay", 7, &SCHEDULES)?);
+fn each_schedule_has_its_text(rt: HostRuntime) {
+    all_are_told(&rt, rt.alloc(), "replay", 7, &SCHEDULES);
     for line in ["replay --workers 2", "replay --workers 7"] {
-        assert!(rt; all_are_told(&rt, rt.alloc(), line, 65536, &SCHEDULES)?);
+        all_are_told(&rt, rt.alloc(), line, 65536, &SCHEDULES);
     }
-    Ok(())
 }
 
 // Schedules with a fault, its place, and its cause.
@@ -529,23 +524,19 @@ static FAULTY_SCHEDULES: [(&[u8], &str); 8] = [
     ),
 ];
 
-// Whether each faulty schedule is refused for its fault, with nothing written.
-fn all_have_faults<R: Threads + Wait + Clock + Sync>(
+// Each faulty schedule is refused for its fault, with nothing written.
+fn all_have_faults<R: Threads + Wait + Clock + Sync + Abort>(
     rt: &R,
     alloc: Global,
     schedules: &[(&[u8], &str)],
-) -> Result<bool, OutOfMemory> {
+) {
     for (schedule, fault) in schedules {
-        let outcome = run(rt, alloc, "replay", &[*schedule], 65536)?;
-        if !outcome.is(ExitStatus::BadInput, b"", fault) {
-            return Ok(false);
-        }
+        let wanted = (ExitStatus::BadInput, b"".as_slice(), *fault);
+        ends_so(rt, alloc, "replay", &[*schedule], 65536, wanted);
     }
-    Ok(true)
 }
 
 #[test]
-fn a_faulty_schedule_is_refused(rt: HostRuntime) -> Result<(), Fail> {
-    assert!(rt; all_have_faults(&rt, rt.alloc(), &FAULTY_SCHEDULES)?);
-    Ok(())
+fn a_faulty_schedule_is_refused(rt: HostRuntime) {
+    all_have_faults(&rt, rt.alloc(), &FAULTY_SCHEDULES);
 }

@@ -2,7 +2,11 @@
 
 use crate::runs::{all_are_done, all_are_refused, run};
 use pitch_tool::ExitStatus;
-use std::test::*;
+use std::alloc::Global;
+use std::process::Abort;
+use std::sync::Wait;
+use std::thread::Threads;
+use std::time::Clock;
 
 // The second 34,200 at sequence 1 of unit 1.
 pub(crate) const TIME: &[u8] = b"\x0e\x00\x01\x01\x01\x00\x00\x00\x06\x20\x98\x85\x00\x00";
@@ -238,21 +242,19 @@ static SHOWN_IN_PART: [(&[&[u8]], &str, &str); 1] = [(
 )];
 
 #[test]
-fn each_stream_has_its_text_in_pieces_of_any_size(rt: HostRuntime) -> Result<(), Fail> {
+fn each_stream_has_its_text_in_pieces_of_any_size(rt: HostRuntime) {
     for piece in [1, 2, 7, 35, 65536] {
-        assert!(rt; all_are_done(&rt, rt.alloc(), "follow", piece, &STREAMS)?);
-        assert!(rt; all_are_refused(&rt, rt.alloc(), "follow", piece, &FAULTY_STREAMS)?);
+        all_are_done(&rt, rt.alloc(), "follow", piece, &STREAMS);
+        all_are_refused(&rt, rt.alloc(), "follow", piece, &FAULTY_STREAMS);
     }
-    Ok(())
 }
 
 #[test]
-fn each_message_is_shown(rt: HostRuntime) -> Result<(), Fail> {
+fn each_message_is_shown(rt: HostRuntime) {
     for piece in [1, 7, 65536] {
-        assert!(rt; all_are_done(&rt, rt.alloc(), "show", piece, &SHOWN)?);
-        assert!(rt; all_are_refused(&rt, rt.alloc(), "show", piece, &SHOWN_IN_PART)?);
+        all_are_done(&rt, rt.alloc(), "show", piece, &SHOWN);
+        all_are_refused(&rt, rt.alloc(), "show", piece, &SHOWN_IN_PART);
     }
-    Ok(())
 }
 
 // Sequences 1, 3, 5, 7, 6, 2, 3, 4 and 5 of unit 1, each the second of its own number.
@@ -296,24 +298,28 @@ static HELD_IN_TWO: [(&[&[u8]], &str); 1] = [(&SHUFFLED, HELD_BY_TWO)];
 static HELD_IN_MORE: [(&[&[u8]], &str); 1] = [(&SHUFFLED, HELD_BY_MORE)];
 
 #[test]
-fn words_say_how_many_are_held(rt: HostRuntime) -> Result<(), Fail> {
+fn words_say_how_many_are_held(rt: HostRuntime) {
     for line in ["follow --hold=2", "follow --hold 2"] {
-        assert!(rt; all_are_done(&rt, rt.alloc(), line, 35, &HELD_IN_TWO)?);
+        all_are_done(&rt, rt.alloc(), line, 35, &HELD_IN_TWO);
     }
     for line in ["follow --hold 4", "follow"] {
-        assert!(rt; all_are_done(&rt, rt.alloc(), line, 35, &HELD_IN_MORE)?);
+        all_are_done(&rt, rt.alloc(), line, 35, &HELD_IN_MORE);
     }
-    Ok(())
+}
+
+const USAGE: &str =
+    "pitch: usage: follow | show | pack | replay | storm | drill | demo | relay | quotes | audit\n";
+
+// Words that are no form leave the 56 bytes of the input.
+fn leaves_the_input<R: Threads + Wait + Clock + Sync + Abort>(rt: &R, alloc: Global, line: &str) {
+    let mut outcome = run(rt, alloc, line, &[TIME, ADD], 65536);
+    assert!(rt; outcome.is(ExitStatus::Usage, b"", USAGE));
+    assert!(rt; outcome.left() == 56);
 }
 
 #[test]
-fn words_that_are_no_form_leave_the_input(rt: HostRuntime) -> Result<(), Fail> {
-    let usage =
-        "pitch: usage: follow | show | pack | replay | storm | drill | demo | relay | quotes | audit\n";
+fn words_that_are_no_form_leave_the_input(rt: HostRuntime) {
     for line in ["", "follow --", "follow --hold 0", "help", "followed"] {
-        let mut outcome = run(&rt, rt.alloc(), line, &[TIME, ADD], 65536)?;
-        assert!(rt; outcome.is(ExitStatus::Usage, b"", usage));
-        assert!(rt; outcome.left() == 56);
+        leaves_the_input(&rt, rt.alloc(), line);
     }
-    Ok(())
 }

@@ -1,9 +1,8 @@
 //! Command lines: the form that each is, and those that are none.
 
-use pitch_fields::OutOfMemory;
 use pitch_words::{Form, read};
 use std::alloc::Global;
-use std::test::*;
+use std::process::Abort;
 
 // Words, which single spaces part, and their form.
 static FORMS: [(&str, Form); 28] = [
@@ -203,44 +202,36 @@ static REFUSED: [&str; 90] = [
 ];
 
 // The answer to the words of the line.
-fn form_of_line(alloc: Global, line: &str) -> Result<Option<Form>, OutOfMemory> {
+fn form_of_line(rt: &impl Abort, alloc: Global, line: &str) -> Option<Form> {
     let mut words = Vec::new(alloc);
     for word in line.split(' ') {
-        words.push(String::from_str(alloc, word)?)?;
+        let word = String::from_str(alloc, word).expect(rt, "memory");
+        words.push(word).expect(rt, "memory");
     }
-    read(alloc, words.as_slice())
+    read(alloc, words.as_slice()).expect(rt, "memory")
 }
 
-// Whether each line has its form.
-fn all_have_forms(alloc: Global, lines: &[(&str, Form)]) -> Result<bool, OutOfMemory> {
+// Each line has its form.
+fn all_have_forms(rt: &impl Abort, alloc: Global, lines: &[(&str, Form)]) {
     for (line, form) in lines {
-        if form_of_line(alloc, line)? != Some(*form) {
-            return Ok(false);
-        }
+        assert!(rt; form_of_line(rt, alloc, line) == Some(*form));
     }
-    Ok(true)
 }
 
 #[test]
-fn each_form_is_read_from_its_words(rt: HostRuntime) -> Result<(), Fail> {
-    assert!(rt; all_have_forms(rt.alloc(), &FORMS)?);
-    Ok(())
+fn each_form_is_read_from_its_words(rt: HostRuntime) {
+    all_have_forms(&rt, rt.alloc(), &FORMS);
 }
 
-// Whether no line is a form.
-fn none_is_a_form(alloc: Global, lines: &[&str]) -> Result<bool, OutOfMemory> {
+// No line is a form.
+fn none_is_a_form(rt: &impl Abort, alloc: Global, lines: &[&str]) {
     for line in lines {
-        if form_of_line(alloc, line)? != None {
-            return Ok(false);
-        }
+        assert!(rt; form_of_line(rt, alloc, line) == None);
     }
-    Ok(true)
 }
 
 #[test]
-fn other_words_are_no_form(rt: HostRuntime) -> Result<(), Fail> {
-    assert!(rt; none_is_a_form(rt.alloc(), &REFUSED)?);
-    let none: Vec<String> = Vec::new(rt.alloc());
-    assert!(rt; read(rt.alloc(), none.as_slice())? == None);
-    Ok(())
+fn other_words_are_no_form(rt: HostRuntime) {
+    none_is_a_form(&rt, rt.alloc(), &REFUSED);
+    assert!(rt; read(rt.alloc(), &[]) == Ok(None));
 }
