@@ -1,5 +1,5 @@
 //! A server asked in the thread of its writer.
-ghost use Rattle.std.specs.Prelude.{◌≡◌, ◌<◌, ◌≤◌, ◌+◌, ◌^◌, [], false, length, OnOk, IfOk};
+ghost use Rattle.std.specs.Prelude.{◌≡◌, ◌<◌, ◌≤◌, ◌+◌, ◌^◌, [], false, length, OnOk};
 
 use gap_store::{Found, GapLookup};
 use pitch_fields::OutOfMemory;
@@ -12,7 +12,6 @@ use std::alloc::Global;
 use std::marker::Brand;
 use std::process::Abort;
 use std::sync::Wait;
-use std::test::*;
 use unit_packets::DatagramList;
 use venue_core::{VenueError, plan_command};
 
@@ -52,35 +51,28 @@ pub(crate) fn accept_plan<J: Naming, R: FixedRun, W: Wait + Drop>(
 fn make_all<J: Naming, R: FixedRun, W: Wait + Abort + AllocGlobal>(
     rt: &W,
     opened: Opened<R>,
-) -> Result<(Writer<J, R, &W>, Vec<Server<J, R>>), MakeError>
+) -> (Writer<J, R, &W>, Vec<Server<J, R>>)
     requires book { opened.seen.book ≡ J.book }
     requires kept { opened.kept ≡ J.kept }
-    ensures { IfOk result (λ made. made.0.history ≡ []) }
+    ensures { result.0.history ≡ [] }
 {
     let mut places = LeftRightPlaces::make();
-    make::<J, R, &W, LeftRightPlaces>(rt, rt.alloc(), opened, &mut places)
+    make::<J, R, &W, LeftRightPlaces>(rt, rt.alloc(), opened, &mut places).expect(rt, "memory")
 }
 
-// The writer of a pair that was opened for one server, and that server. What is let go here and
-// below goes by a call of `drop`, which is cheaper to prove than a drop at each return.
+// The writer of a pair that was opened for one server, and that server.
 pub(crate) fn make_one<J: Naming, R: FixedRun, W: Wait + Abort + AllocGlobal>(
     rt: &W,
     opened: Opened<R>,
-) -> Result<(Writer<J, R, &W>, Server<J, R>), Fail>
+) -> (Writer<J, R, &W>, Server<J, R>)
     requires book { opened.seen.book ≡ J.book }
     requires kept { opened.kept ≡ J.kept }
-    ensures { IfOk result (λ made. made.0.history ≡ []) }
+    ensures { result.0.history ≡ [] }
 {
-    let (writer, mut servers) = make_all::<J, R, W>(rt, opened)?;
-    let popped = servers.pop();
+    let (writer, mut servers) = make_all::<J, R, W>(rt, opened);
+    let server = servers.pop().expect(rt, "a server");
     drop(servers);
-    match popped {
-        Some(server) => Ok((writer, server)),
-        None => {
-            drop(writer);
-            Err(Fail::from("no server"))
-        }
-    }
+    (writer, server)
 }
 
 // Whether a server that was told nothing answers that message 1 is kept, and with it, or that none
@@ -98,35 +90,31 @@ pub(crate) fn answers_first<J: Naming, R: FixedRun>(
 }
 
 #[test]
-fn one_server_answers(rt: HostRuntime) -> Result<(), Fail> {
-    start_one::<Brand, _>(&rt)
+fn one_server_answers(rt: HostRuntime) {
+    start_one::<Brand, _>(&rt);
 }
 
 // Picks the run, which fixes nothing.
-fn start_one<R: FixedRun, W: Wait + Abort + AllocGlobal>(rt: &W) -> Result<(), Fail>
+fn start_one<R: FixedRun, W: Wait + Abort + AllocGlobal>(rt: &W)
     requires free { R.fixed ≡ false }
 {
-    let opened: Opened<R> = Opened::make(rt.alloc(), 1, 4096, 1)?;
-    ask_one::<Brand, R, W>(rt, opened)
+    let opened: Opened<R> = Opened::make(rt.alloc(), 1, 4096, 1).expect(rt, "memory");
+    ask_one::<Brand, R, W>(rt, opened);
 }
 
-fn ask_one<J: Naming, R: FixedRun, W: Wait + Abort + AllocGlobal>(
-    rt: &W,
-    opened: Opened<R>,
-) -> Result<(), Fail>
+// What is let go here and below goes by a call of `drop`.
+fn ask_one<J: Naming, R: FixedRun, W: Wait + Abort + AllocGlobal>(rt: &W, opened: Opened<R>)
     requires book { opened.seen.book ≡ J.book }
     requires kept { opened.kept ≡ J.kept }
     requires free { R.fixed ≡ false }
 {
-    let (mut writer, mut server) = make_one::<J, R, W>(rt, opened)?;
-    let full = has_no_place(&mut writer);
-    let right = hundred_is_right(rt.alloc(), &mut writer, &mut server);
+    let (mut writer, mut server) = make_one::<J, R, W>(rt, opened);
+    assert!(rt; has_no_place(&mut writer));
+    answers_of_hundred(rt, rt.alloc(), &mut writer, &mut server);
     writer.close();
     // servers go on
-    let goes_on = hands_out(rt.alloc(), &mut server, 1, FIRST);
+    assert!(rt; hands_out(rt.alloc(), &mut server, 1, FIRST) == Ok(true));
     drop(server);
-    assert!(rt; full && right == Ok(true) && goes_on == Ok(true));
-    Ok(())
 }
 
 // Whether there is no place for one server more.
@@ -139,24 +127,22 @@ fn has_no_place<J: Naming, R: FixedRun, H: Wait + Drop>(writer: &mut Writer<J, R
     }
 }
 
-// What a server answers of 100 commands, and of their image.
-fn hundred_is_right<J: Naming, R: FixedRun, H: Wait + Drop>(
+// A server answers of 100 commands, and of their image.
+fn answers_of_hundred<J: Naming, R: FixedRun, H: Wait + Drop, A: Abort>(
+    rt: &A,
     alloc: Global,
     writer: &mut Writer<J, R, H>,
     server: &mut Server<J, R>,
-) -> Result<bool, VenueError>
+)
     requires free { R.fixed ≡ false }
     requires new { writer.old.history ≡ [] }
 {
-    accept_plan(writer, 100)?;
-    let heard = hears(writer, server, 100);
-    let gaps = gaps_are_right(alloc, writer, server)?;
-    let advertised = advertises_twice(writer)?;
-    let told = hears(writer, server, 102);
-    let images = images_are_right(alloc, server)?;
+    accept_plan(writer, 100).expect(rt, "they are accepted");
+    assert!(rt; hears(writer, server, 100) && gaps_are_right(alloc, writer, server));
+    advertises_twice(rt, writer);
+    assert!(rt; hears(writer, server, 102) && images_are_right(alloc, server));
     // what the server has seen begins the history
     writer.covers(server);
-    Ok(heard && gaps && advertised && told && images)
 }
 
 // Whether a server has seen so many operations once it was told of all.
@@ -188,38 +174,27 @@ fn hands_out<J: Naming, R: FixedRun>(
 }
 
 // Whether there are so many messages, and no more.
-fn has_all<J: Naming, R: FixedRun>(
-    alloc: Global,
-    server: &mut Server<J, R>,
-    last: u32,
-) -> Result<bool, OutOfMemory>
+fn has_all<J: Naming, R: FixedRun>(alloc: Global, server: &mut Server<J, R>, last: u32) -> bool
     requires { last < 65536 }
 {
     let mut out = RawList::make(alloc);
-    let found = server.gap(last + 1, 1, &mut out)?;
-    Ok(found == Found::Ahead { last })
+    server.gap(last + 1, 1, &mut out) == Ok(Found::Ahead { last })
 }
 
 // Whether the first messages are kept, when a proxy looks for them.
-pub(crate) fn finds<J: Naming, R: FixedRun>(
-    server: &mut Server<J, R>,
-    count: u16,
-) -> Result<bool, OutOfMemory>
+pub(crate) fn finds<J: Naming, R: FixedRun>(server: &mut Server<J, R>, count: u16) -> bool
     requires { 1 ≤ count }
 {
-    Ok(server.find(1, count)? == Found::Kept)
+    server.find(1, count) == Ok(Found::Kept)
 }
 
 // Whether a proxy gets the first message, alone and packed.
-fn serves_a_proxy<J: Naming, R: FixedRun>(
-    alloc: Global,
-    server: &mut Server<J, R>,
-) -> Result<bool, OutOfMemory> {
+fn serves_a_proxy<J: Naming, R: FixedRun>(alloc: Global, server: &mut Server<J, R>) -> bool {
     let mut out = RawList::make(alloc);
-    let looked = server.look(1, 1, &mut out)?;
+    let looked = server.look(1, 1, &mut out) == Ok(Found::Kept);
     let mut lines = DatagramList::make(alloc);
-    let packed = server.pack(alloc, 1, 1, 1, &mut lines)?;
-    Ok((looked, packed, out.get(0), lines.len()) == (Found::Kept, Found::Kept, Some(FIRST), 1))
+    let packed = server.pack(alloc, 1, 1, 1, &mut lines) == Ok(Found::Kept);
+    looked && packed && out.get(0) == Some(FIRST) && lines.len() == 1
 }
 
 // The messages of 100 commands, by each of the look-ups.
@@ -227,36 +202,33 @@ fn gaps_are_right<J: Naming, R: FixedRun, H: Wait + Drop>(
     alloc: Global,
     writer: &Writer<J, R, H>,
     server: &mut Server<J, R>,
-) -> Result<bool, OutOfMemory> {
+) -> bool {
     let last = match writer.last_raw() {
-        Some(raw) => hands_out(alloc, server, 100, raw.bytes())?,
+        Some(raw) => hands_out(alloc, server, 100, raw.bytes()) == Ok(true),
         None => false,
     };
-    let all = has_all(alloc, server, 100)?;
-    let found = finds(server, 100)?;
-    let served = serves_a_proxy(alloc, server)?;
-    Ok(last && all && found && served && server.available().is_none())
+    let all = has_all(alloc, server, 100) && finds(server, 100);
+    last && all && serves_a_proxy(alloc, server) && server.available().is_none()
 }
 
 // Advertises the image of 100 messages, and again.
-fn advertises_twice<J: Naming, R: FixedRun, H: Wait + Drop>(
+fn advertises_twice<J: Naming, R: FixedRun, H: Wait + Drop, A: Abort>(
+    rt: &A,
     writer: &mut Writer<J, R, H>,
-) -> Result<bool, OutOfMemory>
+)
     requires { length writer.old.history ≡ 100 }
 {
-    Ok((writer.advertise()?, writer.advertise()?) == (100, 100))
+    let first = writer.advertise().expect(rt, "memory");
+    let again = writer.advertise().expect(rt, "memory");
+    assert!(rt; (first, again) == (100, 100));
 }
 
 // Whether the image of the first 100 messages, a second and 32 orders, is there, and no other.
-fn images_are_right<J: Naming, R: FixedRun>(
-    alloc: Global,
-    server: &mut Server<J, R>,
-) -> Result<bool, OutOfMemory> {
+fn images_are_right<J: Naming, R: FixedRun>(alloc: Global, server: &mut Server<J, R>) -> bool {
     let mut out = RawList::make(alloc);
-    let whole = Server::image(server, 100, &mut out)?;
-    let other = Server::image(server, 99, &mut out)?;
-    let right = (whole, other) == (Imaged::Image { orders: 32 }, Imaged::NotAdvertised);
-    Ok(right && out.len() == 33 && serves_a_spin(server))
+    let whole = Server::image(server, 100, &mut out) == Ok(Imaged::Image { orders: 32 });
+    let other = Server::image(server, 99, &mut out) == Ok(Imaged::NotAdvertised);
+    whole && other && out.len() == 33 && serves_a_spin(server)
 }
 
 // Whether a Spin Server finds the image of the first 100 messages alone.
@@ -267,48 +239,47 @@ fn serves_a_spin<J: Naming, R: FixedRun>(server: &mut Server<J, R>) -> bool {
 }
 
 #[test]
-fn two_servers_answer(rt: HostRuntime) -> Result<(), Fail> {
-    start_two::<Brand, _>(&rt)
+fn two_servers_answer(rt: HostRuntime) {
+    start_two::<Brand, _>(&rt);
 }
 
 // Picks the run, which fixes nothing.
-fn start_two<R: FixedRun, W: Wait + Abort + AllocGlobal>(rt: &W) -> Result<(), Fail>
+fn start_two<R: FixedRun, W: Wait + Abort + AllocGlobal>(rt: &W)
     requires free { R.fixed ≡ false }
 {
-    let opened: Opened<R> = Opened::make(rt.alloc(), 1, 4096, 2)?;
-    ask_two::<Brand, R, W>(rt, opened)
+    let opened: Opened<R> = Opened::make(rt.alloc(), 1, 4096, 2).expect(rt, "memory");
+    ask_two::<Brand, R, W>(rt, opened);
 }
 
-fn ask_two<J: Naming, R: FixedRun, W: Wait + Abort + AllocGlobal>(
-    rt: &W,
-    opened: Opened<R>,
-) -> Result<(), Fail>
+fn ask_two<J: Naming, R: FixedRun, W: Wait + Abort + AllocGlobal>(rt: &W, opened: Opened<R>)
     requires book { opened.seen.book ≡ J.book }
     requires kept { opened.kept ≡ J.kept }
     requires free { R.fixed ≡ false }
 {
-    let (mut writer, mut servers) = make_all::<J, R, W>(rt, opened)?;
-    let right = both_are_right(rt.alloc(), &mut writer, &mut servers);
+    let (mut writer, mut servers) = make_all::<J, R, W>(rt, opened);
+    assert!(rt; both_answer(rt, rt.alloc(), &mut writer, &mut servers));
     // a writer that is not closed takes the copies along
     drop(writer);
-    let gone = have_nothing(rt.alloc(), &mut servers);
+    assert!(rt; have_nothing(rt.alloc(), &mut servers));
     drop(servers);
-    assert!(rt; right == Ok(true) && gone);
-    Ok(())
 }
 
 // Whether there are two servers, which answer as they should.
-fn both_are_right<J: Naming, R: FixedRun, H: Wait + Drop>(
+fn both_answer<J: Naming, R: FixedRun, H: Wait + Drop, A: Abort>(
+    rt: &A,
     alloc: Global,
     writer: &mut Writer<J, R, H>,
     servers: &mut Vec<Server<J, R>>,
-) -> Result<bool, VenueError>
+) -> bool
     requires free { R.fixed ≡ false }
     requires new { writer.old.history ≡ [] }
 {
     match servers.as_mut_slice() {
-        [one, two] => three_are_right(alloc, writer, one, two),
-        _ => Ok(false),
+        [one, two] => {
+            answer_of_three(rt, alloc, writer, one, two);
+            true
+        }
+        _ => false,
     }
 }
 
@@ -320,23 +291,23 @@ fn have_nothing<J: Naming, R: FixedRun>(alloc: Global, servers: &mut Vec<Server<
     }
 }
 
-// What two servers answer of three commands and their image, told of them or not.
-fn three_are_right<J: Naming, R: FixedRun, H: Wait + Drop>(
+// Two servers answer of three commands and their image, told of them or not.
+fn answer_of_three<J: Naming, R: FixedRun, H: Wait + Drop, A: Abort>(
+    rt: &A,
     alloc: Global,
     writer: &mut Writer<J, R, H>,
     one: &mut Server<J, R>,
     two: &mut Server<J, R>,
-) -> Result<bool, VenueError>
+)
     requires free { R.fixed ≡ false }
     requires new { writer.old.history ≡ [] }
 {
-    accept_plan(writer, 3)?;
-    let untold = sees_three(alloc, one) && sees_three(alloc, two);
-    let advertised = writer.advertise()? == 3;
+    accept_plan(writer, 3).expect(rt, "they are accepted");
+    assert!(rt; sees_three(alloc, one) && sees_three(alloc, two));
+    assert!(rt; writer.advertise() == Ok(3));
     // still nothing was told
-    let newest = one.has_image(3) && two.available() == Some(3);
-    let told = hears(writer, one, 4) && hands_out(alloc, one, 1, FIRST)?;
-    Ok(untold && advertised && newest && told)
+    assert!(rt; one.has_image(3) && two.available() == Some(3));
+    assert!(rt; hears(writer, one, 4) && hands_out(alloc, one, 1, FIRST) == Ok(true));
 }
 
 // Whether a server that was told nothing sees three commands.

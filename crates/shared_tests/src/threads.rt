@@ -8,35 +8,32 @@ use std::alloc::Global;
 use std::marker::Brand;
 use std::process::Abort;
 use std::sync::Wait;
-use std::test::*;
 use std::thread::{Threads, join};
 use venue_core::VenueError;
 
 #[test]
-fn a_server_that_is_told_nothing_answers(rt: HostRuntime) -> Result<(), Fail> {
-    start_untold::<Brand, _>(&rt)
+fn a_server_that_is_told_nothing_answers(rt: HostRuntime) {
+    start_untold::<Brand, _>(&rt);
 }
 
 // Picks the run, which fixes nothing.
-fn start_untold<R: FixedRun + Send + Sync, W: Threads + Wait + Abort + AllocGlobal + Sync>(
-    rt: &W,
-) -> Result<(), Fail>
+fn start_untold<R: FixedRun + Send + Sync, W: Threads + Wait + Abort + AllocGlobal + Sync>(rt: &W)
     requires free { R.fixed ≡ false }
 {
-    let opened: Opened<R> = Opened::make(rt.alloc(), 1, 4096, 1)?;
-    play_untold::<Brand, R, W>(rt, opened)
+    let opened: Opened<R> = Opened::make(rt.alloc(), 1, 4096, 1).expect(rt, "memory");
+    play_untold::<Brand, R, W>(rt, opened);
 }
 
 fn play_untold<
     J: Naming + Send + Sync,
     R: FixedRun + Send + Sync,
     W: Threads + Wait + Abort + AllocGlobal + Sync,
->(rt: &W, opened: Opened<R>) -> Result<(), Fail>
+>(rt: &W, opened: Opened<R>)
     requires book { opened.seen.book ≡ J.book }
     requires kept { opened.kept ≡ J.kept }
     requires free { R.fixed ≡ false }
 {
-    let (writer, server) = make_one::<J, R, W>(rt, opened)?;
+    let (writer, server) = make_one::<J, R, W>(rt, opened);
     let alloc = rt.alloc();
     let ((writer, accepted), wrong) = join(
         rt,
@@ -45,7 +42,6 @@ fn play_untold<
     );
     drop(writer);
     assert!(rt; accepted && wrong == 0);
-    Ok(())
 }
 
 // Accepts the plan's first three commands, and says whether none was refused.
@@ -71,33 +67,30 @@ fn ask_untold<J: Naming, R: FixedRun>(alloc: Global, mut server: Server<J, R>) -
 }
 
 #[test]
-fn a_server_that_is_told_answers(rt: HostRuntime) -> Result<(), Fail> {
-    start_told::<Brand, _>(&rt)
+fn a_server_that_is_told_answers(rt: HostRuntime) {
+    start_told::<Brand, _>(&rt);
 }
 
 // Picks the run, which fixes nothing.
-fn start_told<R: FixedRun + Send + Sync, W: Threads + Wait + Abort + AllocGlobal + Sync>(
-    rt: &W,
-) -> Result<(), Fail>
+fn start_told<R: FixedRun + Send + Sync, W: Threads + Wait + Abort + AllocGlobal + Sync>(rt: &W)
     requires free { R.fixed ≡ false }
 {
-    let opened: Opened<R> = Opened::make(rt.alloc(), 1, 4096, 1)?;
-    play_told::<Brand, R, W>(rt, opened)
+    let opened: Opened<R> = Opened::make(rt.alloc(), 1, 4096, 1).expect(rt, "memory");
+    play_told::<Brand, R, W>(rt, opened);
 }
 
 fn play_told<
     J: Naming + Send + Sync,
     R: FixedRun + Send + Sync,
     W: Threads + Wait + Abort + AllocGlobal + Sync,
->(rt: &W, opened: Opened<R>) -> Result<(), Fail>
+>(rt: &W, opened: Opened<R>)
     requires book { opened.seen.book ≡ J.book }
     requires kept { opened.kept ≡ J.kept }
     requires free { R.fixed ≡ false }
 {
-    let (to, from) = unbounded(rt.alloc())?;
-    let (writer, server) = make_one::<J, R, W>(rt, opened)?;
+    let (to, from) = unbounded(rt.alloc()).expect(rt, "memory");
+    let (writer, server) = make_one::<J, R, W>(rt, opened);
     assert!(rt; talk(rt, writer, server, to, from));
-    Ok(())
 }
 
 // The writer in a thread, and the server in another, which is told.
@@ -127,7 +120,7 @@ fn has_heard<J: Naming, R: FixedRun, H: Wait + Drop>(
     writer: &mut Writer<J, R, H>,
     server: &mut Server<J, R>,
 ) -> bool {
-    hears(writer, server, 101) && finds(server, 100) == Ok(true)
+    hears(writer, server, 101) && finds(server, 100)
 }
 
 // Sends what is told. Where nobody hears it, it is let go.
@@ -207,7 +200,7 @@ fn serve<J: Naming, R: FixedRun, W: Wait>(
         };
         server.hear_told(told);
         heard = heard.saturating_add(1);
-        if finds(&mut server, heard.min(100)) != Ok(true) {
+        if !finds(&mut server, heard.min(100)) {
             wrong = wrong.saturating_add(1);
         }
     }
