@@ -53,23 +53,41 @@ fn carry<R: Abort + AllocGlobal>(
     take(rt, end, Session::SpinServer, &down);
 }
 
-// A heartbeat tells of a message, the end asks for the image, and is current once that came.
+// A heartbeat tells of a message, and a Spin Server is there.
+fn lacks_one(rt: &impl Abort, end: &mut SendingEnd) {
+    hear(rt, end, BEAT);
+    assert!(rt; end.status() == Status::Behind { n: 0, top: 1 });
+    connect(rt, end, Session::SpinServer);
+    assert!(rt; end.has(Session::SpinServer) && !end.has(Session::Proxy));
+}
+
+// Once logged in, the end asks for the image at the next second.
+fn asks(rt: &impl Abort, end: &mut SendingEnd) {
+    pass_second(rt, end);
+    assert!(rt; end.waiting(Session::Proxy) == 0);
+    assert!(rt; end.waiting(Session::SpinServer) == 14);
+}
+
+// Without a Spin Server the end has what came.
+fn has_one(rt: &impl Abort, end: &mut SendingEnd) {
+    end.cut(Session::SpinServer);
+    assert!(rt; !end.has(Session::SpinServer));
+    assert!(rt; end.status() == Status::Current { n: 1 });
+    assert!(rt; end.book().len() == 1);
+}
+
+// The end is current once the image came.
 #[test]
 fn an_end_comes_back_by_an_image(rt: HostRuntime) {
     let mut shelf = shelf_of_one(&rt);
     let mut server = server_of_one(&rt);
     let mut end = end_of(&rt, 1);
-    hear(&rt, &mut end, BEAT);
-    assert!(rt; end.status() == Status::Behind { n: 0, top: 1 });
-    connect(&rt, &mut end, Session::SpinServer);
-    assert!(rt; end.has(Session::SpinServer) && !end.has(Session::Proxy));
+    lacks_one(&rt, &mut end);
     carry(&rt, &mut server, &mut shelf, &mut end);
-    pass_second(&rt, &mut end);
-    assert!(rt; end.waiting(Session::Proxy) == 0);
-    assert!(rt; end.waiting(Session::SpinServer) == 14);
+    asks(&rt, &mut end);
     carry(&rt, &mut server, &mut shelf, &mut end);
-    end.cut(Session::SpinServer);
-    assert!(rt; !end.has(Session::SpinServer));
-    assert!(rt; end.status() == Status::Current { n: 1 });
-    assert!(rt; end.book().len() == 1);
+    drop(server);
+    drop(shelf);
+    has_one(&rt, &mut end);
+    drop(end);
 }

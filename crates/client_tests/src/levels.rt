@@ -18,15 +18,24 @@ fn units_of<R: Abort + AllocGlobal>(rt: &R, leveled: bool) -> LeveledUnits {
     units
 }
 
+// Whether unit 7 alone was heard, and has this order's price and shares as its best bid.
+fn has_bid(units: &LeveledUnits) -> bool {
+    let symbol = Symbol::from_eight(*b"ABC     ");
+    match units.unit(7) {
+        Some(unit) => {
+            unit.best(symbol, Side::Buy) == Some((Price::from_long(10_100), 100))
+                && unit.best(symbol, Side::Sell).is_none()
+                && units.unit(1).is_none()
+        }
+        None => false,
+    }
+}
+
 #[test]
 fn the_best_bid_is_that_of_the_order(rt: HostRuntime) {
-    let symbol = Symbol::from_eight(*b"ABC     ");
     for leveled in [true, false] {
         let units = units_of(&rt, leveled);
-        let unit = units.unit(7).expect(&rt, "a client");
-        let bid = unit.best(symbol, Side::Buy);
-        assert!(rt; bid == Some((Price::from_long(10_100), 100)));
-        assert!(rt; unit.best(symbol, Side::Sell).is_none());
-        assert!(rt; units.unit(1).is_none());
+        assert!(rt; has_bid(&units));
+        drop(units);
     }
 }

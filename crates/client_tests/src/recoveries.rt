@@ -35,17 +35,22 @@ fn log_in_and_ask<R: Abort + AllocGlobal>(rt: &R, end: &mut SendingEnd) {
 }
 
 // It is asked for again after a cut, and comes on the gap line.
+fn recovers<R: Abort + AllocGlobal>(rt: &R, end: &mut SendingEnd) {
+    log_in_and_ask(rt, end);
+    end.cut(Session::Proxy);
+    assert!(rt; !end.has(Session::Proxy));
+    log_in_and_ask(rt, end);
+    hear(rt, end, SECOND);
+}
+
 #[test]
 fn a_lost_message_is_asked_for_and_heard(rt: HostRuntime) {
     let mut end = end_of(&rt, 7);
     hear(&rt, &mut end, FIRST);
     hear(&rt, &mut end, THIRD);
     assert!(rt; end.status() == Status::Behind { n: 1, top: 3 });
-    log_in_and_ask(&rt, &mut end);
-    end.cut(Session::Proxy);
-    assert!(rt; !end.has(Session::Proxy));
-    log_in_and_ask(&rt, &mut end);
-    hear(&rt, &mut end, SECOND);
+    recovers(&rt, &mut end);
     assert!(rt; end.status() == Status::Current { n: 3 });
     assert!(rt; end.book().len() == 3);
+    drop(end);
 }
