@@ -6,8 +6,6 @@ use pitch_io::FreeGate;
 use pitch_model::Status;
 use pitch_text::TextCause;
 use schedule_replay::{ReplayError, WorldList, replay};
-use std::alloc::Global;
-use std::test::*;
 use std::thread::Threads;
 use world_model::World;
 
@@ -49,36 +47,33 @@ const FAULT: ReplayError = ReplayError::Text {
     cause: TextCause::ExtraField,
 };
 
-// Replays a text with two workers, and appends what it prints.
+// Replays a text with so many workers, and appends what it prints.
 fn run<W: Threads + Sync>(
     rt: &W,
-    alloc: Global,
     text: &[u8],
+    workers: u8,
     worlds: &mut WorldList,
     out: &mut Vec<u8>,
 ) -> Result<(), ReplayError>
-    requires { length text.now ≤ 67108864 }
+    requires size { length text.now ≤ 67108864 }
+    requires workers { (1 ≤ workers) × (workers ≤ 64) }
 {
-    replay(rt, alloc, text, 2, &FreeGate, worlds, out)?;
-    Ok(())
+    replay(rt, *out.allocator(), text, workers, &FreeGate, worlds, out)
+}
+
+// Whether the worlds are those of two clients, each with one message, and these orders.
+fn have_orders(worlds: &WorldList, orders: [u64; 2]) -> bool {
+    let [one, two] = orders;
+    worlds.len() == 2 && has_order(worlds.get(0), one) && has_order(worlds.get(1), two)
 }
 
 #[test]
-fn each_unit_has_its_own_world(rt: HostRuntime) -> Result<(), Fail> {
+fn each_unit_has_its_own_world(rt: HostRuntime) {
     let mut worlds = WorldList::make(rt.alloc());
     let mut out = Vec::new(rt.alloc());
-    replay(
-        &rt,
-        rt.alloc(),
-        TWO_UNITS,
-        1,
-        &FreeGate,
-        &mut worlds,
-        &mut out,
-    )?;
-    assert!(rt; out.as_slice() == TWO_UNITS_TEXT && worlds.len() == 2);
-    assert!(rt; has_order(worlds.get(0), 1) && has_order(worlds.get(1), 5));
-    Ok(())
+    assert!(rt; run(&rt, TWO_UNITS, 1, &mut worlds, &mut out) == Ok(()));
+    assert!(rt; out.as_slice() == TWO_UNITS_TEXT && have_orders(&worlds, [1, 5]));
+    drop(worlds);
 }
 
 // Whether a world's client has one message, and that order.
@@ -94,11 +89,11 @@ fn is_current(world: &World) -> bool {
 }
 
 #[test]
-fn a_fault_anywhere_refuses_the_text(rt: HostRuntime) -> Result<(), Fail> {
+fn a_fault_anywhere_refuses_the_text(rt: HostRuntime) {
     let mut worlds = WorldList::make(rt.alloc());
     let mut out = Vec::new(rt.alloc());
-    run(&rt, rt.alloc(), ONE_TICK, &mut worlds, &mut out)?;
-    let faulty = run(&rt, rt.alloc(), FAULTY, &mut worlds, &mut out);
-    assert!(rt; faulty == Err(FAULT) && out.as_slice() == ONE_TICK_TEXT && worlds.len() == 1);
-    Ok(())
+    assert!(rt; run(&rt, ONE_TICK, 2, &mut worlds, &mut out) == Ok(()));
+    assert!(rt; run(&rt, FAULTY, 2, &mut worlds, &mut out) == Err(FAULT));
+    assert!(rt; out.as_slice() == ONE_TICK_TEXT && worlds.len() == 1);
+    drop(worlds);
 }

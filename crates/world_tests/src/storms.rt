@@ -1,11 +1,9 @@
 //! Storms as they are made: a short one written out, sums of longer ones, summary lines.
 
-ghost use Rattle.std.specs.Prelude.{◌≤◌};
-
 use feed_lines::{LINE, put_unit_line};
 use pitch_model::Status;
 use std::alloc::Global;
-use std::test::*;
+use std::process::Abort;
 use storm_replay::{Storm, generate, put_storm_line};
 
 // The schedule of one unit and four steps for the number 0, whose first lost copy is that of
@@ -18,26 +16,24 @@ const SHORT: &str = "1 grp open\n1 grp up all\n1 grp down all\n\
     1 beat\n1 a 5\n1 grp cut\n1 spin open\n1 spin up all\n1 advertise\n1 spin down all\n\
     1 tick\n1 spin up all\n1 spin down all\n";
 
-// Whether this is generated for a storm.
-fn is_generated(alloc: Global, storm: Storm, expected: &[u8]) -> Result<bool, Fail>
-    requires units { (1 ≤ storm.units) × (storm.units ≤ 16) }
-    requires steps { (1 ≤ storm.steps) × (storm.steps ≤ 10000) }
-{
+// What is generated for a storm.
+fn generated(rt: &impl Abort, alloc: Global, storm: Storm) -> Vec<u8> {
+    assert!(rt; storm.units >= 1 && storm.units <= 16);
+    assert!(rt; storm.steps >= 1 && storm.steps <= 10_000);
     let mut text = Vec::new(alloc);
-    generate(storm, &mut text)?;
-    Ok(text.as_slice() == expected)
+    generate(storm, &mut text).expect(rt, "memory");
+    text
 }
 
 #[test]
-fn a_short_storm_is_written_out(rt: HostRuntime) -> Result<(), Fail> {
+fn a_short_storm_is_written_out(rt: HostRuntime) {
     let storm = Storm {
         number: 0,
         units: 1,
         steps: 4,
     };
-    let right = is_generated(rt.alloc(), storm, SHORT.as_bytes())?;
-    assert!(rt; right);
-    Ok(())
+    let text = generated(&rt, rt.alloc(), storm);
+    assert!(rt; text.as_slice() == SHORT.as_bytes());
 }
 
 // What is generated for a number, units and steps: bytes, lines and the 64-bit FNV-1a sum of the
@@ -62,29 +58,21 @@ fn summed(text: &[u8]) -> (usize, u64, u64) {
     (text.len(), lines, sum)
 }
 
-// The sums of what is generated.
-fn sums_of(alloc: Global, storm: Storm) -> Result<(usize, u64, u64), Fail>
-    requires units { (1 ≤ storm.units) × (storm.units ≤ 16) }
-    requires steps { (1 ≤ storm.steps) × (storm.steps ≤ 10000) }
-{
-    let mut text = Vec::new(alloc);
-    generate(storm, &mut text)?;
-    Ok(summed(text.as_slice()))
+fn have_sums(rt: &impl Abort, alloc: Global, cases: &[(u64, u8, u32, (usize, u64, u64))]) {
+    for (number, units, steps, expected) in cases {
+        let storm = Storm {
+            number: *number,
+            units: *units,
+            steps: *steps,
+        };
+        let text = generated(rt, alloc, storm);
+        assert!(rt; summed(&text) == *expected);
+    }
 }
 
 #[test]
-fn a_storm_is_made_of_its_numbers_alone(rt: HostRuntime) -> Result<(), Fail> {
-    for (number, units, steps, expected) in CASES {
-        assert!(rt; units >= 1 && units <= 16 && steps >= 1 && steps <= 10_000);
-        let storm = Storm {
-            number,
-            units,
-            steps,
-        };
-        let sums = sums_of(rt.alloc(), storm)?;
-        assert!(rt; sums == expected);
-    }
-    Ok(())
+fn a_storm_is_made_of_its_numbers_alone(rt: HostRuntime) {
+    have_sums(&rt, rt.alloc(), &CASES);
 }
 
 #[test]

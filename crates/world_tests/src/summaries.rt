@@ -1,12 +1,9 @@
 //! Storms as they end: summaries, the worlds behind them, and two units side by side.
 
-ghost use Rattle.std.specs.Prelude.{◌≤◌};
-
 use pitch_io::{FreeGate, MeetGate};
 use pitch_model::Status;
 use schedule_replay::WorldList;
-use std::alloc::Global;
-use std::test::*;
+use std::process::Abort;
 use std::thread::Threads;
 use storm_replay::{Storm, run_storm};
 use world_model::World;
@@ -41,40 +38,57 @@ const STORMS: [(u64, u8, u32, &[u8]); 3] = [
 // The last message of each world of these, and the shares of its orders.
 const ENDS: [(usize, u32, u64); 4] = [(0, 1, 0), (1, 4, 337), (2, 16, 1078), (3, 16, 1083)];
 
-#[test]
-fn a_storm_tells_where_its_units_ended(rt: HostRuntime) -> Result<(), Fail> {
-    let mut worlds = WorldList::make(rt.alloc());
-    for (number, units, steps, text) in STORMS {
-        assert!(rt; units >= 1 && units <= 16 && steps >= 1 && steps <= 10_000);
-        let storm = Storm {
-            number,
-            units,
-            steps,
-        };
-        let right = is_summed_up(&rt, rt.alloc(), storm, text, &mut worlds)?;
-        assert!(rt; right);
-    }
-    for (index, n, shares) in ENDS {
-        assert!(rt; has_ended(worlds.get(index), n, shares));
-    }
-    assert!(rt; worlds.len() == 4);
-    Ok(())
-}
-
-// Whether a storm, with as many pieces of work as units, has that summary.
-fn is_summed_up<W: Threads + Sync>(
+// Runs a storm, with as many pieces of work as units, which has that summary.
+fn is_summed_up<W: Threads + Sync + Abort + AllocGlobal>(
     rt: &W,
-    alloc: Global,
     storm: Storm,
     text: &[u8],
     worlds: &mut WorldList,
-) -> Result<bool, Fail>
-    requires units { (1 ≤ storm.units) × (storm.units ≤ 16) }
-    requires steps { (1 ≤ storm.steps) × (storm.steps ≤ 10000) }
-{
-    let mut out = Vec::new(alloc);
-    run_storm(rt, alloc, storm, storm.units, &FreeGate, worlds, &mut out)?;
-    Ok(out.as_slice() == text)
+) {
+    assert!(rt; storm.units >= 1 && storm.units <= 16);
+    assert!(rt; storm.steps >= 1 && storm.steps <= 10_000);
+    let mut out = Vec::new(rt.alloc());
+    run_storm(
+        rt,
+        rt.alloc(),
+        storm,
+        storm.units,
+        &FreeGate,
+        worlds,
+        &mut out,
+    )
+    .expect(rt, "memory");
+    assert!(rt; out.as_slice() == text);
+}
+
+fn are_summed_up<W: Threads + Sync + Abort + AllocGlobal>(
+    rt: &W,
+    storms: &[(u64, u8, u32, &[u8])],
+    worlds: &mut WorldList,
+) {
+    for (number, units, steps, text) in storms {
+        let storm = Storm {
+            number: *number,
+            units: *units,
+            steps: *steps,
+        };
+        is_summed_up(rt, storm, text, worlds);
+    }
+}
+
+fn have_ended(rt: &impl Abort, worlds: &WorldList, ends: &[(usize, u32, u64)]) {
+    for (index, n, shares) in ends {
+        assert!(rt; has_ended(worlds.get(*index), *n, *shares));
+    }
+    assert!(rt; worlds.len() == ends.len());
+}
+
+#[test]
+fn a_storm_tells_where_its_units_ended(rt: HostRuntime) {
+    let mut worlds = WorldList::make(rt.alloc());
+    are_summed_up(&rt, &STORMS, &mut worlds);
+    have_ended(&rt, &worlds, &ENDS);
+    drop(worlds);
 }
 
 // Whether a world's client has so many messages, and orders of so many shares.
@@ -91,7 +105,7 @@ fn is_current(world: &World, n: u32) -> bool {
 
 // Two units of a storm run beside one another: each waits at the gate until the other has come.
 #[test]
-fn two_units_of_a_storm_meet(rt: HostRuntime) -> Result<(), Fail> {
+fn two_units_of_a_storm_meet(rt: HostRuntime) {
     let gate = MeetGate::make();
     let mut worlds = WorldList::make(rt.alloc());
     let mut out = Vec::new(rt.alloc());
@@ -100,8 +114,8 @@ fn two_units_of_a_storm_meet(rt: HostRuntime) -> Result<(), Fail> {
         units: 2,
         steps: 16,
     };
-    run_storm(&rt, rt.alloc(), storm, 2, &gate, &mut worlds, &mut out)?;
-    assert!(rt; out.as_slice() == STORMS[2].3);
+    let run = run_storm(&rt, rt.alloc(), storm, 2, &gate, &mut worlds, &mut out);
+    drop(worlds);
+    assert!(rt; run == Ok(()) && out.as_slice() == STORMS[2].3);
     assert!(rt; (gate.spent(), gate.met()) == (false, 2));
-    Ok(())
 }

@@ -5,7 +5,6 @@ use pitch_model::Status;
 use pitch_text::{ScheduleList, read_schedule};
 use std::alloc::Global;
 use std::process::Abort;
-use std::test::*;
 use world_model::{Limits, World};
 
 // A hold of two places.
@@ -18,15 +17,14 @@ const LIMITS: Limits = Limits {
 };
 
 // Does the lines of a schedule.
-fn play(rt: &impl Abort, alloc: Global, world: &mut World, text: &[u8]) -> Result<(), Fail> {
+fn play(rt: &impl Abort, alloc: Global, world: &mut World, text: &[u8]) {
     let mut entries = ScheduleList::make(alloc);
     assert!(rt; text.len() < 1000);
-    read_schedule(text, &mut entries)?;
+    assert!(rt; read_schedule(text, &mut entries).is_ok());
     for entry in entries.as_slice() {
         assert!(rt; entry.well_formed());
-        let _printed = world.step(&entry.verb)?;
+        assert!(rt; world.step(&entry.verb).is_ok());
     }
-    Ok(())
 }
 
 // The second of three messages is lost, and the proxy sends it again.
@@ -41,10 +39,10 @@ const LOST_SHOWN: &[u8] = b"book unit 1 at 3 second - orders 3\n\
     lines a 2/2 b 0/0 g 1/1\n";
 
 // Whether a world is shown so.
-fn is_shown(alloc: Global, world: &World, expected: &[u8]) -> Result<bool, Fail> {
+fn is_shown(rt: &impl Abort, alloc: Global, world: &World, expected: &[u8]) -> bool {
     let mut text = Vec::new(alloc);
-    world.show(&mut text)?;
-    Ok(text.as_slice() == expected)
+    world.show(&mut text).expect(rt, "memory");
+    text.as_slice() == expected
 }
 
 // Whether so many datagrams were sent on line A and the gap line, and the client has all messages.
@@ -53,19 +51,13 @@ fn has_all(world: &World, a: usize, gap: usize, n: u32) -> bool {
     sent && world.client().status() == Status::Current { n }
 }
 
-fn fills_a_gap(rt: &impl Abort, alloc: Global, world: &mut World) -> Result<bool, Fail> {
-    play(rt, alloc, world, LOST)?;
-    Ok(is_shown(alloc, world, LOST_SHOWN)? && has_all(world, 3, 1, 3))
-}
-
-// A world is dropped by a call, which is cheaper to prove than a drop at each return.
+// A world is dropped by a call, which is cheaper to prove than a drop at the end of its scope.
 #[test]
-fn a_gap_is_filled_by_the_proxy(rt: HostRuntime) -> Result<(), Fail> {
-    let mut world = World::make(rt.alloc(), 1, LIMITS)?;
-    let filled = fills_a_gap(&rt, rt.alloc(), &mut world);
+fn a_gap_is_filled_by_the_proxy(rt: HostRuntime) {
+    let mut world = World::make(rt.alloc(), 1, LIMITS).expect(&rt, "memory");
+    play(&rt, rt.alloc(), &mut world, LOST);
+    assert!(rt; is_shown(&rt, rt.alloc(), &world, LOST_SHOWN) && has_all(&world, 3, 1, 3));
     drop(world);
-    assert!(rt; filled?);
-    Ok(())
 }
 
 // An image that is cut off in its middle, and then a whole one.
@@ -80,16 +72,10 @@ const CUT_SHOWN: &[u8] = b"book unit 1 at 3 second - orders 2\n\
     status IBM H 0\n\
     lines a 0/0 b 0/0 g 0/0\n";
 
-fn carries_an_image(rt: &impl Abort, alloc: Global, world: &mut World) -> Result<bool, Fail> {
-    play(rt, alloc, world, CUT)?;
-    Ok(is_shown(alloc, world, CUT_SHOWN)? && has_all(world, 1, 0, 3))
-}
-
 #[test]
-fn images_are_carried(rt: HostRuntime) -> Result<(), Fail> {
-    let mut world = World::make(rt.alloc(), 1, LIMITS)?;
-    let carried = carries_an_image(&rt, rt.alloc(), &mut world);
+fn images_are_carried(rt: HostRuntime) {
+    let mut world = World::make(rt.alloc(), 1, LIMITS).expect(&rt, "memory");
+    play(&rt, rt.alloc(), &mut world, CUT);
+    assert!(rt; is_shown(&rt, rt.alloc(), &world, CUT_SHOWN) && has_all(&world, 1, 0, 3));
     drop(world);
-    assert!(rt; carried?);
-    Ok(())
 }
