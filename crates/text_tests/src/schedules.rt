@@ -3,8 +3,8 @@
 use pitch_text::{
     Command, CommandEntry, Commands, ScheduleList, TextCause, TextError, print_entry, read_schedule,
 };
-use std::alloc::{AllocError, Global};
-use std::test::*;
+use std::alloc::Global;
+use std::process::Abort;
 
 // A line, and what a schedule that has it alone answers.
 static ANSWERS: [(&str, &str); 60] = [
@@ -129,24 +129,26 @@ static PRINTED: [(&str, &str); 13] = [
 ];
 
 // What a schedule answers: `read`, or the error in words.
-fn answer(alloc: Global, text: &[u8]) -> Result<String, AllocError> {
+fn answer(rt: &impl Abort, alloc: Global, text: &[u8]) -> String {
     let mut out = ScheduleList::make(alloc);
-    if text.len() > 1000 {
-        return String::from_str(alloc, "too long for a test");
-    }
-    match read_schedule(text, &mut out) {
+    assert!(rt; text.len() < 1000);
+    let said = match read_schedule(text, &mut out) {
         Ok(()) => String::from_str(alloc, "read"),
         Err(error) => format!(in alloc; "{error}"),
+    };
+    said.expect(rt, "memory")
+}
+
+fn are_answered(rt: &impl Abort, alloc: Global, answers: &[(&str, &str)]) {
+    for (text, expected) in answers {
+        let got = answer(rt, alloc, text.as_bytes());
+        assert!(rt; got.as_str() == *expected);
     }
 }
 
 #[test]
-fn first_faults(rt: HostRuntime) -> Result<(), Fail> {
-    for (text, expected) in &ANSWERS {
-        let got = answer(rt.alloc(), text.as_bytes())?;
-        assert!(rt; got.as_str() == *expected, "{text}");
-    }
-    Ok(())
+fn first_faults(rt: HostRuntime) {
+    are_answered(&rt, rt.alloc(), &ANSWERS);
 }
 
 // A place of a line and the byte that is put there, how much of the line is read, and the answer.
@@ -159,57 +161,73 @@ static LONG: [(usize, u8, usize, &str); 6] = [
     (200, b'\r', 201, "read"),
 ];
 
-#[test]
-fn long_lines(rt: HostRuntime) -> Result<(), Fail> {
+fn are_long(rt: &impl Abort, alloc: Global, cases: &[(usize, u8, usize, &str)]) {
     let mut line = [b' '; 202];
     line[..7].copy_from_slice(b"1 flush");
-    for (at, byte, length, expected) in &LONG {
+    for (at, byte, length, expected) in cases {
         assert!(rt; *at < 202 && *length <= 202);
         line[*at] = *byte;
-        let got = answer(rt.alloc(), &line[..*length])?;
-        assert!(rt; got.as_str() == *expected, "{byte} at {at}");
+        let got = answer(rt, alloc, &line[..*length]);
+        assert!(rt; got.as_str() == *expected);
     }
-    Ok(())
 }
 
 #[test]
-fn printed_lines(rt: HostRuntime) -> Result<(), Fail> {
-    for (text, expected) in &PRINTED {
-        let mut out = ScheduleList::make(rt.alloc());
-        assert!(rt; text.len() < 1000);
-        read_schedule(text.as_bytes(), &mut out)?;
-        let mut line = Vec::new(rt.alloc());
-        for entry in out.as_slice() {
-            assert!(rt; entry.well_formed());
-            print_entry(entry, &mut line)?;
-        }
-        assert!(rt; line.as_slice() == expected.as_bytes(), "{text}");
+fn long_lines(rt: HostRuntime) {
+    are_long(&rt, rt.alloc(), &LONG);
+}
+
+// The entries of a text, printed.
+fn printed(rt: &impl Abort, alloc: Global, text: &[u8]) -> Vec<u8> {
+    let mut entries = ScheduleList::make(alloc);
+    assert!(rt; text.len() < 1000);
+    assert!(rt; read_schedule(text, &mut entries).is_ok());
+    let mut lines = Vec::new(alloc);
+    for entry in entries.as_slice() {
+        assert!(rt; entry.well_formed());
+        print_entry(entry, &mut lines).expect(rt, "memory");
     }
-    Ok(())
+    lines
+}
+
+fn are_printed(rt: &impl Abort, alloc: Global, texts: &[(&str, &str)]) {
+    for (text, expected) in texts {
+        let lines = printed(rt, alloc, text.as_bytes());
+        assert!(rt; lines.as_slice() == expected.as_bytes());
+    }
+}
+
+#[test]
+fn printed_lines(rt: HostRuntime) {
+    are_printed(&rt, rt.alloc(), &PRINTED);
+}
+
+// Commands between lines that have none.
+const TEXT: &[u8] = b"\n# none\nclear\r\n  end x\n\nend at=1\n# last\nclear 2";
+
+const END: Result<CommandEntry, TextError> = Ok(CommandEntry {
+    line: 6,
+    command: Command::EndSession { offset: 1 },
+});
+
+// The items of a text are these, and then no more.
+fn are_items(rt: &impl Abort, text: &[u8], wants: &[Result<CommandEntry, TextError>]) {
+    assert!(rt; text.len() < 1000);
+    let mut items = Commands::of_text(text);
+    for want in wants {
+        assert!(rt; items.next() == Some(*want));
+    }
+    assert!(rt; items.next() == None);
+    assert!(rt; items.next() == None);
 }
 
 #[test]
 fn a_text_line_by_line(rt: HostRuntime) {
-    let mut items = Commands::of_text(b"\n# none\nclear\r\n  end x\n\nend at=1\n# last\nclear 2");
-    let wants = [
-        clear_at(3),
-        bad_word_at(4, 7),
-        Ok(CommandEntry {
-            line: 6,
-            command: Command::EndSession { offset: 1 },
-        }),
-        bad_word_at(8, 7),
-    ];
-    for want in wants {
-        assert!(rt; items.next() == Some(want));
-    }
-    assert!(rt; items.next() == None);
-    assert!(rt; items.next() == None);
-    assert!(rt; Commands::of_text(b"").next() == None);
-    assert!(rt; Commands::of_text(b"\n\n").next() == None);
-    let mut one = Commands::of_text(b"clear\n");
-    assert!(rt; one.next() == Some(clear_at(1)));
-    assert!(rt; one.next() == None);
+    let wants = [clear_at(3), bad_word_at(4, 7), END, bad_word_at(8, 7)];
+    are_items(&rt, TEXT, &wants);
+    are_items(&rt, b"", &[]);
+    are_items(&rt, b"\n\n", &[]);
+    are_items(&rt, b"clear\n", &[clear_at(1)]);
 }
 
 fn clear_at(line: u32) -> Result<CommandEntry, TextError> {
