@@ -1,2 +1,4 @@
+pub mod Asking
 pub mod Rows
-pub mod Named
+pub mod Naming
+pub mod Examples

@@ -1,12 +1,13 @@
 //! The program's command, as `clap` reads it.
 
-ghost use Rattle.std.specs.Prelude.{◌≡◌, IfOk, false, [], ◌∷◌, codes};
+ghost use Rattle.std.specs.Prelude.{◌≡◌, ◌++◌, IfOk, false, [], ◌∷◌, codes};
 ghost use Rattle.clap.specs.Walk.{rule_of};
 ghost use Rattle.clap.specs.Simple.{app_of, with_rule};
 ghost use Rattle.clap.specs.declared.builder.command.Command.TheViews.{out-Command as fields_of};
 ghost use Rattle.long_options.specs.Apps.{command_app, empty_program, option_rule};
 ghost use Rattle.long_options.specs.Words.{may_have};
-ghost use Rattle.live_words.specs.Asked.{any_times as any_times_rule, listen_shape, pitch_live};
+ghost use Rattle.live_words.specs.Asked.{any_times as any_times_rule, line_rules, server_rules};
+ghost use Rattle.live_words.specs.Asked.{listen_shape, listen_with, pitch_live};
 
 use clap::{Arg, ArgAction, Command};
 use std::alloc::{AllocError, Global};
@@ -65,16 +66,38 @@ fn command<'a>(alloc: Global, name: &'a str) -> Command<'a>
         .disable_version_flag(true)
 }
 
-// `listen` with its options
-fn listen<'a>(alloc: Global) -> Result<Command<'a>, AllocError>
-    ensures app { IfOk result (λ r. app_of r ≡ record { top = listen_shape; subs = [] }) }
+// `listen` with the options of the lines and units.
+fn hearing<'a>(alloc: Global) -> Result<Command<'a>, AllocError>
+    ensures app { IfOk result
+        (λ r. app_of r ≡ record { top = listen_with line_rules; subs = [] }) }
     ensures local { IfOk result (λ r. (fields_of r).has_globals ≡ false) }
 {
     let a = with_any_times(alloc, command(alloc, "listen"), "a")?;
     let b = with_any_times(alloc, a, "b")?;
     let gap = with_any_times(alloc, b, "gap")?;
-    let unit = with_any_times(alloc, gap, "unit")?;
-    let hold = with_once(alloc, unit, "hold")?;
+    let from = with_any_times(alloc, gap, "from")?;
+    with_any_times(alloc, from, "unit")
+}
+
+// `listen` with those of the servers too.
+fn asking<'a>(alloc: Global) -> Result<Command<'a>, AllocError>
+    ensures app { IfOk result
+        (λ r. app_of r ≡ record { top = listen_with (line_rules ++ server_rules); subs = [] }) }
+    ensures local { IfOk result (λ r. (fields_of r).has_globals ≡ false) }
+{
+    let grp = with_any_times(alloc, hearing(alloc)?, "grp")?;
+    let spin = with_any_times(alloc, grp, "spin")?;
+    let sub = with_once(alloc, spin, "sub")?;
+    let user = with_once(alloc, sub, "user")?;
+    with_once(alloc, user, "password")
+}
+
+// `listen` with its options.
+fn listen<'a>(alloc: Global) -> Result<Command<'a>, AllocError>
+    ensures app { IfOk result (λ r. app_of r ≡ record { top = listen_shape; subs = [] }) }
+    ensures local { IfOk result (λ r. (fields_of r).has_globals ≡ false) }
+{
+    let hold = with_once(alloc, asking(alloc)?, "hold")?;
     with_once(alloc, hold, "seconds")
 }
 

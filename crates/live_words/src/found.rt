@@ -1,86 +1,61 @@
 //! What is asked for, in what `clap` found.
 
 ghost use Rattle.std.specs.Prelude.{◌≡◌, ℕ, ◌^◌, ◌-◌, IfNone, IfOk, IfSome, List, MatchOption};
-ghost use Rattle.std.specs.Prelude.{Option, codes, map, option_map, unwrap_or, []};
+ghost use Rattle.std.specs.Prelude.{Option, codes, map, option_map};
 ghost use Rattle.clap.specs.Matches.{found_of};
 ghost use Rattle.clap.specs.Simple.{subcommand_rows_of};
 ghost use Rattle.clap.specs.Walk.{all_of, first_of, rows_of};
 ghost use Rattle.pitch_fields.specs.Limits.{most_held};
 ghost use Rattle.pitch_text.specs.Defaults.{default_hold};
 ghost use Rattle.pitch_words.specs.Numbers.{IsGivenMaybe, IsGivenOr, IsNumber};
-ghost use Rattle.line_sockets.specs.declared.port.Port.{Port as PortOf};
-ghost use Rattle.live_words.specs.Asked.{AreAsked, AreNamed, HasAsked, IsPortText, texts_of};
+ghost use Rattle.session_ends.specs.declared.account.Account.{Account as AccountOf};
+ghost use Rattle.live_words.specs.Asked.{AreAsked, AreLines, AreNamed, AreServers, HasAsked};
+ghost use Rattle.live_words.specs.Asked.{IsAccount, texts_of};
+ghost use Rattle.live_words.specs.declared.listen_words.LineWords.{LineWords as LinesFor};
+ghost use Rattle.live_words.specs.declared.listen_words.ServerWords.{ServerWords as ServersFor};
 ghost use Rattle.live_words.specs.declared.listen_words.ListenWords.{ListenWords as AskedFor};
 
-use crate::listen_words::ListenWords;
-use crate::port::{number, port_of};
+use crate::listen_words::{LineWords, ListenWords, ServerWords};
+use crate::named::Named;
+use crate::number::number;
+use crate::servers::{account_of, can_ask};
 use clap::ArgMatches;
-use line_sockets::Port;
 use pitch_fields::OutOfMemory;
 use pitch_text::DEFAULT_HOLD;
+use session_ends::Account;
 use std::alloc::Global;
 
-// The ports that the texts name, or `None` where one names none.
-fn ports_of(alloc: Global, texts: &[&str]) -> Result<Option<Vec<Port>>, OutOfMemory>
+// What the texts name, or `None` where one names nothing.
+fn all_named<T: Named>(alloc: Global, texts: &[&str]) -> Result<Option<Vec<T>>, OutOfMemory>
     ensures { IfOk result (λ read. MatchOption read
-        ((ports : List PortOf) → ¬ AreNamed IsPortText (map (λ t. t.now) texts.now) ports)
-        (λ ports. AreNamed IsPortText (map (λ t. t.now) texts.now) ports.items)) }
+        ((values : List T) → ¬ AreNamed T.names (map (λ t. t.now) texts.now) values)
+        (λ values. AreNamed T.names (map (λ t. t.now) texts.now) values.items)) }
 {
-    let mut ports = Vec::new(alloc);
+    let mut values = Vec::new(alloc);
     for text in texts {
-        let Some(port) = port_of(text) else {
+        let Some(value) = T::named_by(text) else {
             return Ok(None);
         };
-        ports.push(port)?;
+        values.push(value)?;
     }
-    Ok(Some(ports))
+    Ok(Some(values))
 }
 
-// The units that the texts name, or `None` where one names none.
-fn units_of(alloc: Global, texts: &[&str]) -> Result<Option<Vec<u8>>, OutOfMemory>
-    ensures { IfOk result (λ read. MatchOption read
-        ((units : List ℕ) → ¬ AreNamed (IsNumber 1 255) (map (λ t. t.now) texts.now) units)
-        (λ units. AreNamed (IsNumber 1 255) (map (λ t. t.now) texts.now) units.items)) }
-{
-    let mut units = Vec::new(alloc);
-    for text in texts {
-        let Some(unit) = number(text, 1, 255) else {
-            return Ok(None);
-        };
-        units.push(unit as u8)?;
-    }
-    Ok(Some(units))
-}
-
-// The ports of an option that may be given several times.
+// What an option names that may be given several times.
 #[tactic(auto, using(crate::proofs::Rows::all_is))]
-fn lines_of(
+fn named_in<T: Named>(
     alloc: Global,
     matches: &ArgMatches,
     name: &str,
-) -> Result<Option<Vec<Port>>, OutOfMemory>
-    ensures { IfOk result (λ read. MatchOption read ((ports : List PortOf)
-        → ¬ AreNamed IsPortText (texts_of name.now (rows_of (found_of matches.now))) ports)
-        (λ ports. AreNamed IsPortText
-        (texts_of name.now (rows_of (found_of matches.now))) ports.items)) }
+) -> Result<Option<Vec<T>>, OutOfMemory>
+    ensures { IfOk result (λ read. MatchOption read
+        ((values : List T)
+        → ¬ AreNamed T.names (texts_of name.now (rows_of (found_of matches.now))) values)
+        (λ values. AreNamed T.names
+        (texts_of name.now (rows_of (found_of matches.now))) values.items)) }
 {
     match matches.get_strs(name) {
-        Some(texts) => ports_of(alloc, texts),
-        None => Ok(Some(Vec::new(alloc))),
-    }
-}
-
-// The units, which may be given several times.
-#[tactic(auto, using(crate::proofs::Rows::all_is))]
-fn units_in(alloc: Global, matches: &ArgMatches) -> Result<Option<Vec<u8>>, OutOfMemory>
-    ensures { IfOk result (λ read. MatchOption read ((units : List ℕ)
-        → ¬ AreNamed (IsNumber 1 255)
-        (texts_of (codes "unit") (rows_of (found_of matches.now))) units)
-        (λ units. AreNamed (IsNumber 1 255)
-        (texts_of (codes "unit") (rows_of (found_of matches.now))) units.items)) }
-{
-    match matches.get_strs("unit") {
-        Some(texts) => units_of(alloc, texts),
+        Some(texts) => all_named(alloc, texts),
         None => Ok(Some(Vec::new(alloc))),
     }
 }
@@ -125,39 +100,95 @@ fn seconds_of(matches: &ArgMatches) -> Option<Option<u64>>
     }
 }
 
-// What the command's options ask for, or `None` where they ask for no line, or one of them is no
+// The lines that are asked for, or `None` where there is none, or one of the values is no value of
+// its option.
+fn lines_of(alloc: Global, matches: &ArgMatches) -> Result<Option<LineWords>, OutOfMemory>
+    ensures { IfOk result (λ answer. MatchOption answer
+        ((lines : LinesFor) → ¬ AreLines (rows_of (found_of matches.now)) lines)
+        (AreLines (rows_of (found_of matches.now)))) }
+{
+    let Some(a) = named_in(alloc, matches, "a")? else {
+        return Ok(None);
+    };
+    let Some(b) = named_in(alloc, matches, "b")? else {
+        return Ok(None);
+    };
+    let Some(gap) = named_in(alloc, matches, "gap")? else {
+        return Ok(None);
+    };
+    let Some(from) = named_in(alloc, matches, "from")? else {
+        return Ok(None);
+    };
+    if a.is_empty() && b.is_empty() && gap.is_empty() {
+        return Ok(None);
+    }
+    Ok(Some(LineWords { a, b, gap, from }))
+}
+
+// The account that is asked for: `Some(None)` where none is.
+fn account_in(matches: &ArgMatches) -> Option<Option<Account>>
+    ensures some { IfSome result (IsAccount (first_of (codes "sub") (rows_of (found_of
+        matches.now))) (first_of (codes "user") (rows_of (found_of matches.now)))
+        (first_of (codes "password") (rows_of (found_of matches.now)))) }
+    ensures none { IfNone result ((account : Option AccountOf) → ¬ IsAccount (first_of
+        (codes "sub") (rows_of (found_of matches.now)))
+        (first_of (codes "user") (rows_of (found_of matches.now)))
+        (first_of (codes "password") (rows_of (found_of matches.now))) account) }
+{
+    let sub = text_of(matches, "sub");
+    let user = text_of(matches, "user");
+    let password = text_of(matches, "password");
+    account_of(sub, user, password)
+}
+
+// The servers that are asked for, or `None` where they can't be asked, or one of the values is no
 // value of its option.
+fn servers_of(alloc: Global, matches: &ArgMatches) -> Result<Option<ServerWords>, OutOfMemory>
+    ensures { IfOk result (λ answer. MatchOption answer
+        ((servers : ServersFor) → ¬ AreServers (rows_of (found_of matches.now)) servers)
+        (AreServers (rows_of (found_of matches.now)))) }
+{
+    let Some(account) = account_in(matches) else {
+        return Ok(None);
+    };
+    let Some(grp) = named_in(alloc, matches, "grp")? else {
+        return Ok(None);
+    };
+    let Some(spin) = named_in(alloc, matches, "spin")? else {
+        return Ok(None);
+    };
+    if !can_ask(&grp, &spin, account.is_some()) {
+        return Ok(None);
+    }
+    Ok(Some(ServerWords { grp, spin, account }))
+}
+
+// What the command's options ask for, or `None` where one of them is no value of its option, or
+// they don't go together.
 fn listen_of(alloc: Global, matches: &ArgMatches) -> Result<Option<ListenWords>, OutOfMemory>
     ensures { IfOk result (λ answer. MatchOption answer
         ((asked : AskedFor) → ¬ AreAsked (rows_of (found_of matches.now)) asked)
         (AreAsked (rows_of (found_of matches.now)))) }
 {
-    let Some(a) = lines_of(alloc, matches, "a")? else {
-        return Ok(None);
-    };
-    let Some(b) = lines_of(alloc, matches, "b")? else {
-        return Ok(None);
-    };
-    let Some(gap) = lines_of(alloc, matches, "gap")? else {
-        return Ok(None);
-    };
-    let Some(units) = units_in(alloc, matches)? else {
-        return Ok(None);
-    };
     let Some(hold) = hold_of(matches) else {
         return Ok(None);
     };
     let Some(seconds) = seconds_of(matches) else {
         return Ok(None);
     };
-    if a.is_empty() && b.is_empty() && gap.is_empty() {
+    let Some(lines) = lines_of(alloc, matches)? else {
         return Ok(None);
-    }
+    };
+    let Some(units) = named_in(alloc, matches, "unit")? else {
+        return Ok(None);
+    };
+    let Some(servers) = servers_of(alloc, matches)? else {
+        return Ok(None);
+    };
     Ok(Some(ListenWords {
-        a,
-        b,
-        gap,
+        lines,
         units,
+        servers,
         hold,
         seconds,
     }))

@@ -4,15 +4,19 @@
 //! |---|---|---|
 //! | `listen` | | |
 //! | `--a PORT`, `--b PORT`, `--gap PORT` | `ADDR:NUMBER` or `fd:N`, N is 3 to 65,535 | no line |
+//! | `--from IP` | an address without a number | every sender |
+//! | `--unit U` | U is 1 to 255 | the units of the servers; every unit where there is none |
+//! | `--grp U@ADDR:NUMBER`, `--spin U@ADDR:NUMBER` | the same | nobody is asked |
+//! | `--sub S`, `--user U`, `--password P` | 1 to 4, 4 and 10 bytes | no account |
 //! | `--hold H` | H is 1 to 65,536 | 4,096 |
-//! | `--unit U` | U is 1 to 255 | every unit |
 //! | `--seconds N` | N is below 2^64 | no end |
 //!
 //! The first word is `listen`. The options follow in any order, as `--name value` or
-//! `--name=value`. Lines and units may be given several times, the others once, and at least one
-//! line is given. A value is 1 to 20 digits, where it is a number, and lies within its range. All
-//! else asks for nothing: no words, an empty word, the word `--`, a word that is no option, and any
-//! request for help or a version.
+//! `--name=value`. Lines, senders, units and servers may be given several times, the others once.
+//! At least one line is given; a unit has one server of a kind at most; and the account is given
+//! whole or not at all, and is given where a server is. A value is 1 to 20 digits, where it is a
+//! number, and lies within its range. All else asks for nothing: no words, an empty word, the word
+//! `--`, a word that is no option, and any request for help or a version.
 //!
 //! `clap` reads the words, with its own help and version switched off, and its answer decides.
 #![tactic(auto)]
@@ -20,9 +24,11 @@
 mod app;
 mod found;
 mod listen_words;
+mod named;
+mod number;
 mod parse;
-mod port;
 mod reading;
+mod servers;
 
-pub use crate::listen_words::ListenWords;
+pub use crate::listen_words::{LineWords, ListenWords, Server, ServerWords};
 pub use crate::reading::read;

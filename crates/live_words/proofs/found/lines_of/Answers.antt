@@ -2,12 +2,11 @@ use Rattle.std.proofs.Common.{◌≡◌, List, length, codes, rules, arith, test
 use Rattle.clap.specs.Matches.{found_of}
 use Rattle.clap.specs.Walk.{Row, rows_of}
 use Rattle.live_words.specs.Asked.{AreNamed, IsPortText, texts_of}
-use Rattle.live_words.proofs.Named.{named_length}
-use Rattle.live_words.proofs.found.listen_of.Goals as goal
+use Rattle.live_words.proofs.Naming.{named_length}
+use Rattle.live_words.proofs.found.lines_of.Goals as goal
 
--- src/found.rt:154:9
 pub returns-then-is_empty-3 : goal.returns-then-is_empty-3
-returns-then-is_empty-3 c asked is =
+returns-then-is_empty-3 c lines is =
     let rows : List Row = rows_of (found_of c.args.matches.now) in
     let a : AreNamed IsPortText (texts_of (codes "a") rows) c.in-Some.a.items = search rules in
     let b : AreNamed IsPortText (texts_of (codes "b") rows) c.in-Some-2.b.items = search rules in
@@ -21,5 +20,5 @@ returns-then-is_empty-3 c asked is =
     let of_a = named_length IsPortText _ _ is.a in
     let of_b = named_length IsPortText _ _ is.b in
     let of_gap = named_length IsPortText _ _ is.gap in
-    let lines = is.lines in
+    let some = is.some in
     omega arith
