@@ -53,6 +53,7 @@ fn all_are_faults<R: Threads + Wait + Clock + Sync + Abort>(
         let mut net = net_of(rt, alloc, &[call]);
         let wanted = (ExitStatus::NetFault, b"".as_slice(), "pitch: net fault\n");
         ends_so_over(rt, alloc, DEMO, &mut net, &FreeGate, wanted);
+        drop(net);
     }
 }
 
@@ -105,6 +106,7 @@ fn ends_over<R: Threads + Wait + Clock + Sync + Abort, N: Net + Drop>(
     let mut net = TroubledNet::make(net, *trouble);
     let wanted = (ExitStatus::Done, line.as_bytes(), "");
     ends_so_over(rt, alloc, &words, &mut net, &FreeGate, wanted);
+    drop(net);
 }
 
 // Each demo ends so, over memory and over sockets.
@@ -131,6 +133,7 @@ fn ends_plainly(rt: &impl Abort, alloc: Global, case: &(u64, u32, Trouble, &str)
     let mut net = TroubledNet::make(net_of(rt, alloc, &[]), *trouble);
     let mut out = Vec::new(alloc);
     assert!(rt; demo_plain(alloc, &mut net, *number, *count, &mut out).is_ok());
+    drop(net);
     assert!(rt; out.as_slice() == line.as_bytes());
 }
 

@@ -46,6 +46,17 @@ struct Ended {
     err: MemorySink,
 }
 
+impl Ended {
+    // Whether it ended by a fault with a part of the text, or done with all of it.
+    fn is_by(&self, fault: Option<ExitStatus>, text: &[u8]) -> bool {
+        let written = self.out.written();
+        match fault {
+            Some(fault) => self.status == fault && text.starts_with(written),
+            None => self.status == ExitStatus::Done && written == text,
+        }
+    }
+}
+
 // A sink that takes so many bytes at once, of which a call fails.
 fn sink_of(rt: &impl Abort, alloc: Global, piece: usize, failing: u64) -> MemorySink
     requires { 0 < piece }
@@ -100,6 +111,7 @@ fn all_end_so<R: Threads + Wait + Clock + Sync + Abort>(
         let ended = run_failing(rt, alloc, line, BLOCKS, 20, failing);
         assert!(rt; ended.status == *status && ended.out.written() == text.as_bytes());
         assert!(rt; ended.err.written() == said.as_bytes());
+        drop(ended);
     }
 }
 
@@ -124,12 +136,8 @@ fn ends_by<R: Threads + Wait + Clock + Sync + Abort>(
     text: &[u8],
 ) {
     let ended = run_failing(rt, alloc, "follow", BLOCKS, 7, failing);
-    let written = ended.out.written();
-    let is_so = match fault {
-        Some(fault) => ended.status == fault && text.starts_with(written),
-        None => ended.status == ExitStatus::Done && written == text,
-    };
-    assert!(rt; is_so);
+    assert!(rt; ended.is_by(fault, text));
+    drop(ended);
 }
 
 #[test]
@@ -169,4 +177,5 @@ fn standard_error_may_fail(rt: HostRuntime) {
     let ended = run_failing(&rt, rt.alloc(), "follow", &[&TIME[..5]], 7, failing);
     assert!(rt; ended.status == ExitStatus::BadInput);
     assert!(rt; ended.out.written().is_empty() && ended.err.written().is_empty());
+    drop(ended);
 }

@@ -181,6 +181,7 @@ pub(crate) fn ends_so<R: Threads + Wait + Clock + Sync + Abort>(
     let (status, wrote, said) = wanted;
     let outcome = run(rt, alloc, line, blocks, piece);
     assert!(rt; outcome.is(status, wrote, said));
+    drop(outcome);
 }
 
 // Runs the program on a text, over a net, with a gate, and compares.
@@ -195,6 +196,7 @@ pub(crate) fn ends_so_over<R: Threads + Wait + Clock + Sync + Abort, N: Net, G: 
     let (status, wrote, said) = wanted;
     let outcome = run_over(rt, alloc, line, b"", net, gate);
     assert!(rt; outcome.is(status, wrote, said));
+    drop(outcome);
 }
 
 // Each stream has its text, where at most `piece` bytes come at once.

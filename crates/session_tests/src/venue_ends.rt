@@ -82,29 +82,39 @@ fn says(rt: &impl Abort, end: &mut VenueEnd, said: &[u8]) {
     end.put_by_spin(9, said.len());
 }
 
-// A client logs in, is told of an image, asks for it and is sent it block by block.
+// A client logs in, is told of the image of all messages, and asks for it.
+fn asks_for_an_image(rt: &impl Abort, end: &mut VenueEnd) {
+    end.connect_spin(9).expect(rt, "memory");
+    end.take_spin(9, SPIN_LOGIN).expect(rt, "memory");
+    says(rt, end, b"\x0b\0\x01\x01\0\0\0\0\x03\x02A");
+    assert!(rt; end.advertise() == Ok(1));
+    says(rt, end, b"\x0e\0\x01\x01\0\0\0\0\x06\x80\x01\0\0\0");
+    let request = b"\x0e\0\x01\x01\0\0\0\0\x06\x81\x01\0\0\0";
+    end.take_spin(9, request).expect(rt, "memory");
+    says(
+        rt,
+        end,
+        b"\x13\0\x01\x01\0\0\0\0\x0b\x82\x01\0\0\0\0\0\0\0A",
+    );
+}
+
+// It is sent the image, block by block, and then that it has finished.
+fn is_sent_the_image(rt: &impl Abort, end: &mut VenueEnd) {
+    assert!(rt; end.pump_spin(9) == Ok(true));
+    says(rt, end, b"\x0e\0\x01\x01\0\0\0\0\x06\x20\x21\0\0\0");
+    assert!(rt; end.pump_spin(9) == Ok(false));
+    says(rt, end, b"\x0e\0\x01\x01\0\0\0\0\x06\x83\x01\0\0\0");
+    assert!(rt; end.pump_spin(9) == Ok(false));
+}
+
 #[test]
 fn an_image_is_pumped_by_parts(rt: HostRuntime) {
     let mut end = made(&rt, rt.alloc());
     assert!(rt; end.accept(&Command::Time { second: 33 }) == Ok(1));
-    end.connect_spin(9).expect(&rt, "memory");
-    end.take_spin(9, SPIN_LOGIN).expect(&rt, "memory");
-    says(&rt, &mut end, b"\x0b\0\x01\x01\0\0\0\0\x03\x02A");
-    assert_eq!(rt; end.advertise().expect(&rt, "memory"), 1);
-    says(&rt, &mut end, b"\x0e\0\x01\x01\0\0\0\0\x06\x80\x01\0\0\0");
+    asks_for_an_image(&rt, &mut end);
     end.second().expect(&rt, "memory");
-    end.take_spin(9, b"\x0e\0\x01\x01\0\0\0\0\x06\x81\x01\0\0\0")
-        .expect(&rt, "memory");
-    says(
-        &rt,
-        &mut end,
-        b"\x13\0\x01\x01\0\0\0\0\x0b\x82\x01\0\0\0\0\0\0\0A",
-    );
-    assert!(rt; end.pump_spin(9).expect(&rt, "memory"));
-    says(&rt, &mut end, b"\x0e\0\x01\x01\0\0\0\0\x06\x20\x21\0\0\0");
-    assert!(rt; !end.pump_spin(9).expect(&rt, "memory"));
-    says(&rt, &mut end, b"\x0e\0\x01\x01\0\0\0\0\x06\x83\x01\0\0\0");
-    assert!(rt; !end.pump_spin(9).expect(&rt, "memory"));
+    is_sent_the_image(&rt, &mut end);
     end.cut_spin(9);
-    assert_eq!(rt; end.said_by_spin(9).len(), 0);
+    assert!(rt; end.said_by_spin(9).is_empty());
+    drop(end);
 }
