@@ -16,6 +16,8 @@ is busy, or has small buffers (net.core.rmem_max), loses none.
               is not listened to. Each datagram comes whole on one of them: the books are those of
               `follow`
     rubbish   the same, and three senders beside, of noise, empty datagrams and blocks of other units
+    from      a sender that is named, and one that is not, who is first with the same blocks of other
+              messages: the text is that of `follow` of what the first one sends
     end       datagrams that are sent just before the end of the input: all are heard
     prompt    a datagram is sent once the lines of the one before are written
     words     words that ask for nothing, and ports that can't be opened: status and standard error
@@ -37,6 +39,7 @@ UNITS = range(1, 9)
 OTHER_UNIT = 99
 PATIENCE = 60
 ROOM = 8 << 20
+ACCOUNT = '--sub 0001 --user FEED --password PITCH'
 HEARD_NOTHING = 'pitch_live: datagrams 0 faulty 0 blocks 0 stray 0'
 STARTED = []
 
@@ -268,6 +271,32 @@ def run_rubbish(live, program, rate, number, datagrams, dice):
     return status == 0 and right and books_of(text) == right, said
 
 
+def forged(datagram):
+    """The same blocks, whose messages have zeros behind their types."""
+    made, at = bytearray(len(datagram)), 0
+    while at < len(datagram):
+        end = at + struct.unpack_from('<H', datagram, at)[0]
+        made[at:at + 8] = datagram[at:at + 8]
+        at += 8
+        while at < end:
+            made[at:at + 2] = datagram[at:at + 2]
+            at += datagram[at]
+    return bytes(made)
+
+
+def run_from(live, program, rate, number, datagrams, dice):
+    """Only the sender that is named is heard."""
+    listener = Listener(live, ['--from', '10.0.0.5', '--from', '127.0.0.2'])
+    named, other = Sender(rate), Sender(rate)
+    named.socket.bind(('127.0.0.2', 0))
+    some = datagrams[:200]
+    for datagram in some:
+        other.send(listener.a, forged(datagram))
+        named.send(listener.a, datagram)
+    status, text, said = listener.end()
+    return status == 0 and text == followed(program, some) and f'faulty {len(some)} ' in said, said
+
+
 def run_end(live, program, rate, number, datagrams, dice):
     """All at once, and then the end at once: nothing that was sent is missed."""
     listener = Listener(live, both=True)
@@ -313,7 +342,9 @@ def has_host(host):
 
 def check_words(live):
     """Words that ask for nothing, and ports that can't be opened."""
-    with socket.socket(socket.AF_INET, socket.SOCK_DGRAM) as taken:
+    with socket.socket(socket.AF_INET, socket.SOCK_DGRAM) as taken, tempfile.NamedTemporaryFile('w') as setup:
+        setup.write(f'# a desk\n\n  --a {HOST}:0\n--hold=9\n--from 10.0.0.5\n')
+        setup.flush()
         taken.bind((HOST, 0))
         port = taken.getsockname()[1]
         cases = [
@@ -326,6 +357,15 @@ def check_words(live):
             ('listen --a 127.0.0.1:0 --seconds 0 --seconds 0', 2, 'the words are'),
             ('listen --a localhost:1', 2, 'the words are'),
             ('listen --a fd:2', 2, 'the words are'),
+            ('listen --a 127.0.0.1:0 --from 10.0.0.5:1', 2, 'the words are'),
+            ('listen --a 127.0.0.1:0 --grp 1@127.0.0.1:1', 2, 'the words are'),
+            (f'listen --a 127.0.0.1:0 --spin 0@127.0.0.1:1 {ACCOUNT}', 2, 'the words are'),
+            (f'listen --a 127.0.0.1:0 --grp 1@127.0.0.1 {ACCOUNT}', 2, 'the words are'),
+            (f'listen --a 127.0.0.1:0 --grp 1@127.0.0.1:1 --grp 1@127.0.0.1:2 {ACCOUNT}', 2, 'the words are'),
+            ('listen --a 127.0.0.1:0 --sub 1 --user 2', 2, 'the words are'),
+            ('listen --a 127.0.0.1:0 --sub 1 --user 2 --password 12345678901', 2, 'the words are'),
+            ('listen --setup', 2, 'the words are'),
+            ('listen --setup=/nowhere/setup', 2, 'pitch_live: /nowhere/setup: No such file or directory'),
             ('listen --a 127.0.0.1:0 --', 2, 'the words are'),
             ('listen --help', 2, 'the words are'),
             (f'listen --a {HOST}:{port}', 7, 'pitch_live: a: Address already in use'),
@@ -333,6 +373,8 @@ def check_words(live):
             ('listen --a 192.0.2.1:0', 7, 'pitch_live: a: Cannot assign requested address'),
             ('listen --b fd:77', 7, 'pitch_live: b: Bad file descriptor'),
             (f'listen --a {HOST}:0 --seconds 0', 0, HEARD_NOTHING),
+            (f'listen --setup {setup.name} --seconds 0', 0, HEARD_NOTHING),
+            (f'listen --setup={setup.name} --seconds 0 --hold 1', 2, 'the words are'),
         ]
         if has_host('::1'):
             cases.append((f'listen --b [::1]:0 --gap={HOST}:0 --seconds=0', 0, HEARD_NOTHING))
@@ -404,8 +446,8 @@ def main():
         words.add_argument(name, type=int, default=default)
     words.add_argument('--only')
     given = words.parse_args()
-    runs = {'whole': run_whole, 'lossy': run_lossy, 'rubbish': run_rubbish, 'end': run_end,
-            'prompt': run_prompt}
+    runs = {'whole': run_whole, 'lossy': run_lossy, 'rubbish': run_rubbish, 'from': run_from,
+            'end': run_end, 'prompt': run_prompt}
     passed, failed = 0, 0
 
     def tell(name, run, *more):
@@ -437,4 +479,5 @@ def main():
     sys.exit(1 if failed else 0)
 
 
-main()
+if __name__ == '__main__':
+    main()

@@ -33,8 +33,8 @@ def counts_of(words):
     return passed, failed or int(done.returncode != 0 or not found)
 
 
-# Datagrams to `pitch_live`, each of whose runs is counted.
-LINES = os.path.join(TOP, 'bench', 'live_lines.py')
+# Runs of `pitch_live`, each of which is counted: against senders of datagrams, and against a venue.
+LIVE_RUNS = {'live_lines.py': ['--numbers', '1', '--count', '0'], 'live_net.py': ['--numbers', '1']}
 
 # What the shell gives the program, and the exit status that it has to end with.
 STATUSES = {'follow < examples/sample.pitch': 0, '': 2, 'follow < examples/captures/sample.pcap': 3,
@@ -77,9 +77,10 @@ def main():
         print('statuses: %d passed, %d failed' % counts)
         passed, failed = passed + counts[0], failed + counts[1]
     if stands and is_built(live):
-        counts = counts_of([LINES, live, program, '--numbers', '1', '--count', '0'])
-        print('pitch_live: %d passed, %d failed' % counts)
-        passed, failed = passed + counts[0], failed + counts[1]
+        for name, words in LIVE_RUNS.items():
+            counts = counts_of([os.path.join(TOP, 'bench', name), live, program, *words])
+            print('%s: %d passed, %d failed' % (name, *counts))
+            passed, failed = passed + counts[0], failed + counts[1]
     else:
         print('no programs stand at %s and %s, so what lines of datagrams come to was not tried'
               % (os.path.relpath(program, TOP), os.path.relpath(live, TOP)))

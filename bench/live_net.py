@@ -1,0 +1,188 @@
+#!/usr/bin/env python3
+"""Runs `pitch_live listen` against a venue that answers, over a net that loses, on 127.0.0.1.
+
+    bench/live_net.py LIVE PROGRAM [--numbers N] [--first F] [--units U] [--steps M] [--rate R]
+
+LIVE is the path of the built `pitch_live`, PROGRAM that of `pitch`. In each of N runs (3), numbered
+from F (1), examples/live/venue.py sends the feed of the units 1 to U (8), each with the first M
+commands (300) of its plan (docs/FEED.md), R datagrams a second (150), and answers who asks.
+Everything passes examples/live/relay.py: of a hundred datagrams of each line 20 are lost, 20 come
+twice, 20 after the next one, and 5 are spoiled; each connection is cut after 1.5 to 4.5 s. The
+listener begins late, so the units lack their first messages, of which the proxies keep the last
+third alone. 64 senders of noise send to its lines all the while. It is ended when each unit is
+`current` at its last message; then its books have to be those of `follow` of the whole feed, byte
+for byte, and its status 0.
+
+The last line is `N passed, M failed`, and the exit status is 0 where none failed. A run that is not
+current after a minute fails.
+"""
+import argparse
+import os
+import random
+import socket
+import subprocess
+import sys
+import tempfile
+import threading
+import time
+
+import live_lines
+from live_lines import HOST, PATIENCE, Stuck, books_of, datagrams_of, followed, noise
+
+LIVE_FOLDER = os.path.join(live_lines.HERE, '..', 'examples', 'live')
+LATE = 0.7
+SENDERS = 64
+HARM = '--lost 20 --repeated 20 --swapped 20 --spoiled 5 --cut 3'.split()
+
+
+def free_ports(count):
+    """So many ports of which none is taken, neither of UDP nor of TCP."""
+    held = []
+    while len(held) < count:
+        tcp, udp = socket.socket(), socket.socket(socket.AF_INET, socket.SOCK_DGRAM)
+        tcp.bind((HOST, 0))
+        try:
+            udp.bind((HOST, tcp.getsockname()[1]))
+        except OSError:
+            tcp.close()
+            continue
+        held.append((tcp, udp))
+    ports = [tcp.getsockname()[1] for tcp, _ in held]
+    for tcp, udp in held:
+        tcp.close()
+        udp.close()
+    return ports
+
+
+class Ports:
+    """The ports of a run: of each line and each server one at the relay, and one behind it."""
+
+    def __init__(self, units):
+        names = ['a', 'b', 'gap'] + [(kind, unit) for kind in ('grp', 'spin') for unit in units]
+        some = free_ports(2 * len(names))
+        self.venue = dict(zip(names, some))
+        self.listener = dict(zip(names, some[len(names):]))
+
+    def words(self, ports):
+        """The words that name these ports, which the venue and the listener have alike."""
+        words = []
+        for name, port in ports.items():
+            words += ['--' + name, f'{HOST}:{port}'] if isinstance(name, str) else ['--' + name[0], f'{name[1]}@{HOST}:{port}']
+        return words
+
+    def relays(self):
+        """Lines go from the venue's side to the listener's, and connections the other way."""
+        words = []
+        for name in self.venue:
+            near, far = self.venue[name], self.listener[name]
+            words += ['--udp', f'{near}:{far}'] if isinstance(name, str) else ['--tcp', f'{far}:{near}']
+        return words
+
+
+class Listener:
+    """The program, and the last status of each unit."""
+
+    def __init__(self, live, words):
+        self.run = subprocess.Popen([live, 'listen', *words], stdin=subprocess.PIPE, stdout=subprocess.PIPE, stderr=subprocess.PIPE)
+        self.text, self.statuses, self.images = [], {}, 0
+        self.reader = threading.Thread(target=self.read)
+        self.reader.start()
+
+    def read(self):
+        for line in self.run.stdout:
+            self.text.append(line)
+            if b'; ' in line:
+                words = line.split()
+                self.statuses[int(words[words.index(b'unit') + 1])] = line.split(b'; ')[1].strip().decode()
+                self.images += words[2] == b'image'
+
+    def wait_until_current(self, units, last):
+        until = time.monotonic() + PATIENCE
+        while any(self.statuses.get(it) != f'current {last}' for it in units):
+            if time.monotonic() > until or self.run.poll() is not None:
+                raise Stuck(f'it is {self.statuses}, status {self.run.poll()}')
+            time.sleep(0.02)
+
+    def end(self):
+        self.run.stdin.close()
+        self.reader.join(PATIENCE)
+        return self.run.wait(PATIENCE), b''.join(self.text), self.run.stderr.read().decode().split('\n')
+
+
+class Noise:
+    """Senders of noise to some ports, until they are stopped."""
+
+    def __init__(self, ports, number):
+        self.stop = threading.Event()
+        self.thread = threading.Thread(target=self.run, args=(ports, random.Random(number)))
+        self.thread.start()
+
+    def run(self, ports, dice):
+        senders = [socket.socket(socket.AF_INET, socket.SOCK_DGRAM) for _ in range(SENDERS)]
+        while not self.stop.wait(0.002):
+            dice.choice(senders).sendto(noise(dice), (HOST, dice.choice(ports)))
+
+    def end(self):
+        self.stop.set()
+        self.thread.join()
+
+
+def run_once(given, number, folder):
+    units, dice = range(1, given.units + 1), random.Random(number)
+    datagrams = [it for it in datagrams_of(given.program, number, given.steps, dice) if it]
+    feed = os.path.join(folder, 'feed')
+    with open(feed, 'wb') as file:
+        file.write(b''.join(datagrams))
+    ports, started = Ports(units), []
+
+    def start(name, *words, out=subprocess.DEVNULL):
+        started.append(subprocess.Popen([sys.executable, os.path.join(LIVE_FOLDER, name), *words], stdout=out, text=True))
+        return started[-1]
+
+    begun, listener, noisy = time.monotonic(), None, None
+    try:
+        relay = start('relay.py', *ports.relays(), '--seed', str(number), *HARM, out=subprocess.PIPE)
+        start('venue.py', given.program, feed, *ports.words(ports.venue), '--rate', str(given.rate), '--kept', str(given.steps // 3))
+        time.sleep(LATE)
+        listener = Listener(given.live, ports.words(ports.listener) + '--sub 0001 --user FEED --password PITCH'.split())
+        noisy = Noise([ports.listener[it] for it in ('a', 'b', 'gap')], number)
+        listener.wait_until_current(units, given.steps)
+        took = time.monotonic() - begun
+        status, text, said = listener.end()
+        relay.terminate()
+        right = books_of(followed(given.program, datagrams))
+        is_so = status == 0 and right and books_of(text) == right
+        return is_so, f'{took:.1f} s, {listener.images} images; {said[-2]}; relay: {relay.communicate()[0].strip()}'
+    finally:
+        if noisy:
+            noisy.end()
+        if listener and listener.run.poll() is None:
+            listener.run.kill()
+        for it in started:
+            it.kill()
+            it.wait()
+
+
+def main():
+    words = argparse.ArgumentParser(description=__doc__, formatter_class=argparse.RawDescriptionHelpFormatter)
+    words.add_argument('live')
+    words.add_argument('program')
+    for name, default in (('--numbers', 3), ('--first', 1), ('--units', 8), ('--steps', 300), ('--rate', 150)):
+        words.add_argument(name, type=int, default=default)
+    given = words.parse_args()
+    live_lines.UNITS = range(1, given.units + 1)
+    passed, failed = 0, 0
+    for number in range(given.first, given.first + given.numbers):
+        with tempfile.TemporaryDirectory() as folder:
+            try:
+                is_so, said = run_once(given, number, folder)
+            except (Stuck, subprocess.TimeoutExpired) as stuck:
+                is_so, said = False, stuck
+        print(f'{number}: {"right" if is_so else "WRONG"}; {said}', flush=True)
+        passed, failed = passed + bool(is_so), failed + (not is_so)
+    print(f'{passed} passed, {failed} failed')
+    sys.exit(1 if failed else 0)
+
+
+if __name__ == '__main__':
+    main()
