@@ -1,5 +1,5 @@
 -- How a run ends.
-use Rattle.std.proofs.Common.{◌≡◌, ℕ, Bool, true≢false, List, [], ◌∷◌, ◌++◌, take, drop, refl, sym, ap, ◌∙◌, subst, append_assoc, Option, Result, Ok, Err}
+use Rattle.std.proofs.Common.{◌≡◌, ℕ, Bool, true≢false, List, [], ◌∷◌, ◌++◌, take, drop, refl, sym, ap, ◌∙◌, subst, append_assoc, Option, Some, None, Result, Ok, Err}
 use Rattle.std.specs.Result.{IsErr, IsErrAnd}
 use Rattle.std.proofs.lemmas.List.{append-nil, take-append-drop}
 use Rattle.pitch_io.specs.Putting.{Grows}
@@ -7,22 +7,27 @@ use Rattle.stream_print.specs.Putting.{PutsSome}
 use Rattle.stream_print.specs.Told.{between}
 use Rattle.stream_print.proofs.Flow.{grows_none}
 use Rattle.stream_print.proofs.Printing.{puts_so_far}
-use Rattle.live_net.specs.LiveCalls.{LiveCall, AddsLiveCall}
+use Rattle.live_net.specs.LiveCalls.{LiveCall, AddsLiveCall, Receive}
+use Rattle.live_net.specs.declared.net.Received.TheVariants as received
 use Rattle.live_turns.specs.Due.{IsMade}
 use Rattle.live_turns.specs.declared.due.Due.{Due}
-use Rattle.live_units.specs.Coming.{BeginsLiveText, LiveSetup, UnitCame, live_books, live_lines}
-use Rattle.live_units.specs.Units.{LiveEnds}
+use Rattle.live_units.specs.Coming.{BeginsLiveText, LiveSetup, UnitCame, live_books, live_lines, with_datagram}
+use Rattle.live_units.specs.Units.{LiveEnds, LiveStands, OfLive}
 use Rattle.live_units.specs.declared.error.LiveError.{LiveError}
 use Rattle.live_units.specs.declared.error.LiveError.TheVariants as live
+use Rattle.live_units.specs.declared.units.LiveUnits.{LiveUnits}
+use Rattle.live_units.proofs.Hearing.{heard_begun, heard_none}
+use Rattle.live_recovery.specs.Disagreeing.{first_disagreement}
 use Rattle.live_recovery.specs.Failures.{unheard}
 use Rattle.live_recovery.specs.Recovering.{AddsRun, HasFailed, RecoverEnds}
 use Rattle.live_recovery.specs.Running.{Brings, Now, Runs, Setup, at_first, ends_now}
-use Rattle.live_recovery.specs.Standing.{Devices, IsAbout, IsAtEnd, NamesNoDevice, Stands, Steps, now_of}
+use Rattle.live_recovery.specs.Standing.{Agree, Devices, FailsHearing, IsAbout, IsAtEnd, NamesNoDevice, Stands, Steps, now_of}
 use Rattle.live_recovery.specs.declared.counts.Counts.{Counts}
 use Rattle.live_recovery.specs.declared.error.RecoverError.{RecoverError}
 use Rattle.live_recovery.specs.declared.error.RecoverError.TheVariants as errors
 use Rattle.live_recovery.specs.declared.recovering.Recovering.{Recovering}
 use Rattle.live_recovery.proofs.Bringing.{same_still}
+use Rattle.live_recovery.proofs.Disagreeing.{of_no_venues}
 use Rattle.live_recovery.proofs.Going.{adds_more, adds_none, runs_on}
 
 -- ---- Prefixes of the whole text
@@ -36,60 +41,107 @@ module _ (s : LiveSetup) (came : List UnitCame) where
   }
 
 -- ---- Runs that end
+-- where no device but the sink failed, a prefix of the whole text was written
+abbrev pub LeavesPrefix : RecoverError → Type 0
+LeavesPrefix errors.Net = ⊥
+LeavesPrefix errors.Write = Unit {0}
+LeavesPrefix errors.OutOfMemory = Unit {0}
+LeavesPrefix (errors.Disagree d) = ⊥
+
 abbrev Ends : Setup → Result Counts RecoverError → Devices → Devices → Type 0
 Ends s answer start now = RecoverEnds s answer start.calls now.calls (between start.written now.written)
 
 module _ (s : Setup) (start now : Devices) (run : List LiveCall) (at : Now) (adds : AddsRun run start.calls now.calls) (runs : Runs s run at) where
   -- memory ran out, or the sink failed
-  pub ends_text : (e : RecoverError) → (e ≡ errors.Net → ⊥) → (text : List ℕ) → BeginsLiveText s.listens at.came text → Grows start.written now.written text → Ends s (Err e) start now
-  ends_text errors.Net not text begins grows = absurd (not refl)
+  pub ends_text : (e : RecoverError) → LeavesPrefix e → (text : List ℕ) → BeginsLiveText s.listens at.came text → Grows start.written now.written text → Ends s (Err e) start now
+  ends_text errors.Net not text begins grows = absurd not
+  ends_text (errors.Disagree d) not text begins grows = absurd not
   ends_text errors.Write not text begins grows = record { run = run; now = at; text = text; is_run = record { adds = adds; runs = runs; writes = grows }; is_end = begins }
   ends_text errors.OutOfMemory not text begins grows = record { run = run; now = at; text = text; is_run = record { adds = adds; runs = runs; writes = grows }; is_end = begins }
 
-  pub ends_puts : (e : RecoverError) → (e ≡ errors.Net → ⊥) → PutsSome start.written now.written (live_lines s.listens at.came) → Ends s (Err e) start now
+  pub ends_puts : (e : RecoverError) → LeavesPrefix e → PutsSome start.written now.written (live_lines s.listens at.came) → Ends s (Err e) start now
   ends_puts e not puts =
       let lines : List ℕ = live_lines s.listens at.came in
       ends_text e not (take puts.count lines) (begins_lines s.listens at.came (take puts.count lines) (drop puts.count lines) (sym (take-append-drop puts.count lines))) puts.grows
 
   -- the net failed, and all lines were written
-  pub ends_cut_off : HasFailed run → Grows start.written now.written (live_lines s.listens at.came) → Ends s (Err errors.Net) start now
-  ends_cut_off failed grows = record {
+  pub ends_cut_off : HasFailed run → first_disagreement at.came ≡ None → Grows start.written now.written (live_lines s.listens at.came) → Ends s (Err errors.Net) start now
+  ends_cut_off failed agreed grows = record {
     run = run;
     now = at;
     text = live_lines s.listens at.came;
     is_run = record { adds = adds; runs = runs; writes = grows };
-    is_end = record { failed = failed; text_is = refl };
+    is_end = record { failed = failed; agreed = agreed; text_is = refl };
   }
 
 -- ---- By a call
 module _ (s : Setup) (start now : Devices) (r : Recovering) (what : Due) (about : IsAbout s start now r what) (call : LiveCall) (made : IsMade (ends_now s (now_of about.came r.units)) what call) (now' : Devices)
     (adds : AddsLiveCall now.calls now'.calls call) (at : Now) (brings : Brings s call (now_of about.came r.units) at) where
-  pub ends_by_puts : (e : RecoverError) → (e ≡ errors.Net → ⊥) → PutsSome start.written now'.written (live_lines s.listens at.came) → Ends s (Err e) start now'
+  pub ends_by_puts : (e : RecoverError) → LeavesPrefix e → PutsSome start.written now'.written (live_lines s.listens at.came) → Ends s (Err e) start now'
   ends_by_puts = ends_puts s start now' (call ∷ about.run) at (adds_more about.run call start.calls now.calls now'.calls about.stands.adds adds) (runs_on s start now r what about call made at brings)
 
-  pub ends_by_failing : HasFailed (call ∷ about.run) → Grows start.written now'.written (live_lines s.listens at.came) → Ends s (Err errors.Net) start now'
+  pub ends_by_failing : HasFailed (call ∷ about.run) → first_disagreement at.came ≡ None → Grows start.written now'.written (live_lines s.listens at.came) → Ends s (Err errors.Net) start now'
   ends_by_failing = ends_cut_off s start now' (call ∷ about.run) at (adds_more about.run call start.calls now.calls now'.calls about.stands.adds adds) (runs_on s start now r what about call made at brings)
+
+-- ---- By a datagram that is not heard
+pub fails_hearing : (e : RecoverError) (s : LiveSetup) (start now : Option (List ℕ)) (bytes : List ℕ) (came : List UnitCame) → LeavesPrefix e → PutsSome start now (live_lines s (with_datagram s bytes came)) → FailsHearing e s start now bytes came
+fails_hearing errors.Net s start now bytes came not puts = absurd not
+fails_hearing errors.Write s start now bytes came not puts = puts
+fails_hearing errors.OutOfMemory s start now bytes came not puts = puts
+fails_hearing (errors.Disagree d) s start now bytes came not puts = absurd not
+
+-- whatever led here
+abbrev pub FailsAt : RecoverError → Recovering → LiveSetup → Option (List ℕ) → Option (List ℕ) → List ℕ → Type 0
+FailsAt e r s w z bytes = (start : Option (List ℕ)) (came : List UnitCame) → LiveStands s start w r.units came → Agree r.copies came → FailsHearing e s start z bytes came
+
+pub fails_at : (e : RecoverError) (r : Recovering) (s : LiveSetup) (w z : Option (List ℕ)) (bytes : List ℕ) → LeavesPrefix e
+    → ((start : Option (List ℕ)) (came : List UnitCame) → LiveStands s start w r.units came → PutsSome start z (live_lines s (with_datagram s bytes came))) → FailsAt e r s w z bytes
+fails_at e r s w z bytes prefix puts = λ start came st agree. fails_hearing e s start z bytes came prefix (puts start came st)
+
+-- a prefix of the lines of what came before is one of all lines with those of the datagram
+pub puts_still : (l : LiveUnits) (w z : Option (List ℕ)) (bytes : List ℕ) → OfLive l w (λ s start came. PutsSome start z (live_lines s came)) → OfLive l w (λ s start came. PutsSome start z (live_lines s (with_datagram s bytes came)))
+puts_still l w z bytes puts = heard_begun l l w w bytes bytes 0 0 (heard_none l w bytes bytes refl) z puts
+
+pub puts_printed : (l : LiveUnits) (w : Option (List ℕ)) → OfLive l w (λ s start came. PutsSome start w (live_lines s came))
+puts_printed l w s start came st = puts_so_far start w [] l.page.text (live_lines s came) st.printed
+
+module _ (s : Setup) (start now : Devices) (r : Recovering) (what : Due) (about : IsAbout s start now r what) (line room n : ℕ) (bytes : List ℕ) where
+  abbrev brought : LiveCall
+  brought = Receive line room bytes (received.Got n)
+
+  abbrev then : Now
+  then = record { came = with_datagram s.listens bytes about.came; waits = (now_of about.came r.units).waits }
+
+  module _ (made : IsMade (ends_now s (now_of about.came r.units)) what brought) (now' : Devices) (adds : AddsLiveCall now.calls now'.calls brought) where
+    brings : Brings s brought (now_of about.came r.units) then
+    brings = record { came_is = refl; waits = λ unit session. refl }
+
+    pub ends_unheard : (e : RecoverError) → FailsHearing e s.listens start.written now'.written bytes about.came → Ends s (Err e) start now'
+    ends_unheard errors.Net fails = absurd fails
+    ends_unheard errors.Write puts = ends_by_puts s start now r what about brought made now' adds then brings errors.Write tt puts
+    ends_unheard errors.OutOfMemory puts = ends_by_puts s start now r what about brought made now' adds then brings errors.OutOfMemory tt puts
+    ends_unheard (errors.Disagree d) (told, grows) = record {
+      run = brought ∷ about.run;
+      now = then;
+      text = live_lines s.listens about.came;
+      is_run = record { adds = adds_more about.run brought start.calls now.calls now'.calls about.stands.adds adds; runs = runs_on s start now r what about brought made then brings; writes = grows };
+      is_end = record { before = about.came; datagram = bytes; last = refl; came_is = refl; told = told; text_is = refl; of_none = λ Vs honest. of_no_venues s.listens Vs then.came d told honest };
+    }
 
 -- ---- With no call more
 module _ (s : Setup) (start now : Devices) (r : Recovering) (run : List LiveCall) (came : List UnitCame) (st : Stands s start now r run came) where
   -- the sink failed while the page was written out
   pub ends_unflushed : (now' : Devices) → now'.calls ≡ now.calls → PutsSome start.written now'.written (live_lines s.listens came) → Ends s (Err errors.Write) start now'
-  ends_unflushed now' same puts = ends_puts s start now' run (now_of came r.units) (subst (AddsRun run start.calls) (sym same) st.adds) st.runs errors.Write (λ is. absurd_of is) puts
-    where
-      absurd_of : errors.Write ≡ errors.Net → ⊥
-      absurd_of is = cc
+  ends_unflushed now' same puts = ends_puts s start now' run (now_of came r.units) (subst (AddsRun run start.calls) (sym same) st.adds) st.runs errors.Write tt puts
 
   -- no memory is left
   pub ends_spent : Ends s (Err errors.OutOfMemory) start now
-  ends_spent = ends_puts s start now run (now_of came r.units) st.adds st.runs errors.OutOfMemory (λ is. absurd_of is) (puts_so_far start.written now.written [] r.units.page.text (live_lines s.listens came) st.units.printed)
-    where
-      absurd_of : errors.OutOfMemory ≡ errors.Net → ⊥
-      absurd_of is = cc
+  ends_spent = ends_puts s start now run (now_of came r.units) st.adds st.runs errors.OutOfMemory tt (puts_so_far start.written now.written [] r.units.page.text (live_lines s.listens came) st.units.printed)
 
 -- ---- The books
-pub heard_by_a_device : (e : LiveError) → unheard e ≡ errors.Net → ⊥
-heard_by_a_device live.Write is = cc
-heard_by_a_device live.OutOfMemory is = cc
+pub leaves_prefix : (e : LiveError) → LeavesPrefix (unheard e)
+leaves_prefix live.Write = tt
+leaves_prefix live.OutOfMemory = tt
 
 module _ (s : Setup) (start now : Devices) (r : Recovering) (end : IsAtEnd s start now r) (now' : Devices) (same : now'.calls ≡ now.calls) where
   adds_still : AddsRun end.run start.calls now'.calls
@@ -101,11 +153,11 @@ module _ (s : Setup) (start now : Devices) (r : Recovering) (end : IsAtEnd s sta
     now = now_of end.came r.units;
     text = ends.0;
     is_run = record { adds = adds_still; runs = end.stands.runs; writes = ends.1.1 };
-    is_end = record { over = end.over; text_is = ends.1.0; counts_are = end.stands.counts };
+    is_end = record { over = end.over; agreed = end.stands.agree.none; text_is = ends.1.0; counts_are = end.stands.counts };
   }
 
   pub ends_unbooked : (e : LiveError) → LiveEnds s.listens end.came start.written now'.written (Err e) → Ends s (Err (unheard e)) start now'
-  ends_unbooked e ends = ends_text s start now' end.run (now_of end.came r.units) adds_still end.stands.runs (unheard e) (heard_by_a_device e) ends.0 ends.1.0 ends.1.1
+  ends_unbooked e ends = ends_text s start now' end.run (now_of end.came r.units) adds_still end.stands.runs (unheard e) (leaves_prefix e) ends.0 ends.1.0 ends.1.1
 
 -- ---- Before the first call
 pub ends_none : (s : Setup) (calls : Option (List LiveCall)) (w : Option (List ℕ)) → RecoverEnds s (Err errors.OutOfMemory) calls calls (between w w)

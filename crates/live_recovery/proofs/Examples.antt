@@ -1,6 +1,6 @@
 -- A small run, call by call: one line, unit 7, and its proxy. The calls, and what came, stand newest
 -- first.
-use Rattle.std.proofs.Common.{◌≡◌, ◌≢◌, ◌≤◌, ℕ, zero, suc, ◌+◌, Bool, false, ◌||◌, eqb, List, [], ◌∷◌, inl, refl, sym, ap, subst, arith, Some, codes}
+use Rattle.std.proofs.Common.{◌≡◌, ◌≢◌, ◌≤◌, ℕ, zero, suc, ◌+◌, Bool, false, ◌||◌, eqb, List, [], ◌∷◌, inl, refl, sym, ap, subst, arith, Some, None, codes}
 use Rattle.std.proofs.lemmas.Bool.{cond-false, ne_eqb}
 use Rattle.std.specs.Fmt.{digits}
 use Rattle.unit_packets.specs.BlockBytes.{block_bytes}
@@ -24,7 +24,9 @@ use Rattle.live_turns.specs.declared.due.Due.{Due}
 use Rattle.live_turns.specs.declared.due.Due.TheVariants as to
 use Rattle.sending_end.specs.Waiting.{waits_after}
 use Rattle.live_units.specs.Coming.{end_setup, live_lines, state_at, to_unit, with_datagram}
+use Rattle.line_copies.specs.Sums.{mixed, sum_of}
 use Rattle.live_recovery.specs.Counting.{counts_of}
+use Rattle.live_recovery.specs.Disagreeing.{first_disagreement}
 use Rattle.live_recovery.specs.Running.{Brings, Now, PassSeconds, PassesSecond, Runs, Setup, at_first, ends_now, ways}
 use Rattle.live_recovery.specs.declared.peer.Peer.{Peer}
 use Rattle.live_recovery.proofs.Bringing.{comes_now, comes_so, same_still}
@@ -154,17 +156,18 @@ message_2_is_asked_for = refl
 
 -- ---- The first calls, one after another
 module _ (what : Due) (call : LiveCall) (before : List LiveCall) (now now' : Now) where
-  on : Runs seven before now → due (ways seven) (ends_now seven now) before ≡ Some what → IsMade (ends_now seven now) what call → Brings seven call now now' → Runs seven (call ∷ before) now'
-  on run is made brings = (now, (run, (record { what = what; due_is = is; made = made }, brings)))
+  on : Runs seven before now → first_disagreement now.came ≡ None → due (ways seven) (ends_now seven now) before ≡ Some what → IsMade (ends_now seven now) what call → Brings seven call now now' → Runs seven (call ∷ before) now'
+  on run agreed is made brings = (now, (run, record { agreed = agreed; is_due = record { what = what; due_is = is; made = made }; brings = brings }))
 
 up_to_the_line : Runs seven line_asked a_gap
+unfolding blocks_of blocks_by rest_of rest_by judge messages_end raws_of
 up_to_the_line =
     on (to.Receive 0) quiet (gives 3 ∷ gives 1 ∷ Wait false wait_end.Ready ∷ []) a_gap a_gap
     (on (to.Receive 0) (gives 3) (gives 1 ∷ Wait false wait_end.Ready ∷ []) (hears 1 at_first) a_gap
     (on (to.Receive 0) (gives 1) (Wait false wait_end.Ready ∷ []) at_first (hears 1 at_first)
-    (on (to.Wait false) (Wait false wait_end.Ready) [] at_first at_first (same_still at_first) refl refl (same_still at_first)) refl (refl, refl) (record { came_is = refl; waits = λ unit session. refl }))
-    refl (refl, refl) (record { came_is = refl; waits = λ unit session. refl }))
-    refl (refl, refl) (same_still a_gap)
+    (on (to.Wait false) (Wait false wait_end.Ready) [] at_first at_first (same_still at_first) refl refl refl (same_still at_first)) refl refl (refl, refl) (record { came_is = refl; waits = λ unit session. refl }))
+    refl refl (refl, refl) (record { came_is = refl; waits = λ unit session. refl }))
+    refl refl (refl, refl) (same_still a_gap)
 
 -- ---- It comes on the line
 the_lines : live_lines seven.listens (hears 2 asking).came
@@ -172,11 +175,29 @@ the_lines : live_lines seven.listens (hears 2 asking).came
 unfolding stream_items blocks_of blocks_by rest_of rest_by judge messages_end raws_of session_reads reach_of held_count block_line digits
 the_lines = refl
 
+-- ---- Copies that differ
+-- the same packet comes again on another line, and then another message 3: the venue began anew
+abbrev other_packet : List ℕ
+other_packet = 22 ∷ 0 ∷ 1 ∷ 7 ∷ 3 ∷ 0 ∷ 0 ∷ 0 ∷ 14 ∷ 0x29 ∷ 0 ∷ 0 ∷ 0 ∷ 0 ∷ 6 ∷ 0 ∷ 0 ∷ 0 ∷ 0 ∷ 0 ∷ 0 ∷ 0 ∷ []
+
+copies_agree : first_disagreement (hears 3 a_gap).came ≡ None
+unfolding blocks_of blocks_by rest_of rest_by judge messages_end raws_of sum_of mixed
+copies_agree = refl
+
+copies_differ : first_disagreement (with_datagram seven.listens other_packet a_gap.came) ≡ Some (record { unit = 7; sequence = 3 })
+unfolding blocks_of blocks_by rest_of rest_by judge messages_end raws_of sum_of mixed
+copies_differ = refl
+
+-- what came at a session since then is passed over, and the first is told
+the_first_is_told : first_disagreement (with_datagram seven.listens (packet 3) (to_unit 7 Second ∷ with_datagram seven.listens other_packet a_gap.came)) ≡ Some (record { unit = 7; sequence = 3 })
+unfolding blocks_of blocks_by rest_of rest_by judge messages_end raws_of sum_of mixed
+the_first_is_told = refl
+
 -- ---- What is counted
 -- a datagram without bytes, and one with a block of unit 2 and a byte behind a block of unit 7
-abbrev mixed : List ℕ
-mixed = 8 ∷ 0 ∷ 0 ∷ 7 ∷ 2 ∷ 0 ∷ 0 ∷ 0 ∷ 8 ∷ 0 ∷ 0 ∷ 2 ∷ 1 ∷ 0 ∷ 0 ∷ 0 ∷ 255 ∷ []
+abbrev with_a_rest : List ℕ
+with_a_rest = 8 ∷ 0 ∷ 0 ∷ 7 ∷ 2 ∷ 0 ∷ 0 ∷ 0 ∷ 8 ∷ 0 ∷ 0 ∷ 2 ∷ 1 ∷ 0 ∷ 0 ∷ 0 ∷ 255 ∷ []
 
-three_datagrams : counts_of seven.listens (Receive 0 65536 [] (received.Got 0) ∷ Receive 0 65536 mixed (received.Got 17) ∷ line_asked) ≡ record { datagrams = 4; faulty = 2; blocks = 3; stray = 1 }
+three_datagrams : counts_of seven.listens (Receive 0 65536 [] (received.Got 0) ∷ Receive 0 65536 with_a_rest (received.Got 17) ∷ line_asked) ≡ record { datagrams = 4; faulty = 2; blocks = 3; stray = 1 }
 unfolding blocks_of blocks_by rest_of rest_by judge messages_end raws_of
 three_datagrams = refl

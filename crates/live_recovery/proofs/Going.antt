@@ -10,8 +10,10 @@ use Rattle.live_units.specs.Units.{LiveStands}
 use Rattle.live_recovery.specs.Counting.{counts_after}
 use Rattle.live_recovery.specs.Recovering.{AddsRun, IsOver}
 use Rattle.live_recovery.specs.Running.{Brings, Now, Runs, Setup, ends_now, ways}
-use Rattle.live_recovery.specs.Standing.{Devices, GoesOn, IsAbout, IsAtEnd, Stands, now_of}
+use Rattle.live_recovery.specs.Standing.{Agree, Devices, GoesOn, IsAbout, IsAtEnd, Stands, now_of}
 use Rattle.live_recovery.specs.declared.recovering.Recovering.{Recovering}
+use Rattle.live_recovery.proofs.Disagreeing.{agree_on}
+use Rattle.live_recovery.proofs.Still.{IsPlain, brings_same}
 
 -- ---- The calls of a net
 pub adds_none : (calls : Option (List LiveCall)) → AddsRun [] calls calls
@@ -29,7 +31,7 @@ adds_more run call (Some p) (Some q) (Some r) g h = h ∙ ap (λ (l : List LiveC
 module _ (s : Setup) (start now : Devices) (r : Recovering) where
   -- its turns alone differ
   pub stands_turns : (t : LiveTurns) (run : List LiveCall) (came : List UnitCame) → Stands s start now r run came → Stands s start now (record r { turns = t }) run came
-  stands_turns t run came st = record { adds = st.adds; runs = st.runs; units = st.units; counts = st.counts }
+  stands_turns t run came st = record { adds = st.adds; runs = st.runs; units = st.units; agree = st.agree; counts = st.counts }
 
   -- what is due is not done yet
   pub goes_still : (what : Due) → IsAbout s start now r what → GoesOn s start now r
@@ -38,25 +40,35 @@ module _ (s : Setup) (start now : Devices) (r : Recovering) where
 -- ---- A call more
 module _ (s : Setup) (start now : Devices) (r : Recovering) (what : Due) (about : IsAbout s start now r what) (call : LiveCall) (made : IsMade (ends_now s (now_of about.came r.units)) what call) where
   pub runs_on : (at : Now) → Brings s call (now_of about.came r.units) at → Runs s (call ∷ about.run) at
-  runs_on at brings = (now_of about.came r.units, (about.stands.runs, (record { what = what; due_is = about.next.due_is; made = made }, brings)))
+  runs_on at brings = (now_of about.came r.units, (about.stands.runs, record { agreed = about.stands.agree.none; is_due = record { what = what; due_is = about.next.due_is; made = made }; brings = brings }))
 
   module _ (now' : Devices) (r' : Recovering) (came : List UnitCame) (adds : AddsLiveCall now.calls now'.calls call) (brings : Brings s call (now_of about.came r.units) (now_of came r'.units))
       (stand : LiveStands s.listens start.written now'.written r'.units came) (counted : r'.counts ≡ counts_after s.listens call r.counts) where
-    pub stands_on : Stands s start now' r' (call ∷ about.run) came
-    stands_on = record {
-      adds = adds_more about.run call start.calls now.calls now'.calls about.stands.adds adds;
-      runs = runs_on (now_of came r'.units) brings;
-      units = stand;
-      counts = counted ∙ ap (counts_after s.listens call) about.stands.counts;
-    }
+    module _ (agree : Agree r'.copies came) where
+      stands_on : Stands s start now' r' (call ∷ about.run) came
+      stands_on = record {
+        adds = adds_more about.run call start.calls now.calls now'.calls about.stands.adds adds;
+        runs = runs_on (now_of came r'.units) brings;
+        units = stand;
+        agree = agree;
+        counts = counted ∙ ap (counts_after s.listens call) about.stands.counts;
+      }
 
-    pub goes_on : Passes r.turns r'.turns call → GoesOn s start now' r'
-    goes_on passes = record {
-      run = call ∷ about.run;
-      came = came;
-      stands = stands_on;
-      turns = passes (ways s) (ends_now s (now_of about.came r.units)) (ends_now s (now_of came r'.units)) about.run about.turns (about.next.is_at call made);
-    }
+      pub goes_by : Passes r.turns r'.turns call → GoesOn s start now' r'
+      goes_by passes = record {
+        run = call ∷ about.run;
+        came = came;
+        stands = stands_on;
+        turns = passes (ways s) (ends_now s (now_of about.came r.units)) (ends_now s (now_of came r'.units)) about.run about.turns (about.next.is_at call made);
+      }
 
-    pub is_at_end : IsOver (call ∷ about.run) → IsAtEnd s start now' r'
-    is_at_end over = record { run = call ∷ about.run; came = came; stands = stands_on; over = over }
+    -- where it brings no datagram, the same copies are kept
+    module _ (plain : IsPlain call) (same : r'.copies ≡ r.copies) where
+      agrees : Agree r'.copies came
+      agrees = agree_on r.copies r'.copies about.came came same (brings_same s call (now_of about.came r.units) (now_of came r'.units) plain brings) about.stands.agree
+
+      pub goes_on : Passes r.turns r'.turns call → GoesOn s start now' r'
+      goes_on passes = goes_by agrees passes
+
+      pub is_at_end : IsOver (call ∷ about.run) → IsAtEnd s start now' r'
+      is_at_end over = record { run = call ∷ about.run; came = came; stands = stands_on agrees; over = over }

@@ -1,7 +1,9 @@
 mod Examples
 pub mod Bringing
 pub mod Counting
+pub mod Disagreeing
 pub mod Ending
 pub mod Going
 pub mod Seeing
 pub mod Starting
+pub mod Still

@@ -1,4 +1,5 @@
 pub mod Counting
+pub mod Disagreeing
 pub mod Failures
 pub mod Recovering
 pub mod Running

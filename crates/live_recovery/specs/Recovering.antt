@@ -5,9 +5,13 @@ use Rattle.stream_print.specs.Told.{Told}
 use Rattle.live_net.specs.LiveCalls.{LiveCall, Wait, Receive}
 use Rattle.live_net.specs.declared.net.Received.TheVariants as received
 use Rattle.live_net.specs.declared.live.WaitEnd.TheVariants as wait_end
-use Rattle.live_units.specs.Coming.{IsLiveText, BeginsLiveText, live_lines}
+use Rattle.pitch_model.specs.History.{Raw}
+use Rattle.live_units.specs.Coming.{UnitCame, AreHonest, IsLiveText, BeginsLiveText}
+use Rattle.live_units.specs.Coming.{live_lines, with_datagram}
 use Rattle.live_recovery.specs.Counting.{counts_of}
+use Rattle.live_recovery.specs.Disagreeing.{first_disagreement}
 use Rattle.live_recovery.specs.Running.{Now, Runs, Setup}
+use Rattle.live_recovery.specs.declared.copies.Disagreement.{Disagreement}
 use Rattle.live_recovery.specs.declared.counts.Counts.{Counts}
 use Rattle.live_recovery.specs.declared.error.RecoverError.{RecoverError}
 use Rattle.live_recovery.specs.declared.error.RecoverError.TheVariants as errors
@@ -36,12 +40,18 @@ HasFailed (Wait more wait_end.Failed ∷ before) = Unit {0}
 HasFailed (Receive line room bytes received.Failed ∷ before) = Unit {0}
 HasFailed run = ⊥
 
+-- the last call brought this datagram
+abbrev pub HasBrought : List ℕ → List LiveCall → Type 0
+HasBrought datagram (Receive line room bytes (received.Got n) ∷ before) = datagram ≡ bytes
+HasBrought datagram run = ⊥
+
 -- at the end the whole text was written: the lines of all that came, and, for every family of
 -- venues of which each unit's history speaks honestly, the books of exactly each unit's first n
--- messages, n its reach; and what came was counted
+-- messages, n its reach; no copies differ, and what came was counted
 pub record IsDone (s : Setup) (counts : Counts) (run : List LiveCall) (now : Now)
     (text : List ℕ) : Type 0 where
   pub over : IsOver run
+  pub agreed : first_disagreement now.came ≡ None
   pub text_is : IsLiveText s.listens now.came text
   pub counts_are : counts ≡ counts_of s.listens run
 
@@ -49,7 +59,20 @@ pub record IsDone (s : Setup) (counts : Counts) (run : List LiveCall) (now : Now
 pub record IsCutOff (s : Setup) (run : List LiveCall) (now : Now) (text : List ℕ)
     : Type 0 where
   pub failed : HasFailed run
+  pub agreed : first_disagreement now.came ≡ None
   pub text_is : text ≡ live_lines s.listens now.came
+
+-- copies differ of which the second came with the last datagram: the lines of all that came before
+-- it were written, and what came with it speaks honestly of no family of venues
+pub record HaveDisagreed (s : Setup) (d : Disagreement) (run : List LiveCall) (now : Now)
+    (text : List ℕ) : Type 0 where
+  pub before : List UnitCame
+  pub datagram : List ℕ
+  pub last : HasBrought datagram run
+  pub came_is : now.came ≡ with_datagram s.listens datagram before
+  pub told : first_disagreement now.came ≡ Some d
+  pub text_is : text ≡ live_lines s.listens before
+  pub of_none : (Vs : ℕ → List Raw) → AreHonest s.listens Vs now.came → ⊥
 
 -- by the answer: else a prefix of the whole text was
 abbrev pub IsEnd : Setup → Result Counts RecoverError → List LiveCall → Now → List ℕ → Type 0
@@ -57,6 +80,7 @@ IsEnd s (Ok counts) run now text = IsDone s counts run now text
 IsEnd s (Err errors.Net) run now text = IsCutOff s run now text
 IsEnd s (Err errors.Write) run now text = BeginsLiveText s.listens now.came text
 IsEnd s (Err errors.OutOfMemory) run now text = BeginsLiveText s.listens now.came text
+IsEnd s (Err (errors.Disagree d)) run now text = HaveDisagreed s d run now text
 
 -- there is such a run, and such a text was written
 pub record RecoverEnds (s : Setup) (result : Result Counts RecoverError)

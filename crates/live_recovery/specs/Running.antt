@@ -1,7 +1,7 @@
 -- What comes to the units by the calls of a run, and what waits for each session. The calls of a
 -- run, and what came, stand newest first.
 use Rattle.std.specs.Prelude.{◌≡◌, ◌≢◌, ◌⊎◌, ◌≤◌, ℕ, zero, suc, Bool, false, List, [], ◌∷◌, drop}
-use Rattle.std.specs.Prelude.{length, slice_get, Some}
+use Rattle.std.specs.Prelude.{length, slice_get, None, Some}
 use Rattle.std.specs.Option.{option_map_or}
 use Rattle.pitch_fields.specs.Limits.{most_held}
 use Rattle.client_end.specs.Came.{Came, Second}
@@ -17,6 +17,7 @@ use Rattle.live_turns.specs.Due.{Ways, Ends, IsDue}
 use Rattle.live_units.specs.Coming.{LiveSetup, UnitCame, stands_at, to_unit, with_came}
 use Rattle.live_units.specs.Coming.{with_datagram, with_loss}
 use Rattle.live_units.specs.Units.{waits_then}
+use Rattle.live_recovery.specs.Disagreeing.{first_disagreement}
 use Rattle.live_recovery.specs.declared.peer.Peer.{Peer}
 
 -- how many lines there are, the peers by their numbers, and what is listened to
@@ -133,8 +134,14 @@ Brings s (Put at piece (put.Wrote n)) now now' =
 Brings s call now now' = IsSame now now'
 
 -- ---- A run
--- each call was due, with the ends as they were then, and brought what it did
+-- a call more is made only where no copies differ by then; it was due, with the ends as they were
+-- then, and brought what it did
+pub record RunsOn (s : Setup) (call : LiveCall) (before : List LiveCall) (now now' : Now)
+    : Type 0 where
+  pub agreed : first_disagreement now.came ≡ None
+  pub is_due : IsDue (ways s) (ends_now s now) before call
+  pub brings : Brings s call now now'
+
 abbrev pub Runs : Setup → List LiveCall → Now → Type 0
 Runs s [] now = IsSame at_first now
-Runs s (call ∷ before) now' = (now : Now) × (Runs s before now
-    × (IsDue (ways s) (ends_now s now) before call × Brings s call now now'))
+Runs s (call ∷ before) now' = (now : Now) × (Runs s before now × RunsOn s call before now now')

@@ -1,15 +1,24 @@
 -- A live client between two calls of its net.
-use Rattle.std.specs.Prelude.{◌≡◌, ◌≢◌, ℕ, List, Bool, true, false, Option, Result, Ok, Err}
+use Rattle.std.specs.Prelude.{◌≡◌, ◌≢◌, ℕ, List, [], ◌∷◌, Bool, true, false, Result, Ok, Err}
+use Rattle.std.specs.Prelude.{Option, None, Some}
+use Rattle.pitch_io.specs.Putting.{Grows}
+use Rattle.unit_packets.specs.Blocks.{Block}
+use Rattle.client_end.specs.Came.{Came, Heard}
+use Rattle.line_copies.specs.Standing.{HaveKept}
+use Rattle.line_copies.specs.declared.lines.LineCopies.{LineCopies}
+use Rattle.stream_print.specs.Putting.{PutsSome}
 use Rattle.stream_print.specs.Told.{between}
 use Rattle.live_net.specs.LiveCalls.{LiveCall}
 use Rattle.live_turns.specs.Turning.{IsNext, TurnsStand}
 use Rattle.live_turns.specs.declared.due.Due.{Due}
-use Rattle.live_units.specs.Coming.{UnitCame, with_datagram}
+use Rattle.live_units.specs.Coming.{LiveSetup, UnitCame, live_lines, with_datagram}
 use Rattle.live_units.specs.Units.{AllWait, LiveStands, OfLive, waiting_at}
 use Rattle.live_units.specs.declared.units.LiveUnits.{LiveUnits}
 use Rattle.live_recovery.specs.Counting.{counts_of, with_counted}
+use Rattle.live_recovery.specs.Disagreeing.{first_disagreement}
 use Rattle.live_recovery.specs.Recovering.{AddsRun, IsOver, RecoverEnds}
 use Rattle.live_recovery.specs.Running.{Now, PassSeconds, Runs, Setup, ends_now, ways}
+use Rattle.live_recovery.specs.declared.copies.Disagreement.{Disagreement}
 use Rattle.live_recovery.specs.declared.error.RecoverError.{RecoverError}
 use Rattle.live_recovery.specs.declared.error.RecoverError.TheVariants as errors
 use Rattle.live_recovery.specs.declared.recovering.Recovering.{Recovering}
@@ -26,6 +35,28 @@ devices calls written = record { calls = calls; written = written }
 abbrev pub now_of : List UnitCame → LiveUnits → Now
 now_of came units = record { came = came; waits = λ unit session. waiting_at units unit session }
 
+-- ---- Copies
+-- the blocks that came, newest first, each with the unit to which it came
+abbrev pub with_heard : ℕ → Came → List Block → List Block
+with_heard unit (Heard block) blocks =
+    record { unit = unit; sequence = block.sequence; raws = block.raws } ∷ blocks
+with_heard unit came blocks = blocks
+
+abbrev pub blocks_came : List UnitCame → List Block
+blocks_came [] = []
+blocks_came (next ∷ before) = with_heard next.unit next.came (blocks_came before)
+
+-- copies are kept of all that came on lines, and none that came differs
+pub record Agree (copies : LineCopies) (came : List UnitCame) : Type 0 where
+  pub kept : HaveKept copies (blocks_came came)
+  pub none : first_disagreement came ≡ None
+
+-- by what was told of them
+abbrev pub Compares : Option Disagreement → LineCopies → List UnitCame → Type 0
+Compares None copies came = Agree copies came
+Compares (Some d) copies came = first_disagreement came ≡ Some d
+
+-- ---- Where a run stands
 -- each call of the run was due; all that came by it came to the units, which printed it, and was
 -- counted
 pub record Stands (s : Setup) (start now : Devices) (r : Recovering) (run : List LiveCall)
@@ -33,6 +64,7 @@ pub record Stands (s : Setup) (start now : Devices) (r : Recovering) (run : List
   pub adds : AddsRun run start.calls now.calls
   pub runs : Runs s run (now_of came r.units)
   pub units : LiveStands s.listens start.written now.written r.units came
+  pub agree : Agree r.copies came
   pub counts : r.counts ≡ counts_of s.listens run
 
 -- the run goes on
@@ -74,6 +106,17 @@ pub record Hears (r r' : Recovering) (written written' : Option (List ℕ)) (byt
   pub counts : OfLive r.units written (λ s start came.
       r'.counts ≡ with_counted s bytes r.counts)
   pub turns : r'.turns ≡ r.turns
+
+-- by why a datagram was not heard: copies differ, and the lines of all that came before it were
+-- written; else a prefix of all lines with those of the datagram was
+abbrev pub FailsHearing : RecoverError → LiveSetup → (start now : Option (List ℕ)) → List ℕ
+    → List UnitCame → Type 0
+FailsHearing errors.Net s start now bytes came = ⊥
+FailsHearing (errors.Disagree d) s start now bytes came =
+    (first_disagreement (with_datagram s bytes came) ≡ Some d)
+    × Grows start now (live_lines s came)
+FailsHearing error s start now bytes came =
+    PutsSome start now (live_lines s (with_datagram s bytes came))
 
 -- since things were so, a second passed for each of the units below a number
 pub record SecondsPass (s : Setup) (start written : Option (List ℕ)) (first : Now) (count : ℕ)

@@ -1,5 +1,6 @@
 //! Why a live client ends early.
 
+use crate::copies::Disagreement;
 use live_units::LiveError;
 use pitch_fields::OutOfMemory;
 use stream_print::PutFailed;
@@ -13,6 +14,8 @@ pub enum RecoverError {
     Write,
     /// Memory ran out.
     OutOfMemory,
+    /// Two copies of a message differ, so that what was heard is honest for no venue.
+    Disagree(Disagreement),
 }
 
 impl From<PutFailed> for RecoverError {

@@ -2,6 +2,7 @@
 //! prints what came, and at its end the book of each unit.
 #![tactic(auto)]
 
+mod copies;
 mod counts;
 mod error;
 mod peer;
@@ -10,6 +11,7 @@ mod recovery;
 mod seconds;
 mod setup;
 
+pub use crate::copies::Disagreement;
 pub use crate::counts::Counts;
 pub use crate::error::RecoverError;
 pub use crate::peer::Peer;

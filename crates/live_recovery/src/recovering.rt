@@ -1,9 +1,8 @@
 //! A live client between two calls of its net.
 
 ghost use Rattle.std.specs.Prelude.{◌≡◌, ◌≢◌, ℕ, List, Option, length, OnOk, OnErr, IfOk, Err};
-ghost use Rattle.std.specs.Prelude.{true};
+ghost use Rattle.std.specs.Prelude.{true, IfErr};
 ghost use Rattle.pitch_io.specs.Causes.{HasCause};
-ghost use Rattle.stream_print.specs.Putting.{PutsSome};
 ghost use Rattle.stream_print.specs.Sinks.{CountsFault};
 ghost use Rattle.stream_print.specs.Told.{between};
 ghost use Rattle.sending_end.specs.Waiting.{ended};
@@ -11,18 +10,21 @@ ghost use Rattle.live_net.specs.LiveCalls.{LiveCall};
 ghost use Rattle.live_turns.specs.Due.{room_for_one};
 ghost use Rattle.live_turns.specs.Retry.{ends_by};
 ghost use Rattle.live_turns.specs.Turning.{IsSeen, Passes};
-ghost use Rattle.live_units.specs.Coming.{UnitCame, live_lines, with_datagram};
-ghost use Rattle.live_units.specs.Units.{LiveStands, OfLive, PassesAt};
+ghost use Rattle.live_units.specs.Coming.{UnitCame, with_datagram};
+ghost use Rattle.live_units.specs.Units.{LiveStands, PassesAt};
 ghost use Rattle.live_recovery.specs.Recovering.{RecoverEnds};
 ghost use Rattle.live_recovery.specs.Running.{Setup, ends_now};
-ghost use Rattle.live_recovery.specs.Standing.{Devices, GoesOn, Hears, IsAbout, IsAtEnd};
+ghost use Rattle.live_recovery.specs.Standing.{Agree, Devices, FailsHearing, GoesOn, Hears};
+ghost use Rattle.live_recovery.specs.Standing.{IsAbout, IsAtEnd};
 ghost use Rattle.live_recovery.specs.Standing.{NamesNoDevice, Steps, devices, now_of};
 
+use crate::copies::compare;
 use crate::counts::{Counts, NONE_COUNTED};
 use crate::error::RecoverError;
 use crate::peer::Peer;
 use crate::seconds::pass_second;
 use crate::setup::RecoverSetup;
+use line_copies::LineCopies;
 use live_net::{LiveNet, PeerOpened, PeerPut, PeerTaken, Received, WaitEnd};
 use live_turns::{Due, LiveTurns};
 use live_units::LiveUnits;
@@ -33,11 +35,12 @@ use std::alloc::Global;
 /// The room for a datagram, which none of UDP passes, and for a piece of a peer's bytes.
 pub const ROOM_FOR_ONE: usize = 65536;
 
-/// Whose turn it is, what came, and what was counted.
+/// Whose turn it is, what came, what is kept of it to compare, and what was counted.
 #[derive(Drop)]
 pub struct Recovering {
     pub turns: LiveTurns,
     pub units: LiveUnits,
+    pub copies: LineCopies,
     pub counts: Counts,
 }
 
@@ -50,21 +53,35 @@ impl Recovering {
         Ok(Recovering {
             turns: LiveTurns::make(alloc, setup.lines(), setup.peer_count())?,
             units: LiveUnits::make(alloc, setup.units(), setup.account(), hold)?,
+            copies: LineCopies::make(alloc)?,
             counts: NONE_COUNTED,
         })
     }
 
-    // Hears a datagram, and counts it.
-    fn hear<O: Sink>(&mut self, datagram: &[u8], out: &mut O) -> Result<(), RecoverError>
+    // Compares a datagram with the copies that came before it, hears it, and counts it. Where
+    // copies differ, what was printed is written out, and nothing of the datagram is heard.
+    fn hear<O: Sink>(
+        &mut self,
+        alloc: Global,
+        setup: &RecoverSetup,
+        datagram: &[u8],
+        out: &mut O,
+    ) -> Result<(), RecoverError>
         ensures hears { OnOk result (
             Hears self.old self.new (O.written out.old) (O.written out.new) datagram.now) }
-        // A prefix was written of all lines with those of the datagram.
-        ensures err { OnErr result (OfLive self.old.units (O.written out.old) (λ s start came.
-            PutsSome start (O.written out.new)
-            (live_lines s (with_datagram s datagram.now came)))) }
+        ensures agrees { OnOk result ((came : List UnitCame) → Agree self.old.copies came
+            → Agree self.new.copies (with_datagram setup.now.listens datagram.now came)) }
+        ensures err { IfErr result (λ error. (start : Option (List ℕ)) (came : List UnitCame)
+            → LiveStands setup.now.listens start (O.written out.old) self.old.units came
+            → Agree self.old.copies came → FailsHearing error setup.now.listens start
+            (O.written out.new) datagram.now came) }
         ensures not_net { result ≢ Err RecoverError.Net }
         ensures cause { CountsFault O.faults out.old out.new (result ≡ Err RecoverError.Write) }
     {
+        if let Some(disagreement) = compare(&mut self.copies, alloc, setup, datagram)? {
+            self.units.flush(out)?;
+            return Err(RecoverError::Disagree(disagreement));
+        }
         let passed = self.units.hear_datagram(datagram, out)?;
         self.counts = self.counts.after(datagram, passed)?;
         Ok(())
@@ -107,16 +124,19 @@ impl Recovering {
     // Asks a line for a datagram.
     fn ask_line<N: LiveNet, O: Sink>(
         &mut self,
+        alloc: Global,
         line: u16,
+        setup: &RecoverSetup,
         net: &mut N,
         into: &mut [u8],
         out: &mut O,
     ) -> Result<bool, RecoverError>
         requires room { length into.old ≡ room_for_one }
-        ensures steps { (s : Setup) (start : Devices)
-            → IsAbout s start (devices (N.calls net.old) (O.written out.old)) self.old
+        ensures steps { (start : Devices)
+            → IsAbout setup.now start (devices (N.calls net.old) (O.written out.old)) self.old
             (Due.Receive line)
-            → Steps s result start (devices (N.calls net.new) (O.written out.new)) self.new }
+            → Steps setup.now result start (devices (N.calls net.new) (O.written out.new))
+            self.new }
         ensures size { length into.new ≡ length into.old }
         ensures net_cause { HasCause (N.faults net.old) (N.faults net.new)
             (result ≡ Err RecoverError.Net) }
@@ -126,7 +146,7 @@ impl Recovering {
     {
         match net.receive(line, into) {
             Received::Got(count) => {
-                self.hear(&into[..count], out)?;
+                self.hear(alloc, setup, &into[..count], out)?;
                 self.turns.received(line);
                 Ok(true)
             }
@@ -148,6 +168,7 @@ impl Recovering {
         ensures turns { (call : LiveCall) → ends_by at call ≡ true
             → Passes self.old.turns self.new.turns call }
         ensures counts { self.new.counts ≡ self.old.counts }
+        ensures copies { self.new.copies ≡ self.old.copies }
     {
         self.units.cut(peer.unit, peer.session);
         self.turns.ended(at);
@@ -275,6 +296,7 @@ impl Recovering {
     /// was over.
     pub fn step<N: LiveNet, O: Sink>(
         &mut self,
+        alloc: Global,
         setup: &RecoverSetup,
         net: &mut N,
         into: &mut [u8],
@@ -298,7 +320,7 @@ impl Recovering {
             // The turns have moved on.
             None => Ok(true),
             Some(Due::Wait(more)) => self.wait(more, net, out),
-            Some(Due::Receive(line)) => self.ask_line(line, net, into, out),
+            Some(Due::Receive(line)) => self.ask_line(alloc, line, setup, net, into, out),
             Some(Due::Take(at)) => self.take_peer(at, setup, net, into, out),
             Some(Due::Open(at)) => {
                 self.open_peer(at, setup, net);

@@ -22,6 +22,9 @@ use stream_print::piece_buffer;
 ///
 /// No bytes end a run, neither of a line nor of a peer: a connection is closed by them at most, and
 /// begun again after a pause of 1 to 64 seconds. What was printed is written before each wait.
+/// But where two copies of a message differ, the run ends by `Disagree`, without books: whatever
+/// the venues are, what came speaks honestly of none. Of each unit the last 65,536 sequences are
+/// compared, for which 1 MiB is taken at its first block.
 /// `OutOfMemory` is also what a run of 2^64 - 1 steps would be answered, and one whose counts would
 /// pass 2^64 - 1: no program runs so long.
 pub fn recover<N: LiveNet, O: Sink>(
@@ -42,7 +45,7 @@ pub fn recover<N: LiveNet, O: Sink>(
     let mut recovering = Recovering::make(alloc, setup)?;
     let mut into = piece_buffer(alloc, ROOM_FOR_ONE)?;
     'calls: for _ in 0..u64::MAX {
-        let goes_on = recovering.step(setup, net, &mut into, out)?;
+        let goes_on = recovering.step(alloc, setup, net, &mut into, out)?;
         if !goes_on {
             return recovering.finish(alloc, out);
         }

@@ -35,6 +35,7 @@ impl Model for RecoverSetup {
 impl RecoverSetup {
     ghost use Rattle.std.specs.Prelude.{◌≡◌, IfSome, slice_get, length};
     ghost use Rattle.std.specs.Option.{IsSome};
+    ghost use Rattle.live_units.specs.Coming.{has_unit};
     ghost use Rattle.live_recovery.specs.Running.{CanRecover};
 
     /// At most 65,535 peers, and a hold of 1 to 65,536 places. A peer is asked where its unit is
@@ -93,6 +94,13 @@ impl RecoverSetup {
         ensures { result.now ≡ self.now.listens.units }
     {
         &self.units
+    }
+
+    /// Whether a unit is listened to.
+    pub fn wants(&self, unit: u8) -> bool
+        ensures { result ≡ has_unit self.now.listens unit }
+    {
+        self.units.is_empty() || self.units.contains(&unit)
     }
 
     /// The account of their logins.

@@ -1,7 +1,9 @@
 //! A run that asks servers for what was lost.
 
 use crate::hearing::ports_of;
-use crate::says::{DONE, NET_FAILED, say_out_of_memory, say_trouble, say_usage, say_write_failed};
+use crate::says::{
+    DONE, NET_FAILED, say_disagree, say_out_of_memory, say_trouble, say_usage, say_write_failed,
+};
 use crate::telling::Telling;
 use line_sockets::Port;
 use live_recovery::{Counts, Peer, RecoverError, RecoverSetup, Session, recover};
@@ -92,6 +94,7 @@ fn recover_from(
         },
         Err(RecoverError::Write) => say_write_failed(rt),
         Err(RecoverError::OutOfMemory) => say_out_of_memory(rt),
+        Err(RecoverError::Disagree(told)) => say_disagree(rt, told.unit, told.sequence),
     })
 }
 

@@ -6,7 +6,7 @@ use live_words::LineWords;
 use std::io;
 use std::io::ErrorKind;
 
-// The exit statuses, as those of `pitch`.
+// The exit statuses, as those of `pitch`, and one more.
 pub const DONE: u8 = 0;
 
 const USAGE: u8 = 2;
@@ -16,6 +16,8 @@ const WRITE_FAILED: u8 = 5;
 const OUT_OF_MEMORY: u8 = 6;
 
 pub const NET_FAILED: u8 = 7;
+
+const LINES_DISAGREE: u8 = 8;
 
 /// Memory ran out.
 pub fn say_out_of_memory(rt: &HostRuntime) -> u8 {
@@ -44,6 +46,12 @@ pub fn say_setup(rt: &HostRuntime, path: &str, reason: &io::Error) -> u8 {
 pub fn say_write_failed(rt: &HostRuntime) -> u8 {
     let _said = eprintln!(rt; "pitch_live: standard output can't be written to");
     WRITE_FAILED
+}
+
+/// Two copies of a message of a unit differ.
+pub fn say_disagree(rt: &HostRuntime, unit: u8, sequence: u32) -> u8 {
+    let _said = eprintln!(rt; "pitch_live: unit {unit} lines disagree at {sequence}");
+    LINES_DISAGREE
 }
 
 // What the line of this number is called, or the wait where there is no number.

@@ -14,7 +14,7 @@ returns-in-Some-Wait-clause-steps g c = λ start goes.
 
 pub returns-in-Some-Receive-clause-steps : goal.returns-in-Some-Receive-clause-steps
 returns-in-Some-Receive-clause-steps g c = λ start goes.
-    c.ask_line.ensures.steps c.args.setup.now start
+    c.ask_line.ensures.steps start
     (is_about c.args.setup.now start (devices (g.N.LiveNet.calls c.args.net.now) (g.O.Sink.written c.args.out.now)) c.args.self.now c.due.new.self c.seen-has.result.0 c.seen-has.result.1 goes c.seen-has.ensures c.in-Some-Receive.field-0 (to.Receive c.in-Some-Receive.line) c.in-Some-Receive.field-0-is c.in-Some-Receive.ensures)
 
 pub returns-in-Some-Take-clause-steps : goal.returns-in-Some-Take-clause-steps
