@@ -5,7 +5,7 @@ use Rattle.std.specs.Option.{IfSome, option_or}
 use Rattle.std.proofs.lemmas.Bool.{and_parts, cond_both, eqb-false, eqb-true, not-true}
 use Rattle.std.proofs.lemmas.Option.{none-some, same_Some}
 use Rattle.unit_packets.specs.Blocks.{Block}
-use Rattle.pitch_model.specs.History.{Entry, Raw, Message}
+use Rattle.pitch_model.specs.History.{Entry, Raw, Message, Next}
 use Rattle.heard_items.specs.Heard.{heard_messages, heard_block}
 use Rattle.heard_items.specs.HeardBlocks.{heard_sequenced}
 use Rattle.line_copies.specs.Sums.{sum_of}
@@ -107,3 +107,15 @@ block_differs block E n is = by (block.sequence == 0) refl is
 pub told_differs : (told : Option ℕ) (P : List Entry → Type 0) (block : Block) → ((E : List Entry) → P E → told ≡ block_differing block E) → IfSome told (λ n. (E : List Entry) → P E → CopiesDiffer (heard_block block E) n)
 told_differs None P block is = tt
 told_differs (Some n) P block is = λ E holds. block_differs block E n (sym (is E holds))
+
+-- and stays so after a block more
+pub differ_after : (block : Block) (E : List Entry) (n : ℕ) → CopiesDiffer E n → CopiesDiffer (heard_block block E) n
+differ_after block E n d = by (block.sequence == 0)
+  where
+    sequenced : (raws : List Raw) → CopiesDiffer (heard_sequenced block.sequence raws E) n
+    sequenced [] = differ_later (Next block.sequence) E n d
+    sequenced (raw ∷ raws) = differ_on block.sequence (raw ∷ raws) E n d
+
+    by : (b : Bool) → CopiesDiffer (cond b E (heard_sequenced block.sequence block.raws E)) n
+    by true = d
+    by false = sequenced block.raws
