@@ -1,7 +1,9 @@
 //! Runs of a live client that asks, over a line, a gap line and the proxy of unit 7.
 
 use live_net::{LiveStep, MemoryLive};
-use live_recovery::{Account, Counts, Peer, RecoverError, RecoverSetup, Session, recover};
+use live_recovery::{
+    Account, Counts, Disagreement, Peer, RecoverError, RecoverSetup, Session, recover,
+};
 use pitch_io::MemorySink;
 use std::collections::VecDeque;
 use std::process::Abort;
@@ -13,12 +15,15 @@ const ACCOUNT: Account = Account {
     password: *b"PITCH     ",
 };
 
-// The times 34200, 34201 and 34202 of unit 7, its messages 1 to 3, and rubbish.
+// The times 34200, 34201 and 34202 of unit 7, its messages 1 to 3.
 const TIME_1: &[u8] = b"\x0e\0\x01\x07\x01\0\0\0\x06\x20\x98\x85\0\0";
 
 const TIME_2: &[u8] = b"\x0e\0\x01\x07\x02\0\0\0\x06\x20\x99\x85\0\0";
 
 const TIME_3: &[u8] = b"\x0e\0\x01\x07\x03\0\0\0\x06\x20\x9a\x85\0\0";
+
+// Another message 2, as a venue sends it that starts anew.
+const OTHER_2: &[u8] = b"\x0e\0\x01\x07\x02\0\0\0\x06\x20\x9b\x85\0\0";
 
 const RUBBISH: &[u8] = b"\xff\xff\xff";
 
@@ -127,6 +132,10 @@ const WHOLE: &[u8] = b"block 1 unit 7 first 1 count 1; current 1\n\
     block 3 unit 7 first 2 count 1; current 3\n\
     book unit 7 at 3 second 34202 orders 0\n";
 
+const THREE_COPIES: &[u8] = b"block 1 unit 7 first 1 count 1; current 1\n\
+    block 2 unit 7 first 2 count 1; current 2\n\
+    block 3 unit 7 first 1 count 1; current 2\n";
+
 #[test]
 fn what_is_lost_is_asked_for(rt: HostRuntime) {
     let came = run(&rt, &LOST, 0, 0);
@@ -187,6 +196,28 @@ fn a_connection_is_begun_again(rt: HostRuntime) {
         assert!(rt; came.text.is_empty());
         assert!(rt; came.calls == calls + 1);
     }
+}
+
+#[test]
+fn copies_that_differ_end_the_run(rt: HostRuntime) {
+    // Messages 1 and 2 come on the line, and on the gap line message 1 and another message 2.
+    let steps = [
+        Step::Turn,
+        Step::Line(TIME_1),
+        Step::Line(TIME_2),
+        Step::Gap(TIME_1),
+        Step::Gap(OTHER_2),
+        Step::Gap(TIME_3),
+    ];
+    let came = run(&rt, &steps, 0, 0);
+    let told = Disagreement {
+        unit: 7,
+        sequence: 2,
+    };
+    assert!(rt; came.answer == Err(RecoverError::Disagree(told)));
+    assert!(rt; came.text.as_slice() == THREE_COPIES);
+    // The wait, the line until it is quiet, and two datagrams of the gap line.
+    assert!(rt; came.calls == 1 + 3 + 2);
 }
 
 #[test]
