@@ -135,7 +135,9 @@ const REDUCED: [Row; 3] = [
 ];
 
 // Whether this is the best price to buy IBM.
-fn has_best(ladder: &Ladder, best: Option<(u64, u64)>) -> bool {
+fn has_best(ladder: &Ladder, best: Option<(u64, u64)>) -> bool
+    requires { ladder.now.spent ≡ false }
+{
     match (ladder.best(Symbol::from_eight(IBM), Side::Buy), best) {
         (Some((price, shares)), Some(wanted)) => (price.ten_thousandths(), shares) == wanted,
         (None, None) => true,
