@@ -2,8 +2,10 @@
 
 use client_core::UnitClient;
 use drill_client::{append_end, asks_when_told_of_all, begin, hear_all, hear_datagram};
+use pitch_fields::OutOfMemory;
 use pitch_messages::RawList;
-use std::process::Abort;
+use std::alloc::Global;
+use std::test::*;
 
 // A datagram of unit 1: the second 34,200 as message 1.
 const CLOCK: &[u8] = b"\x0e\x00\x01\x01\x01\x00\x00\x00\x06\x20\x98\x85\x00\x00";
@@ -12,37 +14,41 @@ const LINES: &[u8] = b"unit 1 current 1 orders 0 shares 0\nunit 2 current 1 orde
 
 // One client hears the message, the other only an image through it.
 #[test]
-fn a_client_has_all_at_its_end(rt: HostRuntime) {
+fn a_client_has_all_at_its_end(rt: HostRuntime) -> Result<(), Fail> {
     let mut out = Vec::new(rt.alloc());
-    assert!(rt; !hears_a_datagram(&rt, CLOCK, &mut out));
-    assert!(rt; hears_an_image(&rt, CLOCK, &mut out));
-    assert!(rt; out.as_slice() == LINES);
+    let asks = (
+        hears_a_datagram(rt.alloc(), CLOCK, &mut out)?,
+        hears_an_image(rt.alloc(), &mut out)?,
+    );
+    assert!(rt; asks == (false, true) && out.as_slice() == LINES);
+    Ok(())
 }
 
 // Whether the client that has heard the datagram lacks something, and its line.
-fn hears_a_datagram<R: Abort + AllocGlobal>(rt: &R, datagram: &[u8], out: &mut Vec<u8>) -> bool {
-    let mut client = begin(rt.alloc(), 4).expect(rt, "memory");
-    hear_datagram(&mut client, datagram).expect(rt, "memory");
+fn hears_a_datagram(
+    alloc: Global,
+    datagram: &[u8],
+    out: &mut Vec<u8>,
+) -> Result<bool, OutOfMemory> {
+    let mut client = begin(alloc, 4)?;
+    hear_datagram(&mut client, datagram)?;
     let asks = asks_when_told_of_all(&mut client, 1);
-    append_end(&client, 1, out).expect(rt, "memory");
-    drop(client);
-    asks
+    append_end(&client, 1, out)?;
+    Ok(asks)
 }
 
 // Whether the client that has heard nothing lacks something, and its line after the image.
-fn hears_an_image<R: Abort + AllocGlobal>(rt: &R, datagram: &[u8], out: &mut Vec<u8>) -> bool {
-    let mut client = begin(rt.alloc(), 4).expect(rt, "memory");
+fn hears_an_image(alloc: Global, out: &mut Vec<u8>) -> Result<bool, OutOfMemory> {
+    let mut client = begin(alloc, 4)?;
     let asks = asks_when_told_of_all(&mut client, 1);
-    hear_clock(rt, datagram, &mut client);
-    append_end(&client, 2, out).expect(rt, "memory");
-    drop(client);
-    asks
+    hear_clock(alloc, &mut client)?;
+    append_end(&client, 2, out)?;
+    Ok(asks)
 }
 
-// Hears the image of the datagram's message.
-fn hear_clock<R: Abort + AllocGlobal>(rt: &R, datagram: &[u8], client: &mut UnitClient) {
-    assert!(rt; datagram.len() == 14);
-    let mut raws = RawList::make(rt.alloc());
-    raws.push_bytes(&datagram[8..14]).expect(rt, "memory");
-    hear_all(client, 1, 0, raws).expect(rt, "memory");
+// Hears the image of that message.
+fn hear_clock(alloc: Global, client: &mut UnitClient) -> Result<(), OutOfMemory> {
+    let mut raws = RawList::make(alloc);
+    raws.push_bytes(&CLOCK[8..14])?;
+    hear_all(client, 1, 0, raws)
 }
