@@ -18,6 +18,8 @@ is busy, or has small buffers (net.core.rmem_max), loses none.
     rubbish   the same, and three senders beside, of noise, empty datagrams and blocks of other units
     from      a sender that is named, and one that is not, who is first with the same blocks of other
               messages: the text is that of `follow` of what the first one sends
+    disagree  with a server to ask, other messages with sequences that came: status 8 with the first of
+              them, after the lines of all that came before
     end       datagrams that are sent just before the end of the input: all are heard
     prompt    a datagram is sent once the lines of the one before are written
     words     words that ask for nothing, and ports that can't be opened: status and standard error
@@ -297,6 +299,33 @@ def run_from(live, program, rate, number, datagrams, dice):
     return status == 0 and text == followed(program, some) and f'faulty {len(some)} ' in said, said
 
 
+def messages_of(datagram):
+    """Each message of its blocks: the unit, the sequence, and the bytes."""
+    at = 0
+    while at < len(datagram):
+        length, _, unit, sequence = struct.unpack_from('<HBBI', datagram, at)
+        end, at = at + length, at + 8
+        while at < end:
+            yield unit, sequence, datagram[at:at + datagram[at]]
+            sequence, at = sequence + 1, at + datagram[at]
+
+
+def run_disagree(live, program, rate, number, datagrams, dice):
+    """A second venue is told apart at the first message that is another."""
+    units = [word for unit in UNITS for word in ('--unit', str(unit))]
+    listener = Listener(live, [*units, '--grp', f'1@{HOST}:{free_port()}', *ACCOUNT.split()])
+    some, sender = datagrams[:200], Sender(rate)
+    of_another = forged(some[-50])
+    for datagram in [*some, of_another]:
+        sender.send(listener.a, datagram)
+    status, text, said = listener.end()
+    pairs = zip(messages_of(some[-50]), messages_of(of_another))
+    unit, sequence = next(one[:2] for one, other in pairs if one != other)
+    lines = [line for line in followed(program, some).splitlines(True) if line.startswith(b'block ')]
+    wanted = f'pitch_live: unit {unit} lines disagree at {sequence}'
+    return status == 8 and text == b''.join(lines) and said.splitlines()[-1] == wanted, said.splitlines()[-1]
+
+
 def run_end(live, program, rate, number, datagrams, dice):
     """All at once, and then the end at once: nothing that was sent is missed."""
     listener = Listener(live, both=True)
@@ -447,7 +476,7 @@ def main():
     words.add_argument('--only')
     given = words.parse_args()
     runs = {'whole': run_whole, 'lossy': run_lossy, 'rubbish': run_rubbish, 'from': run_from,
-            'end': run_end, 'prompt': run_prompt}
+            'disagree': run_disagree, 'end': run_end, 'prompt': run_prompt}
     passed, failed = 0, 0
 
     def tell(name, run, *more):
