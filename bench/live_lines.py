@@ -323,7 +323,7 @@ def run_disagree(live, program, rate, number, datagrams, dice):
     unit, sequence = next(one[:2] for one, other in pairs if one != other)
     lines = [line for line in followed(program, some).splitlines(True) if line.startswith(b'block ')]
     wanted = f'pitch_live: unit {unit} lines disagree at {sequence}'
-    return status == 8 and text == b''.join(lines) and said.splitlines()[-1] == wanted, said.splitlines()[-1]
+    return status == 8 and text == b''.join(lines) and said.splitlines() == ['unit 1 grp down', wanted], said.splitlines()[-1]
 
 
 def run_end(live, program, rate, number, datagrams, dice):

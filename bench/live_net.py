@@ -11,7 +11,7 @@ twice, 20 after the next one, and 5 are spoiled; each connection is cut after 1.
 listener begins late, so the units lack their first messages, of which the proxies keep the last
 third alone. 64 senders of noise send to its lines all the while. It is ended when each unit is
 `current` at its last message; then its books have to be those of `follow` of the whole feed, byte
-for byte, and its status 0.
+for byte, and its status 0; and standard error has to have said of each server in turn `up` and `down`.
 
 The last line is `N passed, M failed`, and the exit status is 0 where none failed. A run that is not
 current after a minute fails.
@@ -127,6 +127,17 @@ class Noise:
         self.thread.join()
 
 
+def are_told(said, units):
+    """Whether the lines say of each server in turn that it is up and that it is down, and nothing else."""
+    told = {f'unit {unit} {name}': [] for unit in units for name in ('grp', 'spin')}
+    for line in said:
+        server, _, how = line.rpartition(' ')
+        if how not in ('up', 'down') or told.get(server, [how])[-1:] == [how]:
+            return False
+        told[server].append(how)
+    return all('up' in it for it in told.values())
+
+
 def run_once(given, number, folder):
     units, dice = range(1, given.units + 1), random.Random(number)
     datagrams = [it for it in datagrams_of(given.program, number, given.steps, dice) if it]
@@ -151,7 +162,7 @@ def run_once(given, number, folder):
         status, text, said = listener.end()
         relay.terminate()
         right = books_of(followed(given.program, datagrams))
-        is_so = status == 0 and right and books_of(text) == right
+        is_so = status == 0 and right and books_of(text) == right and are_told(said[:-2], units)
         return is_so, f'{took:.1f} s, {listener.images} images; {said[-2]}; relay: {relay.communicate()[0].strip()}'
     finally:
         if noisy:
