@@ -99,15 +99,15 @@ module _ (s : Setup) (there : Bool) (l : Limits) (now : View) (are : AreSequence
   message_lines logged spent view (GapRequest unit sequence count) later = asked_lines logged spent view unit sequence count later
   message_lines logged spent view message later = inl refl
 
-  said_lines : (logged : Bool) (spent : Spent) (view : View) (said : Said) → IsLater view now → OneRange s.unit now.messages (said_answer s there l logged spent view said).lines
+  pub said_lines : (logged : Bool) (spent : Spent) (view : View) (said : Said) → IsLater view now → OneRange s.unit now.messages (said_answer s there l logged spent view said).lines
   said_lines logged spent view (Message message) later = message_lines logged spent view message later
   said_lines logged spent view said later = inl refl
 
-  one_more : (lines others : List (List ℕ)) → OneRange s.unit now.messages lines → ArePackedRanges s.unit now.messages others → ArePackedRanges s.unit now.messages (lines ++ others)
+  pub one_more : (lines others : List (List ℕ)) → OneRange s.unit now.messages lines → ArePackedRanges s.unit now.messages others → ArePackedRanges s.unit now.messages (lines ++ others)
   one_more lines others (inl none) all = subst (λ (x : List (List ℕ)). ArePackedRanges s.unit now.messages (x ++ others)) (sym none) all
   one_more lines others (inr range) all = record { ranges = lines ∷ all.ranges; each = (range, all.each); joined = ap (λ (x : List (List ℕ)). lines ++ x) all.joined }
 
-  stops : (stop : Bool) (a b : Answer Spent) → a.lines ≡ [] → ArePackedRanges s.unit now.messages b.lines → ArePackedRanges s.unit now.messages (cond stop a b).lines
+  pub stops : (stop : Bool) (a b : Answer Spent) → a.lines ≡ [] → ArePackedRanges s.unit now.messages b.lines → ArePackedRanges s.unit now.messages (cond stop a b).lines
   stops true a b none all = subst (ArePackedRanges s.unit now.messages) (sym none) (none_packed s.unit now.messages)
   stops false a b none all = all
 

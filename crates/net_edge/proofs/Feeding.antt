@@ -17,8 +17,8 @@ use Rattle.venue_core.specs.Plan.{plan}
 use Rattle.venue_core.proofs.PlanBooks.{plan_length}
 use Rattle.venue_core.proofs.PlanBytes.{plan_prefix}
 use Rattle.world_model.specs.Ends.{grp_server}
-use Rattle.world_model.proofs.Pieces.{Pieces, pieces_append}
-use Rattle.world_model.proofs.Replies.{proxy_pieces, views_same}
+use Rattle.grp_session.proofs.Pieces.{Pieces, pieces_append}
+use Rattle.grp_session.proofs.Replies.{proxy_pieces, views_same}
 use Rattle.net_edge.specs.Acting.{scene_after, scene_of, source_at}
 use Rattle.net_edge.specs.Demo.{all_messages}
 use Rattle.net_edge.specs.Due.{Setting, IsDuePiece, AreDuePieces, demo_unit, accepted, messages, gap_view}

@@ -2,4 +2,5 @@ mod Examples
 pub mod Tables
 pub mod Feeding
 pub mod Ends
+pub mod Pieces
 pub mod Shown

@@ -1,5 +1,5 @@
 -- Tables of sessions: where one is found, and what becomes of it there.
-use Rattle.std.proofs.Common.{◌≡◌, ℕ, zero, suc, ◌+◌, ◌<◌, ◌≤◌, Bool, true, false, not, cond, List, [], ◌∷◌, ◌++◌, map, length, set, get_or, remove, position, ◌==◌, nat_lt, Option, Some, None, Result, Ok, Err, IfOk, refl, sym, ap, ◌∙◌, subst, arith}
+use Rattle.std.proofs.Common.{◌≡◌, ℕ, zero, suc, ◌+◌, ◌<◌, ◌≤◌, Bool, true, false, not, cond, List, [], ◌∷◌, ◌++◌, map, length, set, get_or, remove, position, ◌==◌, nat_lt, Option, Some, None, is_some, Result, Ok, Err, IfOk, refl, sym, ap, ◌∙◌, subst, arith}
 use Rattle.std.specs.List.{AllZip, position_or_len}
 use Rattle.std.proofs.lemmas.Grind.{common_steps}
 use Rattle.std.proofs.lemmas.List.{set_at, get_or_at}
@@ -205,6 +205,11 @@ module _ {S X : Type 0} (is_server : S → VenueSetup → List (Event X) → Typ
   seen_at id at ps ks old seen a e read are does =
       let is = found_at id at ps ks e are in
       does is.session (stood id at ps ks old read is) ∙ ap seen (sym is.there)
+
+  -- whether there is one
+  pub has_one : (id : ℕ) (ps : List (Place S)) (ks : List (Session X)) (at : Option ℕ) → position (λ (p : Place S). p.id == id) ps ≡ at → AllZip R ps ks → is_some at ≡ is_some (session_of id ks)
+  has_one id ps ks (Some at) e are = ap (λ (o : Option (Session X)). is_some o) (sym (found_at id at ps ks e are).there)
+  has_one id ps ks None e are = ap (λ (o : Option (Session X)). is_some o) (sym (missing_at id ps ks e are).none)
 
   -- where it stays what it was, all do
   unchanged : (id : ℕ) (ks : List (Session X)) → at_session id (λ k. k) ks ≡ ks

@@ -1,6 +1,7 @@
 //! The sessions with a server, by the numbers that whoever owns the sockets gave them.
 
 ghost use Rattle.std.specs.Prelude.{◌≡◌, ◌==◌, ◌++◌, ℕ, List, [], ◌∷◌, OnOk, OnErr, position};
+ghost use Rattle.std.specs.Prelude.{is_some};
 ghost use Rattle.session_ends.specs.Closing.{Setup, closed_of};
 ghost use Rattle.session_ends.specs.Events.{Event, Ticked};
 ghost use Rattle.venue_end.specs.Sessions.{Session, session_of, at_session, without, with_new};
@@ -93,6 +94,15 @@ impl<S: Server> SessionTable<S> {
         ensures { result ≡ position (λ place. place.id == id) self.now.places.items }
     {
         self.places.iter().position(|place| place.id == id)
+    }
+
+    /// Whether a session has the number.
+    pub(crate) fn has(&self, id: u32) -> bool
+        ensures { (s : VenueSetup) (sessions : List (Session S.Seen))
+            → TableIs S.stands s self.now sessions
+            → result ≡ is_some (session_of id sessions) }
+    {
+        self.find(id).is_some()
     }
 
     /// A session is made with a new server; one that had its number has ended.

@@ -1,7 +1,7 @@
 //! The end itself: what comes to it, and what it hands out.
 
 ghost use Rattle.std.specs.Prelude.{◌≡◌, ◌≤◌, ◌+◌, ◌⊎◌, ◌++◌, [], ◌∷◌, OnOk, OnErr, IfOk, IsOk};
-ghost use Rattle.std.specs.Prelude.{None, length};
+ghost use Rattle.std.specs.Prelude.{None, is_some, length};
 ghost use Rattle.std.specs.List.{AllByRecursion};
 ghost use Rattle.pitch_fields.specs.Limits.{most_held};
 ghost use Rattle.unit_packets.specs.Packing.{bytes_in};
@@ -61,6 +61,13 @@ impl VenueEnd {
             proxies: SessionTable::make(alloc),
             spins: SessionTable::make(alloc),
         })
+    }
+
+    /// Its unit.
+    pub fn unit(&self) -> u8
+        ensures { OfVenue self.now (λ s before. result ≡ s.unit) }
+    {
+        self.setup.unit
     }
 
     /// A command comes. The answer is the sequence of its message, or why it is refused. After a
@@ -158,13 +165,27 @@ impl VenueEnd {
         ensures lines { OnOk result (OfVenue self.old (λ s before. bytes_in gap_line.new.items
             ≡ bytes_in gap_line.old.items
             ++ on_gap_line s (ProxyTook id piece.now) (venue_after s before))) }
+        // Each has messages that were accepted, at their sequences.
+        ensures pieces { OnOk result (OfVenue self.old (λ s before.
+            AllByRecursion (IsPiece (venue_after s before).messages s.unit)
+            (on_gap_line s (ProxyTook id piece.now) (venue_after s before)))) }
         ensures err { OnErr result (Comes self.old self.new (ProxyCut id)) }
         ensures err_lines { OnErr result (gap_line.new.items ≡ gap_line.old.items) }
         ensures none { OfVenue self.old
             (λ s before. session_of id (venue_after s before).proxies ≡ None → IsOk result) }
     {
+        // From here on it is known that the unit is a byte.
+        let _unit = self.setup.unit;
         self.proxies
             .feed(id, piece, &mut self.budget, &mut self.market, gap_line)
+    }
+
+    /// Whether a session with the proxy has the number.
+    pub fn has_proxy(&self, id: u32) -> bool
+        ensures { OfVenue self.now (λ s before.
+            result ≡ is_some (session_of id (venue_after s before).proxies)) }
+    {
+        self.proxies.has(id)
     }
 
     /// What waits to be put to a session with the proxy; nothing where there is none.
@@ -233,6 +254,14 @@ impl VenueEnd {
             (λ s before. session_of id (venue_after s before).spins ≡ None → IsOk result) }
     {
         self.spins.pump(id)
+    }
+
+    /// Whether a session with the Spin Server has the number.
+    pub fn has_spin(&self, id: u32) -> bool
+        ensures { OfVenue self.now (λ s before.
+            result ≡ is_some (session_of id (venue_after s before).spins)) }
+    {
+        self.spins.has(id)
     }
 
     /// What waits to be put to a session with the Spin Server; nothing where there is none.

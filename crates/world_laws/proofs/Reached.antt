@@ -50,8 +50,8 @@ use Rattle.world_model.specs.declared.limits.Limits.{Limits}
 use Rattle.world_model.specs.declared.outcome.Outcome.TheVariants as outcome
 use Rattle.world_laws.proofs.CommandRaws.{command_raw, next_there}
 use Rattle.client_end.proofs.LinkItems.{gap_link_tells}
-use Rattle.world_model.proofs.Pieces.{Pieces, pieces_append, pieces_after, piece_at, blocks_of_pieces, pieces_more}
-use Rattle.world_model.proofs.Replies.{proxy_pieces, views_same}
+use Rattle.grp_session.proofs.Pieces.{Pieces, pieces_append, pieces_after, piece_at, blocks_of_pieces, pieces_more}
+use Rattle.grp_session.proofs.Replies.{proxy_pieces, views_same}
 use Rattle.world_model.proofs.Sessions.{ticked_witness}
 use Rattle.world_model.proofs.SpinActing.{serves_where}
 use Rattle.world_model.proofs.SpinWitness.{opens, ends, serves, ups, pumps_on, carries}

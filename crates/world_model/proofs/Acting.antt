@@ -22,7 +22,7 @@ use Rattle.venue_core.specs.declared.error.VenueError.TheVariants as errors
 use Rattle.client_core.specs.Tracks.{Tracks, Keeps}
 use Rattle.client_core.specs.declared.client.UnitClient.{UnitClient}
 use Rattle.world_model.specs.Printed.{overflowed}
-use Rattle.world_model.proofs.Pieces.{pieces_more, pieces_append, pieces_after, piece_at, blocks_of_pieces}
+use Rattle.grp_session.proofs.Pieces.{pieces_more, pieces_append, pieces_after, piece_at, blocks_of_pieces}
 use Rattle.world_model.specs.Sound.{Sound}
 use Rattle.spin_path.specs.PathLaws.{HasWholeImages}
 use Rattle.world_model.specs.Witness.{Witnessed}

@@ -1,7 +1,5 @@
 pub mod Witness
-pub mod Pieces
 pub mod HeardBlocks
-pub mod Replies
 mod Booking
 pub mod Carrying
 pub mod SpinWitness

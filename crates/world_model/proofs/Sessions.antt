@@ -45,8 +45,8 @@ use Rattle.world_model.specs.declared.world.World.{World}
 use Rattle.world_model.proofs.Acting.{JoinedOf, calm_of, acts_passed, passes_none, with_grp, with_heard, honest_of, marks_none, marks_then, marks_one, with_spin}
 use Rattle.client_end.proofs.HeardItems.{AreTold}
 use Rattle.client_end.proofs.LinkItems.{gap_link_tells, link_told, told_spare}
-use Rattle.world_model.proofs.Pieces.{pieces_append}
-use Rattle.world_model.proofs.Replies.{proxy_pieces, views_same}
+use Rattle.grp_session.proofs.Pieces.{pieces_append}
+use Rattle.grp_session.proofs.Replies.{proxy_pieces, views_same}
 use Rattle.world_model.proofs.SpinWitness.{opens, ends, carries, link_ticks}
 use Rattle.world_model.proofs.Witness.{unit_small, hears_gap}
 use Rattle.world_model.proofs.Witness as witness
