@@ -1,0 +1,4 @@
+pub mod CutLemmas
+mod Examples
+pub mod ReadLemmas
+pub mod SaidLemmas

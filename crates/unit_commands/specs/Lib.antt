@@ -1,0 +1,4 @@
+pub mod UnitCommands
+pub mod Pieces
+pub mod PiecesLaws
+pub mod Causes
