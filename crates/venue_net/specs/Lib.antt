@@ -1,1 +1,2 @@
 pub mod VenueCalls
+pub mod VenueScripts

@@ -25,8 +25,8 @@ pub enum InputRead {
 /// clients' connections stand, lines and places by their numbers from 0.
 ///
 /// Whoever owns the net knows which door of the venue each place is of. No call but the wait waits.
-/// Only a wait and a read fail: that a connection ends is its client's doing, or the system's, and a
-/// datagram for which there is no room is lost as one on the wire.
+/// Only a wait and a read fail: that a connection ends is its client's doing, or the system's, and
+/// a datagram for which there is no room is lost as one on the wire.
 pub trait VenueNet {
     /// All calls so far, the newest first, where the net lists them.
     ghost calls: { Self → Option (List VenueCall) };
@@ -78,8 +78,8 @@ pub trait VenueNet {
             (Put place piece.now result) }
         ensures still { faults self.new ≡ faults self.old };
 
-    /// Closes the connection at a place, where there is one. What was put and is not sent yet may be
-    /// lost.
+    /// Closes the connection at a place, where there is one. What was put and is not sent yet may
+    /// be lost.
     fn close(&mut self, place: u16)
         ensures calls { AddsVenueCall (calls self.old) (calls self.new) (Close place) }
         ensures still { faults self.new ≡ faults self.old };
