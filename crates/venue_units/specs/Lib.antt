@@ -1,0 +1,4 @@
+pub mod Coming
+pub mod Places
+pub mod Units
+pub mod Laws
