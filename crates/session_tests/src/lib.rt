@@ -5,6 +5,8 @@
 #![tactic(auto)]
 
 #[cfg(test)]
+mod beside;
+#[cfg(test)]
 mod ends;
 #[cfg(test)]
 mod links;
@@ -18,5 +20,7 @@ mod silences;
 mod spins;
 #[cfg(test)]
 mod stores;
+#[cfg(test)]
+mod two_units;
 #[cfg(test)]
 mod venue_ends;

@@ -8,10 +8,10 @@ use std::process::Abort;
 use unit_packets::DatagramList;
 use venue_end::{Account, VenueEnd, VenueSetup};
 
-// An end of unit 1, whose proxy accepts one request a second.
-fn made(rt: &impl Abort, alloc: Global) -> VenueEnd {
-    let setup = VenueSetup {
-        unit: 1,
+/// A unit whose proxy accepts one request a second.
+pub(crate) fn setup(unit: u8) -> VenueSetup {
+    VenueSetup {
+        unit,
         account: Account {
             sub: *b"0001",
             user: *b"FEED",
@@ -21,22 +21,26 @@ fn made(rt: &impl Abort, alloc: Global) -> VenueEnd {
         second: 1,
         minute: 9,
         day: 9,
-    };
-    VenueEnd::make(alloc, &setup).expect(rt, "memory")
+    }
+}
+
+/// An end of unit 1.
+pub(crate) fn made(rt: &impl Abort, alloc: Global) -> VenueEnd {
+    VenueEnd::make(alloc, &setup(1)).expect(rt, "memory")
 }
 
 // The seconds 33 and 34 as messages 1 and 2, and the second alone.
-const BOTH: &[u8] = b"\x14\0\x02\x01\x01\0\0\0\x06\x20\x21\0\0\0\x06\x20\x22\0\0\0";
+pub(crate) const BOTH: &[u8] = b"\x14\0\x02\x01\x01\0\0\0\x06\x20\x21\0\0\0\x06\x20\x22\0\0\0";
 
-const RESENT: &[u8] = b"\x0e\0\x01\x01\x02\0\0\0\x06\x20\x22\0\0\0";
+pub(crate) const RESENT: &[u8] = b"\x0e\0\x01\x01\x02\0\0\0\x06\x20\x22\0\0\0";
 
-const LOGGED_IN: &[u8] = b"\x0b\0\x01\0\0\0\0\0\x03\x02A";
+pub(crate) const LOGGED_IN: &[u8] = b"\x0b\0\x01\0\0\0\0\0\x03\x02A";
 
 // Asks for message 2.
-const REQUEST: &[u8] = b"\x11\0\x01\0\0\0\0\0\x09\x03\x01\x02\0\0\0\x01\0";
+pub(crate) const REQUEST: &[u8] = b"\x11\0\x01\0\0\0\0\0\x09\x03\x01\x02\0\0\0\x01\0";
 
 // Whether this is the only datagram.
-fn is_alone(lines: &DatagramList, bytes: &[u8]) -> bool {
+pub(crate) fn is_alone(lines: &DatagramList, bytes: &[u8]) -> bool {
     match lines.as_slice() {
         [datagram] => datagram.bytes() == bytes,
         _ => false,
