@@ -1,4 +1,4 @@
-//! The input, whose end is the end of a run.
+//! The input, of which a wait tells, and whose end is the end of a run.
 
 use mio::unix::SourceFd;
 use mio::{Interest, Registry, Token};
@@ -7,18 +7,18 @@ use std::io::{ErrorKind, Read};
 use std::os::fd::AsRawFd;
 
 /// The token by which a wait tells of the input.
-pub(crate) const INPUT: Token = Token(0);
+pub const INPUT: Token = Token(0);
 
 /// Has the wait tell of the input. A file, or an input that is closed, is never waited for: then
 /// this answers an error, which is no fault.
-pub(crate) fn register_input(input: &impl AsRawFd, registry: &Registry) -> io::Result<()> {
+pub fn register_input(input: &impl AsRawFd, registry: &Registry) -> io::Result<()> {
     let number = input.as_raw_fd();
     registry.register(&mut SourceFd(&number), INPUT, Interest::READABLE)
 }
 
-// A wait tells of a change alone: what was there before it, as an end that came with the last
-// bytes, is told only where the input is asked for again.
-fn ask_again(input: &impl AsRawFd, registry: &Registry) -> io::Result<()> {
+/// Has the next wait tell again of what is in the input. A wait tells of a change alone: what was
+/// there before it, as an end that came with the last bytes, is told only where this was called.
+pub fn ask_again(input: &impl AsRawFd, registry: &Registry) -> io::Result<()> {
     let number = input.as_raw_fd();
     registry.reregister(&mut SourceFd(&number), INPUT, Interest::READABLE)
 }

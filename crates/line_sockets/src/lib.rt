@@ -10,11 +10,14 @@ mod input;
 mod lines;
 mod port;
 mod sockets;
+mod time_limit;
 mod trouble;
 mod waiter;
 
+pub use crate::input::{INPUT, ask_again, register_input};
 pub use crate::lines::{Lines, MOST_TRIES};
-pub use crate::port::{Port, take_low};
+pub use crate::port::{Buffer, Port, ask_for_room, take_low};
 pub use crate::sockets::LineSockets;
+pub use crate::time_limit::{TimeLimit, shorter};
 pub use crate::trouble::Trouble;
-pub use crate::waiter::Waiter;
+pub use crate::waiter::{MOST_LAST_TURNS, Waiter};

@@ -1,5 +1,8 @@
 //! Where a line's datagrams come from.
 
+ghost use Rattle.std.specs.Prelude.{pos};
+ghost use Rattle.libc.specs.Net.{SockOption};
+
 use mio::net::UdpSocket;
 use os::FromRawFd;
 use std::net::{Ipv4Addr, Net, SocketAddr};
@@ -16,18 +19,37 @@ pub enum Port {
     Given(u16),
 }
 
-// How many bytes a receive buffer is asked to have. The system grants at most its own limit.
+/// A buffer of a socket.
+#[derive(Clone, Copy, Debug, PartialEq, Eq)]
+pub enum Buffer {
+    /// Of datagrams that came.
+    Received,
+    /// Of datagrams that are to go.
+    Sent,
+}
+
+// How many bytes a buffer is asked to have. The system grants at most its own limit.
 const ROOM: u32 = 8_388_608;
 
-// Asks for a receive buffer. Less than was asked for is no fault.
-fn ask_for_room(socket: &UdpSocket) {
+// The option of SOL_SOCKET by which a buffer is asked to be of some size.
+fn option_of(buffer: Buffer) -> i32
+    ensures { SockOption (pos 1) result }
+{
+    match buffer {
+        Buffer::Received => libc::net::SO_RCVBUF,
+        Buffer::Sent => libc::net::SO_SNDBUF,
+    }
+}
+
+/// Asks for a buffer of 8 MiB. Less than was asked for is no fault.
+pub fn ask_for_room(socket: &UdpSocket, buffer: Buffer) {
     let mut value = [0u8; 16];
     value[..4].copy_from_slice(&ROOM.to_le_bytes());
     let _status = unsafe {
         libc::net::setsockopt(
             socket.as_raw_fd(),
             libc::net::SOL_SOCKET,
-            libc::net::SO_RCVBUF,
+            option_of(buffer),
             &value,
             4,
         )
@@ -49,7 +71,7 @@ pub(crate) fn open_port<R: Net>(rt: &R, port: Port) -> io::Result<UdpSocket> {
         Port::Bound(addr) => UdpSocket::bind(rt, addr)?,
         Port::Given(number) => take_given(number)?,
     };
-    ask_for_room(&socket);
+    ask_for_room(&socket, Buffer::Received);
     Ok(socket)
 }
 

@@ -1,22 +1,16 @@
 //! One wait for all sockets, for the input and for the time.
 
 use crate::input::{INPUT, has_ended, register_input};
+use crate::time_limit::{TimeLimit, shorter};
 use mio::{Events, Poll, Registry};
 use std::alloc::Global;
 use std::io::Read;
 use std::os::fd::AsRawFd;
-use std::time::{Clock, Duration, Instant};
+use std::time::{Clock, Duration};
 use std::{io, net};
 
-// How many turns there are after the end of the input or of the time, where something is left.
-const MOST_LAST_TURNS: u32 = 1_024;
-
-// How long a net waits.
-#[derive(Clone, Copy)]
-struct TimeLimit {
-    start: Instant,
-    limit: Duration,
-}
+/// How many turns there are after the end of the input or of the time, where something is left.
+pub const MOST_LAST_TURNS: u32 = 1_024;
 
 /// What tells when a socket may have something, when the input is at its end, and when the time is
 /// up.
@@ -26,20 +20,9 @@ pub struct Waiter<R, I> {
     poll: Poll,
     events: Events,
     input: I,
-    time: Option<TimeLimit>,
+    time: TimeLimit,
     // How many turns are left, once it has ended.
     last_turns: Option<u32>,
-}
-
-// The time that a net waits, of so many seconds from now.
-fn start_time<R: Clock>(rt: &R, seconds: Option<u64>) -> io::Result<Option<TimeLimit>> {
-    match seconds {
-        Some(seconds) => Ok(Some(TimeLimit {
-            start: Instant::now(rt)?,
-            limit: Duration::from_secs(seconds),
-        })),
-        None => Ok(None),
-    }
 }
 
 impl<R: net::Net + Clock + Drop, I: Read + AsRawFd + Drop> Waiter<R, I> {
@@ -53,7 +36,7 @@ impl<R: net::Net + Clock + Drop, I: Read + AsRawFd + Drop> Waiter<R, I> {
     ) -> io::Result<Waiter<R, I>> {
         let poll = Poll::new(&rt)?;
         let events = Events::with_capacity(alloc, sockets.saturating_add(1))?;
-        let time = start_time(&rt, seconds)?;
+        let time = TimeLimit::start(&rt, seconds)?;
         let _is_waited_for = register_input(&input, poll.registry());
         Ok(Waiter {
             rt,
@@ -75,17 +58,6 @@ impl<R: net::Net + Clock + Drop, I: Read + AsRawFd + Drop> Waiter<R, I> {
         &self.rt
     }
 
-    // How long a wait may take, where that is limited.
-    fn time_left(&self) -> io::Result<Option<Duration>> {
-        match &self.time {
-            Some(time) => {
-                let passed = time.start.elapsed(&self.rt)?;
-                Ok(Some(time.limit.saturating_sub(passed)))
-            }
-            None => Ok(None),
-        }
-    }
-
     // Whether the last wait told of the input.
     fn is_input_told(&self) -> bool {
         self.events.iter().any(|event| event.token() == INPUT)
@@ -96,7 +68,7 @@ impl<R: net::Net + Clock + Drop, I: Read + AsRawFd + Drop> Waiter<R, I> {
         if self.is_input_told() && has_ended(&mut self.input, self.poll.registry())? {
             return Ok(true);
         }
-        Ok(self.time_left()? == Some(Duration::ZERO))
+        Ok(self.time.left(&self.rt)? == Some(Duration::ZERO))
     }
 
     /// Waits until a socket may have something or a signal comes: no longer than `most`, where that
@@ -112,21 +84,12 @@ impl<R: net::Net + Clock + Drop, I: Read + AsRawFd + Drop> Waiter<R, I> {
         let most = if more {
             Some(Duration::ZERO)
         } else {
-            shorter(most, self.time_left()?)
+            shorter(most, self.time.left(&self.rt)?)
         };
         self.poll.poll(&mut self.events, most)?;
         if self.is_at_end()? {
             self.last_turns = Some(MOST_LAST_TURNS);
         }
         Ok(true)
-    }
-}
-
-// The shorter of two times, where there are limits.
-fn shorter(a: Option<Duration>, b: Option<Duration>) -> Option<Duration> {
-    match (a, b) {
-        (Some(a), Some(b)) => Some(if a < b { a } else { b }),
-        (Some(a), None) => Some(a),
-        (None, b) => b,
     }
 }

@@ -1,4 +1,4 @@
-//! A connection that was begun with a peer.
+//! A connection with a peer.
 
 ghost use Rattle.std.specs.Prelude.{◌≡◌, ◌<◌, length, IfOk, IfErr};
 ghost use Rattle.std.specs.IoError.{error_kind};
@@ -56,6 +56,19 @@ fn of_write(write: io::Result<usize>) -> Option<PeerPut>
 }
 
 impl Connection {
+    // Has the registry's wait tell of a stream under this token. What is said is not held back to
+    // be sent together.
+    fn watched(
+        registry: &Registry,
+        token: Token,
+        mut stream: TcpStream,
+        stands: bool,
+    ) -> io::Result<Connection> {
+        stream.set_nodelay(true)?;
+        registry.register(&mut stream, token, Interest::READABLE | Interest::WRITABLE)?;
+        Ok(Connection { stream, stands })
+    }
+
     /// Begins a connection, of which the registry's wait tells. It takes none of the descriptors 0
     /// to 2.
     pub(crate) fn begin<R: net::Net>(
@@ -64,18 +77,22 @@ impl Connection {
         addr: SocketAddr,
     ) -> io::Result<Connection> {
         let _low = take_low(rt)?;
-        let mut stream = TcpStream::connect(rt, addr)?;
-        // What is said is not held back to be sent together.
-        stream.set_nodelay(true)?;
-        registry.register(&mut stream, PEER, Interest::READABLE | Interest::WRITABLE)?;
-        Ok(Connection {
-            stream,
-            stands: false,
-        })
+        let stream = TcpStream::connect(rt, addr)?;
+        Connection::watched(registry, PEER, stream, false)
+    }
+
+    /// The connection of a stream that a listener let in. The registry's wait tells of it under
+    /// this token.
+    pub fn accepted(
+        registry: &Registry,
+        token: Token,
+        stream: TcpStream,
+    ) -> io::Result<Connection> {
+        Connection::watched(registry, token, stream, true)
     }
 
     /// Closes it. The wait tells of it no more.
-    pub(crate) fn end(mut self, registry: &Registry) {
+    pub fn end(mut self, registry: &Registry) {
         let _was_registered = registry.deregister(&mut self.stream);
     }
 
@@ -98,7 +115,7 @@ impl Connection {
     }
 
     /// Takes the next bytes to the start of the slice.
-    pub(crate) fn take(&mut self, into: &mut [u8]) -> PeerTaken
+    pub fn take(&mut self, into: &mut [u8]) -> PeerTaken
         requires { 0 < length into.old }
         ensures { PeerTakenWithin result into.new }
     {
@@ -117,7 +134,7 @@ impl Connection {
     }
 
     /// Puts the first bytes of a piece.
-    pub(crate) fn put(&mut self, piece: &[u8]) -> PeerPut
+    pub fn put(&mut self, piece: &[u8]) -> PeerPut
         requires { 0 < length piece.now }
         ensures { PeerPutWithin result piece.now }
     {

@@ -11,4 +11,6 @@ mod peers;
 mod seconds;
 mod sockets;
 
+pub use crate::connection::Connection;
+pub use crate::seconds::Seconds;
 pub use crate::sockets::LiveSockets;

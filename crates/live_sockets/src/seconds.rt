@@ -11,7 +11,7 @@ const SECOND: u64 = 1;
 
 /// When a second was told last.
 #[derive(Clone, Copy)]
-pub(crate) struct Seconds {
+pub struct Seconds {
     last: Instant,
 }
 
@@ -24,19 +24,19 @@ fn is_second(passed: Duration) -> bool
 
 impl Seconds {
     /// The first second begins now.
-    pub(crate) fn start<R: Clock>(rt: &R) -> io::Result<Seconds> {
+    pub fn start<R: Clock>(rt: &R) -> io::Result<Seconds> {
         Ok(Seconds {
             last: Instant::now(rt)?,
         })
     }
 
     /// How long it is to the end of this second.
-    pub(crate) fn left<R: Clock>(&self, rt: &R) -> io::Result<Duration> {
+    pub fn left<R: Clock>(&self, rt: &R) -> io::Result<Duration> {
         Ok(Duration::from_secs(SECOND).saturating_sub(self.last.elapsed(rt)?))
     }
 
     /// Whether this second is over. Then the next one begins now, however long it took.
-    pub(crate) fn is_over<R: Clock>(&mut self, rt: &R) -> io::Result<bool> {
+    pub fn is_over<R: Clock>(&mut self, rt: &R) -> io::Result<bool> {
         let now = Instant::now(rt)?;
         let over = is_second(now.duration_since(self.last));
         if over {
