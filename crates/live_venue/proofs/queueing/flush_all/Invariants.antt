@@ -1,0 +1,6 @@
+use Rattle.live_venue.specs.Running.{Now, flushed}
+use Rattle.live_venue.specs.Standing.{Serve}
+use Rattle.live_venue.proofs.queueing.flush_all.Given as goal
+
+abbrev pub invariant-units : goal.invariant-units
+invariant-units l = (now : Now) → Serve l.setup l.fn.units l.fn.outbox now → Serve l.setup l.units l.outbox (flushed l.setup l.at now)

@@ -1,0 +1,6 @@
+pub mod Faults
+pub mod Input
+pub mod Running
+pub mod Sending
+pub mod Serving
+pub mod Standing

@@ -1,0 +1,19 @@
+//! A live venue: it reads commands, publishes the datagrams of each unit on lines A and B, answers
+//! gap requests and spins of any number of clients, and sends a heartbeat each second.
+#![tactic(auto)]
+
+mod error;
+mod fault;
+mod hearing;
+mod outbox;
+mod queueing;
+mod reader;
+mod seconds;
+mod service;
+mod serving;
+mod setup;
+
+pub use crate::error::ServeError;
+pub use crate::fault::InputFault;
+pub use crate::service::serve;
+pub use crate::setup::ServeSetup;

@@ -1,0 +1,120 @@
+//! Runs of a venue of two units: unit 2 with the index 0, and unit 1 with the index 1.
+
+use crate::kept_net::{KeptNet, Said};
+use live_venue::{ServeError, ServeSetup, serve};
+use std::collections::VecDeque;
+use std::process::Abort;
+use venue_end::{Account, VenueSetup};
+use venue_net::{MemoryVenue, VenueStep};
+
+// The seconds 33 and 34 as messages 1 and 2 of unit 1, in one datagram, and each alone.
+pub(crate) const BOTH: &[u8] = b"\x14\0\x02\x01\x01\0\0\0\x06\x20\x21\0\0\0\x06\x20\x22\0\0\0";
+
+pub(crate) const FIRST: &[u8] = b"\x0e\0\x01\x01\x01\0\0\0\x06\x20\x21\0\0\0";
+
+pub(crate) const SECOND: &[u8] = b"\x0e\0\x01\x01\x02\0\0\0\x06\x20\x22\0\0\0";
+
+/// What happens next, as `VenueStep` has it.
+#[derive(Clone, Copy)]
+pub(crate) enum Step {
+    Turn,
+    Second,
+    Types(&'static [u8]),
+    EndsInput,
+    Knocks(u16),
+    Brings(u16, &'static [u8]),
+    Ends(u16),
+    HasRoom(u16, usize),
+}
+
+/// What is to be said, as `Said` has it.
+#[derive(Clone, Copy)]
+pub(crate) enum Told {
+    Waits,
+    Says(u16, &'static [u8]),
+    Closes(u16),
+}
+
+/// What a run came to.
+#[derive(Drop)]
+pub(crate) struct Came {
+    pub(crate) answer: Result<(), ServeError>,
+    pub(crate) sent: Vec<Said>,
+    pub(crate) put: Vec<Said>,
+}
+
+fn copy<R: Abort + AllocGlobal>(rt: &R, bytes: &[u8]) -> Vec<u8> {
+    Vec::from_slice(rt.alloc(), bytes).expect(rt, "memory")
+}
+
+// The script of a net.
+fn script_of<R: Abort + AllocGlobal>(rt: &R, steps: &[Step]) -> VecDeque<VenueStep> {
+    let mut script = VecDeque::new(rt.alloc());
+    for step in steps.iter() {
+        let next = match *step {
+            Step::Turn => VenueStep::Turn,
+            Step::Second => VenueStep::Second,
+            Step::Types(bytes) => VenueStep::Types(copy(rt, bytes)),
+            Step::EndsInput => VenueStep::EndsInput,
+            Step::Knocks(place) => VenueStep::Knocks(place),
+            Step::Brings(place, bytes) => VenueStep::Brings(place, copy(rt, bytes)),
+            Step::Ends(place) => VenueStep::Ends(place),
+            Step::HasRoom(place, room) => VenueStep::HasRoom(place, room),
+        };
+        script.push_back(next).expect(rt, "memory");
+    }
+    script
+}
+
+// A unit whose proxy keeps so many messages.
+fn unit(unit: u8, kept: u32) -> VenueSetup {
+    VenueSetup {
+        unit,
+        account: Account {
+            sub: *b"0001",
+            user: *b"FEED",
+            password: *b"PITCH     ",
+        },
+        kept,
+        second: 1,
+        minute: 9,
+        day: 9,
+    }
+}
+
+/// Both units, where a proxy may keep so many messages.
+pub(crate) fn setup_of<R: Abort + AllocGlobal>(rt: &R, kept: u32) -> Option<ServeSetup> {
+    let units = [unit(2, kept), unit(1, kept)];
+    ServeSetup::make(Vec::from_slice(rt.alloc(), &units).expect(rt, "memory"))
+}
+
+/// Such a run. The call of the net with that number fails.
+pub(crate) fn run<R: Abort + AllocGlobal>(rt: &R, steps: &[Step], failing: u64) -> Came {
+    let setup = setup_of(rt, 8).expect(rt, "a setup");
+    let calls = Vec::from_slice(rt.alloc(), &[failing]).expect(rt, "memory");
+    let net = MemoryVenue::make(rt.alloc(), script_of(rt, steps), calls);
+    let mut kept = KeptNet::make(rt, net);
+    let answer = serve(rt.alloc(), &setup, &mut kept);
+    drop(setup);
+    let KeptNet { sent, put, .. } = kept;
+    Came { answer, sent, put }
+}
+
+// Whether that is what was said.
+fn is_told(said: &Said, told: Told) -> bool {
+    match (said, told) {
+        (Said::Waits, Told::Waits) => true,
+        (Said::Says(at, bytes), Told::Says(to, told)) => *at == to && bytes.as_slice() == told,
+        (Said::Closes(at), Told::Closes(to)) => *at == to,
+        _ => false,
+    }
+}
+
+/// Whether these were said, and nothing else.
+pub(crate) fn are_told(said: &[Said], told: &[Told]) -> bool {
+    said.len() == told.len()
+        && said
+            .iter()
+            .zip(told)
+            .all(|(said, told)| is_told(said, *told))
+}
