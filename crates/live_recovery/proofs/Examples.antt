@@ -1,6 +1,6 @@
 -- A small run, call by call: one line, unit 7, and its proxy. The calls, and what came, stand newest
 -- first.
-use Rattle.std.proofs.Common.{◌≡◌, ◌≢◌, ◌≤◌, ℕ, zero, suc, ◌+◌, Bool, false, ◌||◌, eqb, List, [], ◌∷◌, inl, refl, sym, ap, subst, arith, Some, None, codes}
+use Rattle.std.proofs.Common.{◌≡◌, ◌≢◌, ◌≤◌, ℕ, zero, suc, ◌+◌, Bool, true, false, true≢false, ◌||◌, eqb, List, [], ◌∷◌, inl, refl, sym, ap, subst, arith, Some, None, codes}
 use Rattle.std.proofs.lemmas.Bool.{cond-false, ne_eqb}
 use Rattle.std.specs.Fmt.{digits}
 use Rattle.unit_packets.specs.BlockBytes.{block_bytes}
@@ -27,7 +27,8 @@ use Rattle.live_units.specs.Coming.{end_setup, live_lines, state_at, to_unit, wi
 use Rattle.line_copies.specs.Sums.{mixed, sum_of}
 use Rattle.live_recovery.specs.Counting.{counts_of}
 use Rattle.live_recovery.specs.Disagreeing.{first_disagreement}
-use Rattle.live_recovery.specs.Running.{Brings, Now, PassSeconds, PassesSecond, Runs, Setup, at_first, ends_now, ways}
+use Rattle.live_recovery.specs.Recovering.{HaveEnded}
+use Rattle.live_recovery.specs.Running.{Brings, MayCall, Now, PassSeconds, PassesSecond, Runs, Setup, are_ended, at_first, ends_now, ways}
 use Rattle.live_recovery.specs.declared.peer.Peer.{Peer}
 use Rattle.live_recovery.proofs.Bringing.{comes_now, comes_so, same_still}
 
@@ -156,8 +157,8 @@ message_2_is_asked_for = refl
 
 -- ---- The first calls, one after another
 module _ (what : Due) (call : LiveCall) (before : List LiveCall) (now now' : Now) where
-  on : Runs seven before now → first_disagreement now.came ≡ None → due (ways seven) (ends_now seven now) before ≡ Some what → IsMade (ends_now seven now) what call → Brings seven call now now' → Runs seven (call ∷ before) now'
-  on run agreed is made brings = (now, (run, record { agreed = agreed; is_due = record { what = what; due_is = is; made = made }; brings = brings }))
+  on : Runs seven before now → first_disagreement now.came ≡ None → MayCall seven now.came call → due (ways seven) (ends_now seven now) before ≡ Some what → IsMade (ends_now seven now) what call → Brings seven call now now' → Runs seven (call ∷ before) now'
+  on run agreed may is made brings = (now, (run, record { agreed = agreed; may = may; is_due = record { what = what; due_is = is; made = made }; brings = brings }))
 
 up_to_the_line : Runs seven line_asked a_gap
 unfolding blocks_of blocks_by rest_of rest_by judge messages_end raws_of
@@ -165,9 +166,9 @@ up_to_the_line =
     on (to.Receive 0) quiet (gives 3 ∷ gives 1 ∷ Wait false wait_end.Ready ∷ []) a_gap a_gap
     (on (to.Receive 0) (gives 3) (gives 1 ∷ Wait false wait_end.Ready ∷ []) (hears 1 at_first) a_gap
     (on (to.Receive 0) (gives 1) (Wait false wait_end.Ready ∷ []) at_first (hears 1 at_first)
-    (on (to.Wait false) (Wait false wait_end.Ready) [] at_first at_first (same_still at_first) refl refl refl (same_still at_first)) refl refl (refl, refl) (record { came_is = refl; waits = λ unit session. refl }))
-    refl refl (refl, refl) (record { came_is = refl; waits = λ unit session. refl }))
-    refl refl (refl, refl) (same_still a_gap)
+    (on (to.Wait false) (Wait false wait_end.Ready) [] at_first at_first (same_still at_first) refl refl refl refl (same_still at_first)) refl tt refl (refl, refl) (record { came_is = refl; waits = λ unit session. refl }))
+    refl tt refl (refl, refl) (record { came_is = refl; waits = λ unit session. refl }))
+    refl tt refl (refl, refl) (same_still a_gap)
 
 -- ---- It comes on the line
 the_lines : live_lines seven.listens (hears 2 asking).came
@@ -192,6 +193,53 @@ copies_differ = refl
 the_first_is_told : first_disagreement (with_datagram seven.listens (packet 3) (to_unit 7 Second ∷ with_datagram seven.listens other_packet a_gap.came)) ≡ Some (record { unit = 7; sequence = 3 })
 unfolding blocks_of blocks_by rest_of rest_by judge messages_end raws_of sum_of mixed
 the_first_is_told = refl
+
+-- ---- The units have ended
+-- unit 7's fourth message is an End of Session: behind the gap it ends nothing, and with the message
+-- that was lost it does
+abbrev end_packet : List ℕ
+end_packet = 14 ∷ 0 ∷ 1 ∷ 7 ∷ 4 ∷ 0 ∷ 0 ∷ 0 ∷ 6 ∷ 0x2d ∷ 0 ∷ 0 ∷ 0 ∷ 0 ∷ []
+
+abbrev hears_end : Now → Now
+hears_end now = record { came = with_datagram seven.listens end_packet now.came; waits = now.waits }
+
+behind_a_gap : are_ended seven (hears_end a_gap).came ≡ false
+unfolding blocks_of blocks_by rest_of rest_by judge messages_end raws_of reach_of held_count
+behind_a_gap = refl
+
+abbrev all_came : Now
+all_came = hears 2 (hears_end a_gap)
+
+they_have_ended : are_ended seven all_came.came ≡ true
+unfolding blocks_of blocks_by rest_of rest_by judge messages_end raws_of reach_of held_count
+they_have_ended = refl
+
+-- where no unit is named none ends
+abbrev unnamed : Setup
+unnamed = record seven { listens = record { units = []; account = seven.listens.account; hold = 10 } }
+
+none_is_named : are_ended unnamed all_came.came ≡ false
+none_is_named = refl
+
+-- and with no peer to ask
+abbrev alone : Setup
+alone = record seven { peers = [] }
+
+-- the line is still asked until it is quiet, and the run ends where the wait would be due; no
+-- wait may be made
+abbrev with_the_end : List LiveCall
+with_the_end = gives 2 ∷ Receive 0 65536 end_packet (received.Got 14) ∷ Wait false wait_end.Ready ∷ quiet ∷ []
+
+the_line_is_asked : due (ways alone) (ends_now alone all_came) with_the_end ≡ Some (to.Receive 0)
+the_line_is_asked = refl
+
+the_run_ends : HaveEnded alone (quiet ∷ with_the_end) all_came
+unfolding blocks_of blocks_by rest_of rest_by judge messages_end raws_of reach_of held_count
+the_run_ends = record { are = refl; more = false; is_due = refl }
+
+no_wait_is_made : MayCall alone all_came.came (Wait false wait_end.Ready) → ⊥
+unfolding blocks_of blocks_by rest_of rest_by judge messages_end raws_of reach_of held_count
+no_wait_is_made none = true≢false none
 
 -- ---- What is counted
 -- a datagram without bytes, and one with a block of unit 2 and a byte behind a block of unit 7

@@ -1,16 +1,17 @@
 -- A run that goes on by a call.
-use Rattle.std.proofs.Common.{◌≡◌, List, [], ◌∷◌, refl, ap, ◌∙◌, Option, Some, None}
-use Rattle.live_net.specs.LiveCalls.{LiveCall, AddsLiveCall}
-use Rattle.live_turns.specs.Due.{IsMade}
+use Rattle.std.proofs.Common.{◌≡◌, List, [], ◌∷◌, inl, refl, ap, ◌∙◌, Option, Some, None}
+use Rattle.live_net.specs.LiveCalls.{LiveCall, AddsLiveCall, Wait, Receive, Open, Take, Put, Close}
+use Rattle.live_turns.specs.Due.{Ends, IsMade}
 use Rattle.live_turns.specs.Turning.{Passes}
 use Rattle.live_turns.specs.declared.due.Due.{Due}
+use Rattle.live_turns.specs.declared.due.Due.TheVariants as to
 use Rattle.live_turns.specs.declared.turns.LiveTurns.{LiveTurns}
 use Rattle.live_units.specs.Coming.{UnitCame}
 use Rattle.live_units.specs.Units.{LiveStands}
 use Rattle.live_recovery.specs.Counting.{counts_after}
 use Rattle.live_recovery.specs.Recovering.{AddsRun, IsOver}
-use Rattle.live_recovery.specs.Running.{Brings, Now, Runs, Setup, ends_now, ways}
-use Rattle.live_recovery.specs.Standing.{Agree, Devices, GoesOn, IsAbout, IsAtEnd, Stands, now_of}
+use Rattle.live_recovery.specs.Running.{Brings, MayCall, Now, Runs, Setup, ends_now, ways}
+use Rattle.live_recovery.specs.Standing.{Agree, Devices, GoesOn, IsAbout, IsAtEnd, MayBeMade, Stands, now_of}
 use Rattle.live_recovery.specs.declared.recovering.Recovering.{Recovering}
 use Rattle.live_recovery.proofs.Disagreeing.{agree_on}
 use Rattle.live_recovery.proofs.Still.{IsPlain, brings_same}
@@ -38,9 +39,22 @@ module _ (s : Setup) (start now : Devices) (r : Recovering) where
   goes_still what about = record { run = about.run; came = about.came; stands = about.stands; turns = about.turns }
 
 -- ---- A call more
+may_call : (s : Setup) (came : List UnitCame) (e : Ends) (what : Due) (call : LiveCall) → IsMade e what call → MayBeMade s came what → MayCall s came call
+may_call s came e (to.Wait more) (Wait told answer) made may = may
+may_call s came e (to.Receive line) (Wait told answer) made may = absurd made
+may_call s came e (to.Open at) (Wait told answer) made may = absurd made
+may_call s came e (to.Take at) (Wait told answer) made may = absurd made
+may_call s came e (to.Put at) (Wait told answer) made may = absurd made
+may_call s came e (to.Close at) (Wait told answer) made may = absurd made
+may_call s came e what (Receive line room bytes answer) made may = tt
+may_call s came e what (Open at answer) made may = tt
+may_call s came e what (Take at room bytes answer) made may = tt
+may_call s came e what (Put at piece answer) made may = tt
+may_call s came e what (Close at) made may = tt
+
 module _ (s : Setup) (start now : Devices) (r : Recovering) (what : Due) (about : IsAbout s start now r what) (call : LiveCall) (made : IsMade (ends_now s (now_of about.came r.units)) what call) where
   pub runs_on : (at : Now) → Brings s call (now_of about.came r.units) at → Runs s (call ∷ about.run) at
-  runs_on at brings = (now_of about.came r.units, (about.stands.runs, record { agreed = about.stands.agree.none; is_due = record { what = what; due_is = about.next.due_is; made = made }; brings = brings }))
+  runs_on at brings = (now_of about.came r.units, (about.stands.runs, record { agreed = about.stands.agree.none; may = may_call s about.came (ends_now s (now_of about.came r.units)) what call made about.may; is_due = record { what = what; due_is = about.next.due_is; made = made }; brings = brings }))
 
   module _ (now' : Devices) (r' : Recovering) (came : List UnitCame) (adds : AddsLiveCall now.calls now'.calls call) (brings : Brings s call (now_of about.came r.units) (now_of came r'.units))
       (stand : LiveStands s.listens start.written now'.written r'.units came) (counted : r'.counts ≡ counts_after s.listens call r.counts) where
@@ -71,4 +85,4 @@ module _ (s : Setup) (start now : Devices) (r : Recovering) (what : Due) (about 
       goes_on passes = goes_by agrees passes
 
       pub is_at_end : IsOver (call ∷ about.run) → IsAtEnd s start now' r'
-      is_at_end over = record { run = call ∷ about.run; came = came; stands = stands_on agrees; over = over }
+      is_at_end over = record { run = call ∷ about.run; came = came; stands = stands_on agrees; over = inl over }

@@ -4,6 +4,7 @@ pub mod Counting
 pub mod Disagreeing
 pub mod Ending
 pub mod Going
+pub mod Named
 pub mod Seeing
 pub mod Starting
 pub mod Still

@@ -1,17 +1,18 @@
 -- What the turns are told of the peer whose turn it is, and what they answer.
-use Rattle.std.proofs.Common.{◌≡◌, ℕ, Bool, false, List, [], length, slice_get, sym, ap, ◌∙◌, subst, Option, Some, None}
+use Rattle.std.proofs.Common.{◌≡◌, ℕ, Bool, true, false, List, [], inr, length, slice_get, sym, ap, ◌∙◌, subst, Option, Some, None}
 use Rattle.std.specs.Prelude.{IfSome}
 use Rattle.std.specs.Option.{option_map_or}
 use Rattle.live_net.specs.LiveCalls.{LiveCall}
 use Rattle.live_turns.specs.Due.{Ends, Ways}
 use Rattle.live_turns.specs.Turning.{Answers, IsSeen, TurnsStand, peer_at}
 use Rattle.live_turns.specs.declared.due.Due.{Due}
+use Rattle.live_turns.specs.declared.due.Due.TheVariants as to
 use Rattle.live_turns.specs.declared.place.Place.{Place}
 use Rattle.live_turns.specs.declared.turns.LiveTurns.{LiveTurns}
 use Rattle.live_units.specs.Coming.{UnitCame}
 use Rattle.live_units.specs.Units.{LiveStands}
-use Rattle.live_recovery.specs.Running.{Now, Setup, ends_now, has_link, ways}
-use Rattle.live_recovery.specs.Standing.{Devices, GoesOn, IsAbout, now_of}
+use Rattle.live_recovery.specs.Running.{Now, Setup, are_ended, ends_now, has_link, ways}
+use Rattle.live_recovery.specs.Standing.{Devices, GoesOn, IsAbout, IsAtEnd, MayBeMade, now_of}
 use Rattle.live_recovery.specs.declared.peer.Peer.{Peer}
 use Rattle.live_recovery.specs.declared.recovering.Recovering.{Recovering}
 use Rattle.live_recovery.proofs.Going.{stands_turns}
@@ -45,10 +46,21 @@ module _ (s : Setup) (start now : Devices) (r : Recovering) (t : LiveTurns) (has
   answered : (answer : Option Due) → Answered answer → Answers (ways s) (ends_now s (now_of goes.came r.units)) goes.run r.turns.place t answer
   answered answer answers = answers (ways s) (ends_now s (now_of goes.came r.units)) goes.run goes.turns (seen start.written now.written goes.came goes.stands.units)
 
-  pub is_about : (due what : Due) → due ≡ what → Answered (Some due) → IsAbout s start now (record r { turns = t }) what
-  is_about due what is answers =
+  pub is_about : (due what : Due) → due ≡ what → MayBeMade s goes.came what → Answered (Some due) → IsAbout s start now (record r { turns = t }) what
+  is_about due what is may answers =
       let a = answered (Some what) (subst (λ (d : Due). Answered (Some d)) is answers) in
-      record { run = goes.run; came = goes.came; stands = stands_turns s start now r t goes.run goes.came goes.stands; turns = a.stands; next = a.next }
+      record { run = goes.run; came = goes.came; stands = stands_turns s start now r t goes.run goes.came goes.stands; turns = a.stands; next = a.next; may = may }
+
+  -- in place of a wait the run ends
+  pub is_at_end : (due : Due) (more : Bool) → due ≡ to.Wait more → are_ended s goes.came ≡ true → Answered (Some due) → IsAtEnd s start now (record r { turns = t })
+  is_at_end due more is are answers =
+      let a = answered (Some (to.Wait more)) (subst (λ (d : Due). Answered (Some d)) is answers) in
+      record {
+        run = goes.run;
+        came = goes.came;
+        stands = stands_turns s start now r t goes.run goes.came goes.stands;
+        over = inr (record { are = are; more = more; is_due = a.next.due_is });
+      }
 
   pub turns_on : Answered None → GoesOn s start now (record r { turns = t })
   turns_on answers =

@@ -1,5 +1,5 @@
 -- A call that brings no datagram leaves what is told of copies.
-use Rattle.std.proofs.Common.{◌≡◌, ◌⊎◌, inl, inr, ℕ, zero, suc, List, refl, ap, ◌∙◌, subst}
+use Rattle.std.proofs.Common.{◌≡◌, inl, inr, ℕ, zero, suc, List}
 use Rattle.client_end.specs.Came.{Came, GrpCut, SpinCut, Second}
 use Rattle.sending_end.specs.Waiting.{made, took, lost, ended}
 use Rattle.sending_end.specs.declared.session.Session.{Session}

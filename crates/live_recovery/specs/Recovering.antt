@@ -1,16 +1,19 @@
 -- How a live client ends, and what it has written by then.
-use Rattle.std.specs.Prelude.{◌≡◌, ℕ, List, ◌∷◌, ◌++◌, Option, None, Some, Result, Ok, Err}
+use Rattle.std.specs.Prelude.{◌≡◌, ◌⊎◌, ℕ, Bool, true, List, ◌∷◌, ◌++◌, Option, None, Some}
+use Rattle.std.specs.Prelude.{Result, Ok, Err}
 use Rattle.pitch_io.specs.Putting.{Grows}
 use Rattle.stream_print.specs.Told.{Told}
 use Rattle.live_net.specs.LiveCalls.{LiveCall, Wait, Receive}
 use Rattle.live_net.specs.declared.net.Received.TheVariants as received
 use Rattle.live_net.specs.declared.live.WaitEnd.TheVariants as wait_end
+use Rattle.live_turns.specs.Due.{due}
+use Rattle.live_turns.specs.declared.due.Due.TheVariants as to
 use Rattle.pitch_model.specs.History.{Raw}
 use Rattle.live_units.specs.Coming.{UnitCame, AreHonest, IsLiveText, BeginsLiveText}
 use Rattle.live_units.specs.Coming.{live_lines, with_datagram}
 use Rattle.live_recovery.specs.Counting.{counts_of}
 use Rattle.live_recovery.specs.Disagreeing.{first_disagreement}
-use Rattle.live_recovery.specs.Running.{Now, Runs, Setup}
+use Rattle.live_recovery.specs.Running.{Now, Runs, Setup, are_ended, ends_now, ways}
 use Rattle.live_recovery.specs.declared.copies.Disagreement.{Disagreement}
 use Rattle.live_recovery.specs.declared.counts.Counts.{Counts}
 use Rattle.live_recovery.specs.declared.error.RecoverError.{RecoverError}
@@ -45,12 +48,18 @@ abbrev pub HasBrought : List ℕ → List LiveCall → Type 0
 HasBrought datagram (Receive line room bytes (received.Got n) ∷ before) = datagram ≡ bytes
 HasBrought datagram run = ⊥
 
+-- each unit has ended, where units are named, and a wait would be the next call
+pub record HaveEnded (s : Setup) (run : List LiveCall) (now : Now) : Type 0 where
+  pub are : are_ended s now.came ≡ true
+  pub more : Bool
+  pub is_due : due (ways s) (ends_now s now) run ≡ Some (to.Wait more)
+
 -- at the end the whole text was written: the lines of all that came, and, for every family of
 -- venues of which each unit's history speaks honestly, the books of exactly each unit's first n
 -- messages, n its reach; no copies differ, and what came was counted
 pub record IsDone (s : Setup) (counts : Counts) (run : List LiveCall) (now : Now)
     (text : List ℕ) : Type 0 where
-  pub over : IsOver run
+  pub over : IsOver run ⊎ HaveEnded s run now
   pub agreed : first_disagreement now.came ≡ None
   pub text_is : IsLiveText s.listens now.came text
   pub counts_are : counts ≡ counts_of s.listens run

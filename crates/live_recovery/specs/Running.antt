@@ -16,6 +16,7 @@ use Rattle.live_net.specs.declared.live.PeerPut.TheVariants as put
 use Rattle.live_turns.specs.Due.{Ways, Ends, IsDue}
 use Rattle.live_units.specs.Coming.{LiveSetup, UnitCame, stands_at, to_unit, with_came}
 use Rattle.live_units.specs.Coming.{with_datagram, with_loss}
+use Rattle.live_units.specs.Ended.{have_ended}
 use Rattle.live_units.specs.Units.{waits_then}
 use Rattle.live_recovery.specs.Disagreeing.{first_disagreement}
 use Rattle.live_recovery.specs.declared.peer.Peer.{Peer}
@@ -134,11 +135,21 @@ Brings s (Put at piece (put.Wrote n)) now now' =
 Brings s call now now' = IsSame now now'
 
 -- ---- A run
--- a call more is made only where no copies differ by then; it was due, with the ends as they were
--- then, and brought what it did
+-- units are named, and each of them has ended
+abbrev pub are_ended : Setup → List UnitCame → Bool
+are_ended s came = have_ended s.listens s.listens.units came
+
+-- then no wait is made
+abbrev pub MayCall : Setup → List UnitCame → LiveCall → Type 0
+MayCall s came (Wait more answer) = are_ended s came ≡ false
+MayCall s came call = Unit {0}
+
+-- a call more is made only where no copies differ by then, and a wait only where the units have not
+-- ended; it was due, with the ends as they were then, and brought what it did
 pub record RunsOn (s : Setup) (call : LiveCall) (before : List LiveCall) (now now' : Now)
     : Type 0 where
   pub agreed : first_disagreement now.came ≡ None
+  pub may : MayCall s now.came call
   pub is_due : IsDue (ways s) (ends_now s now) before call
   pub brings : Brings s call now now'
 

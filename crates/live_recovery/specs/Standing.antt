@@ -1,5 +1,5 @@
 -- A live client between two calls of its net.
-use Rattle.std.specs.Prelude.{◌≡◌, ◌≢◌, ℕ, List, [], ◌∷◌, Bool, true, false, Result, Ok, Err}
+use Rattle.std.specs.Prelude.{◌≡◌, ◌≢◌, ◌⊎◌, ℕ, List, [], ◌∷◌, Bool, true, false, Result, Ok, Err}
 use Rattle.std.specs.Prelude.{Option, None, Some}
 use Rattle.pitch_io.specs.Putting.{Grows}
 use Rattle.unit_packets.specs.Blocks.{Block}
@@ -11,13 +11,14 @@ use Rattle.stream_print.specs.Told.{between}
 use Rattle.live_net.specs.LiveCalls.{LiveCall}
 use Rattle.live_turns.specs.Turning.{IsNext, TurnsStand}
 use Rattle.live_turns.specs.declared.due.Due.{Due}
+use Rattle.live_turns.specs.declared.due.Due.TheVariants as to
 use Rattle.live_units.specs.Coming.{LiveSetup, UnitCame, live_lines, with_datagram}
 use Rattle.live_units.specs.Units.{AllWait, LiveStands, OfLive, waiting_at}
 use Rattle.live_units.specs.declared.units.LiveUnits.{LiveUnits}
 use Rattle.live_recovery.specs.Counting.{counts_of, with_counted}
 use Rattle.live_recovery.specs.Disagreeing.{first_disagreement}
-use Rattle.live_recovery.specs.Recovering.{AddsRun, IsOver, RecoverEnds}
-use Rattle.live_recovery.specs.Running.{Now, PassSeconds, Runs, Setup, ends_now, ways}
+use Rattle.live_recovery.specs.Recovering.{AddsRun, HaveEnded, IsOver, RecoverEnds}
+use Rattle.live_recovery.specs.Running.{Now, PassSeconds, Runs, Setup, are_ended, ends_now, ways}
 use Rattle.live_recovery.specs.declared.copies.Disagreement.{Disagreement}
 use Rattle.live_recovery.specs.declared.error.RecoverError.{RecoverError}
 use Rattle.live_recovery.specs.declared.error.RecoverError.TheVariants as errors
@@ -74,7 +75,12 @@ pub record GoesOn (s : Setup) (start now : Devices) (r : Recovering) : Type 0 wh
   pub stands : Stands s start now r run came
   pub turns : TurnsStand (ways s) (ends_now s (now_of came r.units)) r.turns run
 
--- and this is due next
+-- a wait is made only where the units have not ended
+abbrev pub MayBeMade : Setup → List UnitCame → Due → Type 0
+MayBeMade s came (to.Wait more) = are_ended s came ≡ false
+MayBeMade s came what = Unit {0}
+
+-- and this is due next, and is made
 pub record IsAbout (s : Setup) (start now : Devices) (r : Recovering) (what : Due)
     : Type 0 where
   pub run : List LiveCall
@@ -82,13 +88,14 @@ pub record IsAbout (s : Setup) (start now : Devices) (r : Recovering) (what : Du
   pub stands : Stands s start now r run came
   pub turns : TurnsStand (ways s) (ends_now s (now_of came r.units)) r.turns run
   pub next : IsNext (ways s) (ends_now s (now_of came r.units)) run r.turns.place what
+  pub may : MayBeMade s came what
 
--- its last call was a wait that was over
+-- its last call was a wait that was over, or the units have ended where a wait would be due
 pub record IsAtEnd (s : Setup) (start now : Devices) (r : Recovering) : Type 0 where
   pub run : List LiveCall
   pub came : List UnitCame
   pub stands : Stands s start now r run came
-  pub over : IsOver run
+  pub over : IsOver run ⊎ HaveEnded s run (now_of came r.units)
 
 -- by the answer of a step
 abbrev pub Steps : Setup → Result Bool RecoverError → (start now : Devices) → Recovering → Type 0

@@ -4,6 +4,7 @@
 
 mod copies;
 mod counts;
+mod ended;
 mod error;
 mod peer;
 mod recovering;

@@ -13,13 +13,14 @@ ghost use Rattle.live_turns.specs.Turning.{IsSeen, Passes};
 ghost use Rattle.live_units.specs.Coming.{UnitCame, with_datagram};
 ghost use Rattle.live_units.specs.Units.{LiveStands, PassesAt};
 ghost use Rattle.live_recovery.specs.Recovering.{RecoverEnds};
-ghost use Rattle.live_recovery.specs.Running.{Setup, ends_now};
+ghost use Rattle.live_recovery.specs.Running.{Setup, are_ended, ends_now};
 ghost use Rattle.live_recovery.specs.Standing.{Agree, Devices, FailsHearing, GoesOn, Hears};
 ghost use Rattle.live_recovery.specs.Standing.{IsAbout, IsAtEnd};
 ghost use Rattle.live_recovery.specs.Standing.{NamesNoDevice, Steps, devices, now_of};
 
 use crate::copies::compare;
 use crate::counts::{Counts, NONE_COUNTED};
+use crate::ended::have_ended;
 use crate::error::RecoverError;
 use crate::peer::Peer;
 use crate::seconds::pass_second;
@@ -119,6 +120,15 @@ impl Recovering {
             WaitEnd::Over => Ok(false),
             WaitEnd::Failed => Err(RecoverError::Net),
         }
+    }
+
+    // Whether units are named, and each of them has ended.
+    fn are_ended(&self, setup: &RecoverSetup) -> bool
+        ensures { (start written : Option (List ℕ)) (came : List UnitCame)
+            → LiveStands setup.now.listens start written self.now.units came
+            → result ≡ are_ended setup.now came }
+    {
+        have_ended(&self.units, setup.units())
     }
 
     // Asks a line for a datagram.
@@ -293,7 +303,7 @@ impl Recovering {
     }
 
     /// Makes the call that is due, where one is, and prints what came. Answers false once the wait
-    /// was over.
+    /// was over, and in place of a wait where units are named, and each of them has ended.
     pub fn step<N: LiveNet, O: Sink>(
         &mut self,
         alloc: Global,
@@ -319,7 +329,13 @@ impl Recovering {
         match self.turns.due(has, waiting) {
             // The turns have moved on.
             None => Ok(true),
-            Some(Due::Wait(more)) => self.wait(more, net, out),
+            Some(Due::Wait(more)) => {
+                if self.are_ended(setup) {
+                    Ok(false)
+                } else {
+                    self.wait(more, net, out)
+                }
+            }
             Some(Due::Receive(line)) => self.ask_line(alloc, line, setup, net, into, out),
             Some(Due::Take(at)) => self.take_peer(at, setup, net, into, out),
             Some(Due::Open(at)) => {
@@ -339,7 +355,7 @@ impl Recovering {
 
     /// Prints the books, and answers what was counted.
     pub fn finish<O: Sink>(&mut self, alloc: Global, out: &mut O) -> Result<Counts, RecoverError>
-        // Whatever run led here, whose last call was a wait that was over.
+        // Whatever run led here, which is at its end.
         ensures ends { (s : Setup) (start : Devices) (calls : Option (List LiveCall))
             → IsAtEnd s start (devices calls (O.written out.old)) self.old
             → RecoverEnds s result start.calls calls (between start.written (O.written out.new)) }

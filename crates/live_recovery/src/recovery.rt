@@ -17,11 +17,15 @@ use std::alloc::Global;
 use stream_print::piece_buffer;
 
 /// Hears lines of datagrams, and asks by the sessions of the peers for what was lost, until the
-/// wait is over. Prints a line for each block of a unit that is listened to and for each image that
-/// took a unit's reach on, and at the end the book of each unit. Answers what was counted.
+/// wait is over, or until each unit has ended, where units are named: an End of Session of it came,
+/// and its client has every message up to that one. Prints a line for each block of a unit that is
+/// listened to and for each image that took a unit's reach on, and at the end the book of each
+/// unit. Answers what was counted.
 ///
-/// No bytes end a run, neither of a line nor of a peer: a connection is closed by them at most, and
-/// begun again after a pause of 1 to 64 seconds. What was printed is written before each wait.
+/// No other bytes end a run, neither of a line nor of a peer: a connection is closed by them at
+/// most, and begun again after a pause of 1 to 64 seconds. What was printed is written before each
+/// wait. Where all units have ended the run ends in place of the next wait: what each line and peer
+/// had for the turn came before that.
 /// But where two copies of a message differ, the run ends by `Disagree`, without books: whatever
 /// the venues are, what came speaks honestly of none. Of each unit the last 65,536 sequences are
 /// compared, for which 1 MiB is taken at its first block.

@@ -12,9 +12,10 @@ use Rattle.session_ends.specs.Items.{stream_items}
 use Rattle.feed_lines.specs.Follow.{block_line}
 use Rattle.feed_lines.specs.Show.{number_field}
 use Rattle.stream_print.specs.Rising.{named_below}
-use Rattle.client_end.specs.Came.{Came, EndSetup, Heard, SpinCut, SpinMade, SpinTook, Second}
+use Rattle.client_end.specs.Came.{Came, EndSetup, Heard, SpinCut, SpinMade, SpinTook, Second, end_history}
 use Rattle.sending_end.specs.declared.session.Session.TheVariants.{Proxy, SpinServer}
-use Rattle.live_units.specs.Coming.{LiveSetup, UnitCame, came_to, has_book, has_unit, live_lines, passed_of, stands_at, to_unit, with_blocks, with_came, with_datagram, with_loss}
+use Rattle.live_units.specs.Coming.{LiveSetup, UnitCame, came_to, has_book, has_unit, history_at, live_lines, passed_of, stands_at, to_unit, with_blocks, with_came, with_datagram, with_loss}
+use Rattle.live_units.specs.Ended.{ends_of, has_ended, have_ended, is_ended}
 use Rattle.live_units.specs.LiveText.{came_text, image_line, is_told_of}
 use Rattle.live_units.specs.Units.{waits_then}
 
@@ -147,3 +148,62 @@ what_waited_is_dropped = refl
 
 nothing_is_said : waits_then both 3 SpinMade [] SpinServer [] ≡ []
 nothing_is_said = refl
+
+-- ---- Units that have ended
+-- unit 7's third message, and unit 2's first, are End of Session
+abbrev end : List ℕ
+end = 6 ∷ 0x2d ∷ 0 ∷ 0 ∷ 0 ∷ 0 ∷ []
+
+abbrev end_block : ℕ → ℕ → Block
+end_block unit sequence = record { unit = unit; sequence = sequence; raws = end ∷ [] }
+
+-- it came, and the message before it did not: it is among those that came, and ends nothing yet
+abbrev end_too_early : List UnitCame
+end_too_early = with_blocks both (block 7 1 ∷ end_block 7 3 ∷ []) []
+
+it_came : ends_of (history_at both 7 end_too_early) ≡ 3 ∷ []
+it_came = refl
+
+behind_its_end : has_ended both 7 end_too_early ≡ false
+unfolding reach_of held_count
+behind_its_end = refl
+
+-- the message that was lost comes
+abbrev all_of_seven : List UnitCame
+all_of_seven = with_blocks both (block 7 2 ∷ []) end_too_early
+
+seven_has_ended : has_ended both 7 all_of_seven ≡ true
+unfolding reach_of held_count
+seven_has_ended = refl
+
+-- it has however much comes behind: the lowest counts, in a block of two and in two blocks
+two_have_come : has_ended both 7 (with_blocks both (record { unit = 7; sequence = 2; raws = end ∷ end ∷ [] } ∷ block 7 5 ∷ end_block 7 9 ∷ []) end_too_early) ≡ true
+unfolding reach_of held_count
+two_have_come = refl
+
+-- the end of another unit is none of this one, and a venue's last message is none without its type
+of_another_unit : (has_ended both 7 (with_blocks both (block 7 1 ∷ end_block 2 1 ∷ []) []) ≡ false) × (has_ended both 2 (with_blocks both (block 7 1 ∷ end_block 2 1 ∷ []) []) ≡ true)
+unfolding reach_of held_count
+of_another_unit = (refl, refl)
+
+without_an_end : has_ended both 7 (with_blocks both (block 7 1 ∷ block 7 2 ∷ []) []) ≡ false
+unfolding reach_of held_count
+without_an_end = refl
+
+-- of an unsequenced block nothing is heard
+of_no_sequence : has_ended both 7 (with_blocks both (end_block 7 0 ∷ []) []) ≡ false
+of_no_sequence = refl
+
+-- an image brings no end; behind an end that came it takes the unit up to it
+no_image_ends : is_ended 10 (end_history seven (SpinTook fourth_ends ∷ SpinTook fourth_is_sent ∷ asked_for)) ≡ false
+unfolding stream_items blocks_of blocks_by rest_of rest_by judge messages_end raws_of session_reads reach_of held_count
+no_image_ends = refl
+
+and_behind_an_image : is_ended 10 (end_history seven (SpinTook fourth_ends ∷ SpinTook fourth_is_sent ∷ Second ∷ SpinTook (accepted ++ fourth_available) ∷ SpinMade ∷ Heard (end_block 7 3) ∷ packet 1 ∷ [])) ≡ true
+unfolding stream_items blocks_of blocks_by rest_of rest_by judge messages_end raws_of session_reads reach_of held_count
+and_behind_an_image = refl
+
+-- of some units each has to have ended, and of none none has
+each_of_them : (have_ended both (7 ∷ 2 ∷ []) all_of_seven ≡ false) × ((have_ended both (7 ∷ 2 ∷ []) (with_blocks both (end_block 2 1 ∷ []) all_of_seven) ≡ true) × (have_ended both [] all_of_seven ≡ false))
+unfolding reach_of held_count
+each_of_them = (refl, (refl, refl))

@@ -2,6 +2,7 @@ mod Examples
 pub mod Booking
 pub mod Books
 pub mod Ending
+pub mod Ends
 pub mod Following
 pub mod Hearing
 pub mod Listening

@@ -5,7 +5,7 @@ use Rattle.std.specs.Result.{IsErr, IsOk}
 use Rattle.std.proofs.Math.ListN.{set}
 use Rattle.std.proofs.lemmas.Bool.{cond-true, cond-false}
 use Rattle.unit_packets.specs.Blocks.{Block}
-use Rattle.client_end.specs.Came.{Came, Heard, end_after}
+use Rattle.client_end.specs.Came.{Came, EndSetup, Heard, end_after}
 use Rattle.sending_end.specs.Waiting.{link_of, took}
 use Rattle.sending_end.specs.declared.session.Session.{Session}
 use Rattle.sending_end.specs.declared.session.Session.TheVariants.{Proxy, SpinServer}
@@ -94,7 +94,7 @@ takes_at l u session piece (Some e) (Some e') (Ok taken) w v page' there takes =
         λ s start all st.
             let none = not_taken takes.taken session piece takes.came takes.is_taken in
             record {
-              stands = stands_more s u takes.came all l page' start w v e e' there st l.number (comes_so e e' takes.came none takes.passes takes.same.0 takes.same.1)
+              stands = stands_more s u takes.came all l page' start w v e e' there st l.number (comes_so e e' takes.came none takes.passes takes.same)
                   (st.number_is ∙ sym (ap (λ (c : Bool). cond c (block_count all + 1) (block_count all)) none))
                   (takes.prints (end_setup s u) (came_to u all) (unit_stands s u takes.came all l page' start w v e e' there st) (block_count all + 1));
               waits = waits_came l u (Some e) (Some e') there s takes.came all l' refl (st.units_are.each u (Some e) there) takes.passes;
@@ -172,14 +172,17 @@ pub there_is : (s : LiveSetup) (all : List UnitCame) (u : ℕ) (place : Option L
 there_is s all u None is = sym is
 there_is s all u (Some e) is = sym is.0
 
--- ---- Whether a connection stands
-module _ (l : LiveUnits) (unit : ℕ) (session : Session) (place : Option LiveUnit) (there : slice_get l.units.places unit ≡ Some place) (now : Option (List ℕ)) where
-  pub has_none : place ≡ None → OfLive l now (λ s start came. false ≡ stands_at s unit session came)
-  has_none is s start came st =
-      let none : has_unit s unit ≡ false = subst (IsUnitAt s came unit) is (st.units_are.each unit place there) in
-      sym (ap (λ (b : Bool). b && is_some (link_of session (state_at s unit came))) none)
+-- ---- What is told of a unit, where one stands
+module _ (l : LiveUnits) (unit : ℕ) (test : EndSetup → List Came → Bool) (place : Option LiveUnit) (there : slice_get l.units.places unit ≡ Some place) (now : Option (List ℕ)) where
+  abbrev Tells : Bool → Type 0
+  Tells told = OfLive l now (λ s start came. told ≡ (has_unit s unit && test (end_setup s unit) (came_to unit came)))
 
-  pub has_some : (e : LiveUnit) (has : Bool) → place ≡ Some e → OfUnit e (λ s before. has ≡ is_some (link_of session (end_after s before))) → OfLive l now (λ s start came. has ≡ stands_at s unit session came)
-  has_some e has is tells s start came st =
+  pub tells_none : place ≡ None → Tells false
+  tells_none is s start came st =
+      let none : has_unit s unit ≡ false = subst (IsUnitAt s came unit) is (st.units_are.each unit place there) in
+      sym (ap (λ (b : Bool). b && test (end_setup s unit) (came_to unit came)) none)
+
+  pub tells_some : (e : LiveUnit) (told : Bool) → place ≡ Some e → OfUnit e (λ s before. told ≡ test s before) → Tells told
+  tells_some e told is tells s start came st =
       let here = subst (IsUnitAt s came unit) is (st.units_are.each unit place there) in
-      tells (end_setup s unit) (came_to unit came) here.1 ∙ sym (ap (λ (b : Bool). b && is_some (link_of session (state_at s unit came))) here.0)
+      tells (end_setup s unit) (came_to unit came) here.1 ∙ sym (ap (λ (b : Bool). b && test (end_setup s unit) (came_to unit came)) here.0)

@@ -1,4 +1,5 @@
 pub mod Coming
+pub mod Ended
 pub mod Failures
 pub mod Laws
 pub mod LiveText

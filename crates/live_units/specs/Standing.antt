@@ -1,6 +1,6 @@
 -- A unit of a live client, and what came to it.
 use Rattle.std.specs.Prelude.{◌≡◌, ◌≢◌, ◌⊎◌, ℕ, List, [], ◌∷◌, ◌++◌, Option, Result, OnOk, OnErr}
-use Rattle.std.specs.Prelude.{IfOk, drop, if◌then◌else◌}
+use Rattle.std.specs.Prelude.{IfOk, None, Some, drop, min, if◌then◌else◌}
 use Rattle.std.specs.List.{AllByRecursion, list_any}
 use Rattle.pitch_fields.specs.Fields.{AreBytes}
 use Rattle.pitch_model.specs.History.{Raw}
@@ -13,16 +13,28 @@ use Rattle.sending_end.specs.declared.session.Session.{Session}
 use Rattle.stream_print.specs.Page.{Prints}
 use Rattle.stream_print.specs.Putting.{PutsSome}
 use Rattle.stream_print.specs.declared.putting.PutFailed.{PutFailed}
+use Rattle.live_units.specs.Ended.{ends_of}
 use Rattle.live_units.specs.LiveText.{came_text, end_book, is_block, is_told_of}
 use Rattle.live_units.specs.declared.unit.LiveUnit.{LiveUnit}
 use Rattle.live_units.specs.declared.unit.Taken.{Taken}
 use Rattle.live_units.specs.declared.unit.Taken.TheVariants.{Whole, Lost}
 
--- its end stands for all that came to it, and it knows whether a block did
+-- the lower of two numbers, where there are two; the lowest of some
+abbrev pub lower_of : ℕ → Option ℕ → ℕ
+lower_of number None = number
+lower_of number (Some other) = min number other
+
+abbrev pub lowest : List ℕ → Option ℕ
+lowest [] = None
+lowest (number ∷ numbers) = Some (lower_of number (lowest numbers))
+
+-- its end stands for all that came to it, and it knows whether a block did, and the lowest sequence
+-- of the End of Session messages that did
 pub record UnitStands (s : EndSetup) (u : LiveUnit) (before : List Came) : Type 0 where
   pub unit_is : u.unit ≡ s.unit
   pub end_is : SendingStands s u.end before
   pub blocks_are : u.has_block ≡ list_any is_block before
+  pub ends_are : u.first_end ≡ lowest (ends_of (end_history s before))
 
 -- P holds of each setup and all that came for which the unit stands
 abbrev pub OfUnit : LiveUnit → (EndSetup → List Came → Type 0) → Type 0
@@ -70,7 +82,7 @@ pub record TakesPiece (u u' : LiveUnit) (session : Session) (piece : List ℕ)
   pub is_taken : IsTaken taken session piece came
   pub answer : IfOk result (λ answer. answer ≡ taken)
   pub passes : Passes u.end u'.end came
-  pub same : (u'.unit ≡ u.unit) × (u'.has_block ≡ u.has_block)
+  pub same : (u'.unit ≡ u.unit) × ((u'.has_block ≡ u.has_block) × (u'.first_end ≡ u.first_end))
   pub prints : OnOk result (OfUnit u (λ s before. (k : ℕ)
       → Prints w page w' page' (came_text s k came before)))
   pub fails : OnErr result (OfUnit u (λ s before. (k : ℕ)

@@ -3,6 +3,7 @@
 //! no net.
 #![tactic(auto)]
 
+mod ended;
 mod error;
 mod laws;
 mod line;
@@ -11,7 +12,7 @@ mod unit;
 mod units;
 
 pub use crate::error::LiveError;
-pub use crate::laws::blocks_alone_print_what_follow_does;
+pub use crate::laws::{a_unit_ends_at_its_venues_end, blocks_alone_print_what_follow_does};
 pub use crate::unit::{LiveUnit, Taken};
 pub use crate::units::LiveUnits;
 pub use sending_end::{Account, Passed, Session};

@@ -11,8 +11,10 @@ ghost use Rattle.sending_end.specs.Waiting.{NoneWaits, Passes, WaitsStill, made,
 ghost use Rattle.sending_end.specs.Waiting.{waiting};
 ghost use Rattle.stream_print.specs.Sinks.{PagePrints, PagePrintsSuch, PutsPrefix};
 ghost use Rattle.stream_print.specs.Sinks.{PutsPrefixSuch, CountsFault};
+ghost use Rattle.live_units.specs.Ended.{is_ended};
 ghost use Rattle.live_units.specs.LiveText.{is_told_of, moved_text};
 
+use crate::ended::after_block;
 use crate::error::LiveError;
 use crate::line::print_image;
 use pitch_fields::OutOfMemory;
@@ -32,12 +34,14 @@ pub enum Taken {
     Lost,
 }
 
-/// A unit that is listened to: its end, and whether a block of it came.
+/// A unit that is listened to: its end, whether a block of it came, and the lowest sequence of the
+/// End of Session messages that came.
 #[derive(Drop)]
 pub struct LiveUnit {
     unit: u8,
     end: SendingEnd,
     has_block: bool,
+    first_end: Option<u32>,
 }
 
 impl LiveUnit {
@@ -62,6 +66,7 @@ impl LiveUnit {
             unit,
             end: SendingEnd::make(alloc, unit, account, limit)?,
             has_block: false,
+            first_end: None,
         })
     }
 
@@ -86,6 +91,7 @@ impl LiveUnit {
         page.make_place(out)?;
         let change = self.end.hear_block(block)?;
         self.has_block = true;
+        self.first_end = after_block(self.first_end, block);
         page.add_block(number, block.header(), change.overflows > 0, change.after);
         Ok(())
     }
@@ -147,6 +153,7 @@ impl LiveUnit {
             link_of session (end_after s before) ≡ None → result ≡ Taken.Whole) }
         ensures unit { self.new.unit ≡ self.old.unit }
         ensures has_block { self.new.has_block ≡ self.old.has_block }
+        ensures first_end { self.new.first_end ≡ self.old.first_end }
     {
         match self.end.took(session, piece) {
             Ok(()) => Taken::Whole,
@@ -194,6 +201,17 @@ impl LiveUnit {
         let taken = self.take(session, piece);
         self.print_moved(before, page, out)?;
         Ok(taken)
+    }
+
+    /// Whether the unit has ended: an End of Session came whose sequence is not above its reach.
+    pub fn has_ended(&self) -> bool
+        ensures { OfUnit self.now
+            (λ s before. result ≡ is_ended s.hold (end_history s before)) }
+    {
+        match self.first_end {
+            None => false,
+            Some(first) => first <= self.end.reach(),
+        }
     }
 
     // Whether a block of the unit came, or its reach is above 0.

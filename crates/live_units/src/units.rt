@@ -12,6 +12,7 @@ ghost use Rattle.unit_clients.specs.Tables.{AtEach};
 ghost use Rattle.live_units.specs.Coming.{LiveSetup, UnitCame, HasBeatsAlone, StandsNone};
 ghost use Rattle.live_units.specs.Coming.{has_unit, live_lines, passed_of, stands_at, to_unit};
 ghost use Rattle.live_units.specs.Coming.{with_came, with_datagram};
+ghost use Rattle.live_units.specs.Ended.{has_ended};
 ghost use Rattle.live_units.specs.Places.{IsNewAt, IsUnitAt};
 ghost use Rattle.live_units.specs.Units.{AreBooksTo, BeginBooks, OfLive, LiveStands, LiveEnds};
 ghost use Rattle.live_units.specs.Units.{AllWait, PassesAt, StayAll, LosesAt, TakesBytes, SendsAt};
@@ -264,6 +265,18 @@ impl LiveUnits {
         match self.place(unit) {
             None => false,
             Some(unit) => unit.has(session),
+        }
+    }
+
+    /// Whether a unit has ended: an End of Session of it came, and its client has every message up
+    /// to that one.
+    pub fn has_ended(&self, unit: u8) -> bool
+        ensures { (now : Option (List ℕ)) → OfLive self.now now (λ s start came.
+            result ≡ has_ended s unit came) }
+    {
+        match self.place(unit) {
+            None => false,
+            Some(unit) => unit.has_ended(),
         }
     }
 

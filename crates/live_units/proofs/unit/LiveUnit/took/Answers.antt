@@ -17,8 +17,8 @@ returns-in_err-print_moved-clause-takes g c =
     let came : Came = c.take-taken.ensures.takes.0 in
     let is_taken = c.take-taken.ensures.takes.1.0 in
     let passes = c.take-taken.ensures.takes.1.1 in
-    let comes = comes_so u u' came (not_taken taken c.args.session c.args.piece.now came is_taken) passes c.take-taken.ensures.unit c.take-taken.ensures.has_block in
-    takes_untold u u' c.args.session c.args.piece.now c.from_residual.result w v t c.print_moved.new.page.text taken came c.from_residual.ensures.0 is_taken passes (c.take-taken.ensures.unit, c.take-taken.ensures.has_block)
+    let comes = comes_so u u' came (not_taken taken c.args.session c.args.piece.now came is_taken) passes (c.take-taken.ensures.unit, (c.take-taken.ensures.has_block, c.take-taken.ensures.first_end)) in
+    takes_untold u u' c.args.session c.args.piece.now c.from_residual.result w v t c.print_moved.new.page.text taken came c.from_residual.ensures.0 is_taken passes (c.take-taken.ensures.unit, (c.take-taken.ensures.has_block, c.take-taken.ensures.first_end))
     (λ s before is k. subst (λ (x : List ℕ). PutsSome w v (t ++ x)) (sym (taken_text taken c.args.session c.args.piece.now came is_taken s k before))
     (c.in_err-print_moved.ensures.err s (came ∷ before) (comes s before is) (end_history s before) (c.reach-before.ensures s before is.end_is)))
 
@@ -33,14 +33,14 @@ returns-clause-takes g c =
     let came : Came = c.take-taken.ensures.takes.0 in
     let is_taken = c.take-taken.ensures.takes.1.0 in
     let passes = c.take-taken.ensures.takes.1.1 in
-    let comes = comes_so u u' came (not_taken taken c.args.session c.args.piece.now came is_taken) passes c.take-taken.ensures.unit c.take-taken.ensures.has_block in
+    let comes = comes_so u u' came (not_taken taken c.args.session c.args.piece.now came is_taken) passes (c.take-taken.ensures.unit, (c.take-taken.ensures.has_block, c.take-taken.ensures.first_end)) in
     record {
       taken = taken;
       came = came;
       is_taken = is_taken;
       answer = refl;
       passes = passes;
-      same = (c.take-taken.ensures.unit, c.take-taken.ensures.has_block);
+      same = (c.take-taken.ensures.unit, (c.take-taken.ensures.has_block, c.take-taken.ensures.first_end));
       prints = λ s before is k. subst (Prints w t v c.print_moved.new.page.text) (sym (taken_text taken c.args.session c.args.piece.now came is_taken s k before))
           (c.in_ok-print_moved.ensures.printed s (came ∷ before) (comes s before is) (end_history s before) (c.reach-before.ensures s before is.end_is));
       fails = tt;
