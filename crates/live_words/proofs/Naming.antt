@@ -3,7 +3,7 @@ use Rattle.std.proofs.Common.{◌≡◌, ◌∙◌, ℕ, zero, suc, ◌<◌, ◌
 use Rattle.std.proofs.lemmas.List.{length-map, get_or-map}
 use Rattle.std.proofs.Math.Seq.{take-suc}
 use Rattle.long_options.specs.Words.{Text}
-use Rattle.live_words.specs.Asked.{AreNamed}
+use Rattle.live_words.specs.Options.{AreNamed}
 
 -- one more text names one more thing
 pub named_more : {A : Type 0} (Names : Text → A → Type 0) (ts : List Text) (xs : List A) (t : Text) (x : A) → AreNamed Names ts xs → Names t x → AreNamed Names (ts ++ t ∷ []) (xs ++ x ∷ [])

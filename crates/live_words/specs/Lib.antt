@@ -1,1 +1,3 @@
+pub mod Options
+pub mod Serving
 pub mod Asked

@@ -1,13 +1,14 @@
-//! The program's command, as `clap` reads it.
+//! The program's commands, as `clap` reads them.
 
-ghost use Rattle.std.specs.Prelude.{◌≡◌, ◌++◌, IfOk, false, [], ◌∷◌, codes};
+ghost use Rattle.std.specs.Prelude.{◌≡◌, ◌++◌, IfOk, false, [], ◌∷◌, codes, fold};
 ghost use Rattle.clap.specs.Walk.{rule_of};
 ghost use Rattle.clap.specs.Simple.{app_of, with_rule};
 ghost use Rattle.clap.specs.declared.builder.command.Command.TheViews.{out-Command as fields_of};
 ghost use Rattle.long_options.specs.Apps.{command_app, empty_program, option_rule};
 ghost use Rattle.long_options.specs.Words.{may_have};
-ghost use Rattle.live_words.specs.Asked.{any_times as any_times_rule, line_rules, server_rules};
-ghost use Rattle.live_words.specs.Asked.{listen_shape, listen_with, pitch_live};
+ghost use Rattle.live_words.specs.Options.{any_times as any_times_rule, server_rules};
+ghost use Rattle.live_words.specs.Serving.{target_rules, limit_rules, serve_shape, serve_with};
+ghost use Rattle.live_words.specs.Asked.{line_rules, listen_shape, listen_with, pitch_live};
 
 use clap::{Arg, ArgAction, Command};
 use std::alloc::{AllocError, Global};
@@ -66,6 +67,20 @@ fn command<'a>(alloc: Global, name: &'a str) -> Command<'a>
         .disable_version_flag(true)
 }
 
+// The command with the options of the servers and the account too.
+fn with_servers<'a>(alloc: Global, command: Command<'a>) -> Result<Command<'a>, AllocError>
+    ensures app { IfOk result
+        (λ r. app_of r ≡ fold with_rule (app_of command.entry) server_rules) }
+    ensures local { IfOk result
+        (λ r. (fields_of command.entry).has_globals ≡ false → (fields_of r).has_globals ≡ false) }
+{
+    let grp = with_any_times(alloc, command, "grp")?;
+    let spin = with_any_times(alloc, grp, "spin")?;
+    let sub = with_once(alloc, spin, "sub")?;
+    let user = with_once(alloc, sub, "user")?;
+    with_once(alloc, user, "password")
+}
+
 // `listen` with the options of the lines and units.
 fn hearing<'a>(alloc: Global) -> Result<Command<'a>, AllocError>
     ensures app { IfOk result
@@ -85,11 +100,7 @@ fn asking<'a>(alloc: Global) -> Result<Command<'a>, AllocError>
         (λ r. app_of r ≡ record { top = listen_with (line_rules ++ server_rules); subs = [] }) }
     ensures local { IfOk result (λ r. (fields_of r).has_globals ≡ false) }
 {
-    let grp = with_any_times(alloc, hearing(alloc)?, "grp")?;
-    let spin = with_any_times(alloc, grp, "spin")?;
-    let sub = with_once(alloc, spin, "sub")?;
-    let user = with_once(alloc, sub, "user")?;
-    with_once(alloc, user, "password")
+    with_servers(alloc, hearing(alloc)?)
 }
 
 // `listen` with its options.
@@ -101,7 +112,40 @@ fn listen<'a>(alloc: Global) -> Result<Command<'a>, AllocError>
     with_once(alloc, hold, "seconds")
 }
 
-// The program without its command, which must be there.
+// `serve` with the options of the lines.
+fn sending<'a>(alloc: Global) -> Result<Command<'a>, AllocError>
+    ensures app { IfOk result
+        (λ r. app_of r ≡ record { top = serve_with target_rules; subs = [] }) }
+    ensures local { IfOk result (λ r. (fields_of r).has_globals ≡ false) }
+{
+    let a = with_any_times(alloc, command(alloc, "serve"), "a")?;
+    let b = with_any_times(alloc, a, "b")?;
+    with_any_times(alloc, b, "gap")
+}
+
+// `serve` with those of the servers, and of what they keep and accept.
+fn answering<'a>(alloc: Global) -> Result<Command<'a>, AllocError>
+    ensures app { IfOk result (λ r. app_of r
+        ≡ record { top = serve_with (target_rules ++ server_rules ++ limit_rules); subs = [] }) }
+    ensures local { IfOk result (λ r. (fields_of r).has_globals ≡ false) }
+{
+    let servers = with_servers(alloc, sending(alloc)?)?;
+    let kept = with_once(alloc, servers, "kept")?;
+    let second = with_once(alloc, kept, "second")?;
+    let minute = with_once(alloc, second, "minute")?;
+    with_once(alloc, minute, "day")
+}
+
+// `serve` with its options.
+fn serve<'a>(alloc: Global) -> Result<Command<'a>, AllocError>
+    ensures app { IfOk result (λ r. app_of r ≡ record { top = serve_shape; subs = [] }) }
+    ensures local { IfOk result (λ r. (fields_of r).has_globals ≡ false) }
+{
+    let seconds = with_once(alloc, answering(alloc)?, "seconds")?;
+    with_once(alloc, seconds, "after")
+}
+
+// The program without its commands, of which one must be there.
 fn top<'a>(alloc: Global) -> Command<'a>
     ensures app { app_of result ≡ empty_program (codes "pitch_live") }
     ensures local { (fields_of result).has_globals ≡ false }
@@ -114,9 +158,10 @@ fn top<'a>(alloc: Global) -> Command<'a>
         .subcommand_required(true)
 }
 
-// The program with its command.
+// The program with its commands.
 pub(crate) fn app<'a>(alloc: Global) -> Result<Command<'a>, AllocError>
     ensures app { IfOk result (λ r. app_of r ≡ pitch_live) }
 {
-    top(alloc).subcommand(listen(alloc)?)
+    let with_listen = top(alloc).subcommand(listen(alloc)?)?;
+    with_listen.subcommand(serve(alloc)?)
 }

@@ -3,14 +3,11 @@
 ghost use Rattle.std.specs.Prelude.{◌≡◌, ℕ, ◌^◌, ◌-◌, IfNone, IfOk, IfSome, List, MatchOption};
 ghost use Rattle.std.specs.Prelude.{Option, codes, map, option_map};
 ghost use Rattle.clap.specs.Matches.{found_of};
-ghost use Rattle.clap.specs.Simple.{subcommand_rows_of};
 ghost use Rattle.clap.specs.Walk.{all_of, first_of, rows_of};
-ghost use Rattle.pitch_fields.specs.Limits.{most_held};
-ghost use Rattle.pitch_text.specs.Defaults.{default_hold};
 ghost use Rattle.pitch_words.specs.Numbers.{IsGivenMaybe, IsGivenOr, IsNumber};
 ghost use Rattle.session_ends.specs.declared.account.Account.{Account as AccountOf};
-ghost use Rattle.live_words.specs.Asked.{AreAsked, AreLines, AreNamed, AreServers, HasAsked};
-ghost use Rattle.live_words.specs.Asked.{IsAccount, texts_of};
+ghost use Rattle.live_words.specs.Options.{AreNamed, IsAccount, texts_of};
+ghost use Rattle.live_words.specs.Asked.{AreAsked, AreLines, AreServers};
 ghost use Rattle.live_words.specs.declared.listen_words.LineWords.{LineWords as LinesFor};
 ghost use Rattle.live_words.specs.declared.listen_words.ServerWords.{ServerWords as ServersFor};
 ghost use Rattle.live_words.specs.declared.listen_words.ListenWords.{ListenWords as AskedFor};
@@ -43,7 +40,7 @@ fn all_named<T: Named>(alloc: Global, texts: &[&str]) -> Result<Option<Vec<T>>, 
 
 // What an option names that may be given several times.
 #[tactic(auto, using(crate::proofs::Rows::all_is))]
-fn named_in<T: Named>(
+pub(crate) fn named_in<T: Named>(
     alloc: Global,
     matches: &ArgMatches,
     name: &str,
@@ -68,30 +65,30 @@ fn text_of<'a>(matches: &ArgMatches<'a>, name: &str) -> Option<&'a str>
     matches.get_str(name)
 }
 
-// The hold that is asked for, if its text names one.
-fn hold_of(matches: &ArgMatches) -> Option<u32>
-    ensures some { IfSome result (λ n. IsGivenOr default_hold 1 most_held
-        (first_of (codes "hold") (rows_of (found_of matches.now))) n) }
-    ensures none { IfNone result ((n : ℕ) → ¬ IsGivenOr default_hold 1 most_held
-        (first_of (codes "hold") (rows_of (found_of matches.now))) n) }
+// The number of an option that may be left out, and is its default then: 1 to `most`.
+pub(crate) fn number_or(matches: &ArgMatches, name: &str, default: u32, most: u32) -> Option<u32>
+    ensures some { IfSome result (λ n. IsGivenOr default 1 most
+        (first_of name.now (rows_of (found_of matches.now))) n) }
+    ensures none { IfNone result ((n : ℕ) → ¬ IsGivenOr default 1 most
+        (first_of name.now (rows_of (found_of matches.now))) n) }
 {
-    match text_of(matches, "hold") {
-        Some(text) => match number(text, 1, 65_536) {
-            Some(hold) => Some(hold as u32),
+    match text_of(matches, name) {
+        Some(text) => match number(text, 1, u64::from(most)) {
+            Some(n) => Some(n as u32),
             None => None,
         },
-        None => Some(DEFAULT_HOLD),
+        None => Some(default),
     }
 }
 
-// The seconds that are asked for: `Some(None)` where none are.
-fn seconds_of(matches: &ArgMatches) -> Option<Option<u64>>
+// The seconds of an option: `Some(None)` where it is left out.
+pub(crate) fn seconds_in(matches: &ArgMatches, name: &str) -> Option<Option<u64>>
     ensures some { IfSome result (λ n. IsGivenMaybe 0 (2 ^ 64 - 1)
-        (first_of (codes "seconds") (rows_of (found_of matches.now))) n) }
+        (first_of name.now (rows_of (found_of matches.now))) n) }
     ensures none { IfNone result ((n : Option ℕ) → ¬ IsGivenMaybe 0 (2 ^ 64 - 1)
-        (first_of (codes "seconds") (rows_of (found_of matches.now))) n) }
+        (first_of name.now (rows_of (found_of matches.now))) n) }
 {
-    match text_of(matches, "seconds") {
+    match text_of(matches, name) {
         Some(text) => match number(text, 0, u64::MAX) {
             Some(seconds) => Some(Some(seconds)),
             None => None,
@@ -126,7 +123,7 @@ fn lines_of(alloc: Global, matches: &ArgMatches) -> Result<Option<LineWords>, Ou
 }
 
 // The account that is asked for: `Some(None)` where none is.
-fn account_in(matches: &ArgMatches) -> Option<Option<Account>>
+pub(crate) fn account_in(matches: &ArgMatches) -> Option<Option<Account>>
     ensures some { IfSome result (IsAccount (first_of (codes "sub") (rows_of (found_of
         matches.now))) (first_of (codes "user") (rows_of (found_of matches.now)))
         (first_of (codes "password") (rows_of (found_of matches.now)))) }
@@ -163,17 +160,20 @@ fn servers_of(alloc: Global, matches: &ArgMatches) -> Result<Option<ServerWords>
     Ok(Some(ServerWords { grp, spin, account }))
 }
 
-// What the command's options ask for, or `None` where one of them is no value of its option, or
+// What the options of `listen` ask for, or `None` where one of them is no value of its option, or
 // they don't go together.
-fn listen_of(alloc: Global, matches: &ArgMatches) -> Result<Option<ListenWords>, OutOfMemory>
+pub(crate) fn listen_of(
+    alloc: Global,
+    matches: &ArgMatches,
+) -> Result<Option<ListenWords>, OutOfMemory>
     ensures { IfOk result (λ answer. MatchOption answer
         ((asked : AskedFor) → ¬ AreAsked (rows_of (found_of matches.now)) asked)
         (AreAsked (rows_of (found_of matches.now)))) }
 {
-    let Some(hold) = hold_of(matches) else {
+    let Some(hold) = number_or(matches, "hold", DEFAULT_HOLD, 65_536) else {
         return Ok(None);
     };
-    let Some(seconds) = seconds_of(matches) else {
+    let Some(seconds) = seconds_in(matches, "seconds") else {
         return Ok(None);
     };
     let Some(lines) = lines_of(alloc, matches)? else {
@@ -192,25 +192,4 @@ fn listen_of(alloc: Global, matches: &ArgMatches) -> Result<Option<ListenWords>,
         hold,
         seconds,
     }))
-}
-
-// What `clap`'s matches ask for, if anything.
-pub(crate) fn listen_in(
-    alloc: Global,
-    matches: &ArgMatches,
-) -> Result<Option<ListenWords>, OutOfMemory>
-    ensures { IfOk result (λ answer. MatchOption answer
-        ((asked : AskedFor) → ¬ HasAsked (subcommand_rows_of matches.now) asked)
-        (HasAsked (subcommand_rows_of matches.now))) }
-{
-    match matches.subcommand() {
-        Some((name, inner)) => {
-            if name == "listen" {
-                listen_of(alloc, inner)
-            } else {
-                Ok(None)
-            }
-        }
-        None => Ok(None),
-    }
 }

@@ -10,13 +10,23 @@
 //! | `--sub S`, `--user U`, `--password P` | 1 to 4, 4 and 10 bytes | no account |
 //! | `--hold H` | H is 1 to 65,536 | 4,096 |
 //! | `--seconds N` | N is below 2^64 | no end |
+//! | `serve` | | |
+//! | `--a U@ADDR:NUMBER` | U is 1 to 255 | no unit |
+//! | `--b U@ADDR:NUMBER`, `--gap U@ADDR:NUMBER` | the same | U has no such line |
+//! | `--grp U@ADDR:NUMBER`, `--spin U@ADDR:NUMBER` | the same | U has no such server |
+//! | `--sub S`, `--user U`, `--password P` | 1 to 4, 4 and 10 bytes | no account |
+//! | `--kept K` | K is 1 to 65,536 | 65,536 |
+//! | `--second A`, `--minute B`, `--day C` | each is 1 to 1,000,000 | 10, 100 and 10,000 |
+//! | `--seconds N`, `--after N` | N is below 2^64 | no end |
 //!
-//! The first word is `listen`. The options follow in any order, as `--name value` or
+//! The first word is `listen` or `serve`. Its options follow in any order, as `--name value` or
 //! `--name=value`. Lines, senders, units and servers may be given several times, the others once.
-//! At least one line is given; a unit has one server of a kind at most; and the account is given
-//! whole or not at all, and is given where a server is. A value is 1 to 20 digits, where it is a
-//! number, and lies within its range. All else asks for nothing: no words, an empty word, the word
-//! `--`, a word that is no option, and any request for help or a version.
+//! At least one line is given to `listen`, and one line A to `serve`, whose units are those of its
+//! lines A, at most 64. There a unit has one line of a kind at most, and in both one server of a
+//! kind; and the account is given whole or not at all, and is given where a server is. A value is 1
+//! to 20 digits, where it is a number, and lies within its range. All else asks for nothing: no
+//! words, an empty word, the word `--`, a word that is no option, and any request for help or a
+//! version.
 //!
 //! `clap` reads the words, with its own help and version switched off, and its answer decides.
 #![tactic(auto)]
@@ -28,7 +38,13 @@ mod named;
 mod number;
 mod parse;
 mod reading;
+mod serve_words;
+mod served;
 mod servers;
+mod venue;
+mod words;
 
 pub use crate::listen_words::{LineWords, ListenWords, Server, ServerWords};
 pub use crate::reading::read;
+pub use crate::serve_words::{ServeWords, UnitWords};
+pub use crate::words::Asked;

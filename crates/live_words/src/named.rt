@@ -3,7 +3,8 @@
 ghost use Rattle.std.specs.Prelude.{ℕ, List, IfNone, IfSome};
 ghost use Rattle.std.specs.Net.Grammar.{IsIpText};
 ghost use Rattle.pitch_words.specs.Numbers.{IsNumber};
-ghost use Rattle.live_words.specs.Asked.{IsPortText, IsServerText};
+ghost use Rattle.live_words.specs.Options.{IsServerText};
+ghost use Rattle.live_words.specs.Asked.{IsPortText};
 
 use crate::listen_words::Server;
 use crate::number::number;

@@ -3,8 +3,8 @@
 ghost use Rattle.std.specs.Prelude.{◌≡◌, ◌==◌, ℕ, List, IfNone, IfSome, Option, option_map};
 ghost use Rattle.std.specs.List.{list_any};
 ghost use Rattle.session_ends.specs.declared.account.Account.{Account as AccountOf};
-ghost use Rattle.live_words.specs.Asked.{IsAccount, IsLoginWord, are_apart as are_units_apart};
-ghost use Rattle.live_words.specs.Asked.{can_ask as units_can_ask, units_of};
+ghost use Rattle.live_words.specs.Options.{IsAccount, IsLoginWord, are_apart as are_units_apart};
+ghost use Rattle.live_words.specs.Options.{can_ask as units_can_ask, units_of};
 
 use crate::listen_words::Server;
 use session_ends::Account;
@@ -53,14 +53,14 @@ pub(crate) fn account_of(
 }
 
 // Whether one of them is of this unit.
-fn has_unit(servers: &[Server], unit: u8) -> bool
+pub(crate) fn has_unit(servers: &[Server], unit: u8) -> bool
     ensures { result ≡ list_any (λ other. other == unit) (units_of servers.now) }
 {
     servers.iter().any(|server| server.unit == unit)
 }
 
 // Whether none of them is of a unit of which another is.
-fn are_apart(servers: &[Server]) -> bool
+pub(crate) fn are_apart(servers: &[Server]) -> bool
     ensures { result ≡ are_units_apart (units_of servers.now) }
 {
     match servers.split_first() {

@@ -1,4 +1,4 @@
-//! A run that asks servers for what was lost.
+//! A run of units that are named, which asks their servers, where there are any, for what was lost.
 
 use crate::hearing::ports_of;
 use crate::says::{
@@ -6,13 +6,20 @@ use crate::says::{
 };
 use crate::telling::Telling;
 use line_sockets::Port;
-use live_recovery::{Counts, Peer, RecoverError, RecoverSetup, Session, recover};
+use live_recovery::{Account, Counts, Peer, RecoverError, RecoverSetup, Session, recover};
 use live_sockets::LiveSockets;
 use live_words::{ListenWords, ServerWords};
 use patient_io::Patient;
 use pitch_io::StdSink;
 use std::alloc::{AllocError, Global};
 use std::net::SocketAddr;
+
+// Whose logins are made where no server is named: nobody's.
+const NOBODY: Account = Account {
+    sub: *b"    ",
+    user: *b"    ",
+    password: *b"          ",
+};
 
 // The peers by their numbers: the proxies, and then the Spin Servers.
 fn peers_of(alloc: Global, servers: &ServerWords) -> Result<Vec<Peer>, AllocError> {
@@ -98,11 +105,9 @@ fn recover_from(
     })
 }
 
-/// Hears the lines and asks the servers, and answers the exit status.
+/// Hears the lines, asks the servers, if any, and answers the exit status.
 pub fn ask(rt: &HostRuntime, asked: &ListenWords) -> Result<u8, AllocError> {
-    let Some(account) = asked.servers.account else {
-        return Ok(say_usage(rt));
-    };
+    let account = asked.servers.account.unwrap_or(NOBODY);
     let ports = ports_of(rt.alloc(), &asked.lines)?;
     let addrs = addrs_of(rt.alloc(), &asked.servers)?;
     let peers = peers_of(rt.alloc(), &asked.servers)?;

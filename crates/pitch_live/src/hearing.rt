@@ -1,4 +1,4 @@
-//! A run that asks nobody.
+//! A run of every unit, which asks nobody.
 
 use crate::says::{DONE, NET_FAILED, say_out_of_memory, say_trouble, say_usage, say_write_failed};
 use line_sockets::{LineSockets, Port};
@@ -50,7 +50,7 @@ fn listen_to(rt: &HostRuntime, asked: &ListenWords, ports: &[Port], setup: &List
 /// Hears the lines, and answers the exit status.
 pub fn hear(rt: &HostRuntime, asked: &ListenWords) -> Result<u8, AllocError> {
     let ports = ports_of(rt.alloc(), &asked.lines)?;
-    let units = Vec::from_slice(rt.alloc(), &asked.units)?;
+    let units = Vec::new(rt.alloc());
     let Ok(lines) = u16::try_from(ports.len()) else {
         return Ok(say_usage(rt));
     };

@@ -2,14 +2,20 @@
 //! it.
 
 use line_sockets::Trouble;
-use live_words::LineWords;
+use live_venue::InputFault;
+use live_words::{LineWords, UnitWords};
 use std::io;
 use std::io::ErrorKind;
+use venue_sockets::{VenuePart, VenueTrouble};
 
 // The exit statuses, as those of `pitch`, and one more.
 pub const DONE: u8 = 0;
 
 const USAGE: u8 = 2;
+
+const BAD_INPUT: u8 = 3;
+
+const READ_FAILED: u8 = 4;
 
 const WRITE_FAILED: u8 = 5;
 
@@ -31,7 +37,10 @@ pub fn say_usage(rt: &HostRuntime) -> u8 {
         "pitch_live: the words are: listen --a PORT.. --b PORT.. [--gap PORT..] [--from IP].. \
          [--unit U].. [--grp U@ADDR:NUMBER].. [--spin U@ADDR:NUMBER].. \
          [--sub S --user U --password P] [--hold H] [--seconds N] [--setup FILE].., with at least \
-         one PORT, which is ADDR:NUMBER or fd:N"
+         one PORT, which is ADDR:NUMBER or fd:N; or serve --a U@ADDR:NUMBER.. \
+         [--b U@ADDR:NUMBER].. [--gap U@ADDR:NUMBER].. [--grp U@ADDR:NUMBER].. \
+         [--spin U@ADDR:NUMBER].. [--sub S --user U --password P] [--kept K] [--second A] \
+         [--minute B] [--day C] [--seconds N] [--after N] [--setup FILE].., with at most 64 units"
     );
     USAGE
 }
@@ -77,4 +86,48 @@ pub fn say_trouble(rt: &HostRuntime, lines: &LineWords, trouble: &Trouble) -> u8
     let name = name_of(lines, trouble.line);
     let _said = eprintln!(rt; "pitch_live: {name}: {}", trouble.reason);
     NET_FAILED
+}
+
+/// The first fault of the input of commands.
+pub fn say_input(rt: &HostRuntime, fault: &InputFault) -> u8 {
+    let _said = eprintln!(rt; "pitch_live: {fault}");
+    BAD_INPUT
+}
+
+// The number of the unit at an index; 0 where there is none.
+fn unit_at(units: &[UnitWords], at: u16) -> u8 {
+    match units.get(usize::from(at)) {
+        Some(words) => words.unit,
+        None => 0,
+    }
+}
+
+/// What the system said of a part of a venue's net.
+pub fn say_venue_trouble(rt: &HostRuntime, units: &[UnitWords], trouble: &VenueTrouble) -> u8 {
+    let reason = &trouble.reason;
+    if reason.kind() == ErrorKind::OutOfMemory {
+        return say_out_of_memory(rt);
+    }
+    let _said = match trouble.part {
+        VenuePart::Wait => eprintln!(rt; "pitch_live: wait: {reason}"),
+        VenuePart::Input => eprintln!(rt; "pitch_live: standard input: {reason}"),
+        VenuePart::Line(line) => {
+            let name = ["a", "b", "gap"][usize::from(line % 3)];
+            eprintln!(rt;
+                "pitch_live: {name} of unit {}: {reason}",
+                unit_at(units, line / 3)
+            )
+        }
+        VenuePart::Door(door) => {
+            let name = ["grp", "spin"][usize::from(door % 2)];
+            eprintln!(rt;
+                "pitch_live: {name} of unit {}: {reason}",
+                unit_at(units, door / 2)
+            )
+        }
+    };
+    match trouble.part {
+        VenuePart::Input => READ_FAILED,
+        _ => NET_FAILED,
+    }
 }

@@ -1,6 +1,6 @@
 use Rattle.std.proofs.Common.{◌≡◌, List, ℕ, [], ◌∷◌, ◌++◌, map, take, length, ◌<◌, Bor, ◌+◌, rules, subst, sym}
 use Rattle.std.proofs.lemmas.List.{length-map, get_or-map}
-use Rattle.live_words.specs.Asked.{AreNamed}
+use Rattle.live_words.specs.Options.{AreNamed}
 use Rattle.live_words.proofs.Naming.{named_at, named_next}
 use Rattle.live_words.proofs.found.all_named.Goals as goal
 

@@ -1,5 +1,5 @@
 use Rattle.std.proofs.Common.{map, take}
-use Rattle.live_words.specs.Asked.{AreNamed}
+use Rattle.live_words.specs.Options.{AreNamed}
 use Rattle.live_words.proofs.found.all_named.Given as goal
 
 -- the values so far are those of the texts so far

@@ -1,7 +1,8 @@
 use Rattle.std.proofs.Common.{◌≡◌, List, length, codes, rules, arith, tests}
 use Rattle.clap.specs.Matches.{found_of}
 use Rattle.clap.specs.Walk.{Row, rows_of}
-use Rattle.live_words.specs.Asked.{AreNamed, IsPortText, texts_of}
+use Rattle.live_words.specs.Options.{AreNamed, texts_of}
+use Rattle.live_words.specs.Asked.{IsPortText}
 use Rattle.live_words.proofs.Naming.{named_length}
 use Rattle.live_words.proofs.found.lines_of.Goals as goal
 

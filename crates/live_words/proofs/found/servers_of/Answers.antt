@@ -1,7 +1,7 @@
 use Rattle.std.proofs.Common.{◌∙◌, List, codes, rules, true≢false, sym}
 use Rattle.clap.specs.Matches.{found_of}
 use Rattle.clap.specs.Walk.{Row, first_of, rows_of}
-use Rattle.live_words.specs.Asked.{AreNamed, IsAccount, IsServerText, texts_of}
+use Rattle.live_words.specs.Options.{AreNamed, IsAccount, IsServerText, texts_of}
 use Rattle.live_words.proofs.Asking.{asks_alike}
 use Rattle.live_words.proofs.found.servers_of.Goals as goal
 
