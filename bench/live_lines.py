@@ -21,6 +21,8 @@ is busy, or has small buffers (net.core.rmem_max), loses none.
     disagree  with a server to ask, other messages with sequences that came: status 8 with the first of
               them, after the lines of all that came before
     end       datagrams that are sent just before the end of the input: all are heard
+    ended     each unit has an End of Session: the program ends by itself, once the datagram came that
+              these overtook, and the text is that of `follow`
     prompt    a datagram is sent once the lines of the one before are written
     words     words that ask for nothing, and ports that can't be opened: status and standard error
     speed     C datagrams (300000) of 20 messages, at 100,000 a second: none is lost by the program; and
@@ -39,6 +41,7 @@ import storm_feed
 HOST = '127.0.0.1'
 UNITS = range(1, 9)
 OTHER_UNIT = 99
+END_OF_SESSION = b'\x06\x2d\0\0\0\0'
 PATIENCE = 60
 ROOM = 8 << 20
 ACCOUNT = '--sub 0001 --user FEED --password PITCH'
@@ -340,6 +343,23 @@ def run_end(live, program, rate, number, datagrams, dice):
     return status == 0 and text == followed(program, some), said
 
 
+def run_ended(live, program, rate, number, datagrams, dice):
+    """Its input goes on. A unit that is behind its End of Session keeps the program."""
+    listener, sender = Listener(live, [f'--unit={it}' for it in UNITS]), Sender(rate)
+    last = {unit: sequence for datagram in datagrams for unit, sequence, _ in messages_of(datagram)}
+    late = next(it for it in reversed(datagrams) if any(messages_of(it)))
+    some = [it for it in datagrams if it is not late]
+    some += [block(unit, last[unit] + 1, [END_OF_SESSION]) for unit in UNITS]
+    for datagram in some:
+        sender.send(listener.a, datagram)
+    lines = sum(map(blocks_in, some))
+    wait_until(lambda: listener.wrote().count(b'\n') >= lines, 'a line is not written')
+    sender.send(listener.a, late)
+    listener.run.wait(PATIENCE)
+    status, text, said = listener.end()
+    return status == 0 and text == followed(program, [*some, late]), said
+
+
 def blocks_in(datagram):
     count, at = 0, 0
     while at < len(datagram):
@@ -397,6 +417,17 @@ def check_words(live):
             ('listen --setup=/nowhere/setup', 2, 'pitch_live: /nowhere/setup: No such file or directory'),
             ('listen --a 127.0.0.1:0 --', 2, 'the words are'),
             ('listen --help', 2, 'the words are'),
+            ('serve', 2, 'the words are'),
+            ('serve --b 7@127.0.0.1:1', 2, 'the words are'),
+            ('serve --a 127.0.0.1:1', 2, 'the words are'),
+            ('serve --a 7@127.0.0.1:1 --a 7@127.0.0.1:2', 2, 'the words are'),
+            ('serve --a 7@127.0.0.1:1 --gap 8@127.0.0.1:2', 2, 'the words are'),
+            ('serve --a 7@127.0.0.1:1 --grp 7@127.0.0.1:2', 2, 'the words are'),
+            (f'serve --a 7@127.0.0.1:1 --grp 7@127.0.0.1:2 --grp 7@127.0.0.1:3 {ACCOUNT}', 2, 'the words are'),
+            ('serve --a 7@127.0.0.1:1 --kept 0', 2, 'the words are'),
+            ('serve --a 7@127.0.0.1:1 --day 1000001', 2, 'the words are'),
+            ('serve --a 7@127.0.0.1:1 --after 1 --after 1', 2, 'the words are'),
+            ('serve --a 7@127.0.0.1:1 --hold 1', 2, 'the words are'),
             (f'listen --a {HOST}:{port}', 7, 'pitch_live: a: Address already in use'),
             (f'listen --a {HOST}:0 --b {HOST}:0 --gap={HOST}:{port}', 7, 'pitch_live: gap: Address already in use'),
             ('listen --a 192.0.2.1:0', 7, 'pitch_live: a: Cannot assign requested address'),
@@ -476,7 +507,7 @@ def main():
     words.add_argument('--only')
     given = words.parse_args()
     runs = {'whole': run_whole, 'lossy': run_lossy, 'rubbish': run_rubbish, 'from': run_from,
-            'disagree': run_disagree, 'end': run_end, 'prompt': run_prompt}
+            'disagree': run_disagree, 'end': run_end, 'ended': run_ended, 'prompt': run_prompt}
     passed, failed = 0, 0
 
     def tell(name, run, *more):

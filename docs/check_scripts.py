@@ -33,8 +33,10 @@ def counts_of(words):
     return passed, failed or int(done.returncode != 0 or not found)
 
 
-# Runs of `pitch_live`, each of which is counted: against senders of datagrams, and against a venue.
-LIVE_RUNS = {'live_lines.py': ['--numbers', '1', '--count', '0'], 'live_net.py': ['--numbers', '1']}
+# Runs of `pitch_live`, each of which is counted: against senders of datagrams, against a venue, and as
+# one.
+LIVE_RUNS = {'live_lines.py': ['--numbers', '1', '--count', '0'], 'live_net.py': ['--numbers', '1'],
+             'live_serve.py': ['--numbers', '1']}
 
 # What the shell gives the program, and the exit status that it has to end with.
 STATUSES = {'follow < examples/sample.pitch': 0, '': 2, 'follow < examples/captures/sample.pcap': 3,
