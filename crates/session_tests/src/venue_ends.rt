@@ -1,5 +1,7 @@
 //! The venue's end of a unit: the test carries the bytes.
 
+ghost use Rattle.std.specs.Prelude.{◌≡◌};
+
 use crate::proxies::LOGIN;
 use crate::spins::LOGIN as SPIN_LOGIN;
 use pitch_text::Command;
@@ -8,8 +10,10 @@ use std::process::Abort;
 use unit_packets::DatagramList;
 use venue_end::{Account, VenueEnd, VenueSetup};
 
-/// A unit whose proxy accepts one request a second.
-pub(crate) fn setup(unit: u8) -> VenueSetup {
+/// A unit whose proxy keeps eight messages, and accepts one request a second.
+pub(crate) fn setup(unit: u8) -> VenueSetup
+    ensures { result.kept ≡ 8 }
+{
     VenueSetup {
         unit,
         account: Account {
