@@ -104,7 +104,8 @@ pub(crate) fn hear_client(
     units: &mut VenueUnits,
     outbox: &mut Outbox,
 ) -> Result<(), OutOfMemory>
-    ensures { OnOk result ((s : List VenueSetup) → Become s units.old units.new outbox.old outbox.new
+    ensures { OnOk result ((s : List VenueSetup)
+        → Become s units.old units.new outbox.old outbox.new
         (λ now now'. (now' ≡ took s place piece.now now) ⊎ (now' ≡ left place now))) }
 {
     let mut ranges = DatagramList::make(alloc);

@@ -73,7 +73,8 @@ impl Serving {
         piece: &[u8],
     ) -> Result<Option<InputFault>, OutOfMemory>
         requires { length piece.now ≤ piece_limit }
-        ensures heard { IfOk result (λ fault. (now : Now) → Serve setup.now self.old.units self.old.outbox now
+        ensures heard { IfOk result (λ fault. (now : Now)
+            → Serve setup.now self.old.units self.old.outbox now
             → self.old.reader ≡ read_through now.text → IsIdle now
             → HasHeard setup.now self.new fault (with_heard setup.now
             (piece_heard setup.now now.text piece.now now.came) (now.text ++ piece.now) now)) }
@@ -90,7 +91,8 @@ impl Serving {
         alloc: Global,
         setup: &ServeSetup,
     ) -> Result<Option<InputFault>, OutOfMemory>
-        ensures heard { IfOk result (λ fault. (now : Now) → Serve setup.now self.old.units self.old.outbox now
+        ensures heard { IfOk result (λ fault. (now : Now)
+            → Serve setup.now self.old.units self.old.outbox now
             → self.old.reader ≡ read_through now.text → IsIdle now
             → HasHeard setup.now self.new fault (with_heard setup.now
             (rest_heard setup.now now.text now.came) now.text now)) }

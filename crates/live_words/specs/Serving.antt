@@ -104,8 +104,10 @@ pub record AreServed (rows : List Row) (asked : ServeWords) : Type 0 where
   pub account : IsAccount (first_of (codes "sub") rows) (first_of (codes "user") rows)
       (first_of (codes "password") rows) asked.account
   pub kept : IsGivenOr default_kept 1 most_kept (first_of (codes "kept") rows) asked.kept
-  pub second : IsGivenOr default_second 1 most_accepted (first_of (codes "second") rows) asked.second
-  pub minute : IsGivenOr default_minute 1 most_accepted (first_of (codes "minute") rows) asked.minute
+  pub second : IsGivenOr default_second 1 most_accepted (first_of (codes "second") rows)
+      asked.second
+  pub minute : IsGivenOr default_minute 1 most_accepted (first_of (codes "minute") rows)
+      asked.minute
   pub day : IsGivenOr default_day 1 most_accepted (first_of (codes "day") rows) asked.day
   pub seconds : IsGivenMaybe 0 (2 ^ 64 - 1) (first_of (codes "seconds") rows) asked.seconds
   pub after : IsGivenMaybe 0 (2 ^ 64 - 1) (first_of (codes "after") rows) asked.after

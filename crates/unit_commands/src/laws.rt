@@ -2,9 +2,9 @@
 //! definitions alone.
 
 ghost use Rattle.std.specs.Prelude.{List, ℕ};
-ghost use Rattle.unit_commands.specs.PiecesLaws.{TextsAreCut, TextCutsAreOne, TextCutsGrow, PieceIsRead};
-ghost use Rattle.unit_commands.specs.PiecesLaws.{PiecesAreRead, EndsLine, SaysInTurn, SaysByPieces};
-ghost use Rattle.unit_commands.specs.PiecesLaws.{SaysAtEnd, GivesInTurn};
+ghost use Rattle.unit_commands.specs.PiecesLaws.{TextsAreCut, TextCutsAreOne, TextCutsGrow};
+ghost use Rattle.unit_commands.specs.PiecesLaws.{PieceIsRead, PiecesAreRead, EndsLine, SaysInTurn};
+ghost use Rattle.unit_commands.specs.PiecesLaws.{SaysByPieces, SaysAtEnd, GivesInTurn};
 
 use text_lines::Grammar;
 
