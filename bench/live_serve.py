@@ -187,14 +187,15 @@ def ends(live):
     for text, wanted in ((b'7 add 1 B 1 IBM 1\n1 time 5\n7 add 1 B 1 IBM 1\n', 'refused at line 3: known-id'),
                          (b'# none\n3 time 5\n', 'bad input at line 2: no such unit'),
                          (b'7 time 5\n7 sell 1\n', 'bad input at line 2 column 3: bad-word'),
-                         (b'7 time 5\n1 clear x', 'bad input at line 2 column 9: bad-word')):
+                         (b'7 time 5\n1 clear x', 'bad input at line 2 column 9: bad-word'),
+                         (b'7 time 5\n' + b'7' * (2 ** 20 + 1), 'bad input at line 2: it has no end')):
         venue = Venue(live, 5)
         venue.say(text)
         venue.process.stdin.close()
         venue.process.stdin = None
         status, said = venue.end()
         if status != 3 or said != 'pitch_live: %s\n' % wanted:
-            faults.append('%r: %d %s' % (text, status, said))
+            faults.append('%r: %d %s' % (text[:80], status, said))
     with socket.create_server((HOST, 0)) as taken:
         words = ['--a', '1@127.0.0.1:9', '--grp', '1@%s:%d' % taken.getsockname(), *ACCOUNT]
         done = subprocess.run([live, 'serve', *words], stdin=subprocess.DEVNULL, capture_output=True, timeout=20)
