@@ -7,6 +7,7 @@ ghost use Rattle.std.specs.Option.{option_copied};
 ghost use Rattle.pitch_fields.specs.Limits.{most_held};
 ghost use Rattle.pitch_messages.specs.Reading.{reads};
 ghost use Rattle.pitch_model.specs.Advertising.{newest_of, with_sequence};
+ghost use Rattle.pitch_model.specs.Book.{book_after};
 ghost use Rattle.heard_items.specs.Datagrams.{IsPiece};
 ghost use Rattle.unit_packets.specs.BlockBytes.{block_bytes, heartbeat_block};
 ghost use Rattle.unit_packets.specs.Packing.{IsPacking, bytes_in};
@@ -18,6 +19,7 @@ ghost use Rattle.unit_market.specs.Views.{ShowsMessages, ShowsImages};
 ghost use Rattle.unit_market.specs.Views.{last_accepted};
 
 use gap_store::{Found, GapLookup, GapStore};
+use order_book::UnitBook;
 use pitch_fields::OutOfMemory;
 use pitch_messages::{Raw, RawList};
 use pitch_text::Command;
@@ -96,6 +98,21 @@ impl Market {
         ensures { option_copied result ≡ last_accepted self.now }
     {
         self.venue.last_raw()
+    }
+
+    /// How many messages were accepted.
+    pub fn count(&self) -> u32
+        ensures { (j : Journal) → MarketHas self.now j → result ≡ length j.messages }
+    {
+        self.venue.next_sequence() - 1
+    }
+
+    /// The book that the accepted messages leave.
+    pub fn book(&self) -> &UnitBook
+        // All that was accepted, applied one after another to the empty book.
+        ensures { (j : Journal) → MarketHas self.now j → result.now.book ≡ book_after j.messages }
+    {
+        self.venue.book()
     }
 
     /// Sends what is pending: appends its datagrams to the list, and answers how many they are.
