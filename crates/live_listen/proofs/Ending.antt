@@ -29,13 +29,15 @@ use Rattle.live_listen.specs.Counting.{is_stray, counts_of}
 use Rattle.live_listen.specs.Due.{due, Receives, AreDue}
 use Rattle.live_listen.specs.Failures.{unheard}
 use Rattle.live_listen.specs.Heard.{datagrams_of, heard_in, blocks_heard}
-use Rattle.live_listen.specs.Listening.{Setup, AddsRun, heard_of, BeginsText, HasFailed, IsOver, ListenEnds}
+use Rattle.live_listen.specs.Listening.{Setup, AddsRun, heard_of, lines_shown, BeginsText, HasFailed, IsOver, ListenEnds}
 use Rattle.live_listen.specs.Standing.{Devices, Stands, Steps, NamesNoDevice}
 use Rattle.live_listen.specs.declared.counts.Counts.{Counts}
 use Rattle.live_listen.specs.declared.error.ListenError.{ListenError}
 use Rattle.live_listen.specs.declared.error.ListenError.TheVariants as errors
 use Rattle.live_listen.specs.declared.listener.Listener.{Listener}
-use Rattle.live_listen.proofs.Standing.{adds_none, adds_more, more_heard}
+use Rattle.live_listen.proofs.Coming.{more_heard}
+use Rattle.live_listen.proofs.Showing.{HasShown, shown_all, shown_more, shown_none}
+use Rattle.live_listen.proofs.Standing.{adds_none, adds_more}
 
 no_venues : ℕ → List Raw
 no_venues unit = []
@@ -77,7 +79,7 @@ module _ (H : ℕ) (blocks : List Block) where
       }
 
 -- ---- Runs that end
-module _ (s : Setup) (start v : Devices) (run : List LineCall) (adds : AddsRun run start.calls v.calls) (due_each : AreDue s.lines run) where
+module _ (s : Setup) (start v : Devices) (run : List LineCall) (adds : AddsRun run start.calls v.calls) (due_each : AreDue s.lines run) (shown : HasShown start.written v.written (lines_shown s run)) where
   -- memory ran out, or the sink failed
   ends_begun : (text : List ℕ) (e : PrintError) → BeginsText s.hold (heard_of s run) text → PutsSome start.written v.written text → ListenEnds s (Err (unheard e)) start.calls v.calls (between start.written v.written)
   ends_begun text e begins puts = by e
@@ -86,9 +88,9 @@ module _ (s : Setup) (start v : Devices) (run : List LineCall) (adds : AddsRun r
       some = take puts.count text
 
       by : (e : PrintError) → ListenEnds s (Err (unheard e)) start.calls v.calls (between start.written v.written)
-      by printing.SequencesSpent = record { run = run; text = some; is_run = record { adds = adds; due = due_each; writes = puts.grows }; is_end = begins_less s.hold (heard_of s run) puts.count text begins }
-      by printing.Write = record { run = run; text = some; is_run = record { adds = adds; due = due_each; writes = puts.grows }; is_end = begins_less s.hold (heard_of s run) puts.count text begins }
-      by printing.OutOfMemory = record { run = run; text = some; is_run = record { adds = adds; due = due_each; writes = puts.grows }; is_end = begins_less s.hold (heard_of s run) puts.count text begins }
+      by printing.SequencesSpent = record { run = run; text = some; is_run = record { adds = adds; due = due_each; writes = puts.grows; shows = shown }; is_end = begins_less s.hold (heard_of s run) puts.count text begins }
+      by printing.Write = record { run = run; text = some; is_run = record { adds = adds; due = due_each; writes = puts.grows; shows = shown }; is_end = begins_less s.hold (heard_of s run) puts.count text begins }
+      by printing.OutOfMemory = record { run = run; text = some; is_run = record { adds = adds; due = due_each; writes = puts.grows; shows = shown }; is_end = begins_less s.hold (heard_of s run) puts.count text begins }
 
   -- the lines of the blocks were not all printed
   ends_failed : (form : StreamForm) (e : PrintError) (page : List ℕ) → form ≡ Follow s.hold → page ≡ [] → Fails e form [] (heard_of s run) start.written page v.written → ListenEnds s (Err (unheard e)) start.calls v.calls (between start.written v.written)
@@ -132,14 +134,31 @@ module _ (s : Setup) (start u : Devices) (l : Listener) (run : List LineCall) (s
   begins_now : BeginsText s.hold (heard_of s run) text_now
   begins_now = begins_lines s.hold (heard_of s run) text_now [] (sym lines_now ∙ sym (append-nil text_now))
 
+  -- the lines that came before the last wait stay written
+  shown_then : (w : Option (List ℕ)) (text : List ℕ) → PutsSome u.written w text → HasShown start.written w (lines_shown s run)
+  shown_then w text puts = shown_more start.written u.written w (lines_shown s run) (take puts.count text) st.shown puts.grows
+
+  -- all lines are, once the page is written out
+  pub shown_now : (w : Option (List ℕ)) → Grows u.written w l.printer.page.text → HasShown start.written w (lines_after s.hold [] (heard_of s run))
+  shown_now w grows = shown_all start.written w (lines_after s.hold [] (heard_of s run)) (subst (Grows start.written w) lines_now (prints_out start.written u.written w l.printer.page.text text_now printed_now grows))
+
+  shown_failing : (v : Devices) (e : PrintError) (blocks : List Block) → FailsBlocks e l.printer u.written v.written blocks → HasShown start.written v.written (lines_shown s run)
+  shown_failing v e blocks fails =
+      by e (subst (λ (f : StreamForm). Fails e f (reverse (heard_of s run)) blocks u.written l.printer.page.text v.written) form_now (fails (reverse (heard_of s run)) known_now))
+    where
+      by : (e : PrintError) → Fails e (Follow s.hold) (reverse (heard_of s run)) blocks u.written l.printer.page.text v.written → HasShown start.written v.written (lines_shown s run)
+      by printing.SequencesSpent outruns = absurd outruns.outruns
+      by printing.Write some = shown_then v.written (l.printer.page.text ++ some.text) some.puts
+      by printing.OutOfMemory some = shown_then v.written (l.printer.page.text ++ some.text) some.puts
+
   -- no memory is left
   pub ends_now : ListenEnds s (Err errors.OutOfMemory) start.calls u.calls (between start.written u.written)
-  ends_now = ends_begun s start u run st.adds st.due_each text_now printing.OutOfMemory begins_now (puts_so_far start.written u.written [] l.printer.page.text text_now printed_now)
+  ends_now = ends_begun s start u run st.adds st.due_each st.shown text_now printing.OutOfMemory begins_now (puts_so_far start.written u.written [] l.printer.page.text text_now printed_now)
 
   -- the sink failed while the page was written out
   pub ends_unflushed : (v : Devices) (e : PrintError) → v.calls ≡ u.calls → PutsSome u.written v.written l.printer.page.text → ListenEnds s (Err (unheard e)) start.calls v.calls (between start.written v.written)
   ends_unflushed v e same puts =
-      ends_begun s start v run (subst (AddsRun run start.calls) (sym same) st.adds) st.due_each text_now e begins_now (puts_after start.written u.written v.written [] l.printer.page.text text_now printed_now puts)
+      ends_begun s start v run (subst (AddsRun run start.calls) (sym same) st.adds) st.due_each (shown_then v.written l.printer.page.text puts) text_now e begins_now (puts_after start.written u.written v.written [] l.printer.page.text text_now printed_now puts)
 
   -- the net failed, and nothing is left on the page
   pub ends_cut_off : l.printer.page.text ≡ [] → HasFailed run → ListenEnds s (Err errors.Net) start.calls u.calls (between start.written u.written)
@@ -150,6 +169,7 @@ module _ (s : Setup) (start u : Devices) (l : Listener) (run : List LineCall) (s
       adds = st.adds;
       due = st.due_each;
       writes = prints_whole start.written u.written [] text_now (subst (λ (p : List ℕ). Prints start.written [] u.written p text_now) none printed_now);
+      shows = st.shown;
     };
     is_end = record { failed = failed; text_is = lines_now };
   }
@@ -160,7 +180,7 @@ module _ (s : Setup) (start u : Devices) (l : Listener) (run : List LineCall) (s
   ends_unprinted v e line room n bytes adds is_due fails =
       let call : LineCall = Receive line room bytes (received.Got n) in
       let more : List Block = heard_in s.units bytes in
-      ends_failed s start v (call ∷ run) (adds_more run call start.calls u.calls v.calls st.adds adds) (is_due, st.due_each) (task_form st.first.task) e st.first.page.text st.form_is st.empty
+      ends_failed s start v (call ∷ run) (adds_more run call start.calls u.calls v.calls st.adds adds) (is_due, st.due_each) (shown_failing v e more fails) (task_form st.first.task) e st.first.page.text st.form_is st.empty
       (fails_more st.first l.printer e start.written u.written v.written (heard_of s (call ∷ run)) (heard_of s run) more []
       (more_heard s.units (datagrams_of run) bytes ∙ ap (λ (bs : List Block). heard_of s run ++ bs) (sym (append-nil more))) st.prints fails [] st.known)
 
@@ -169,7 +189,7 @@ module _ (s : Setup) (start u : Devices) (l : Listener) (run : List LineCall) (s
   pub ends_unbooked : (v : Devices) (e : PrintError) → v.calls ≡ u.calls → PutsSuch (IsPrefixOfEnd (task_form l.printer.task) (reverse (heard_of s run))) u.written l.printer.page.text v.written
       → ListenEnds s (Err (unheard e)) start.calls v.calls (between start.written v.written)
   ends_unbooked v e same some =
-      ends_begun s start v run (subst (AddsRun run start.calls) (sym same) st.adds) st.due_each (text_now ++ some.text) e
+      ends_begun s start v run (subst (AddsRun run start.calls) (sym same) st.adds) st.due_each (shown_then v.written (l.printer.page.text ++ some.text) some.puts) (text_now ++ some.text) e
       (begins_books s.hold (heard_of s run) text_now some.text lines_now (subst (λ (f : StreamForm). IsPrefixOfEnd f (reverse (heard_of s run)) some.text) form_now some.such))
       (puts_then start.written u.written v.written [] l.printer.page.text text_now some.text printed_now some.puts)
 
@@ -180,10 +200,15 @@ module _ (s : Setup) (start u : Devices) (l : Listener) (run : List LineCall) (s
     books_are : IsEnd (Follow s.hold) (reverse (heard_of s run)) printed.text
     books_are = subst (λ (f : StreamForm). IsEnd f (reverse (heard_of s run)) printed.text) form_now printed.such
 
+    shown_whole : (x : Option (List ℕ)) (added : List ℕ) → Grows w x added → HasShown start.written x (lines_shown s run)
+    shown_whole x added grows =
+        shown_more start.written w x (lines_shown s run) added
+        (shown_more start.written u.written w (lines_shown s run) (take printed.printed.count (l.printer.page.text ++ printed.text)) st.shown printed.printed.written) grows
+
     -- or at the last page
     pub ends_unwritten : (v : Devices) (e : PrintError) → v.calls ≡ u.calls → PutsSome w v.written page → ListenEnds s (Err (unheard e)) start.calls v.calls (between start.written v.written)
     ends_unwritten v e same puts =
-        ends_begun s start v run (subst (AddsRun run start.calls) (sym same) st.adds) st.due_each (text_now ++ printed.text) e
+        ends_begun s start v run (subst (AddsRun run start.calls) (sym same) st.adds) st.due_each (shown_whole v.written (take puts.count page) puts.grows) (text_now ++ printed.text) e
         (begins_books s.hold (heard_of s run) text_now printed.text lines_now (λ Image Vs honest. ([], sym (books_are Image Vs honest) ∙ sym (append-nil printed.text))))
         (puts_after start.written w v.written [] page (text_now ++ printed.text) whole puts)
 
@@ -197,6 +222,7 @@ module _ (s : Setup) (start u : Devices) (l : Listener) (run : List LineCall) (s
         adds = subst (AddsRun run start.calls) (sym same) st.adds;
         due = st.due_each;
         writes = prints_out start.written w v.written page (text_now ++ printed.text) whole grows;
+        shows = shown_whole v.written page grows;
       };
       is_end = record {
         over = over;
@@ -240,7 +266,7 @@ pub ends_none : (s : Setup) (calls : Option (List LineCall)) (w : Option (List �
 ends_none s calls w = record {
   run = [];
   text = [];
-  is_run = record { adds = adds_none calls; due = tt; writes = grows_none w };
+  is_run = record { adds = adds_none calls; due = tt; writes = grows_none w; shows = shown_none s w };
   is_end = begins_none s.hold [];
 }
 

@@ -9,6 +9,7 @@ use Rattle.live_net.specs.declared.net.Received.TheVariants as received
 use Rattle.live_listen.specs.Counting.{counts_of}
 use Rattle.live_listen.specs.Due.{AreDue}
 use Rattle.live_listen.specs.Heard.{datagrams_of, is_listened}
+use Rattle.live_listen.specs.Listening.{before_wait}
 
 -- a run over two lines, newest first: line 0 had a datagram, line 1 none, and then the wait was over
 abbrev pub a_run : List LineCall
@@ -29,6 +30,13 @@ three_came =
 
 pub in_their_order : datagrams_of three_came ≡ (7 ∷ []) ∷ (8 ∷ []) ∷ (9 ∷ []) ∷ []
 in_their_order = refl
+
+-- of two datagrams one came before the last wait
+abbrev waited : List LineCall
+waited = Receive 0 65536 (8 ∷ []) (received.Got 1) ∷ Wait false woken.Ready ∷ Receive 0 65536 (7 ∷ []) (received.Got 1) ∷ Wait false woken.Ready ∷ []
+
+pub came_before_the_wait : datagrams_of (before_wait waited) ≡ (7 ∷ []) ∷ []
+came_before_the_wait = refl
 
 -- two heartbeats of unit 1 with a byte behind them, one of unit 2, and a datagram without bytes
 abbrev with_a_byte : List ℕ

@@ -1,8 +1,8 @@
 -- A run that goes on by a call.
-use Rattle.std.proofs.Common.{◌≡◌, ℕ, ◌+◌, cond, List, [], ◌∷◌, ◌++◌, length, refl, sym, ap, ◌∙◌, subst, arith, Option, Some, None, length-append}
+use Rattle.std.proofs.Common.{◌≡◌, ℕ, ◌+◌, cond, List, [], ◌∷◌, ◌++◌, length, take, refl, sym, ap, ◌∙◌, subst, arith, Option, Some, None, length-append}
+use Rattle.std.specs.Prelude.{reverse}
 use Rattle.std.specs.List.{flat_map, count_by}
 use Rattle.std.proofs.lemmas.List.{append-nil}
-use Rattle.std.proofs.lemmas.Grind.{flat_map-append}
 use Rattle.std.proofs.lemmas.List.Sums.{sum_by-append}
 use Rattle.pitch_io.specs.Putting.{Grows}
 use Rattle.feed_lines.proofs.Texts.{texts_none}
@@ -22,10 +22,12 @@ use Rattle.live_net.specs.declared.net.Received.TheVariants as received
 use Rattle.live_listen.specs.Counting.{is_stray}
 use Rattle.live_listen.specs.Due.{due, due_of, Receives}
 use Rattle.live_listen.specs.Heard.{datagrams_of, heard_in, blocks_heard}
-use Rattle.live_listen.specs.Listening.{Setup, AddsRun, heard_of}
+use Rattle.live_listen.specs.Listening.{Setup, AddsRun, heard_of, lines_shown}
 use Rattle.live_listen.specs.Standing.{Devices, Hears, Stands}
 use Rattle.live_listen.specs.declared.listener.Listener.{Listener}
 use Rattle.live_listen.specs.declared.place.Place.{Place}
+use Rattle.live_listen.proofs.Coming.{more_heard, more_came}
+use Rattle.live_listen.proofs.Showing.{HasShown, shown_none, shown_more}
 
 -- ---- The calls of a net
 pub adds_none : (calls : Option (List LineCall)) → AddsRun [] calls calls
@@ -38,17 +40,6 @@ adds_more run call None None (Some r) g h = h
 adds_more run call None (Some q) (Some r) g h = g
 adds_more run call (Some p) None (Some r) g h = absurd h
 adds_more run call (Some p) (Some q) (Some r) g h = h ∙ ap (λ (l : List LineCall). call ∷ l) g
-
--- ---- What came
-pub more_heard : (units : List ℕ) (datagrams : List (List ℕ)) (datagram : List ℕ) → blocks_heard units (datagrams ++ datagram ∷ []) ≡ blocks_heard units datagrams ++ heard_in units datagram
-more_heard units datagrams datagram =
-    flat_map-append (heard_in units) datagrams (datagram ∷ [])
-    ∙ ap (λ (bs : List Block). blocks_heard units datagrams ++ bs) (append-nil (heard_in units datagram))
-
-more_came : (datagrams : List (List ℕ)) (datagram : List ℕ) → flat_map blocks_of (datagrams ++ datagram ∷ []) ≡ flat_map blocks_of datagrams ++ blocks_of datagram
-more_came datagrams datagram =
-    flat_map-append blocks_of datagrams (datagram ∷ [])
-    ∙ ap (λ (bs : List Block). flat_map blocks_of datagrams ++ bs) (append-nil (blocks_of datagram))
 
 -- ---- A page that is written out
 pub prints_page : (p : Printer) (page : Page) (a b : Option (List ℕ)) → Grows a b p.page.text → page ≡ record p.page { text = [] } → PrintsBlocks p (record p { page = page }) a b []
@@ -77,6 +68,7 @@ stands_start s p place start form known empty = record {
   datagrams_are = refl;
   faulty_are = refl;
   stray_are = refl;
+  shown = shown_none s start.written;
 }
 
 -- ---- A call more
@@ -94,12 +86,19 @@ module _ (s : Setup) (start u v : Devices) (l : Listener) (run : List LineCall) 
     datagrams_are = st.datagrams_are;
     faulty_are = st.faulty_are;
     stray_are = st.stray_are;
+    shown = st.shown;
   }
+
+  -- what was written only grows
+  pub shown_on : (p : Printer) (blocks : List Block) → PrintsBlocks l.printer p u.written v.written blocks → HasShown start.written v.written (lines_shown s run)
+  shown_on p blocks prints =
+      let printed = prints.printed (reverse (heard_of s run) ++ []) (st.prints.known [] st.known) in
+      shown_more start.written u.written v.written (lines_shown s run) (take printed.printed.count (l.printer.page.text ++ printed.text)) st.shown printed.printed.written
 
   -- by a call no datagram came, and no block was printed
   pub stands_same : (p : Printer) (place : Place) (call : LineCall) → datagrams_of (call ∷ run) ≡ datagrams_of run → AddsCall u.calls v.calls call → due s.lines run ≡ Some (due_of call) → PrintsBlocks l.printer p u.written v.written []
-      → Stands s start v (record l { printer = p; place = place }) (call ∷ run)
-  stands_same p place call same adds is_due none = record {
+      → HasShown start.written v.written (lines_shown s (call ∷ run)) → Stands s start v (record l { printer = p; place = place }) (call ∷ run)
+  stands_same p place call same adds is_due none shown = record {
     adds = adds_more run call start.calls u.calls v.calls st.adds adds;
     due_each = (is_due, st.due_each);
     first = st.first;
@@ -111,6 +110,7 @@ module _ (s : Setup) (start u v : Devices) (l : Listener) (run : List LineCall) 
     datagrams_are = st.datagrams_are ∙ ap length (sym same);
     faulty_are = st.faulty_are ∙ ap (count_by is_faulty) (sym same);
     stray_are = st.stray_are ∙ ap (λ (ds : List (List ℕ)). count_by (is_stray s.units) (flat_map blocks_of ds)) (sym same);
+    shown = shown;
   }
 
   -- a datagram came, and was heard
@@ -139,4 +139,5 @@ module _ (s : Setup) (start u v : Devices) (l : Listener) (run : List LineCall) 
         datagrams_are = omega (arith, came, before_came, length-append ds (bytes ∷ []));
         faulty_are = omega (arith, faulty, before_faulty, more_faulty);
         stray_are = omega (arith, stray, before_stray, more_stray, ap (count_by (is_stray s.units)) (more_came ds bytes));
+        shown = shown_on l'.printer (heard_in s.units bytes) hears.prints;
       }

@@ -40,12 +40,24 @@ AddsRun run old None = Unit {0}
 AddsRun run None (Some calls) = ⊥
 AddsRun run (Some before) (Some calls) = calls ≡ run ++ before
 
--- a run of a listener: its calls, each of which was due, and the text that was written
+-- the calls before the last wait of a run
+abbrev pub before_wait : List LineCall → List LineCall
+before_wait [] = []
+before_wait (Wait more answer ∷ before) = before
+before_wait (call ∷ before) = before_wait before
+
+-- the lines of all that had come before the last wait
+abbrev pub lines_shown : Setup → List LineCall → List ℕ
+lines_shown s run = lines_after s.hold [] (heard_of s (before_wait run))
+
+-- a run of a listener: its calls, each of which was due, and the text that was written; however it
+-- ended, what was written begins with the lines of all that had come before the last wait
 pub record IsRun (s : Setup) (calls calls' : Option (List LineCall)) (out : Told)
     (run : List LineCall) (text : List ℕ) : Type 0 where
   pub adds : AddsRun run calls calls'
   pub due : AreDue s.lines run
   pub writes : Grows out.old out.new text
+  pub shows : (more : List ℕ) × Grows out.old out.new (lines_shown s run ++ more)
 
 -- the whole text: a line for each block, and then books; for every family of venues of which the
 -- blocks speak, the text of `follow`, which has the book of exactly each unit's first n messages

@@ -1,7 +1,8 @@
 -- A listener between two calls of its net.
-use Rattle.std.specs.Prelude.{◌≡◌, ◌≢◌, ◌<◌, ◌+◌, ℕ, List, [], ◌∷◌, length, filter}
+use Rattle.std.specs.Prelude.{◌≡◌, ◌≢◌, ◌<◌, ◌+◌, ℕ, List, [], ◌∷◌, ◌++◌, length, filter}
 use Rattle.std.specs.Prelude.{Bool, true, false, Option, None, Some, IfSome, Result, Ok, Err}
 use Rattle.std.specs.List.{count_by, flat_map}
+use Rattle.pitch_io.specs.Putting.{Grows}
 use Rattle.unit_packets.specs.Blocks.{Block}
 use Rattle.unit_packets.specs.Cutting.{blocks_of}
 use Rattle.stream_print.specs.Carriers.{is_faulty}
@@ -15,7 +16,7 @@ use Rattle.live_listen.specs.Due.{Due, Waits, Receives, due, taken_from, is_more
 use Rattle.live_listen.specs.Due.{most_taken, datagram_room}
 use Rattle.live_listen.specs.Heard.{is_wanted, heard_in, datagrams_of}
 use Rattle.live_listen.specs.Counting.{is_stray}
-use Rattle.live_listen.specs.Listening.{Setup, AddsRun, heard_of, IsOver, ListenEnds}
+use Rattle.live_listen.specs.Listening.{Setup, AddsRun, heard_of, lines_shown, IsOver, ListenEnds}
 use Rattle.live_listen.specs.declared.error.ListenError.{ListenError}
 use Rattle.live_listen.specs.declared.error.ListenError.TheVariants as errors
 use Rattle.live_listen.specs.declared.listener.Listener.{Listener}
@@ -63,7 +64,7 @@ abbrev pub devices : Option (List LineCall) → Option (List ℕ) → Devices
 devices calls written = record { calls = calls; written = written }
 
 -- each call of the run was due; all blocks that came by it were printed, from a printer that had
--- printed none, and counted
+-- printed none, and counted; the lines of those that came before the last wait were written
 pub record Stands (s : Setup) (start now : Devices) (l : Listener) (run : List LineCall)
     : Type 0 where
   pub adds : AddsRun run start.calls now.calls
@@ -76,6 +77,7 @@ pub record Stands (s : Setup) (start now : Devices) (l : Listener) (run : List L
   pub datagrams_are : l.datagrams ≡ length (datagrams_of run)
   pub faulty_are : l.faulty ≡ count_by is_faulty (datagrams_of run)
   pub stray_are : l.stray ≡ count_by (is_stray s.units) (flat_map blocks_of (datagrams_of run))
+  pub shown : (more : List ℕ) × Grows start.written now.written (lines_shown s run ++ more)
 
 -- the run goes on
 pub record GoesOn (s : Setup) (start now : Devices) (l : Listener) : Type 0 where

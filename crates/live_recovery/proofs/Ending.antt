@@ -12,7 +12,7 @@ use Rattle.live_net.specs.declared.net.Received.TheVariants as received
 use Rattle.live_turns.specs.Due.{IsMade}
 use Rattle.live_turns.specs.declared.due.Due.{Due}
 use Rattle.live_units.specs.Coming.{BeginsLiveText, LiveSetup, UnitCame, live_books, live_lines, with_datagram}
-use Rattle.live_units.specs.Units.{LiveEnds, LiveStands, OfLive}
+use Rattle.live_units.specs.Units.{HasGrown, LiveEnds, LiveStands, OfLive}
 use Rattle.live_units.specs.declared.error.LiveError.{LiveError}
 use Rattle.live_units.specs.declared.error.LiveError.TheVariants as live
 use Rattle.live_units.specs.declared.units.LiveUnits.{LiveUnits}
@@ -20,7 +20,7 @@ use Rattle.live_units.proofs.Hearing.{heard_begun, heard_none}
 use Rattle.live_recovery.specs.Disagreeing.{first_disagreement}
 use Rattle.live_recovery.specs.Failures.{unheard}
 use Rattle.live_recovery.specs.Recovering.{AddsRun, HasFailed, RecoverEnds}
-use Rattle.live_recovery.specs.Running.{Brings, Now, Runs, Setup, at_first, ends_now}
+use Rattle.live_recovery.specs.Running.{Brings, Now, Runs, Setup, at_first, ends_now, had_come}
 use Rattle.live_recovery.specs.Standing.{Agree, Devices, FailsHearing, IsAbout, IsAtEnd, NamesNoDevice, Stands, Steps, now_of}
 use Rattle.live_recovery.specs.declared.counts.Counts.{Counts}
 use Rattle.live_recovery.specs.declared.error.RecoverError.{RecoverError}
@@ -28,7 +28,8 @@ use Rattle.live_recovery.specs.declared.error.RecoverError.TheVariants as errors
 use Rattle.live_recovery.specs.declared.recovering.Recovering.{Recovering}
 use Rattle.live_recovery.proofs.Bringing.{same_still}
 use Rattle.live_recovery.proofs.Disagreeing.{of_no_venues}
-use Rattle.live_recovery.proofs.Going.{adds_more, adds_none, runs_on}
+use Rattle.live_recovery.proofs.Going.{adds_more, adds_none, runs_on, shows_on}
+use Rattle.live_recovery.proofs.Showing.{HasShown, WritesBy, shown_more}
 
 -- ---- Prefixes of the whole text
 module _ (s : LiveSetup) (came : List UnitCame) where
@@ -51,13 +52,13 @@ LeavesPrefix (errors.Disagree d) = ⊥
 abbrev Ends : Setup → Result Counts RecoverError → Devices → Devices → Type 0
 Ends s answer start now = RecoverEnds s answer start.calls now.calls (between start.written now.written)
 
-module _ (s : Setup) (start now : Devices) (run : List LiveCall) (at : Now) (adds : AddsRun run start.calls now.calls) (runs : Runs s run at) where
+module _ (s : Setup) (start now : Devices) (run : List LiveCall) (at : Now) (adds : AddsRun run start.calls now.calls) (runs : Runs s run at) (shown : HasShown start.written now.written (live_lines s.listens (had_come s run at runs))) where
   -- memory ran out, or the sink failed
   pub ends_text : (e : RecoverError) → LeavesPrefix e → (text : List ℕ) → BeginsLiveText s.listens at.came text → Grows start.written now.written text → Ends s (Err e) start now
   ends_text errors.Net not text begins grows = absurd not
   ends_text (errors.Disagree d) not text begins grows = absurd not
-  ends_text errors.Write not text begins grows = record { run = run; now = at; text = text; is_run = record { adds = adds; runs = runs; writes = grows }; is_end = begins }
-  ends_text errors.OutOfMemory not text begins grows = record { run = run; now = at; text = text; is_run = record { adds = adds; runs = runs; writes = grows }; is_end = begins }
+  ends_text errors.Write not text begins grows = record { run = run; now = at; text = text; is_run = record { adds = adds; runs = runs; writes = grows; shows = shown }; is_end = begins }
+  ends_text errors.OutOfMemory not text begins grows = record { run = run; now = at; text = text; is_run = record { adds = adds; runs = runs; writes = grows; shows = shown }; is_end = begins }
 
   pub ends_puts : (e : RecoverError) → LeavesPrefix e → PutsSome start.written now.written (live_lines s.listens at.came) → Ends s (Err e) start now
   ends_puts e not puts =
@@ -70,18 +71,18 @@ module _ (s : Setup) (start now : Devices) (run : List LiveCall) (at : Now) (add
     run = run;
     now = at;
     text = live_lines s.listens at.came;
-    is_run = record { adds = adds; runs = runs; writes = grows };
+    is_run = record { adds = adds; runs = runs; writes = grows; shows = shown };
     is_end = record { failed = failed; agreed = agreed; text_is = refl };
   }
 
 -- ---- By a call
 module _ (s : Setup) (start now : Devices) (r : Recovering) (what : Due) (about : IsAbout s start now r what) (call : LiveCall) (made : IsMade (ends_now s (now_of about.came r.units)) what call) (now' : Devices)
-    (adds : AddsLiveCall now.calls now'.calls call) (at : Now) (brings : Brings s call (now_of about.came r.units) at) where
+    (adds : AddsLiveCall now.calls now'.calls call) (at : Now) (brings : Brings s call (now_of about.came r.units) at) (writes : WritesBy s call start.written now.written now'.written about.came) where
   pub ends_by_puts : (e : RecoverError) → LeavesPrefix e → PutsSome start.written now'.written (live_lines s.listens at.came) → Ends s (Err e) start now'
-  ends_by_puts = ends_puts s start now' (call ∷ about.run) at (adds_more about.run call start.calls now.calls now'.calls about.stands.adds adds) (runs_on s start now r what about call made at brings)
+  ends_by_puts = ends_puts s start now' (call ∷ about.run) at (adds_more about.run call start.calls now.calls now'.calls about.stands.adds adds) (runs_on s start now r what about call made at brings) (shows_on s start now r what about call made now'.written at brings writes)
 
   pub ends_by_failing : HasFailed (call ∷ about.run) → first_disagreement at.came ≡ None → Grows start.written now'.written (live_lines s.listens at.came) → Ends s (Err errors.Net) start now'
-  ends_by_failing = ends_cut_off s start now' (call ∷ about.run) at (adds_more about.run call start.calls now.calls now'.calls about.stands.adds adds) (runs_on s start now r what about call made at brings)
+  ends_by_failing = ends_cut_off s start now' (call ∷ about.run) at (adds_more about.run call start.calls now.calls now'.calls about.stands.adds adds) (runs_on s start now r what about call made at brings) (shows_on s start now r what about call made now'.written at brings writes)
 
 -- ---- By a datagram that is not heard
 pub fails_hearing : (e : RecoverError) (s : LiveSetup) (start now : Option (List ℕ)) (bytes : List ℕ) (came : List UnitCame) → LeavesPrefix e → PutsSome start now (live_lines s (with_datagram s bytes came)) → FailsHearing e s start now bytes came
@@ -112,38 +113,42 @@ module _ (s : Setup) (start now : Devices) (r : Recovering) (what : Due) (about 
   abbrev then : Now
   then = record { came = with_datagram s.listens bytes about.came; waits = (now_of about.came r.units).waits }
 
-  module _ (made : IsMade (ends_now s (now_of about.came r.units)) what brought) (now' : Devices) (adds : AddsLiveCall now.calls now'.calls brought) where
+  module _ (made : IsMade (ends_now s (now_of about.came r.units)) what brought) (now' : Devices) (adds : AddsLiveCall now.calls now'.calls brought) (grown : HasGrown now.written now'.written) where
     brings : Brings s brought (now_of about.came r.units) then
     brings = record { came_is = refl; waits = λ unit session. refl }
 
     pub ends_unheard : (e : RecoverError) → FailsHearing e s.listens start.written now'.written bytes about.came → Ends s (Err e) start now'
     ends_unheard errors.Net fails = absurd fails
-    ends_unheard errors.Write puts = ends_by_puts s start now r what about brought made now' adds then brings errors.Write tt puts
-    ends_unheard errors.OutOfMemory puts = ends_by_puts s start now r what about brought made now' adds then brings errors.OutOfMemory tt puts
+    ends_unheard errors.Write puts = ends_by_puts s start now r what about brought made now' adds then brings grown errors.Write tt puts
+    ends_unheard errors.OutOfMemory puts = ends_by_puts s start now r what about brought made now' adds then brings grown errors.OutOfMemory tt puts
     ends_unheard (errors.Disagree d) (told, grows) = record {
       run = brought ∷ about.run;
       now = then;
       text = live_lines s.listens about.came;
-      is_run = record { adds = adds_more about.run brought start.calls now.calls now'.calls about.stands.adds adds; runs = runs_on s start now r what about brought made then brings; writes = grows };
+      is_run = record { adds = adds_more about.run brought start.calls now.calls now'.calls about.stands.adds adds; runs = runs_on s start now r what about brought made then brings; writes = grows; shows = shows_on s start now r what about brought made now'.written then brings grown };
       is_end = record { before = about.came; datagram = bytes; last = refl; came_is = refl; told = told; text_is = refl; of_none = λ Vs honest. of_no_venues s.listens Vs then.came d told honest };
     }
 
 -- ---- With no call more
 module _ (s : Setup) (start now : Devices) (r : Recovering) (run : List LiveCall) (came : List UnitCame) (st : Stands s start now r run came) where
   -- the sink failed while the page was written out
-  pub ends_unflushed : (now' : Devices) → now'.calls ≡ now.calls → PutsSome start.written now'.written (live_lines s.listens came) → Ends s (Err errors.Write) start now'
-  ends_unflushed now' same puts = ends_puts s start now' run (now_of came r.units) (subst (AddsRun run start.calls) (sym same) st.adds) st.runs errors.Write tt puts
+  pub ends_unflushed : (now' : Devices) → now'.calls ≡ now.calls → HasGrown now.written now'.written → PutsSome start.written now'.written (live_lines s.listens came) → Ends s (Err errors.Write) start now'
+  ends_unflushed now' same grown puts =
+      ends_puts s start now' run (now_of came r.units) (subst (AddsRun run start.calls) (sym same) st.adds) st.runs (shown_more start.written now.written now'.written (live_lines s.listens (had_come s run (now_of came r.units) st.runs)) st.shown grown) errors.Write tt puts
 
   -- no memory is left
   pub ends_spent : Ends s (Err errors.OutOfMemory) start now
-  ends_spent = ends_puts s start now run (now_of came r.units) st.adds st.runs errors.OutOfMemory tt (puts_so_far start.written now.written [] r.units.page.text (live_lines s.listens came) st.units.printed)
+  ends_spent = ends_puts s start now run (now_of came r.units) st.adds st.runs st.shown errors.OutOfMemory tt (puts_so_far start.written now.written [] r.units.page.text (live_lines s.listens came) st.units.printed)
 
 -- ---- The books
 pub leaves_prefix : (e : LiveError) → LeavesPrefix (unheard e)
 leaves_prefix live.Write = tt
 leaves_prefix live.OutOfMemory = tt
 
-module _ (s : Setup) (start now : Devices) (r : Recovering) (end : IsAtEnd s start now r) (now' : Devices) (same : now'.calls ≡ now.calls) where
+module _ (s : Setup) (start now : Devices) (r : Recovering) (end : IsAtEnd s start now r) (now' : Devices) (same : now'.calls ≡ now.calls) (grown : HasGrown now.written now'.written) where
+  shown_still : HasShown start.written now'.written (live_lines s.listens (had_come s end.run (now_of end.came r.units) end.stands.runs))
+  shown_still = shown_more start.written now.written now'.written (live_lines s.listens (had_come s end.run (now_of end.came r.units) end.stands.runs)) end.stands.shown grown
+
   adds_still : AddsRun end.run start.calls now'.calls
   adds_still = subst (AddsRun end.run start.calls) (sym same) end.stands.adds
 
@@ -152,12 +157,12 @@ module _ (s : Setup) (start now : Devices) (r : Recovering) (end : IsAtEnd s sta
     run = end.run;
     now = now_of end.came r.units;
     text = ends.0;
-    is_run = record { adds = adds_still; runs = end.stands.runs; writes = ends.1.1 };
+    is_run = record { adds = adds_still; runs = end.stands.runs; writes = ends.1.1; shows = shown_still };
     is_end = record { over = end.over; agreed = end.stands.agree.none; text_is = ends.1.0; counts_are = end.stands.counts };
   }
 
   pub ends_unbooked : (e : LiveError) → LiveEnds s.listens end.came start.written now'.written (Err e) → Ends s (Err (unheard e)) start now'
-  ends_unbooked e ends = ends_text s start now' end.run (now_of end.came r.units) adds_still end.stands.runs (unheard e) (leaves_prefix e) ends.0 ends.1.0 ends.1.1
+  ends_unbooked e ends = ends_text s start now' end.run (now_of end.came r.units) adds_still end.stands.runs shown_still (unheard e) (leaves_prefix e) ends.0 ends.1.0 ends.1.1
 
 -- ---- Before the first call
 pub ends_none : (s : Setup) (calls : Option (List LiveCall)) (w : Option (List ℕ)) → RecoverEnds s (Err errors.OutOfMemory) calls calls (between w w)
@@ -165,7 +170,7 @@ ends_none s calls w = record {
   run = [];
   now = at_first;
   text = [];
-  is_run = record { adds = adds_none calls; runs = same_still at_first; writes = grows_none w };
+  is_run = record { adds = adds_none calls; runs = same_still at_first; writes = grows_none w; shows = ([], grows_none w) };
   is_end = begins_lines s.listens [] [] [] refl;
 }
 

@@ -28,7 +28,7 @@ use Rattle.line_copies.specs.Sums.{mixed, sum_of}
 use Rattle.live_recovery.specs.Counting.{counts_of}
 use Rattle.live_recovery.specs.Disagreeing.{first_disagreement}
 use Rattle.live_recovery.specs.Recovering.{HaveEnded}
-use Rattle.live_recovery.specs.Running.{Brings, MayCall, Now, PassSeconds, PassesSecond, Runs, Setup, are_ended, at_first, ends_now, ways}
+use Rattle.live_recovery.specs.Running.{Brings, MayCall, Now, PassSeconds, PassesSecond, Runs, Setup, are_ended, at_first, ends_now, had_come, ways}
 use Rattle.live_recovery.specs.declared.peer.Peer.{Peer}
 use Rattle.live_recovery.proofs.Bringing.{comes_now, comes_so, same_still}
 
@@ -240,6 +240,39 @@ the_run_ends = record { are = refl; more = false; is_due = refl }
 no_wait_is_made : MayCall alone all_came.came (Wait false wait_end.Ready) → ⊥
 unfolding blocks_of blocks_by rest_of rest_by judge messages_end raws_of reach_of held_count
 no_wait_is_made none = true≢false none
+
+-- ---- What is written before a wait
+-- in the first turn message 1 comes, and then the wait is due
+module _ (what : Due) (call : LiveCall) (before : List LiveCall) (now now' : Now) where
+  alone_on : Runs alone before now → first_disagreement now.came ≡ None → MayCall alone now.came call → due (ways alone) (ends_now alone now) before ≡ Some what → IsMade (ends_now alone now) what call → Brings alone call now now' → Runs alone (call ∷ before) now'
+  alone_on run agreed may is made brings = (now, (run, record { agreed = agreed; may = may; is_due = record { what = what; due_is = is; made = made }; brings = brings }))
+
+abbrev one_came : Now
+one_came = hears 1 at_first
+
+abbrev first_turn : List LiveCall
+first_turn = quiet ∷ gives 1 ∷ Wait false wait_end.Ready ∷ []
+
+up_to_the_wait : Runs alone first_turn one_came
+unfolding blocks_of blocks_by rest_of rest_by judge messages_end raws_of
+up_to_the_wait =
+    alone_on (to.Receive 0) quiet (gives 1 ∷ Wait false wait_end.Ready ∷ []) one_came one_came
+    (alone_on (to.Receive 0) (gives 1) (Wait false wait_end.Ready ∷ []) at_first one_came
+    (alone_on (to.Wait false) (Wait false wait_end.Ready) [] at_first at_first (same_still at_first) refl refl refl refl (same_still at_first)) refl tt refl (refl, refl) (record { came_is = refl; waits = λ unit session. refl }))
+    refl tt refl (refl, refl) (same_still one_came)
+
+second_wait : Runs alone (Wait false wait_end.Ready ∷ first_turn) one_came
+unfolding blocks_of blocks_by rest_of rest_by judge messages_end raws_of reach_of held_count
+second_wait = alone_on (to.Wait false) (Wait false wait_end.Ready) first_turn one_came one_came up_to_the_wait refl refl refl refl (same_still one_came)
+
+-- its line need not be written before that wait is made, and has to be by then
+nothing_is_shown : had_come alone first_turn one_came up_to_the_wait ≡ []
+unfolding up_to_the_wait alone_on
+nothing_is_shown = refl
+
+message_1_is_shown : had_come alone (Wait false wait_end.Ready ∷ first_turn) one_came second_wait ≡ one_came.came
+unfolding second_wait alone_on
+message_1_is_shown = refl
 
 -- ---- What is counted
 -- a datagram without bytes, and one with a block of unit 2 and a byte behind a block of unit 7

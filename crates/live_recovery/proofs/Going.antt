@@ -1,19 +1,20 @@
 -- A run that goes on by a call.
-use Rattle.std.proofs.Common.{◌≡◌, List, [], ◌∷◌, inl, refl, ap, ◌∙◌, Option, Some, None}
+use Rattle.std.proofs.Common.{◌≡◌, ℕ, List, [], ◌∷◌, inl, refl, ap, ◌∙◌, Option, Some, None}
 use Rattle.live_net.specs.LiveCalls.{LiveCall, AddsLiveCall, Wait, Receive, Open, Take, Put, Close}
 use Rattle.live_turns.specs.Due.{Ends, IsMade}
 use Rattle.live_turns.specs.Turning.{Passes}
 use Rattle.live_turns.specs.declared.due.Due.{Due}
 use Rattle.live_turns.specs.declared.due.Due.TheVariants as to
 use Rattle.live_turns.specs.declared.turns.LiveTurns.{LiveTurns}
-use Rattle.live_units.specs.Coming.{UnitCame}
+use Rattle.live_units.specs.Coming.{UnitCame, live_lines}
 use Rattle.live_units.specs.Units.{LiveStands}
 use Rattle.live_recovery.specs.Counting.{counts_after}
 use Rattle.live_recovery.specs.Recovering.{AddsRun, IsOver}
-use Rattle.live_recovery.specs.Running.{Brings, MayCall, Now, Runs, Setup, ends_now, ways}
+use Rattle.live_recovery.specs.Running.{Brings, MayCall, Now, Runs, RunsOn, Setup, ends_now, had_come, ways}
 use Rattle.live_recovery.specs.Standing.{Agree, Devices, GoesOn, IsAbout, IsAtEnd, MayBeMade, Stands, now_of}
 use Rattle.live_recovery.specs.declared.recovering.Recovering.{Recovering}
 use Rattle.live_recovery.proofs.Disagreeing.{agree_on}
+use Rattle.live_recovery.proofs.Showing.{HasShown, WritesBy, shown_by}
 use Rattle.live_recovery.proofs.Still.{IsPlain, brings_same}
 
 -- ---- The calls of a net
@@ -32,7 +33,7 @@ adds_more run call (Some p) (Some q) (Some r) g h = h ∙ ap (λ (l : List LiveC
 module _ (s : Setup) (start now : Devices) (r : Recovering) where
   -- its turns alone differ
   pub stands_turns : (t : LiveTurns) (run : List LiveCall) (came : List UnitCame) → Stands s start now r run came → Stands s start now (record r { turns = t }) run came
-  stands_turns t run came st = record { adds = st.adds; runs = st.runs; units = st.units; agree = st.agree; counts = st.counts }
+  stands_turns t run came st = record { adds = st.adds; runs = st.runs; units = st.units; agree = st.agree; counts = st.counts; shown = st.shown }
 
   -- what is due is not done yet
   pub goes_still : (what : Due) → IsAbout s start now r what → GoesOn s start now r
@@ -53,11 +54,19 @@ may_call s came e what (Put at piece answer) made may = tt
 may_call s came e what (Close at) made may = tt
 
 module _ (s : Setup) (start now : Devices) (r : Recovering) (what : Due) (about : IsAbout s start now r what) (call : LiveCall) (made : IsMade (ends_now s (now_of about.came r.units)) what call) where
-  pub runs_on : (at : Now) → Brings s call (now_of about.came r.units) at → Runs s (call ∷ about.run) at
-  runs_on at brings = (now_of about.came r.units, (about.stands.runs, record { agreed = about.stands.agree.none; may = may_call s about.came (ends_now s (now_of about.came r.units)) what call made about.may; is_due = record { what = what; due_is = about.next.due_is; made = made }; brings = brings }))
+  pub on : (at : Now) → Brings s call (now_of about.came r.units) at → RunsOn s call about.run (now_of about.came r.units) at
+  on at brings = record { agreed = about.stands.agree.none; may = may_call s about.came (ends_now s (now_of about.came r.units)) what call made about.may; is_due = record { what = what; due_is = about.next.due_is; made = made }; brings = brings }
+
+  abbrev pub runs_on : (at : Now) → Brings s call (now_of about.came r.units) at → Runs s (call ∷ about.run) at
+  runs_on at brings = (now_of about.came r.units, (about.stands.runs, on at brings))
+
+  -- what had come before the last wait is written, where the lines are before a wait
+  pub shows_on : (now' : Option (List ℕ)) (at : Now) (brings : Brings s call (now_of about.came r.units) at) → WritesBy s call start.written now.written now' about.came
+      → HasShown start.written now' (live_lines s.listens (had_come s (call ∷ about.run) at (runs_on at brings)))
+  shows_on now' at brings writes = shown_by s about.run (now_of about.came r.units) at about.stands.runs start.written now.written now' about.stands.shown call (on at brings) writes
 
   module _ (now' : Devices) (r' : Recovering) (came : List UnitCame) (adds : AddsLiveCall now.calls now'.calls call) (brings : Brings s call (now_of about.came r.units) (now_of came r'.units))
-      (stand : LiveStands s.listens start.written now'.written r'.units came) (counted : r'.counts ≡ counts_after s.listens call r.counts) where
+      (stand : LiveStands s.listens start.written now'.written r'.units came) (counted : r'.counts ≡ counts_after s.listens call r.counts) (writes : WritesBy s call start.written now.written now'.written about.came) where
     module _ (agree : Agree r'.copies came) where
       stands_on : Stands s start now' r' (call ∷ about.run) came
       stands_on = record {
@@ -66,6 +75,7 @@ module _ (s : Setup) (start now : Devices) (r : Recovering) (what : Due) (about 
         units = stand;
         agree = agree;
         counts = counted ∙ ap (counts_after s.listens call) about.stands.counts;
+        shown = shows_on now'.written (now_of came r'.units) brings writes;
       }
 
       pub goes_by : Passes r.turns r'.turns call → GoesOn s start now' r'

@@ -6,5 +6,6 @@ pub mod Ending
 pub mod Going
 pub mod Named
 pub mod Seeing
+pub mod Showing
 pub mod Starting
 pub mod Still

@@ -1,6 +1,7 @@
 -- A live client to which nothing came yet.
 use Rattle.std.proofs.Common.{◌≡◌, ℕ, List, [], length, refl, subst, Option}
 use Rattle.session_ends.specs.declared.account.Account.{Account}
+use Rattle.stream_print.proofs.Flow.{grows_none}
 use Rattle.live_turns.specs.Due.{Ends, Ways}
 use Rattle.live_turns.specs.Turning.{TurnsStand}
 use Rattle.live_turns.specs.declared.turns.LiveTurns.{LiveTurns}
@@ -36,6 +37,7 @@ module _ (s : Setup) (start : Devices) (t : LiveTurns) (l : LiveUnits) (k : Line
       units = of_listens (λ (listens : LiveSetup). LiveStands listens start.written start.written l []) c d e (stand start.written);
       agree = record { kept = kept; none = refl };
       counts = refl;
+      shown = ([], grows_none start.written);
     };
     turns = of_ways (λ (w : Ways). TurnsStand w (ends_now s (now_of [] l)) t []) a b (turns (ends_now s (now_of [] l)));
   }

@@ -13,7 +13,7 @@ use Rattle.live_units.specs.Coming.{UnitCame, AreHonest, IsLiveText, BeginsLiveT
 use Rattle.live_units.specs.Coming.{live_lines, with_datagram}
 use Rattle.live_recovery.specs.Counting.{counts_of}
 use Rattle.live_recovery.specs.Disagreeing.{first_disagreement}
-use Rattle.live_recovery.specs.Running.{Now, Runs, Setup, are_ended, ends_now, ways}
+use Rattle.live_recovery.specs.Running.{Now, Runs, Setup, are_ended, ends_now, had_come, ways}
 use Rattle.live_recovery.specs.declared.copies.Disagreement.{Disagreement}
 use Rattle.live_recovery.specs.declared.counts.Counts.{Counts}
 use Rattle.live_recovery.specs.declared.error.RecoverError.{RecoverError}
@@ -26,12 +26,15 @@ AddsRun run None (Some calls) = ⊥
 AddsRun run (Some before) (Some calls) = calls ≡ run ++ before
 
 -- a run of a live client: its calls, each of which was due, what came by them, and the text that
--- was written
+-- was written; however it ended, what was written begins with the lines of all that had come before
+-- the last wait
 pub record IsRun (s : Setup) (calls calls' : Option (List LiveCall)) (out : Told)
     (run : List LiveCall) (now : Now) (text : List ℕ) : Type 0 where
   pub adds : AddsRun run calls calls'
   pub runs : Runs s run now
   pub writes : Grows out.old out.new text
+  pub shows : (more : List ℕ)
+      × Grows out.old out.new (live_lines s.listens (had_come s run now runs) ++ more)
 
 -- the last call was a wait that was over; a call that failed
 abbrev pub IsOver : List LiveCall → Type 0

@@ -156,3 +156,9 @@ pub record RunsOn (s : Setup) (call : LiveCall) (before : List LiveCall) (now no
 abbrev pub Runs : Setup → List LiveCall → Now → Type 0
 Runs s [] now = IsSame at_first now
 Runs s (call ∷ before) now' = (now : Now) × (Runs s before now × RunsOn s call before now now')
+
+-- what had come to the units before the last wait of a run
+abbrev pub had_come : (s : Setup) (run : List LiveCall) (now : Now) → Runs s run now → List UnitCame
+had_come s [] now runs = []
+had_come s (Wait more answer ∷ before) now runs = runs.0.came
+had_come s (call ∷ before) now runs = had_come s before runs.0 runs.1.0

@@ -1,6 +1,6 @@
 -- A live client between two calls of its net.
-use Rattle.std.specs.Prelude.{◌≡◌, ◌≢◌, ◌⊎◌, ℕ, List, [], ◌∷◌, Bool, true, false, Result, Ok, Err}
-use Rattle.std.specs.Prelude.{Option, None, Some}
+use Rattle.std.specs.Prelude.{◌≡◌, ◌≢◌, ◌⊎◌, ℕ, List, [], ◌∷◌, ◌++◌, Bool, true, false}
+use Rattle.std.specs.Prelude.{Option, None, Some, Result, Ok, Err}
 use Rattle.pitch_io.specs.Putting.{Grows}
 use Rattle.unit_packets.specs.Blocks.{Block}
 use Rattle.client_end.specs.Came.{Came, Heard}
@@ -18,7 +18,8 @@ use Rattle.live_units.specs.declared.units.LiveUnits.{LiveUnits}
 use Rattle.live_recovery.specs.Counting.{counts_of, with_counted}
 use Rattle.live_recovery.specs.Disagreeing.{first_disagreement}
 use Rattle.live_recovery.specs.Recovering.{AddsRun, HaveEnded, IsOver, RecoverEnds}
-use Rattle.live_recovery.specs.Running.{Now, PassSeconds, Runs, Setup, are_ended, ends_now, ways}
+use Rattle.live_recovery.specs.Running.{Now, PassSeconds, Runs, Setup, are_ended, ends_now}
+use Rattle.live_recovery.specs.Running.{had_come, ways}
 use Rattle.live_recovery.specs.declared.copies.Disagreement.{Disagreement}
 use Rattle.live_recovery.specs.declared.error.RecoverError.{RecoverError}
 use Rattle.live_recovery.specs.declared.error.RecoverError.TheVariants as errors
@@ -59,7 +60,7 @@ Compares (Some d) copies came = first_disagreement came ≡ Some d
 
 -- ---- Where a run stands
 -- each call of the run was due; all that came by it came to the units, which printed it, and was
--- counted
+-- counted; the lines of all that had come before the last wait were written
 pub record Stands (s : Setup) (start now : Devices) (r : Recovering) (run : List LiveCall)
     (came : List UnitCame) : Type 0 where
   pub adds : AddsRun run start.calls now.calls
@@ -67,6 +68,8 @@ pub record Stands (s : Setup) (start now : Devices) (r : Recovering) (run : List
   pub units : LiveStands s.listens start.written now.written r.units came
   pub agree : Agree r.copies came
   pub counts : r.counts ≡ counts_of s.listens run
+  pub shown : (more : List ℕ) × Grows start.written now.written
+      (live_lines s.listens (had_come s run (now_of came r.units) runs) ++ more)
 
 -- the run goes on
 pub record GoesOn (s : Setup) (start now : Devices) (r : Recovering) : Type 0 where

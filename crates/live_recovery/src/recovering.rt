@@ -11,7 +11,7 @@ ghost use Rattle.live_turns.specs.Due.{room_for_one};
 ghost use Rattle.live_turns.specs.Retry.{ends_by};
 ghost use Rattle.live_turns.specs.Turning.{IsSeen, Passes};
 ghost use Rattle.live_units.specs.Coming.{UnitCame, with_datagram};
-ghost use Rattle.live_units.specs.Units.{LiveStands, PassesAt};
+ghost use Rattle.live_units.specs.Units.{HasGrown, LiveStands, OfLive, PassesAt};
 ghost use Rattle.live_recovery.specs.Recovering.{RecoverEnds};
 ghost use Rattle.live_recovery.specs.Running.{Setup, are_ended, ends_now};
 ghost use Rattle.live_recovery.specs.Standing.{Agree, Devices, FailsHearing, GoesOn, Hears};
@@ -76,6 +76,8 @@ impl Recovering {
             → LiveStands setup.now.listens start (O.written out.old) self.old.units came
             → Agree self.old.copies came → FailsHearing error setup.now.listens start
             (O.written out.new) datagram.now came) }
+        ensures grows { OfLive self.old.units (O.written out.old) (λ s start came.
+            HasGrown (O.written out.old) (O.written out.new)) }
         ensures not_net { result ≢ Err RecoverError.Net }
         ensures cause { CountsFault O.faults out.old out.new (result ≡ Err RecoverError.Write) }
     {
@@ -106,7 +108,8 @@ impl Recovering {
             (result ≡ Err RecoverError.Write) }
         ensures net_still { NamesNoDevice result → N.faults net.new ≡ N.faults net.old }
     {
-        self.units.flush(out)?;
+        let units = &mut self.units;
+        units.flush(out)?;
         match net.wait(more) {
             WaitEnd::Ready => {
                 self.turns.woken();

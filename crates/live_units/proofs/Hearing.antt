@@ -14,10 +14,11 @@ use Rattle.stream_print.specs.Putting.{PutsSome}
 use Rattle.stream_print.proofs.Printing.{puts_longer}
 use Rattle.live_units.specs.Coming.{HasBeatsAlone, LiveSetup, UnitCame, block_count, came_to, end_setup, has_unit, live_lines, passed_of, to_unit, with_blocks, with_came, with_datagram}
 use Rattle.live_units.specs.LiveText.{came_text}
-use Rattle.live_units.specs.Units.{AllWait, LiveStands, OfLive}
+use Rattle.live_units.specs.Units.{AllWait, HasGrown, LiveStands, OfLive}
 use Rattle.live_units.specs.declared.error.LiveError.{LiveError}
 use Rattle.live_units.specs.declared.error.LiveError.TheVariants as live
 use Rattle.live_units.specs.declared.units.LiveUnits.{LiveUnits}
+use Rattle.live_units.proofs.Growing.{grown_more, grown_none}
 
 module _ (s : LiveSetup) where
   pub with_rest : (done more : List Block) (came : List UnitCame) → with_blocks s (done ++ more) came ≡ with_blocks s more (with_blocks s done came)
@@ -88,6 +89,7 @@ pub record HeardTo (old now : LiveUnits) (w v : Option (List ℕ)) (bytes left :
   pub done : List Block
   pub walked : Walked bytes left done
   pub stand : OfLive old w (λ s start came. LiveStands s start v now (with_blocks s done came))
+  pub grown : OfLive old w (λ s start came. HasGrown w v)
   pub heard_is : OfLive old w (λ s start came. heard ≡ heard_of s done)
   pub others_are : OfLive old w (λ s start came. others ≡ others_of s done)
   pub wait : AllWait old now
@@ -99,6 +101,7 @@ heard_none l w bytes left same = record {
   done = [];
   walked = walked_none bytes left same;
   stand = λ s start came st. st;
+  grown = λ s start came st. grown_none w;
   heard_is = λ s start came st. refl;
   others_are = λ s start came st. refl;
   wait = λ unit session. refl;
@@ -116,12 +119,13 @@ module _ (old now : LiveUnits) (w v : Option (List ℕ)) (bytes left : List ℕ)
 
   module _ (less : List ℕ) (block : Block) (first : blocks_of left ≡ block ∷ blocks_of less) where
     pub heard_more : (new : LiveUnits) (z : Option (List ℕ)) (b : Bool) (heard' others' : ℕ) → rest_of less ≡ rest_of left
-        → OfLive now v (λ s start came. LiveStands s start z new (with_came s (to_unit block.unit (Heard block)) came)) → OfLive now v (λ s start came. b ≡ has_unit s block.unit) → AllWait now new → new.number ≤ now.number + 1
+        → OfLive now v (λ s start came. LiveStands s start z new (with_came s (to_unit block.unit (Heard block)) came)) → OfLive now v (λ s start came. HasGrown v z) → OfLive now v (λ s start came. b ≡ has_unit s block.unit) → AllWait now new → new.number ≤ now.number + 1
         → heard' ≡ heard + cond b 1 0 → others' ≡ others + cond b 0 1 → cond b 1 0 + cond b 0 1 ≡ 1 → HeardTo old new w z bytes less heard' others'
-    heard_more new z b heard' others' rest stands is waits number one other both = record {
+    heard_more new z b heard' others' rest stands grows is waits number one other both = record {
       done = so.done ++ block ∷ [];
       walked = walked_more bytes left less so.done block so.walked first rest;
       stand = λ s start came st. subst (LiveStands s start z new) (sym (with_rest s so.done (block ∷ []) came)) (stands s start (with_blocks s so.done came) (so.stand s start came st));
+      grown = λ s start came st. grown_more w v z (so.grown s start came st) (grows s start (with_blocks s so.done came) (so.stand s start came st));
       heard_is = λ s start came st.
           let ours = is s start (with_blocks s so.done came) (so.stand s start came st) in
           one ∙ ap (λ (n : ℕ). n + cond b 1 0) (so.heard_is s start came st) ∙ sym (one_heard s so.done block b ours);
@@ -157,6 +161,9 @@ module _ (old now : LiveUnits) (w v : Option (List ℕ)) (bytes left : List ℕ)
       subst (λ (blocks : List Block). PutsSome start z (live_lines s (with_blocks s blocks came))) so.walked.blocks
       (subst (λ (all : List UnitCame). PutsSome start z (live_lines s all)) (sym (with_rest s so.done (blocks_of left) came))
       (puts_blocks s start z (blocks_of left) (with_blocks s so.done came) (fails s start (with_blocks s so.done came) (so.stand s start came st))))
+
+  pub heard_grown : (z : Option (List ℕ)) → OfLive now v (λ s start came. HasGrown v z) → OfLive old w (λ s start came. HasGrown w z)
+  heard_grown z grows s start came st = grown_more w v z (so.grown s start came st) (grows s start (with_blocks s so.done came) (so.stand s start came st))
 
   -- none is left
   module _ (none : blocks_of left ≡ []) where

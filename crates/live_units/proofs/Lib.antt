@@ -4,6 +4,7 @@ pub mod Books
 pub mod Ending
 pub mod Ends
 pub mod Following
+pub mod Growing
 pub mod Hearing
 pub mod Listening
 pub mod Losing

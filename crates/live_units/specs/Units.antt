@@ -36,6 +36,11 @@ abbrev pub OfLive : LiveUnits → Option (List ℕ)
 OfLive l now P = (s : LiveSetup) (start : Option (List ℕ)) (came : List UnitCame)
     → LiveStands s start now l came → P s start came
 
+-- ---- What was written
+-- more than before, or as much
+abbrev pub HasGrown : Option (List ℕ) → Option (List ℕ) → Type 0
+HasGrown old new = (added : List ℕ) × Grows old new added
+
 -- ---- What waits
 -- for a session of a unit; nothing where the unit is not listened to
 abbrev pub waiting_at : LiveUnits → ℕ → Session → List ℕ

@@ -16,7 +16,7 @@ ghost use Rattle.live_units.specs.Ended.{has_ended};
 ghost use Rattle.live_units.specs.Places.{IsNewAt, IsUnitAt};
 ghost use Rattle.live_units.specs.Units.{AreBooksTo, BeginBooks, OfLive, LiveStands, LiveEnds};
 ghost use Rattle.live_units.specs.Units.{AllWait, PassesAt, StayAll, LosesAt, TakesBytes, SendsAt};
-ghost use Rattle.live_units.specs.Units.{NoneWaitAtAll, waiting_at};
+ghost use Rattle.live_units.specs.Units.{HasGrown, NoneWaitAtAll, waiting_at};
 
 use crate::error::LiveError;
 use crate::place::{
@@ -129,6 +129,8 @@ impl LiveUnits {
         ensures err { OnErr result (OfLive self.old (O.written out.old) (λ s start came.
             PutsSome start (O.written out.new) (live_lines s came))) }
         ensures cause { CountsFault O.faults out.old out.new (result ≡ Err LiveError.Write) }
+        ensures grows { OfLive self.old (O.written out.old) (λ s start came.
+            HasGrown (O.written out.old) (O.written out.new)) }
         ensures number { OnOk result (self.new.number ≤ self.old.number + 1) }
         ensures heartbeat { block.now.raws ≡ [] → self.old.number + 1 < 2 ^ 64
             → result ≢ Err LiveError.OutOfMemory }
@@ -163,6 +165,8 @@ impl LiveUnits {
         ensures err { OnErr result (OfLive self.old (O.written out.old) (λ s start came.
             PutsSome start (O.written out.new) (live_lines s (with_datagram s bytes.now came)))) }
         ensures cause { CountsFault O.faults out.old out.new (result ≡ Err LiveError.Write) }
+        ensures grows { OfLive self.old (O.written out.old) (λ s start came.
+            HasGrown (O.written out.old) (O.written out.new)) }
         ensures heartbeats { OfLive self.old (O.written out.old) (λ s start came.
             HasBeatsAlone bytes.now came → result ≢ Err LiveError.OutOfMemory) }
     {
@@ -206,6 +210,8 @@ impl LiveUnits {
     ) -> Result<Taken, PutFailed>
         ensures takes { TakesBytes unit session piece.now self.old self.new
             (O.written out.old) (O.written out.new) result }
+        ensures grows { OfLive self.old (O.written out.old) (λ s start came.
+            HasGrown (O.written out.old) (O.written out.new)) }
         ensures none { IfOk result (λ taken. OfLive self.old (O.written out.old)
             (λ s start came. stands_at s unit session came ≡ false → taken ≡ Taken.Whole)) }
         ensures cause { CountsFault O.faults out.old out.new (IsErr result) }
@@ -286,6 +292,8 @@ impl LiveUnits {
             LiveStands s start (O.written out.new) self.new came)) }
         ensures written { OnOk result (OfLive self.old (O.written out.old) (λ s start came.
             Grows start (O.written out.new) (live_lines s came))) }
+        ensures grows { OfLive self.old (O.written out.old) (λ s start came.
+            HasGrown (O.written out.old) (O.written out.new)) }
         ensures waits { AllWait self.old self.new }
         ensures err { OnErr result (OfLive self.old (O.written out.old) (λ s start came.
             PutsSome start (O.written out.new) (live_lines s came))) }
@@ -300,6 +308,8 @@ impl LiveUnits {
         // Whatever came, the whole text was written, or a prefix of it, as the answer says.
         ensures ends { OfLive self.old (O.written out.old) (λ s start came.
             LiveEnds s came start (O.written out.new) result) }
+        ensures grows { OfLive self.old (O.written out.old) (λ s start came.
+            HasGrown (O.written out.old) (O.written out.new)) }
         ensures cause { CountsFault O.faults out.old out.new (result ≡ Err LiveError.Write) }
     {
         print_books(alloc, self.units.places(), &mut self.page, out)?;

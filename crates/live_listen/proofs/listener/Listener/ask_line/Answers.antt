@@ -8,7 +8,7 @@ use Rattle.live_listen.specs.Standing.{IsNext, devices}
 use Rattle.live_listen.specs.declared.place.Place.{Place}
 use Rattle.live_listen.proofs.Ending.{ends_unprinted, ends_unflushed, ends_cut_off, steps_same}
 use Rattle.live_listen.proofs.Placing.{asked_due}
-use Rattle.live_listen.proofs.Standing.{stands_at, stands_datagram, stands_same, prints_page}
+use Rattle.live_listen.proofs.Standing.{shown_on, stands_at, stands_datagram, stands_same, prints_page}
 use Rattle.live_listen.proofs.listener.Listener.ask_line.Goals as goal
 
 pub returns-in_err-hear_datagram-in-Got-clause-steps : goal.returns-in_err-hear_datagram-in-Got-clause-steps
@@ -45,7 +45,7 @@ returns-in-Quiet-clause-steps g c = λ start run st next.
     record {
       run = Receive c.args.line room [] received.Quiet ∷ run;
       stands = stands_same s start (devices (g.N.LineNet.calls c.args.net.now) w) (devices (g.N.LineNet.calls c.receive.new.self) w) c.args.self.now run st c.args.self.now.printer _
-          (Receive c.args.line room [] received.Quiet) refl c.in-Quiet.ensures.calls due (prints_no_block c.args.self.now.printer w);
+          (Receive c.args.line room [] received.Quiet) refl c.in-Quiet.ensures.calls due (prints_no_block c.args.self.now.printer w) st.shown;
       next = subst (λ (n : ℕ). IsNext n c.after_quiet-self.result (Receive c.args.line room [] received.Quiet ∷ run)) c.lines-in-Quiet.ensures
           (c.after_quiet-self.ensures.next run room (subst (λ (n : ℕ). IsNext n c.args.self.now.place run) (sym c.lines-in-Quiet.ensures) next));
     }
@@ -60,7 +60,7 @@ returns-in_err-flush-in-Failed-clause-steps g c = λ start run st next.
     let due = asked_due s.lines c.args.line room l.place run next c.requires.asked c.requires.room in
     let call : LineCall = Receive c.args.line room [] received.Failed in
     steps_same s c.from_residual-in_err-flush-in-Failed.result _ start (devices (g.N.LineNet.calls c.receive.new.self) (g.O.Sink.written c.flush.new.out)) _ c.from_residual-in_err-flush-in-Failed.ensures
-    (ends_unflushed s start v l (call ∷ run) (stands_same s start (devices (g.N.LineNet.calls c.args.net.now) w) v l run st l.printer l.place call refl c.in-Failed.ensures.calls due (prints_no_block l.printer w))
+    (ends_unflushed s start v l (call ∷ run) (stands_same s start (devices (g.N.LineNet.calls c.args.net.now) w) v l run st l.printer l.place call refl c.in-Failed.ensures.calls due (prints_no_block l.printer w) st.shown)
     (devices (g.N.LineNet.calls c.receive.new.self) (g.O.Sink.written c.flush.new.out)) Write refl c.in_err-flush-in-Failed.ensures.err)
 
 pub returns-in_ok-flush-in-Failed-clause-steps : goal.returns-in_ok-flush-in-Failed-clause-steps
@@ -73,5 +73,6 @@ returns-in_ok-flush-in-Failed-clause-steps g c = λ start run st next.
     let due = asked_due s.lines c.args.line room l.place run next c.requires.asked c.requires.room in
     let call : LineCall = Receive c.args.line room [] received.Failed in
     let page = prints_page l.printer c.flush.new.self w (g.O.Sink.written c.flush.new.out) c.in_ok-flush-in-Failed.ensures.ok c.in_ok-flush-in-Failed.ensures.empty in
-    ends_cut_off s start v _ (call ∷ run) (stands_same s start (devices (g.N.LineNet.calls c.args.net.now) w) v l run st _ l.place call refl c.in-Failed.ensures.calls due page)
+    ends_cut_off s start v _ (call ∷ run) (stands_same s start (devices (g.N.LineNet.calls c.args.net.now) w) v l run st _ l.place call refl c.in-Failed.ensures.calls due page
+    (shown_on s start (devices (g.N.LineNet.calls c.args.net.now) w) v l run st _ [] page))
     (ap (λ (q : Page). q.text) c.in_ok-flush-in-Failed.ensures.empty) tt

@@ -6,6 +6,7 @@ use Rattle.live_units.specs.Coming.{to_unit, with_came}
 use Rattle.sending_end.specs.Waiting.{ended}
 use Rattle.live_recovery.specs.Standing.{devices}
 use Rattle.live_recovery.specs.declared.recovering.Recovering.{Recovering}
+use Rattle.live_units.proofs.Growing.{grown_none}
 use Rattle.live_recovery.proofs.Bringing.{ends_comes}
 use Rattle.live_recovery.proofs.Going.{goes_on, goes_still}
 use Rattle.live_recovery.proofs.recovering.Recovering.close_peer.Goals as goal
@@ -21,4 +22,4 @@ returns-clause-goes g c = λ start w about.
     let call : LiveCall = Close c.args.at in
     let cut = ends_comes s c.args.at peer (sym c.in-Some.ensures) r.units c.end_peer.new.self.units start.written w about.came about.stands.units c.end_peer.ensures.units in
     goes_on s start (devices (g.N.LiveNet.calls c.args.net.now) w) r (to.Close c.args.at) about call refl (devices (g.N.LiveNet.calls c.close.new.self) w) c.end_peer.new.self
-    (with_came s.listens (to_unit peer.unit (ended peer.session)) about.came) c.close.ensures.calls cut.1 cut.0 c.end_peer.ensures.counts tt c.end_peer.ensures.copies (c.end_peer.ensures.turns call (eq-eqb c.args.at c.args.at refl))
+    (with_came s.listens (to_unit peer.unit (ended peer.session)) about.came) c.close.ensures.calls cut.1 cut.0 c.end_peer.ensures.counts (grown_none w) tt c.end_peer.ensures.copies (c.end_peer.ensures.turns call (eq-eqb c.args.at c.args.at refl))

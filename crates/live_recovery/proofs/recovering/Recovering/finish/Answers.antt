@@ -8,10 +8,10 @@ returns-in_err-finish-clause-ends g c = λ s start calls end.
     let u = devices calls (g.O.Sink.written c.args.out.now) in
     let v = devices calls (g.O.Sink.written c.finish.new.out) in
     ends_same s c.from_residual.result _ start.calls calls start.written (g.O.Sink.written c.finish.new.out) c.from_residual.ensures
-    (ends_unbooked s start u c.args.self.now end v refl c.in_err-finish.field-0.0 (c.in_err-finish.ensures.ends s.listens start.written end.came end.stands.units))
+    (ends_unbooked s start u c.args.self.now end v refl (c.finish.ensures.grows s.listens start.written end.came end.stands.units) c.in_err-finish.field-0.0 (c.in_err-finish.ensures.ends s.listens start.written end.came end.stands.units))
 
 pub returns-clause-ends : goal.returns-clause-ends
 returns-clause-ends g c = λ s start calls end.
     let u = devices calls (g.O.Sink.written c.args.out.now) in
     let v = devices calls (g.O.Sink.written c.finish.new.out) in
-    ends_done s start u c.args.self.now end v refl (c.in_ok-finish.ensures.ends s.listens start.written end.came end.stands.units)
+    ends_done s start u c.args.self.now end v refl (c.finish.ensures.grows s.listens start.written end.came end.stands.units) (c.in_ok-finish.ensures.ends s.listens start.written end.came end.stands.units)

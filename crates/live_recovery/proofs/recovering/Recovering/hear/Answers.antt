@@ -5,6 +5,7 @@ use Rattle.live_units.specs.Coming.{live_lines, with_datagram}
 use Rattle.live_recovery.specs.declared.error.RecoverError.{RecoverError}
 use Rattle.live_recovery.specs.declared.error.RecoverError.TheVariants as errors
 use Rattle.live_recovery.specs.declared.recovering.Recovering.{Recovering}
+use Rattle.live_units.proofs.Growing.{grown_none}
 use Rattle.live_recovery.proofs.Ending.{FailsAt, fails_at, leaves_prefix, puts_printed, puts_still}
 use Rattle.live_recovery.proofs.recovering.Recovering.hear.Goals as goal
 
@@ -55,3 +56,6 @@ returns-clause-hears g c = record {
   counts = λ s start came st. c.in_ok-self.ensures s (c.in_ok-passed.ensures.counts s start came st);
   turns = refl;
 }
+
+pub returns-in_err-disagreement-clause-grows : goal.returns-in_err-disagreement-clause-grows
+returns-in_err-disagreement-clause-grows g c = λ s start came st. grown_none (g.O.Sink.written c.args.out.now)

@@ -4,6 +4,7 @@ use Rattle.stream_print.specs.Putting.{PutsSome}
 use Rattle.stream_print.proofs.Printing.{puts_after}
 use Rattle.live_units.specs.Coming.{live_lines}
 use Rattle.live_units.specs.Units.{OfLive}
+use Rattle.live_units.proofs.Growing.{grown_hears, grown_none, grown_puts}
 use Rattle.live_units.proofs.Hearing.{not_memory}
 use Rattle.live_units.proofs.Taking.{hears_at, hears_wait, there_is}
 use Rattle.live_units.proofs.units.LiveUnits.hear_block.Goals as goal
@@ -49,3 +50,19 @@ returns-else-heard-clause-waits g c =
 
 pub returns-else-heard-clause-there : goal.returns-else-heard-clause-there
 returns-else-heard-clause-there g c = λ s start came st. c.in_ok-heard.ensures.there ∙ there_is s came c.args.block.now.unit c.place_of.result.now (st.units_are.each c.args.block.now.unit c.place_of.result.now c.place_of.ensures.there)
+
+pub returns-in_default-clause-grows : goal.returns-in_default-clause-grows
+returns-in_default-clause-grows g c = λ s start came st. grown_none (g.O.Sink.written c.args.out.now)
+
+pub returns-in_err-heard-clause-grows : goal.returns-in_err-heard-clause-grows
+returns-in_err-heard-clause-grows g c = λ s start came st. grown_puts (g.O.Sink.written c.args.out.now) (g.O.Sink.written c.hear_at.new.out) c.args.self.now.page.text c.in_err-heard.ensures.err
+
+pub returns-then-heard-clause-grows : goal.returns-then-heard-clause-grows
+returns-then-heard-clause-grows g c = λ s start came st.
+    grown_hears s came c.args.block.now.unit (g.O.Sink.written c.args.out.now) (g.O.Sink.written c.hear_at.new.out) c.args.self.now.page.text c.hear_at.new.page.text c.in-Some.number c.args.block.now c.place_of.result.now c.hear_at.new.place
+    (st.units_are.each c.args.block.now.unit c.place_of.result.now c.place_of.ensures.there) c.in_ok-heard.ensures.hears
+
+pub returns-else-heard-clause-grows : goal.returns-else-heard-clause-grows
+returns-else-heard-clause-grows g c = λ s start came st.
+    grown_hears s came c.args.block.now.unit (g.O.Sink.written c.args.out.now) (g.O.Sink.written c.hear_at.new.out) c.args.self.now.page.text c.hear_at.new.page.text c.in-Some.number c.args.block.now c.place_of.result.now c.hear_at.new.place
+    (st.units_are.each c.args.block.now.unit c.place_of.result.now c.place_of.ensures.there) c.in_ok-heard.ensures.hears

@@ -4,7 +4,7 @@ use Rattle.unit_packets.specs.Cutting.{rest_of}
 use Rattle.stream_print.specs.Putting.{PutsSome}
 use Rattle.live_units.specs.Coming.{has_unit, live_lines, with_datagram}
 use Rattle.live_units.specs.Units.{OfLive}
-use Rattle.live_units.proofs.Hearing.{heard_all, heard_beat, heard_begun, heard_few, heard_more, heard_none, counted_all, not_memory}
+use Rattle.live_units.proofs.Hearing.{heard_all, heard_beat, heard_begun, heard_few, heard_grown, heard_more, heard_none, counted_all, not_memory}
 use Rattle.live_units.proofs.units.LiveUnits.hear_datagram.Goals as goal
 
 pub next-init : goal.next-init
@@ -26,7 +26,7 @@ next-preserved-then-branch g c =
     let cause = c.hear_block.ensures.cause.later in
     record {
       heard = heard_more _ _ _ _ _ _ _ _ c.next.invariant.heard c.next_block.new.self c.in-Some.block c.in-Some.ensures.blocks c.hear_block.new.self (g.O.Sink.written c.hear_block.new.out) true _ _ c.in-Some.ensures.rest
-          c.in_ok-hear_block.ensures.hears
+          c.in_ok-hear_block.ensures.hears c.hear_block.ensures.grows
           (subst (λ (b : Bool). OfLive c.next.self (g.O.Sink.written c.next.out) (λ s start came. b ≡ has_unit s c.in-Some.block.unit)) c.if-branch.true c.in_ok-hear_block.ensures.there)
           c.in_ok-hear_block.ensures.waits c.in_ok-hear_block.ensures.number (omega arith) (omega arith) refl;
       later = omega arith;
@@ -38,7 +38,7 @@ next-preserved g c =
     let cause = c.hear_block.ensures.cause.later in
     record {
       heard = heard_more _ _ _ _ _ _ _ _ c.next.invariant.heard c.next_block.new.self c.in-Some.block c.in-Some.ensures.blocks c.hear_block.new.self (g.O.Sink.written c.hear_block.new.out) false _ _ c.in-Some.ensures.rest
-          c.in_ok-hear_block.ensures.hears
+          c.in_ok-hear_block.ensures.hears c.hear_block.ensures.grows
           (subst (λ (b : Bool). OfLive c.next.self (g.O.Sink.written c.next.out) (λ s start came. b ≡ has_unit s c.in-Some.block.unit)) c.if-branch.false c.in_ok-hear_block.ensures.there)
           c.in_ok-hear_block.ensures.waits c.in_ok-hear_block.ensures.number (omega arith) (omega arith) refl;
       later = omega arith;
@@ -67,3 +67,9 @@ pub returns-clause-counts : goal.returns-clause-counts
 returns-clause-counts g c =
     let rest : c.rest.result.now ≡ rest_of c.args.bytes.now = c.rest.ensures ∙ c.in_default.ensures.rest ∙ c.next.invariant.heard.walked.rest in
     counted_all _ _ _ _ _ _ _ _ c.next.invariant.heard c.in_default.ensures.blocks.0 _ (ap length rest)
+
+pub returns-in_err-hear_block-clause-grows : goal.returns-in_err-hear_block-clause-grows
+returns-in_err-hear_block-clause-grows g c = heard_grown _ _ _ _ _ _ _ _ c.next.invariant.heard (g.O.Sink.written c.hear_block.new.out) c.hear_block.ensures.grows
+
+pub returns-clause-grows : goal.returns-clause-grows
+returns-clause-grows g c = c.next.invariant.heard.grown
