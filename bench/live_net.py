@@ -1,7 +1,7 @@
 #!/usr/bin/env python3
 """Runs `pitch_live listen` against a venue that answers, over a net that loses, on 127.0.0.1.
 
-    bench/live_net.py LIVE PROGRAM [--numbers N] [--first F] [--units U] [--steps M] [--rate R]
+    bench/live_net.py LIVE PROGRAM [--numbers N] [--first F] [--units U] [--steps M] [--rate R] [--serve]
 
 LIVE is the path of the built `pitch_live`, PROGRAM that of `pitch`. In each of N runs (3), numbered
 from F (1), examples/live/venue.py sends the feed of the units 1 to U (8), each with the first M
@@ -27,11 +27,13 @@ import threading
 import time
 
 import live_lines
+import live_serve
 from live_lines import HOST, PATIENCE, Stuck, books_of, datagrams_of, followed, noise
 
 LIVE_FOLDER = os.path.join(live_lines.HERE, '..', 'examples', 'live')
 LATE = 0.7
 SENDERS = 64
+ACCOUNT = '--sub 0001 --user FEED --password PITCH'.split()
 HARM = '--lost 20 --repeated 20 --swapped 20 --spoiled 5 --cut 3'.split()
 
 
@@ -63,11 +65,17 @@ class Ports:
         self.venue = dict(zip(names, some))
         self.listener = dict(zip(names, some[len(names):]))
 
-    def words(self, ports):
-        """The words that name these ports, which the venue and the listener have alike."""
+    def words(self, ports, line_units=()):
+        """The words that name these ports, which the venue and the listener have alike. `serve` wants
+        each line once for each unit."""
         words = []
         for name, port in ports.items():
-            words += ['--' + name, f'{HOST}:{port}'] if isinstance(name, str) else ['--' + name[0], f'{name[1]}@{HOST}:{port}']
+            if not isinstance(name, str):
+                words += ['--' + name[0], f'{name[1]}@{HOST}:{port}']
+            elif line_units:
+                words += [word for unit in line_units for word in ('--' + name, f'{unit}@{HOST}:{port}')]
+            else:
+                words += ['--' + name, f'{HOST}:{port}']
         return words
 
     def relays(self):
@@ -138,30 +146,68 @@ def are_told(said, units):
     return all('up' in it for it in told.values())
 
 
-def run_once(given, number, folder):
-    units, dice = range(1, given.units + 1), random.Random(number)
-    datagrams = [it for it in datagrams_of(given.program, number, given.steps, dice) if it]
-    feed = os.path.join(folder, 'feed')
-    with open(feed, 'wb') as file:
-        file.write(b''.join(datagrams))
-    ports, started = Ports(units), []
+class Sent:
+    """A venue that sends a feed and answers by examples/live/venue.py, and the books of its feed."""
 
-    def start(name, *words, out=subprocess.DEVNULL):
-        started.append(subprocess.Popen([sys.executable, os.path.join(LIVE_FOLDER, name), *words], stdout=out, text=True))
-        return started[-1]
+    def __init__(self, given, number, folder):
+        dice = random.Random(number)
+        self.given, self.units = given, range(1, given.units + 1)
+        datagrams = [it for it in datagrams_of(given.program, number, given.steps, dice) if it]
+        self.feed = os.path.join(folder, 'feed')
+        with open(self.feed, 'wb') as file:
+            file.write(b''.join(datagrams))
+        self.right = books_of(followed(given.program, datagrams))
+
+    def start(self, ports):
+        words = [self.given.program, self.feed, *ports.words(ports.venue), '--rate', str(self.given.rate), '--kept', str(self.given.steps // 3)]
+        return subprocess.Popen([sys.executable, os.path.join(LIVE_FOLDER, 'venue.py'), *words], stdout=subprocess.DEVNULL)
+
+
+class Served:
+    """A venue that is `pitch_live serve`, and the books of its commands."""
+
+    def __init__(self, given, number, folder):
+        self.given, self.units = given, range(1, random.Random(number).randint(1, given.units) + 1)
+        commands = {unit: live_serve.commands_of(random.Random(number * 256 + unit), given.steps) for unit in self.units}
+        self.lines = [b'%d %s\n' % (unit, commands[unit][at].encode()) for at in range(given.steps) for unit in self.units]
+        self.right = ''.join(live_serve.book_of(given.program, unit, commands[unit]) for unit in self.units).encode()
+
+    def start(self, ports):
+        words = ports.words(ports.venue, self.units) + ACCOUNT + ['--kept', str(self.given.steps // 3)]
+        # A second's allowance is one account's at a proxy, and no unit has to wait for another minute.
+        process = subprocess.Popen([self.given.live, 'serve', *words, '--minute', '9000'], stdin=subprocess.PIPE)
+        threading.Thread(target=self.say, args=(process,), daemon=True).start()
+        return process
+
+    def say(self, process):
+        """Each command is a piece of its own, and so a datagram of its own."""
+        try:
+            for line in self.lines:
+                process.stdin.write(line)
+                process.stdin.flush()
+                time.sleep(1 / self.given.rate)
+        except OSError:
+            pass
+
+
+def run_once(given, number, folder):
+    venue = (Served if given.serve else Sent)(given, number, folder)
+    units, right = venue.units, venue.right
+    ports, started = Ports(units), []
 
     begun, listener, noisy = time.monotonic(), None, None
     try:
-        relay = start('relay.py', *ports.relays(), '--seed', str(number), *HARM, out=subprocess.PIPE)
-        start('venue.py', given.program, feed, *ports.words(ports.venue), '--rate', str(given.rate), '--kept', str(given.steps // 3))
+        relay = subprocess.Popen([sys.executable, os.path.join(LIVE_FOLDER, 'relay.py'), *ports.relays(), '--seed', str(number), *HARM],
+                                 stdout=subprocess.PIPE, text=True)
+        started.append(relay)
+        started.append(venue.start(ports))
         time.sleep(LATE)
-        listener = Listener(given.live, ports.words(ports.listener) + '--sub 0001 --user FEED --password PITCH'.split())
+        listener = Listener(given.live, ports.words(ports.listener) + ACCOUNT)
         noisy = Noise([ports.listener[it] for it in ('a', 'b', 'gap')], number)
         listener.wait_until_current(units, given.steps)
         took = time.monotonic() - begun
         status, text, said = listener.end()
         relay.terminate()
-        right = books_of(followed(given.program, datagrams))
         is_so = status == 0 and right and books_of(text) == right and are_told(said[:-2], units)
         return is_so, f'{took:.1f} s, {listener.images} images; {said[-2]}; relay: {relay.communicate()[0].strip()}'
     finally:
@@ -180,6 +226,7 @@ def main():
     words.add_argument('program')
     for name, default in (('--numbers', 3), ('--first', 1), ('--units', 8), ('--steps', 300), ('--rate', 150)):
         words.add_argument(name, type=int, default=default)
+    words.add_argument('--serve', action='store_true')
     given = words.parse_args()
     live_lines.UNITS = range(1, given.units + 1)
     passed, failed = 0, 0
