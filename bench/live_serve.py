@@ -7,8 +7,9 @@ LIVE is the built `pitch_live`, and PROGRAM the built `pitch`. For each of N (1)
 units gets commands made from the number, cut into pieces anywhere. Beside it stand: examples/live/
 handler.py, which drops every third datagram; a `pitch_live listen` that starts once half is sent, and
 so needs an image; and 20 clients that send random bytes, never read, or log in wrongly. The books of
-both are those that `pitch pack | pitch follow` makes of the commands. Then it is tried what ends a
-venue: a command that is refused, a unit that is not served, words that are no line, a port in use.
+both are those that `pitch pack | pitch follow` makes of the commands. Then it is tried that who comes
+to a door with 64 clients is closed, and what ends a venue: a command that is refused, a unit that is
+not served, words that are no line, a port in use.
 The last line is `N passed, M failed`.
 """
 import argparse
@@ -204,6 +205,49 @@ def ends(live):
     return faults
 
 
+def has_ended(wire, seconds):
+    """Whether the other end closes a connection within so many seconds."""
+    until = time.monotonic() + seconds
+    while (left := until - time.monotonic()) > 0:
+        wire.settimeout(left)
+        try:
+            if not wire.recv(4096):
+                return True
+        except TimeoutError:
+            return False
+        except OSError:
+            return True
+    return False
+
+
+def crowd(live):
+    """At each door of a unit: of 70 clients the first 64 stay, and once one of them has left another does."""
+    faults = []
+    venue = Venue(live, 1)
+    time.sleep(0.3)
+    for name in ('grp', 'spin'):
+        host, port = venue.at[UNITS[0]][name].rsplit(':', 1)
+        door = (host, int(port))
+        first = [socket.create_connection(door, timeout=2) for _ in range(64)]
+        time.sleep(0.3)
+        others = [socket.create_connection(door, timeout=2) for _ in range(6)]
+        if not all(has_ended(wire, 1.5) for wire in others):
+            faults.append('%s: a client beyond the 64th stays' % name)
+        if any(has_ended(wire, 0.005) for wire in first):
+            faults.append('%s: one of the first 64 is closed' % name)
+        first.pop().close()
+        time.sleep(0.3)
+        first.append(socket.create_connection(door, timeout=2))
+        if has_ended(first[-1], 0.3):
+            faults.append('%s: a free place is not given' % name)
+        for wire in first + others:
+            wire.close()
+    venue.process.stdin.close()
+    venue.process.stdin = None
+    status, said = venue.end()
+    return faults if status == 0 else faults + ['crowd: the venue ended with %d: %s' % (status, said)]
+
+
 def main():
     words = argparse.ArgumentParser(description=__doc__, formatter_class=argparse.RawDescriptionHelpFormatter)
     words.add_argument('LIVE')
@@ -212,7 +256,7 @@ def main():
     given = words.parse_args()
     live, program = os.path.abspath(given.LIVE), os.path.abspath(given.PROGRAM)
     passed = failed = 0
-    tried = [lambda: ends(live), lambda: handled(live, program, 1)]
+    tried = [lambda: ends(live), lambda: crowd(live), lambda: handled(live, program, 1)]
     tried += [lambda number=number: run(live, program, number) for number in range(1, given.numbers + 1)]
     for act in tried:
         faults = act()

@@ -1,5 +1,6 @@
 //! The doors to which clients come.
 
+use crate::places::Places;
 use crate::tokens::door_token;
 use crate::trouble::VenueTrouble;
 use line_sockets::{MOST_TRIES, take_low};
@@ -9,6 +10,9 @@ use std::alloc::{AllocError, Global};
 use std::io::ErrorKind;
 use std::net::SocketAddr;
 use std::{io, net};
+
+// How many clients a door turns away before each wait, at most.
+const MOST_TURNED_AWAY: u32 = 64;
 
 // A door. The system is asked for a client only where the wait told of one, and then until none
 // waits.
@@ -77,6 +81,16 @@ impl Door {
             }
         }
     }
+
+    // Closes the connections of those who wait. Of more than so many the others wait on.
+    fn turn_away<R: net::Net>(&mut self, rt: &R) {
+        for _ in 0..MOST_TURNED_AWAY {
+            match self.accept(rt) {
+                Some(stream) => drop(stream),
+                None => return,
+            }
+        }
+    }
 }
 
 // Opens a door, where there is an address for it.
@@ -128,6 +142,18 @@ impl Doors {
         for door in self.doors.iter_mut() {
             if let Some(door) = door {
                 door.try_again();
+            }
+        }
+    }
+
+    /// Closes the connections of those who wait at a door that has no free place, so that they
+    /// learn of it: of 64 at each door, at most.
+    pub(crate) fn turn_away<R: net::Net>(&mut self, rt: &R, places: &Places) {
+        for (number, door) in self.doors.iter_mut().enumerate() {
+            if let Some(door) = door {
+                if door.may_have && !places.has_free(number) {
+                    door.turn_away(rt);
+                }
             }
         }
     }

@@ -156,6 +156,13 @@ impl Places {
         Ok(Places { places })
     }
 
+    /// Whether a place of a door is free.
+    pub(crate) fn has_free(&self, door: usize) -> bool {
+        self.places
+            .iter()
+            .any(|place| place.door == door && place.client.is_none())
+    }
+
     /// The wait told of the client at a place.
     #[tactic(auto, using(crate::proofs::Standing::kept))]
     pub(crate) fn tell(&mut self, place: usize, event: &Event)
