@@ -6,11 +6,13 @@ ghost use Rattle.std.specs.List.{AllByRecursion};
 ghost use Rattle.pitch_fields.specs.Limits.{most_held};
 ghost use Rattle.unit_packets.specs.Packing.{bytes_in};
 ghost use Rattle.heard_items.specs.Datagrams.{IsPiece};
+ghost use Rattle.pitch_model.specs.Book.{book_after};
 ghost use Rattle.venue_core.specs.Refusals.{refusal, IsAnswer};
 
 use crate::setup::VenueSetup;
 use crate::table::SessionTable;
 use grp_session::{GapBudget, GrpServer};
+use order_book::UnitBook;
 use pitch_fields::OutOfMemory;
 use pitch_text::Command;
 use session_ends::{Account, Closed};
@@ -68,6 +70,21 @@ impl VenueEnd {
         ensures { OfVenue self.now (λ s before. result ≡ s.unit) }
     {
         self.setup.unit
+    }
+
+    /// How many messages were accepted.
+    pub fn count(&self) -> u32
+        ensures { OfVenue self.now (λ s before. result ≡ length (venue_after s before).messages) }
+    {
+        self.market.count()
+    }
+
+    /// The book that the accepted messages leave.
+    pub fn book(&self) -> &UnitBook
+        ensures { OfVenue self.now
+            (λ s before. result.now.book ≡ book_after (venue_after s before).messages) }
+    {
+        self.market.book()
     }
 
     /// A command comes. The answer is the sequence of its message, or why it is refused. After a

@@ -13,7 +13,7 @@ use Rattle.venue_end.specs.declared.setup.VenueSetup.{VenueSetup}
 use Rattle.venue_end.specs.declared.venue.VenueEnd.{VenueEnd}
 use Rattle.venue_units.specs.Coming.{UnitCame, came_to, to_unit}
 use Rattle.venue_units.specs.Places.{seen_of}
-use Rattle.venue_units.specs.Units.{Comes, ComesAndCuts, IfNoUnit, OfUnit, OfUnits, StandStill, UnitsStand}
+use Rattle.venue_units.specs.Units.{Comes, ComesAndCuts, IfNoUnit, IsEndOf, OfUnit, OfUnits, StandStill, UnitsStand}
 use Rattle.venue_units.specs.declared.units.VenueUnits.{VenueUnits}
 
 -- ---- All that came to one end
@@ -103,6 +103,12 @@ module _ (u : VenueUnits) (at unit : ℕ) (names : at ≡ unit) (e : VenueEnd) (
     | inr (le, none) ↦ let many = st.many in absurd (omega (arith, le, many, names, within))
   ]
 
+  pub end_there : OfUnits u (λ s all. IsEndOf (slice_get s unit) (came_to unit all) (Some e))
+  end_there s all st = elim (slice_get_cases s unit).1 [
+    | inl (setup, lt, is, same) ↦ subst (λ (o : Option VenueSetup). IsEndOf o (came_to unit all) (Some e)) (sym is) (stood s all setup st is)
+    | inr (le, none) ↦ let many = st.many in absurd (omega (arith, le, many, names, within))
+  ]
+
   pub not_none : (P : Type 0) → IfNoUnit u unit P
   not_none P s all st none = elim (slice_get_cases s unit).1 [
     | inl (setup, lt, is, same) ↦ absurd (none-some setup (sym none ∙ is))
@@ -131,3 +137,6 @@ module _ (u : VenueUnits) (at unit : ℕ) (names : at ≡ unit) (past : length u
 
   pub unit_none : OfUnits u (λ s all. None ≡ option_map (λ setup. setup.unit) (slice_get s unit))
   unit_none s all st = ap (option_map (λ (made : VenueSetup). made.unit)) (sym (setup_none s all st))
+
+  pub end_none : OfUnits u (λ s all. IsEndOf (slice_get s unit) (came_to unit all) None)
+  end_none s all st = subst (λ (o : Option VenueSetup). IsEndOf o (came_to unit all) None) (sym (setup_none s all st)) refl

@@ -1,5 +1,5 @@
 -- The ends of all units of a venue, and what came to them.
-use Rattle.std.specs.Prelude.{◌≡◌, ◌≤◌, ℕ, List, ◌∷◌, None, Some, length, slice_get}
+use Rattle.std.specs.Prelude.{◌≡◌, ◌≤◌, ℕ, List, ◌∷◌, Option, None, Some, length, slice_get}
 use Rattle.std.specs.List.{AllByRecursion}
 use Rattle.pitch_fields.specs.Limits.{most_held}
 use Rattle.venue_end.specs.Came.{VenueCame, AllCut}
@@ -18,6 +18,13 @@ pub record UnitsStand (s : List VenueSetup) (u : VenueUnits) (came : List UnitCa
   pub many : length u.ends.items ≡ length s
   pub each : (at : ℕ) (setup : VenueSetup) (end : VenueEnd) → slice_get s at ≡ Some setup
       → slice_get u.ends.items at ≡ Some end → VenueStands setup end (came_to at came)
+
+-- this is the end of a unit that was set up so, for all that came to it; there is none where there
+-- is no such unit
+abbrev pub IsEndOf : Option VenueSetup → List VenueCame → Option VenueEnd → Type 0
+IsEndOf None came end = end ≡ None
+IsEndOf (Some setup) came None = ⊥
+IsEndOf (Some setup) came (Some end) = VenueStands setup end came
 
 -- ---- In the words of their contracts
 -- P holds of the setups and all that came for which they stand

@@ -27,8 +27,8 @@ pub fn unit_of(place: u16) -> usize
     usize::from(place / UNIT_PLACES)
 }
 
-// Whether a place is at the door of a Spin Server.
-fn is_spin(place: u16) -> bool
+/// Whether a place is at the door of a Spin Server, and not at that of a proxy.
+pub fn is_spin(place: u16) -> bool
     ensures { result ≡ is_spin place }
 {
     place % UNIT_PLACES >= DOOR_PLACES

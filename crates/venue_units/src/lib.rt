@@ -12,7 +12,7 @@ mod door;
 mod laws;
 mod units;
 
-pub use crate::door::{DOOR_PLACES, UNIT_PLACES, unit_of};
+pub use crate::door::{DOOR_PLACES, UNIT_PLACES, is_spin, unit_of};
 pub use crate::laws::{cut_places_are_shut, messages_are_the_commands};
 pub use crate::units::VenueUnits;
 pub use venue_end::{Account, VenueError, VenueSetup};

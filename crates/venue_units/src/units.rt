@@ -4,7 +4,7 @@ ghost use Rattle.std.specs.Prelude.{◌≡◌, ◌≤◌, ◌+◌, ◌⊎◌, �
 ghost use Rattle.std.specs.Prelude.{IfOk, IsOk, IfSome, IfNone, Ok, length, position, slice_get};
 ghost use Rattle.std.specs.Prelude.{◌<◌, slice_index_or, true, false};
 ghost use Rattle.std.specs.List.{AllByRecursion};
-ghost use Rattle.std.specs.Option.{option_map};
+ghost use Rattle.std.specs.Option.{option_copied, option_map};
 ghost use Rattle.unit_packets.specs.Packing.{bytes_in};
 ghost use Rattle.heard_items.specs.Datagrams.{IsPiece};
 ghost use Rattle.venue_core.specs.Refusals.{refusal, IsAnswer};
@@ -28,7 +28,8 @@ impl VenueUnits {
     ghost use Rattle.venue_end.specs.Came.{Commanded, Flushed, Beaten, Advertised, Second};
     ghost use Rattle.venue_end.specs.Came.{on_lines, on_gap_line, venue_after};
     ghost use Rattle.venue_units.specs.Units.{EachKeeps, UnitsStand, OfUnits, OfUnit, IfNoUnit};
-    ghost use Rattle.venue_units.specs.Units.{Comes, ComesAndCuts, StandStill};
+    ghost use Rattle.venue_units.specs.Units.{Comes, ComesAndCuts, IsEndOf, StandStill};
+    ghost use Rattle.venue_units.specs.Coming.{came_to};
 
     /// An end for each setup, to which nothing came yet, with all memory of its store. Each proxy
     /// keeps at least 1 and at most 65,536 messages.
@@ -81,6 +82,18 @@ impl VenueUnits {
             }
         }
         None
+    }
+
+    /// The end of the unit with this index, to be looked at; None where there is none.
+    pub fn end_at(&self, at: usize) -> Option<&VenueEnd>
+        // It stands for all that came to the unit.
+        ensures { OfUnits self.now (λ s before.
+            IsEndOf (slice_get s at) (came_to at before) (option_copied result)) }
+    {
+        match self.end(at) {
+            None => None,
+            Some(end) => Some(end),
+        }
     }
 
     /// A command comes to a unit. The answer is the sequence of its message, or why it is refused;
