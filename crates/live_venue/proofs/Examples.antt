@@ -27,7 +27,7 @@ use Rattle.live_venue.specs.Sending.{gap_line, line_a, line_b, on_both, on_gap, 
 use Rattle.live_venue.specs.declared.fault.InputFault.TheVariants.{Bad, NoUnit, Refused}
 
 -- ---- Two units, with the indices 0 and 1
-abbrev made_for : ℕ → VenueSetup
+abbrev pub made_for : ℕ → VenueSetup
 made_for unit = record {
   unit = unit;
   account = record { sub = codes "0001"; user = codes "FEED"; password = codes "PITCH     " };

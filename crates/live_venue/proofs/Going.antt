@@ -170,7 +170,7 @@ module _ (s : List VenueSetup) (start calls : Option (List VenueCall)) (v : Serv
         -- by the first fault of the input, where it has one, the run ends
         pub steps_heard : (fault : Option InputFault) → fault ≡ now'.fault → (fault ≡ None → v'.reader ≡ read_through now'.text) → UnitsStand s v'.units now'.came → v'.outbox.batches.items ≡ [] → Steps s (by_fault fault) start calls'' v'
         steps_heard None is read stand empty = goes_sending (read refl) (sym is) stand empty
-        steps_heard (Some fault) is read stand empty = ends_faulty s start calls'' sent_on.longer (record now' { unsent = [] }) sent_on.is_run fault (sym is) refl
+        steps_heard (Some fault) is read stand empty = ends_faulty s start calls'' sent_on.longer (record now' { unsent = [] }) sent_on.is_run v'.units fault (sym is) refl stand
 
   -- a call that brings nothing
   pub goes_quietly : (calls' : Option (List VenueCall)) → AddsVenueCall calls calls' call → RunsOn s call about.run about.now about.now → SendsAPiece s about.now.came call → turns_of (call ∷ about.run) ≡ call ∷ turns_of about.run → (t : VenueTurns) → Passes v.turns t call

@@ -1,3 +1,4 @@
+mod ExamplesReport
 mod ExamplesSending
 pub mod Adding
 pub mod Bringing
@@ -11,5 +12,6 @@ pub mod Parts
 pub mod Outgoing
 pub mod Passing
 pub mod Reading
+pub mod Reporting
 pub mod Seeing
 pub mod Starting

@@ -1,5 +1,6 @@
 pub mod Faults
 pub mod Input
+pub mod Report
 pub mod Running
 pub mod Sending
 pub mod Serving

@@ -148,9 +148,23 @@ pub record IsAbout (s : List VenueSetup) (start calls : Option (List VenueCall))
   pub turns : TurnsStand (ways s) (ends_now s now.came) v.turns (turns_of run)
   pub next : IsNext (ways s) (ends_now s now.came) (turns_of run) v.turns.place what
 
+-- ---- At the end of a run
+-- where it was over, and where the input has a fault, the units stand for all that came to them
+abbrev pub StandAtEnd : List VenueSetup → Result (Unit {0}) ServeError → VenueUnits
+    → List UnitCame → Type 0
+StandAtEnd s (Ok done) units came = UnitsStand s units came
+StandAtEnd s (Err (Input fault)) units came = UnitsStand s units came
+StandAtEnd s answer units came = Unit {0}
+
+-- a run ended so, with these units
+pub record EndsWith (s : List VenueSetup) (result : Result (Unit {0}) ServeError)
+    (start calls : Option (List VenueCall)) (units : VenueUnits) : Type 0 where
+  pub ends : ServeEnds s result start calls
+  pub stand : StandAtEnd s result units ends.now.came
+
 -- by the answer of a step
 abbrev pub Steps : List VenueSetup → Result Bool ServeError
     → (start calls : Option (List VenueCall)) → Serving → Type 0
 Steps s (Ok true) start calls v = GoesOn s start calls v
-Steps s (Ok false) start calls v = ServeEnds s (Ok tt) start calls
-Steps s (Err error) start calls v = ServeEnds s (Err error) start calls
+Steps s (Ok false) start calls v = EndsWith s (Ok tt) start calls v.units
+Steps s (Err error) start calls v = EndsWith s (Err error) start calls v.units

@@ -24,3 +24,25 @@ impl From<OutOfMemory> for ServeError {
         ServeError::OutOfMemory
     }
 }
+
+/// Why a live venue whose books are reported ends early.
+#[derive(Clone, Copy, PartialEq, Eq)]
+pub enum ReportError {
+    /// The run ended so. At a fault of the input the report was written whole.
+    Serve(ServeError),
+    /// The report's sink failed, and its count of faults rose. By this fault of the input the run
+    /// had ended, or else by a wait that was over.
+    Write(Option<InputFault>),
+}
+
+impl From<OutOfMemory> for ReportError {
+    ghost use Rattle.std.specs.Prelude.{◌≡◌};
+    ghost use Rattle.live_venue.specs.declared.error.ReportError.TheVariants as reports;
+    ghost use Rattle.live_venue.specs.declared.error.ServeError.TheVariants as errors;
+
+    ghost from_gives = { λ _ error. error ≡ reports.Serve errors.OutOfMemory };
+
+    fn from(_: OutOfMemory) -> ReportError {
+        ReportError::Serve(ServeError::OutOfMemory)
+    }
+}

@@ -8,12 +8,13 @@ mod hearing;
 mod outbox;
 mod queueing;
 mod reader;
+mod report;
 mod seconds;
 mod service;
 mod serving;
 mod setup;
 
-pub use crate::error::ServeError;
+pub use crate::error::{ReportError, ServeError};
 pub use crate::fault::InputFault;
-pub use crate::service::serve;
+pub use crate::service::{serve, serve_and_report};
 pub use crate::setup::ServeSetup;

@@ -65,6 +65,13 @@ impl Serving {
         })
     }
 
+    /// The units.
+    pub(crate) fn units(&self) -> &VenueUnits
+        ensures { result.now ≡ self.now.units }
+    {
+        &self.units
+    }
+
     // A piece of the input came: what it commands is to be sent. Answers its first fault.
     fn hear_piece(
         &mut self,

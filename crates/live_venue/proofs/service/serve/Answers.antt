@@ -1,34 +1,8 @@
-use Rattle.std.proofs.Common.{rules, ◌≡◌, ◌≤◌, Bool, true, false, ℕ, List, ◌++◌, length, drop, Ok, ◌∙◌, subst, arith, length-append, length-drop, length-take}
-use Rattle.live_venue.specs.Standing.{Steps}
-use Rattle.live_venue.proofs.Ending.{done_is_no_net, ends_none, ends_same, ends_spent}
+use Rattle.live_venue.proofs.Ending.{ends_none, ends_same}
 use Rattle.live_venue.proofs.service.serve.Goals as goal
 
 pub returns-in_err-serving-clause-ends : goal.returns-in_err-serving-clause-ends
 returns-in_err-serving-clause-ends g c = ends_same c.args.setup.now c.from_residual.result _ (g.N.VenueNet.calls c.args.net.now) (g.N.VenueNet.calls c.args.net.now) c.from_residual.ensures (ends_none c.args.setup.now (g.N.VenueNet.calls c.args.net.now))
 
-pub returns-in_err-into-clause-ends : goal.returns-in_err-into-clause-ends
-returns-in_err-into-clause-ends g c = ends_same c.args.setup.now c.from_residual-in_err-into.result _ (g.N.VenueNet.calls c.args.net.now) (g.N.VenueNet.calls c.args.net.now) c.from_residual-in_err-into.ensures (ends_none c.args.setup.now (g.N.VenueNet.calls c.args.net.now))
-
-pub returns-then-not-goes_on-clause-ends : goal.returns-then-not-goes_on-clause-ends
-returns-then-not-goes_on-clause-ends g c =
-    let over : c.in_ok-goes_on.goes_on ≡ false = search rules in
-    subst (λ (b : Bool). Steps c.args.setup.now (Ok b) (g.N.VenueNet.calls c.args.net.now) (g.N.VenueNet.calls c.step.new.net) c.step.new.self) over (c.in_ok-goes_on.ensures.steps (g.N.VenueNet.calls c.args.net.now) c.calls.invariant.goes)
-
-pub calls-preserved : goal.calls-preserved
-calls-preserved g c =
-    let more : c.in_ok-goes_on.goes_on ≡ true = search rules in
-    let new : List ℕ = c.step.new.into in
-    let items : List ℕ = c.calls.into.items in
-    let place = c.calls.invariant.place in
-    let fits : length c.step.new.into ≤ c.calls.into.len = search rules in
-    let all : c.calls.into.len ≡ 65536 = search rules in
-    record {
-      goes = subst (λ (b : Bool). Steps c.args.setup.now (Ok b) (g.N.VenueNet.calls c.args.net.now) (g.N.VenueNet.calls c.step.new.net) c.step.new.self) more (c.in_ok-goes_on.ensures.steps (g.N.VenueNet.calls c.args.net.now) c.calls.invariant.goes);
-      place = omega (arith, place, fits, all, length-take c.calls.into.len (new ++ drop (length new) items), length-append new (drop (length new) items), length-drop (length new) items);
-      still = c.in_ok-goes_on.ensures.still (done_is_no_net c.in_ok-goes_on.goes_on) ∙ c.calls.invariant.still;
-    }
-
 pub returns-clause-ends : goal.returns-clause-ends
-returns-clause-ends g c =
-    let goes = c.calls.invariant.goes in
-    ends_spent c.args.setup.now (g.N.VenueNet.calls c.args.net.now) (g.N.VenueNet.calls c.calls.net) goes.run goes.now goes.stands.is_run
+returns-clause-ends g c = (c.run.ensures.ends (g.N.VenueNet.calls c.args.net.now) (c.in_ok-serving.ensures (g.N.VenueNet.calls c.args.net.now))).ends

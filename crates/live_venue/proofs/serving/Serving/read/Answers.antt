@@ -18,12 +18,12 @@ pub returns-in_err-fault-in-Got-clause-steps : goal.returns-in_err-fault-in-Got-
 returns-in_err-fault-in-Got-clause-steps g c = λ start about.
     let bytes : List ℕ = take c.in-Got.count c.read.new.into in
     steps_same c.args.setup.now c.from_residual.result _ start (g.N.VenueNet.calls c.read.new.self) _ c.from_residual.ensures
-    (ends_unheard c.args.setup.now start (g.N.VenueNet.calls c.args.net.now) c.args.self.now to.Read about (Read (length c.args.into.now) bytes (input.Got c.in-Got.count)) (g.N.VenueNet.calls c.read.new.self) c.in-Got.ensures.calls tt)
+    (ends_unheard c.args.setup.now start (g.N.VenueNet.calls c.args.net.now) c.args.self.now to.Read about (Read (length c.args.into.now) bytes (input.Got c.in-Got.count)) (g.N.VenueNet.calls c.read.new.self) c.in-Got.ensures.calls tt _)
 
 pub returns-in_err-fault-in-Ended-clause-steps : goal.returns-in_err-fault-in-Ended-clause-steps
 returns-in_err-fault-in-Ended-clause-steps g c = λ start about.
     steps_same c.args.setup.now c.from_residual-in_err-fault-in-Ended.result _ start (g.N.VenueNet.calls c.read.new.self) _ c.from_residual-in_err-fault-in-Ended.ensures
-    (ends_unheard c.args.setup.now start (g.N.VenueNet.calls c.args.net.now) c.args.self.now to.Read about (Read (length c.args.into.now) [] input.Ended) (g.N.VenueNet.calls c.read.new.self) c.in-Ended.ensures.calls tt)
+    (ends_unheard c.args.setup.now start (g.N.VenueNet.calls c.args.net.now) c.args.self.now to.Read about (Read (length c.args.into.now) [] input.Ended) (g.N.VenueNet.calls c.read.new.self) c.in-Ended.ensures.calls tt _)
 
 pub returns-in_ok-fault-in-Got-clause-steps : goal.returns-in_ok-fault-in-Got-clause-steps
 returns-in_ok-fault-in-Got-clause-steps g c = λ start about.
@@ -79,4 +79,4 @@ returns-in-Failed-clause-steps g c = λ start about.
     let calls' = g.N.VenueNet.calls c.read.new.self in
     let call = Read (length c.args.into.now) [] input.Failed in
     let on = calls_on s start calls c.args.self.now to.Read about call c.requires.room about.now refl in
-    ends_failed s start calls' _ about.now (run_is s start calls c.args.self.now to.Read about call c.requires.room calls' c.in-Failed.ensures.calls about.now on (ext_none about.now.came) tt) tt
+    ends_failed s start calls' _ about.now (run_is s start calls c.args.self.now to.Read about call c.requires.room calls' c.in-Failed.ensures.calls about.now on (ext_none about.now.came) tt) _ tt

@@ -13,7 +13,7 @@ pub returns-in_err-hear_client-in-Got-clause-steps : goal.returns-in_err-hear_cl
 returns-in_err-hear_client-in-Got-clause-steps g c = λ s start about.
     let bytes : List ℕ = take c.in-Got.count c.take.new.into in
     steps_same s c.from_residual.result _ start (g.N.VenueNet.calls c.take.new.self) _ c.from_residual.ensures
-    (ends_unheard s start (g.N.VenueNet.calls c.args.net.now) c.args.self.now (to.Take c.args.place) about (Take c.args.place (length c.args.into.now) bytes (taken.Got c.in-Got.count)) (g.N.VenueNet.calls c.take.new.self) c.in-Got.ensures.calls tt)
+    (ends_unheard s start (g.N.VenueNet.calls c.args.net.now) c.args.self.now (to.Take c.args.place) about (Take c.args.place (length c.args.into.now) bytes (taken.Got c.in-Got.count)) (g.N.VenueNet.calls c.take.new.self) c.in-Got.ensures.calls tt _)
 
 pub returns-in_ok-hear_client-in-Got-clause-steps : goal.returns-in_ok-hear_client-in-Got-clause-steps
 returns-in_ok-hear_client-in-Got-clause-steps g c = λ s start about.

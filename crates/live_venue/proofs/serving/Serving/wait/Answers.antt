@@ -23,7 +23,7 @@ pub returns-in_err-pass_second-in-Second-clause-steps : goal.returns-in_err-pass
 returns-in_err-pass_second-in-Second-clause-steps g c = λ start about.
     let s = c.args.setup.now in
     steps_same s c.from_residual.result _ start (g.N.VenueNet.calls c.wait.new.self) _ c.from_residual.ensures
-    (ends_unheard s start (g.N.VenueNet.calls c.args.net.now) c.args.self.now (to.Wait c.args.more) about (Wait c.args.more wait_end.Second) (g.N.VenueNet.calls c.wait.new.self) c.in-Second.ensures.calls tt)
+    (ends_unheard s start (g.N.VenueNet.calls c.args.net.now) c.args.self.now (to.Wait c.args.more) about (Wait c.args.more wait_end.Second) (g.N.VenueNet.calls c.wait.new.self) c.in-Second.ensures.calls tt _)
 
 pub returns-in_ok-pass_second-in-Second-clause-steps : goal.returns-in_ok-pass_second-in-Second-clause-steps
 returns-in_ok-pass_second-in-Second-clause-steps g c = λ start about.
@@ -46,7 +46,7 @@ returns-in-Over-clause-steps g c = λ start about.
     let calls' = g.N.VenueNet.calls c.wait.new.self in
     let call = Wait c.args.more wait_end.Over in
     let on = calls_on s start calls c.args.self.now (to.Wait c.args.more) about call refl about.now refl in
-    ends_over s start calls' _ about.now (run_is s start calls c.args.self.now (to.Wait c.args.more) about call refl calls' c.in-Over.ensures.calls about.now on (ext_none about.now.came) tt) tt
+    ends_over s start calls' _ about.now (run_is s start calls c.args.self.now (to.Wait c.args.more) about call refl calls' c.in-Over.ensures.calls about.now on (ext_none about.now.came) tt) _ tt about.stands.serve.stand
 
 pub returns-in-Failed-clause-steps : goal.returns-in-Failed-clause-steps
 returns-in-Failed-clause-steps g c = λ start about.
@@ -55,4 +55,4 @@ returns-in-Failed-clause-steps g c = λ start about.
     let calls' = g.N.VenueNet.calls c.wait.new.self in
     let call = Wait c.args.more wait_end.Failed in
     let on = calls_on s start calls c.args.self.now (to.Wait c.args.more) about call refl about.now refl in
-    ends_failed s start calls' _ about.now (run_is s start calls c.args.self.now (to.Wait c.args.more) about call refl calls' c.in-Failed.ensures.calls about.now on (ext_none about.now.came) tt) tt
+    ends_failed s start calls' _ about.now (run_is s start calls c.args.self.now (to.Wait c.args.more) about call refl calls' c.in-Failed.ensures.calls about.now on (ext_none about.now.came) tt) _ tt
