@@ -46,6 +46,7 @@ sends_one calls calls' line datagram adds = λ s start run now rest is_run piece
     adds = adds_more run (Send line datagram) start calls calls' is_run.adds adds;
     runs = (now, (is_run.runs, ap (λ (us : List Sending). record now { unsent = us }) unsent));
     sent = (pieces.0, is_run.sent);
+    feeds = is_run.feeds;
   };
   same_turns = refl;
 }

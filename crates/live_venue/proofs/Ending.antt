@@ -14,31 +14,32 @@ use Rattle.live_venue.specs.declared.error.ServeError.TheVariants as errors
 use Rattle.live_venue.specs.declared.fault.InputFault.{InputFault}
 use Rattle.live_venue.specs.declared.serving.Serving.{Serving}
 use Rattle.live_venue.proofs.Calls.{adds_more, adds_none}
+use Rattle.live_venue.proofs.Feeds.{feeds_at_first}
 
 module _ (s : List VenueSetup) (start calls : Option (List VenueCall)) (run : List VenueCall) (now : Now) (is_run : RunIs s start calls run now) where
   -- no memory was left for what the next call brought, or for anything
   pub ends_spent : ServeEnds s (Err errors.OutOfMemory) start calls
-  ends_spent = record { unheard = []; run = run; now = now; adds = is_run.adds; runs = is_run.runs; pieces = is_run.sent; is_end = tt }
+  ends_spent = record { unheard = []; run = run; now = now; adds = is_run.adds; runs = is_run.runs; pieces = is_run.sent; feeds = is_run.feeds; is_end = tt }
 
   module _ (units : VenueUnits) where
     -- its last call was a wait that was over
     pub ends_over : IsOver run → UnitsStand s units now.came → EndsWith s (Ok tt) start calls units
     ends_over over stand = record {
-      ends = record { unheard = []; run = run; now = now; adds = is_run.adds; runs = is_run.runs; pieces = is_run.sent; is_end = (refl, over) };
+      ends = record { unheard = []; run = run; now = now; adds = is_run.adds; runs = is_run.runs; pieces = is_run.sent; feeds = is_run.feeds; is_end = (refl, over) };
       stand = stand;
     }
 
     -- its last call failed
     pub ends_failed : HasFailed run → EndsWith s (Err errors.Net) start calls units
     ends_failed failed = record {
-      ends = record { unheard = []; run = run; now = now; adds = is_run.adds; runs = is_run.runs; pieces = is_run.sent; is_end = (refl, failed) };
+      ends = record { unheard = []; run = run; now = now; adds = is_run.adds; runs = is_run.runs; pieces = is_run.sent; feeds = is_run.feeds; is_end = (refl, failed) };
       stand = tt;
     }
 
     -- the input has a fault, and all was sent
     pub ends_faulty : (fault : InputFault) → now.fault ≡ Some fault → now.unsent ≡ [] → UnitsStand s units now.came → EndsWith s (Err (errors.Input fault)) start calls units
     ends_faulty fault is sent stand = record {
-      ends = record { unheard = []; run = run; now = now; adds = is_run.adds; runs = is_run.runs; pieces = is_run.sent; is_end = (refl, (is, sent)) };
+      ends = record { unheard = []; run = run; now = now; adds = is_run.adds; runs = is_run.runs; pieces = is_run.sent; feeds = is_run.feeds; is_end = (refl, (is, sent)) };
       stand = stand;
     }
 
@@ -48,7 +49,7 @@ ends_with_any s start calls units ends = record { ends = ends; stand = tt }
 
 -- nothing was called
 pub ends_none : (s : List VenueSetup) (calls : Option (List VenueCall)) → ServeEnds s (Err errors.OutOfMemory) calls calls
-ends_none s calls = ends_spent s calls calls [] at_first (record { adds = adds_none calls; runs = refl; sent = tt })
+ends_none s calls = ends_spent s calls calls [] at_first (record { adds = adds_none calls; runs = refl; sent = tt; feeds = feeds_at_first s })
 
 -- the error that a `?` answers is that of the call
 pub ends_same : (s : List VenueSetup) (answer : Result (Unit {0}) ServeError) (error : ServeError) (start calls : Option (List VenueCall)) → IsErr answer × IsErrAnd answer (λ e. e ≡ error) → ServeEnds s (Err error) start calls → ServeEnds s answer start calls
@@ -78,6 +79,7 @@ module _ (s : List VenueSetup) (start calls : Option (List VenueCall)) (v : Serv
       adds = adds_more about.run call start calls calls' about.stands.is_run.adds adds;
       runs = about.stands.is_run.runs;
       pieces = about.stands.is_run.sent;
+      feeds = about.stands.is_run.feeds;
       is_end = unheard;
     };
     stand = tt;

@@ -1,6 +1,6 @@
 -- Worked examples of what two units hear of the input, computed by the definitions. What came stands
 -- newest first.
-use Rattle.std.proofs.Common.{◌≡◌, ℕ, Bool, true, false, nat_le, List, [], ◌∷◌, ◌++◌, length, None, Ok, refl, ap, ◌∙◌}
+use Rattle.std.proofs.Common.{◌≡◌, ℕ, Bool, true, false, nat_le, List, [], ◌∷◌, ◌++◌, length, None, Ok, refl, ap, ◌∙◌, arith}
 use Rattle.std.specs.Prelude.{codes, decimal}
 use Rattle.std.specs.FinMap as map
 use Rattle.pitch_fields.specs.declared.side.Side.TheVariants.{Buy}
@@ -13,16 +13,19 @@ use Rattle.pitch_text.specs.CommandGrammar.{command, clear_rule, end_rule, reduc
 use Rattle.text_lines.specs.Items.{items_of}
 use Rattle.text_lines.specs.Text.{said_of}
 use Rattle.text_lines.specs.declared.fault.TextCause.TheVariants.{BadWord, MissingField}
+use Rattle.live_net.specs.declared.live.PeerPut.TheVariants.{Wrote}
+use Rattle.live_net.specs.declared.live.PeerTaken.TheVariants.{Got}
 use Rattle.unit_commands.specs.UnitCommands.{unit_command}
 use Rattle.unit_packets.specs.BlockBytes.{block_bytes}
 use Rattle.venue_core.specs.Refusals.{are_spent, first_refusal, has_order, is_ended, refused_if}
 use Rattle.venue_core.specs.declared.error.VenueError.TheVariants.{BookFull, Ended, KnownId, SequencesSpent, TooMuch, ZeroQuantity}
 use Rattle.venue_end.specs.Came.{Commanded}
+use Rattle.venue_net.specs.VenueCalls.{Put, Take}
 use Rattle.venue_end.specs.declared.setup.VenueSetup.{VenueSetup}
 use Rattle.venue_units.specs.Coming.{UnitCame, state_at, to_unit}
 use Rattle.live_venue.specs.Faults.{fault_text}
 use Rattle.live_venue.specs.Input.{Heard, faulty, piece_heard, rest_heard, said_heard, told_line, unless_refused}
-use Rattle.live_venue.specs.Running.{at_first, beaten}
+use Rattle.live_venue.specs.Running.{Fits, at_first, beaten}
 use Rattle.live_venue.specs.Sending.{gap_line, line_a, line_b, on_both, on_gap, to_line}
 use Rattle.live_venue.specs.declared.fault.InputFault.TheVariants.{Bad, NoUnit, Refused}
 
@@ -109,6 +112,14 @@ module _ (came : List UnitCame) where
 
   known_id : is_ended so_far ≡ false → has_order (book_after so_far) 5 ≡ true → said_heard both 3 (Ok (record { line = 2; unit = 7; command = of_five })) came ≡ faulty came (Refused 5 KnownId)
   known_id goes there = ap (λ (b : Bool). judged b (has_order (book_after so_far) 5)) goes ∙ ap (λ (b : Bool). judged false b) there
+
+-- ---- Calls
+-- no more is put than was handed in, and no more comes than there was room for
+put_beyond : Fits (Put 64 (1 ∷ 2 ∷ []) (Wrote 3)) → ⊥
+put_beyond fits = let within = fits.1 in omega (arith, within)
+
+came_beyond : Fits (Take 64 1 (1 ∷ 2 ∷ []) (Got 2)) → ⊥
+came_beyond fits = omega (arith, fits)
 
 -- ---- Numbers of lines
 -- they stay at the end of their type

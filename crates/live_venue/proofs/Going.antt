@@ -11,14 +11,15 @@ use Rattle.venue_turns.specs.declared.turns.VenueTurns.{VenueTurns}
 use Rattle.venue_units.specs.Coming.{UnitCame}
 use Rattle.venue_units.specs.Units.{UnitsStand}
 use Rattle.live_venue.specs.Input.{Heard}
-use Rattle.live_venue.specs.Running.{Advertises, Brings, CallsOn, Now, PassSeconds, RunsOn, SecondPasses, Ticks, beaten, ends_now, flushed, left, let_in, pumped, took, turns_of, ways, with_heard, wrote}
+use Rattle.live_venue.specs.Running.{Advertises, Brings, CallsOn, Fits, Now, PassSeconds, RunsOn, SecondPasses, Ticks, beaten, ends_now, flushed, left, let_in, pumped, took, turns_of, ways, with_heard, wrote}
 use Rattle.live_venue.specs.Sending.{Sending}
-use Rattle.live_venue.specs.Serving.{SendsAPiece}
+use Rattle.live_venue.specs.Serving.{AreFeeds, SendsAPiece}
 use Rattle.live_venue.specs.Standing.{ArePieces, GoesOn, IsAbout, IsIdle, RunIs, SentOn, Serve, Sends, Stands, Steps, all_outgoing, by_fault}
 use Rattle.live_venue.specs.declared.fault.InputFault.{InputFault}
 use Rattle.live_venue.specs.declared.serving.Serving.{Serving}
 use Rattle.live_venue.proofs.Calls.{adds_more}
 use Rattle.live_venue.proofs.Ending.{ends_faulty}
+use Rattle.live_venue.proofs.Feeds.{feeds_of}
 use Rattle.live_venue.proofs.Extending.{Extends, beaten_same, ext_more, ext_none, ext_one, ext_same, ext_trans, flushed_extends, pump_extends, seconds_extend, sends_later}
 
 -- ---- What a call leaves as it was
@@ -120,20 +121,22 @@ module _ (s : List VenueSetup) (start calls : Option (List VenueCall)) (v : Serv
 
 -- ---- A call more
 module _ (s : List VenueSetup) (start calls : Option (List VenueCall)) (v : Serving) (what : Due) (about : IsAbout s start calls v what) (call : VenueCall) (made : IsMade (ends_now s about.now.came) what call) where
-  pub calls_on : (now' : Now) → Brings s call about.now now' → CallsOn s call about.run about.now now'
-  calls_on now' brings = record {
+  pub calls_on : (now' : Now) → Brings s call about.now now' → Fits call → CallsOn s call about.run about.now now'
+  calls_on now' brings fits = record {
     sent = about.stands.idle.sent;
     good = about.stands.idle.good;
     is_due = record { what = what; due_is = about.next.due_is; made = made };
+    fits = fits;
     brings = brings;
   }
 
   module _ (calls' : Option (List VenueCall)) (adds : AddsVenueCall calls calls' call) (now' : Now) (on : RunsOn s call about.run about.now now') (extends : Extends now'.came about.now.came) (sends : SendsAPiece s now'.came call) where
-    pub run_is : RunIs s start calls' (call ∷ about.run) now'
-    run_is = record {
+    pub run_is : AreFeeds s now'.came → RunIs s start calls' (call ∷ about.run) now'
+    run_is feeds = record {
       adds = adds_more about.run call start calls calls' about.stands.is_run.adds adds;
       runs = (about.now, (about.stands.is_run.runs, on));
       sent = (sends, sends_later s about.now.came now'.came about.run extends about.stands.is_run.sent);
+      feeds = feeds;
     }
 
     module _ (v' : Serving) (same : turns_of (call ∷ about.run) ≡ call ∷ turns_of about.run) (passes : Passes v.turns v'.turns call) where
@@ -145,32 +148,32 @@ module _ (s : List VenueSetup) (start calls : Option (List VenueCall)) (v : Serv
       goes_on read serve idle = record {
         run = call ∷ about.run;
         now = now';
-        stands = record { is_run = run_is; serve = serve; read = read; idle = idle };
+        stands = record { is_run = run_is (feeds_of s v'.units now'.came serve.stand); serve = serve; read = read; idle = idle };
         turns = turned (ends_now s now'.came);
       }
 
       module _ (calls'' : Option (List VenueCall)) (first : List Sending) (sends_all : Sends calls' calls'' first) (waiting : first ≡ now'.unsent) (pieces : ArePieces s now'.came now'.unsent) where
-        sent_on : SentOn s start calls'' (call ∷ about.run) (record now' { unsent = [] })
-        sent_on = sends_all s start (call ∷ about.run) now' [] run_is (subst (ArePieces s now'.came) (sym waiting) pieces) (sym waiting ∙ sym (append-nil first))
+        sent_on : UnitsStand s v'.units now'.came → SentOn s start calls'' (call ∷ about.run) (record now' { unsent = [] })
+        sent_on stand = sends_all s start (call ∷ about.run) now' [] (run_is (feeds_of s v'.units now'.came stand)) (subst (ArePieces s now'.came) (sym waiting) pieces) (sym waiting ∙ sym (append-nil first))
 
         -- by which all that is to be sent then is sent
         pub goes_sending : v'.reader ≡ read_through now'.text → now'.fault ≡ None → UnitsStand s v'.units now'.came → v'.outbox.batches.items ≡ [] → GoesOn s start calls'' v'
         goes_sending read good stand empty = record {
-          run = sent_on.longer;
+          run = (sent_on stand).longer;
           now = record now' { unsent = [] };
           stands = record {
-            is_run = sent_on.is_run;
+            is_run = (sent_on stand).is_run;
             serve = record { stand = stand; queued = record { waiting = ap all_outgoing empty; pieces = tt } };
             read = read;
             idle = record { sent = refl; good = good };
           };
-          turns = subst (λ (r : List VenueCall). TurnsStand (ways s) (ends_now s now'.came) v'.turns r) (sym sent_on.same_turns) (turned (ends_now s now'.came));
+          turns = subst (λ (r : List VenueCall). TurnsStand (ways s) (ends_now s now'.came) v'.turns r) (sym (sent_on stand).same_turns) (turned (ends_now s now'.came));
         }
 
         -- by the first fault of the input, where it has one, the run ends
         pub steps_heard : (fault : Option InputFault) → fault ≡ now'.fault → (fault ≡ None → v'.reader ≡ read_through now'.text) → UnitsStand s v'.units now'.came → v'.outbox.batches.items ≡ [] → Steps s (by_fault fault) start calls'' v'
         steps_heard None is read stand empty = goes_sending (read refl) (sym is) stand empty
-        steps_heard (Some fault) is read stand empty = ends_faulty s start calls'' sent_on.longer (record now' { unsent = [] }) sent_on.is_run v'.units fault (sym is) refl stand
+        steps_heard (Some fault) is read stand empty = ends_faulty s start calls'' (sent_on stand).longer (record now' { unsent = [] }) (sent_on stand).is_run v'.units fault (sym is) refl stand
 
   -- a call that brings nothing
   pub goes_quietly : (calls' : Option (List VenueCall)) → AddsVenueCall calls calls' call → RunsOn s call about.run about.now about.now → SendsAPiece s about.now.came call → turns_of (call ∷ about.run) ≡ call ∷ turns_of about.run → (t : VenueTurns) → Passes v.turns t call

@@ -7,6 +7,7 @@ pub mod Commanding
 pub mod Ending
 pub mod Examples
 pub mod Extending
+pub mod Feeds
 pub mod Going
 pub mod Parts
 pub mod Outgoing

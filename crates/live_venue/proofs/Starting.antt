@@ -10,6 +10,7 @@ use Rattle.live_venue.specs.Running.{at_first, ends_now, ways}
 use Rattle.live_venue.specs.Standing.{GoesOn, all_outgoing}
 use Rattle.live_venue.specs.declared.serving.Serving.{Serving}
 use Rattle.live_venue.proofs.Calls.{adds_none}
+use Rattle.live_venue.proofs.Feeds.{feeds_at_first}
 use Rattle.std.proofs.Common.{ap}
 
 pub starts : (s : List VenueSetup) (start : Option (List VenueCall)) (v : Serving) (places : ℕ) → places ≡ (ways s).places → ((e : Ends) → TurnsStand (record { places = places }) e v.turns []) → UnitsStand s v.units []
@@ -18,7 +19,7 @@ starts s start v places many turns stand read empty = record {
   run = [];
   now = at_first;
   stands = record {
-    is_run = record { adds = adds_none start; runs = refl; sent = tt };
+    is_run = record { adds = adds_none start; runs = refl; sent = tt; feeds = feeds_at_first s };
     serve = record { stand = stand; queued = record { waiting = ap all_outgoing empty; pieces = tt } };
     read = read;
     idle = record { sent = refl; good = refl };

@@ -1,7 +1,8 @@
 -- What comes to the units of a venue by the calls of a run, and what they send. The calls of a run,
 -- and what came, stand newest first.
-use Rattle.std.specs.Prelude.{◌≡◌, ◌⊎◌, ℕ, zero, suc, ◌*◌, true, false, Bool, List, [], ◌∷◌, ◌++◌}
-use Rattle.std.specs.Prelude.{length, Option, None}
+use Rattle.std.specs.Prelude.{◌≡◌, ◌⊎◌, ◌≤◌, ℕ, zero, suc, ◌*◌, true, false, Bool, List, [], ◌∷◌}
+use Rattle.std.specs.Prelude.{◌++◌, length, Option, None}
+use Rattle.live_net.specs.LiveCalls.{PeerPutWithin}
 use Rattle.live_net.specs.declared.live.WaitEnd.TheVariants as wait_end
 use Rattle.live_net.specs.declared.live.PeerTaken.TheVariants as taken
 use Rattle.live_net.specs.declared.live.PeerPut.TheVariants as put
@@ -157,6 +158,13 @@ turns_of [] = []
 turns_of (Send line datagram ∷ before) = turns_of before
 turns_of (call ∷ before) = call ∷ turns_of before
 
+-- no more came by a call than there was room for, and no more was put than was handed in
+abbrev pub Fits : VenueCall → Type 0
+Fits (Read room bytes answer) = length bytes ≤ room
+Fits (Take place room bytes answer) = length bytes ≤ room
+Fits (Put place piece answer) = PeerPutWithin answer piece
+Fits call = Unit {0}
+
 -- a call more is made once all is sent, and where the input has no fault; it was due, with the ends
 -- as they were then, and brought what it did
 pub record CallsOn (s : List VenueSetup) (call : VenueCall) (before : List VenueCall)
@@ -164,6 +172,7 @@ pub record CallsOn (s : List VenueSetup) (call : VenueCall) (before : List Venue
   pub sent : now.unsent ≡ []
   pub good : now.fault ≡ None
   pub is_due : IsDue (ways s) (ends_now s now.came) (turns_of before) call
+  pub fits : Fits call
   pub brings : Brings s call now now'
 
 -- what is to be sent is sent, one after another

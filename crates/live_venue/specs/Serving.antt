@@ -4,6 +4,7 @@ use Rattle.std.specs.Prelude.{Result, Ok, Err}
 use Rattle.std.specs.List.{AllByRecursion}
 use Rattle.heard_items.specs.Datagrams.{IsPiece}
 use Rattle.live_net.specs.declared.live.WaitEnd.TheVariants as wait_end
+use Rattle.spin_path.specs.PathLaws.{IsFeed}
 use Rattle.venue_end.specs.declared.setup.VenueSetup.{VenueSetup}
 use Rattle.venue_net.specs.VenueCalls.{VenueCall, Wait, Read, Send}
 use Rattle.venue_net.specs.declared.net.InputRead.TheVariants as input
@@ -38,6 +39,11 @@ SendsAPiece s came call = Unit {0}
 abbrev pub SendsPieces : List VenueSetup → List UnitCame → List VenueCall → Type 0
 SendsPieces s came run = AllByRecursion (SendsAPiece s came) run
 
+-- the messages that each unit accepted are bytes, and no more of them than there are sequences
+abbrev pub AreFeeds : List VenueSetup → List UnitCame → Type 0
+AreFeeds s came = (at : ℕ) (setup : VenueSetup) → slice_get s at ≡ Some setup
+    → IsFeed (state_at setup at came).messages
+
 -- ---- The end
 -- the last call was a wait that was over; a call that failed
 abbrev pub IsOver : List VenueCall → Type 0
@@ -65,8 +71,8 @@ IsEnd (Err (errors.Input fault)) unheard run now =
     (unheard ≡ []) × ((now.fault ≡ Some fault) × (now.unsent ≡ []))
 IsEnd (Err errors.OutOfMemory) unheard run now = AreUnheard unheard
 
--- there is such a run: each of its calls was due, and each datagram that was sent is a piece of the
--- messages that its unit accepted
+-- there is such a run: each of its calls was due, each datagram that was sent is a piece of the
+-- messages that its unit accepted, and these are bytes, each with a sequence
 pub record ServeEnds (s : List VenueSetup) (result : Result (Unit {0}) ServeError)
     (calls calls' : Option (List VenueCall)) : Type 0 where
   pub unheard : List VenueCall
@@ -75,4 +81,5 @@ pub record ServeEnds (s : List VenueSetup) (result : Result (Unit {0}) ServeErro
   pub adds : AddsRun (unheard ++ run) calls calls'
   pub runs : Runs s run now
   pub pieces : SendsPieces s now.came run
+  pub feeds : AreFeeds s now.came
   pub is_end : IsEnd result unheard run now

@@ -15,7 +15,7 @@ use Rattle.live_venue.specs.Input.{Heard}
 use Rattle.live_venue.specs.Running.{Advertises, Now, PassSeconds, Runs, Ticks, ends_now}
 use Rattle.live_venue.specs.Running.{turns_of, ways}
 use Rattle.live_venue.specs.Sending.{Sending, to_line}
-use Rattle.live_venue.specs.Serving.{AddsRun, IsPieceOn, SendsPieces, ServeEnds}
+use Rattle.live_venue.specs.Serving.{AddsRun, AreFeeds, IsPieceOn, SendsPieces, ServeEnds}
 use Rattle.live_venue.specs.declared.error.ServeError.{ServeError}
 use Rattle.live_venue.specs.declared.error.ServeError.TheVariants.{Input}
 use Rattle.live_venue.specs.declared.fault.InputFault.{InputFault}
@@ -51,12 +51,13 @@ all_outgoing batches = flat_map outgoing batches
 abbrev pub ArePieces : List VenueSetup → List UnitCame → List Sending → Type 0
 ArePieces s came unsent = AllByRecursion (λ next. IsPieceOn s came next.line next.datagram) unsent
 
--- a run of calls that the net lists, and where it stands
+-- a run of calls that the net lists, where it stands, and what it sent and its units accepted
 pub record RunIs (s : List VenueSetup) (start calls : Option (List VenueCall))
     (run : List VenueCall) (now : Now) : Type 0 where
   pub adds : AddsRun run start calls
   pub runs : Runs s run now
   pub sent : SendsPieces s now.came run
+  pub feeds : AreFeeds s now.came
 
 -- by sending alone a run went on
 pub record SentOn (s : List VenueSetup) (start calls : Option (List VenueCall))

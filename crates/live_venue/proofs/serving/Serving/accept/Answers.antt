@@ -12,7 +12,7 @@ returns-then-accept-clause-goes g c = λ s start about.
     let call = Accept c.args.place true in
     let became = lets_in s c.args.place v.outbox about.now v.units c.connect-connected.new.self c.connect-connected.result c.connect-connected.ensures.stands c.connect-connected.ensures.err about.stands.serve in
     goes_keeping s start calls v (to.Accept c.args.place) about call refl (g.N.VenueNet.calls c.accept.new.self) c.if-accept.ensures.calls became.0
-    (calls_on s start calls v (to.Accept c.args.place) about call refl became.0 became.1.0) tt refl (record v { turns = c.let_in.new.self; units = c.connect-connected.new.self }) c.let_in.ensures
+    (calls_on s start calls v (to.Accept c.args.place) about call refl became.0 became.1.0 tt) tt refl (record v { turns = c.let_in.new.self; units = c.connect-connected.new.self }) c.let_in.ensures
     (let_in_keeps c.args.place about.now became.0 became.1.0) refl became.1.1
 
 pub returns-else-accept-clause-goes : goal.returns-else-accept-clause-goes
@@ -21,4 +21,4 @@ returns-else-accept-clause-goes g c = λ s start about.
     let v = c.args.self.now in
     let call = Accept c.args.place false in
     goes_quietly s start calls v (to.Accept c.args.place) about call refl (g.N.VenueNet.calls c.accept.new.self) c.if-accept.ensures.calls
-    (calls_on s start calls v (to.Accept c.args.place) about call refl about.now refl) tt refl c.nobody_came.new.self c.nobody_came.ensures
+    (calls_on s start calls v (to.Accept c.args.place) about call refl about.now refl tt) tt refl c.nobody_came.new.self c.nobody_came.ensures

@@ -11,5 +11,5 @@ returns-clause-goes g c = λ s start about.
     let call = Close c.args.place in
     let became = c.end.ensures.goes s about.now about.stands.serve about.stands.idle.sent in
     goes_keeping s start calls c.args.self.now (to.Close c.args.place) about call refl (g.N.VenueNet.calls c.close.new.self) c.close.ensures.calls became.0
-    (calls_on s start calls c.args.self.now (to.Close c.args.place) about call refl became.0 became.1.0) tt refl c.end.new.self (c.end.ensures.turns call (eq-eqb c.args.place c.args.place refl))
+    (calls_on s start calls c.args.self.now (to.Close c.args.place) about call refl became.0 became.1.0 tt) tt refl c.end.new.self (c.end.ensures.turns call (eq-eqb c.args.place c.args.place refl))
     (left_keeps c.args.place about.now became.0 became.1.0) c.end.ensures.reader became.1.1

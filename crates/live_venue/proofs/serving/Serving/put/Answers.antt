@@ -20,7 +20,7 @@ returns-in-Wrote-clause-goes g c = λ s start about.
     let first = c.first_piece.ensures ∙ ap (take room_for_one) (c.waiting-waiting.ensures s about.now.came about.stands.serve.stand) in
     let became = c.wrote.ensures.goes s about.now about.stands.serve about.stands.idle.sent in
     goes_keeping s start calls c.args.self.now (to.Put c.args.place) about call (refl, first) (g.N.VenueNet.calls c.put.new.self) c.in-Wrote.ensures.calls became.0
-    (calls_on s start calls c.args.self.now (to.Put c.args.place) about call (refl, first) became.0 became.1.0) tt refl (record c.wrote.new.self { turns = c.wrote-in-Wrote.new.self }) (subst (λ (t : VenueTurns). Passes t c.wrote-in-Wrote.new.self call) c.wrote.ensures.turns (c.wrote-in-Wrote.ensures c.in-Wrote.count piece))
+    (calls_on s start calls c.args.self.now (to.Put c.args.place) about call (refl, first) became.0 became.1.0 c.in-Wrote.ensures.count) tt refl (record c.wrote.new.self { turns = c.wrote-in-Wrote.new.self }) (subst (λ (t : VenueTurns). Passes t c.wrote-in-Wrote.new.self call) c.wrote.ensures.turns (c.wrote-in-Wrote.ensures c.in-Wrote.count piece))
     (wrote_keeps s c.args.place c.in-Wrote.count about.now became.0 became.1.0) c.wrote.ensures.reader became.1.1
 
 pub returns-in-Full-clause-goes : goal.returns-in-Full-clause-goes
@@ -30,7 +30,7 @@ returns-in-Full-clause-goes g c = λ s start about.
     let call = Put c.args.place piece put.Full in
     let first = c.first_piece.ensures ∙ ap (take room_for_one) (c.waiting-waiting.ensures s about.now.came about.stands.serve.stand) in
     goes_quietly s start calls c.args.self.now (to.Put c.args.place) about call (refl, first) (g.N.VenueNet.calls c.put.new.self) c.in-Full.ensures.calls
-    (calls_on s start calls c.args.self.now (to.Put c.args.place) about call (refl, first) about.now refl) tt refl c.full.new.self (c.full.ensures piece)
+    (calls_on s start calls c.args.self.now (to.Put c.args.place) about call (refl, first) about.now refl tt) tt refl c.full.new.self (c.full.ensures piece)
 
 pub returns-in-Ended-clause-goes : goal.returns-in-Ended-clause-goes
 returns-in-Ended-clause-goes g c = λ s start about.
@@ -40,5 +40,5 @@ returns-in-Ended-clause-goes g c = λ s start about.
     let first = c.first_piece.ensures ∙ ap (take room_for_one) (c.waiting-waiting.ensures s about.now.came about.stands.serve.stand) in
     let became = c.end.ensures.goes s about.now about.stands.serve about.stands.idle.sent in
     goes_keeping s start calls c.args.self.now (to.Put c.args.place) about call (refl, first) (g.N.VenueNet.calls c.put.new.self) c.in-Ended.ensures.calls became.0
-    (calls_on s start calls c.args.self.now (to.Put c.args.place) about call (refl, first) became.0 became.1.0) tt refl c.end.new.self (c.end.ensures.turns call (eq-eqb c.args.place c.args.place refl))
+    (calls_on s start calls c.args.self.now (to.Put c.args.place) about call (refl, first) became.0 became.1.0 tt) tt refl c.end.new.self (c.end.ensures.turns call (eq-eqb c.args.place c.args.place refl))
     (left_keeps c.args.place about.now became.0 became.1.0) c.end.ensures.reader became.1.1

@@ -1,4 +1,4 @@
-use Rattle.std.proofs.Common.{ℕ, List, [], take, length, refl, ◌∙◌, sym, ap}
+use Rattle.std.proofs.Common.{rules, arith, ◌≡◌, ◌≤◌, ℕ, List, [], take, length, length-take, refl, ◌∙◌, sym, ap}
 use Rattle.std.proofs.lemmas.Bool.{eq-eqb}
 use Rattle.live_net.specs.declared.live.PeerTaken.TheVariants as taken
 use Rattle.unit_commands.specs.Pieces.{read_through}
@@ -23,9 +23,11 @@ returns-in_ok-hear_client-in-Got-clause-steps g c = λ s start about.
     let calls = g.N.VenueNet.calls c.args.net.now in
     let calls' = g.N.VenueNet.calls c.take.new.self in
     let call = Take c.args.place room bytes (taken.Got c.in-Got.count) in
+    let same : length c.take.new.into ≡ length c.args.into.now = search rules in
+    let fits : length bytes ≤ room = omega (arith, same, length-take c.in-Got.count c.take.new.into) in
     let became = c.in_ok-hear_client-in-Got.ensures s about.now about.stands.serve about.stands.idle.sent in
     let reads = took_reads s c.args.place bytes about.now became.0 became.1.0 in
-    goes_sending s start calls v (to.Take c.args.place) about call (refl, c.requires.room) calls' c.in-Got.ensures.calls became.0 (calls_on s start calls v (to.Take c.args.place) about call (refl, c.requires.room) became.0 became.1.0) reads.extends tt
+    goes_sending s start calls v (to.Take c.args.place) about call (refl, c.requires.room) calls' c.in-Got.ensures.calls became.0 (calls_on s start calls v (to.Take c.args.place) about call (refl, c.requires.room) became.0 became.1.0 fits) reads.extends tt
     (record v { turns = c.took.new.self; units = c.hear_client.new.units; outbox = c.send.new.self }) refl (c.took.ensures room c.in-Got.count bytes) (g.N.VenueNet.calls c.send.new.net) _ c.send.ensures.sends became.1.1.queued.waiting became.1.1.queued.pieces
     (about.stands.read ∙ ap read_through (sym reads.text)) (reads.fault ∙ about.stands.idle.good) became.1.1.stand c.send.ensures.none
 
@@ -35,7 +37,7 @@ returns-in-Quiet-clause-steps g c = λ s start about.
     let room : ℕ = length c.args.into.now in
     let call = Take c.args.place room [] taken.Quiet in
     goes_quietly s start calls c.args.self.now (to.Take c.args.place) about call (refl, c.requires.room) (g.N.VenueNet.calls c.take.new.self) c.in-Quiet.ensures.calls
-    (calls_on s start calls c.args.self.now (to.Take c.args.place) about call (refl, c.requires.room) about.now refl) tt refl c.place_is_quiet.new.self (c.place_is_quiet.ensures room)
+    (calls_on s start calls c.args.self.now (to.Take c.args.place) about call (refl, c.requires.room) about.now refl (omega arith)) tt refl c.place_is_quiet.new.self (c.place_is_quiet.ensures room)
 
 pub returns-in-Ended-clause-steps : goal.returns-in-Ended-clause-steps
 returns-in-Ended-clause-steps g c = λ s start about.
@@ -44,5 +46,5 @@ returns-in-Ended-clause-steps g c = λ s start about.
     let call = Take c.args.place room [] taken.Ended in
     let became = c.end.ensures.goes s about.now about.stands.serve about.stands.idle.sent in
     goes_keeping s start calls c.args.self.now (to.Take c.args.place) about call (refl, c.requires.room) (g.N.VenueNet.calls c.take.new.self) c.in-Ended.ensures.calls became.0
-    (calls_on s start calls c.args.self.now (to.Take c.args.place) about call (refl, c.requires.room) became.0 became.1.0) tt refl c.end.new.self (c.end.ensures.turns call (eq-eqb c.args.place c.args.place refl))
+    (calls_on s start calls c.args.self.now (to.Take c.args.place) about call (refl, c.requires.room) became.0 became.1.0 (omega arith)) tt refl c.end.new.self (c.end.ensures.turns call (eq-eqb c.args.place c.args.place refl))
     (left_keeps c.args.place about.now became.0 became.1.0) c.end.ensures.reader became.1.1

@@ -17,7 +17,7 @@ returns-in-Ready-clause-steps g c = λ start about.
     let calls = g.N.VenueNet.calls c.args.net.now in
     let call = Wait c.args.more wait_end.Ready in
     goes_quietly s start calls c.args.self.now (to.Wait c.args.more) about call refl (g.N.VenueNet.calls c.wait.new.self) c.in-Ready.ensures.calls
-    (calls_on s start calls c.args.self.now (to.Wait c.args.more) about call refl about.now refl) tt refl c.woken.new.self (c.woken.ensures c.args.more)
+    (calls_on s start calls c.args.self.now (to.Wait c.args.more) about call refl about.now refl tt) tt refl c.woken.new.self (c.woken.ensures c.args.more)
 
 pub returns-in_err-pass_second-in-Second-clause-steps : goal.returns-in_err-pass_second-in-Second-clause-steps
 returns-in_err-pass_second-in-Second-clause-steps g c = λ start about.
@@ -35,7 +35,7 @@ returns-in_ok-pass_second-in-Second-clause-steps g c = λ start about.
     let call = Wait c.args.more wait_end.Second in
     let became = c.in_ok-pass_second-in-Second.ensures.passes about.now about.stands.serve about.stands.idle.sent in
     let reads = second_reads s about.now became.0 became.1.0 in
-    goes_sending s start calls v (to.Wait c.args.more) about call refl calls' c.in-Second.ensures.calls became.0 (calls_on s start calls v (to.Wait c.args.more) about call refl became.0 became.1.0) reads.extends tt
+    goes_sending s start calls v (to.Wait c.args.more) about call refl calls' c.in-Second.ensures.calls became.0 (calls_on s start calls v (to.Wait c.args.more) about call refl became.0 became.1.0 tt) reads.extends tt
     (record c.pass_second.new.self { turns = c.second.new.self; outbox = c.send.new.self }) refl (subst (λ (t : VenueTurns). Passes t c.second.new.self call) c.pass_second.ensures.turns (c.second.ensures c.args.more)) calls'' _ c.send.ensures.sends became.1.1.queued.waiting became.1.1.queued.pieces
     (c.pass_second.ensures.reader ∙ about.stands.read ∙ ap read_through (sym reads.text)) (reads.fault ∙ about.stands.idle.good) became.1.1.stand c.send.ensures.none
 
@@ -45,8 +45,8 @@ returns-in-Over-clause-steps g c = λ start about.
     let calls = g.N.VenueNet.calls c.args.net.now in
     let calls' = g.N.VenueNet.calls c.wait.new.self in
     let call = Wait c.args.more wait_end.Over in
-    let on = calls_on s start calls c.args.self.now (to.Wait c.args.more) about call refl about.now refl in
-    ends_over s start calls' _ about.now (run_is s start calls c.args.self.now (to.Wait c.args.more) about call refl calls' c.in-Over.ensures.calls about.now on (ext_none about.now.came) tt) _ tt about.stands.serve.stand
+    let on = calls_on s start calls c.args.self.now (to.Wait c.args.more) about call refl about.now refl tt in
+    ends_over s start calls' _ about.now (run_is s start calls c.args.self.now (to.Wait c.args.more) about call refl calls' c.in-Over.ensures.calls about.now on (ext_none about.now.came) tt about.stands.is_run.feeds) _ tt about.stands.serve.stand
 
 pub returns-in-Failed-clause-steps : goal.returns-in-Failed-clause-steps
 returns-in-Failed-clause-steps g c = λ start about.
@@ -54,5 +54,5 @@ returns-in-Failed-clause-steps g c = λ start about.
     let calls = g.N.VenueNet.calls c.args.net.now in
     let calls' = g.N.VenueNet.calls c.wait.new.self in
     let call = Wait c.args.more wait_end.Failed in
-    let on = calls_on s start calls c.args.self.now (to.Wait c.args.more) about call refl about.now refl in
-    ends_failed s start calls' _ about.now (run_is s start calls c.args.self.now (to.Wait c.args.more) about call refl calls' c.in-Failed.ensures.calls about.now on (ext_none about.now.came) tt) _ tt
+    let on = calls_on s start calls c.args.self.now (to.Wait c.args.more) about call refl about.now refl tt in
+    ends_failed s start calls' _ about.now (run_is s start calls c.args.self.now (to.Wait c.args.more) about call refl calls' c.in-Failed.ensures.calls about.now on (ext_none about.now.came) tt about.stands.is_run.feeds) _ tt
