@@ -36,12 +36,12 @@ use Rattle.served_laws.proofs.Hearing.{served_is_whole}
 use Rattle.served_laws.proofs.Putting.{put_stays_said}
 
 -- ---- Lists
-all_contained : {A : Type 0} (P : A → Type 0) (xs : List A) (x : A) → AllByRecursion P xs → Contains xs x → P x
+pub all_contained : {A : Type 0} (P : A → Type 0) (xs : List A) (x : A) → AllByRecursion P xs → Contains xs x → P x
 all_contained P [] x all (k, within, is) = absurd (omega (arith, within))
 all_contained P (y ∷ ys) x all (zero, within, is) = subst P is all.0
 all_contained P (y ∷ ys) x all (suc k, within, is) = all_contained P ys x all.1 (k, omega (arith, within), is)
 
-prefix_on : (xs ys zs : List ℕ) → IsPrefix xs ys → IsPrefix ys zs → IsPrefix xs zs
+pub prefix_on : (xs ys zs : List ℕ) → IsPrefix xs ys → IsPrefix ys zs → IsPrefix xs zs
 prefix_on xs ys zs first second = (first.0 ++ second.0, sym (append_assoc xs first.0 second.0) ∙ ap (λ (l : List ℕ). l ++ second.0) first.1 ∙ second.1)
 
 -- ---- What is handed out

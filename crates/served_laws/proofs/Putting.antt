@@ -143,6 +143,10 @@ module _ (s : VenueSetup) where
   are_all [] = record { apart = tt; all = λ id. tt }
   are_all (came ∷ before) = spin_step before came (are_all before)
 
+-- no two sessions have one number
+pub spins_apart : (s : VenueSetup) (before : List VenueCame) → AreApart (venue_after s before).spins
+spins_apart s before = (are_all s before).apart
+
 pub all_is_put : AllIsPut
 all_is_put s before id session is = subst (IsAll s (put_of s id before)) is ((are_all s before).all id)
 

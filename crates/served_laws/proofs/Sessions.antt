@@ -38,7 +38,7 @@ module _ {X : Type 0} where
         by true is later = subst (λ (n : ℕ). session_of n ks ≡ None) (eqb-true k.id other is) apart.0
         by false is later = ap (λ (b : Bool). cond b (Some k) (session_of other (without other ks))) is ∙ later
 
-    none_without : (id : ℕ) (ks : List (Session X)) → AreApart ks → session_of id ks ≡ None → session_of id (without other ks) ≡ None
+    pub none_without : (id : ℕ) (ks : List (Session X)) → AreApart ks → session_of id ks ≡ None → session_of id (without other ks) ≡ None
     none_without id ks apart none = by (other == id) refl
       where
         by : (b : Bool) → (other == id) ≡ b → session_of id (without other ks) ≡ None
@@ -102,7 +102,7 @@ module _ {X : Type 0} where
               ap (λ (b : Bool). cond b (Some (f k)) (session_of id ks)) (ap (λ (n : ℕ). n == id) (keeps k) ∙ not_here) ∙ sym (ap (λ (b : Bool). cond b (Some k) (session_of id ks)) not_here)
           by false is later = ap (λ (o : Option (Session X)). cond (k.id == id) (Some k) o) later
 
-      none_at : (id : ℕ) (ks : List (Session X)) → session_of id ks ≡ None → session_of id (at_session other f ks) ≡ None
+      pub none_at : (id : ℕ) (ks : List (Session X)) → session_of id ks ≡ None → session_of id (at_session other f ks) ≡ None
       none_at id ks none = by (other == id) refl
         where
           by : (b : Bool) → (other == id) ≡ b → session_of id (at_session other f ks) ≡ None

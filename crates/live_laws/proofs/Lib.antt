@@ -1,0 +1,8 @@
+mod Examples
+pub mod Bringing
+pub mod Sending
+pub mod Putting
+pub mod Serving
+pub mod Reading
+pub mod Hearing
+pub mod Commanding
