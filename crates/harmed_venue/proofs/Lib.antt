@@ -1,0 +1,7 @@
+pub mod Calling
+pub mod Each
+mod Examples
+pub mod Lawful
+pub mod Sending
+pub mod Stepping
+pub mod Walks
