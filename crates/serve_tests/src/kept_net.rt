@@ -1,5 +1,7 @@
 //! A net in memory that keeps what was sent and put.
 
+ghost use Rattle.std.specs.Prelude.{◌≡◌};
+
 use live_net::{PeerPut, PeerTaken, WaitEnd};
 use std::process::Abort;
 use venue_net::{InputRead, MemoryVenue, VenueNet};
@@ -31,7 +33,9 @@ fn copy<R: Abort + AllocGlobal>(rt: &R, bytes: &[u8]) -> Vec<u8> {
 
 impl<'a, R: Abort + AllocGlobal> KeptNet<'a, R> {
     /// Nothing was said yet.
-    pub(crate) fn make(rt: &'a R, net: MemoryVenue) -> KeptNet<'a, R> {
+    pub(crate) fn make(rt: &'a R, net: MemoryVenue) -> KeptNet<'a, R>
+        ensures { result.net ≡ net }
+    {
         KeptNet {
             rt,
             net,

@@ -9,6 +9,8 @@ mod clients;
 #[cfg(test)]
 mod ending;
 #[cfg(test)]
+mod harmed;
+#[cfg(test)]
 mod kept_net;
 #[cfg(test)]
 mod lines;

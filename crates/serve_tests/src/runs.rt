@@ -47,8 +47,8 @@ fn copy<R: Abort + AllocGlobal>(rt: &R, bytes: &[u8]) -> Vec<u8> {
     Vec::from_slice(rt.alloc(), bytes).expect(rt, "memory")
 }
 
-// The script of a net.
-fn script_of<R: Abort + AllocGlobal>(rt: &R, steps: &[Step]) -> VecDeque<VenueStep> {
+/// The script of a net.
+pub(crate) fn script_of<R: Abort + AllocGlobal>(rt: &R, steps: &[Step]) -> VecDeque<VenueStep> {
     let mut script = VecDeque::new(rt.alloc());
     for step in steps.iter() {
         let next = match *step {
@@ -100,8 +100,8 @@ pub(crate) fn run<R: Abort + AllocGlobal>(rt: &R, steps: &[Step], failing: u64) 
     Came { answer, sent, put }
 }
 
-// Whether that is what was said.
-fn is_told(said: &Said, told: Told) -> bool {
+/// Whether that is what was said.
+pub(crate) fn is_told(said: &Said, told: Told) -> bool {
     match (said, told) {
         (Said::Waits, Told::Waits) => true,
         (Said::Says(at, bytes), Told::Says(to, told)) => *at == to && bytes.as_slice() == told,
