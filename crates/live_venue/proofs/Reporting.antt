@@ -123,7 +123,7 @@ reports_failed s calls calls' w ends = record { ends = ends; reported = refl }
 module _ (s : List VenueSetup) (calls calls' : Option (List VenueCall)) (w w' : Option (List ℕ)) where
   out_of_memory : (answer : Result (Unit {0}) ServeError) (ends : ServeEnds s answer calls calls') → ends.unheard ≡ [] → PutsSome w w' (report_text s ends.now.came) → ReportEnds s (Err (Serve errors.OutOfMemory)) calls calls' w w'
   out_of_memory answer ends heard puts = record {
-    ends = record { unheard = ends.unheard; run = ends.run; now = ends.now; adds = ends.adds; runs = ends.runs; pieces = ends.pieces; is_end = subst AreUnheard (sym heard) tt };
+    ends = record { unheard = ends.unheard; run = ends.run; now = ends.now; adds = ends.adds; runs = ends.runs; pieces = ends.pieces; feeds = ends.feeds; is_end = subst AreUnheard (sym heard) tt };
     reported = puts;
   }
 
