@@ -20,21 +20,21 @@ count_first : (harm : Harm) (n : ℕ) → length (lines_at_first harm n) ≡ n
 count_first harm zero = refl
 count_first harm (suc n) = length-append (lines_at_first harm n) (line_at_first harm n ∷ []) ∙ (let e : length (lines_at_first harm n) + 1 ≡ suc n = omega (arith, count_first harm n) in e)
 
-each_first : (P : ℕ → LineNow → Type 0) (harm : Harm) → ((n : ℕ) → P n (line_at_first harm n)) → (count : ℕ) → Each P (lines_at_first harm count)
+pub each_first : (P : ℕ → LineNow → Type 0) (harm : Harm) → ((n : ℕ) → P n (line_at_first harm n)) → (count : ℕ) → Each P (lines_at_first harm count)
 each_first P harm first zero n l e = absurd (cc)
 each_first P harm first (suc count) n l e =
     each_more P (lines_at_first harm count) (line_at_first harm count) (subst (λ (k : ℕ). P k (line_at_first harm count)) (sym (count_first harm count)) (first count))
     (each_first P harm first count) n l e
 
 -- ---- What was sent
-one_of : (calls : List VenueCall) (call : VenueCall) → Contains (call ∷ calls) call
+pub one_of : (calls : List VenueCall) (call : VenueCall) → Contains (call ∷ calls) call
 one_of calls call = Contains-append_left (call ∷ []) calls call (0, lit< tt, refl)
 
 later : (calls : List VenueCall) (more call : VenueCall) → Contains calls call → Contains (more ∷ calls) call
 later calls more call there = Contains-append_right (more ∷ []) calls call there
 
 -- a line has its number, and what is held back on it was sent on it
-record IsSound (calls : List VenueCall) (n : ℕ) (line : LineNow) : Type 0 where
+pub record IsSound (calls : List VenueCall) (n : ℕ) (line : LineNow) : Type 0 where
   pub number_is : line.number ≡ n
   pub sent : AllByRecursion (λ d. Contains calls (Send n d)) (held_back line.held)
 
@@ -64,7 +64,7 @@ sound_waited calls call false lines each n l there = sound_later calls call n l 
 sound_waited calls call true lines each n l there =
     each_map (IsSound calls) (IsSound (call ∷ calls)) let_go (λ m x sound. record { number_is = sound.number_is; sent = tt }) lines each n l there
 
-sound_lines : (harm : Harm) (calls : List VenueCall) → Each (IsSound calls) (lines_left harm calls)
+pub sound_lines : (harm : Harm) (calls : List VenueCall) → Each (IsSound calls) (lines_left harm calls)
 sound_lines harm [] n l there = each_first (IsSound []) harm (λ m. record { number_is = refl; sent = tt }) harm.lines n l there
 sound_lines harm (Send line d ∷ calls) n l there = sound_sent calls line d (lines_left harm calls) (slice_get (lines_left harm calls) line) refl (sound_lines harm calls) n l there
 sound_lines harm (Wait more answer ∷ calls) n l there = sound_waited calls (Wait more answer) (lets_go answer) (lines_left harm calls) (sound_lines harm calls) n l there
@@ -148,7 +148,7 @@ by_kind true b = refl
 by_kind false true = refl
 by_kind false false = refl
 
-no_share : (n : ℕ) → share_of no_shares n ≡ 0
+pub no_share : (n : ℕ) → share_of no_shares n ≡ 0
 no_share n = by_kind (n % 3 == 0) (n % 3 == 1)
 
 -- a line that does nothing
@@ -162,7 +162,7 @@ record IsQuiet (n : ℕ) (line : LineNow) : Type 0 where
 nat_lt_zero : (n : ℕ) → nat_lt n 0 ≡ false
 nat_lt_zero n = grind (arith, nat_tests)
 
-below_none : (n share : ℕ) → share ≡ 0 → nat_lt n share ≡ false
+pub below_none : (n share : ℕ) → share ≡ 0 → nat_lt n share ≡ false
 below_none n share e = ap (λ (k : ℕ). nat_lt n k) e ∙ nat_lt_zero n
 
 fate_by : (a b c : Bool) → a ≡ false → b ≡ false → c ≡ false → (if a then Lost else (if b then Late else (if c then Twice else Once))) ≡ Once

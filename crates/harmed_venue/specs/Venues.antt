@@ -1,10 +1,11 @@
 -- A harmed net, and the net below it.
-use Rattle.std.specs.Prelude.{◌≡◌, ◌++◌, List, Contains, Option, None, Some}
+use Rattle.std.specs.Prelude.{◌≡◌, ◌⊎◌, ℕ, ◌++◌, List, slice_get, Contains, Option, None, Some}
 use Rattle.std.specs.List.{AllByRecursion}
 use Rattle.venue_net.specs.VenueCalls.{VenueCall, Send}
 use Rattle.harmed_venue.specs.declared.harm.Harm.{Harm}
 use Rattle.harmed_venue.specs.declared.harm.Shares.{Shares}
-use Rattle.harmed_venue.specs.Harmed.{harmed}
+use Rattle.harmed_venue.specs.Harmed.{harmed, lines_left}
+use Rattle.harmed_venue.specs.Lines.{LineNow}
 
 -- where a net lists its calls, they are these
 abbrev pub Lists : List VenueCall → Option (List VenueCall) → Type 0
@@ -46,3 +47,22 @@ WasSent calls call = Unit {0}
 abbrev pub MakesNothingUp : Harm → Type 0
 MakesNothingUp harm =
     (calls : List VenueCall) → AllByRecursion (WasSent calls) (harmed harm calls)
+
+-- a datagram is held back on a line
+abbrev pub IsHeld : List LineNow → ℕ → List ℕ → Type 0
+IsHeld lines line datagram =
+    (l : LineNow) × ((slice_get lines line ≡ Some l) × (l.held ≡ Some datagram))
+
+-- one that was sent on a line has gone out on it, or is held back there
+abbrev pub HasGone : Harm → List VenueCall → ℕ → List ℕ → Type 0
+HasGone harm calls line datagram = Contains (harmed harm calls) (Send line datagram)
+    ⊎ IsHeld (lines_left harm calls) line datagram
+
+abbrev pub IsOut : Harm → List VenueCall → VenueCall → Type 0
+IsOut harm calls (Send line datagram) = HasGone harm calls line datagram
+IsOut harm calls call = Unit {0}
+
+-- so is each, where no share of them is lost
+abbrev pub LosesNothing : Harm → Type 0
+LosesNothing harm = harm.lose ≡ no_shares
+    → (calls : List VenueCall) → AllByRecursion (IsOut harm calls) calls

@@ -15,5 +15,5 @@ mod lines;
 mod venue;
 
 pub use crate::harm::{Harm, Shares};
-pub use crate::laws::{a_harmless_net_passes_all_on, nothing_is_made_up};
+pub use crate::laws::{a_harmless_net_passes_all_on, nothing_else_is_lost, nothing_is_made_up};
 pub use crate::venue::HarmedVenue;
