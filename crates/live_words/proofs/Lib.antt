@@ -1,4 +1,5 @@
 pub mod Asking
 pub mod Rows
 pub mod Naming
+pub mod Sharing
 pub mod Examples

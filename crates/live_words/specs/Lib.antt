@@ -1,3 +1,4 @@
 pub mod Options
+pub mod Trials
 pub mod Serving
 pub mod Asked

@@ -10,6 +10,7 @@ use Rattle.pitch_words.specs.Numbers.{IsGivenMaybe, IsGivenOr}
 use Rattle.live_words.specs.Options.{any_times, once, server_rules, command_with}
 use Rattle.live_words.specs.Options.{AreNamed, IsAccount, IsServerText, texts_of, units_of}
 use Rattle.live_words.specs.Options.{are_apart, can_ask}
+use Rattle.live_words.specs.Trials.{IsTrial, harm_rules, plan_rules}
 use Rattle.live_words.specs.declared.listen_words.Server.{Server}
 use Rattle.live_words.specs.declared.serve_words.Places.{Places}
 use Rattle.live_words.specs.declared.serve_words.UnitWords.{UnitWords}
@@ -32,7 +33,8 @@ abbrev pub serve_with : List Rule → Shape
 serve_with rules = command_with (codes "serve") rules
 
 abbrev pub serve_shape : Shape
-serve_shape = serve_with (target_rules ++ server_rules ++ limit_rules ++ end_rules)
+serve_shape = serve_with (target_rules ++ server_rules ++ limit_rules ++ end_rules ++ plan_rules
+    ++ harm_rules)
 
 -- ---- what they ask for
 -- the most units that are served, the most messages that a proxy keeps, and the most requests that
@@ -111,3 +113,4 @@ pub record AreServed (rows : List Row) (asked : ServeWords) : Type 0 where
   pub day : IsGivenOr default_day 1 most_accepted (first_of (codes "day") rows) asked.day
   pub seconds : IsGivenMaybe 0 (2 ^ 64 - 1) (first_of (codes "seconds") rows) asked.seconds
   pub after : IsGivenMaybe 0 (2 ^ 64 - 1) (first_of (codes "after") rows) asked.after
+  pub trial : IsTrial rows asked.trial

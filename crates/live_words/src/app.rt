@@ -7,7 +7,9 @@ ghost use Rattle.clap.specs.declared.builder.command.Command.TheViews.{out-Comma
 ghost use Rattle.long_options.specs.Apps.{command_app, empty_program, option_rule};
 ghost use Rattle.long_options.specs.Words.{may_have};
 ghost use Rattle.live_words.specs.Options.{any_times as any_times_rule, server_rules};
-ghost use Rattle.live_words.specs.Serving.{target_rules, limit_rules, serve_shape, serve_with};
+ghost use Rattle.live_words.specs.Serving.{end_rules, limit_rules, serve_shape, serve_with};
+ghost use Rattle.live_words.specs.Serving.{target_rules};
+ghost use Rattle.live_words.specs.Trials.{harm_rules, plan_rules};
 ghost use Rattle.live_words.specs.Asked.{line_rules, listen_shape, listen_with, pitch_live};
 
 use clap::{Arg, ArgAction, Command};
@@ -136,13 +138,42 @@ fn answering<'a>(alloc: Global) -> Result<Command<'a>, AllocError>
     with_once(alloc, minute, "day")
 }
 
+// `serve` with those of its end, and of its own commands.
+fn ending<'a>(alloc: Global) -> Result<Command<'a>, AllocError>
+    ensures app { IfOk result (λ r. app_of r ≡ record {
+      top = serve_with
+          (target_rules ++ server_rules ++ limit_rules ++ end_rules ++ plan_rules);
+      subs = [];
+    }) }
+    ensures local { IfOk result (λ r. (fields_of r).has_globals ≡ false) }
+{
+    let seconds = with_once(alloc, answering(alloc)?, "seconds")?;
+    let after = with_once(alloc, seconds, "after")?;
+    let plan = with_once(alloc, after, "plan")?;
+    let count = with_once(alloc, plan, "count")?;
+    with_once(alloc, count, "rate")
+}
+
+// The command with the options of the harm and the report too.
+fn with_harm<'a>(alloc: Global, command: Command<'a>) -> Result<Command<'a>, AllocError>
+    ensures app { IfOk result (λ r. app_of r ≡ fold with_rule (app_of command.entry) harm_rules) }
+    ensures local { IfOk result
+        (λ r. (fields_of command.entry).has_globals ≡ false → (fields_of r).has_globals ≡ false) }
+{
+    let lose = with_any_times(alloc, command, "lose")?;
+    let repeat = with_any_times(alloc, lose, "repeat")?;
+    let swap = with_any_times(alloc, repeat, "swap")?;
+    let cut = with_once(alloc, swap, "cut")?;
+    let number = with_once(alloc, cut, "number")?;
+    with_once(alloc, number, "report")
+}
+
 // `serve` with its options.
 fn serve<'a>(alloc: Global) -> Result<Command<'a>, AllocError>
     ensures app { IfOk result (λ r. app_of r ≡ record { top = serve_shape; subs = [] }) }
     ensures local { IfOk result (λ r. (fields_of r).has_globals ≡ false) }
 {
-    let seconds = with_once(alloc, answering(alloc)?, "seconds")?;
-    with_once(alloc, seconds, "after")
+    with_harm(alloc, ending(alloc)?)
 }
 
 // The program without its commands, of which one must be there.

@@ -59,7 +59,7 @@ pub(crate) fn named_in<T: Named>(
 
 // The text of an option's value.
 #[tactic(auto, using(crate::proofs::Rows::first_is))]
-fn text_of<'a>(matches: &ArgMatches<'a>, name: &str) -> Option<&'a str>
+pub(crate) fn text_of<'a>(matches: &ArgMatches<'a>, name: &str) -> Option<&'a str>
     ensures { option_map (λ s. s.now) result ≡ first_of name.now (rows_of (found_of matches.now)) }
 {
     matches.get_str(name)
@@ -81,15 +81,28 @@ pub(crate) fn number_or(matches: &ArgMatches, name: &str, default: u32, most: u3
     }
 }
 
-// The seconds of an option: `Some(None)` where it is left out.
-pub(crate) fn seconds_in(matches: &ArgMatches, name: &str) -> Option<Option<u64>>
-    ensures some { IfSome result (λ n. IsGivenMaybe 0 (2 ^ 64 - 1)
+// The number of an option that may be left out, and is its default then.
+pub(crate) fn long_or(matches: &ArgMatches, name: &str, default: u64) -> Option<u64>
+    ensures some { IfSome result (λ n. IsGivenOr default 0 (2 ^ 64 - 1)
         (first_of name.now (rows_of (found_of matches.now))) n) }
-    ensures none { IfNone result ((n : Option ℕ) → ¬ IsGivenMaybe 0 (2 ^ 64 - 1)
+    ensures none { IfNone result ((n : ℕ) → ¬ IsGivenOr default 0 (2 ^ 64 - 1)
         (first_of name.now (rows_of (found_of matches.now))) n) }
 {
     match text_of(matches, name) {
-        Some(text) => match number(text, 0, u64::MAX) {
+        Some(text) => number(text, 0, u64::MAX),
+        None => Some(default),
+    }
+}
+
+// The seconds of an option, `least` or more: `Some(None)` where it is left out.
+pub(crate) fn seconds_in(matches: &ArgMatches, name: &str, least: u64) -> Option<Option<u64>>
+    ensures some { IfSome result (λ n. IsGivenMaybe least (2 ^ 64 - 1)
+        (first_of name.now (rows_of (found_of matches.now))) n) }
+    ensures none { IfNone result ((n : Option ℕ) → ¬ IsGivenMaybe least (2 ^ 64 - 1)
+        (first_of name.now (rows_of (found_of matches.now))) n) }
+{
+    match text_of(matches, name) {
+        Some(text) => match number(text, least, u64::MAX) {
             Some(seconds) => Some(Some(seconds)),
             None => None,
         },
@@ -173,7 +186,7 @@ pub(crate) fn listen_of(
     let Some(hold) = number_or(matches, "hold", DEFAULT_HOLD, 65_536) else {
         return Ok(None);
     };
-    let Some(seconds) = seconds_in(matches, "seconds") else {
+    let Some(seconds) = seconds_in(matches, "seconds", 0) else {
         return Ok(None);
     };
     let Some(lines) = lines_of(alloc, matches)? else {

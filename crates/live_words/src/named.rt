@@ -1,13 +1,16 @@
-//! What a word names: a port, a unit, a sender, a server.
+//! What a word names: a port, a unit, a sender, a server, a line's share.
 
 ghost use Rattle.std.specs.Prelude.{ℕ, List, IfNone, IfSome};
 ghost use Rattle.std.specs.Net.Grammar.{IsIpText};
 ghost use Rattle.pitch_words.specs.Numbers.{IsNumber};
 ghost use Rattle.live_words.specs.Options.{IsServerText};
+ghost use Rattle.live_words.specs.Trials.{IsShareText};
 ghost use Rattle.live_words.specs.Asked.{IsPortText};
 
 use crate::listen_words::Server;
 use crate::number::number;
+use crate::shares::line_named;
+use crate::trial_words::LineShare;
 use line_sockets::Port;
 use std::net::{IpAddr, SocketAddr};
 
@@ -69,6 +72,24 @@ impl Named for Server {
         Some(Server {
             unit: unit as u8,
             addr,
+        })
+    }
+}
+
+impl Named for LineShare {
+    ghost names = { IsShareText };
+
+    fn named_by(text: &str) -> Option<LineShare> {
+        let (name, share) = text.split_once(':')?;
+        let Some(line) = line_named(name) else {
+            return None;
+        };
+        let Some(share) = number(share, 0, 100) else {
+            return None;
+        };
+        Some(LineShare {
+            line,
+            share: share as u8,
         })
     }
 }

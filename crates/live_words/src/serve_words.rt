@@ -1,6 +1,7 @@
 //! What `serve` is asked for.
 
 use crate::listen_words::Server;
+use crate::trial_words::TrialWords;
 use session_ends::Account;
 use std::net::SocketAddr;
 
@@ -49,4 +50,6 @@ pub struct ServeWords {
     pub seconds: Option<u64>,
     /// How many seconds after the end of its input it ends, where that is limited.
     pub after: Option<u64>,
+    /// What is to try a handler.
+    pub trial: TrialWords,
 }

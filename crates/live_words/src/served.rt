@@ -10,6 +10,7 @@ ghost use Rattle.live_words.specs.declared.serve_words.ServeWords.{ServeWords as
 
 use crate::found::{account_in, named_in, number_or, seconds_in};
 use crate::serve_words::{Places, ServeWords, UnitWords};
+use crate::trials::trial_of;
 use crate::venue::{can_serve, units_at};
 use clap::ArgMatches;
 use pitch_fields::OutOfMemory;
@@ -94,16 +95,19 @@ pub(crate) fn serve_of(
     let Some(day) = number_or(matches, "day", DEFAULT_DAY, MOST_ACCEPTED) else {
         return Ok(None);
     };
-    let Some(seconds) = seconds_in(matches, "seconds") else {
+    let Some(seconds) = seconds_in(matches, "seconds", 0) else {
         return Ok(None);
     };
-    let Some(after) = seconds_in(matches, "after") else {
+    let Some(after) = seconds_in(matches, "after", 0) else {
         return Ok(None);
     };
     let Some(account) = account_in(matches) else {
         return Ok(None);
     };
     let Some(units) = units_of(alloc, matches, account.is_some())? else {
+        return Ok(None);
+    };
+    let Some(trial) = trial_of(alloc, matches)? else {
         return Ok(None);
     };
     Ok(Some(ServeWords {
@@ -115,5 +119,6 @@ pub(crate) fn serve_of(
         day,
         seconds,
         after,
+        trial,
     }))
 }
