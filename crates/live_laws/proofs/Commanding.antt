@@ -1,5 +1,5 @@
 -- A text without a fault gives each unit the messages of its commands.
-use Rattle.std.proofs.Common.{◌≡◌, ℕ, ◌==◌, Bool, true, false, cond, filter, List, [], ◌∷◌, ◌++◌, map, is_some, refl, sym, ap, ◌∙◌, subst, Option, None, Some, slice_get, Result, Ok, Err}
+use Rattle.std.proofs.Common.{◌≡◌, inl, inr, ℕ, ◌==◌, Bool, true, false, cond, filter, List, [], ◌∷◌, ◌++◌, map, is_some, refl, sym, ap, ◌∙◌, subst, Option, None, Some, slice_get, Result, Ok, Err}
 use Rattle.std.specs.Option.{option_and_then, option_map_or}
 use Rattle.std.proofs.lemmas.Bool.{eq-eqb, eqb-true}
 use Rattle.std.proofs.lemmas.Option.{none-some, same_Some}
@@ -15,14 +15,15 @@ use Rattle.venue_core.specs.Refusals.{refusal}
 use Rattle.venue_core.specs.declared.error.VenueError.{VenueError}
 use Rattle.venue_end.specs.Came.{Commanded, commanded_on, venue_after}
 use Rattle.venue_end.specs.declared.setup.VenueSetup.{VenueSetup}
+use Rattle.venue_turns.specs.Due.{is_read}
 use Rattle.venue_units.specs.Coming.{UnitCame, came_to, state_at, to_unit}
 use Rattle.live_venue.specs.Input.{Heard, all_heard, at_index, index_of, next_heard, refusal_at, said_heard, told_line, unless_refused}
 use Rattle.live_venue.specs.declared.fault.InputFault.{InputFault}
 use Rattle.live_venue.specs.declared.fault.InputFault.TheVariants.{NoUnit, Refused}
-use Rattle.live_laws.specs.Laws.{TextsAreCommands}
+use Rattle.live_laws.specs.Laws.{RunsHaveTheCommands, TextsAreCommands}
 use Rattle.live_laws.specs.Sent.{messages_at}
-use Rattle.live_laws.specs.Text.{commands_for}
-use Rattle.live_laws.proofs.Hearing.{Entry, Said, as_item}
+use Rattle.live_laws.specs.Text.{commands_for, told_by}
+use Rattle.live_laws.proofs.Hearing.{Entry, Said, as_item, runs_have_the_text}
 use Rattle.live_laws.proofs.Sending.{unit_there}
 
 module _ (s : List VenueSetup) where
@@ -137,3 +138,10 @@ texts_are_commands s text good =
     nothing : (o : Option VenueSetup) (at : ℕ) → option_map_or (λ (setup : VenueSetup). (state_at setup at []).messages) o [] ≡ []
     nothing None at = refl
     nothing (Some setup) at = refl
+
+-- ---- Of a run
+pub runs_have_the_commands : RunsHaveTheCommands
+runs_have_the_commands s run now runs good =
+    let have = runs_have_the_text s run now runs in
+    let all = texts_are_commands s (told_by (is_read run) now.text) (elim have.fault [ inl is ↦ sym is ∙ good | inr long ↦ long.0 ]) in
+    record { entries = all.entries; read = all.read; each = λ at unit is. all.each at unit is ∙ ap (λ (V : List Raw). Ok V) (sym (have.messages at)) }

@@ -15,7 +15,12 @@ use Rattle.unit_packets.specs.Blocks.{Block}
 use Rattle.unit_packets.specs.Cutting.{blocks_by, blocks_of}
 use Rattle.unit_packets.specs.Judging.{judge, messages_end}
 use Rattle.client_end.specs.Came.{GrpMade, GrpTook, Heard, SpinMade, SpinTook}
+use Rattle.live_net.specs.LiveCalls.{Receive, Open, Take}
+use Rattle.live_net.specs.LiveCalls.{Close as LiveClose}
+use Rattle.live_net.specs.declared.live.PeerOpened.TheVariants.{Begun, Refused}
 use Rattle.live_net.specs.declared.live.PeerPut.TheVariants.{Ended, Full, Wrote}
+use Rattle.live_net.specs.declared.live.PeerTaken.TheVariants.{Got}
+use Rattle.live_net.specs.declared.net.Received.TheVariants.{Got as GotDatagram}
 use Rattle.venue_end.specs.Came.{Commanded}
 use Rattle.venue_end.specs.declared.setup.VenueSetup.{VenueSetup}
 use Rattle.venue_net.specs.VenueCalls.{VenueCall, Accept, Close, Put, Send}
@@ -24,6 +29,7 @@ use Rattle.venue_units.specs.Places.{is_spin, unit_of}
 use Rattle.live_venue.specs.Input.{faulty}
 use Rattle.live_venue.specs.Running.{at_first}
 use Rattle.live_venue.specs.declared.fault.InputFault.TheVariants.{NoUnit, TooLong}
+use Rattle.live_laws.specs.Carried.{AllCarried, AreApart, spin_peer, was_given}
 use Rattle.live_laws.specs.Sent.{IsPut, IsSent, UnitHears, messages_of, was_put}
 use Rattle.live_laws.specs.Text.{HasNoEnd, HaveOf, commands_for, text_heard, told_by}
 
@@ -118,6 +124,29 @@ of_seven = refl
 
 of_none : messages_of both one_came 8 ≡ []
 of_none = refl
+
+-- ---- By the client's calls
+-- what a peer gave since a connection with it was begun
+since_begun : was_given 1 (Take 1 9 (3 ∷ []) (Got 1) ∷ Take 0 9 (8 ∷ []) (Got 1) ∷ Take 1 9 (1 ∷ 2 ∷ []) (Got 2) ∷ Open 1 Begun ∷ Take 1 9 (7 ∷ []) (Got 1) ∷ Open 1 Begun ∷ []) ≡ 1 ∷ 2 ∷ 3 ∷ []
+since_begun = refl
+
+-- one that was refused, or has closed, takes nothing back
+refused_since : was_given 1 (Open 1 Refused ∷ LiveClose 1 ∷ Take 1 9 (1 ∷ 2 ∷ []) (Got 2) ∷ Open 1 Begun ∷ []) ≡ 1 ∷ 2 ∷ []
+refused_since = refl
+
+-- the Spin Server of unit 9, and a line on which the unit beats
+carried : AllCarried both run (spin_peer 9 ∷ []) (Receive 0 99 (beat 9) (GotDatagram 8) ∷ Open 0 Begun ∷ [])
+unfolding blocks_of blocks_by judge messages_end raws_of
+carried = ((on_its_gap_line, tt), (tt, tt))
+
+-- a datagram that was not sent is not carried
+not_sent : AllCarried both [] [] (Receive 0 99 (beat 9) (GotDatagram 8) ∷ []) → ⊥
+unfolding blocks_of blocks_by judge messages_end raws_of
+not_sent all = let within = all.0.0.sent.1 in omega (arith, within)
+
+-- two peers are not the Spin Server of one unit
+twice : AreApart (spin_peer 9 ∷ spin_peer 9 ∷ []) → ⊥
+twice apart = let same : ◌≡◌ {A = ℕ} 0 1 = apart 0 1 9 refl refl in omega (arith, same)
 
 -- ---- Texts
 -- all lines, also the last, which has no line feed

@@ -6,3 +6,5 @@ pub mod Serving
 pub mod Reading
 pub mod Hearing
 pub mod Commanding
+pub mod Asking
+pub mod Carrying

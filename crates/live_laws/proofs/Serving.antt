@@ -25,6 +25,7 @@ use Rattle.venue_units.proofs.Messages.{messages_grow}
 use Rattle.live_laws.specs.Laws.{AreNumbered, BooksAreTheVenues, HearersAreHonest, HearingStays, NoCopiesDiffer}
 use Rattle.live_laws.specs.Sent.{IsPut, MayReach, UnitHears, messages_of, was_put}
 use Rattle.live_laws.proofs.Bringing.{AlsoBy, AreCalm, brings_keeps}
+use Rattle.live_laws.proofs.Carrying.{carried_is_heard}
 use Rattle.live_laws.proofs.Putting.{put_is}
 use Rattle.live_laws.proofs.Sending.{feed_of, messages_found, messages_there, sent_is_venues, unit_there}
 
@@ -158,11 +159,13 @@ hearers_are_honest s result old new served c came numbered hears = λ unit.
     )
 
 pub books_are_the_venues : BooksAreTheVenues
-books_are_the_venues s result old new served c counts before after out heard numbered hears =
+books_are_the_venues s result old new served c counts before after out heard numbered apart all =
+    let hears = carried_is_heard s served.run c heard.run heard.now apart heard.is_run.runs all in
     heard.is_end.text_is.honest (messages_of s served.now.came) (hearers_are_honest s result old new served c.listens heard.now.came numbered hears)
 
 pub no_copies_differ : NoCopiesDiffer
-no_copies_differ s result old new served c d before after out heard numbered hears =
+no_copies_differ s result old new served c d before after out heard numbered apart all =
+    let hears = carried_is_heard s served.run c heard.run heard.now apart heard.is_run.runs all in
     heard.is_end.of_none (messages_of s served.now.came) (hearers_are_honest s result old new served c.listens heard.now.came numbered hears)
 
 -- ---- Later

@@ -6,6 +6,7 @@ use Rattle.live_net.specs.LiveCalls.{LiveCall}
 use Rattle.live_units.specs.Coming.{AreHonest, LiveSetup, UnitCame, live_books, live_lines}
 use Rattle.live_recovery.specs.Recovering.{RecoverEnds}
 use Rattle.live_recovery.specs.Running.{Setup}
+use Rattle.live_recovery.specs.Running as client
 use Rattle.live_recovery.specs.declared.copies.Disagreement.{Disagreement}
 use Rattle.live_recovery.specs.declared.counts.Counts.{Counts}
 use Rattle.live_recovery.specs.declared.error.RecoverError.TheVariants.{Disagree}
@@ -15,6 +16,7 @@ use Rattle.venue_turns.specs.Due.{is_read}
 use Rattle.live_venue.specs.Running.{Now, Runs}
 use Rattle.live_venue.specs.Serving.{ServeEnds}
 use Rattle.live_venue.specs.declared.error.ServeError.{ServeError}
+use Rattle.live_laws.specs.Carried.{AllCarried, AreApart}
 use Rattle.live_laws.specs.Sent.{Hears, messages_of}
 use Rattle.live_laws.specs.Text.{HaveCommandsOf, HaveOf, text_heard, told_by}
 
@@ -30,6 +32,13 @@ HearersAreHonest = (s : List VenueSetup) (result : Result (Unit {0}) ServeError)
     (c : LiveSetup) (came : List UnitCame)
     → AreNumbered s → Hears s served.run came → AreHonest c (messages_of s served.now.came) came
 
+-- and what the net of a client carried of a run, by the calls of both, its units heard of it
+abbrev pub CarriedIsHeard : Type 0
+CarriedIsHeard = (s : List VenueSetup) (run : List VenueCall)
+    (c : Setup) (calls : List LiveCall) (now : client.Now)
+    → AreApart c.peers → client.Runs c calls now → AllCarried s run c.peers calls
+    → Hears s run now.came
+
 -- so where it ends well each book that it wrote is that of the venue's unit, its first n messages,
 -- n the unit's reach
 abbrev pub BooksAreTheVenues : Type 0
@@ -37,7 +46,7 @@ BooksAreTheVenues = (s : List VenueSetup) (result : Result (Unit {0}) ServeError
     (old new : Option (List VenueCall)) (served : ServeEnds s result old new)
     (c : Setup) (counts : Counts) (before after : Option (List LiveCall)) (out : Told)
     (heard : RecoverEnds c (Ok counts) before after out)
-    → AreNumbered s → Hears s served.run heard.now.came
+    → AreNumbered s → AreApart c.peers → AllCarried s served.run c.peers heard.run
     → heard.text ≡ live_lines c.listens heard.now.came
     ++ live_books c.listens (messages_of s served.now.came) heard.now.came
 
@@ -47,7 +56,7 @@ NoCopiesDiffer = (s : List VenueSetup) (result : Result (Unit {0}) ServeError)
     (old new : Option (List VenueCall)) (served : ServeEnds s result old new)
     (c : Setup) (d : Disagreement) (before after : Option (List LiveCall)) (out : Told)
     (heard : RecoverEnds c (Err (Disagree d)) before after out)
-    → AreNumbered s → Hears s served.run heard.now.came → ⊥
+    → AreNumbered s → AreApart c.peers → AllCarried s served.run c.peers heard.run → ⊥
 
 -- what comes of a run still does, whatever calls follow
 abbrev pub HearingStays : Type 0
@@ -60,7 +69,12 @@ abbrev pub RunsHaveTheText : Type 0
 RunsHaveTheText = (s : List VenueSetup) (run : List VenueCall) (now : Now)
     → Runs s run now → HaveOf s (told_by (is_read run) now.text) now
 
--- and where it has none, those of its commands
+-- where a text has none, those are the messages of its commands
 abbrev pub TextsAreCommands : Type 0
 TextsAreCommands = (s : List VenueSetup) (text : List ℕ)
     → (text_heard s text).fault ≡ None → HaveCommandsOf s text (text_heard s text).came
+
+-- so in a run whose input has no fault
+abbrev pub RunsHaveTheCommands : Type 0
+RunsHaveTheCommands = (s : List VenueSetup) (run : List VenueCall) (now : Now) → Runs s run now
+    → now.fault ≡ None → HaveCommandsOf s (told_by (is_read run) now.text) now.came

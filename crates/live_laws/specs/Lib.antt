@@ -1,3 +1,4 @@
 pub mod Sent
+pub mod Carried
 pub mod Text
 pub mod Laws

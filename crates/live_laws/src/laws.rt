@@ -1,7 +1,8 @@
 //! The laws. These functions do nothing: what they ensure is proved of the definitions alone.
 
-ghost use Rattle.live_laws.specs.Laws.{HearersAreHonest, BooksAreTheVenues, NoCopiesDiffer};
-ghost use Rattle.live_laws.specs.Laws.{HearingStays, RunsHaveTheText, TextsAreCommands};
+ghost use Rattle.live_laws.specs.Laws.{HearersAreHonest, CarriedIsHeard, BooksAreTheVenues};
+ghost use Rattle.live_laws.specs.Laws.{NoCopiesDiffer, HearingStays, RunsHaveTheText, RunsHaveTheCommands};
+ghost use Rattle.live_laws.specs.Laws.{TextsAreCommands};
 
 /// A client beside a run has its books. Where each block that came to a live client on a line
 /// stands in a datagram that the run of a live venue sent for that unit, in any order, any number
@@ -10,6 +11,8 @@ ghost use Rattle.live_laws.specs.Laws.{HearingStays, RunsHaveTheText, TextsAreCo
 /// end is that of the venue's unit. Of what proxies say nothing is asked.
 pub fn a_client_beside_a_run_has_its_books()
     ensures honest { HearersAreHonest }
+    // By the calls of both alone.
+    ensures carried { CarriedIsHeard }
     ensures books { BooksAreTheVenues }
     // No two copies of a message differ.
     ensures agree { NoCopiesDiffer }
@@ -23,5 +26,6 @@ pub fn a_client_beside_a_run_has_its_books()
 /// the messages of the commands that the text has for it, in their order, and accepted each.
 pub fn units_have_the_text_of_the_input()
     ensures text { RunsHaveTheText }
-    ensures commands { TextsAreCommands }
+    ensures texts { TextsAreCommands }
+    ensures commands { RunsHaveTheCommands }
 {}

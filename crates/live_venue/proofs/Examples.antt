@@ -116,7 +116,7 @@ module _ (came : List UnitCame) where
 -- ---- Calls
 -- no more is put than was handed in, and no more comes than there was room for
 put_beyond : Fits (Put 64 (1 ∷ 2 ∷ []) (Wrote 3)) → ⊥
-put_beyond fits = let within = fits.1 in omega (arith, within)
+put_beyond fits = omega (arith, fits)
 
 came_beyond : Fits (Take 64 1 (1 ∷ 2 ∷ []) (Got 2)) → ⊥
 came_beyond fits = omega (arith, fits)
