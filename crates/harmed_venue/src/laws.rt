@@ -14,8 +14,8 @@ pub fn nothing_is_made_up()
     ensures { (harm : Harm) → MakesNothingUp harm }
 {}
 
-/// Where no share is lost, each datagram that was sent on a line has gone out on it, or is held back
-/// until another comes, a second passes or the wait is over.
+/// Where no share is lost, each datagram that was sent on a line has gone out on it, or is held
+/// back until another comes, a second passes or the wait is over.
 pub fn nothing_else_is_lost()
     ensures { (harm : Harm) → LosesNothing harm }
 {}

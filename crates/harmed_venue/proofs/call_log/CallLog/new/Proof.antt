@@ -1,4 +1,4 @@
--- `new` picks no events. Assumes `Logic`.
+-- `new` picks no calls. Written by hand: no code holds the calls.
 use Rattle.std.proofs.Common.{[], ◌∷◌, refl}
 use seplogic.Ra.Ura.{Ura}
 use mir.Syntax.{Fn}
