@@ -1,4 +1,4 @@
-//! The input of commands.
+//! The input of commands: a stream, or a text that the venue makes itself.
 
 ghost use Rattle.std.specs.Prelude.{◌≡◌, ◌<◌, length, IfOk, IfErr, Ok, Err};
 ghost use Rattle.std.specs.IoError.{error_kind};
@@ -7,10 +7,21 @@ ghost use Rattle.venue_sockets.specs.Inputs.{IsQuiet, input_gives};
 
 use line_sockets::{ask_again, register_input};
 use mio::Registry;
+use pitch_fields::OutOfMemory;
 use std::io;
 use std::io::{ErrorKind, Read};
 use std::os::fd::AsRawFd;
 use venue_net::InputRead;
+use venue_plan::PlanText;
+
+/// Where a venue's commands come from.
+#[derive(Drop)]
+pub enum VenueInput<I> {
+    /// A stream, as standard input is.
+    Stream(I),
+    /// A text that the venue makes itself, second by second. No stream is read then.
+    Plan(PlanText),
+}
 
 // What is known of an input.
 #[derive(Clone, Copy, PartialEq, Eq)]
@@ -19,10 +30,13 @@ enum State {
     Waited,
     // The wait told that something may be there.
     Told,
-    // A file, in which something is always there. No wait has told so since it was read.
+    // A file, in which something is always there, or a plan of which more may be due. No wait has
+    // told so since it was read.
     File,
-    // A file of which a wait told.
+    // Such a one of which a wait told.
     ToldFile,
+    // A plan of which no more is due before the next second.
+    Resting,
     // It is at its end.
     Ended,
 }
@@ -30,7 +44,7 @@ enum State {
 /// An input that is read no more often than a read returns at once.
 #[derive(Drop)]
 pub struct Input<I> {
-    source: I,
+    source: VenueInput<I>,
     state: State,
 }
 
@@ -50,18 +64,51 @@ fn of_read(read: io::Result<usize>) -> io::Result<InputRead>
     }
 }
 
+// The answer of a plan, or that memory ran out.
+fn of_plan(read: Result<InputRead, OutOfMemory>) -> io::Result<InputRead>
+    ensures { IfOk result (λ answer. read ≡ Ok answer) }
+{
+    match read {
+        Ok(answer) => Ok(answer),
+        Err(_) => Err(io::Error::from(ErrorKind::OutOfMemory)),
+    }
+}
+
+// Reads the next bytes of a source to the start of the slice.
+fn read_from<I: Read>(source: &mut VenueInput<I>, into: &mut [u8]) -> io::Result<InputRead>
+    requires { 0 < length into.old }
+    ensures count { IfOk result (λ answer. ReadWithin answer into.new) }
+    ensures fails { IfOk result (λ answer. ¬ ReadFailed answer) }
+{
+    match source {
+        VenueInput::Stream(stream) => of_read(stream.read(into)),
+        VenueInput::Plan(plan) => of_plan(plan.read(into)),
+    }
+}
+
+// What is known at first of a stream.
+fn state_of<I: AsRawFd>(stream: &I, registry: &Registry, is_closed: bool) -> io::Result<State> {
+    if is_closed {
+        return Ok(State::Ended);
+    }
+    match register_input(stream, registry) {
+        Ok(()) => Ok(State::Waited),
+        Err(error) if error.kind() == ErrorKind::PermissionDenied => Ok(State::File),
+        Err(error) => Err(error),
+    }
+}
+
 impl<I: Read + AsRawFd + Drop> Input<I> {
-    /// An input, of which the registry's wait tells where it can be waited for. One that is closed
-    /// is at its end.
-    pub(crate) fn make(source: I, registry: &Registry, is_closed: bool) -> io::Result<Input<I>> {
-        let state = if is_closed {
-            State::Ended
-        } else {
-            match register_input(&source, registry) {
-                Ok(()) => State::Waited,
-                Err(error) if error.kind() == ErrorKind::PermissionDenied => State::File,
-                Err(error) => return Err(error),
-            }
+    /// An input. Of a stream the registry's wait tells, where it can be waited for; one that is
+    /// closed is at its end.
+    pub(crate) fn make(
+        source: VenueInput<I>,
+        registry: &Registry,
+        is_closed: bool,
+    ) -> io::Result<Input<I>> {
+        let state = match &source {
+            VenueInput::Stream(stream) => state_of(stream, registry, is_closed)?,
+            VenueInput::Plan(_) => State::File,
         };
         Ok(Input { source, state })
     }
@@ -73,7 +120,17 @@ impl<I: Read + AsRawFd + Drop> Input<I> {
         }
     }
 
-    /// Tells of a file that was read, or of a new one. Answers whether it did.
+    /// A second has passed, for which a plan has more.
+    pub(crate) fn second(&mut self) {
+        if let VenueInput::Plan(plan) = &mut self.source {
+            plan.second();
+            if self.state == State::Resting {
+                self.state = State::File;
+            }
+        }
+    }
+
+    /// Tells of a file or a plan that was read, or of a new one. Answers whether it did.
     pub(crate) fn tell_file(&mut self) -> bool {
         let is_new = self.state == State::File;
         if is_new {
@@ -90,14 +147,25 @@ impl<I: Read + AsRawFd + Drop> Input<I> {
     // Whether a read returns at once. Then the next wait is to tell again of what a read leaves.
     fn may_read(&mut self, registry: &Registry) -> io::Result<bool> {
         match self.state {
-            State::Waited | State::Ended => return Ok(false),
+            State::Waited | State::Resting | State::Ended => return Ok(false),
             State::Told => {
-                ask_again(&self.source, registry)?;
+                if let VenueInput::Stream(stream) = &self.source {
+                    ask_again(stream, registry)?;
+                }
                 self.state = State::Waited;
             }
             State::File | State::ToldFile => self.state = State::File,
         }
         Ok(true)
+    }
+
+    // What is known after this answer of a read.
+    fn state_after(&self, answer: InputRead) -> State {
+        match (answer, &self.source) {
+            (InputRead::Ended, _) => State::Ended,
+            (InputRead::Quiet, VenueInput::Plan(_)) => State::Resting,
+            _ => self.state,
+        }
     }
 
     /// Reads the next bytes to the start of the slice.
@@ -112,10 +180,8 @@ impl<I: Read + AsRawFd + Drop> Input<I> {
         if !self.may_read(registry)? {
             return Ok(InputRead::Quiet);
         }
-        let answer = of_read(self.source.read(into))?;
-        if answer == InputRead::Ended {
-            self.state = State::Ended;
-        }
+        let answer = read_from(&mut self.source, into)?;
+        self.state = self.state_after(answer);
         Ok(answer)
     }
 }

@@ -9,7 +9,7 @@ ghost use Rattle.live_sockets.specs.OpenPeers.{stands_after_put, stands_after_ta
 ghost use Rattle.venue_net.specs.VenueCalls.{ReadFailed, ReadWithin};
 
 use crate::doors::Doors;
-use crate::input::Input;
+use crate::input::{Input, VenueInput};
 use crate::out_lines::OutLines;
 use crate::places::Places;
 use crate::tokens::{Told, told_by};
@@ -60,6 +60,14 @@ fn is_taken(low: &[Option<net::UdpSocket>; 3], number: RawFd) -> bool {
         .any(|socket| socket.as_raw_fd() == number)
 }
 
+// Whether the input is a stream that was closed.
+fn is_closed_stream<I: AsRawFd>(low: &[Option<net::UdpSocket>; 3], input: &VenueInput<I>) -> bool {
+    match input {
+        VenueInput::Stream(stream) => is_taken(low, stream.as_raw_fd()),
+        VenueInput::Plan(_) => false,
+    }
+}
+
 // Hands on what a wait told.
 fn tell_all<I: Read + AsRawFd + Drop>(
     events: &Events,
@@ -83,14 +91,14 @@ impl<R: net::Net + Clock + Drop, I: Read + AsRawFd + Drop> VenueSockets<R, I> {
     /// address leads nowhere, and a door without one is never open. So many places in
     /// turn are of one door, from the first on, and no connection stands at any of them yet. The
     /// time of the run begins now. No socket takes one of the descriptors 0 to 2, and an input that
-    /// is closed is at its end.
+    /// is a closed stream is at its end.
     pub fn make(
         rt: R,
         alloc: Global,
         lines: &[Option<SocketAddr>],
         doors: &[Option<SocketAddr>],
         places_per_door: u16,
-        input: I,
+        input: VenueInput<I>,
         time: RunTime,
     ) -> Result<VenueSockets<R, I>, VenueTrouble>
         requires { 0 < places_per_door }
@@ -100,7 +108,7 @@ impl<R: net::Net + Clock + Drop, I: Read + AsRawFd + Drop> VenueSockets<R, I> {
         ensures faults { IfOk result (λ net. net.faults ≡ 0) }
     {
         let low = take_low(&rt).map_err(VenueTrouble::of_wait)?;
-        let is_closed = is_taken(&low, input.as_raw_fd());
+        let is_closed = is_closed_stream(&low, &input);
         let each = usize::from(places_per_door);
         let Some(count) = doors.len().checked_mul(each) else {
             return Err(AllocError.into());
@@ -163,6 +171,7 @@ impl<R: net::Net + Clock + Drop, I: Read + AsRawFd + Drop> VenueSockets<R, I> {
         );
         if self.seconds.is_over(self.waiter.runtime())? {
             self.doors.try_again();
+            self.input.second();
             return Ok(WaitEnd::Second);
         }
         Ok(WaitEnd::Ready)
