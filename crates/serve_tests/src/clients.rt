@@ -7,7 +7,7 @@ use std::rt::HostRuntime;
 
 // To and from a proxy: a login, one with another password, a request for message 2 of unit 1, and
 // the replies.
-const LOGIN: &[u8] = b"\x1e\0\x01\0\0\0\0\0\x16\x010001FEED  PITCH     ";
+pub(crate) const LOGIN: &[u8] = b"\x1e\0\x01\0\0\0\0\0\x16\x010001FEED  PITCH     ";
 
 const OTHER_LOGIN: &[u8] = b"\x1e\0\x01\0\0\0\0\0\x16\x010001FEED  PASTE     ";
 
@@ -20,17 +20,17 @@ const REQUEST: &[u8] = b"\x11\0\x01\0\0\0\0\0\x09\x03\x01\x02\0\0\0\x01\0";
 const REPLY: &[u8] = b"\x12\0\x01\0\0\0\0\0\x0a\x04\x01\x02\0\0\0\x01\0A";
 
 // No block has 7 bytes.
-const RUBBISH: &[u8] = b"\x07\0\0\0\0\0\0\0";
+pub(crate) const RUBBISH: &[u8] = b"\x07\0\0\0\0\0\0\0";
 
 // To and from a Spin Server: a login and its reply; the image of one message is there, is asked
 // for, is accepted in two parts, comes as the second 33, and has finished.
-const SPIN_LOGIN: &[u8] = b"\x1e\0\x01\x01\0\0\0\0\x16\x010001FEED  PITCH     ";
+pub(crate) const SPIN_LOGIN: &[u8] = b"\x1e\0\x01\x01\0\0\0\0\x16\x010001FEED  PITCH     ";
 
 const SPIN_LOGGED_IN: &[u8] = b"\x0b\0\x01\x01\0\0\0\0\x03\x02A";
 
 const THERE: &[u8] = b"\x0e\0\x01\x01\0\0\0\0\x06\x80\x01\0\0\0";
 
-const ASKED: &[u8] = b"\x0e\0\x01\x01\0\0\0\0\x06\x81\x01\0\0\0";
+pub(crate) const ASKED: &[u8] = b"\x0e\0\x01\x01\0\0\0\0\x06\x81\x01\0\0\0";
 
 const ACCEPTED_FIRST: &[u8] = b"\x13\0\x01\x01\0";
 
