@@ -1,8 +1,8 @@
 //! The laws. These functions do nothing: what they ensure is proved of the definitions alone.
 
 ghost use Rattle.live_laws.specs.Laws.{HearersAreHonest, CarriedIsHeard, BooksAreTheVenues};
-ghost use Rattle.live_laws.specs.Laws.{NoCopiesDiffer, HearingStays, RunsHaveTheText, RunsHaveTheCommands};
-ghost use Rattle.live_laws.specs.Laws.{TextsAreCommands};
+ghost use Rattle.live_laws.specs.Laws.{NoCopiesDiffer, HearingStays, RunsHaveTheText};
+ghost use Rattle.live_laws.specs.Laws.{TextsAreCommands, RunsHaveTheCommands};
 
 /// A client beside a run has its books. Where each block that came to a live client on a line
 /// stands in a datagram that the run of a live venue sent for that unit, in any order, any number
