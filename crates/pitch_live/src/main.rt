@@ -4,6 +4,7 @@
 mod asking;
 mod given;
 mod hearing;
+mod reporting;
 mod says;
 mod serving;
 mod telling;

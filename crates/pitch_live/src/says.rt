@@ -4,6 +4,7 @@
 use line_sockets::Trouble;
 use live_venue::InputFault;
 use live_words::{LineWords, UnitWords};
+use std::fmt::Display;
 use std::io;
 use std::io::ErrorKind;
 use venue_sockets::{VenuePart, VenueTrouble};
@@ -40,7 +41,9 @@ pub fn say_usage(rt: &HostRuntime) -> u8 {
          one PORT, which is ADDR:NUMBER or fd:N; or serve --a U@ADDR:NUMBER.. \
          [--b U@ADDR:NUMBER].. [--gap U@ADDR:NUMBER].. [--grp U@ADDR:NUMBER].. \
          [--spin U@ADDR:NUMBER].. [--sub S --user U --password P] [--kept K] [--second A] \
-         [--minute B] [--day C] [--seconds N] [--after N] [--setup FILE].., with at most 64 units"
+         [--minute B] [--day C] [--seconds N] [--after N] [--plan NUMBER --count C [--rate R]] \
+         [--lose LINE:SHARE].. [--repeat LINE:SHARE].. [--swap LINE:SHARE].. [--cut N] \
+         [--number S] [--report FILE] [--setup FILE].., with at most 64 units"
     );
     USAGE
 }
@@ -54,6 +57,12 @@ pub fn say_setup(rt: &HostRuntime, path: &str, reason: &io::Error) -> u8 {
 /// Standard output can't be written to.
 pub fn say_write_failed(rt: &HostRuntime) -> u8 {
     let _said = eprintln!(rt; "pitch_live: standard output can't be written to");
+    WRITE_FAILED
+}
+
+/// A report can't be made or written.
+pub fn say_report<D: Display>(rt: &HostRuntime, path: &str, reason: &D) -> u8 {
+    let _said = eprintln!(rt; "pitch_live: {path}: {reason}");
     WRITE_FAILED
 }
 
