@@ -8,8 +8,9 @@ units gets commands made from the number, cut into pieces anywhere. Beside it st
 handler.py, which drops every third datagram; a `pitch_live listen` that starts once half is sent, and
 so needs an image; and 20 clients that send random bytes, never read, or log in wrongly. The books of
 both are those that `pitch pack | pitch follow` makes of the commands. Then it is tried that who comes
-to a door with 64 clients is closed, and what ends a venue: a command that is refused, a unit that is
-not served, words that are no line, a port in use.
+to a door with 64 clients is closed; that a client of a venue which makes its own commands, loses,
+repeats, swaps and cuts has the books of its report, and that what it asked is told; and what ends a
+venue: a command that is refused, a unit that is not served, words that are no line, a port in use.
 The last line is `N passed, M failed`.
 """
 import argparse
@@ -18,6 +19,7 @@ import random
 import socket
 import subprocess
 import sys
+import tempfile
 import threading
 import time
 
@@ -73,12 +75,12 @@ def book_of(program, unit, commands):
 class Venue:
     """A venue of both units, with all its ports."""
 
-    def __init__(self, live, after):
+    def __init__(self, live, after, *more):
         self.at = {unit: {name: '%s:%d' % (HOST, free_port(socket.SOCK_DGRAM if name in ('a', 'b', 'gap') else socket.SOCK_STREAM))
                           for name in ('a', 'b', 'gap', 'grp', 'spin')} for unit in UNITS}
         words = [word for unit in UNITS for name, at in self.at[unit].items() for word in ('--' + name, '%d@%s' % (unit, at))]
         self.process = subprocess.Popen([live, 'serve', *words, *ACCOUNT, '--second', '1000', '--minute', '9000',
-                                         '--after', str(after)], stdin=subprocess.PIPE, stderr=subprocess.PIPE)
+                                         '--after', str(after), *more], stdin=subprocess.PIPE, stderr=subprocess.PIPE)
 
     def say(self, text):
         self.process.stdin.write(text)
@@ -182,6 +184,28 @@ def handled(live, program, number):
     return [] if status == 0 and book == book_of(program, UNITS[0], commands) else ['handler: %s %s %s' % (status, said, book[:60])]
 
 
+def tries(live):
+    """A venue that makes its own commands, on lines that lose and connections that are cut: a client has the
+    books of its report, and what it asked is told."""
+    with tempfile.TemporaryDirectory() as folder:
+        report = os.path.join(folder, 'books')
+        venue = Venue(live, 12, *('--plan 3 --count 600 --rate 200 --lose a:30 --lose b:30 --repeat a:10 --swap b:10 '
+                                 '--cut 5 --report').split(), report)
+        listener = listener_of(live, venue, 14)
+        text = listener.communicate(timeout=40)[0].decode()
+        status, said = venue.end()
+        with open(report) as books, open(report + '.asked') as asked:
+            books, asked = books.read(), asked.read()
+    faults = [] if status == 0 else ['trying: the venue ended with %d: %s' % (status, said)]
+    if not all('book unit %d at 600 ' % unit in books for unit in UNITS) or text[text.find('book unit'):] != books:
+        faults.append('trying: the books are not those of the report: %s' % text[text.find('book unit'):][:80])
+    if '; behind' not in text:
+        faults.append('trying: nothing was lost')
+    if not all('unit %d %s' % (unit, it) in asked for unit in UNITS for it in ('grp', 'spin')) or ' request ' not in asked:
+        faults.append('trying: what was asked is %r' % asked[:200])
+    return faults
+
+
 def ends(live):
     """What ends a venue early, and what it says."""
     faults = []
@@ -256,7 +280,7 @@ def main():
     given = words.parse_args()
     live, program = os.path.abspath(given.LIVE), os.path.abspath(given.PROGRAM)
     passed = failed = 0
-    tried = [lambda: ends(live), lambda: crowd(live), lambda: handled(live, program, 1)]
+    tried = [lambda: ends(live), lambda: crowd(live), lambda: tries(live), lambda: handled(live, program, 1)]
     tried += [lambda number=number: run(live, program, number) for number in range(1, given.numbers + 1)]
     for act in tried:
         faults = act()
